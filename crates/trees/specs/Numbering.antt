@@ -1,0 +1,49 @@
+-- The nodes of a tree by their number in post-order, from 0.
+--
+-- sub t v == the subtree rooted at node v (the tree itself for its root, number size t - 1)
+-- parent t v == the number of the node above v; the root's is the root
+-- depth t v == how many nodes stand above v
+-- ancestor t v n == the node n parents above v
+-- labelsDown t v n == the labels of the n nodes that end at v, from above down to v
+-- word t u v == the labels from u down to v, both included, where u is v or above it
+--
+-- Out of range (v not below size t) the values mean nothing.
+-- Assumes nothing.
+use Prim.Native.Nat.{ℕ, zero, suc, _+_, _-_}
+use mathlib.Core.Bool.{Bool, cond}
+use mathlib.Core.List.{List, [], _∷_, _++_}
+use lib.Dec.{ltb, eqb}
+use Rattle.trees.specs.Tree.{Tree, leaf, node, size, labelAt}
+
+-- by the place of node v in a tree whose left part has m nodes and whose right part has n:
+-- in the left part, in the right part as its node v - m, or the root
+unfoldable pub split : {X : Type 0} → ℕ → ℕ → ℕ → X → (ℕ → X) → X → X
+split m n v x f y = cond (ltb v m) x (cond (ltb v (m + n)) (f (v - m)) y)
+
+unfoldable pub sub : Tree → ℕ → Tree
+sub (leaf a) v = leaf a
+sub (node l a r) v = split (size l) (size r) v (sub l v) (λ j. sub r j) (node l a r)
+
+unfoldable pub parent : Tree → ℕ → ℕ
+parent (leaf a) v = 0
+parent (node l a r) v =
+    split (size l) (size r) v
+    (cond (eqb (v + 1) (size l)) (size l + size r) (parent l v))
+    (λ j. cond (eqb (j + 1) (size r)) (size l + size r) (size l + parent r j))
+    (size l + size r)
+
+unfoldable pub depth : Tree → ℕ → ℕ
+depth (leaf a) v = 0
+depth (node l a r) v = split (size l) (size r) v (depth l v + 1) (λ j. depth r j + 1) 0
+
+unfoldable pub ancestor : Tree → ℕ → ℕ → ℕ
+ancestor t v zero = v
+ancestor t v (suc n) = parent t (ancestor t v n)
+
+unfoldable pub labelsDown : Tree → ℕ → ℕ → List ℕ
+labelsDown t v zero = []
+labelsDown t v (suc n) = labelsDown t (parent t v) n ++ (labelAt t v ∷ [])
+
+-- "The word runs from the upper node to the lower, both included; the same node twice is a word of one letter."
+unfoldable pub word : Tree → ℕ → ℕ → List ℕ
+word t u v = labelsDown t v (depth t v - depth t u + 1)
