@@ -1,3 +1,4 @@
 pub mod NodeLaws
 pub mod PostorderLaws
 pub mod JumpLaws
+pub mod RowLaws
