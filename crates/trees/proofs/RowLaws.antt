@@ -4,6 +4,8 @@
 --     length-rows, getD-rows    a table by its cells
 --     rows-of-cells .. take-over  a buffer whose cells are a table's begins with the table, and back
 --     length-linkRow ..         the widths and cells of the rows that Load writes
+--     linkRow-cells, mapRow-cells  such a row, from its cells by name
+--     linkTable-parent ..       what a buffer that begins with one of Load's tables has at a node
 --
 -- Assumes nothing.
 use Prim.Native.Nat.{ℕ, zero, suc, _+_, _-_, _*_, _≤_, _<_}
@@ -20,6 +22,7 @@ use Rattle.trees.specs.Automaton.{Automaton, state, WordAutomaton}
 use Rattle.trees.specs.Numbering.{sub, parent, depth}
 use Rattle.trees.specs.Jumps.{jump}
 use Rattle.trees.specs.Tables.{tabulate, rows, linkRow, stateMap, stateRow, branchState, branchMap, branchRow}
+use Rattle.trees.specs.Tables.{linkTable, stateTable, branchTable}
 
 -- ---- places
 
@@ -212,3 +215,79 @@ module _ (B : WordAutomaton) (t : Tree) (v : ℕ) where
 
   pub branchRow-map : (q : ℕ) → q < B .states → getD (branchRow B t v) (1 + q) 0 ≡ branchMap B t v q
   branchRow-map q h = behind (branchState B t v) (B .states) (branchMap B t v) q h
+
+-- ---- a row from its cells by name
+
+pub linkRow-cells : (t : Tree) (v : ℕ) (b : List ℕ) → getD b (v * 4) 0 ≡ parent t v → getD b (v * 4 + 1) 0 ≡ jump t v
+    → getD b (v * 4 + 2) 0 ≡ depth t v → getD b (v * 4 + 3) 0 ≡ size (sub t v)
+    → (k : ℕ) → k < 4 → getD b (v * 4 + k) 0 ≡ getD (linkRow t v) k 0
+linkRow-cells t v b p j d s zero h = let e : v * 4 + 0 ≡ v * 4 = omega arith in rw e p
+linkRow-cells t v b p j d s (suc zero) h = j
+linkRow-cells t v b p j d s (suc (suc zero)) h = d
+linkRow-cells t v b p j d s (suc (suc (suc zero))) h = s
+linkRow-cells t v b p j d s (suc (suc (suc (suc k)))) h = absurd (omega arith)
+
+-- a state x and a map f behind it: a row of a rule table or of a branch table
+pub mapRow-cells : (n x : ℕ) (f : ℕ → ℕ) (v : ℕ) (b : List ℕ) → getD b (v * (n + 1)) 0 ≡ x
+    → ((q : ℕ) → q < n → getD b (v * (n + 1) + 1 + q) 0 ≡ f q)
+    → (k : ℕ) → k < n + 1 → getD b (v * (n + 1) + k) 0 ≡ getD (x ∷ tabulate n f) k 0
+mapRow-cells n x f v b e m zero h = let z : v * (n + 1) + 0 ≡ v * (n + 1) = omega arith in rw z e
+mapRow-cells n x f v b e m (suc q) h =
+    let z : v * (n + 1) + suc q ≡ v * (n + 1) + 1 + q = omega arith in
+    let l : q < n = omega arith in
+    ap (λ (i : ℕ). getD b i 0) z ∙ m q l ∙ sym (getD-tabulate n f q l)
+
+-- ---- what a table has at a node
+
+module _ (t : Tree) (b : List ℕ) (e : take (size t * 4) b ≡ linkTable t) (v : ℕ) (h : v < size t) where
+  link : (k : ℕ) → k < 4 → getD b (v * 4 + k) 0 ≡ getD (linkRow t v) k 0
+  unfolding linkTable
+  link k l = cells-of-rows (size t) 4 (linkRow t) (λ u q. length-linkRow t u) b e v k h l
+
+  pub linkTable-parent : getD b (v * 4) 0 ≡ parent t v
+  linkTable-parent = let z : v * 4 ≡ v * 4 + 0 = omega arith in ap (λ (i : ℕ). getD b i 0) z ∙ link 0 (omega arith)
+
+  pub linkTable-jump : getD b (v * 4 + 1) 0 ≡ jump t v
+  linkTable-jump = link 1 (omega arith)
+
+  pub linkTable-depth : getD b (v * 4 + 2) 0 ≡ depth t v
+  linkTable-depth = link 2 (omega arith)
+
+  pub linkTable-size : getD b (v * 4 + 3) 0 ≡ size (sub t v)
+  linkTable-size = link 3 (omega arith)
+
+-- a table of states and maps
+module _ (m n : ℕ) (g : ℕ → ℕ) (f : ℕ → ℕ → ℕ) (b : List ℕ)
+    (e : take (m * (n + 1)) b ≡ rows m (λ v. g v ∷ tabulate n (f v))) (v : ℕ) (h : v < m) where
+  mapped : (k : ℕ) → k < n + 1 → getD b (v * (n + 1) + k) 0 ≡ getD (g v ∷ tabulate n (f v)) k 0
+  mapped k l =
+      cells-of-rows m (n + 1) (λ u. g u ∷ tabulate n (f u)) (λ u q. length-behind (g u) n (f u)) b e v k h l
+
+  table-state : getD b (v * (n + 1)) 0 ≡ g v
+  table-state =
+      let z : v * (n + 1) ≡ v * (n + 1) + 0 = omega arith in ap (λ (i : ℕ). getD b i 0) z ∙ mapped 0 (omega arith)
+
+  table-map : (q : ℕ) → q < n → getD b (v * (n + 1) + 1 + q) 0 ≡ f v q
+  table-map q l =
+      let z : v * (n + 1) + 1 + q ≡ v * (n + 1) + (1 + q) = omega arith in
+      ap (λ (i : ℕ). getD b i 0) z ∙ mapped (1 + q) (omega arith) ∙ behind (g v) n (f v) q l
+
+module _ (A : Automaton) (t : Tree) (b : List ℕ) (e : take (size t * (A .states + 1)) b ≡ stateTable A t) (v : ℕ)
+    (h : v < size t) where
+  pub stateTable-state : getD b (v * (A .states + 1)) 0 ≡ state A (sub t v)
+  unfolding stateTable
+  stateTable-state = table-state (size t) (A .states) (λ u. state A (sub t u)) (stateMap A t) b e v h
+
+  pub stateTable-map : (q : ℕ) → q < A .states → getD b (v * (A .states + 1) + 1 + q) 0 ≡ stateMap A t v q
+  unfolding stateTable
+  stateTable-map q l = table-map (size t) (A .states) (λ u. state A (sub t u)) (stateMap A t) b e v h q l
+
+module _ (B : WordAutomaton) (t : Tree) (b : List ℕ) (e : take (size t * (B .states + 1)) b ≡ branchTable B t) (v : ℕ)
+    (h : v < size t) where
+  pub branchTable-state : getD b (v * (B .states + 1)) 0 ≡ branchState B t v
+  unfolding branchTable
+  branchTable-state = table-state (size t) (B .states) (branchState B t) (branchMap B t) b e v h
+
+  pub branchTable-map : (q : ℕ) → q < B .states → getD b (v * (B .states + 1) + 1 + q) 0 ≡ branchMap B t v q
+  unfolding branchTable
+  branchTable-map q l = table-map (size t) (B .states) (branchState B t) (branchMap B t) b e v h q l

@@ -1,21 +1,21 @@
 -- The laws of runs, sizes and changed labels, by node number.
 --     label-sub                a node's label is the root label of its subtree
 --     run-at                   each node's state in the run is the state of its subtree
---     state-leaf, state-inner  the state at a node from its label and the states at its two children; size-leaf, size-inner alike
+--     state-leaf, state-inner  the state at a node from its label and its children's states; size-leaf, size-inner alike
 --     state-below              states are below `states` where the automaton's values are
 --     changed-length           a change list changes no number of labels
 --
 -- An inner node v has the right child v - 1 and the left child v - 1 - size (sub t (v - 1)).
 -- Assumes nothing.
-use Prim.Native.Nat.{ℕ, zero, suc, _+_, _-_, _≤_, _<_}
-use mathlib.Core.Path.{_≡_, refl, sym, ap, ap₂, _∙_}
-use mathlib.Core.List.{List, [], _∷_, _++_}
+use Prim.Native.Nat.{ℕ, _+_, _-_, _<_}
+use mathlib.Core.Path.{_≡_, refl, sym, ap, _∙_}
+use mathlib.Core.List.{List, [], _∷_}
 use mathlib.Core.Bool.{Bool, true, false, cond}
 use native.Mathlib.Decide.{ℕ-discrete}
 use native.Mathlib.Omega.{arith}
-use lib.ListN.{length, getD, set, length-set}
+use lib.ListN.{length, set, length-set}
 use lib.Dec.{ltb}
-use Rattle.trees.specs.Tree.{Tree, leaf, node, size, kindsOf, labelsOf, kindAt, labelAt}
+use Rattle.trees.specs.Tree.{Tree, leaf, node, size, kindsOf, kindAt, labelAt}
 use Rattle.trees.specs.Automaton.{Automaton, rootLabel, run, state}
 use Rattle.trees.specs.Numbering.{split, sub}
 use Rattle.trees.specs.Changes.{changed}
@@ -85,7 +85,8 @@ module _ (t : Tree) (v : ℕ) (h : v < size t) where
   pub size-leaf : kindAt t v ≡ 0 → size (sub t v) ≡ 1
   size-leaf e = ap size (sub-leaf t v h e)
 
-  pub size-inner : (kindAt t v ≡ 0 → ⊥) → size (sub t v) ≡ size (sub t (v - 1 - size (sub t (v - 1)))) + size (sub t (v - 1)) + 1
+  pub size-inner : (kindAt t v ≡ 0 → ⊥)
+      → size (sub t v) ≡ size (sub t (v - 1 - size (sub t (v - 1)))) + size (sub t (v - 1)) + 1
   size-inner e = ap size (children t v h e .is)
 
 module _ (A : Automaton) (t : Tree) (v : ℕ) (h : v < size t) where
@@ -93,7 +94,8 @@ module _ (A : Automaton) (t : Tree) (v : ℕ) (h : v < size t) where
   state-leaf e = ap (state A) (sub-leaf t v h e)
 
   pub state-inner : (kindAt t v ≡ 0 → ⊥)
-      → state A (sub t v) ≡ A .δ (state A (sub t (v - 1 - size (sub t (v - 1))))) (labelAt t v) (state A (sub t (v - 1)))
+      → state A (sub t v)
+      ≡ A .δ (state A (sub t (v - 1 - size (sub t (v - 1))))) (labelAt t v) (state A (sub t (v - 1)))
   state-inner e = ap (state A) (children t v h e .is)
 
 pub state-below : (A : Automaton) → ((a : ℕ) → A .ι a < A .states) → ((p a q : ℕ) → A .δ p a q < A .states) → (t : Tree)
