@@ -1,7 +1,7 @@
 -- The laws of runs, sizes and changed labels, by node number.
 --     label-sub                a node's label is the root label of its subtree
 --     run-at                   each node's state in the run is the state of its subtree
---     state-leaf, state-inner  the state at a node from its label and its children's states; size-leaf, size-inner alike
+--     state-leaf, state-inner  the state at a node from its label and its children's states; so size-leaf, size-inner
 --     state-below              states are below `states` where the automaton's values are
 --     changed-length           a change list changes no number of labels
 --
