@@ -1,1 +1,2 @@
 pub mod RowTurns
+pub mod StateTurns

@@ -1,3 +1,4 @@
 pub mod Answers
 pub mod StateCells
 pub mod Rows
+pub mod States
