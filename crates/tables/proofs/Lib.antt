@@ -1,2 +1,4 @@
 pub mod RowTurns
 pub mod StateTurns
+pub mod MapTurns
+pub mod MapPlaces
