@@ -5,3 +5,4 @@ pub mod PlanLaws
 pub mod RuleLaws
 pub mod BranchLaws
 pub mod InputLaws
+pub mod PlanAnswers
