@@ -6,3 +6,4 @@ pub mod RuleLaws
 pub mod BranchLaws
 pub mod InputLaws
 pub mod PlanAnswers
+pub mod TurnLaws

@@ -10,3 +10,4 @@
 pub mod bytes;
 pub mod limits;
 pub mod plan;
+pub mod rules;
