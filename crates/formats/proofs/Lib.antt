@@ -7,3 +7,4 @@ pub mod BranchLaws
 pub mod InputLaws
 pub mod PlanAnswers
 pub mod TurnLaws
+pub mod RuleAnswers
