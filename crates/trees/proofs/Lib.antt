@@ -5,3 +5,4 @@ pub mod Choice
 pub mod SkewBinary
 pub mod Digits
 pub mod MoveCount
+pub mod HeightLaws

@@ -1,0 +1,59 @@
+-- The height of a tree is the greatest depth of its nodes.
+--     depth-height    no node is deeper
+--     height-reached  some node is as deep
+--     height-size     2 * height t + 1 ≤ size t, so with 65,535 nodes the greatest depth is at most 32,767
+-- Assumes nothing.
+use Prim.Native.Nat.{ℕ, zero, suc, _+_, _*_, _≤_, _<_}
+use mathlib.Core.Path.{_≡_, refl, _∙_}
+use native.Mathlib.Omega.{arith}
+use Rattle.trees.specs.Tree.{Tree, leaf, node, size, height}
+use Rattle.trees.specs.Numbering.{depth}
+use Rattle.trees.proofs.Choice.{le-or}
+use Rattle.trees.proofs.NodeLaws.{Place, inL, inR, top, place, size-pos, split-left, split-right, split-top, depth-root}
+
+module _ (l : Tree) (a : ℕ) (r : Tree) (v : ℕ) where
+  depth-left : v < size l → depth (node l a r) v ≡ depth l v + 1
+  unfolding depth
+  depth-left h = split-left _ _ v _ _ _ h
+
+  depth-right : (j : ℕ) → v ≡ size l + j → j < size r → depth (node l a r) v ≡ depth r j + 1
+  unfolding depth
+  depth-right j e h = split-right _ _ v _ _ _ j e h
+
+  depth-top : v ≡ size l + size r → depth (node l a r) v ≡ 0
+  unfolding depth
+  depth-top e = split-top _ _ v _ _ _ e
+
+pub depth-height : (t : Tree) (v : ℕ) → v < size t → depth t v ≤ height t
+unfolding height
+depth-height (leaf a) v h = omega (arith, depth-root (leaf a) v (omega arith))
+depth-height (node l a r) v h = go (place l a r v h) (depth-height l v) (λ j. depth-height r j)
+  where
+    go : Place l r v → (v < size l → depth l v ≤ height l) → ((j : ℕ) → j < size r → depth r j ≤ height r)
+        → depth (node l a r) v ≤ height (node l a r)
+    go (inL p) il ir = omega (arith, depth-left l a r v p, il p)
+    go (inR j q p) il ir = omega (arith, depth-right l a r v j q p, ir j p)
+    go (top q) il ir = omega (arith, depth-top l a r v q)
+
+abbrev pub Deepest : Tree → Type 0
+Deepest t = (v : ℕ) × (v < size t) × (depth t v ≡ height t)
+
+pub height-reached : (t : Tree) → Deepest t
+unfolding height
+height-reached (leaf a) = (0, omega arith, depth-root (leaf a) 0 refl)
+height-reached (node l a r) = go (height-reached l) (height-reached r)
+  where
+    go : Deepest l → Deepest r → Deepest (node l a r)
+    go x y =
+        le-or (height r) (height l)
+        (λ h. (x .0, omega (arith, x .1), omega (arith, depth-left l a r (x .0) (x .1), x .2)))
+        (λ h. (
+          size l + y .0,
+          omega (arith, y .1),
+          omega (arith, depth-right l a r (size l + y .0) (y .0) refl (y .1), y .2),
+        ))
+
+pub height-size : (t : Tree) → 2 * height t + 1 ≤ size t
+unfolding height
+height-size (leaf a) = omega arith
+height-size (node l a r) = omega (arith, height-size l, height-size r, size-pos l, size-pos r)
