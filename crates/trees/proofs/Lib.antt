@@ -6,3 +6,5 @@ pub mod SkewBinary
 pub mod Digits
 pub mod MoveCount
 pub mod HeightLaws
+pub mod MoveLaws
+pub mod ClimbLaws
