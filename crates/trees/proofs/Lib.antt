@@ -8,3 +8,6 @@ pub mod MoveCount
 pub mod HeightLaws
 pub mod MoveLaws
 pub mod ClimbLaws
+pub mod TreeClimbs
+pub mod WalkLaws
+pub mod CarryLaws

@@ -1,9 +1,9 @@
 -- One move, in any forest.
---     chosen                      the link that the rule names: the jump if it is not above the target depth, else the parent
---     next-chosen, next-inside,   what an accepted move is: the named link, which stays inside the forest and rises
---     next-rises, next-starts
---     next-jump, next-parent      when the jump is taken, and when the parent
---     next-outside .. next-flat   when there is no move
+--     chosen                  the link that the rule names: the jump if it is not above the target depth, else the parent
+--     Accepted, accepted      what an accepted move is: the named link, which stays inside the forest and rises
+--     next-inside, next-rises, next-starts, next-start   the same, fact by fact
+--     next-jump, next-parent  when the jump is taken, and when the parent
+--     next-outside, next-jump-flat, next-parent-outside, next-parent-flat   when there is no move
 -- Assumes nothing.
 use Prim.Native.Nat.{ℕ, zero, suc, _≤_, _<_}
 use mathlib.Core.Path.{_≡_, refl, sym, ap, _∙_, subst}
@@ -40,6 +40,11 @@ not-rising false b c x h = refl
 abbrev pub chosen : Forest → ℕ → ℕ → Move
 chosen F v t = cond (leb t (F .depth (F .jump v))) (byJump v) (toParent v)
 
+-- the node that a move starts at
+abbrev pub start : Move → ℕ
+start (byJump v) = v
+start (toParent v) = v
+
 module _ (F : Forest) (v t : ℕ) where
   -- ---- what an accepted move is
 
@@ -74,6 +79,9 @@ module _ (F : Forest) (v t : ℕ) where
   next-starts m h =
       by-le (λ (c : Move). m ≡ c → (m ≡ byJump v) ⊎ (m ≡ toParent v)) t (F .depth (F .jump v)) (λ _ e. inl e) (λ _ e. inr e)
       (accepted m h .is-chosen)
+
+  pub next-start : (m : Move) → nextMove F v t ≡ some m → start m ≡ v
+  next-start m h = elim (next-starts m h) [ inl e ↦ ap start e | inr e ↦ ap start e ]
 
   -- ---- when the jump is taken, and when the parent
 
