@@ -65,3 +65,39 @@ module _ {X : Type 0} (P : X → Type 0) (step : ℕ → X → X) (act : Move �
       let c : climb (forestOf t) u to ≡ some ms = subst (λ (k : Move). climb (forestOf t) (target (forestOf t) k) to ≡ some ms) q (s .more) in
       one-more m ms w u 1 to x (ap (λ (k : Move). act k x) q ∙ by-parent w x r p) refl (omega (arith, g .deeper))
       (omega (arith, g .deeper, s .deeper)) (carry-walk u to ms (step w x) (g .below) (omega (arith, g .deeper, s .deeper)) c (keeps w x r p)))
+
+  pub carry-kept : (w to : ℕ) (x : X) → w < size t → P x → P (walk step t w (depth t w - to) x)
+  carry-kept w to x h p = walk-kept w (depth t w - to) x h (omega arith) p
+
+-- ---- climb and carry together, in any forest
+
+abbrev pub carried : {X : Type 0} → Forest → (Move → X → Option X) → ℕ → ℕ → X → Option X
+carried F act v t x = andThen (climb F v t) (λ ms. carry act ms x)
+
+module _ {X : Type 0} (F : Forest) (act : Move → X → Option X) (v t : ℕ) (x : X) where
+  pub carried-done : F .depth v ≤ t → carried F act v t x ≡ some x
+  carried-done h = ap (λ (o : Option (List Move)). andThen o (λ ms. carry act ms x)) (climb-done F v t h)
+
+  pub carried-stuck : t < F .depth v → nextMove F v t ≡ none → carried F act v t x ≡ none
+  carried-stuck h e = ap (λ (o : Option (List Move)). andThen o (λ ms. carry act ms x)) (climb-stuck F v t h e)
+
+  module _ (m : Move) (h : t < F .depth v) (e : nextMove F v t ≡ some m) where
+    apart : (o : Option (List Move))
+        → andThen (before m o) (λ ms. carry act ms x) ≡ andThen o (λ ms. andThen (act m x) (carry act ms))
+    apart none = refl
+    apart (some ms) = refl
+
+    first : carried F act v t x ≡ andThen (climb F (target F m) t) (λ ms. andThen (act m x) (carry act ms))
+    first = ap (λ (o : Option (List Move)). andThen o (λ ms. carry act ms x)) (climb-move F v t m h e) ∙ apart (climb F (target F m) t)
+
+    pub carried-move : (y : X) → act m x ≡ some y → carried F act v t x ≡ carried F act (target F m) t y
+    carried-move y a =
+        first ∙ ap (λ (z : Option X). andThen (climb F (target F m) t) (λ ms. andThen z (carry act ms))) a
+
+    pub carried-lost : act m x ≡ none → carried F act v t x ≡ none
+    carried-lost a =
+        first ∙ ap (λ (z : Option X). andThen (climb F (target F m) t) (λ ms. andThen z (carry act ms))) a ∙ nothing (climb F (target F m) t)
+      where
+        nothing : (o : Option (List Move)) → andThen {X = List Move} {Y = X} o (λ ms. none) ≡ none
+        nothing none = refl
+        nothing (some ms) = refl

@@ -11,3 +11,4 @@ pub mod ClimbLaws
 pub mod TreeClimbs
 pub mod WalkLaws
 pub mod CarryLaws
+pub mod Samples
