@@ -17,7 +17,8 @@ use borrow.Author.Tests.{lt-ltb, le-ltb}
 use Rattle.trees.specs.Tree.{Tree, size}
 use Rattle.trees.specs.Numbering.{parent, depth}
 use Rattle.trees.specs.Jumps.{jump}
-use Rattle.trees.specs.Climb.{Forest, forestOf, Move, byJump, toParent, target, nextMove, andThen, before, climbIn, climb, climbEnd}
+use Rattle.trees.specs.Climb.{Forest, forestOf, Move, byJump, toParent, target, nextMove}
+use Rattle.trees.specs.Climb.{andThen, before, climbIn, climb, climbEnd}
 use Rattle.trees.proofs.Choice.{le-or}
 use Rattle.trees.proofs.MoveLaws.{none-some, next-inside, next-rises, next-starts, next-jump, next-parent}
 use Rattle.trees.proofs.MoveLaws.{next-outside, next-jump-flat, next-parent-outside, next-parent-flat}
@@ -57,24 +58,33 @@ module _ (F : Forest) where
   climb-done v t h = in-done (F .depth v) v t h
 
   -- from a node below the target depth
-  pub climb-onward : (v t : ℕ) → t < F .depth v → climb F v t ≡ andThen (nextMove F v t) (λ m. before m (climb F (target F m) t))
+  pub climb-onward : (v t : ℕ) → t < F .depth v
+      → climb F v t ≡ andThen (nextMove F v t) (λ m. before m (climb F (target F m) t))
   unfolding climb
   climb-onward v t h =
-      let s : climbIn (F .depth v) F v t ≡ climbIn (suc (F .depth v)) F v t = same (F .depth v) (suc (F .depth v)) v t (le-refl _) (omega arith) in
+      let s : climbIn (F .depth v) F v t ≡ climbIn (suc (F .depth v)) F v t =
+      same (F .depth v) (suc (F .depth v)) v t (le-refl _) (omega arith) in
       s ∙ in-more (F .depth v) v t h
-      ∙ onward (nextMove F v t) (λ m. climbIn (F .depth v) F (target F m) t) (λ m. climbIn (F .depth (target F m)) F (target F m) t)
-      (λ m e. same (F .depth v) (F .depth (target F m)) (target F m) t (omega (arith, next-rises F v t m e)) (le-refl _))
+      ∙ onward (nextMove F v t) (λ m. climbIn (F .depth v) F (target F m) t)
+      (λ m. climbIn (F .depth (target F m)) F (target F m) t)
+      (λ m e. same (F .depth v) (F .depth (target F m)) (target F m) t
+      (omega (arith, next-rises F v t m e)) (le-refl _))
 
-  pub climb-move : (v t : ℕ) (m : Move) → t < F .depth v → nextMove F v t ≡ some m → climb F v t ≡ before m (climb F (target F m) t)
-  climb-move v t m h e = climb-onward v t h ∙ ap (λ (o : Option Move). andThen o (λ m. before m (climb F (target F m) t))) e
+  pub climb-move : (v t : ℕ) (m : Move) → t < F .depth v → nextMove F v t ≡ some m
+      → climb F v t ≡ before m (climb F (target F m) t)
+  climb-move v t m h e =
+      climb-onward v t h ∙ ap (λ (o : Option Move). andThen o (λ m. before m (climb F (target F m) t))) e
 
   pub climb-stuck : (v t : ℕ) → t < F .depth v → nextMove F v t ≡ none → climb F v t ≡ none
-  climb-stuck v t h e = climb-onward v t h ∙ ap (λ (o : Option Move). andThen o (λ m. before m (climb F (target F m) t))) e
+  climb-stuck v t h e =
+      climb-onward v t h ∙ ap (λ (o : Option Move). andThen o (λ m. before m (climb F (target F m) t))) e
 
   -- ---- a climb taken apart
 
   pub climb-nil : (v t : ℕ) → climb F v t ≡ some [] → F .depth v ≤ t
-  climb-nil v t e = le-or (F .depth v) t (λ h. h) (λ h. absurd (go (nextMove F v t) (λ m. climb F (target F m) t) (sym (climb-onward v t h) ∙ e)))
+  climb-nil v t e =
+      le-or (F .depth v) t (λ h. h)
+      (λ h. absurd (go (nextMove F v t) (λ m. climb F (target F m) t) (sym (climb-onward v t h) ∙ e)))
     where
       step : (m : Move) (o : Option (List Move)) → before m o ≡ some [] → ⊥
       step m none q = none-some q
@@ -110,7 +120,8 @@ module _ (F : Forest) where
 
   -- ---- how far, and how many moves
 
-  pub climb-short : (w t : ℕ) (ms : List Move) → climb F w t ≡ some ms → length ms + F .depth (climbEnd F w ms) ≤ F .depth w
+  pub climb-short : (w t : ℕ) (ms : List Move) → climb F w t ≡ some ms
+      → length ms + F .depth (climbEnd F w ms) ≤ F .depth w
   climb-short w t [] e = omega arith
   climb-short w t (m ∷ ms) e =
       let s = climb-cons w t m ms e in
@@ -159,7 +170,8 @@ module _ (F G : Forest) (A : Agree F G) where
       let q : F .depth (F .parent v) ≡ G .depth (G .parent v) = same-depth (F .parent v) (G .parent v) p s in
       le-or (F .depth v) (F .depth (F .parent v))
       (λ r. next-parent-flat F v t l r ∙ sym (next-parent-flat G v t (omega arith) (omega arith)))
-      (λ r. next-parent F v t i l s r ∙ sym (next-parent G v t (omega arith) (omega arith) (omega arith) (omega arith))))))
+      (λ r. next-parent F v t i l s r ∙ sym (next-parent G v t (omega arith) (omega arith) (omega arith)
+      (omega arith))))))
 
   pub same-target : (v t : ℕ) (m : Move) → v < F .nodes → nextMove F v t ≡ some m → target F m ≡ target G m
   same-target v t m h e = go (next-starts F v t m e)
@@ -183,7 +195,8 @@ module _ (F G : Forest) (A : Agree F G) where
   pub same-climb-of : (w t : ℕ) → w < F .nodes → climb F w t ≡ climb G w t
   same-climb-of w t h = counted (F .depth w) w t h (le-refl _)
 
-  pub same-end-of : (w t : ℕ) (ms : List Move) → w < F .nodes → climb F w t ≡ some ms → climbEnd F w ms ≡ climbEnd G w ms
+  pub same-end-of : (w t : ℕ) (ms : List Move) → w < F .nodes → climb F w t ≡ some ms
+      → climbEnd F w ms ≡ climbEnd G w ms
   same-end-of w t [] h e = refl
   same-end-of w t (m ∷ ms) h e =
       let s = climb-cons F w t m ms e in
@@ -208,5 +221,6 @@ module _ (F : Forest) (t : Tree) (n : F .nodes ≡ size t) (tells : Tells F t) w
   pub same-climb : (w to : ℕ) → w < size t → climb F w to ≡ climb (forestOf t) w to
   same-climb w to h = same-climb-of F (forestOf t) tree-agrees w to (omega arith)
 
-  pub same-end : (w to : ℕ) (ms : List Move) → w < size t → climb F w to ≡ some ms → climbEnd F w ms ≡ climbEnd (forestOf t) w ms
+  pub same-end : (w to : ℕ) (ms : List Move) → w < size t → climb F w to ≡ some ms
+      → climbEnd F w ms ≡ climbEnd (forestOf t) w ms
   same-end w to ms h e = same-end-of F (forestOf t) tree-agrees w to ms (omega arith) e

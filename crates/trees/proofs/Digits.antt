@@ -1,9 +1,11 @@
 -- The number of binary digits.
 --     digits-are     2 ^ (digits n - 1) ≤ n < 2 ^ digits n, and 0 has none
 --     digits-mono    a greater number has no fewer
+--     digits-limit   a number up to 32,767 has at most 15
 --     weight-digits  where 2 ^ k - 1 ≤ n, n has at least k
 -- Assumes nothing.
 use Prim.Native.Nat.{ℕ, zero, suc, _*_, _/_, _^_, _≤_, _<_, suc-le-suc, max}
+use mathlib.Core.Path.{_≡_, refl}
 use native.Mathlib.Omega.{arith}
 use native.Mathlib.Nat.{le-refl}
 use Rattle.trees.specs.Climb.{digitsIn, digits}
@@ -38,6 +40,9 @@ in-mono (suc f) (suc g) m n h l =
 pub digits-mono : (m n : ℕ) → m ≤ n → digits m ≤ digits n
 unfolding digits
 digits-mono m n h = in-mono m n m n h (le-refl n)
+
+pub digits-limit : (n : ℕ) → n ≤ 32767 → digits n ≤ 15
+digits-limit n h = let e : digits 32767 ≡ 15 = unfold digits digitsIn in refl in omega (arith, digits-mono n 32767 h)
 
 in-weight : (k f n : ℕ) → weight k ≤ n → n ≤ f → k ≤ digitsIn f n
 unfolding weight digitsIn

@@ -1,7 +1,8 @@
 -- The height of a tree is the greatest depth of its nodes.
 --     depth-height    no node is deeper
 --     height-reached  some node is as deep
---     height-size     2 * height t + 1 ≤ size t, so with 65,535 nodes the greatest depth is at most 32,767
+--     height-size     2 * height t + 1 ≤ size t
+--     height-limit, depth-limit   so with at most 65,535 nodes no depth is above 32,767
 -- Assumes nothing.
 use Prim.Native.Nat.{ℕ, zero, suc, _+_, _*_, _≤_, _<_}
 use mathlib.Core.Path.{_≡_, refl, _∙_}
@@ -9,7 +10,8 @@ use native.Mathlib.Omega.{arith}
 use Rattle.trees.specs.Tree.{Tree, leaf, node, size, height}
 use Rattle.trees.specs.Numbering.{depth}
 use Rattle.trees.proofs.Choice.{le-or}
-use Rattle.trees.proofs.NodeLaws.{Place, inL, inR, top, place, size-pos, split-left, split-right, split-top, depth-root}
+use Rattle.trees.proofs.NodeLaws.{Place, inL, inR, top, place, size-pos, depth-root}
+use Rattle.trees.proofs.NodeLaws.{split-left, split-right, split-top}
 
 module _ (l : Tree) (a : ℕ) (r : Tree) (v : ℕ) where
   depth-left : v < size l → depth (node l a r) v ≡ depth l v + 1
@@ -57,3 +59,10 @@ pub height-size : (t : Tree) → 2 * height t + 1 ≤ size t
 unfolding height
 height-size (leaf a) = omega arith
 height-size (node l a r) = omega (arith, height-size l, height-size r, size-pos l, size-pos r)
+
+-- "Greatest depth 32,767 (root 0)", for "N 1 to 65,535"
+pub height-limit : (t : Tree) → size t ≤ 65535 → height t ≤ 32767
+height-limit t h = omega (arith, height-size t)
+
+pub depth-limit : (t : Tree) (v : ℕ) → size t ≤ 65535 → v < size t → depth t v ≤ 32767
+depth-limit t v h l = omega (arith, height-limit t h, depth-height t v l)

@@ -12,7 +12,8 @@ use native.Mathlib.Nat.{le-refl}
 use Rattle.trees.specs.Jumps.{jumpDepth}
 use Rattle.trees.specs.Climb.{nextDepth, moveCountIn, moveCount, digits}
 use Rattle.trees.proofs.Choice.{by-le, by-lt, le-or}
-use Rattle.trees.proofs.SkewBinary.{jumpDepth-lt, weight, value, rep, value-rep, Block, Blocks, blocks, jumpDepth-block, Rising, Canon, canon}
+use Rattle.trees.proofs.SkewBinary.{jumpDepth-lt, weight, value, rep, value-rep}
+use Rattle.trees.proofs.SkewBinary.{Block, Blocks, blocks, jumpDepth-block, Rising, Canon, canon}
 use Rattle.trees.proofs.Digits.{weight-digits}
 
 -- ---- one move
@@ -95,7 +96,8 @@ in-block (suc zero) ks b f t h =
 in-block (suc (suc k)) ks b f t h =
     let c : Block (suc k) (suc k ∷ ks) = unfold Block in b .1 in
     let c′ : Block (suc k) ks = unfold Block in b .2 in
-    let e : weight (suc (suc k)) + value ks - 1 ≡ weight (suc k) + value (suc k ∷ ks) = unfold weight value in omega arith in
+    let e : weight (suc (suc k)) + value ks - 1 ≡ weight (suc k) + value (suc k ∷ ks) =
+    unfold weight value in omega arith in
     let v : value (suc k ∷ ks) ≡ weight (suc k) + value ks = unfold value in refl in
     let j : jumpDepth (weight (suc (suc k)) + value ks) ≡ value ks = jumpDepth-block (suc (suc k)) ks b in
     le-or t (value ks)
@@ -109,7 +111,8 @@ in-block (suc (suc k)) ks b f t h =
     (λ p. omega (
       arith,
       up,
-      in-jump (pred f) (weight (suc k) + value (suc k ∷ ks)) t (value (suc k ∷ ks)) (jumpDepth-block (suc k) (suc k ∷ ks) c) (omega arith),
+      in-jump (pred f) (weight (suc k) + value (suc k ∷ ks)) t (value (suc k ∷ ks))
+          (jumpDepth-block (suc k) (suc k ∷ ks) c) (omega arith),
       rw (← v) at (in-block (suc k) ks c′ (pred (pred f)) t h),
     )))
 

@@ -1,5 +1,6 @@
 -- One move, in any forest.
---     chosen                  the link that the rule names: the jump if it is not above the target depth, else the parent
+--     chosen                  the link that the rule names: the jump unless it leads above the target depth, else
+--                             the parent
 --     Accepted, accepted      what an accepted move is: the named link, which stays inside the forest and rises
 --     next-inside, next-rises, next-starts, next-start   the same, fact by fact
 --     next-jump, next-parent  when the jump is taken, and when the parent
@@ -66,7 +67,8 @@ module _ (F : Forest) (v t : ℕ) where
         jump-inside = ltb-true (F .jump v) (F .nodes) (one .0);
         is-chosen = sym e;
         inside = subst (λ (x : Move). target F x < F .nodes) e (ltb-true (target F c) (F .nodes) (three .0));
-        rises = subst (λ (x : Move). F .depth (target F x) < F .depth v) e (ltb-true (F .depth (target F c)) (F .depth v) (three .1));
+        rises = subst (λ (x : Move). F .depth (target F x) < F .depth v) e
+            (ltb-true (F .depth (target F c)) (F .depth v) (three .1));
       }
 
   pub next-inside : (m : Move) → nextMove F v t ≡ some m → target F m < F .nodes
@@ -77,8 +79,8 @@ module _ (F : Forest) (v t : ℕ) where
 
   pub next-starts : (m : Move) → nextMove F v t ≡ some m → (m ≡ byJump v) ⊎ (m ≡ toParent v)
   next-starts m h =
-      by-le (λ (c : Move). m ≡ c → (m ≡ byJump v) ⊎ (m ≡ toParent v)) t (F .depth (F .jump v)) (λ _ e. inl e) (λ _ e. inr e)
-      (accepted m h .is-chosen)
+      by-le (λ (c : Move). m ≡ c → (m ≡ byJump v) ⊎ (m ≡ toParent v)) t (F .depth (F .jump v))
+      (λ _ e. inl e) (λ _ e. inr e) (accepted m h .is-chosen)
 
   pub next-start : (m : Move) → nextMove F v t ≡ some m → start m ≡ v
   next-start m h = elim (next-starts m h) [ inl e ↦ ap start e | inr e ↦ ap start e ]
@@ -89,13 +91,16 @@ module _ (F : Forest) (v t : ℕ) where
       → nextMove F v t ≡ some (byJump v)
   unfolding nextMove
   next-jump i l r =
-      rw (lt-ltb (F .jump v) (F .nodes) i, le-leb t (F .depth (F .jump v)) l, lt-ltb (F .jump v) (F .nodes) i, lt-ltb (F .depth (F .jump v)) (F .depth v) r)
+      let a : ltb (F .jump v) (F .nodes) ≡ true = lt-ltb (F .jump v) (F .nodes) i in
+      rw (a, le-leb t (F .depth (F .jump v)) l, a, lt-ltb (F .depth (F .jump v)) (F .depth v) r)
 
   pub next-parent : F .jump v < F .nodes → F .depth (F .jump v) < t → F .parent v < F .nodes
       → F .depth (F .parent v) < F .depth v → nextMove F v t ≡ some (toParent v)
   unfolding nextMove
   next-parent i l p r =
-      rw (lt-ltb (F .jump v) (F .nodes) i, lt-leb t (F .depth (F .jump v)) l, lt-ltb (F .parent v) (F .nodes) p, lt-ltb (F .depth (F .parent v)) (F .depth v) r)
+      let a : ltb (F .jump v) (F .nodes) ≡ true = lt-ltb (F .jump v) (F .nodes) i in
+      let b : ltb (F .parent v) (F .nodes) ≡ true = lt-ltb (F .parent v) (F .nodes) p in
+      rw (a, lt-leb t (F .depth (F .jump v)) l, b, lt-ltb (F .depth (F .parent v)) (F .depth v) r)
 
   -- ---- when there is no move
 
@@ -107,19 +112,19 @@ module _ (F : Forest) (v t : ℕ) where
   unfolding nextMove
   next-jump-flat l r =
       rw (le-leb t (F .depth (F .jump v)) l)
-      (not-rising (ltb (F .jump v) (F .nodes)) (ltb (F .jump v) (F .nodes)) (ltb (F .depth (F .jump v)) (F .depth v)) (byJump v)
-      (le-ltb (F .depth (F .jump v)) (F .depth v) r))
+      (not-rising (ltb (F .jump v) (F .nodes)) (ltb (F .jump v) (F .nodes)) (ltb (F .depth (F .jump v)) (F .depth v))
+      (byJump v) (le-ltb (F .depth (F .jump v)) (F .depth v) r))
 
   pub next-parent-outside : F .depth (F .jump v) < t → F .nodes ≤ F .parent v → nextMove F v t ≡ none
   unfolding nextMove
   next-parent-outside l p =
       rw (lt-leb t (F .depth (F .jump v)) l)
-      (not-inside (ltb (F .jump v) (F .nodes)) (ltb (F .parent v) (F .nodes)) (ltb (F .depth (F .parent v)) (F .depth v))
-      (toParent v) (le-ltb (F .parent v) (F .nodes) p))
+      (not-inside (ltb (F .jump v) (F .nodes)) (ltb (F .parent v) (F .nodes))
+      (ltb (F .depth (F .parent v)) (F .depth v)) (toParent v) (le-ltb (F .parent v) (F .nodes) p))
 
   pub next-parent-flat : F .depth (F .jump v) < t → F .depth v ≤ F .depth (F .parent v) → nextMove F v t ≡ none
   unfolding nextMove
   next-parent-flat l r =
       rw (lt-leb t (F .depth (F .jump v)) l)
-      (not-rising (ltb (F .jump v) (F .nodes)) (ltb (F .parent v) (F .nodes)) (ltb (F .depth (F .parent v)) (F .depth v))
-      (toParent v) (le-ltb (F .depth (F .parent v)) (F .depth v) r))
+      (not-rising (ltb (F .jump v) (F .nodes)) (ltb (F .parent v) (F .nodes))
+      (ltb (F .depth (F .parent v)) (F .depth v)) (toParent v) (le-ltb (F .depth (F .parent v)) (F .depth v) r))

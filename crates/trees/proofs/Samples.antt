@@ -12,10 +12,12 @@ use mathlib.Core.Option.{some}
 use Rattle.trees.specs.Tree.{Tree, leaf, node, size}
 use Rattle.trees.specs.Numbering.{split, parent, depth}
 use Rattle.trees.specs.Jumps.{jumpIn, jump, jumpDepthIn, jumpDepth}
-use Rattle.trees.specs.Climb.{forestOf, byJump, toParent, nextMove, climbIn, climb, nextDepth, moveCountIn, moveCount, digitsIn, digits}
+use Rattle.trees.specs.Climb.{forestOf, byJump, toParent, nextMove, climbIn, climb}
+use Rattle.trees.specs.Climb.{nextDepth, moveCountIn, moveCount, digitsIn, digits}
 
 pub jumpDepth-samples :
-    jumpDepth 1 ∷ jumpDepth 2 ∷ jumpDepth 3 ∷ jumpDepth 4 ∷ jumpDepth 5 ∷ jumpDepth 6 ∷ jumpDepth 7 ∷ [] ≡ 0 ∷ 1 ∷ 0 ∷ 3 ∷ 4 ∷ 3 ∷ 0 ∷ []
+    jumpDepth 1 ∷ jumpDepth 2 ∷ jumpDepth 3 ∷ jumpDepth 4 ∷ jumpDepth 5 ∷ jumpDepth 6 ∷ jumpDepth 7 ∷ []
+    ≡ 0 ∷ 1 ∷ 0 ∷ 3 ∷ 4 ∷ 3 ∷ 0 ∷ []
 unfolding jumpDepth jumpDepthIn
 jumpDepth-samples = refl
 
@@ -26,7 +28,8 @@ comb =
     (node (leaf 0) 0 (node (leaf 0) 0 (node (leaf 0) 0 (leaf 0)))))))
 
 pub comb-depths :
-    depth comb 13 ∷ depth comb 12 ∷ depth comb 11 ∷ depth comb 10 ∷ depth comb 9 ∷ depth comb 8 ∷ depth comb 7 ∷ [] ≡ 1 ∷ 2 ∷ 3 ∷ 4 ∷ 5 ∷ 6 ∷ 7 ∷ []
+    depth comb 13 ∷ depth comb 12 ∷ depth comb 11 ∷ depth comb 10 ∷ depth comb 9 ∷ depth comb 8 ∷ depth comb 7 ∷ []
+    ≡ 1 ∷ 2 ∷ 3 ∷ 4 ∷ 5 ∷ 6 ∷ 7 ∷ []
 unfolding depth split
 comb-depths = refl
 
@@ -44,7 +47,8 @@ unfolding moveCount moveCountIn nextDepth jumpDepth jumpDepthIn
 moveCount-samples = (refl, refl)
 
 pub climb-samples :
-    (climb (forestOf comb) 8 1 ≡ some (byJump 8 ∷ toParent 11 ∷ byJump 12 ∷ [])) × (climb (forestOf comb) 8 0 ≡ some (byJump 8 ∷ byJump 11 ∷ []))
+    (climb (forestOf comb) 8 1 ≡ some (byJump 8 ∷ toParent 11 ∷ byJump 12 ∷ []))
+    × (climb (forestOf comb) 8 0 ≡ some (byJump 8 ∷ byJump 11 ∷ []))
 unfolding climb climbIn nextMove jump jumpIn parent depth split
 climb-samples = (refl, refl)
 

@@ -2,8 +2,8 @@
 --     jumpDepth-lt     a jump leads to a smaller depth
 --     weight, value    a block of exponent k weighs 2 ^ k - 1; a list of exponents stands for the sum
 --     inc, rep         the list one higher, and the list of a number
---     Block, blocks    the history of a block: at depth weight k + value ks the list is k ∷ ks, and so for the two blocks
---                      that it was merged from; every block of rep n has one
+--     Block, blocks    the history of a block: at depth weight k + value ks the list is k ∷ ks, and so for the two
+--                      blocks that it was merged from; every block of rep n has one
 --     jumpDepth-block  from the end of a block the jump leads to its start
 --     Canon, canon     the exponents of rep n rise strictly, save that the first two may be equal
 -- Not here: the number of moves (MoveCount).
@@ -57,7 +57,8 @@ unfolding inc value weight
 inc-value [] = refl
 inc-value (k ∷ []) = omega arith
 inc-value (k ∷ j ∷ js) =
-    by-eq (λ l. value l ≡ suc (weight k + (weight j + value js))) k j (λ e. omega (arith, ap weight e)) (λ _. omega arith)
+    by-eq (λ l. value l ≡ suc (weight k + (weight j + value js))) k j
+    (λ e. omega (arith, ap weight e)) (λ _. omega arith)
 
 pub value-rep : (n : ℕ) → value (rep n) ≡ n
 unfolding rep

@@ -21,7 +21,8 @@ module _ {X : Type 0} (step : ℕ → X → X) (t : Tree) where
       let f : m + 1 ≡ suc m = omega arith in
       ap (λ (k : ℕ). walk step t v k x) e
       ∙ walk-add (parent t v) m n (step v x)
-      ∙ ap (λ (u : ℕ). walk step t u n (walk step t (parent t v) m (step v x))) (ancestor-add t v 1 m ∙ ap (ancestor t v) f)
+      ∙ ap (λ (u : ℕ). walk step t u n (walk step t (parent t v) m (step v x)))
+      (ancestor-add t v 1 m ∙ ap (ancestor t v) f)
 
   pub walk-keeps : (P : X → Type 0) → ((v : ℕ) (x : X) → v + 1 < size t → P x → P (step v x)) → (v n : ℕ) (x : X)
       → v < size t → n ≤ depth t v → P x → P (walk step t v n x)
