@@ -5,11 +5,11 @@
 --     climb-samples       and these are they, in the comb
 --     digits-samples      32,767 has 15 binary digits, 0 none
 -- Assumes nothing.
-use Prim.Native.Nat.{ℕ, zero, suc}
+use Prim.Native.Nat.{ℕ}
 use mathlib.Core.Path.{_≡_, refl}
-use mathlib.Core.List.{List, [], _∷_}
+use mathlib.Core.List.{[], _∷_}
 use mathlib.Core.Option.{some}
-use Rattle.trees.specs.Tree.{Tree, leaf, node, size}
+use Rattle.trees.specs.Tree.{Tree, leaf, node}
 use Rattle.trees.specs.Numbering.{split, parent, depth}
 use Rattle.trees.specs.Jumps.{jumpIn, jump, jumpDepthIn, jumpDepth}
 use Rattle.trees.specs.Climb.{forestOf, byJump, toParent, nextMove, climbIn, climb}

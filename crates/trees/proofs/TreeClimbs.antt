@@ -15,7 +15,7 @@ use native.Mathlib.Nat.{le-refl}
 use native.Mathlib.Decide.{ℕ-discrete}
 use lib.ListN.{length}
 use Rattle.trees.specs.Tree.{Tree, size, height}
-use Rattle.trees.specs.Numbering.{parent, depth, ancestor}
+use Rattle.trees.specs.Numbering.{depth, ancestor}
 use Rattle.trees.specs.Jumps.{jump, jumpDepth}
 use Rattle.trees.specs.Climb.{forestOf, Move, byJump, toParent, target, nextMove, before, climb, climbEnd}
 use Rattle.trees.specs.Climb.{nextDepth, moveCount, digits}
