@@ -12,3 +12,7 @@ pub mod TreeClimbs
 pub mod WalkLaws
 pub mod CarryLaws
 pub mod Samples
+pub mod RowLaws
+pub mod RunLaws
+pub mod MapLaws
+pub mod BranchMapLaws

@@ -1,0 +1,39 @@
+-- Numbers in bytes, and tests of lists.
+--
+-- le32 b at == the 32-bit little-endian number that starts at byte `at` of b; a byte past the end counts 0
+-- le32Bytes n == its four bytes
+-- allBelow n l == whether every element of l is below n
+-- distinct l == whether no element stands twice in l
+-- sameList l m == whether l and m are the same list
+--
+-- "Numbers of more than one byte are unsigned and little-endian"
+-- Assumes nothing.
+use Prim.Native.Nat.{ℕ, _+_, _*_, _/_, _%_}
+use mathlib.Core.Bool.{Bool, true, false, not, _&&_, _||_}
+use mathlib.Core.List.{List, [], _∷_}
+use lib.Dec.{ltb, eqb}
+use lib.ListN.{getD}
+
+abbrev pub le32 : List ℕ → ℕ → ℕ
+le32 b at = getD b at 0 + 256 * getD b (at + 1) 0 + 65536 * getD b (at + 2) 0 + 16777216 * getD b (at + 3) 0
+
+abbrev pub le32Bytes : ℕ → List ℕ
+le32Bytes n = n % 256 ∷ n / 256 % 256 ∷ n / 65536 % 256 ∷ n / 16777216 % 256 ∷ []
+
+unfoldable pub allBelow : ℕ → List ℕ → Bool
+allBelow n [] = true
+allBelow n (x ∷ l) = ltb x n && allBelow n l
+
+unfoldable pub holds : ℕ → List ℕ → Bool
+holds x [] = false
+holds x (y ∷ l) = eqb x y || holds x l
+
+unfoldable pub distinct : List ℕ → Bool
+distinct [] = true
+distinct (x ∷ l) = not (holds x l) && distinct l
+
+unfoldable pub sameList : List ℕ → List ℕ → Bool
+sameList [] [] = true
+sameList [] (y ∷ m) = false
+sameList (x ∷ l) [] = false
+sameList (x ∷ l) (y ∷ m) = eqb x y && sameList l m

@@ -1,0 +1,106 @@
+-- The questions put to each call, by number and in order.
+--
+-- Check == a number and whether its question is answered with yes
+-- firstNo cs == the number of the first check that fails; 0 where none does
+-- planChecks p == 2 to 5; ruleChecks r, branchChecks r == 6 to 9; labelCheck == 10; roomCheck == 11; listChecks == 12 to 15
+-- ruleTableChecks p r, branchTableChecks p r == 2 to 10
+-- buildChecks, branchBuildChecks == 2 to 11: those of the builds and of the full checks
+-- freshRunChecks == 2 to 10, then 12 to 15
+-- linkLength n, stateLength n s == what n nodes and s states need of the two table buffers
+--
+-- Not here: 1 (the session), 16 and 18 (the branch question and the questions layer), 17 (with the calls that have it).
+-- Assumes nothing.
+use Prim.Native.Nat.{ℕ, _+_, _*_}
+use mathlib.Core.Bool.{Bool, cond, _&&_}
+use mathlib.Core.List.{List, [], _∷_, _++_}
+use lib.Dec.{leb, eqb}
+use lib.ListN.{length}
+use Rattle.trees.specs.Postorder.{isPostorder}
+use Rattle.formats.specs.Bytes.{le32, allBelow, distinct}
+use Rattle.formats.specs.Limits.{nodeLimit, stateLimit, labelLimit, changeLimit, within}
+use Rattle.formats.specs.Plan.{nodeCount, planLength, labelsIn, kindsIn}
+use Rattle.formats.specs.Rules.{stateCount, labelCount, ruleLength, leafStates, innerStates, ruleMarks, branchLength, branchSteps, branchMarks}
+
+pub record Check : Type 0 where
+  pub number : ℕ
+  pub passes : Bool
+
+abbrev pub check : ℕ → Bool → Check
+check n b = record { number = n; passes = b }
+
+-- "The first no gives its number"
+unfoldable pub firstNo : List Check → ℕ
+firstNo [] = 0
+firstNo (c ∷ cs) = cond (c .passes) (firstNo cs) (c .number)
+
+-- "plan of at least 12 bytes? 2; N in its limits? 3; offsets and length exact? 4; kinds 0 or 1, two trees waiting at each inner node,
+-- one at the end? 5"
+unfoldable pub planChecks : List ℕ → List Check
+planChecks p =
+    check 2 (leb 12 (length p))
+    ∷ check 3 (within 1 nodeLimit (nodeCount p))
+    ∷ check 4 (eqb (le32 p 4) 12 && (eqb (le32 p 8) (12 + nodeCount p) && eqb (length p) (planLength (nodeCount p))))
+    ∷ check 5 (isPostorder (kindsIn p))
+    ∷ []
+
+-- "rule table of at least 20 bytes (branch: 16)? 6; S and K in limits? 7; offsets and length exact? 8; every state below S and mark
+-- 0 or 1? 9"
+unfoldable pub ruleChecks : List ℕ → List Check
+ruleChecks r =
+    check 6 (leb 20 (length r))
+    ∷ check 7 (within 1 stateLimit (stateCount r) && within 1 labelLimit (labelCount r))
+    ∷ check 8 (eqb (le32 r 8) 20
+    && (eqb (le32 r 12) (20 + labelCount r)
+    && (eqb (le32 r 16) (20 + labelCount r + stateCount r * labelCount r * stateCount r)
+    && eqb (length r) (ruleLength (stateCount r) (labelCount r)))))
+    ∷ check 9 (allBelow (stateCount r) (leafStates r) && (allBelow (stateCount r) (innerStates r) && allBelow 2 (ruleMarks r)))
+    ∷ []
+
+unfoldable pub branchChecks : List ℕ → List Check
+branchChecks r =
+    check 6 (leb 16 (length r))
+    ∷ check 7 (within 1 stateLimit (stateCount r) && within 1 labelLimit (labelCount r))
+    ∷ check 8 (eqb (le32 r 8) 16
+    && (eqb (le32 r 12) (16 + stateCount r * labelCount r) && eqb (length r) (branchLength (stateCount r) (labelCount r))))
+    ∷ check 9 (allBelow (stateCount r) (branchSteps r) && allBelow 2 (branchMarks r))
+    ∷ []
+
+-- "every plan label below K? 10"
+abbrev pub labelCheck : List ℕ → ℕ → Check
+labelCheck p k = check 10 (allBelow k (labelsIn p))
+
+abbrev pub linkLength : ℕ → ℕ
+linkLength n = n * 4
+
+abbrev pub stateLength : ℕ → ℕ → ℕ
+stateLength n s = n * (s + 1)
+
+-- "both table buffers long enough? 11"
+abbrev pub roomCheck : ℕ → ℕ → ℕ → ℕ → Check
+roomCheck n s nums bytes = check 11 (leb (linkLength n) nums && leb (stateLength n s) bytes)
+
+-- "node and label lists of one length, at most 64? 12; nodes below N? 13; labels below K? 14; no node twice? 15"
+unfoldable pub listChecks : ℕ → ℕ → List ℕ → List ℕ → List Check
+listChecks n k vs bs =
+    check 12 (eqb (length vs) (length bs) && leb (length vs) changeLimit)
+    ∷ check 13 (allBelow n vs)
+    ∷ check 14 (allBelow k bs)
+    ∷ check 15 (distinct vs)
+    ∷ []
+
+unfoldable pub ruleTableChecks : List ℕ → List ℕ → List Check
+ruleTableChecks p r = planChecks p ++ (ruleChecks r ++ (labelCheck p (labelCount r) ∷ []))
+
+unfoldable pub branchTableChecks : List ℕ → List ℕ → List Check
+branchTableChecks p r = planChecks p ++ (branchChecks r ++ (labelCheck p (labelCount r) ∷ []))
+
+-- the last two arguments are the lengths of the two table buffers
+unfoldable pub buildChecks : List ℕ → List ℕ → ℕ → ℕ → List Check
+buildChecks p r nums bytes = ruleTableChecks p r ++ (roomCheck (nodeCount p) (stateCount r) nums bytes ∷ [])
+
+unfoldable pub branchBuildChecks : List ℕ → List ℕ → ℕ → ℕ → List Check
+branchBuildChecks p r nums bytes = branchTableChecks p r ++ (roomCheck (nodeCount p) (stateCount r) nums bytes ∷ [])
+
+-- "the fresh run 2 to 10, then 12 to 15"
+unfoldable pub freshRunChecks : List ℕ → List ℕ → List ℕ → List ℕ → List Check
+freshRunChecks p r vs bs = ruleTableChecks p r ++ listChecks (nodeCount p) (labelCount r) vs bs

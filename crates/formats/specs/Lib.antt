@@ -1,0 +1,6 @@
+pub mod Bytes
+pub mod Limits
+pub mod Plan
+pub mod Rules
+pub mod Checks
+pub mod Built

@@ -1,0 +1,2 @@
+// Tables for rule tables: their build, their full check, and what branch tables share with them.
+pub mod answers;
