@@ -2,3 +2,4 @@ pub mod RowTurns
 pub mod StateTurns
 pub mod MapTurns
 pub mod MapPlaces
+pub mod TableTurns

@@ -3,3 +3,4 @@ pub mod answers;
 pub mod maps;
 pub mod rows;
 pub mod states;
+pub mod tables;
