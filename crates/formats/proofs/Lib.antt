@@ -8,3 +8,4 @@ pub mod InputLaws
 pub mod PlanAnswers
 pub mod TurnLaws
 pub mod RuleAnswers
+pub mod BranchAnswers
