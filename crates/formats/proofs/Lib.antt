@@ -9,3 +9,4 @@ pub mod PlanAnswers
 pub mod TurnLaws
 pub mod RuleAnswers
 pub mod BranchAnswers
+pub mod ListAnswers

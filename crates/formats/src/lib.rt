@@ -10,5 +10,6 @@
 pub mod branch;
 pub mod bytes;
 pub mod limits;
+pub mod lists;
 pub mod plan;
 pub mod rules;
