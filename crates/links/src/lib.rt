@@ -1,8 +1,6 @@
-// The table of links: each node's parent, jump, depth and size.
-ghost use mathlib.Core.Path.{_≡_};
-
-pub fn same(x: u64) -> u64
-    ensures { λ r. ⌜ r ≡ x ⌝ }
-{
-    x
-}
+// The table of links, each node's parent, jump, depth and size: its build, its full check, one move of a climb on it.
+pub mod build;
+pub mod check;
+pub mod down;
+pub mod moves;
+pub mod up;
