@@ -42,9 +42,11 @@ module _ (t : Tree) where
       go (zero, l, e) = absurd (ne (sym e))
       go (suc n, l, e) =
           let r : v + 1 < size t = below-root t v hv (omega arith) in
-          let u : Up t v (parent t v) = up t v r in
-          (r, ancestor-interval t y (parent t v) n (u .below) (omega (arith, u .deeper))
-          (ancestor-add t v 1 n ∙ ap (ancestor t v) (let f : n + 1 ≡ suc n = omega arith in f) ∙ e))
+          let u : Up t v (parent t v) = up t v r in (
+            r,
+            ancestor-interval t y (parent t v) n (u .below) (omega (arith, u .deeper))
+                (ancestor-add t v 1 n ∙ ap (ancestor t v) (let f : n + 1 ≡ suc n = omega arith in f) ∙ e),
+          )
 
   pub under-up : (v : ℕ) → v + 1 < size t → Under t (parent t v) v
   unfolding ancestor
@@ -79,10 +81,12 @@ module _ (t : Tree) where
 
     pub under-inner : (u : ℕ) → Under t v u → (u ≡ v) ⊎ (Under t (leftChild t v) u ⊎ Under t (rightChild v) u)
     under-inner u p = elim (ℕ-discrete u v) [
-        | yes e ↦ inl e
-        | no e ↦ inr (elim (decLt (leftChild t v) u) [
-            | yes l ↦ inr (omega (arith, i .at), omega (arith, i .at))
-            | no l ↦ inl (omega arith, omega (arith, i .at, sizes)) ]) ]
+      | yes e ↦ inl e
+      | no e ↦ inr (elim (decLt (leftChild t v) u) [
+        | yes l ↦ inr (omega (arith, i .at), omega (arith, i .at))
+        | no l ↦ inl (omega arith, omega (arith, i .at, sizes))
+      ])
+    ]
 
     pub left-under : (u : ℕ) → Under t (leftChild t v) u → Under t v u
     left-under u p = (omega (arith, left-in), omega (arith, i .at, sizes))
@@ -100,33 +104,39 @@ module _ (t : Tree) where
 
   meet-up : (u v x : ℕ) → u < size t → v + 1 < size t → (Under t v u → ⊥) → Meet t u (parent t v) x → Meet t u v x
   meet-up u v x hu h ne m = record {
-      inside = m .inside;
-      first = m .first;
-      second = under-trans x (parent t v) v (m .inside) (up t v h .below) (omega arith) (m .second) (under-up v h);
-      lowest = λ y hy a b. m .lowest y hy a (under-parent y v hy (omega arith) b (λ e. ne (subst (λ (z : ℕ). Under t z u) e a)) .1) }
+    inside = m .inside;
+    first = m .first;
+    second = under-trans x (parent t v) v (m .inside) (up t v h .below) (omega arith) (m .second) (under-up v h);
+    lowest = λ y hy a b. m .lowest y hy a (under-parent y v hy (omega arith) b (λ e. ne (subst (λ (z : ℕ). Under t z u) e a)) .1);
+  }
 
   pub under-dec : (c u : ℕ) → Under t c u ⊎ (Under t c u → ⊥)
   under-dec c u = elim (decLt c u) [
-      | yes g ↦ inr (λ p. omega arith)
-      | no g ↦ elim (decLt c (u + size (sub t c))) [
-          | yes k ↦ inl (omega arith, k)
-          | no k ↦ inr (λ p. omega arith) ] ]
+    | yes g ↦ inr (λ p. omega arith)
+    | no g ↦ elim (decLt c (u + size (sub t c))) [
+      | yes k ↦ inl (omega arith, k)
+      | no k ↦ inr (λ p. omega arith)
+    ]
+  ]
 
   -- the root is above all
   not-root : (u v : ℕ) → u < size t → v < size t → (Under t v u → ⊥) → v + 1 < size t
   not-root u v hu hv ne = elim (ℕ-discrete (v + 1) (size t)) [
-      | yes e ↦ absurd (ne (under-root v u e hu))
-      | no e ↦ omega arith ]
+    | yes e ↦ absurd (ne (under-root v u e hu))
+    | no e ↦ omega arith
+  ]
 
   meet-in : (f u v : ℕ) → depth t v ≤ f → u < size t → v < size t → (x : ℕ) × Meet t u v x
   meet-in zero u v l hu hv = elim (under-dec v u) [
-      | inl p ↦ (v, meet-here u v hv p)
-      | inr n ↦ absurd (let r : v + 1 < size t = not-root u v hu hv n in omega (arith, up t v r .deeper)) ]
+    | inl p ↦ (v, meet-here u v hv p)
+    | inr n ↦ absurd (let r : v + 1 < size t = not-root u v hu hv n in omega (arith, up t v r .deeper))
+  ]
   meet-in (suc f) u v l hu hv = elim (under-dec v u) [
-      | inl p ↦ (v, meet-here u v hv p)
-      | inr n ↦ (let r : v + 1 < size t = not-root u v hu hv n in
-          let m : (x : ℕ) × Meet t u (parent t v) x = meet-in f u (parent t v) (omega (arith, up t v r .deeper)) hu (up t v r .below) in
-          (m .0, meet-up u v (m .0) hu r n (m .1))) ]
+    | inl p ↦ (v, meet-here u v hv p)
+    | inr n ↦ (let r : v + 1 < size t = not-root u v hu hv n in
+        let m : (x : ℕ) × Meet t u (parent t v) x = meet-in f u (parent t v) (omega (arith, up t v r .deeper)) hu (up t v r .below) in
+        (m .0, meet-up u v (m .0) hu r n (m .1)))
+  ]
 
   pub meet-exists : (u v : ℕ) → u < size t → v < size t → (x : ℕ) × Meet t u v x
   meet-exists u v hu hv = meet-in (depth t v) u v (omega arith) hu hv
