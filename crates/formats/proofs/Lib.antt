@@ -10,3 +10,7 @@ pub mod TurnLaws
 pub mod RuleAnswers
 pub mod BranchAnswers
 pub mod ListAnswers
+pub mod InputAnswers
+pub mod ByteLaws
+pub mod PlanTrees
+pub mod PlanTheorems
