@@ -1,4 +1,5 @@
 -- The build of both tables: what its parts need where all checks pass, and what they leave together.
+--     plan-headed, rules-headed  the headers are there
 --     link-args, table-args    what the two writers need
 --     both-written             what both leave
 --     build-args .. both-written-of  the same of the parts that are handed on
@@ -53,6 +54,12 @@ Accepted p r m l =
 module _ (p r nums bytes : List ℕ) (ok : Passed p r nums bytes) where
   accepted : Accepted p r (length nums) (length bytes)
   accepted = build-passes p r (length nums) (length bytes) ok
+
+  pub plan-headed : 12 ≤ length p
+  plan-headed = accepted .0 .long
+
+  pub rules-headed : 20 ≤ length r
+  rules-headed = accepted .1 .long
 
   pub link-args : LinkArgs (kindsIn p) (length nums)
   link-args =
@@ -165,10 +172,14 @@ module _ (p r nums bytes : List ℕ) (n s k : ℕ) (B : BuildArgs p r n s k nums
 -- ---- the two answers of a build
 
 module _ (links states nums bytes : List ℕ) where
-  pub build-refused : (n : ℕ) → (n ≡ 0 → ⊥) → BuildDone n links states nums bytes (Refused n) nums bytes
+  refused : (n : ℕ) → (n ≡ 0 → ⊥) → BuildDone n links states nums bytes (Refused n) nums bytes
   unfolding toldBuild numberOf written
-  build-refused zero e = absurd (e refl)
-  build-refused (suc n) e = record { told = refl; number = refl; links-written = refl; states-written = refl }
+  refused zero e = absurd (e refl)
+  refused (suc n) e = record { told = refl; number = refl; links-written = refl; states-written = refl }
+
+  -- x is the number that a check told
+  pub build-refused : (n x : ℕ) → x ≡ n → (x ≡ 0 → ⊥) → BuildDone n links states nums bytes (Refused x) nums bytes
+  build-refused n x e z = rw (← e) (refused x z)
 
   pub build-done : (n : ℕ) (nums′ bytes′ : List ℕ) → n ≡ 0 → nums′ ≡ links ++ drop (length links) nums
       → bytes′ ≡ states ++ drop (length states) bytes → BuildDone n links states nums bytes Built nums′ bytes′
