@@ -63,7 +63,8 @@ returns c =
     let a = c .before in
     let s = a .before in
     let e : a .loop .q ≡ s .args .s = omega arith in
-    subst (λ (i : ℕ). RowTo (s .args .s) (λ x. x) (s .args .v) i (s .args .bytes .now) (a .loop .bytes)) e (a .loop .inv .2)
+    subst (λ (i : ℕ). RowTo (s .args .s) (λ x. x) (s .args .v) i (s .args .bytes .now) (a .loop .bytes)) e
+    (a .loop .inv .2)
 
 pub same-row-spec : {M : Type 1} → statement M
 same-row-spec =
