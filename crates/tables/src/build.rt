@@ -23,7 +23,9 @@ fn write_tables(
     bytes: &mut [u8],
 )
     requires { ⌜ BuildArgs (now plan) (now rules) n s k (now nums) (now bytes) ⌝ }
-    ensures { λ _. ⌜ BothWritten (now (plan .entry)) (now (rules .entry)) (now (nums .entry)) (now (bytes .entry)) (now (nums .exit)) (now (bytes .exit)) ⌝ }
+    ensures { λ _. ⌜
+        BothWritten (now (plan .entry)) (now (rules .entry)) (now (nums .entry)) (now (bytes .entry))
+        (now (nums .exit)) (now (bytes .exit)) ⌝ }
 {
     let end = 20 + k + inner_count(s, k);
     build_links(&plan[12 + n..], nums);
@@ -41,7 +43,12 @@ fn write_tables(
 
 // Builds the tables of a plan and a rule table into the lent buffers, or refuses and alters nothing.
 pub fn build_rules(plan: &[u8], rules: &[u8], nums: &mut [u16], bytes: &mut [u8]) -> Building
-    ensures { λ a. ⌜ BuildDone (firstNo (buildChecks (now (plan .entry)) (now (rules .entry)) (length (now (nums .entry))) (length (now (bytes .entry))))) (builtLinks (now (plan .entry))) (builtStates (now (plan .entry)) (now (rules .entry))) (now (nums .entry)) (now (bytes .entry)) a (now (nums .exit)) (now (bytes .exit)) ⌝ }
+    ensures { λ a. ⌜
+        BuildDone
+        (firstNo (buildChecks (now (plan .entry)) (now (rules .entry))
+        (length (now (nums .entry))) (length (now (bytes .entry)))))
+        (builtLinks (now (plan .entry))) (builtStates (now (plan .entry)) (now (rules .entry)))
+        (now (nums .entry)) (now (bytes .entry)) a (now (nums .exit)) (now (bytes .exit)) ⌝ }
 {
     let refused = check_build(plan, rules, nums.len(), bytes.len());
     if refused != 0 {

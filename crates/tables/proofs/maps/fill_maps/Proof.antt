@@ -1,5 +1,5 @@
--- `maps::fill_maps` meets its contract. The loop's invariant: whatever buffer e the root's map was written over, the nodes from v on
--- have their maps, and no byte outside the maps is changed.
+-- `maps::fill_maps` meets its contract. The loop's invariant: whatever buffer e the root's map was written over, the
+-- nodes from v on have their maps, and no byte outside the maps is changed.
 -- Assumes nothing.
 use Prim.Native.Nat.{ℕ, _+_, _-_, _*_, _≤_, _<_}
 use mathlib.Core.Path.{_≡_, refl, subst}
