@@ -26,7 +26,7 @@ use Rattle.formats.specs.Rules.{treeAutomaton}
 use Rattle.formats.specs.Checks.{linkLength, stateLength}
 use Rattle.links.specs.Cells.{parentCell, jumpCell, sizeCell}
 use Rattle.tables.specs.StateCells.{stateCell, mapCell}
-use Rattle.tables.specs.Rows.{Rowed, RowIn, farCell}
+use Rattle.tables.specs.Rows.{RowIn}
 use Rattle.tables.specs.States.{RuleRuns}
 
 pub record Prepared (s k : ℕ) (lv inn mk : List ℕ) (t : Tree) (ls b e : List ℕ) : Type 0 where
