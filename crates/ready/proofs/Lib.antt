@@ -1,3 +1,5 @@
 pub mod UnderLaws
 pub mod HighestLaws
 pub mod SameTrees
+pub mod BelowLaws
+pub mod ChangedRun

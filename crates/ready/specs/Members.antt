@@ -5,11 +5,12 @@
 -- members w t o f == the members among the nodes of t, numbered from o, in rising order; f tells that t's root is a member anyway
 -- readyList w t == the ready set of w in t, in rising order
 -- roots t vs == the roots of the parts of a question that lists the nodes vs
+-- Rising lo l == l rises strictly, from lo or above
 --
 -- Not the definition of the ready set (that is Ready): a list that is proved to hold exactly its members (members-ready,
 -- ready-members), each once and rising.
 -- Assumes nothing.
-use Prim.Native.Nat.{ℕ, suc, _+_}
+use Prim.Native.Nat.{ℕ, suc, _+_, _≤_}
 use mathlib.Core.Bool.{Bool, true, cond, _&&_, _||_}
 use mathlib.Core.List.{List, [], _∷_, _++_}
 use lib.Dec.{ltb}
@@ -42,3 +43,7 @@ readyList w t = members w t 0 true
 
 unfoldable pub roots : Tree → List ℕ → List ℕ
 roots t vs = readyList (λ v. holds v vs) t
+
+abbrev pub Rising : ℕ → List ℕ → Type 0
+Rising lo [] = Unit {0}
+Rising lo (x ∷ l) = (lo ≤ x) × Rising (suc x) l
