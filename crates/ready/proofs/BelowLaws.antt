@@ -28,8 +28,9 @@ true-false b p q = let z : _≡_ {A = ℕ} 0 1 = cc in omega arith
 pub rising-above : (l : List ℕ) (lo u : ℕ) → Rising lo l → List·Memᴰ u l → lo ≤ u
 rising-above [] lo u r m = absurd (List·Memᴰ·not-nil m)
 rising-above (x ∷ l) lo u r m = elim (List·Memᴰ·cases-cons m) [
-    | inl e ↦ omega (arith, r .0)
-    | inr k ↦ omega (arith, r .0, rising-above l (suc x) u (r .1) k) ]
+  | inl e ↦ omega (arith, r .0)
+  | inr k ↦ omega (arith, r .0, rising-above l (suc x) u (r .1) k)
+]
 
 module _ (t : Tree) (c : ℕ) where
   pub under-yes : (v : ℕ) → isUnder t c v ≡ true → Under t c v
@@ -51,26 +52,40 @@ module _ (t : Tree) (c : ℕ) where
   Told ms d h = ((h ≡ d) × ((u : ℕ) → List·Memᴰ u ms → Under t c u → ⊥)) ⊎ Highest t (λ v. List·Memᴰ v ms) c h
 
   more-told : (v : ℕ) (ms : List ℕ) (lo d h : ℕ) → Rising lo (v ∷ ms) → (Under t c v → ⊥) → Told ms d h → Told (v ∷ ms) d h
-  more-told v ms lo d h r n (inl e) = inl (e .0, λ u m p. elim (List·Memᴰ·cases-cons m) [
-      | inl q ↦ n (subst (λ (x : ℕ). Under t c x) q p) | inr k ↦ e .1 u k p ])
+  more-told v ms lo d h r n (inl e) = inl (
+    e .0,
+    λ u m p. elim (List·Memᴰ·cases-cons m) [
+      | inl q ↦ n (subst (λ (x : ℕ). Under t c x) q p)
+      | inr k ↦ e .1 u k p
+    ],
+  )
   more-told v ms lo d h r n (inr H) = inr (record {
-      member = List·Memᴰ·tail (H .member);
-      below = H .below;
-      greatest = λ u m p. elim (List·Memᴰ·cases-cons m) [
-        | inl q ↦ absurd (n (subst (λ (x : ℕ). Under t c x) q p)) | inr k ↦ H .greatest u k p ] })
+    member = List·Memᴰ·tail (H .member);
+    below = H .below;
+    greatest = λ u m p. elim (List·Memᴰ·cases-cons m) [
+      | inl q ↦ absurd (n (subst (λ (x : ℕ). Under t c x) q p))
+      | inr k ↦ H .greatest u k p
+    ];
+  })
 
   first-told : (v : ℕ) (ms : List ℕ) (lo h : ℕ) → Rising lo (v ∷ ms) → Under t c v → Told ms v h
       → Highest t (λ x. List·Memᴰ x (v ∷ ms)) c h
   first-told v ms lo h r y (inl e) = record {
-      member = List·Memᴰ·head (e .0);
-      below = subst (λ (x : ℕ). Under t c x) (sym (e .0)) y;
-      greatest = λ u m p. elim (List·Memᴰ·cases-cons m) [
-        | inl q ↦ (let z : v ≡ h = sym (e .0) in omega arith) | inr k ↦ absurd (e .1 u k p) ] }
+    member = List·Memᴰ·head (e .0);
+    below = subst (λ (x : ℕ). Under t c x) (sym (e .0)) y;
+    greatest = λ u m p. elim (List·Memᴰ·cases-cons m) [
+      | inl q ↦ (let z : v ≡ h = sym (e .0) in omega arith)
+      | inr k ↦ absurd (e .1 u k p)
+    ];
+  }
   first-told v ms lo h r y (inr H) = record {
-      member = List·Memᴰ·tail (H .member);
-      below = H .below;
-      greatest = λ u m p. elim (List·Memᴰ·cases-cons m) [
-        | inl q ↦ omega (arith, rising-above ms (suc v) h (r .1) (H .member)) | inr k ↦ H .greatest u k p ] }
+    member = List·Memᴰ·tail (H .member);
+    below = H .below;
+    greatest = λ u m p. elim (List·Memᴰ·cases-cons m) [
+      | inl q ↦ omega (arith, rising-above ms (suc v) h (r .1) (H .member))
+      | inr k ↦ H .greatest u k p
+    ];
+  }
 
   last-told : (ms : List ℕ) (lo d : ℕ) → Rising lo ms → Told ms d (lastBelow ms t c d)
   unfolding lastBelow
@@ -91,7 +106,9 @@ module _ (t : Tree) (c : ℕ) where
           → (anyBelow ms t c ≡ false → (x : ℕ) → List·Memᴰ x ms → Under t c x → ⊥) → ⊥
       go true q f ih = true-false true refl f
       go false q f ih = elim (List·Memᴰ·cases-cons m) [
-          | inl z ↦ under-no v q (subst (λ (x : ℕ). Under t c x) z p) | inr k ↦ ih f u k p ]
+        | inl z ↦ under-no v q (subst (λ (x : ℕ). Under t c x) z p)
+        | inr k ↦ ih f u k p
+      ]
 
   none-told : (ms : List ℕ) → anyBelow ms t c ≡ true → ((u : ℕ) → List·Memᴰ u ms → Under t c u → ⊥) → ⊥
   unfolding anyBelow

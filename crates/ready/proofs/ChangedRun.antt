@@ -58,20 +58,21 @@ module _ (A : Automaton) (w : ℕ → Bool) (t u : Tree) (ch : Changes w t u) wh
         → ((v : ℕ) → v < size t → w v ≡ true → ((y + 1 ≡ parent t y → ⊥) → Under t (rightChild (parent t y)) v → ⊥))
         → stepUp A t y (state A (sub u y)) ≡ state A (sub u (parent t y))
     changed-up nl nr = elim (ℕ-discrete (y + 1) (parent t y)) [
-        | yes e ↦ (let q : parent t y - 1 ≡ y = omega arith in
-            let l : y - size (sub t y) ≡ leftChild t (parent t y) = ap (λ (x : ℕ). x - size (sub t x)) (sym q) in
-            stepUp-right A t y h (state A (sub u y)) e
-            ∙ ap₂ (λ (x z : ℕ). A .δ x (labelAt t (parent t y)) z)
-            (ap (λ (x : ℕ). state A (sub t x)) l
-            ∙ unchanged-state (leftChild t (parent t y)) (omega (arith, at-p .at, up-y .below)) (λ v hv pv wv. nl v hv wv e pv))
-            (ap (λ (x : ℕ). state A (sub u x)) (sym q))
-            ∙ sym parent-state)
-        | no e ↦ (let l : y ≡ leftChild t (parent t y) = elim (up-y .child) [ | inl c ↦ absurd (e c) | inr c ↦ omega arith ] in
-            stepUp-left A t y h (state A (sub u y)) e
-            ∙ ap₂ (λ (x z : ℕ). A .δ x (labelAt t (parent t y)) z)
-            (ap (λ (x : ℕ). state A (sub u x)) l)
-            (unchanged-state (rightChild (parent t y)) (omega (arith, up-y .below)) (λ v hv pv wv. nr v hv wv e pv))
-            ∙ sym parent-state) ]
+      | yes e ↦ (let q : parent t y - 1 ≡ y = omega arith in
+          let l : y - size (sub t y) ≡ leftChild t (parent t y) = ap (λ (x : ℕ). x - size (sub t x)) (sym q) in
+          stepUp-right A t y h (state A (sub u y)) e
+          ∙ ap₂ (λ (x z : ℕ). A .δ x (labelAt t (parent t y)) z)
+          (ap (λ (x : ℕ). state A (sub t x)) l
+          ∙ unchanged-state (leftChild t (parent t y)) (omega (arith, at-p .at, up-y .below)) (λ v hv pv wv. nl v hv wv e pv))
+          (ap (λ (x : ℕ). state A (sub u x)) (sym q))
+          ∙ sym parent-state)
+      | no e ↦ (let l : y ≡ leftChild t (parent t y) = elim (up-y .child) [ inl c ↦ absurd (e c) | inr c ↦ omega arith ] in
+          stepUp-left A t y h (state A (sub u y)) e
+          ∙ ap₂ (λ (x z : ℕ). A .δ x (labelAt t (parent t y)) z)
+          (ap (λ (x : ℕ). state A (sub u x)) l)
+          (unchanged-state (rightChild (parent t y)) (omega (arith, up-y .below)) (λ v hv pv wv. nr v hv wv e pv))
+          ∙ sym parent-state)
+    ]
 
   -- ---- the walk from the highest member below c
 
@@ -124,7 +125,7 @@ module _ (A : Automaton) (w : ℕ → Bool) (t u : Tree) (ch : Changes w t u) wh
           (under-trans t c p v hc (up-n .below) hv c-over (left-under t p (up-n .below) kind v q))
           (omega (arith, up-n .below)) (subst (λ (x : ℕ). Under t x h) (sym r) y-over) q)
           (λ v hv wv e q.
-          let r : ancestor t h n ≡ leftChild t p = elim (up-n .child) [ | inl z ↦ absurd (e z) | inr z ↦ omega arith ] in
+          let r : ancestor t h n ≡ leftChild t p = elim (up-n .child) [ inl z ↦ absurd (e z) | inr z ↦ omega arith ] in
           not-right w t C closed inside c h hc H p (up-n .below) kind c-over v hv wv
           (under-trans t c p v hc (up-n .below) hv c-over (right-under t p (up-n .below) kind v q))
           (omega (arith, y-in)) (subst (λ (x : ℕ). Under t x h) r y-over) q)

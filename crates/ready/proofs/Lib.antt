@@ -3,3 +3,4 @@ pub mod HighestLaws
 pub mod SameTrees
 pub mod BelowLaws
 pub mod ChangedRun
+pub mod PartsRun
