@@ -3,4 +3,5 @@ pub mod HighestLaws
 pub mod SameTrees
 pub mod BelowLaws
 pub mod ChangedRun
+pub mod ClosedForm
 pub mod PartsRun

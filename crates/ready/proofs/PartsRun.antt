@@ -22,7 +22,6 @@ use Rattle.trees.specs.Numbering.{sub, parent, depth}
 use Rattle.trees.specs.Jumps.{jump}
 use Rattle.trees.specs.Climb.{Move, byJump, toParent, forestOf, climb, carry, walk, andThen}
 use Rattle.trees.specs.Tables.{stepUp, stateMap}
-use Rattle.trees.proofs.NodeLaws.{Inner, inner, up}
 use Rattle.trees.proofs.TreeClimbs.{climb-tree}
 use Rattle.trees.proofs.CarryLaws.{carry-walk}
 use Rattle.trees.proofs.MapLaws.{stepUp-right, stepUp-left, stepUp-below, left-sibling-in, right-sibling-in}
@@ -33,6 +32,7 @@ use Rattle.ready.specs.Members.{Rising}
 use Rattle.ready.specs.Parts.{Given, isUnder, anyBelow, highestBelow, moveState, moveStates, movesOf, climbMoves, Part, part, stateOf, climbedState, innerState, partState, partOf, partsFrom, partsOf, partLinks}
 use Rattle.ready.proofs.UnderLaws.{left-in, right-in}
 use Rattle.ready.proofs.HighestLaws.{Highest}
+use Rattle.ready.proofs.ClosedForm.{kind-one}
 use Rattle.ready.proofs.SameTrees.{same-count, same-kind, same-size}
 use Rattle.ready.proofs.BelowLaws.{none-below, some-below, rising-above}
 use Rattle.ready.proofs.ChangedRun.{Changes, unchanged-state, changed-walk}
@@ -52,12 +52,6 @@ pub record RunGiven (G : Given) (u : Tree) : Type 0 where
   pub labels : G .labels ≡ labelsOf u
   pub states : (v : ℕ) → v < size (G .tree) → G .runState v ≡ state (G .automaton) (sub (G .tree) v)
   pub maps : (v q : ℕ) → v < size (G .tree) → q < G .automaton .states → G .mapState v q ≡ stateMap (G .automaton) (G .tree) v q
-
--- a node's kind is 0 or 1
-kind-one : (t : Tree) (v : ℕ) → v < size t → (kindAt t v ≡ 0 → ⊥) → kindAt t v ≡ 1
-kind-one t v h n =
-    let i : Inner t v = inner t v h n in
-    sym (ap (kindAt t) (i .left-up)) ∙ up t (i .left) (omega (arith, i .at)) .inside
 
 -- ---- lists of parts
 
