@@ -5,3 +5,4 @@ pub mod BelowLaws
 pub mod ChangedRun
 pub mod ClosedForm
 pub mod PartsRun
+pub mod ListLaws
