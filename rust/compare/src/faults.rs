@@ -1,5 +1,5 @@
-//! One fault for each check, laid on an input that has none. Several faults are laid from the last check to the first, so
-//! that each still shows where it is the first one.
+//! One fault for each check, laid on an input that has none. Several faults are laid from the last check to the first,
+//! so that each still shows where it is the first one.
 
 use crate::calls::Kind;
 use crate::inputs::Case;

@@ -75,8 +75,8 @@ fn balanced(leaves: usize) -> Vec<u8> {
     kinds
 }
 
-/// Of all rotations of a shuffled row of kinds exactly one is a tree: the one that begins after the last place where the
-/// number of trees waiting is least.
+/// Of all rotations of a shuffled row of kinds exactly one is a tree: the one that begins after the last place where
+/// the number of trees waiting is least.
 fn uniform(leaves: usize, random: &mut Random) -> Vec<u8> {
     let mut kinds = vec![0; leaves];
     kinds.resize(2 * leaves - 1, 1);

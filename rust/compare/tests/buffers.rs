@@ -1,5 +1,5 @@
-//! Table buffers that are too short, exactly long enough and longer: nothing beyond the tables is written, nothing at all
-//! on a refusal, and the full check looks at nothing beyond the tables.
+//! Table buffers that are too short, exactly long enough and longer: nothing beyond the tables is written, nothing at
+//! all on a refusal, and the full check looks at nothing beyond the tables.
 
 use compare::calls::{self, longer, KINDS};
 use compare::faults::shorter;

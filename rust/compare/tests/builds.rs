@@ -1,5 +1,5 @@
-//! Builds of rule tables and of branch tables: every number and byte that is written, for trees of every shape and size.
-//! Each build is followed by a full check, which must say yes, also with excess.
+//! Builds of rule tables and of branch tables: every number and byte that is written, for trees of every shape and
+//! size. Each build is followed by a full check, which must say yes, also with excess.
 
 use compare::calls::{self, Kind, KINDS};
 use compare::inputs::Case;

@@ -1,5 +1,5 @@
-//! Branch questions on tables that are not as built: 16, 18 or the answer that the rule gives on those very bytes, the same
-//! every time, and never a read outside what is lent.
+//! Branch questions on tables that are not as built: 16, 18 or the answer that the rule gives on those very bytes, the
+//! same every time.
 
 use compare::built::Built;
 use compare::calls::{self, Kind};

@@ -47,7 +47,8 @@ fn down(plan: &Plan, branch: &Branch, numbers: &mut [u16], bytes: &mut [u8]) {
     }
 }
 
-/// The map of node v with parent p, from the top down: the map of p's jump, then p's where the jump is far; then the step.
+/// The map of node v with parent p, from the top down: where the jump is far the map of p's jump, then p's; then the
+/// step.
 #[inline]
 fn map(plan: &Plan, branch: &Branch, bytes: &[u8], v: usize, p: usize, over: Option<usize>) -> [u8; 16] {
     let (s, row) = (branch.s, branch.s + 1);

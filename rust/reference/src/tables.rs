@@ -73,8 +73,8 @@ fn numbers(tree: &Tree) -> Vec<u16> {
     numbers
 }
 
-/// "The map gives, for each state assumed at the node, the state that follows at its jump, with the plan's labels and the
-/// run's states beside the path."
+/// "The map gives, for each state assumed at the node, the state that follows at its jump, with the plan's labels and
+/// the run's states beside the path."
 fn state_at_jump(tree: &Tree, labels: &[u8], rules: &Rules, states: &[u8], v: usize, q: u8) -> u8 {
     let (mut node, mut state) = (v, q);
     while node != tree.jump[v] {

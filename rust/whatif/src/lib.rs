@@ -1,8 +1,8 @@
 //! A safe wrapper over the what-if checker's static library.
 //!
-//! A plan is a binary tree with a label at each node, a rule table a bottom-up tree automaton, a branch table an automaton
-//! on the words from an upper node down to a lower. Plans and tables are bytes (docs/LAYOUT.md). The library never
-//! allocates; the caller lends the tables. A refused call has changed nothing.
+//! A plan is a binary tree with a label at each node, a rule table a bottom-up tree automaton, a branch table an
+//! automaton on the words from an upper node down to a lower. Plans and tables are bytes (docs/LAYOUT.md). The library
+//! never allocates; the caller lends the tables. A refused call has changed nothing.
 //!
 //! Order: `sizes` (limits and lengths), `Refusal`, the calls. `raw` has the library's own functions.
 //!
