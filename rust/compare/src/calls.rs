@@ -95,7 +95,7 @@ pub fn library_check(
     bytes: &[u8],
     random: &mut Random,
 ) -> Result<bool, u32> {
-    let unset = random.next() as u32 | 2;
+    let unset = random.word() as u32 | 2;
     let mut yes = unset;
     let f = match kind {
         Kind::Rules => raw::whatif_check,
@@ -141,7 +141,7 @@ pub fn check(
 /// A fresh run, compared.
 pub fn fresh_run(plan: &[u8], rules: &[u8], nodes: &[u16], labels: &[u8], random: &mut Random) -> Result<(), u32> {
     let expected = reference::fresh::fresh_run(plan, rules, nodes, labels);
-    let unset = [random.next() as u32 | 16, random.next() as u32 | 16];
+    let unset = [random.word() as u32 | 16, random.word() as u32 | 16];
     let mut out = unset;
     let [state, yes] = &mut out;
     // SAFETY: each pointer comes with its own slice's length
@@ -176,7 +176,7 @@ pub struct Lent<'a> {
 
 /// A branch question, its answer alone: state, yes and links, and nothing on a refusal.
 pub fn library_branch(lent: Lent, upper: u32, lower: u32, random: &mut Random) -> Result<[u32; 3], u32> {
-    let unset = [random.next() as u32, random.next() as u32, random.next() as u32];
+    let unset = [random.word() as u32, random.word() as u32, random.word() as u32];
     let mut out = unset;
     let [state, yes, links] = &mut out;
     // SAFETY: each pointer comes with its own slice's length

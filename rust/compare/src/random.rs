@@ -7,7 +7,7 @@ impl Random {
         Random(seed)
     }
 
-    pub fn next(&mut self) -> u64 {
+    pub fn word(&mut self) -> u64 {
         self.0 = self.0.wrapping_add(0x9e37_79b9_7f4a_7c15);
         let mut z = self.0;
         z = (z ^ (z >> 30)).wrapping_mul(0xbf58_476d_1ce4_e5b9);
@@ -17,7 +17,7 @@ impl Random {
 
     /// A number below `n`, which is above 0.
     pub fn below(&mut self, n: usize) -> usize {
-        (self.next() % n as u64) as usize
+        (self.word() % n as u64) as usize
     }
 
     /// A number from `low` to `high`, both included.
@@ -30,7 +30,7 @@ impl Random {
     }
 
     pub fn byte(&mut self) -> u8 {
-        self.next() as u8
+        self.word() as u8
     }
 
     pub fn bytes(&mut self, n: usize) -> Vec<u8> {
@@ -42,7 +42,7 @@ impl Random {
     }
 
     pub fn numbers(&mut self, n: usize) -> Vec<u16> {
-        (0..n).map(|_| self.next() as u16).collect()
+        (0..n).map(|_| self.word() as u16).collect()
     }
 
     pub fn shuffle<T>(&mut self, list: &mut [T]) {

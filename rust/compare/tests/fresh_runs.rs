@@ -88,12 +88,15 @@ fn limits_of_the_list() {
     assert_eq!(run(&[198, 0], &[3, 3], random), 0);
 }
 
+/// Nodes, labels, and what is told.
+type Row = (&'static [u16], &'static [u8], Result<(u8, bool), u32>);
+
 #[test]
 fn the_sample() {
     let random = &mut Random::new(505);
     let (plan, rules) = inputs::sample();
     assert_eq!((plan.len(), rules.len()), (26, 32));
-    let rows: [(&[u16], &[u8], Result<(u8, bool), u32>); 9] = [
+    let rows: [Row; 9] = [
         (&[], &[], Ok((1, true))),
         (&[0], &[0], Ok((0, false))),
         (&[0, 2], &[0, 0], Ok((1, true))),

@@ -135,7 +135,7 @@ fn lent<'a>(plan: &'a [u8], branch: &'a [u8], numbers: usize, bytes: usize) -> O
         return None;
     }
     let (n, s, k) = (number(plan, 0), number(branch, 0), number(branch, 4));
-    if n < 1 || n > 65_535 || s < 1 || s > 16 || k < 1 || k > 64 {
+    if !(1..=65_535).contains(&n) || !(1..=16).contains(&s) || !(1..=64).contains(&k) {
         return None;
     }
     if plan.len() != 12 + 2 * n || branch.len() != 16 + s * k + s || numbers < 4 * n || bytes < (s + 1) * n {

@@ -30,7 +30,7 @@ pub fn plan(bytes: &[u8]) -> Result<Plan<'_>, u32> {
         return Err(2);
     }
     let n = number(bytes, 0);
-    if n < 1 || n > 65_535 {
+    if !(1..=65_535).contains(&n) {
         return Err(3);
     }
     if number(bytes, 4) != 12 || number(bytes, 8) != 12 + n || bytes.len() != 12 + 2 * n {
@@ -53,7 +53,7 @@ pub fn plan(bytes: &[u8]) -> Result<Plan<'_>, u32> {
 
 fn counts(bytes: &[u8]) -> Result<(usize, usize), u32> {
     let (s, k) = (number(bytes, 0), number(bytes, 4));
-    if s < 1 || s > 16 || k < 1 || k > 64 {
+    if !(1..=16).contains(&s) || !(1..=64).contains(&k) {
         return Err(7);
     }
     Ok((s, k))

@@ -40,8 +40,8 @@ pub fn rule_tables(plan: &Plan, rules: &Rules) -> Tables {
     let tree = Tree::of(plan);
     let states = run(plan.kinds, plan.labels, rules);
     let mut bytes = Vec::new();
-    for v in 0..plan.nodes() {
-        bytes.push(states[v]);
+    for (v, &state) in states.iter().enumerate() {
+        bytes.push(state);
         for q in 0..rules.states as u8 {
             bytes.push(state_at_jump(&tree, plan.labels, rules, &states, v, q));
         }
@@ -53,8 +53,8 @@ pub fn branch_tables(plan: &Plan, branch: &Branch) -> Tables {
     let tree = Tree::of(plan);
     let states = states_from_root(&tree, plan.labels, branch);
     let mut bytes = Vec::new();
-    for v in 0..plan.nodes() {
-        bytes.push(states[v]);
+    for (v, &state) in states.iter().enumerate() {
+        bytes.push(state);
         let word = labels_down(&tree, plan.labels, tree.jump[v], v);
         for q in 0..branch.states as u8 {
             bytes.push(word.iter().fold(q, |s, &a| branch.step(s, a)));

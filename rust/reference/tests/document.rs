@@ -30,9 +30,12 @@ fn sizes() {
     assert_eq!((plan_a().len(), table_a().len()), (26, 32));
 }
 
+/// Nodes, labels, and what is told.
+type Row = (&'static [u16], &'static [u8], Result<(u8, bool), u32>);
+
 #[test]
 fn sample_clearance() {
-    let rows: [(&[u16], &[u8], Result<(u8, bool), u32>); 9] = [
+    let rows: [Row; 9] = [
         (&[], &[], Ok((1, true))),
         (&[0], &[0], Ok((0, false))),
         (&[0, 2], &[0, 0], Ok((1, true))),
