@@ -33,7 +33,7 @@ fn compare(case: &Case, random: &mut Random) {
             // rule tables are odd branch tables: any bytes will do for a question
             let (upper, lower) = (random.below(case.n) as u32, random.below(case.n) as u32);
             let told = plain::ask(&case.plan, &case.branch, &numbers, &bytes, upper, lower);
-            let want = reference::branch::on_tables(&case.plan, &case.branch, &numbers, &bytes, upper, lower).told;
+            let want = reference::branch::on_tables(&case.plan, &case.branch, &numbers, &bytes, upper, lower);
             assert_eq!(told.map(|t| (t.state, t.yes, t.links as usize)), want.map(|t| (t.state, t.yes, t.links)));
         }
     }

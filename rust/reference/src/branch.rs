@@ -30,14 +30,6 @@ pub fn by_word(tree: &Tree, plan: &Plan, branch: &Branch, upper: u32, lower: u32
     Ok(Answer { state, yes: branch.accepts(state), links })
 }
 
-/// What a question on lent tables may tell.
-#[derive(Clone, Copy, Debug, PartialEq, Eq)]
-pub struct OnTables {
-    pub told: Result<Answer, u32>,
-    /// A map on the climb has an entry outside the states that the answer doesn't need: 18 is right too.
-    pub or_18: bool,
-}
-
 /// Lent bytes with the counts that the headers name, of the lengths that these need.
 struct Question<'a> {
     links: Lent<'a>,
@@ -69,37 +61,46 @@ fn lent<'a>(plan: &'a [u8], branch: &'a [u8], numbers: &'a [u16], bytes: &'a [u8
 }
 
 /// 17, 13, 16, 18 or the answer.
-pub fn on_tables(plan: &[u8], branch: &[u8], numbers: &[u16], bytes: &[u8], upper: u32, lower: u32) -> OnTables {
-    let refused = |number| OnTables { told: Err(number), or_18: false };
-    let lent = match lent(plan, branch, numbers, bytes) {
-        Some(lent) => lent,
-        None => return refused(17),
-    };
+pub fn on_tables(
+    plan: &[u8],
+    branch: &[u8],
+    numbers: &[u16],
+    bytes: &[u8],
+    upper: u32,
+    lower: u32,
+) -> Result<Answer, u32> {
+    let lent = lent(plan, branch, numbers, bytes).ok_or(17u32)?;
     let (upper, lower) = (upper as usize, lower as usize);
     if upper >= lent.links.nodes || lower >= lent.links.nodes {
-        return refused(13);
+        return Err(13);
     }
     // by the lent size of the upper node's subtree, which ends at the upper node
     if lower > upper || upper >= lower + lent.links.size(upper) {
-        return refused(16);
+        return Err(16);
     }
-    match climb(&lent.links, lower, lent.links.depth(upper)) {
-        Err(number) => refused(number),
-        Ok(moves) => OnTables { told: lent.answer(upper, &moves), or_18: moves.iter().any(|&m| lent.stray(m)) },
-    }
+    let moves = climb(&lent.links, lower, lent.links.depth(upper))?;
+    lent.answer(upper, &moves)
 }
 
 impl Question<'_> {
-    /// From state 0 over the upper node's label, then down what the moves climbed, the last move first.
+    /// The climb carries a map, from the state after the label of the node reached down to the state after the lower
+    /// node's. It is whole, so a move is read for every state, also for those that the answer doesn't need.
     fn answer(&self, upper: usize, moves: &[Move]) -> Result<Answer, u32> {
-        let mut state = self.step(0, upper)?;
-        for &one in moves.iter().rev() {
-            state = match one {
-                Move::ByJump(v) => self.inside(self.bytes[(self.s + 1) * v + 1 + state])?,
-                Move::ToParent(v) => self.step(state, v)?,
-            };
+        let mut carried: Vec<usize> = (0..self.s).collect();
+        for &one in moves {
+            let entered = (0..self.s).map(|q| self.through(one, q)).collect::<Result<Vec<usize>, u32>>()?;
+            carried = entered.into_iter().map(|q| carried[q]).collect();
         }
+        let state = carried[self.step(0, upper)?];
         Ok(Answer { state: state as u8, yes: self.marks[state] == 1, links: moves.len() })
+    }
+
+    /// The state at the lower end of a move, from the state at its upper end.
+    fn through(&self, one: Move, state: usize) -> Result<usize, u32> {
+        match one {
+            Move::ByJump(v) => self.inside(self.bytes[(self.s + 1) * v + 1 + state]),
+            Move::ToParent(v) => self.step(state, v),
+        }
     }
 
     fn step(&self, state: usize, v: usize) -> Result<usize, u32> {
@@ -116,13 +117,5 @@ impl Question<'_> {
         } else {
             Err(18)
         }
-    }
-
-    /// Does a move have an entry outside the states, for any state it may be entered with?
-    fn stray(&self, one: Move) -> bool {
-        (0..self.s).any(|q| match one {
-            Move::ByJump(v) => self.inside(self.bytes[(self.s + 1) * v + 1 + q]).is_err(),
-            Move::ToParent(v) => self.step(q, v).is_err(),
-        })
     }
 }
