@@ -1,0 +1,2 @@
+// Fresh runs: a plan's run with listed labels changed, worked out without tables.
+pub mod changes;
