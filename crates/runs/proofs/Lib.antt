@@ -1,1 +1,3 @@
 pub mod ListedLaws
+pub mod StackLaws
+pub mod PassTurns

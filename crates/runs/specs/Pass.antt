@@ -1,0 +1,32 @@
+-- What the pass over a plan's nodes asks of its arguments.
+--
+-- RuleArgs inn s k p a q == the rule for left state p, label a and right state q stands inside the inner states inn
+-- PassArgs ks ls vs bs lv inn s k == kinds of a tree and labels below k, a list of changes to labels below k, and a rule table's leaf
+--   and inner states, all below s
+--
+-- A label or a state past a run's end counts 0, as in crate formats, so that the bounds hold at every index.
+-- Assumes nothing.
+use Prim.Native.Nat.{ℕ, _+_, _*_, _≤_, _<_}
+use mathlib.Core.Path.{_≡_}
+use mathlib.Core.Bool.{true}
+use mathlib.Core.List.{List}
+use lib.ListN.{length, getD}
+use Rattle.trees.specs.Postorder.{isPostorder}
+
+pub record RuleArgs (inn : List ℕ) (s k p a q : ℕ) : Type 0 where
+  pub small : p * k + a < 65536
+  pub inside : (p * k + a) * s + q < length inn
+
+pub record PassArgs (ks ls vs bs lv inn : List ℕ) (s k : ℕ) : Type 0 where
+  pub postorder : isPostorder ks ≡ true
+  pub most : length ks ≤ 65535
+  pub labelled : length ls ≡ length ks
+  pub labels-below : (j : ℕ) → getD ls j 0 < k
+  pub paired : length vs ≡ length bs
+  pub changes-below : (j : ℕ) → getD bs j 0 < k
+  pub leaf-count : length lv ≡ k
+  pub leaf-below : (j : ℕ) → getD lv j 0 < s
+  pub inner-count : length inn ≡ s * k * s
+  pub inner-below : (j : ℕ) → getD inn j 0 < s
+  pub states : s ≤ 16
+  pub letters : k ≤ 64
