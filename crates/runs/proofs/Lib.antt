@@ -1,3 +1,4 @@
 pub mod ListedLaws
 pub mod StackLaws
 pub mod PassTurns
+pub mod OrderLaws
