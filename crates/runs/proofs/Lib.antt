@@ -2,3 +2,4 @@ pub mod ListedLaws
 pub mod StackLaws
 pub mod PassTurns
 pub mod OrderLaws
+pub mod RunLaws

@@ -39,8 +39,9 @@ or-swap false false c = refl
 eqb-swap : (m n : ℕ) → eqb m n ≡ eqb n m
 eqb-swap m n =
     elim (ℕ-discrete m n) [
-      yes e ↦ eq-eqb m n e ∙ sym (eq-eqb n m (sym e))
-      | no e ↦ ne-eqb m n e ∙ sym (ne-eqb n m (λ q. e (sym q))) ]
+      | yes e ↦ eq-eqb m n e ∙ sym (eq-eqb n m (sym e))
+      | no e ↦ ne-eqb m n e ∙ sym (ne-eqb n m (λ q. e (sym q)))
+    ]
 
 pub length-perm : {X : Type 0} {l m : List X} → List·Permᴰ l m → length l ≡ length m
 length-perm List·Permᴰ·nil = refl
@@ -151,8 +152,8 @@ module _ (vs bs ws cs : List ℕ) (g : length vs ≡ length bs) (h : length ws �
       let l : length vs ≡ length ws = sym (ap length (keys-zip vs bs g)) ∙ length-perm (keys-perm d) ∙ ap length (keys-zip ws cs h) in
       let m : length bs ≡ length cs = sym g ∙ l ∙ h in
       let a : allBelow n vs ≡ allBelow n ws =
-          sym (ap (allBelow n) (keys-zip vs bs g)) ∙ allBelow-perm n (keys-perm d) ∙ ap (allBelow n) (keys-zip ws cs h) in
+      sym (ap (allBelow n) (keys-zip vs bs g)) ∙ allBelow-perm n (keys-perm d) ∙ ap (allBelow n) (keys-zip ws cs h) in
       let b : allBelow k bs ≡ allBelow k cs =
-          sym (ap (allBelow k) (values-zip vs bs g)) ∙ allBelow-perm k (values-perm d) ∙ ap (allBelow k) (values-zip ws cs h) in
+      sym (ap (allBelow k) (values-zip vs bs g)) ∙ allBelow-perm k (values-perm d) ∙ ap (allBelow k) (values-zip ws cs h) in
       let u : distinct vs ≡ distinct ws = sym (ap distinct (keys-zip vs bs g)) ∙ distinct-perm (keys-perm d) ∙ ap distinct (keys-zip ws cs h) in
       cc

@@ -4,6 +4,8 @@
 -- PassArgs ks ls vs bs lv inn s k == kinds of a tree and labels below k, a list of changes to labels below k, and a rule table's leaf
 --   and inner states, all below s
 --
+-- RunArgs p r vs bs n s k == plan, rules and list that pass their checks, with N, S and K of their headers
+--
 -- A label or a state past a run's end counts 0, as in crate formats, so that the bounds hold at every index.
 -- Assumes nothing.
 use Prim.Native.Nat.{ℕ, _+_, _*_, _≤_, _<_}
@@ -12,6 +14,9 @@ use mathlib.Core.Bool.{true}
 use mathlib.Core.List.{List}
 use lib.ListN.{length, getD}
 use Rattle.trees.specs.Postorder.{isPostorder}
+use Rattle.formats.specs.Plan.{nodeCount}
+use Rattle.formats.specs.Rules.{stateCount, labelCount}
+use Rattle.formats.specs.Checks.{firstNo, freshRunChecks}
 
 pub record RuleArgs (inn : List ℕ) (s k p a q : ℕ) : Type 0 where
   pub small : p * k + a < 65536
@@ -30,3 +35,16 @@ pub record PassArgs (ks ls vs bs lv inn : List ℕ) (s k : ℕ) : Type 0 where
   pub inner-below : (j : ℕ) → getD inn j 0 < s
   pub states : s ≤ 16
   pub letters : k ≤ 64
+
+pub record RunArgs (p r vs bs : List ℕ) (n s k : ℕ) : Type 0 where
+  pub passed : firstNo (freshRunChecks p r vs bs) ≡ 0
+  pub nodes-are : n ≡ nodeCount p
+  pub states-are : s ≡ stateCount r
+  pub labels-are : k ≡ labelCount r
+  pub plan-length : length p ≡ 12 + 2 * n
+  pub rules-length : length r ≡ 20 + k + s * k * s + s
+  pub nodes-most : n ≤ 65535
+  pub states-most : s ≤ 16
+  pub labels-most : k ≤ 64
+  pub row-most : s * k ≤ 1024
+  pub inner-most : s * k * s ≤ 16384
