@@ -27,10 +27,12 @@ module _ (vs bs : List ℕ) (v i : ℕ) (hv : i < length vs) (hb : i < length bs
       rw (add-one, drop-cons vs i 0, drop-cons bs i 0)
       (ap (λ (t : Bool). labelFor (cond t (getD bs i 0) a) (drop (suc i) vs) (drop (suc i) bs) v) e)
 
-  pub label-hit : getD vs i 0 ≡ v → labelFor a (drop i vs) (drop i bs) v ≡ labelFor (getD bs i 0) (drop (i + 1) vs) (drop (i + 1) bs) v
+  pub label-hit : getD vs i 0 ≡ v
+      → labelFor a (drop i vs) (drop i bs) v ≡ labelFor (getD bs i 0) (drop (i + 1) vs) (drop (i + 1) bs) v
   label-hit e = label-turn true (eq-eqb (getD vs i 0) v e)
 
-  pub label-miss : (getD vs i 0 ≡ v → ⊥) → labelFor a (drop i vs) (drop i bs) v ≡ labelFor a (drop (i + 1) vs) (drop (i + 1) bs) v
+  pub label-miss : (getD vs i 0 ≡ v → ⊥)
+      → labelFor a (drop i vs) (drop i bs) v ≡ labelFor a (drop (i + 1) vs) (drop (i + 1) bs) v
   label-miss e = label-turn false (ne-eqb (getD vs i 0) v e)
 
 pub label-end : (vs bs : List ℕ) (v i a : ℕ) → length vs ≤ i → labelFor a (drop i vs) (drop i bs) v ≡ a
@@ -49,10 +51,12 @@ module _ (vs : List ℕ) (from i : ℕ) (h : i < length vs) (n : ℕ) where
   pub next-low : getD vs i 0 < from → nextListed (drop i vs) from n ≡ nextListed (drop (i + 1) vs) from n
   next-low l = next-turn false (rw (lt-leb from (getD vs i 0) l))
 
-  pub next-high : from ≤ getD vs i 0 → n ≤ getD vs i 0 → nextListed (drop i vs) from n ≡ nextListed (drop (i + 1) vs) from n
+  pub next-high : from ≤ getD vs i 0 → n ≤ getD vs i 0
+      → nextListed (drop i vs) from n ≡ nextListed (drop (i + 1) vs) from n
   next-high l m = next-turn false (rw (le-leb from (getD vs i 0) l, le-ltb (getD vs i 0) n m))
 
-  pub next-least : from ≤ getD vs i 0 → getD vs i 0 < n → nextListed (drop i vs) from n ≡ nextListed (drop (i + 1) vs) from (getD vs i 0)
+  pub next-least : from ≤ getD vs i 0 → getD vs i 0 < n
+      → nextListed (drop i vs) from n ≡ nextListed (drop (i + 1) vs) from (getD vs i 0)
   next-least l m = next-turn true (rw (le-leb from (getD vs i 0) l, lt-ltb (getD vs i 0) n m))
 
 pub next-end : (vs : List ℕ) (from i n : ℕ) → length vs ≤ i → nextListed (drop i vs) from n ≡ n
@@ -62,7 +66,8 @@ next-end vs from i n h = rw (drop-of-length-le vs {i = i} h)
 -- ---- what they mean
 
 -- the label that the changed labels have at v
-pub label-changed : (ls vs bs : List ℕ) (v : ℕ) → v < length ls → getD (changed ls vs bs) v 0 ≡ labelFor (getD ls v 0) vs bs v
+pub label-changed : (ls vs bs : List ℕ) (v : ℕ) → v < length ls
+    → getD (changed ls vs bs) v 0 ≡ labelFor (getD ls v 0) vs bs v
 unfolding changed labelFor
 label-changed ls [] bs v h = refl
 label-changed ls (u ∷ vs) [] v h = refl
@@ -83,7 +88,8 @@ pub label-below : (k a : ℕ) (vs bs : List ℕ) (v : ℕ) → a < k → ((j : �
 unfolding labelFor
 label-below k a [] bs v h below = h
 label-below k a (u ∷ vs) [] v h below = h
-label-below k a (u ∷ vs) (b ∷ bs) v h below = label-below k (cond (eqb u v) b a) vs bs v (either (eqb u v)) (λ j. below (suc j))
+label-below k a (u ∷ vs) (b ∷ bs) v h below =
+    label-below k (cond (eqb u v) b a) vs bs v (either (eqb u v)) (λ j. below (suc j))
   where
     either : (t : Bool) → cond t b a < k
     either true = below 0
@@ -129,7 +135,8 @@ next-most (u ∷ vs) from n =
     omega (arith, next-most vs from (cond (leb from u && ltb u n) u n), least-most from u n)
 
 -- no node from `from` on is listed before the next listed one
-pub next-skips : (vs bs : List ℕ) (from n u : ℕ) → from ≤ u → u < nextListed vs from n → (a : ℕ) → labelFor a vs bs u ≡ a
+pub next-skips : (vs bs : List ℕ) (from n u : ℕ) → from ≤ u → u < nextListed vs from n
+    → (a : ℕ) → labelFor a vs bs u ≡ a
 unfolding nextListed labelFor
 next-skips [] bs from n u h l a = refl
 next-skips (w ∷ vs) [] from n u h l a = refl

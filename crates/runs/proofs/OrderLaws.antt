@@ -1,26 +1,34 @@
--- The order of a list of changes.
---     keys, values       the nodes and the labels of a list of entries; keys-zip, values-zip: those of two lists of one length
+-- The order of a list of changes: it does not matter.
+--     keys, values       the nodes and the labels of a list of entries; keys-zip, values-zip: of two lists of one length
 --     allBelow-perm, holds-perm, distinct-perm, length-perm   tests that do not depend on the order of a list
 --     changed-order      where no node is listed twice, the labels as changed do not depend on the order of the list
 --     list-order         nor does the first no of checks 12 to 15, listed twice or not
+--     freshRun-order     nor does the answer of a fresh run, a run or a refusal
 -- A permutation is mathlib's `List·Permᴰ`, here of the list of entries (node, label).
 -- Assumes nothing.
-use Prim.Native.Nat.{ℕ, suc, _<_}
+use Prim.Native.Nat.{ℕ, zero, suc}
 use mathlib.Core.Path.{_≡_, refl, sym, ap, ap₂, _∙_}
-use mathlib.Core.Bool.{Bool, true, false, not, _&&_, _||_}
-use mathlib.Core.List.{List, [], _∷_, map, zip, zipWith, List·Permᴰ, List·Permᴰ·nil, List·Permᴰ·cons, List·Permᴰ·swap, List·Permᴰ·trans}
+use mathlib.Core.Bool.{Bool, true, false, cond, not, _&&_, _||_}
+use mathlib.Core.List.{List, [], _∷_, _++_, zip, zipWith, List·Permᴰ}
+use mathlib.Core.List.{List·Permᴰ·nil, List·Permᴰ·cons, List·Permᴰ·swap, List·Permᴰ·trans}
 use native.Mathlib.Decide.{ℕ-discrete}
 use native.Mathlib.Omega.{arith}
 use borrow.Author.Tests.{eq-eqb, ne-eqb}
-use lib.Dec.{ltb, eqb, leb}
+use lib.Dec.{ltb, eqb}
 use lib.ListN.{length, set}
 use lib.Seq.{set-comm}
+use Rattle.trees.specs.Automaton.{state, accepts}
+use Rattle.trees.specs.Postorder.{treeOf}
 use Rattle.trees.specs.Changes.{changed}
 use Rattle.formats.specs.Bytes.{allBelow, holds, distinct}
-use Rattle.formats.specs.Limits.{changeLimit}
-use Rattle.formats.specs.Checks.{Check, check, firstNo, listChecks}
+use Rattle.formats.specs.Plan.{nodeCount, labelsIn, kindsIn}
+use Rattle.formats.specs.Rules.{labelCount, ruleAutomaton}
+use Rattle.formats.specs.Checks.{Check, firstNo, listChecks, ruleTableChecks, freshRunChecks}
 use Rattle.formats.proofs.CheckLaws.{true-false}
 use Rattle.formats.proofs.ListLaws.{distinct-head, distinct-tail}
+use Rattle.formats.proofs.InputLaws.{list-passes, fresh-run-list}
+use Rattle.runs.specs.declared.answer.Running.the-variants.{Ended}
+use Rattle.runs.specs.FreshRun.{toldRun, rootState, rootAccepted, freshRun}
 
 -- ---- tests that do not depend on the order
 
@@ -131,29 +139,79 @@ apart : (x y : ℕ) (l : List ℕ) → holds x (y ∷ l) ≡ false → x ≡ y �
 unfolding holds
 apart x y l h q = true-false (sym (ap (λ (t : Bool). t || holds x l) (eq-eqb x y q)) ∙ h)
 
-pub changedBy-order : {es fs : List (ℕ × ℕ)} → List·Permᴰ es fs → distinct (keys es) ≡ true → (ls : List ℕ) → changedBy ls es ≡ changedBy ls fs
+pub changedBy-order : {es fs : List (ℕ × ℕ)} → List·Permᴰ es fs → distinct (keys es) ≡ true
+    → (ls : List ℕ) → changedBy ls es ≡ changedBy ls fs
 changedBy-order List·Permᴰ·nil u ls = refl
 changedBy-order (List·Permᴰ·cons {a} {b} {l₁} {l₂} e d) u ls =
-    changedBy-order d (distinct-tail (a .0) (keys l₁) u) (set ls (a .0) (a .1)) ∙ ap (λ (x : ℕ × ℕ). changedBy (set ls (x .0) (x .1)) l₂) e
+    changedBy-order d (distinct-tail (a .0) (keys l₁) u) (set ls (a .0) (a .1))
+    ∙ ap (λ (x : ℕ × ℕ). changedBy (set ls (x .0) (x .1)) l₂) e
 changedBy-order (List·Permᴰ·swap {a} {b} {l = l} e f) u ls =
-    ap (λ (x : List ℕ). changedBy x l) (set-comm ls (a .0) (b .0) (a .1) (b .1) (apart (a .0) (b .0) (keys l) (distinct-head (a .0) (b .0 ∷ keys l) u)))
+    let ne : a .0 ≡ b .0 → ⊥ = apart (a .0) (b .0) (keys l) (distinct-head (a .0) (b .0 ∷ keys l) u) in
+    ap (λ (x : List ℕ). changedBy x l) (set-comm ls (a .0) (b .0) (a .1) (b .1) ne)
     ∙ ap₂ (λ (x y : ℕ × ℕ). changedBy (set (set ls (x .0) (x .1)) (y .0) (y .1)) l) f e
-changedBy-order (List·Permᴰ·trans d f) u ls = changedBy-order d u ls ∙ changedBy-order f (sym (distinct-perm (keys-perm d)) ∙ u) ls
+changedBy-order (List·Permᴰ·trans d f) u ls =
+    changedBy-order d u ls ∙ changedBy-order f (sym (distinct-perm (keys-perm d)) ∙ u) ls
 
-module _ (vs bs ws cs : List ℕ) (g : length vs ≡ length bs) (h : length ws ≡ length cs) (d : List·Permᴰ (zip vs bs) (zip ws cs)) where
+module _ (vs bs ws cs : List ℕ) (g : length vs ≡ length bs) (h : length ws ≡ length cs)
+    (d : List·Permᴰ (zip vs bs) (zip ws cs)) where
   pub changed-order : distinct vs ≡ true → (ls : List ℕ) → changed ls vs bs ≡ changed ls ws cs
   changed-order u ls =
-      changed-entries ls vs bs ∙ changedBy-order d (ap distinct (keys-zip vs bs g) ∙ u) ls ∙ sym (changed-entries ls ws cs)
+      changed-entries ls vs bs
+      ∙ changedBy-order d (ap distinct (keys-zip vs bs g) ∙ u) ls
+      ∙ sym (changed-entries ls ws cs)
 
-  -- the two lists pass the same checks
+  -- what does not depend on the order of nodes, or of labels, is the same of both lists
+  by-nodes : {X : Type 0} (f : List ℕ → X) → f (keys (zip vs bs)) ≡ f (keys (zip ws cs)) → f vs ≡ f ws
+  by-nodes f e = sym (ap f (keys-zip vs bs g)) ∙ e ∙ ap f (keys-zip ws cs h)
+
+  by-labels : {X : Type 0} (f : List ℕ → X) → f (values (zip vs bs)) ≡ f (values (zip ws cs)) → f bs ≡ f cs
+  by-labels f e = sym (ap f (values-zip vs bs g)) ∙ e ∙ ap f (values-zip ws cs h)
+
   pub list-order : (n k : ℕ) → firstNo (listChecks n k vs bs) ≡ firstNo (listChecks n k ws cs)
   unfolding listChecks
   list-order n k =
-      let l : length vs ≡ length ws = sym (ap length (keys-zip vs bs g)) ∙ length-perm (keys-perm d) ∙ ap length (keys-zip ws cs h) in
-      let m : length bs ≡ length cs = sym g ∙ l ∙ h in
-      let a : allBelow n vs ≡ allBelow n ws =
-      sym (ap (allBelow n) (keys-zip vs bs g)) ∙ allBelow-perm n (keys-perm d) ∙ ap (allBelow n) (keys-zip ws cs h) in
-      let b : allBelow k bs ≡ allBelow k cs =
-      sym (ap (allBelow k) (values-zip vs bs g)) ∙ allBelow-perm k (values-perm d) ∙ ap (allBelow k) (values-zip ws cs h) in
-      let u : distinct vs ≡ distinct ws = sym (ap distinct (keys-zip vs bs g)) ∙ distinct-perm (keys-perm d) ∙ ap distinct (keys-zip ws cs h) in
+      let l : length vs ≡ length ws = by-nodes length (length-perm (keys-perm d)) in
+      let m : length bs ≡ length cs = by-labels length (length-perm (values-perm d)) in
+      let a : allBelow n vs ≡ allBelow n ws = by-nodes (allBelow n) (allBelow-perm n (keys-perm d)) in
+      let b : allBelow k bs ≡ allBelow k cs = by-labels (allBelow k) (allBelow-perm k (values-perm d)) in
+      let u : distinct vs ≡ distinct ws = by-nodes distinct (distinct-perm (keys-perm d)) in
       cc
+
+-- ---- the fresh run
+
+append-same : (xs ys zs : List Check) → firstNo ys ≡ firstNo zs → firstNo (xs ++ ys) ≡ firstNo (xs ++ zs)
+unfolding firstNo
+append-same [] ys zs e = e
+append-same (x ∷ xs) ys zs e = ap (λ (n : ℕ). cond (x .passes) n (x .number)) (append-same xs ys zs e)
+
+-- only an answer that is no refusal looks at the run
+told-same : (n q q′ : ℕ) (t t′ : Bool) → (n ≡ 0 → (q ≡ q′) × (t ≡ t′)) → toldRun n q t ≡ toldRun n q′ t′
+unfolding toldRun
+told-same zero q q′ t t′ f = ap₂ (λ (x : ℕ) (y : Bool). Ended x y) (f refl .0) (f refl .1)
+told-same (suc n) q q′ t t′ f = refl
+
+module _ (p r vs bs ws cs : List ℕ) (g : length vs ≡ length bs) (h : length ws ≡ length cs)
+    (d : List·Permᴰ (zip vs bs) (zip ws cs)) where
+  pub checks-order : firstNo (freshRunChecks p r vs bs) ≡ firstNo (freshRunChecks p r ws cs)
+  unfolding freshRunChecks
+  checks-order =
+      append-same (ruleTableChecks p r) (listChecks (nodeCount p) (labelCount r) vs bs)
+      (listChecks (nodeCount p) (labelCount r) ws cs) (list-order vs bs ws cs g h d (nodeCount p) (labelCount r))
+
+  roots-order : firstNo (freshRunChecks p r vs bs) ≡ 0
+      → (rootState p r vs bs ≡ rootState p r ws cs) × (rootAccepted p r vs bs ≡ rootAccepted p r ws cs)
+  roots-order e =
+      let u : distinct vs ≡ true =
+          list-passes (nodeCount p) (labelCount r) vs bs (fresh-run-list p r vs bs e) .no-twice in
+      let c : changed (labelsIn p) vs bs ≡ changed (labelsIn p) ws cs =
+          changed-order vs bs ws cs g h d u (labelsIn p) in (
+        ap (λ (l : List ℕ). state (ruleAutomaton r) (treeOf (kindsIn p) l)) c,
+        ap (λ (l : List ℕ). accepts (ruleAutomaton r) (treeOf (kindsIn p) l)) c,
+      )
+
+  pub freshRun-order : freshRun p r vs bs ≡ freshRun p r ws cs
+  unfolding freshRun
+  freshRun-order =
+      ap (λ (n : ℕ). toldRun n (rootState p r vs bs) (rootAccepted p r vs bs)) checks-order
+      ∙ told-same (firstNo (freshRunChecks p r ws cs)) (rootState p r vs bs) (rootState p r ws cs)
+      (rootAccepted p r vs bs) (rootAccepted p r ws cs) (λ e. roots-order (checks-order ∙ e))

@@ -24,13 +24,17 @@ stackOf st (suc w) = getD st w 0 ∷ stackOf st w
 stack-set : (st : List ℕ) (w i x : ℕ) → w ≤ i → stackOf (set st i x) w ≡ stackOf st w
 unfolding stackOf
 stack-set st zero i x h = refl
-stack-set st (suc w) i x h = ap₂ (λ (y : ℕ) (l : List ℕ). y ∷ l) (getD-set-other st i w x 0 (λ e. omega arith)) (stack-set st w i x (omega arith))
+stack-set st (suc w) i x h =
+    ap₂ (λ (y : ℕ) (l : List ℕ). y ∷ l) (getD-set-other st i w x 0 (λ e. omega arith)) (stack-set st w i x (omega arith))
 
 pub stack-push : (st : List ℕ) (w x : ℕ) → w < length st → stackOf (set st w x) (w + 1) ≡ x ∷ stackOf st w
 unfolding stackOf
-stack-push st w x h = rw add-one (ap₂ (λ (y : ℕ) (l : List ℕ). y ∷ l) (getD-set-same st w x 0 h) (stack-set st w w x (omega arith)))
+stack-push st w x h =
+    rw add-one
+    (ap₂ (λ (y : ℕ) (l : List ℕ). y ∷ l) (getD-set-same st w x 0 h) (stack-set st w w x (omega arith)))
 
-pub stack-two : (st : List ℕ) (w top : ℕ) → top ≡ w + 2 → stackOf st top ≡ getD st (w + 1) 0 ∷ getD st w 0 ∷ stackOf st w
+pub stack-two : (st : List ℕ) (w top : ℕ) → top ≡ w + 2
+    → stackOf st top ≡ getD st (w + 1) 0 ∷ getD st w 0 ∷ stackOf st w
 unfolding stackOf
 stack-two st w top e = let f : top ≡ suc (suc w) = omega arith in rw (f, add-one)
 
@@ -52,7 +56,8 @@ waiting-most (suc zero ∷ ks) (suc (suc w)) h = omega (arith, waiting-most ks (
 waiting-most (suc (suc k) ∷ ks) w h = absurd (none-some h)
 
 module _ {X : Type 0} (lf : ℕ → X) (nd : X → ℕ → X → X) where
-  step-leaf : (k a : ℕ) (ks ls : List ℕ) (st : List X) → k ≡ 0 → read lf nd (k ∷ ks) (a ∷ ls) st ≡ read lf nd ks ls (lf a ∷ st)
+  step-leaf : (k a : ℕ) (ks ls : List ℕ) (st : List X) → k ≡ 0
+      → read lf nd (k ∷ ks) (a ∷ ls) st ≡ read lf nd ks ls (lf a ∷ st)
   step-leaf zero a ks ls st e = refl
   step-leaf (suc k) a ks ls st e = absurd (omega arith)
 
@@ -66,10 +71,12 @@ module _ {X : Type 0} (lf : ℕ → X) (nd : X → ℕ → X → X) where
     pub read-leaf : (st : List X) → getD ks i 0 ≡ 0
         → read lf nd (drop i ks) (drop i ls) st ≡ read lf nd (drop (i + 1) ks) (drop (i + 1) ls) (lf (getD ls i 0) ∷ st)
     read-leaf st e =
-        rw (add-one, drop-cons ks i 0, drop-cons ls i 0) (step-leaf (getD ks i 0) (getD ls i 0) (drop (suc i) ks) (drop (suc i) ls) st e)
+        rw (add-one, drop-cons ks i 0, drop-cons ls i 0)
+        (step-leaf (getD ks i 0) (getD ls i 0) (drop (suc i) ks) (drop (suc i) ls) st e)
 
     pub read-inner : (l r : X) (st : List X) → getD ks i 0 ≡ 1
-        → read lf nd (drop i ks) (drop i ls) (r ∷ l ∷ st) ≡ read lf nd (drop (i + 1) ks) (drop (i + 1) ls) (nd l (getD ls i 0) r ∷ st)
+        → read lf nd (drop i ks) (drop i ls) (r ∷ l ∷ st)
+        ≡ read lf nd (drop (i + 1) ks) (drop (i + 1) ls) (nd l (getD ls i 0) r ∷ st)
     read-inner l r st e =
         rw (add-one, drop-cons ks i 0, drop-cons ls i 0)
         (step-inner (getD ks i 0) (getD ls i 0) (drop (suc i) ks) (drop (suc i) ls) l r st e)

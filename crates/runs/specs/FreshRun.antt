@@ -1,13 +1,14 @@
 -- The fresh run: what it answers, on every input.
 --
 -- numberOf a == document 01's number of an answer: 0 for a run, else the refusal's
--- toldRun n q accepted == the answer where the first failing check is n (0: none) and the root's state is q, accepted or not
+-- toldRun n q accepted == the answer where the first failing check is n (0: none), q the root's state, accepted or not
 -- changedTree p vs bs == plan p's tree with label bs[i] at node vs[i]; of two entries for a node the last would hold
--- freshRun p r vs bs == the answer of the fresh run of rules r over plan p with the changes vs, bs
+-- rootState p r vs bs, rootAccepted p r vs bs == the root's state, and its yes or no, in rules r's run over that tree
+-- freshRun p r vs bs == the answer
 -- FreshRunDone == the promise of fresh_run: the answer, and its number
 --
--- The run is source document 002's (crate trees, Automaton): no table and no stack is in it. That the answer does not depend on
--- the order of the list is freshRun-order (proofs/RunLaws).
+-- The run is source document 002's (crate trees, Automaton): no table and no stack is in it. That the answer does not
+-- depend on the order of the list is freshRun-order (proofs/OrderLaws).
 -- Assumes nothing.
 use Prim.Native.Nat.{ℕ, zero, suc}
 use mathlib.Core.Path.{_≡_, refl}
@@ -42,10 +43,16 @@ pub changedTree-none : (p : List ℕ) → changedTree p [] [] ≡ planTree p
 unfolding changed
 changedTree-none p = refl
 
+-- "the root state, and its yes or no, of a fresh run (source document 002's, ..)"
+abbrev pub rootState : List ℕ → List ℕ → List ℕ → List ℕ → ℕ
+rootState p r vs bs = state (ruleAutomaton r) (changedTree p vs bs)
+
+abbrev pub rootAccepted : List ℕ → List ℕ → List ℕ → List ℕ → Bool
+rootAccepted p r vs bs = accepts (ruleAutomaton r) (changedTree p vs bs)
+
 -- "the fresh run 2 to 10, then 12 to 15"
 unfoldable pub freshRun : List ℕ → List ℕ → List ℕ → List ℕ → Running
-freshRun p r vs bs =
-    toldRun (firstNo (freshRunChecks p r vs bs)) (state (ruleAutomaton r) (changedTree p vs bs)) (accepts (ruleAutomaton r) (changedTree p vs bs))
+freshRun p r vs bs = toldRun (firstNo (freshRunChecks p r vs bs)) (rootState p r vs bs) (rootAccepted p r vs bs)
 
 pub record FreshRunDone (p r vs bs : List ℕ) (answer : Running) : Type 0 where
   pub told : answer ≡ freshRun p r vs bs

@@ -1,8 +1,9 @@
--- What the pass over a plan's nodes asks of its arguments.
+-- What the pass over a plan's nodes asks of its arguments, and what it promises.
 --
 -- RuleArgs inn s k p a q == the rule for left state p, label a and right state q stands inside the inner states inn
--- PassArgs ks ls vs bs lv inn s k == kinds of a tree and labels below k, a list of changes to labels below k, and a rule table's leaf
---   and inner states, all below s
+-- PassArgs ks ls vs bs lv inn s k == kinds of a tree and labels below k, a list of changes to labels below k, a rule
+--   table's leaf and inner states, all below s
+-- PassDone ks ls vs bs lv inn s k q == q is the root's state in the run, whatever the marks
 --
 -- RunArgs p r vs bs n s k == plan, rules and list that pass their checks, with N, S and K of their headers
 --
@@ -13,9 +14,11 @@ use mathlib.Core.Path.{_≡_}
 use mathlib.Core.Bool.{true}
 use mathlib.Core.List.{List}
 use lib.ListN.{length, getD}
-use Rattle.trees.specs.Postorder.{isPostorder}
+use Rattle.trees.specs.Automaton.{state}
+use Rattle.trees.specs.Postorder.{isPostorder, treeOf}
+use Rattle.trees.specs.Changes.{changed}
 use Rattle.formats.specs.Plan.{nodeCount}
-use Rattle.formats.specs.Rules.{stateCount, labelCount}
+use Rattle.formats.specs.Rules.{stateCount, labelCount, treeAutomaton}
 use Rattle.formats.specs.Checks.{firstNo, freshRunChecks}
 
 pub record RuleArgs (inn : List ℕ) (s k p a q : ℕ) : Type 0 where
@@ -35,6 +38,10 @@ pub record PassArgs (ks ls vs bs lv inn : List ℕ) (s k : ℕ) : Type 0 where
   pub inner-below : (j : ℕ) → getD inn j 0 < s
   pub states : s ≤ 16
   pub letters : k ≤ 64
+
+abbrev pub PassDone : List ℕ → List ℕ → List ℕ → List ℕ → List ℕ → List ℕ → ℕ → ℕ → ℕ → Type 0
+PassDone ks ls vs bs lv inn s k q =
+    (marks : List ℕ) → q ≡ state (treeAutomaton s k lv inn marks) (treeOf ks (changed ls vs bs))
 
 pub record RunArgs (p r vs bs : List ℕ) (n s k : ℕ) : Type 0 where
   pub passed : firstNo (freshRunChecks p r vs bs) ≡ 0

@@ -1,14 +1,9 @@
 use crate::changes::label_for;
 use crate::changes::next_listed;
 ghost use mathlib.Core.Path.{_≡_};
-ghost use mathlib.Core.List.{List};
 ghost use Prim.Native.Nat.{ℕ, _+_, _*_};
 ghost use lib.ListN.{length, getD};
-ghost use Rattle.trees.specs.Automaton.{state};
-ghost use Rattle.trees.specs.Postorder.{treeOf};
-ghost use Rattle.trees.specs.Changes.{changed};
-ghost use Rattle.formats.specs.Rules.{treeAutomaton};
-ghost use Rattle.runs.specs.Pass.{RuleArgs, PassArgs};
+ghost use Rattle.runs.specs.Pass.{RuleArgs, PassArgs, PassDone};
 
 // Room for the states of the trees that wait: of N nodes at most (N + 1) / 2.
 fn room() -> [u8; 32768]
@@ -25,8 +20,8 @@ fn rule(inner: &[u8], s: usize, k: usize, p: usize, a: usize, q: usize) -> u8
     inner[(p * k + a) * s + q]
 }
 
-// The root's state in the run over the plan with the listed labels changed. One pass over the nodes in order: the states of the
-// trees that wait are kept, the last completed on top, and the list is looked up only at a listed node.
+// The root's state in the run over the plan with the listed labels changed. One pass over the nodes in order: the states
+// of the trees that wait are kept, the last completed on top, and the list is looked up only at a listed node.
 pub fn pass(
     kinds: &[u8],
     labels: &[u8],
@@ -38,7 +33,8 @@ pub fn pass(
     k: usize,
 ) -> u8
     requires { ⌜ PassArgs (now kinds) (now labels) (now nodes) (now news) (now leaves) (now inner) s k ⌝ }
-    ensures { λ r. ⌜ ((marks : List ℕ) → r ≡ state (treeAutomaton s k (now (leaves .entry)) (now (inner .entry)) marks) (treeOf (now (kinds .entry)) (changed (now (labels .entry)) (now (nodes .entry)) (now (news .entry))))) ⌝ }
+    ensures { λ r. ⌜ PassDone (now (kinds .entry)) (now (labels .entry)) (now (nodes .entry)) (now (news .entry))
+        (now (leaves .entry)) (now (inner .entry)) s k r ⌝ }
 {
     let n = kinds.len();
     let mut waiting = room();

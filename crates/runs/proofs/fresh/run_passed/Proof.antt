@@ -1,3 +1,6 @@
+-- The run of what passes its checks meets its contract. What the pass asks of the parts that are handed on, and what its
+-- answer says of the whole, are laws of proofs/RunLaws.
+-- Assumes nothing.
 use native.Mathlib.Omega.{arith}
 use borrow.Author.Needs.{needs}
 use Rattle.runs.proofs.RunLaws.{parts-args, root-in, told-is}
@@ -68,10 +71,7 @@ part-pass-end-4 : tie.Need-part-pass-end-4
 part-pass-end-4 c = search needs
 
 pass-requires : tie.Need-pass-requires
-pass-requires c κs =
-    let e = c .before .before .before .before .before .before .before .before in
-    let s = e .args in
-    parts-args (s .plan .now) (s .rules .now) (s .nodes .now) (s .labels .now) (s .n) (s .s) (s .k) (e .pre)
+pass-requires c κs = parts-args (c .before .before .before .before .before .before .before .before .pre)
 
 cast-t10 : tie.Need-cast-t10
 cast-t10 c = search needs
@@ -81,15 +81,13 @@ add-t27 c = search needs
 
 shared-slice-read-t31 : tie.Need-shared-slice-read-t31
 shared-slice-read-t31 c =
-    let e = c .before .before .before .before .before .before .before .before .before .before in
-    let s = e .args in
-    omega (arith, root-in (s .plan .now) (s .rules .now) (s .nodes .now) (s .labels .now) (s .n) (s .s) (s .k) (e .pre) (c .before .pass .result) (c .before .pass .ensures), e .pre .rules-length)
+    let p = c .before .before .before .before .before .before .before .before .before .before .pre in
+    omega (arith, root-in p (c .before .pass .ensures), p .rules-length)
 
 returns : tie.Need-returns
 returns c =
-    let e = c .before .before .before .before .before .before .before .before .before .before in
-    let s = e .args in
-    told-is (s .plan .now) (s .rules .now) (s .nodes .now) (s .labels .now) (s .n) (s .s) (s .k) (e .pre) (c .before .pass .result) (c .before .pass .ensures)
+    let p = c .before .before .before .before .before .before .before .before .before .before .pre in
+    told-is p (c .before .pass .ensures)
 
 pub run-passed-spec : {M : Type 1} → statement M
 run-passed-spec =

@@ -1,13 +1,18 @@
-use native.Mathlib.Omega.{arith}
-use borrow.Author.Needs.{needs}
-use Prim.Native.Nat.{ℕ, _+_, _-_, _*_, _≤_, _<_}
-use mathlib.Core.Path.{_≡_, refl, sym, ap, _∙_}
+-- The pass meets its contract. The invariant: `Passed` of the labels as changed, and `next` is listed first from v on.
+-- The measure is what is left of the nodes. The laws of a turn are in proofs/PassTurns.
+-- Assumes nothing.
+use Prim.Native.Nat.{ℕ, _+_, _-_, _≤_, _<_}
+use mathlib.Core.Path.{_≡_, refl, _∙_}
 use mathlib.Core.Logic.{⊎-elim}
 use mathlib.Core.List.{List}
-use lib.ListN.{length, getD, set}
+use native.Mathlib.Omega.{arith}
+use borrow.Author.Needs.{needs}
+use lib.ListN.{length, getD}
 use Rattle.trees.specs.Changes.{changed}
 use Rattle.runs.proofs.ListedLaws.{label-below, label-changed, length-changed}
-use Rattle.runs.proofs.PassTurns.{Onward, onward, onward-own, label-listed, label-own, Passed, pass-start, pass-end, top-most, leaf-room, leaf-turn, inner-two, inner-turn, inner-args}
+use Rattle.runs.proofs.PassTurns.{Onward, onward, onward-own, label-listed, label-own}
+use Rattle.runs.proofs.PassTurns.{Passed, pass-start, leaf-turn, inner-turn, pass-end}
+use Rattle.runs.proofs.PassTurns.{top-most, leaf-room, inner-two, inner-args}
 use Rattle.runs.proofs.pass.pass.Statement.{statement}
 use Rattle.runs.proofs.pass.pass.Tie as tie
 use Rattle.runs.proofs.pass.pass.Reads as reads
@@ -19,12 +24,14 @@ use Rattle.runs.proofs.pass.rule.Reads as rule-reads
 
 abbrev Inv-loop : tie.InvT-loop
 Inv-loop kinds labels nodes news leaves inner s k n waiting₀ top₀ next₀ v₀ waiting top next v =
-    (n ≡ length kinds) × Passed kinds (changed labels nodes news) leaves inner s k v waiting top × Onward nodes news v next
+    (n ≡ length kinds) × Passed kinds (changed labels nodes news) leaves inner s k v waiting top
+    × Onward nodes news v next
 
 abbrev μ-loop : tie.MeasureT-loop
 μ-loop kinds labels nodes news leaves inner s k n waiting₀ top₀ next₀ v₀ waiting top next v = n - v
 
--- the function's entry, seen from the loop's head
+-- ---- at the loop's head
+
 abbrev entered : tie.At-loop Inv-loop μ-loop → tie.Start Inv-loop μ-loop
 entered l = l .before .before .before .before .before .before .before .before .before
 
@@ -37,51 +44,61 @@ labelled-length l =
     let s = entered l in
     length-changed (s .args .labels .now) (s .args .nodes .now) (s .args .news .now) ∙ s .pre .labelled
 
-labels-in : (l : tie.At-loop Inv-loop μ-loop) (v : ℕ) → v < length (entered l .args .labels .now) → getD (labelled l) v 0 < entered l .args .k
+labels-in : (l : tie.At-loop Inv-loop μ-loop) (v : ℕ) → v < length (entered l .args .labels .now)
+    → getD (labelled l) v 0 < entered l .args .k
 labels-in l v h =
     let s = entered l in
-    rw (label-changed (s .args .labels .now) (s .args .nodes .now) (s .args .news .now) v h)
-    (label-below (s .args .k) (getD (s .args .labels .now) v 0) (s .args .nodes .now) (s .args .news .now) v (s .pre .labels-below v) (s .pre .changes-below))
+    let ls = s .args .labels .now in
+    let vs = s .args .nodes .now in
+    let bs = s .args .news .now in
+    rw (label-changed ls vs bs v h)
+    (label-below (s .args .k) (getD ls v 0) vs bs v (s .pre .labels-below v) (s .pre .changes-below))
 
--- the label of the turn and the next listed node, by either arm
-turn : (c : tie.Joined1 Inv-loop μ-loop)
-    → let l = c .before .before .before in
-    (c .if1 .a ≡ getD (labelled l) (l .loop .v) 0) × Onward (entered l .args .nodes .now) (entered l .args .news .now) (l .loop .v + 1) (c .if1 .next)
-turn c =
+most : (l : tie.At-loop Inv-loop μ-loop) → l .loop .top ≤ 32768
+most l = top-most (l .loop .inv .1) (entered l .pre .most)
+
+-- ---- where the first arms meet: the label of the turn and the next listed node
+
+label-is : (c : tie.Joined1 Inv-loop μ-loop)
+    → let l = c .before .before .before in c .if1 .a ≡ getD (labelled l) (l .loop .v) 0
+label-is c =
     let l = c .before .before .before in
     let s = entered l in
+    let ls = s .args .labels .now in
     let vs = s .args .nodes .now in
     let bs = s .args .news .now in
     let v = l .loop .v in
-    let h : v < length (s .args .labels .now) = omega (arith, s .pre .labelled, l .loop .inv .0) in
+    let h : v < length ls = omega (arith, s .pre .labelled, l .loop .inv .0) in
     ⊎-elim
-    (λ w. (
-      w .4 ∙ w .1 .ensures ∙ label-listed (s .args .labels .now) vs bs v h,
-      rw (w .3 ∙ w .2 .ensures) (onward vs bs (v + 1) (length (s .args .kinds .now)) (omega arith)),
-    ))
-    (λ w. (
-      w .2 ∙ label-own (s .args .labels .now) vs bs v h (l .loop .next) (l .loop .inv .2) (w .0 .left),
-      rw (w .1) (onward-own vs bs v (l .loop .next) (l .loop .inv .2) (w .0 .left)),
-    ))
+    (λ w. w .4 ∙ w .1 .ensures ∙ label-listed ls vs bs v h)
+    (λ w. w .2 ∙ label-own ls vs bs v h (l .loop .inv .2) (w .0 .left))
+    (c .if1 .came)
+
+next-is : (c : tie.Joined1 Inv-loop μ-loop)
+    → let l = c .before .before .before in
+    Onward (entered l .args .nodes .now) (entered l .args .news .now) (l .loop .v + 1) (c .if1 .next)
+next-is c =
+    let l = c .before .before .before in
+    let a = entered l .args in
+    ⊎-elim
+    (λ w. rw (w .3 ∙ w .2 .ensures)
+    (onward (a .nodes .now) (a .news .now) (l .loop .v + 1) (length (a .kinds .now)) (omega arith)))
+    (λ w. rw (w .1) (onward-own (l .loop .inv .2) (w .0 .left)))
     (c .if1 .came)
 
 label-in : (c : tie.Joined1 Inv-loop μ-loop) → c .if1 .a < entered (c .before .before .before) .args .k
 label-in c =
     let l = c .before .before .before in
-    rw (turn c .0) (labels-in l (l .loop .v) (omega (arith, entered l .pre .labelled, l .loop .inv .0)))
+    rw (label-is c) (labels-in l (l .loop .v) (omega (arith, entered l .pre .labelled, l .loop .inv .0)))
 
--- the arguments of an inner node's turn
+-- an inner node finds two trees
 two : (c : tie.Else2 Inv-loop μ-loop) → 2 ≤ c .before .before .before .before .before .loop .top
 two c =
     let l = c .before .before .before .before .before in
-    let s = entered l in
-    inner-two (s .args .kinds .now) (labelled l) (s .args .leaves .now) (s .args .inner .now) (s .args .s) (s .args .k) (l .loop .v) (l .loop .waiting) (l .loop .top) (l .loop .inv .1)
-    (omega (arith, l .loop .inv .0)) (labelled-length l) (c .if2 .left)
+    let h : l .loop .v < length (entered l .args .kinds .now) = omega (arith, l .loop .inv .0) in
+    inner-two (l .loop .inv .1) h (labelled-length l) (entered l .pre .most) (c .if2 .left)
 
-most : (l : tie.At-loop Inv-loop μ-loop) → l .loop .top ≤ 32768
-most l =
-    let s = entered l in
-    top-most (s .args .kinds .now) (labelled l) (s .args .leaves .now) (s .args .inner .now) (s .args .s) (s .args .k) (l .loop .v) (l .loop .waiting) (l .loop .top) (l .loop .inv .1) (s .pre .most)
+-- ---- the needs
 
 room-requires : tie.Need-room-requires Inv-loop μ-loop
 room-requires c κs = search needs
@@ -92,12 +109,10 @@ next-listed-requires c κs = search needs
 loop-holds : tie.Need-loop-holds Inv-loop μ-loop
 loop-holds c =
     let s = c .before .before .before .before .before .before .before .before in
-    let vs = s .args .nodes .now in
-    let bs = s .args .news .now in (
+    let a = s .args in (
       refl,
-      pass-start (s .args .kinds .now) (changed (s .args .labels .now) vs bs) (s .args .leaves .now) (s .args .inner .now) (s .args .s) (s .args .k)
-          (c .before .room .result) (c .before .room .ensures) (s .pre .postorder),
-      rw (c .next-listed .ensures) (onward vs bs 0 (length (s .args .kinds .now)) (omega arith)),
+      pass-start (c .before .room .ensures) (s .pre .postorder),
+      rw (c .next-listed .ensures) (onward (a .nodes .now) (a .news .now) 0 (length (a .kinds .now)) (omega arith)),
     )
 
 shared-slice-read-a : tie.Need-shared-slice-read-a Inv-loop μ-loop
@@ -121,12 +136,10 @@ shared-slice-read-x c =
     omega (arith, label-in j, entered (j .before .before .before) .pre .leaf-count)
 
 sub-top : tie.Need-sub-top Inv-loop μ-loop
-sub-top c =
-    two c
+sub-top c = two c
 
 array-read-rule : tie.Need-array-read-rule Inv-loop μ-loop
-array-read-rule c =
-    omega (arith, two c, most (c .before .before .before .before .before))
+array-read-rule c = omega (arith, two c, most (c .before .before .before .before .before))
 
 cast-rule : tie.Need-cast-rule Inv-loop μ-loop
 cast-rule c =
@@ -137,36 +150,33 @@ add-rule : tie.Need-add-rule Inv-loop μ-loop
 add-rule c = search needs
 
 array-read-rule-2 : tie.Need-array-read-rule-2 Inv-loop μ-loop
-array-read-rule-2 c =
-    omega (arith, two (c .before), most (c .before .before .before .before .before .before))
+array-read-rule-2 c = omega (arith, two (c .before), most (c .before .before .before .before .before .before))
 
 cast-rule-2 : tie.Need-cast-rule-2 Inv-loop μ-loop
 cast-rule-2 c =
     let l = c .before .before .before .before .before .before in
-    omega (arith, l .loop .inv .1 .below (l .loop .top - 2 + 1) (omega (arith, two (c .before))), entered l .pre .states)
+    let w : ℕ = l .loop .top - 2 + 1 in
+    omega (arith, l .loop .inv .1 .below w (omega (arith, two (c .before))), entered l .pre .states)
 
 rule-requires : tie.Need-rule-requires Inv-loop μ-loop
 rule-requires c κs =
     let l = c .before .before .before .before .before .before in
-    let s = entered l in
-    inner-args (s .args .kinds .now) (labelled l) (s .args .leaves .now) (s .args .inner .now) (s .args .s) (s .args .k) (l .loop .v) (l .loop .waiting) (l .loop .top) (l .loop .inv .1)
-    (omega (arith, l .loop .inv .0)) (labelled-length l) (c .before .if2 .left)
-    (s .pre .inner-count) (s .pre .states) (s .pre .letters) (c .before .before .before .if1 .a) (l .loop .top - 2)
-    (label-in (c .before .before .before)) refl
+    let p = entered l .pre in
+    let h : l .loop .v < length (entered l .args .kinds .now) = omega (arith, l .loop .inv .0) in
+    inner-args (l .loop .inv .1) h (labelled-length l) (p .most) (c .before .if2 .left)
+    (p .inner-count) (p .states) (p .letters) (label-in (c .before .before .before)) refl
 
 array-write-waiting : tie.Need-array-write-waiting Inv-loop μ-loop
 array-write-waiting c =
     let l = c .before .before .before .before .before in
-    let s = entered l in
+    let h : l .loop .v < length (entered l .args .kinds .now) = omega (arith, l .loop .inv .0) in
     ⊎-elim
-    (λ w. rw (w .3) (leaf-room (s .args .kinds .now) (labelled l) (s .args .leaves .now) (s .args .inner .now) (s .args .s) (s .args .k) (l .loop .v) (l .loop .waiting) (l .loop .top) (l .loop .inv .1)
-    (omega (arith, l .loop .inv .0)) (labelled-length l) (w .0 .taken) (s .pre .most)))
+    (λ w. rw (w .3) (leaf-room (l .loop .inv .1) h (labelled-length l) (entered l .pre .most) (w .0 .taken)))
     (λ w. rw (w .3) (omega (arith, most l)))
     (c .if2 .came)
 
 add-top : tie.Need-add-top Inv-loop μ-loop
-add-top c =
-    omega (arith, array-write-waiting (c .before))
+add-top c = omega (arith, array-write-waiting (c .before))
 
 add-v : tie.Need-add-v Inv-loop μ-loop
 add-v c = search needs
@@ -178,17 +188,16 @@ loop-again : tie.Need-loop-again Inv-loop μ-loop
 loop-again c =
     let j = c .before .before .before in
     let l = j .before .before .before in
-    let s = entered l in
-    let h : l .loop .v < length (s .args .kinds .now) = omega (arith, l .loop .inv .0) in
-    let a = j .if1 .a in (
+    let p = entered l .pre in
+    let i = l .loop .inv .1 in
+    let h : l .loop .v < length (entered l .args .kinds .now) = omega (arith, l .loop .inv .0) in
+    let g = labelled-length l in (
       refl,
       ⊎-elim
-          (λ w. rw (w .3, w .4) (leaf-turn (s .args .kinds .now) (labelled l) (s .args .leaves .now) (s .args .inner .now) (s .args .s) (s .args .k) (l .loop .v) (l .loop .waiting) (l .loop .top) (l .loop .inv .1)
-          h (labelled-length l) (w .0 .taken) (s .pre .most) (s .pre .leaf-below) a (turn j .0)))
-          (λ w. rw (w .3, w .4 ∙ w .2 .ensures) (inner-turn (s .args .kinds .now) (labelled l) (s .args .leaves .now) (s .args .inner .now) (s .args .s) (s .args .k) (l .loop .v) (l .loop .waiting) (l .loop .top) (l .loop .inv .1)
-          h (labelled-length l) (w .0 .left) (s .pre .most) (s .pre .inner-below) a (l .loop .top - 2) (turn j .0) refl))
+          (λ w. rw (w .3, w .4) (leaf-turn i h g (p .most) (w .0 .taken) (p .leaf-below) (label-is j)))
+          (λ w. rw (w .3, w .4 ∙ w .2 .ensures) (inner-turn i h g (p .most) (w .0 .left) (p .inner-below) (label-is j) refl))
           (c .before .if2 .came),
-      turn j .1,
+      next-is j,
     )
 
 array-read-result : tie.Need-array-read-result Inv-loop μ-loop
@@ -197,9 +206,7 @@ array-read-result c = search needs
 returns : tie.Need-returns Inv-loop μ-loop
 returns c =
     let l = c .before in
-    let s = entered l in
-    pass-end (s .args .kinds .now) (labelled l) (s .args .leaves .now) (s .args .inner .now) (s .args .s) (s .args .k) (l .loop .v) (l .loop .waiting) (l .loop .top) (l .loop .inv .1)
-    (omega (arith, l .loop .inv .0)) (labelled-length l) (s .pre .postorder)
+    pass-end (l .loop .inv .1) (omega (arith, l .loop .inv .0)) (labelled-length l) (entered l .pre .postorder)
 
 pub pass-spec : {M : Type 1} → statement M
 pass-spec =
