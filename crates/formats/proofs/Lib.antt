@@ -7,3 +7,7 @@ pub mod BranchLaws
 pub mod InputLaws
 pub mod PlanAnswers
 pub mod TurnLaws
+pub mod RuleAnswers
+pub mod BranchAnswers
+pub mod ListAnswers
+pub mod InputAnswers
