@@ -202,9 +202,9 @@ module _ (p r vs bs ws cs : List ℕ) (g : length vs ≡ length bs) (h : length 
       → (rootState p r vs bs ≡ rootState p r ws cs) × (rootAccepted p r vs bs ≡ rootAccepted p r ws cs)
   roots-order e =
       let u : distinct vs ≡ true =
-          list-passes (nodeCount p) (labelCount r) vs bs (fresh-run-list p r vs bs e) .no-twice in
+      list-passes (nodeCount p) (labelCount r) vs bs (fresh-run-list p r vs bs e) .no-twice in
       let c : changed (labelsIn p) vs bs ≡ changed (labelsIn p) ws cs =
-          changed-order vs bs ws cs g h d u (labelsIn p) in (
+      changed-order vs bs ws cs g h d u (labelsIn p) in (
         ap (λ (l : List ℕ). state (ruleAutomaton r) (treeOf (kindsIn p) l)) c,
         ap (λ (l : List ℕ). accepts (ruleAutomaton r) (treeOf (kindsIn p) l)) c,
       )

@@ -3,7 +3,7 @@
 --     label-listed, label-own, onward, onward-own   the label of a turn, and the next listed node after it
 --     Passed         what holds before each turn
 --     pass-start, leaf-turn, inner-turn, pass-end   it holds at first, a turn keeps it, and what it says at the end
---     top-most, leaf-room, inner-two, inner-args    what the machine asks in a turn
+--     top-most, leaf-room, inner-two, rule-args     what the machine asks in a turn
 -- Assumes nothing.
 use Prim.Native.Nat.{ℕ, suc, _+_, _-_, _*_, _≤_, _<_}
 use mathlib.Core.Path.{_≡_, refl, sym, ap, ap₂, _∙_, subst}
@@ -91,9 +91,10 @@ pass-start {ks = ks} e p = record {
 stride : (w u v : ℕ) → u < v → u * w + w ≤ v * w
 stride w u v h = omega (arith, mul-le-mul-right w h)
 
-pub rule-args : (inn : List ℕ) (s k p a q : ℕ) → p < s → a < k → q < s → s ≤ 16 → k ≤ 64 → length inn ≡ s * k * s
+-- the rule of states below s stands in the table
+pub rule-args : {inn : List ℕ} {s k p a q : ℕ} → p < s → a < k → q < s → s ≤ 16 → k ≤ 64 → length inn ≡ s * k * s
     → RuleArgs inn s k p a q
-rule-args inn s k p a q hp ha hq hs hk e =
+rule-args {s = s} {k = k} {p = p} {a = a} hp ha hq hs hk e =
     record {
       small = omega (arith, stride k p s hp, mul-le-mul-right k hs);
       inside = omega (arith, stride s (p * k + a) (s * k) (omega (arith, stride k p s hp)));
@@ -194,10 +195,3 @@ module _ {ks ls lv inn : List ℕ} {s k v : ℕ} {st : List ℕ} {top : ℕ} (p 
                 ∙ p .same;
             below = store-below s st w x i (below ((l * k + a) * s + r)) (λ j q. p .below j (omega arith));
           }
-
-      -- the states on top are below s, so the rule stands in the table
-      pub inner-args : length inn ≡ s * k * s → s ≤ 16 → k ≤ 64 → {a w : ℕ} → a < k → w ≡ top - 2
-          → RuleArgs inn s k (getD st w 0) a (getD st (w + 1) 0)
-      inner-args e few letters {a} {w} l at =
-          rule-args inn s k (getD st w 0) a (getD st (w + 1) 0)
-          (p .below w (omega (arith, inner-two))) l (p .below (w + 1) (omega (arith, inner-two))) few letters e

@@ -51,14 +51,9 @@ pub fn pass(
             leaves[a as usize]
         } else {
             top -= 2;
-            rule(
-                inner,
-                s,
-                k,
-                waiting[top] as usize,
-                a as usize,
-                waiting[top + 1] as usize,
-            )
+            let p = waiting[top] as usize;
+            let q = waiting[top + 1] as usize;
+            rule(inner, s, k, p, a as usize, q)
         };
         waiting[top] = x;
         top += 1;

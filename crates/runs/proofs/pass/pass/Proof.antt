@@ -12,7 +12,7 @@ use Rattle.trees.specs.Changes.{changed}
 use Rattle.runs.proofs.ListedLaws.{label-below, label-changed, length-changed}
 use Rattle.runs.proofs.PassTurns.{Onward, onward, onward-own, label-listed, label-own}
 use Rattle.runs.proofs.PassTurns.{Passed, pass-start, leaf-turn, inner-turn, pass-end}
-use Rattle.runs.proofs.PassTurns.{top-most, leaf-room, inner-two, inner-args}
+use Rattle.runs.proofs.PassTurns.{top-most, leaf-room, inner-two, rule-args}
 use Rattle.runs.proofs.pass.pass.Statement.{statement}
 use Rattle.runs.proofs.pass.pass.Tie as tie
 use Rattle.runs.proofs.pass.pass.Reads as reads
@@ -138,33 +138,35 @@ shared-slice-read-x c =
 sub-top : tie.Need-sub-top Inv-loop μ-loop
 sub-top c = two c
 
-array-read-rule : tie.Need-array-read-rule Inv-loop μ-loop
-array-read-rule c = omega (arith, two c, most (c .before .before .before .before .before))
+array-read-p : tie.Need-array-read-p Inv-loop μ-loop
+array-read-p c = omega (arith, two c, most (c .before .before .before .before .before))
 
-cast-rule : tie.Need-cast-rule Inv-loop μ-loop
-cast-rule c =
+cast-p : tie.Need-cast-p Inv-loop μ-loop
+cast-p c =
     let l = c .before .before .before .before .before in
     omega (arith, l .loop .inv .1 .below (l .loop .top - 2) (omega (arith, two c)), entered l .pre .states)
 
-add-rule : tie.Need-add-rule Inv-loop μ-loop
-add-rule c = search needs
+add-q : tie.Need-add-q Inv-loop μ-loop
+add-q c = search needs
 
-array-read-rule-2 : tie.Need-array-read-rule-2 Inv-loop μ-loop
-array-read-rule-2 c = omega (arith, two (c .before), most (c .before .before .before .before .before .before))
+array-read-q : tie.Need-array-read-q Inv-loop μ-loop
+array-read-q c = omega (arith, two c, most (c .before .before .before .before .before))
 
-cast-rule-2 : tie.Need-cast-rule-2 Inv-loop μ-loop
-cast-rule-2 c =
-    let l = c .before .before .before .before .before .before in
+cast-q : tie.Need-cast-q Inv-loop μ-loop
+cast-q c =
+    let l = c .before .before .before .before .before in
     let w : ℕ = l .loop .top - 2 + 1 in
-    omega (arith, l .loop .inv .1 .below w (omega (arith, two (c .before))), entered l .pre .states)
+    omega (arith, l .loop .inv .1 .below w (omega (arith, two c)), entered l .pre .states)
 
 rule-requires : tie.Need-rule-requires Inv-loop μ-loop
 rule-requires c κs =
     let l = c .before .before .before .before .before .before in
+    let w : ℕ = l .loop .top - 2 in
+    let t = two (c .before) in
+    let left : getD (l .loop .waiting) w 0 < entered l .args .s = l .loop .inv .1 .below w (omega arith) in
+    let right : getD (l .loop .waiting) (w + 1) 0 < entered l .args .s = l .loop .inv .1 .below (w + 1) (omega arith) in
     let p = entered l .pre in
-    let h : l .loop .v < length (entered l .args .kinds .now) = omega (arith, l .loop .inv .0) in
-    inner-args (l .loop .inv .1) h (labelled-length l) (p .most) (c .before .if2 .left)
-    (p .inner-count) (p .states) (p .letters) (label-in (c .before .before .before)) refl
+    rule-args (omega arith) (label-in (c .before .before .before)) (omega arith) (p .states) (p .letters) (p .inner-count)
 
 array-write-waiting : tie.Need-array-write-waiting Inv-loop μ-loop
 array-write-waiting c =
@@ -224,11 +226,11 @@ pass-spec =
     shared-slice-read-if2
     shared-slice-read-x
     sub-top
-    array-read-rule
-    cast-rule
-    add-rule
-    array-read-rule-2
-    cast-rule-2
+    array-read-p
+    cast-p
+    add-q
+    array-read-q
+    cast-q
     rule-requires
     array-write-waiting
     add-top
