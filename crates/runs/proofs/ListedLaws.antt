@@ -1,20 +1,23 @@
 -- Laws of a list of changes that is read node by node.
 --     label-hit .. label-end, next-low .. next-end   the two scans of the list, entry by entry: what their loops use
 --     label-changed   labelFor is the label that `changed` holds
+--     label-last, label-unlisted   it is the last entry's for the node, or the node's own where none is for it
 --     next-from, next-most, next-skips   the next listed node is in range, and no node before it is listed
 -- Assumes nothing.
 use Prim.Native.Nat.{ℕ, zero, suc, _+_, _≤_, _<_}
 use mathlib.Core.Path.{_≡_, refl, sym, ap, _∙_}
-use mathlib.Core.Bool.{Bool, true, false, cond, _&&_}
-use mathlib.Core.List.{List, [], _∷_}
+use mathlib.Core.Bool.{Bool, true, false, cond, _&&_, _||_}
+use mathlib.Core.List.{List, [], _∷_, _++_}
 use native.Mathlib.Decide.{decLt, ℕ-discrete}
 use native.Mathlib.Numerals.{add-one}
 use native.Mathlib.Omega.{arith}
-use borrow.Author.Tests.{eq-eqb, ne-eqb, le-leb, lt-leb, lt-ltb, le-ltb}
+use borrow.Author.Tests.{eq-eqb, ne-eqb, eqb-false, le-leb, lt-leb, lt-ltb, le-ltb}
 use lib.Dec.{leb, ltb, eqb}
 use lib.ListN.{length, getD, drop, set, length-set, drop-of-length-le}
 use lib.Seq.{drop-cons, getD-set-same, getD-set-other, set-out}
 use Rattle.trees.specs.Changes.{changed}
+use Rattle.formats.specs.Bytes.{holds}
+use Rattle.formats.proofs.CheckLaws.{true-false}
 use Rattle.runs.specs.Listed.{labelFor, nextListed}
 
 -- ---- the scan for a label
@@ -77,6 +80,29 @@ label-changed ls (u ∷ vs) (b ∷ bs) v h =
     here : Dec (u ≡ v) → getD (set ls u b) v 0 ≡ cond (eqb u v) b (getD ls v 0)
     here (yes e) = rw (eq-eqb u v e, e) (getD-set-same ls v b 0 h)
     here (no e) = rw (ne-eqb u v e) (getD-set-other ls u v b 0 (λ q. e (sym q)))
+
+or-none : (s t : Bool) → (s || t) ≡ false → (s ≡ false) × (t ≡ false)
+or-none true t e = absurd (true-false e)
+or-none false t e = (refl, e)
+
+pub label-unlisted : (a : ℕ) (vs bs : List ℕ) (v : ℕ) → holds v vs ≡ false → labelFor a vs bs v ≡ a
+unfolding labelFor holds
+label-unlisted a [] bs v h = refl
+label-unlisted a (u ∷ vs) [] v h = refl
+label-unlisted a (u ∷ vs) (b ∷ bs) v h =
+    let o : (eqb v u ≡ false) × (holds v vs ≡ false) = or-none (eqb v u) (holds v vs) h in
+    label-unlisted (cond (eqb u v) b a) vs bs v (o .1)
+    ∙ ap (λ (t : Bool). cond t b a) (ne-eqb u v (λ e. eqb-false v u (o .0) (sym e)))
+
+-- the last entry for v holds
+pub label-last : (a : ℕ) (vs bs : List ℕ) (v b : ℕ) (us cs : List ℕ) → length vs ≡ length bs → holds v us ≡ false
+    → labelFor a (vs ++ (v ∷ us)) (bs ++ (b ∷ cs)) v ≡ b
+unfolding labelFor
+label-last a [] [] v b us cs e h =
+    label-unlisted (cond (eqb v v) b a) us cs v h ∙ ap (λ (t : Bool). cond t b a) (eq-eqb v v refl)
+label-last a [] (x ∷ bs) v b us cs e h = absurd (omega arith)
+label-last a (u ∷ vs) [] v b us cs e h = absurd (omega arith)
+label-last a (u ∷ vs) (x ∷ bs) v b us cs e h = label-last (cond (eqb u v) x a) vs bs v b us cs (omega arith) h
 
 pub length-changed : (ls vs bs : List ℕ) → length (changed ls vs bs) ≡ length ls
 unfolding changed

@@ -1,5 +1,5 @@
 -- The order of a list of changes: it does not matter.
---     keys, values       the nodes and the labels of a list of entries; keys-zip, values-zip: of two lists of one length
+--     keys, values       the nodes and the labels of a list of entries; keys-zip, values-zip: of two lists of a length
 --     allBelow-perm, holds-perm, distinct-perm, length-perm   tests that do not depend on the order of a list
 --     changed-order      where no node is listed twice, the labels as changed do not depend on the order of the list
 --     list-order         nor does the first no of checks 12 to 15, listed twice or not

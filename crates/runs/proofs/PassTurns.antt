@@ -59,8 +59,8 @@ innerOf s k inn p a q = getD inn ((p * k + a) * s + q) 0
 abbrev pub reads : ℕ → ℕ → List ℕ → List ℕ → List ℕ → List ℕ → List ℕ → Option (List ℕ)
 reads s k lv inn ks ls st = read (leafOf lv) (innerOf s k inn) ks ls st
 
--- before the turn of node v `top` trees wait, and their states are the first of st: reading the nodes from v on, from these,
--- gives what reading the whole gives, and one tree will be left
+-- before the turn of node v `top` trees wait, and their states are the first of st: reading the nodes from v on, from
+-- these, gives what reading the whole gives, and one tree will be left
 pub record Passed (ks ls lv inn : List ℕ) (s k v : ℕ) (st : List ℕ) (top : ℕ) : Type 0 where
   pub here : v ≤ length ks
   pub room : length st ≡ 32768

@@ -4,7 +4,7 @@
 --     mark-at          a mark by its place in the rules
 --     freshRun-passed  the answer where every check passes
 --     run-args         the counts of the headers, with bounds of their products
---     parts-args, root-is, root-in, told-is   of the parts that are handed on: what the pass asks, and what its answer is
+--     parts-args, root-is, root-in, told-is   of the parts handed on: what the pass asks, and what its answer is
 --     done-told, done-refused   the promise of an answer, and of a refusal
 -- Assumes nothing.
 use Prim.Native.Nat.{ℕ, zero, suc, _+_, _-_, _*_, _≤_, _<_}
@@ -18,16 +18,14 @@ use lib.ListN.{length, getD, take, drop}
 use lib.Seq.{getD-take, getD-drop}
 use Rattle.trees.specs.Tree.{Tree, leaf, node}
 use Rattle.trees.specs.Automaton.{Automaton, state}
-use Rattle.trees.specs.Postorder.{treeOf}
-use Rattle.trees.specs.Changes.{changed}
 use Rattle.formats.specs.Plan.{nodeCount, labelsIn, kindsIn}
-use Rattle.formats.specs.Rules.{stateCount, labelCount, leafStates, innerStates, ruleMarks, treeAutomaton, ruleAutomaton}
+use Rattle.formats.specs.Rules.{stateCount, labelCount, leafStates, innerStates, ruleMarks, ruleAutomaton}
 use Rattle.formats.specs.Bytes.{allBelow}
 use Rattle.formats.specs.Checks.{firstNo, freshRunChecks}
 use Rattle.formats.proofs.ListLaws.{allBelow-all}
 use Rattle.formats.proofs.PlanLaws.{PlanPasses, length-kindsIn, labels-as-kinds, labels-part, kinds-part}
-use Rattle.formats.proofs.RuleLaws.{RulesPass, length-leafStates, length-innerStates, leaf-state-below, inner-state-below}
-use Rattle.formats.proofs.RuleLaws.{leaves-part, inner-part}
+use Rattle.formats.proofs.RuleLaws.{RulesPass, length-leafStates, length-innerStates, leaf-state-below}
+use Rattle.formats.proofs.RuleLaws.{inner-state-below, leaves-part, inner-part}
 use Rattle.formats.proofs.InputLaws.{ListPasses, fresh-run-passes, label-below}
 use Rattle.runs.specs.declared.answer.Running.{Running}
 use Rattle.runs.specs.declared.answer.Running.the-variants.{Ended, Refused}

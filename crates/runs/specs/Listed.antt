@@ -3,8 +3,8 @@
 -- labelFor a vs bs v == the label of node v whose own label is a: that of the last entry for v; a where there is none
 -- nextListed vs from n == the least listed node that is at least `from` and below n; n where there is none
 --
--- The first is what `changed` of crate trees holds at v: label-changed (proofs/ListedLaws). Nothing here asks that a node
--- is listed once.
+-- The first is what `changed` of crate trees holds at v: label-changed (proofs/ListedLaws). Nothing here asks that a
+-- node is listed once.
 -- Assumes nothing.
 use Prim.Native.Nat.{ℕ}
 use mathlib.Core.Bool.{cond, _&&_}

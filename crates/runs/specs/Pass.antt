@@ -4,7 +4,6 @@
 -- PassArgs ks ls vs bs lv inn s k == kinds of a tree and labels below k, a list of changes to labels below k, a rule
 --   table's leaf and inner states, all below s
 -- PassDone ks ls vs bs lv inn s k q == q is the root's state in the run, whatever the marks
---
 -- RunArgs p r vs bs n s k == plan, rules and list that pass their checks, with N, S and K of their headers
 --
 -- A label or a state past a run's end counts 0, as in crate formats, so that the bounds hold at every index.

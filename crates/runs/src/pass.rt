@@ -20,8 +20,8 @@ fn rule(inner: &[u8], s: usize, k: usize, p: usize, a: usize, q: usize) -> u8
     inner[(p * k + a) * s + q]
 }
 
-// The root's state in the run over the plan with the listed labels changed. One pass over the nodes in order: the states
-// of the trees that wait are kept, the last completed on top, and the list is looked up only at a listed node.
+// The root's state in the run over the plan with the listed labels changed. One pass over the nodes in order: the
+// states of the trees that wait are kept, the last completed on top, and the list is looked up only at a listed node.
 pub fn pass(
     kinds: &[u8],
     labels: &[u8],
