@@ -1,1 +1,3 @@
 pub mod InsertLaws
+pub mod SearchLaws
+pub mod MeetWays
