@@ -1,3 +1,6 @@
 pub mod InsertLaws
 pub mod SearchLaws
 pub mod MeetWays
+pub mod MeetBuilt
+pub mod ForksBuilt
+pub mod RootsBuilt
