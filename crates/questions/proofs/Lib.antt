@@ -4,3 +4,5 @@ pub mod MeetWays
 pub mod MeetBuilt
 pub mod ForksBuilt
 pub mod RootsBuilt
+pub mod ClimbBuilt
+pub mod PartBuilt
