@@ -14,3 +14,4 @@ pub mod InputAnswers
 pub mod ByteLaws
 pub mod PlanTrees
 pub mod PlanTheorems
+pub mod KindTurns
