@@ -74,10 +74,13 @@ module _ (ks : List ℕ) (none w : ℕ) (i : ℕ) where
         within = omega arith;
         low = omega (arith, c .low, c .all);
         high = omega (arith, c .high);
-        some = λ e. omega (arith, ltb-true none (w + 1 - 2 * (getD ks i 0 % 2)) (and-right (ok && ltb (getD ks i 0) 2) (ltb none (w + 1 - 2 * (getD ks i 0 % 2))) e));
+        some = λ e. above (and-right (ok && ltb (getD ks i 0) 2) (ltb none (w + 1 - 2 * (getD ks i 0 % 2))) e);
         answer = go ok (c .some) ∙ c .answer;
       }
     where
+      above : ltb none (w + 1 - 2 * (getD ks i 0 % 2)) ≡ true → none ≤ w + 1 - 2 * (getD ks i 0 % 2)
+      above e = omega (arith, ltb-true none (w + 1 - 2 * (getD ks i 0 % 2)) e)
+
       go : (b : Bool) → (b ≡ true → none ≤ w)
           → (b && ltb (getD ks i 0) 2 && ltb none (w + 1 - 2 * (getD ks i 0 % 2)) && isOne (waiting (drop (i + 1) ks) (w + 1 - 2 * (getD ks i 0 % 2) - none)))
           ≡ (b && isOne (waiting (drop i ks) (w - none)))

@@ -62,14 +62,16 @@ module _ (p : List ℕ) where
   plan-passes e =
       let q : (leb 12 (length p) ≡ true) × (within 1 nodeLimit (nodeCount p) ≡ true) × (planShape p ≡ true) × (isPostorder (kindsIn p) ≡ true) =
       four-pass 1 2 3 4 (leb 12 (length p)) (within 1 nodeLimit (nodeCount p)) (planShape p) (isPostorder (kindsIn p)) e in
-      let kinds : Bool = eqb (le32 p 8) (12 + nodeCount p) && eqb (length p) (planLength (nodeCount p)) in
+      let end : Bool = eqb (length p) (planLength (nodeCount p)) in
+      let kinds : Bool = eqb (le32 p 8) (12 + nodeCount p) && end in
+      let later : kinds ≡ true = and-right (eqb (le32 p 4) 12) kinds (q .2) in
       record {
         long = leb-true 12 (length p) (q .0);
         least = within-low 1 nodeLimit (nodeCount p) (q .1);
         most = within-high 1 nodeLimit (nodeCount p) (q .1);
         labels-at = same-left (le32 p 4) 12 kinds (q .2);
-        kinds-at = same-left (le32 p 8) (12 + nodeCount p) (eqb (length p) (planLength (nodeCount p))) (and-right (eqb (le32 p 4) 12) kinds (q .2));
-        exact = eqb-true (length p) (planLength (nodeCount p)) (and-right (eqb (le32 p 8) (12 + nodeCount p)) (eqb (length p) (planLength (nodeCount p))) (and-right (eqb (le32 p 4) 12) kinds (q .2)));
+        kinds-at = same-left (le32 p 8) (12 + nodeCount p) end later;
+        exact = eqb-true (length p) (planLength (nodeCount p)) (and-right (eqb (le32 p 8) (12 + nodeCount p)) end later);
         postorder = q .3;
       }
 
