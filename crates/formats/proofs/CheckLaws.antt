@@ -6,7 +6,7 @@
 --     firstNo-append-left, -right   where nothing of both fails, nothing of either fails
 --     and-both, and-left, and-right what a conjunction of tests tells
 -- Assumes nothing.
-use Prim.Native.Nat.{ℕ, zero, suc, _<_}
+use Prim.Native.Nat.{ℕ, suc, _<_}
 use mathlib.Core.Path.{_≡_, refl, sym, _∙_}
 use mathlib.Core.Bool.{Bool, true, false, cond, _&&_}
 use mathlib.Core.List.{List, [], _∷_, _++_}

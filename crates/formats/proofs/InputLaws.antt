@@ -7,14 +7,14 @@
 --     build-table, branch-build-table, fresh-run-table
 --                                 where 2 to 11, or 2 to 15, pass, 2 to 10 do
 -- Assumes nothing.
-use Prim.Native.Nat.{ℕ, _+_, _*_, _≤_, _<_}
-use mathlib.Core.Path.{_≡_, refl, sym, _∙_}
-use mathlib.Core.Bool.{Bool, true, false, _&&_}
+use Prim.Native.Nat.{ℕ, _+_, _≤_, _<_}
+use mathlib.Core.Path.{_≡_, _∙_}
+use mathlib.Core.Bool.{true}
 use mathlib.Core.List.{List, [], _∷_, _++_}
 use native.Mathlib.Omega.{arith}
 use lib.Dec.{leb, eqb}
 use lib.ListN.{length, getD}
-use borrow.Author.Tests.{leb-true, le-leb, eqb-true, eq-eqb}
+use borrow.Author.Tests.{leb-true, le-leb}
 use Rattle.formats.specs.Bytes.{allBelow, distinct}
 use Rattle.formats.specs.Limits.{changeLimit}
 use Rattle.formats.specs.Plan.{nodeCount, labelsIn}

@@ -3,7 +3,7 @@
 --     counted-start, counted-turn, counted-end
 -- Assumes nothing.
 use Prim.Native.Nat.{ℕ, _+_, _-_, _*_, _%_, _≤_, _<_}
-use mathlib.Core.Path.{_≡_, refl, sym, ap, ap₂, _∙_}
+use mathlib.Core.Path.{_≡_, refl, sym, ap, _∙_}
 use mathlib.Core.Bool.{Bool, true, false, _&&_}
 use mathlib.Core.List.{List}
 use mathlib.Core.Option.{none}
@@ -14,7 +14,7 @@ use lib.ListN.{length, getD, drop}
 use borrow.Author.Tests.{lt-ltb, le-ltb, ltb-true, eq-eqb, ne-eqb}
 use Rattle.trees.specs.Postorder.{waiting, isOne, isPostorder}
 use Rattle.trees.proofs.PostorderLaws.{leaf-at, inner-at, short-at, other-at, end-at}
-use Rattle.formats.proofs.CheckLaws.{true-false, and-right, and-no-left, and-no-right}
+use Rattle.formats.proofs.CheckLaws.{and-right}
 
 pub record Counted (ks : List ℕ) (none w : ℕ) (ok : Bool) (i : ℕ) : Type 0 where
   pub all : none ≡ length ks

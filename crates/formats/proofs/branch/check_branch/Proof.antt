@@ -3,7 +3,7 @@ use Prim.Native.Nat.{ℕ, _≤_}
 use mathlib.Core.Bool.{true}
 use mathlib.Core.List.{List}
 use Rattle.formats.specs.Leaves.{countsFit, branchShape}
-use mathlib.Core.Path.{_≡_, refl, sym, _∙_}
+use mathlib.Core.Path.{_≡_, sym, _∙_}
 use borrow.Author.Tests.{not-true, not-false}
 use Rattle.formats.proofs.RuleAnswers.{counts-told}
 use Rattle.formats.proofs.BranchAnswers.{branch-exact, branch-6, branch-7, branch-8, branch-9, branch-good}

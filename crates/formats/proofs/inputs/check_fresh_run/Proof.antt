@@ -1,6 +1,6 @@
 -- `formats::inputs::check_fresh_run` meets its contract: each return cites the law of its answer. Assumes nothing.
 use Prim.Native.Nat.{ℕ}
-use mathlib.Core.Path.{_≡_, refl, sym, ap, ap₂, _∙_}
+use mathlib.Core.Path.{_≡_, sym, ap₂, _∙_}
 use mathlib.Core.List.{List}
 use Rattle.formats.specs.Checks.{firstNo, ruleTableChecks, listChecks, freshRunChecks}
 use Rattle.formats.proofs.InputLaws.{rule-table-passes, rule-table-numbered}

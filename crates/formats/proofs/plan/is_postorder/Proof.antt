@@ -1,5 +1,5 @@
 -- `formats::plan::is_postorder` meets its contract: the loop's invariant is Counted of KindTurns. Assumes nothing.
-use Prim.Native.Nat.{ℕ, _-_}
+use Prim.Native.Nat.{_-_}
 use lib.ListN.{length}
 use Rattle.formats.proofs.KindTurns.{Counted, counted-start, counted-turn, counted-end}
 use native.Mathlib.Omega.{arith}

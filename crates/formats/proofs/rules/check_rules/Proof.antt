@@ -3,7 +3,7 @@ use Prim.Native.Nat.{ℕ, _≤_}
 use mathlib.Core.Bool.{true}
 use mathlib.Core.List.{List}
 use Rattle.formats.specs.Leaves.{countsFit, ruleShape}
-use mathlib.Core.Path.{_≡_, refl, sym, _∙_}
+use mathlib.Core.Path.{_≡_, sym, _∙_}
 use borrow.Author.Tests.{not-true, not-false}
 use Rattle.formats.proofs.RuleAnswers.{counts-told, shape-exact, rules-6, rules-7, rules-8, rules-9, rules-good}
 use native.Mathlib.Omega.{arith}
