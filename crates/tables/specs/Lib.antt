@@ -1,2 +1,6 @@
 pub mod Answers
 pub mod StateCells
+pub mod Rows
+pub mod States
+pub mod Maps
+pub mod Written

@@ -1,2 +1,7 @@
 // Tables for rule tables: their build, their full check, and what branch tables share with them.
 pub mod answers;
+pub mod build;
+pub mod maps;
+pub mod rows;
+pub mod states;
+pub mod tables;
