@@ -1,0 +1,293 @@
+-- The laws of tables of rows, for any width w: cell k of row v stands at v * w + k.
+--     stride .. cell-split      places: rows do not overlap, and every place below n * w is a cell
+--     length-tabulate ..        a list by its entries
+--     length-rows, getD-rows    a table by its cells
+--     rows-of-cells .. take-over  a buffer whose cells are a table's begins with the table, and back
+--     length-linkRow ..         the widths and cells of the rows that Load writes
+--     linkRow-cells, mapRow-cells  such a row, from its cells by name
+--     linkTable-parent ..       what a buffer that begins with one of Load's tables has at a node
+--
+-- Assumes nothing.
+use Prim.Native.Nat.{ℕ, zero, suc, _+_, _-_, _*_, _≤_, _<_}
+use mathlib.Core.Path.{_≡_, refl, sym, ap, _∙_, subst}
+use mathlib.Core.List.{List, [], _∷_, _++_}
+use native.Mathlib.Decide.{decLt, ℕ-discrete}
+use native.Mathlib.Nat.{mul-le-mul-right}
+use native.Mathlib.Numerals.{one-add}
+use native.Mathlib.Omega.{arith}
+use lib.ListN.{length, getD, take, drop, length-append, length-drop, List·getD-append}
+use lib.Seq.{ext-getD, getD-append-add, getD-append-seam, getD-drop, getD-take, length-take-le, take-at}
+use Rattle.trees.specs.Tree.{Tree, size}
+use Rattle.trees.specs.Automaton.{Automaton, state, WordAutomaton}
+use Rattle.trees.specs.Numbering.{sub, parent, depth}
+use Rattle.trees.specs.Jumps.{jump}
+use Rattle.trees.specs.Tables.{tabulate, rows, linkRow, stateMap, stateRow, branchState, branchMap, branchRow}
+use Rattle.trees.specs.Tables.{linkTable, stateTable, branchTable}
+
+-- ---- places
+
+-- row v begins after row u has ended
+pub stride : (w u v : ℕ) → u < v → u * w + w ≤ v * w
+stride w u v h = omega (arith, mul-le-mul-right w h)
+
+-- cells of different rows are different
+pub cells-apart : (w u v a b : ℕ) → a < w → b < w → (u ≡ v → ⊥) → u * w + a ≡ v * w + b → ⊥
+cells-apart w u v a b ha hb ne e = elim (decLt u v) [
+  | yes h ↦ omega (arith, stride w u v h)
+  | no h ↦ omega (arith, stride w v u (omega arith))
+]
+
+-- a cell is inside a buffer that has room for the table
+pub cell-in : (w n v k m : ℕ) → v < n → k < w → n * w ≤ m → v * w + k < m
+cell-in w n v k m h l room = omega (arith, stride w v n h)
+
+-- place j is cell `column` of row `row`
+pub record Cell (w n j : ℕ) : Type 0 where
+  pub row : ℕ
+  pub column : ℕ
+  pub row-in : row < n
+  pub column-in : column < w
+  pub is : j ≡ row * w + column
+
+pub cell-split : (w n j : ℕ) → j < n * w → Cell w n j
+cell-split w zero j h = absurd (omega arith)
+cell-split w (suc n) j h = elim (decLt j (n * w)) [
+  | yes l ↦ (let c : Cell w n j = cell-split w n j l in
+      let l : c .row < suc n = omega (arith, c .row-in) in
+      record { row = c .row; column = c .column; row-in = l; column-in = c .column-in; is = c .is })
+  | no l ↦ record { row = n; column = j - n * w; row-in = omega arith; column-in = omega arith; is = omega arith }
+]
+
+-- ---- a list by its entries
+
+pub length-tabulate : (n : ℕ) (f : ℕ → ℕ) → length (tabulate n f) ≡ n
+unfolding tabulate
+length-tabulate zero f = refl
+length-tabulate (suc n) f = length-append (tabulate n f) (f n ∷ []) ∙ omega (arith, length-tabulate n f)
+
+pub getD-tabulate : (n : ℕ) (f : ℕ → ℕ) (j : ℕ) → j < n → getD (tabulate n f) j 0 ≡ f j
+unfolding tabulate
+getD-tabulate zero f j h = absurd (omega arith)
+getD-tabulate (suc n) f j h = elim (ℕ-discrete j n) [
+  | yes e ↦ rw e (subst (λ (k : ℕ). getD (tabulate n f ++ (f n ∷ [])) k 0 ≡ f n) (length-tabulate n f)
+      (getD-append-seam (tabulate n f) (f n) [] 0))
+  | no e ↦ List·getD-append (tabulate n f) (f n ∷ []) 0 j (omega (arith, length-tabulate n f))
+      ∙ getD-tabulate n f j (omega arith)
+]
+
+pub tabulate-ext : (n : ℕ) (f g : ℕ → ℕ) → ((j : ℕ) → j < n → f j ≡ g j) → tabulate n f ≡ tabulate n g
+tabulate-ext n f g e =
+    ext-getD 0 (tabulate n f) (tabulate n g) (length-tabulate n f ∙ sym (length-tabulate n g))
+    (λ j h. each j (omega (arith, length-tabulate n f)))
+  where
+    each : (j : ℕ) → j < n → getD (tabulate n f) j 0 ≡ getD (tabulate n g) j 0
+    each j h = getD-tabulate n f j h ∙ e j h ∙ sym (getD-tabulate n g j h)
+
+-- a list is the table of its entries
+pub tabulate-of : (n : ℕ) (f : ℕ → ℕ) (l : List ℕ) → length l ≡ n → ((j : ℕ) → j < n → getD l j 0 ≡ f j)
+    → l ≡ tabulate n f
+tabulate-of n f l z e =
+    ext-getD 0 l (tabulate n f) (z ∙ sym (length-tabulate n f))
+    (λ j h. e j (omega arith) ∙ sym (getD-tabulate n f j (omega arith)))
+
+-- ---- a table by its cells
+
+pub length-rows : (n w : ℕ) (f : ℕ → List ℕ) → ((v : ℕ) → v < n → length (f v) ≡ w) → length (rows n f) ≡ n * w
+unfolding rows
+length-rows zero w f wide = omega arith
+length-rows (suc n) w f wide =
+    length-append (rows n f) (f n)
+    ∙ omega (arith, length-rows n w f (λ v h. wide v (omega arith)), wide n (omega arith))
+
+pub getD-rows : (n w : ℕ) (f : ℕ → List ℕ) → ((v : ℕ) → v < n → length (f v) ≡ w) → (v k : ℕ) → v < n → k < w
+    → getD (rows n f) (v * w + k) 0 ≡ getD (f v) k 0
+unfolding rows
+getD-rows zero w f wide v k h l = absurd (omega arith)
+getD-rows (suc n) w f wide v k h l =
+    let z : length (rows n f) ≡ n * w = length-rows n w f (λ u q. wide u (omega arith)) in
+    elim (ℕ-discrete v n) [
+      | yes e ↦ rw e (subst (λ (m : ℕ). getD (rows n f ++ f n) (m + k) 0 ≡ getD (f n) k 0) z
+          (getD-append-add (rows n f) (f n) k 0))
+      | no e ↦ List·getD-append (rows n f) (f n) 0 (v * w + k) (omega (arith, stride w v n (omega arith)))
+          ∙ getD-rows n w f (λ u q. wide u (omega arith)) v k (omega arith) l
+    ]
+
+pub rows-ext : (n : ℕ) (f g : ℕ → List ℕ) → ((v : ℕ) → v < n → f v ≡ g v) → rows n f ≡ rows n g
+unfolding rows
+rows-ext zero f g e = refl
+rows-ext (suc n) f g e = rw (rows-ext n f g (λ v h. e v (omega arith)), e n (omega arith))
+
+-- ---- a buffer and a table
+
+module _ (n w : ℕ) (f : ℕ → List ℕ) (wide : (v : ℕ) → v < n → length (f v) ≡ w) where
+  pub take-over : (rest : List ℕ) → take (n * w) (rows n f ++ rest) ≡ rows n f
+  take-over rest = take-at (rows n f) rest (n * w) (length-rows n w f wide)
+
+  pub rows-of-cells : (b : List ℕ) → n * w ≤ length b
+      → ((v k : ℕ) → v < n → k < w → getD b (v * w + k) 0 ≡ getD (f v) k 0)
+      → take (n * w) b ≡ rows n f
+  rows-of-cells b room cells =
+      ext-getD 0 (take (n * w) b) (rows n f) (z ∙ sym (length-rows n w f wide)) (λ j h. each j (omega (arith, z)))
+    where
+      z : length (take (n * w) b) ≡ n * w
+      z = length-take-le (n * w) b room
+
+      each : (j : ℕ) → j < n * w → getD (take (n * w) b) j 0 ≡ getD (rows n f) j 0
+      each j h =
+          let c : Cell w n j = cell-split w n j h in
+          getD-take (n * w) b j 0 h ∙ ap (λ (i : ℕ). getD b i 0) (c .is)
+          ∙ cells (c .row) (c .column) (c .row-in) (c .column-in)
+          ∙ sym (ap (λ (i : ℕ). getD (rows n f) i 0) (c .is)
+          ∙ getD-rows n w f wide (c .row) (c .column) (c .row-in) (c .column-in))
+
+  pub cells-of-rows : (b : List ℕ) → take (n * w) b ≡ rows n f → (v k : ℕ) → v < n → k < w
+      → getD b (v * w + k) 0 ≡ getD (f v) k 0
+  cells-of-rows b e v k h l =
+      sym (getD-take (n * w) b (v * w + k) 0 (cell-in w n v k (n * w) h l (omega arith)))
+      ∙ ap (λ (x : List ℕ). getD x (v * w + k) 0) e ∙ getD-rows n w f wide v k h l
+
+  pub rows-over : (before after : List ℕ) → length after ≡ length before → n * w ≤ length before
+      → ((v k : ℕ) → v < n → k < w → getD after (v * w + k) 0 ≡ getD (f v) k 0)
+      → ((j : ℕ) → n * w ≤ j → getD after j 0 ≡ getD before j 0)
+      → after ≡ rows n f ++ drop (n * w) before
+  rows-over before after e room cells kept = ext-getD 0 after (rows n f ++ drop (n * w) before) len each
+    where
+      z : length (rows n f) ≡ n * w
+      z = length-rows n w f wide
+
+      len : length after ≡ length (rows n f ++ drop (n * w) before)
+      len = sym (length-append (rows n f) (drop (n * w) before) ∙ omega (arith, z, length-drop (n * w) before))
+
+      each : (j : ℕ) → j < length after → getD after j 0 ≡ getD (rows n f ++ drop (n * w) before) j 0
+      each j h = elim (decLt j (n * w)) [
+        | yes l ↦ sym (getD-take (n * w) after j 0 l)
+            ∙ ap (λ (x : List ℕ). getD x j 0) (rows-of-cells after (omega arith) cells)
+            ∙ sym (List·getD-append (rows n f) (drop (n * w) before) 0 j (omega (arith, z)))
+        | no l ↦ (let p : j ≡ length (rows n f) + (j - n * w) = omega (arith, z) in
+            let q : n * w + (j - n * w) ≡ j = omega arith in
+            kept j (omega arith)
+            ∙ sym (ap (λ (i : ℕ). getD (rows n f ++ drop (n * w) before) i 0) p
+            ∙ getD-append-add (rows n f) (drop (n * w) before) (j - n * w) 0
+            ∙ getD-drop (n * w) before (j - n * w) 0 ∙ ap (λ (i : ℕ). getD before i 0) q))
+      ]
+
+-- ---- the rows that Load writes
+
+module _ (t : Tree) (v : ℕ) where
+  pub length-linkRow : length (linkRow t v) ≡ 4
+  length-linkRow = refl
+
+  pub linkRow-parent : getD (linkRow t v) 0 0 ≡ parent t v
+  linkRow-parent = refl
+
+  pub linkRow-jump : getD (linkRow t v) 1 0 ≡ jump t v
+  linkRow-jump = refl
+
+  pub linkRow-depth : getD (linkRow t v) 2 0 ≡ depth t v
+  linkRow-depth = refl
+
+  pub linkRow-size : getD (linkRow t v) 3 0 ≡ size (sub t v)
+  linkRow-size = refl
+
+-- the entry of a map behind its state
+behind : (x n : ℕ) (f : ℕ → ℕ) (q : ℕ) → q < n → getD (x ∷ tabulate n f) (1 + q) 0 ≡ f q
+behind x n f q h = rw (one-add q) (getD-tabulate n f q h)
+
+length-behind : (x n : ℕ) (f : ℕ → ℕ) → length (x ∷ tabulate n f) ≡ n + 1
+length-behind x n f = omega (arith, length-tabulate n f)
+
+module _ (A : Automaton) (t : Tree) (v : ℕ) where
+  pub length-stateRow : length (stateRow A t v) ≡ A .states + 1
+  length-stateRow = length-behind (state A (sub t v)) (A .states) (stateMap A t v)
+
+  pub stateRow-state : getD (stateRow A t v) 0 0 ≡ state A (sub t v)
+  stateRow-state = refl
+
+  pub stateRow-map : (q : ℕ) → q < A .states → getD (stateRow A t v) (1 + q) 0 ≡ stateMap A t v q
+  stateRow-map q h = behind (state A (sub t v)) (A .states) (stateMap A t v) q h
+
+module _ (B : WordAutomaton) (t : Tree) (v : ℕ) where
+  pub length-branchRow : length (branchRow B t v) ≡ B .states + 1
+  length-branchRow = length-behind (branchState B t v) (B .states) (branchMap B t v)
+
+  pub branchRow-state : getD (branchRow B t v) 0 0 ≡ branchState B t v
+  branchRow-state = refl
+
+  pub branchRow-map : (q : ℕ) → q < B .states → getD (branchRow B t v) (1 + q) 0 ≡ branchMap B t v q
+  branchRow-map q h = behind (branchState B t v) (B .states) (branchMap B t v) q h
+
+-- ---- a row from its cells by name
+
+pub linkRow-cells : (t : Tree) (v : ℕ) (b : List ℕ) → getD b (v * 4) 0 ≡ parent t v → getD b (v * 4 + 1) 0 ≡ jump t v
+    → getD b (v * 4 + 2) 0 ≡ depth t v → getD b (v * 4 + 3) 0 ≡ size (sub t v)
+    → (k : ℕ) → k < 4 → getD b (v * 4 + k) 0 ≡ getD (linkRow t v) k 0
+linkRow-cells t v b p j d s zero h = let e : v * 4 + 0 ≡ v * 4 = omega arith in rw e p
+linkRow-cells t v b p j d s (suc zero) h = j
+linkRow-cells t v b p j d s (suc (suc zero)) h = d
+linkRow-cells t v b p j d s (suc (suc (suc zero))) h = s
+linkRow-cells t v b p j d s (suc (suc (suc (suc k)))) h = absurd (omega arith)
+
+-- a state x and a map f behind it: a row of a rule table or of a branch table
+pub mapRow-cells : (n x : ℕ) (f : ℕ → ℕ) (v : ℕ) (b : List ℕ) → getD b (v * (n + 1)) 0 ≡ x
+    → ((q : ℕ) → q < n → getD b (v * (n + 1) + 1 + q) 0 ≡ f q)
+    → (k : ℕ) → k < n + 1 → getD b (v * (n + 1) + k) 0 ≡ getD (x ∷ tabulate n f) k 0
+mapRow-cells n x f v b e m zero h = let z : v * (n + 1) + 0 ≡ v * (n + 1) = omega arith in rw z e
+mapRow-cells n x f v b e m (suc q) h =
+    let z : v * (n + 1) + suc q ≡ v * (n + 1) + 1 + q = omega arith in
+    let l : q < n = omega arith in
+    ap (λ (i : ℕ). getD b i 0) z ∙ m q l ∙ sym (getD-tabulate n f q l)
+
+-- ---- what a table has at a node
+
+module _ (t : Tree) (b : List ℕ) (e : take (size t * 4) b ≡ linkTable t) (v : ℕ) (h : v < size t) where
+  link : (k : ℕ) → k < 4 → getD b (v * 4 + k) 0 ≡ getD (linkRow t v) k 0
+  unfolding linkTable
+  link k l = cells-of-rows (size t) 4 (linkRow t) (λ u q. length-linkRow t u) b e v k h l
+
+  pub linkTable-parent : getD b (v * 4) 0 ≡ parent t v
+  linkTable-parent = let z : v * 4 ≡ v * 4 + 0 = omega arith in ap (λ (i : ℕ). getD b i 0) z ∙ link 0 (omega arith)
+
+  pub linkTable-jump : getD b (v * 4 + 1) 0 ≡ jump t v
+  linkTable-jump = link 1 (omega arith)
+
+  pub linkTable-depth : getD b (v * 4 + 2) 0 ≡ depth t v
+  linkTable-depth = link 2 (omega arith)
+
+  pub linkTable-size : getD b (v * 4 + 3) 0 ≡ size (sub t v)
+  linkTable-size = link 3 (omega arith)
+
+-- a table of states and maps
+module _ (m n : ℕ) (g : ℕ → ℕ) (f : ℕ → ℕ → ℕ) (b : List ℕ)
+    (e : take (m * (n + 1)) b ≡ rows m (λ v. g v ∷ tabulate n (f v))) (v : ℕ) (h : v < m) where
+  mapped : (k : ℕ) → k < n + 1 → getD b (v * (n + 1) + k) 0 ≡ getD (g v ∷ tabulate n (f v)) k 0
+  mapped k l =
+      cells-of-rows m (n + 1) (λ u. g u ∷ tabulate n (f u)) (λ u q. length-behind (g u) n (f u)) b e v k h l
+
+  table-state : getD b (v * (n + 1)) 0 ≡ g v
+  table-state =
+      let z : v * (n + 1) ≡ v * (n + 1) + 0 = omega arith in ap (λ (i : ℕ). getD b i 0) z ∙ mapped 0 (omega arith)
+
+  table-map : (q : ℕ) → q < n → getD b (v * (n + 1) + 1 + q) 0 ≡ f v q
+  table-map q l =
+      let z : v * (n + 1) + 1 + q ≡ v * (n + 1) + (1 + q) = omega arith in
+      ap (λ (i : ℕ). getD b i 0) z ∙ mapped (1 + q) (omega arith) ∙ behind (g v) n (f v) q l
+
+module _ (A : Automaton) (t : Tree) (b : List ℕ) (e : take (size t * (A .states + 1)) b ≡ stateTable A t) (v : ℕ)
+    (h : v < size t) where
+  pub stateTable-state : getD b (v * (A .states + 1)) 0 ≡ state A (sub t v)
+  unfolding stateTable
+  stateTable-state = table-state (size t) (A .states) (λ u. state A (sub t u)) (stateMap A t) b e v h
+
+  pub stateTable-map : (q : ℕ) → q < A .states → getD b (v * (A .states + 1) + 1 + q) 0 ≡ stateMap A t v q
+  unfolding stateTable
+  stateTable-map q l = table-map (size t) (A .states) (λ u. state A (sub t u)) (stateMap A t) b e v h q l
+
+module _ (B : WordAutomaton) (t : Tree) (b : List ℕ) (e : take (size t * (B .states + 1)) b ≡ branchTable B t) (v : ℕ)
+    (h : v < size t) where
+  pub branchTable-state : getD b (v * (B .states + 1)) 0 ≡ branchState B t v
+  unfolding branchTable
+  branchTable-state = table-state (size t) (B .states) (branchState B t) (branchMap B t) b e v h
+
+  pub branchTable-map : (q : ℕ) → q < B .states → getD b (v * (B .states + 1) + 1 + q) 0 ≡ branchMap B t v q
+  unfolding branchTable
+  branchTable-map q l = table-map (size t) (B .states) (branchState B t) (branchMap B t) b e v h q l
