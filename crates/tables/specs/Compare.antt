@@ -4,7 +4,7 @@
 -- rowIs s b v f == whether node v's map in table b of s states is f
 -- nearEntry table base stride q == the rule's value for state q, where the states' values stand `stride` apart from `base` on
 -- farEntry s b p j table base stride q == that value taken on by the maps of node p and then of node j
--- RowArgs, NearArgs, FarArgs == what such a comparison reads lies inside the lent buffers
+-- FarIsArgs == what the comparison with a far map reads lies inside the lent buffers; the others need RowIn and NearArgs (Rows)
 --
 -- Assumes nothing.
 use Prim.Native.Nat.{ℕ, zero, suc, _+_, _*_, _<_}
@@ -13,6 +13,7 @@ use mathlib.Core.List.{List}
 use lib.Dec.{eqb}
 use lib.ListN.{length, getD}
 use Rattle.tables.specs.StateCells.{mapCell}
+use Rattle.tables.specs.Rows.{RowIn}
 
 unfoldable pub every : ℕ → (ℕ → Bool) → Bool
 every zero f = true
@@ -27,18 +28,10 @@ nearEntry table base stride q = getD table (base + q * stride) 0
 abbrev pub farEntry : ℕ → List ℕ → ℕ → ℕ → List ℕ → ℕ → ℕ → ℕ → ℕ
 farEntry s b p j table base stride q = mapCell s b j (mapCell s b p (nearEntry table base stride q))
 
--- node v's row
-pub record RowArgs (s : ℕ) (b : List ℕ) (v : ℕ) : Type 0 where
-  pub inside : v * (s + 1) + s < length b
-
-pub record NearArgs (s : ℕ) (b : List ℕ) (v : ℕ) (table : List ℕ) (base stride : ℕ) : Type 0 where
-  pub row : v * (s + 1) + s < length b
-  pub entries : (q : ℕ) → q < s → base + q * stride < length table
-
-pub record FarArgs (s : ℕ) (b : List ℕ) (v p j : ℕ) (table : List ℕ) (base stride : ℕ) : Type 0 where
-  pub row : v * (s + 1) + s < length b
-  pub first : p * (s + 1) + s < length b
-  pub second : j * (s + 1) + s < length b
-  pub entries : (q : ℕ) → q < s → base + q * stride < length table
+pub record FarIsArgs (s : ℕ) (b : List ℕ) (v p j : ℕ) (table : List ℕ) (base stride : ℕ) : Type 0 where
+  pub room : RowIn (length b) s v
+  pub first : RowIn (length b) s p
+  pub second : RowIn (length b) s j
+  pub inside : (q : ℕ) → q < s → base + q * stride < length table
   pub near-below : (q : ℕ) → q < s → nearEntry table base stride q < s
   pub first-below : (q : ℕ) → q < s → mapCell s b p q < s

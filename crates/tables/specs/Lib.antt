@@ -1,3 +1,4 @@
+pub mod Compare
 pub mod Answers
 pub mod StateCells
-pub mod Compare
+pub mod Rows

@@ -1,10 +1,12 @@
 // Rows of a table of states compared with what they have to be: what the full checks of rule and of branch tables share.
 ghost use mathlib.Core.Path.{_≡_};
-ghost use Rattle.tables.specs.Compare.{rowIs, nearEntry, farEntry, RowArgs, NearArgs, FarArgs};
+ghost use lib.ListN.{length};
+ghost use Rattle.tables.specs.Rows.{RowIn, NearArgs};
+ghost use Rattle.tables.specs.Compare.{rowIs, nearEntry, farEntry, FarIsArgs};
 
 // Whether node v's map is the identity, as the root's has to be.
 pub fn root_row_is(bytes: &[u8], s: usize, v: usize) -> bool
-    requires { ⌜ RowArgs s (now bytes) v ⌝ }
+    requires { ⌜ RowIn (length (now bytes)) s v ⌝ }
     ensures { λ r. ⌜ r ≡ rowIs s (now (bytes .entry)) v (λ q. q) ⌝ }
 {
     let at = v * (s + 1);
@@ -29,7 +31,7 @@ pub fn near_row_is(
     base: usize,
     stride: usize,
 ) -> bool
-    requires { ⌜ NearArgs s (now bytes) v (now table) base stride ⌝ }
+    requires { ⌜ NearArgs (length (now bytes)) s v (length (now table)) base stride ⌝ }
     ensures { λ r. ⌜ r ≡ rowIs s (now (bytes .entry)) v (nearEntry (now (table .entry)) base stride) ⌝ }
 {
     let at = v * (s + 1);
@@ -57,7 +59,7 @@ pub fn far_row_is(
     base: usize,
     stride: usize,
 ) -> bool
-    requires { ⌜ FarArgs s (now bytes) v p j (now table) base stride ⌝ }
+    requires { ⌜ FarIsArgs s (now bytes) v p j (now table) base stride ⌝ }
     ensures { λ r. ⌜ r ≡ rowIs s (now (bytes .entry)) v (farEntry s (now (bytes .entry)) p j (now (table .entry)) base stride) ⌝ }
 {
     let at = v * (s + 1);

@@ -40,15 +40,15 @@ shared-slice-read-x c = search needs
 
 mul-y : tie.Need-mul-y Inv-loop μ-loop
 mul-y c =
-    omega (arith, c .before .before .before .pre .entries (c .before .before .loop .q) (c .before .loop-test .taken))
+    omega (arith, c .before .before .before .pre .inside (c .before .before .loop .q) (c .before .loop-test .taken))
 
 add-y : tie.Need-add-y Inv-loop μ-loop
 add-y c =
-    omega (arith, c .before .before .before .pre .entries (c .before .before .loop .q) (c .before .loop-test .taken))
+    omega (arith, c .before .before .before .pre .inside (c .before .before .loop .q) (c .before .loop-test .taken))
 
 shared-slice-read-y : tie.Need-shared-slice-read-y Inv-loop μ-loop
 shared-slice-read-y c =
-    c .before .before .before .before .pre .entries (c .before .before .before .loop .q) (c .before .before .loop-test .taken)
+    c .before .before .before .before .pre .inside (c .before .before .before .loop .q) (c .before .before .loop-test .taken)
 
 add-q : tie.Need-add-q Inv-loop μ-loop
 add-q c = search needs
