@@ -12,23 +12,9 @@ use native.Mathlib.Numerals.{add-one}
 use native.Mathlib.Omega.{arith}
 use lib.Dec.{eqb}
 use borrow.Author.Tests.{eq-eqb, ne-eqb, eqb-true}
+use Rattle.formats.proofs.CheckLaws.{and-both, and-left, and-right, and-no-right}
 use Rattle.tables.specs.StateCells.{mapCell}
 use Rattle.tables.specs.Compare.{every, rowIs}
-
-pub and-left : (a b : Bool) → (a && b) ≡ true → a ≡ true
-and-left true b e = refl
-and-left false b e = e
-
-pub and-right : (a b : Bool) → (a && b) ≡ true → b ≡ true
-and-right true b e = e
-and-right false b e = absurd (let z : _≡_ {A = ℕ} 0 1 = cc in omega arith)
-
-pub and-both : (a b : Bool) → a ≡ true → b ≡ true → (a && b) ≡ true
-and-both a b p q = rw (p, q)
-
-pub and-not : (a b : Bool) → b ≡ false → (a && b) ≡ false
-and-not true b e = e
-and-not false b e = refl
 
 pub every-all : (n : ℕ) (f : ℕ → Bool) → ((q : ℕ) → q < n → f q ≡ true) → every n f ≡ true
 unfolding every
@@ -47,7 +33,7 @@ pub every-not : (n : ℕ) (f : ℕ → Bool) (q : ℕ) → q < n → f q ≡ fal
 unfolding every
 every-not zero f q h e = absurd (omega arith)
 every-not (suc n) f q h e = elim (ℕ-discrete q n) [
-  | yes z ↦ and-not (every n f) (f n) (ap f (sym z) ∙ e)
+  | yes z ↦ and-no-right (every n f) (f n) (ap f (sym z) ∙ e)
   | no z ↦ rw (every-not n f q (omega arith) e)
 ]
 
@@ -70,7 +56,7 @@ every-same n f g same e h =
 pub every-other : (n : ℕ) (f g : ℕ → ℕ) → (f n ≡ g n → ⊥) → false ≡ every (n + 1) (λ q. eqb (f q) (g q))
 every-other n f g h =
     let t : ℕ → Bool = λ q. eqb (f q) (g q) in
-    sym (every-more n t ∙ and-not (every n t) (t n) (ne-eqb (f n) (g n) h))
+    sym (every-more n t ∙ and-no-right (every n t) (t n) (ne-eqb (f n) (g n) h))
 
 -- ---- rows
 

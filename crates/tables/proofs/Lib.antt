@@ -1,3 +1,4 @@
 pub mod CompareLaws
 pub mod LocalLaws
+pub mod CheckLaws
 pub mod RowTurns
