@@ -1,4 +1,5 @@
 pub mod CompareLaws
 pub mod LocalLaws
 pub mod CheckLaws
+pub mod CheckTheorems
 pub mod RowTurns
