@@ -3,3 +3,4 @@ pub mod LocalLaws
 pub mod CheckLaws
 pub mod CheckTheorems
 pub mod RowTurns
+pub mod StateTurns
