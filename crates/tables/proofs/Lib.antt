@@ -1,6 +1,7 @@
 pub mod CompareLaws
 pub mod LocalLaws
 pub mod CheckLaws
+pub mod CheckStateTurns
 pub mod CheckTheorems
 pub mod RowTurns
 pub mod StateTurns
