@@ -77,7 +77,8 @@ inner-state-requires c κs =
     let a = c .before .before .before .before in
     let s = a .before .before .before .before .before .before .before in
     let g = s .args in
-    inner-args (g .s) (g .k) (g .leaves .now) (g .inner .now) (g .kinds .now) (g .labels .now) (a .loop .v) (g .nums .now) (g .bytes .now) (g .bytes .now)
+    inner-args (g .s) (g .k) (g .leaves .now) (g .inner .now) (g .kinds .now) (g .labels .now)
+    (a .loop .v) (g .nums .now) (g .bytes .now) (g .bytes .now)
     (a .loop .inv .2) (s .pre) refl (c .before .before .before .loop-test .taken) (c .if1 .left)
 
 mul-y : tie.Need-mul-y Inv-loop μ-loop
@@ -91,7 +92,8 @@ returns c =
     let a = c .before .before .before .before .before .before in
     let s = a .before .before .before .before .before .before .before in
     let g = s .args in
-    state-differs (g .s) (g .k) (g .leaves .now) (g .inner .now) (g .kinds .now) (g .labels .now) (g .bytes .now) (a .loop .v) (c .before .before .if1 .x) (written (c .before .before))
+    state-differs (g .s) (g .k) (g .leaves .now) (g .inner .now) (g .kinds .now) (g .labels .now)
+    (g .bytes .now) (a .loop .v) (c .before .before .if1 .x) (written (c .before .before))
     (c .before .before .before .before .before .loop-test .taken) (s .pre .room) (c .if2 .taken)
 
 add-v : tie.Need-add-v Inv-loop μ-loop
@@ -104,15 +106,20 @@ loop-again : tie.Need-loop-again Inv-loop μ-loop
 loop-again c =
     let a = c .before .before .before .before .before .before in
     let s = a .before .before .before .before .before .before .before in
-    let g = s .args in
-    (omega arith, refl, state-same (g .s) (g .k) (g .leaves .now) (g .inner .now) (g .kinds .now) (g .labels .now) (g .bytes .now) (a .loop .v) (c .before .before .if1 .x) (written (c .before .before)) (c .if2 .left))
+    let g = s .args in (
+      omega arith,
+      refl,
+      state-same (g .s) (g .k) (g .leaves .now) (g .inner .now) (g .kinds .now) (g .labels .now)
+          (g .bytes .now) (a .loop .v) (c .before .before .if1 .x) (written (c .before .before)) (c .if2 .left),
+    )
 
 returns-2 : tie.Need-returns-2 Inv-loop μ-loop
 returns-2 c =
     let a = c .before in
     let s = a .before .before .before .before .before .before .before in
     let g = s .args in
-    all-same (g .s) (g .k) (g .leaves .now) (g .inner .now) (g .kinds .now) (g .labels .now) (g .bytes .now) (a .loop .v) (omega arith) (a .loop .inv .2)
+    all-same (g .s) (g .k) (g .leaves .now) (g .inner .now) (g .kinds .now) (g .labels .now)
+    (g .bytes .now) (a .loop .v) (omega arith) (a .loop .inv .2)
 
 pub check-states-spec : {M : Type 1} → statement M
 check-states-spec =
