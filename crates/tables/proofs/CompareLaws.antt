@@ -37,6 +37,11 @@ every-not (suc n) f q h e = elim (ℕ-discrete q n) [
   | no z ↦ rw (every-not n f q (omega arith) e)
 ]
 
+pub every-ext : (n : ℕ) (f g : ℕ → Bool) → ((q : ℕ) → q < n → f q ≡ g q) → every n f ≡ every n g
+unfolding every
+every-ext zero f g e = refl
+every-ext (suc n) f g e = rw (every-ext n f g (λ q h. e q (omega arith)), e n (omega arith))
+
 -- ---- one number more
 
 every-more : (n : ℕ) (f : ℕ → Bool) → every (n + 1) f ≡ (every n f && f n)
@@ -66,3 +71,8 @@ rowIs-map s b v f e q h = eqb-true (mapCell s b v q) (f q) (every-at s (λ x. eq
 pub map-rowIs : (s : ℕ) (b : List ℕ) (v : ℕ) (f : ℕ → ℕ) → ((q : ℕ) → q < s → mapCell s b v q ≡ f q) → rowIs s b v f ≡ true
 map-rowIs s b v f h =
     every-all s (λ x. eqb (mapCell s b v x) (f x)) (λ q l. eq-eqb (mapCell s b v q) (f q) (h q l))
+
+pub rowIs-ext : (s : ℕ) (b : List ℕ) (v : ℕ) (f g : ℕ → ℕ) → ((q : ℕ) → q < s → f q ≡ g q) → rowIs s b v f ≡ rowIs s b v g
+rowIs-ext s b v f g e =
+    every-ext s (λ q. eqb (mapCell s b v q) (f q)) (λ q. eqb (mapCell s b v q) (g q))
+    (λ q h. ap (eqb (mapCell s b v q)) (e q h))
