@@ -6,3 +6,5 @@ pub mod CheckMapTurns
 pub mod CheckTheorems
 pub mod RowTurns
 pub mod StateTurns
+pub mod MapTurns
+pub mod MapPlaces

@@ -2,5 +2,6 @@
 pub mod answers;
 pub mod check_states;
 pub mod compare;
+pub mod maps;
 pub mod rows;
 pub mod states;

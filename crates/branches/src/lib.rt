@@ -1,0 +1,2 @@
+// Branch tables: their build, their full check, and the branch question.
+pub mod answers;
