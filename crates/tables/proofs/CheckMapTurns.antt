@@ -4,10 +4,10 @@
 --     all-maps                     at the end all are
 -- What the build would write at a node is told by the build's own turns (MapTurns).
 -- Assumes nothing.
-use Prim.Native.Nat.{ℕ, _+_, _*_, _≤_, _<_}
-use mathlib.Core.Path.{_≡_, refl, sym, ap, _∙_, subst}
+use Prim.Native.Nat.{ℕ, _+_, _<_}
+use mathlib.Core.Path.{_≡_, refl, sym, ap, _∙_}
 use mathlib.Core.Bool.{Bool, true, false}
-use mathlib.Core.List.{List, []}
+use mathlib.Core.List.{List}
 use native.Mathlib.Omega.{arith}
 use lib.ListN.{length, getD}
 use Rattle.trees.specs.Tree.{Tree, size}
@@ -15,11 +15,10 @@ use Rattle.trees.specs.Tables.{stateMap}
 use Rattle.trees.proofs.NodeLaws.{length-labels}
 use Rattle.trees.proofs.MapLaws.{stateMap-root}
 use Rattle.formats.specs.Rules.{treeAutomaton}
-use Rattle.tables.specs.StateCells.{mapCell}
-use Rattle.tables.specs.Rows.{RowTo, Rowed}
+use Rattle.tables.specs.Rows.{Rowed}
 use Rattle.tables.specs.Compare.{rowIs}
 use Rattle.tables.specs.LocalTables.{mapsAre}
-use Rattle.tables.specs.Maps.{Prepared, Mapped, mapValue, Maps}
+use Rattle.tables.specs.Maps.{Prepared, mapValue, Maps}
 use Rattle.tables.proofs.CompareLaws.{rowIs-map, rowIs-ext}
 use Rattle.tables.proofs.CheckLaws.{maps-yes, maps-no}
 use Rattle.tables.proofs.MapTurns.{map-is, map-start, map-turn}

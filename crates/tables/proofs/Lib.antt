@@ -3,6 +3,7 @@ pub mod LocalLaws
 pub mod CheckLaws
 pub mod CheckStateTurns
 pub mod CheckMapTurns
+pub mod CheckMapPlaces
 pub mod CheckTheorems
 pub mod RowTurns
 pub mod StateTurns
