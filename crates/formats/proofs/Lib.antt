@@ -8,3 +8,5 @@ pub mod InputLaws
 pub mod PlanAnswers
 pub mod TurnLaws
 pub mod RuleAnswers
+pub mod BranchAnswers
+pub mod ListAnswers

@@ -14,7 +14,7 @@ use mathlib.Core.List.{List}
 use lib.Dec.{leb, eqb}
 use lib.ListN.{length, take, drop}
 use Rattle.formats.specs.Bytes.{le32, allBelow}
-use Rattle.formats.specs.Limits.{stateLimit, labelLimit, within}
+use Rattle.formats.specs.Limits.{stateLimit, labelLimit, changeLimit, within}
 use Rattle.formats.specs.Rules.{ruleLength, branchLength}
 use Rattle.formats.specs.Checks.{linkLength, stateLength}
 
@@ -59,6 +59,10 @@ branchShape b s k = eqb (le32 b 8) 16 && (eqb (le32 b 12) (16 + s * k) && eqb (l
 
 abbrev pub branchValues : List ℕ → ℕ → ℕ → Bool
 branchValues b s k = allBelow s (take (s * k) (drop 16 b)) && allBelow 2 (take s (drop (16 + s * k) b))
+
+-- check 12 as a test
+abbrev pub lengthsFit : List ℕ → List ℕ → Bool
+lengthsFit vs bs = eqb (length vs) (length bs) && leb (length vs) changeLimit
 
 -- check 11 as a test
 abbrev pub roomFits : ℕ → ℕ → ℕ → ℕ → Bool

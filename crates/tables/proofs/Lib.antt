@@ -9,3 +9,4 @@ pub mod RowTurns
 pub mod StateTurns
 pub mod MapTurns
 pub mod MapPlaces
+pub mod TableTurns

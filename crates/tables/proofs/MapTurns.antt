@@ -29,7 +29,7 @@ use Rattle.tables.proofs.RowTurns.{row-other, row-state}
 use Rattle.tables.proofs.StateTurns.{rules-below}
 
 -- a state byte is in no map
-state-no-map : (s n u : ℕ) → NoMap s n (u * (s + 1))
+pub state-no-map : (s n u : ℕ) → NoMap s n (u * (s + 1))
 state-no-map s n u v q h l e = elim (ℕ-discrete u v) [
   | yes p ↦ (let z : u * (s + 1) ≡ v * (s + 1) = rw p in omega arith)
   | no p ↦ cells-apart (s + 1) u v 0 (1 + q) (omega arith) (omega arith) p (omega arith)

@@ -5,3 +5,4 @@ pub mod StateCells
 pub mod Rows
 pub mod States
 pub mod Maps
+pub mod Written

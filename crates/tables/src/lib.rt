@@ -6,3 +6,4 @@ pub mod compare;
 pub mod maps;
 pub mod rows;
 pub mod states;
+pub mod tables;
