@@ -4,6 +4,7 @@ pub mod CheckLaws
 pub mod CheckStateTurns
 pub mod CheckMapTurns
 pub mod CheckMapPlaces
+pub mod CheckTableTurns
 pub mod CheckTheorems
 pub mod RowTurns
 pub mod StateTurns
