@@ -10,3 +10,4 @@ pub mod TurnLaws
 pub mod RuleAnswers
 pub mod BranchAnswers
 pub mod ListAnswers
+pub mod InputAnswers

@@ -15,6 +15,7 @@ use lib.Dec.{leb, eqb}
 use lib.ListN.{length, take, drop}
 use Rattle.formats.specs.Bytes.{le32, allBelow}
 use Rattle.formats.specs.Limits.{stateLimit, labelLimit, changeLimit, within}
+use Rattle.formats.specs.Plan.{nodeCount}
 use Rattle.formats.specs.Rules.{ruleLength, branchLength}
 use Rattle.formats.specs.Checks.{linkLength, stateLength}
 
@@ -72,3 +73,8 @@ roomFits n s nums bytes = leb (linkLength n) nums && leb (stateLength n s) bytes
 pub record Sizes (n s : ℕ) : Type 0 where
   pub nodes : n ≤ 65535
   pub states : s ≤ 16
+
+-- the plan's labels are there whole, and K is at most its limit
+pub record Labelled (p : List ℕ) (k : ℕ) : Type 0 where
+  pub long : 12 + nodeCount p ≤ length p
+  pub labels : k ≤ 64

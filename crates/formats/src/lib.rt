@@ -9,6 +9,7 @@
 // A check answers the number of the first question that is answered with no, and 0 where none is.
 pub mod branch;
 pub mod bytes;
+pub mod inputs;
 pub mod limits;
 pub mod lists;
 pub mod plan;
