@@ -1,6 +1,11 @@
 // The full check of a lent table of states, and of both tables of a plan and a rule table.
+use crate::answers::Checking;
 use crate::check_maps::check_maps;
 use crate::check_states::check_states;
+use formats::bytes::read32;
+use formats::inputs::check_build;
+use formats::rules::inner_count;
+use links::check::check_links;
 ghost use mathlib.Core.Path.{_≡_};
 ghost use mathlib.Core.List.{List};
 ghost use Prim.Native.Nat.{ℕ};
@@ -9,8 +14,10 @@ ghost use Rattle.trees.specs.Tree.{Tree, kindsOf, labelsOf};
 ghost use Rattle.trees.specs.Tables.{stateTable};
 ghost use Rattle.formats.specs.Bytes.{sameList};
 ghost use Rattle.formats.specs.Rules.{treeAutomaton};
-ghost use Rattle.formats.specs.Checks.{stateLength};
-ghost use Rattle.tables.specs.Written.{TableArgs};
+ghost use Rattle.formats.specs.Checks.{firstNo, buildChecks, stateLength};
+ghost use Rattle.formats.specs.Built.{builtLinks, builtStates};
+ghost use Rattle.tables.specs.Written.{TableArgs, Passed};
+ghost use Rattle.tables.specs.Answers.{sameTables, CheckDone};
 
 // Whether the buffer begins with the state table of the tree with these kinds and labels.
 pub fn check_table(
@@ -30,4 +37,43 @@ pub fn check_table(
         return false;
     }
     check_maps(labels, nums, inner, s, k, bytes)
+}
+
+// Whether both buffers begin with the tables of a plan and a rule table that pass their checks. Labels, kinds and states are handed
+// on as parts.
+fn both_match(plan: &[u8], rules: &[u8], nums: &[u16], bytes: &[u8]) -> bool
+    requires { ⌜ Passed (now plan) (now rules) (now nums) (now bytes) ⌝ }
+    ensures { λ r. ⌜ r ≡ sameTables (builtLinks (now (plan .entry))) (builtStates (now (plan .entry)) (now (rules .entry))) (now (nums .entry)) (now (bytes .entry)) ⌝ }
+{
+    let n = read32(plan, 0);
+    let s = read32(rules, 0);
+    let k = read32(rules, 4);
+    let end = 20 + k + inner_count(s, k);
+    if !check_links(&plan[12 + n..], nums) {
+        return false;
+    }
+    check_table(
+        &plan[12 + n..],
+        &plan[12..12 + n],
+        nums,
+        &rules[20..20 + k],
+        &rules[20 + k..end],
+        s,
+        k,
+        bytes,
+    )
+}
+
+// The full check: 2 to 11, then whether the lent tables are what the build writes. Nothing is written.
+pub fn check_rules(plan: &[u8], rules: &[u8], nums: &[u16], bytes: &[u8]) -> Checking
+    ensures { λ r. ⌜ CheckDone (firstNo (buildChecks (now (plan .entry)) (now (rules .entry)) (length (now (nums .entry))) (length (now (bytes .entry))))) (builtLinks (now (plan .entry))) (builtStates (now (plan .entry)) (now (rules .entry))) (now (nums .entry)) (now (bytes .entry)) r ⌝ }
+{
+    let no = check_build(plan, rules, nums.len(), bytes.len());
+    if no != 0 {
+        return Checking::Refused(no);
+    }
+    if both_match(plan, rules, nums, bytes) {
+        return Checking::Yes;
+    }
+    Checking::No
 }
