@@ -11,3 +11,4 @@ pub mod StateTurns
 pub mod MapTurns
 pub mod MapPlaces
 pub mod TableTurns
+pub mod BuildLaws
