@@ -105,6 +105,25 @@ module _ (p r nums bytes : List ℕ) where
       length-stateTable (ruleAutomaton r) (planTree p)
       ∙ ap (λ (n : ℕ). stateLength n (stateCount r)) (size-planTree p (rule-table-passes p r pass .0))
 
+  -- the three answers
+  pub refused : (n : ℕ) → n ≡ buildNumber p r nums bytes → (n ≡ 0 → ⊥)
+      → CheckDone (buildNumber p r nums bytes) (builtLinks p) (builtStates p r) nums bytes (Refused n)
+  refused n e h =
+      check-done (buildNumber p r nums bytes) (builtLinks p) (builtStates p r) nums bytes (Refused n)
+      (rw e (sym (refused-told (buildNumber p r nums bytes) (beginBuilt p r nums bytes) (λ z. h (e ∙ z)))))
+
+  pub matches : buildNumber p r nums bytes ≡ 0 → (same : Bool) → same ≡ beginBuilt p r nums bytes → same ≡ true
+      → CheckDone (buildNumber p r nums bytes) (builtLinks p) (builtStates p r) nums bytes Yes
+  matches pass same e h =
+      check-done (buildNumber p r nums bytes) (builtLinks p) (builtStates p r) nums bytes Yes
+      (sym (yes-told (buildNumber p r nums bytes) (beginBuilt p r nums bytes) pass (sym e ∙ h)))
+
+  pub differs : buildNumber p r nums bytes ≡ 0 → (same : Bool) → same ≡ beginBuilt p r nums bytes → same ≡ false
+      → CheckDone (buildNumber p r nums bytes) (builtLinks p) (builtStates p r) nums bytes No
+  differs pass same e h =
+      check-done (buildNumber p r nums bytes) (builtLinks p) (builtStates p r) nums bytes No
+      (sym (no-told (buildNumber p r nums bytes) (beginBuilt p r nums bytes) pass (sym e ∙ h)))
+
   -- the test says yes exactly where the tables are as built
   pub same-built : firstNo (ruleTableChecks p r) ≡ 0 → beginBuilt p r nums bytes ≡ true → AsBuilt p r nums bytes
   unfolding sameTables

@@ -5,6 +5,7 @@ pub mod CheckStateTurns
 pub mod CheckMapTurns
 pub mod CheckMapPlaces
 pub mod CheckTableTurns
+pub mod CheckBothTurns
 pub mod CheckTheorems
 pub mod RowTurns
 pub mod StateTurns

@@ -16,7 +16,7 @@ ghost use Rattle.formats.specs.Bytes.{sameList};
 ghost use Rattle.formats.specs.Rules.{treeAutomaton};
 ghost use Rattle.formats.specs.Checks.{firstNo, buildChecks, stateLength};
 ghost use Rattle.formats.specs.Built.{builtLinks, builtStates};
-ghost use Rattle.tables.specs.Written.{TableArgs, Passed};
+ghost use Rattle.tables.specs.Written.{BuildArgs, TableArgs};
 ghost use Rattle.tables.specs.Answers.{sameTables, CheckDone};
 
 // Whether the buffer begins with the state table of the tree with these kinds and labels.
@@ -41,17 +41,22 @@ pub fn check_table(
 
 // Whether both buffers begin with the tables of a plan and a rule table that pass their checks. Labels, kinds and states are handed
 // on as parts.
-fn both_match(plan: &[u8], rules: &[u8], nums: &[u16], bytes: &[u8]) -> bool
-    requires { ⌜ Passed (now plan) (now rules) (now nums) (now bytes) ⌝ }
+fn both_match(
+    plan: &[u8],
+    rules: &[u8],
+    n: usize,
+    s: usize,
+    k: usize,
+    nums: &[u16],
+    bytes: &[u8],
+) -> bool
+    requires { ⌜ BuildArgs (now plan) (now rules) n s k (now nums) (now bytes) ⌝ }
     ensures { λ r. ⌜ r ≡ sameTables (builtLinks (now (plan .entry))) (builtStates (now (plan .entry)) (now (rules .entry))) (now (nums .entry)) (now (bytes .entry)) ⌝ }
 {
-    let n = read32(plan, 0);
-    let s = read32(rules, 0);
-    let k = read32(rules, 4);
-    let end = 20 + k + inner_count(s, k);
     if !check_links(&plan[12 + n..], nums) {
         return false;
     }
+    let end = 20 + k + inner_count(s, k);
     check_table(
         &plan[12 + n..],
         &plan[12..12 + n],
@@ -66,13 +71,16 @@ fn both_match(plan: &[u8], rules: &[u8], nums: &[u16], bytes: &[u8]) -> bool
 
 // The full check: 2 to 11, then whether the lent tables are what the build writes. Nothing is written.
 pub fn check_rules(plan: &[u8], rules: &[u8], nums: &[u16], bytes: &[u8]) -> Checking
-    ensures { λ r. ⌜ CheckDone (firstNo (buildChecks (now (plan .entry)) (now (rules .entry)) (length (now (nums .entry))) (length (now (bytes .entry))))) (builtLinks (now (plan .entry))) (builtStates (now (plan .entry)) (now (rules .entry))) (now (nums .entry)) (now (bytes .entry)) r ⌝ }
+    ensures { λ a. ⌜ CheckDone (firstNo (buildChecks (now (plan .entry)) (now (rules .entry)) (length (now (nums .entry))) (length (now (bytes .entry))))) (builtLinks (now (plan .entry))) (builtStates (now (plan .entry)) (now (rules .entry))) (now (nums .entry)) (now (bytes .entry)) a ⌝ }
 {
-    let no = check_build(plan, rules, nums.len(), bytes.len());
-    if no != 0 {
-        return Checking::Refused(no);
+    let refused = check_build(plan, rules, nums.len(), bytes.len());
+    if refused != 0 {
+        return Checking::Refused(refused);
     }
-    if both_match(plan, rules, nums, bytes) {
+    let n = read32(plan, 0);
+    let s = read32(rules, 0);
+    let k = read32(rules, 4);
+    if both_match(plan, rules, n, s, k, nums, bytes) {
         return Checking::Yes;
     }
     Checking::No
