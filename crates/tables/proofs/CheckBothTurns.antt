@@ -21,7 +21,7 @@ use Rattle.formats.proofs.InputLaws.{build-passes}
 use Rattle.tables.specs.Answers.{sameTables}
 use Rattle.tables.specs.Written.{TableArgs, BuildArgs}
 use Rattle.tables.proofs.BuildLaws.{length-builtLinks, length-builtStates, table-args-of}
-use Rattle.tables.proofs.CheckTableTurns.{TableTold}
+use Rattle.tables.specs.Compared.{TableTold}
 
 -- what the check of links tells its caller
 abbrev pub LinksTold : List ℕ → List ℕ → Bool → Type 0

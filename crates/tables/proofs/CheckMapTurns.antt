@@ -17,16 +17,11 @@ use Rattle.trees.proofs.MapLaws.{stateMap-root}
 use Rattle.formats.specs.Rules.{treeAutomaton}
 use Rattle.tables.specs.Rows.{Rowed}
 use Rattle.tables.specs.Compare.{rowIs}
-use Rattle.tables.specs.LocalTables.{mapsAre}
+use Rattle.tables.specs.Compared.{MapsTold}
 use Rattle.tables.specs.Maps.{Prepared, mapValue, Maps}
 use Rattle.tables.proofs.CompareLaws.{rowIs-map, rowIs-ext}
 use Rattle.tables.proofs.CheckLaws.{maps-yes, maps-no}
 use Rattle.tables.proofs.MapTurns.{map-is, map-start, map-turn}
-
--- what the check tells its caller
-abbrev pub MapsTold : List ℕ → List ℕ → List ℕ → ℕ → ℕ → List ℕ → Bool → Type 0
-MapsTold ls nums inn s k b r =
-    (lv mk : List ℕ) (t : Tree) → Prepared s k lv inn mk t ls nums b → r ≡ mapsAre (treeAutomaton s k lv inn mk) t b
 
 -- a row that is already what would be written
 kept-row : (s : ℕ) (b : List ℕ) (v : ℕ) (f : ℕ → ℕ) → rowIs s b v f ≡ true → Rowed s f v b b

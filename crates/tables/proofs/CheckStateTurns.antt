@@ -19,13 +19,8 @@ use Rattle.formats.specs.Rules.{treeAutomaton}
 use Rattle.links.proofs.UpTurns.{size-of}
 use Rattle.tables.specs.StateCells.{stateCell}
 use Rattle.tables.specs.States.{Runs}
-use Rattle.tables.specs.LocalTables.{statesAre}
+use Rattle.tables.specs.Compared.{StatesTold}
 use Rattle.tables.proofs.CheckLaws.{states-yes, states-no}
-
--- what the check tells its caller
-abbrev pub StatesTold : ℕ → ℕ → List ℕ → List ℕ → List ℕ → List ℕ → List ℕ → Bool → Type 0
-StatesTold s k lv inn ks ls b r =
-    (mk : List ℕ) (t : Tree) → kindsOf t ≡ ks → labelsOf t ≡ ls → r ≡ statesAre (treeAutomaton s k lv inn mk) t b
 
 module _ (s k : ℕ) (lv inn ks ls b : List ℕ) where
   pub states-start : Runs s k lv inn ks ls 0 b b
