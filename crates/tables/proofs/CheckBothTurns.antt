@@ -12,10 +12,11 @@ use Rattle.trees.specs.Tables.{linkTable}
 use Rattle.formats.specs.Bytes.{sameList}
 use Rattle.formats.specs.Plan.{nodeCount, labelsIn, kindsIn, planTree}
 use Rattle.formats.specs.Rules.{stateCount, labelCount, leafStates, innerStates, ruleMarks}
-use Rattle.formats.specs.Checks.{linkLength, stateLength}
+use Rattle.formats.specs.Checks.{linkLength}
 use Rattle.formats.specs.Built.{builtLinks, builtStates}
 use Rattle.formats.proofs.ListLaws.{sameList-true}
-use Rattle.formats.proofs.PlanLaws.{PlanPasses, length-kindsIn, kinds-planTree, labels-planTree, labels-part, kinds-part}
+use Rattle.formats.proofs.PlanLaws.{PlanPasses, length-kindsIn, kinds-planTree, labels-planTree}
+use Rattle.formats.proofs.PlanLaws.{labels-part, kinds-part}
 use Rattle.formats.proofs.RuleLaws.{leaves-part, inner-part}
 use Rattle.formats.proofs.InputLaws.{build-passes}
 use Rattle.tables.specs.Answers.{sameTables}
@@ -40,7 +41,8 @@ module _ (p r nums bytes : List ℕ) (P : PlanPasses p) where
       → x ≡ sameList (take (length (builtStates p r)) bytes) (builtStates p r)
   states-in x told =
       let n : length (kindsIn p) ≡ nodeCount p = length-kindsIn p P in
-      rw (length-builtStates p P r) (rw n at (told (ruleMarks r) (planTree p) (kinds-planTree p P) (labels-planTree p P)))
+      rw (length-builtStates p P r)
+      (rw n at (told (ruleMarks r) (planTree p) (kinds-planTree p P) (labels-planTree p P)))
 
   pub links-fail-in : LinksTold (kindsIn p) nums false → false ≡ sameTables (builtLinks p) (builtStates p r) nums bytes
   unfolding sameTables
@@ -70,7 +72,8 @@ module _ (p r nums bytes : List ℕ) (n s k : ℕ) (B : BuildArgs p r n s k nums
       → false ≡ sameTables (builtLinks p) (builtStates p r) nums bytes
   links-fail told = links-fail-in p r nums bytes plan-passed (rw kinds-are at told)
 
-  module _ (links : LinksTold (take (length p - (12 + n)) (drop (12 + n) p)) nums true) (c : ℕ) (e : c ≡ s * k * s) where
+  module _ (links : LinksTold (take (length p - (12 + n)) (drop (12 + n) p)) nums true) (c : ℕ)
+      (e : c ≡ s * k * s) where
     links-there : (t : Tree) → kindsOf t ≡ take (length p - (12 + n)) (drop (12 + n) p)
         → nums ≡ linkTable t ++ drop (linkLength (length (take (length p - (12 + n)) (drop (12 + n) p)))) nums
     links-there t d =
@@ -78,7 +81,8 @@ module _ (p r nums bytes : List ℕ) (n s k : ℕ) (B : BuildArgs p r n s k nums
         sym (take-append-drop m nums)
         ∙ ap (λ (l : List ℕ). l ++ drop m nums) (sameList-true (take m nums) (linkTable t) (sym (links t d)))
 
-    pub check-table-args : TableArgs (take (length p - (12 + n)) (drop (12 + n) p)) (take (12 + n - 12) (drop 12 p)) nums
+    pub check-table-args : TableArgs (take (length p - (12 + n)) (drop (12 + n) p)) (take (12 + n - 12) (drop 12 p))
+        nums
         (take (20 + k - 20) (drop 20 r)) (take (20 + k + c - (20 + k)) (drop (20 + k) r)) s k (length bytes)
     check-table-args = table-args-of p r nums bytes n s k B nums refl links-there c e
 
@@ -88,4 +92,5 @@ module _ (p r nums bytes : List ℕ) (n s k : ℕ) (B : BuildArgs p r n s k nums
         → x ≡ sameTables (builtLinks p) (builtStates p r) nums bytes
     table-tells x told =
         table-tells-in p r nums bytes plan-passed x (rw kinds-are at links)
-        (rw (kinds-are, labels-part p n (B .nodes), leaves-part r k (B .labels), inner-are c e, B .states, B .labels) at told)
+        (let leaves : take (20 + k - 20) (drop 20 r) ≡ leafStates r = leaves-part r k (B .labels) in
+        rw (kinds-are, labels-part p n (B .nodes), leaves, inner-are c e, B .states, B .labels) at told)

@@ -1,5 +1,6 @@
 -- The tests of a whole table: what statesAre and mapsAre tell, and that together they test for the built table.
---     states-yes, states-no, states-told   all state bytes are the run's; maps-yes, maps-no, maps-told  all maps are those to the jumps
+--     states-yes, states-no, states-told   all state bytes are the run's
+--     maps-yes, maps-no, maps-told         all maps are those to the jumps
 --     table-same                           a buffer begins with the built table exactly where both tests say so
 -- Assumes nothing.
 use Prim.Native.Nat.{ℕ, _+_, _*_, _≤_, _<_}
@@ -54,7 +55,9 @@ module _ (A : Automaton) (t : Tree) (b : List ℕ) where
 
   pub maps-told : mapsAre A t b ≡ true → MapsFrom A t b 0
   unfolding mapsAre
-  maps-told e v l h = rowIs-map (A .states) b v (stateMap A t v) (every-at (size t) (λ u. rowIs (A .states) b u (stateMap A t u)) e v h)
+  maps-told e v l h =
+      rowIs-map (A .states) b v (stateMap A t v)
+      (every-at (size t) (λ u. rowIs (A .states) b u (stateMap A t u)) e v h)
 
   pub table-same : size t * (A .states + 1) ≤ length b
       → sameList (take (size t * (A .states + 1)) b) (stateTable A t) ≡ (statesAre A t b && mapsAre A t b)

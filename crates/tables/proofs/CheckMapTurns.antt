@@ -6,7 +6,7 @@
 -- Assumes nothing.
 use Prim.Native.Nat.{ℕ, _+_, _<_}
 use mathlib.Core.Path.{_≡_, refl, sym, ap, _∙_}
-use mathlib.Core.Bool.{Bool, true, false}
+use mathlib.Core.Bool.{true, false}
 use mathlib.Core.List.{List}
 use native.Mathlib.Omega.{arith}
 use lib.ListN.{length, getD}
@@ -43,7 +43,8 @@ module _ (ls nums inn : List ℕ) (s k : ℕ) (b : List ℕ) where
         (rowIs-ext s b v (stateMap (treeAutomaton s k lv inn mk) t v) (λ q. q)
         (λ q l. stateMap-root (treeAutomaton s k lv inn mk) t v q z) ∙ e))
 
-  module _ (v : ℕ) (h : v + 1 < length ls) (all : Maps ls nums inn s k (v + 1) b b) (below : (j : ℕ) → getD inn j 0 < s) where
+  module _ (v : ℕ) (h : v + 1 < length ls) (all : Maps ls nums inn s k (v + 1) b b)
+      (below : (j : ℕ) → getD inn j 0 < s) where
     pub map-same : rowIs s b v (mapValue ls nums inn s k b v) ≡ true → Maps ls nums inn s k v b b
     map-same e lv mk t P =
         map-turn s k lv inn mk t ls nums b P b v (omega (arith, size-is lv mk t P)) (all lv mk t P) below b

@@ -1,17 +1,16 @@
 -- The turns of the loop that compares the state bytes with the run.
---     state-same      where node i's byte is what the build would write, the bytes of the nodes below i + 1 are the run's
+--     state-same      where node i's byte is what the build would write, the bytes up to node i's are the run's
 --     state-differs   where it is not, the table is not the run's
 --     all-same        at the end all are
 -- What the build would write at node i is told by the build's own turns (StateTurns).
 -- Assumes nothing.
 use Prim.Native.Nat.{ℕ, _+_, _*_, _≤_, _<_}
 use mathlib.Core.Path.{_≡_, refl, sym, ap, _∙_, subst}
-use mathlib.Core.Bool.{Bool, true, false}
+use mathlib.Core.Bool.{true, false}
 use mathlib.Core.List.{List}
 use native.Mathlib.Omega.{arith}
 use lib.ListN.{length, getD, set}
 use lib.Seq.{set-getD, getD-set-same}
-use Rattle.trees.specs.Tree.{Tree, kindsOf, labelsOf}
 use Rattle.trees.specs.Automaton.{state}
 use Rattle.trees.specs.Numbering.{sub}
 use Rattle.trees.proofs.RowLaws.{stride}

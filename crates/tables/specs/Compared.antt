@@ -3,7 +3,7 @@
 -- StatesTold s k lv inn ks ls b r == r is whether all state bytes of b are the run's
 -- MapsTold ls nums inn s k b r == r is whether all maps of b are those to the jumps
 -- TableTold s k lv inn ks ls b r == r is whether b begins with the table of states
--- each for the tree of kinds ks and labels ls and the rules of leaf states lv and inner states inn, whatever the marks are;
+-- each for the tree of kinds ks and labels ls and the rules of leaf states lv and inner states inn, whatever the marks;
 -- MapsTold for the tree and the rule tables that the table is prepared for
 --
 -- Assumes nothing.

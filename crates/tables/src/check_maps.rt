@@ -33,7 +33,7 @@ fn map_is(
     far_row_is(bytes, s, v, p, nums[p * 4 + 1] as usize, inner, base, step)
 }
 
-// Whether each node's map is the one to its jump. Where one is not, those below are not looked at: they would be read from it.
+// Whether each node's map is the one to its jump. Those below a wrong one are not looked at: they would be read from it.
 pub fn check_maps(
     labels: &[u8],
     nums: &[u16],

@@ -4,7 +4,7 @@ ghost use lib.ListN.{length};
 ghost use Rattle.tables.specs.States.{StateArgs};
 ghost use Rattle.tables.specs.Compared.{StatesTold};
 
-// Whether each node's state byte is the run's. Where one is not, those after it are not looked at: they would be read from it.
+// Whether each node's state byte is the run's. Those after a wrong one are not looked at: they would be read from it.
 pub fn check_states(
     kinds: &[u8],
     labels: &[u8],

@@ -7,15 +7,9 @@ use lib.ListN.{length, take, drop}
 use borrow.Author.Tests.{not-true, not-false}
 use Rattle.tables.proofs.BuildLaws.{link-args-of}
 use Rattle.tables.proofs.CheckBothTurns.{LinksTold, links-fail, check-table-args, table-tells}
-use native.Mathlib.Omega.{arith}
 use borrow.Author.Needs.{needs}
 use Rattle.tables.proofs.check.both_match.Statement.{statement}
 use Rattle.tables.proofs.check.both_match.Tie as tie
-use Rattle.tables.proofs.check.both_match.Reads as reads
-use Rattle.tables.proofs.check.both_match.Lts as lts
-use Rattle.formats.proofs.rules.inner_count.Reads as inner-count-reads
-use Rattle.links.proofs.check.check_links.Reads as check-links-reads
-use Rattle.tables.proofs.check.check_table.Reads as check-table-reads
 
 -- the links are the tree's where the first check says yes
 linked : (c : tie.Else1)

@@ -1,36 +1,29 @@
 -- `check::check_rules` meets its contract.
 -- Assumes nothing.
-use Prim.Native.Nat.{ℕ, _≤_}
-use mathlib.Core.Path.{_≡_, sym, _∙_}
-use mathlib.Core.Bool.{true}
+use mathlib.Core.Path.{sym, _∙_}
 use lib.ListN.{length}
-use Rattle.formats.specs.Plan.{nodeCount, labelsIn}
-use Rattle.formats.specs.Rules.{stateCount, labelCount}
-use Rattle.formats.specs.Bytes.{allBelow}
-use Rattle.formats.specs.Checks.{linkLength, stateLength}
 use Rattle.formats.proofs.PlanLaws.{PlanPasses}
 use Rattle.formats.proofs.RuleLaws.{RulesPass}
 use Rattle.formats.proofs.InputLaws.{build-passes}
+use Rattle.formats.specs.Built.{builtLinks, builtStates}
 use Rattle.tables.specs.Written.{Passed}
 use Rattle.tables.proofs.BuildLaws.{build-args}
-use Rattle.tables.proofs.CheckTheorems.{refused, matches, differs}
+use Rattle.tables.proofs.CheckTheorems.{buildNumber}
+use Rattle.tables.proofs.CheckAnswers.{check-refused, check-matches, check-differs}
 use native.Mathlib.Omega.{arith}
 use borrow.Author.Needs.{needs}
 use Rattle.tables.proofs.check.check_rules.Statement.{statement}
 use Rattle.tables.proofs.check.check_rules.Tie as tie
-use Rattle.tables.proofs.check.check_rules.Reads as reads
-use Rattle.tables.proofs.check.check_rules.Lts as lts
-use Rattle.formats.proofs.bytes.read32.Reads as read32-reads
-use Rattle.formats.proofs.inputs.check_build.Reads as check-build-reads
-use Rattle.tables.proofs.check.both_match.Reads as both-match-reads
 
 -- where no number is given all checks pass
 ok : (c : tie.Else1)
-    → (let g = c .before .before .before .before .before .before .args in Passed (g .plan .now) (g .rules .now) (g .nums .now) (g .bytes .now))
+    → (let g = c .before .before .before .before .before .before .args in
+    Passed (g .plan .now) (g .rules .now) (g .nums .now) (g .bytes .now))
 ok c = sym (c .before .check-build .ensures) ∙ c .if1 .left
 
 passes : (c : tie.Else1)
-    → (let g = c .before .before .before .before .before .before .args in PlanPasses (g .plan .now) × RulesPass (g .rules .now))
+    → (let g = c .before .before .before .before .before .before .args in
+    PlanPasses (g .plan .now) × RulesPass (g .rules .now))
 passes c =
     let g = c .before .before .before .before .before .before .args in
     let a = build-passes (g .plan .now) (g .rules .now) (length (g .nums .now)) (length (g .bytes .now)) (ok c) in
@@ -43,10 +36,12 @@ returns : tie.Need-returns
 returns c =
     let g = c .before .before .before .before .before .before .args in
     let r = c .before .check-build in
-    refused (g .plan .now) (g .rules .now) (g .nums .now) (g .bytes .now) (r .result) (r .ensures) (c .if1 .taken)
+    check-refused (buildNumber (g .plan .now) (g .rules .now) (g .nums .now) (g .bytes .now))
+    (builtLinks (g .plan .now)) (builtStates (g .plan .now) (g .rules .now)) (g .nums .now) (g .bytes .now)
+    (r .result) (r .ensures) (c .if1 .taken)
 
 read32-requires : tie.Need-read32-requires
-read32-requires c κs = omega (arith, passes (c) .0 .long)
+read32-requires c κs = omega (arith, passes c .0 .long)
 
 read32-requires-2 : tie.Need-read32-requires-2
 read32-requires-2 c κs = omega (arith, passes (c .before) .1 .long)
@@ -59,17 +54,24 @@ both-match-requires c κs =
     let g = c .before .before .before .before .before .before .before .before .before .args in
     build-args (g .plan .now) (g .rules .now) (g .nums .now) (g .bytes .now)
     (c .before .before .read32 .result) (c .before .read322 .result) (c .read323 .result)
-    (ok (c .before .before .before)) (c .before .before .read32 .ensures) (c .before .read322 .ensures) (c .read323 .ensures)
+    (ok (c .before .before .before))
+    (c .before .before .read32 .ensures) (c .before .read322 .ensures) (c .read323 .ensures)
 
 returns-2 : tie.Need-returns-2
 returns-2 c =
     let g = c .before .before .before .before .before .before .before .before .before .before .before .args in
-    matches (g .plan .now) (g .rules .now) (g .nums .now) (g .bytes .now) (ok (c .before .before .before .before .before)) (c .before .both-match .result) (c .before .both-match .ensures) (c .if2 .taken)
+    let r = c .before .both-match in
+    check-matches (buildNumber (g .plan .now) (g .rules .now) (g .nums .now) (g .bytes .now))
+    (builtLinks (g .plan .now)) (builtStates (g .plan .now) (g .rules .now)) (g .nums .now) (g .bytes .now)
+    (ok (c .before .before .before .before .before)) (r .result) (r .ensures) (c .if2 .taken)
 
 returns-3 : tie.Need-returns-3
 returns-3 c =
     let g = c .before .before .before .before .before .before .before .before .before .before .before .args in
-    differs (g .plan .now) (g .rules .now) (g .nums .now) (g .bytes .now) (ok (c .before .before .before .before .before)) (c .before .both-match .result) (c .before .both-match .ensures) (c .if2 .left)
+    let r = c .before .both-match in
+    check-differs (buildNumber (g .plan .now) (g .rules .now) (g .nums .now) (g .bytes .now))
+    (builtLinks (g .plan .now)) (builtStates (g .plan .now) (g .rules .now)) (g .nums .now) (g .bytes .now)
+    (ok (c .before .before .before .before .before)) (r .result) (r .ensures) (c .if2 .left)
 
 pub check-rules-spec : {M : Type 1} → statement M
 check-rules-spec =
