@@ -51,7 +51,8 @@ module _ (ks ls b lv inn : List ℕ) (s k : ℕ) (e st : List ℕ) (args : Table
 
   pub map-args : length st ≡ length e → MapArgs ls b inn s k st
   map-args same =
-      let T : (t : Tree) × (kindsOf t ≡ ks) × (labelsOf t ≡ ls) = postorder-tree ks ls (args .run .count) (args .run .postorder) in
+      let T : (t : Tree) × (kindsOf t ≡ ks) × (labelsOf t ≡ ls) = postorder-tree ks ls (args .run .count)
+      (args .run .postorder) in
       record {
         leaves = lv;
         tree = T .0;
@@ -63,12 +64,14 @@ module _ (ks ls b lv inn : List ℕ) (s k : ℕ) (e st : List ℕ) (args : Table
         room = rw (args .run .count, same) (args .run .room);
       }
 
-  pub states-over : (after : List ℕ) → length after ≡ length e → Maps ls b inn s k 0 st after → StatesOver s k lv inn ks ls e after
+  pub states-over : (after : List ℕ) → length after ≡ length e → Maps ls b inn s k 0 st after → StatesOver s k lv inn ks
+      ls e after
   unfolding stateTable
   states-over after same M mk t x y =
       let z : length ks ≡ size t = size-of t ks x in
       let room : length ks * (s + 1) ≤ length e = args .run .room in
-      rw z (rows-over (size t) (s + 1) (stateRow (treeAutomaton s k lv inn mk) t) (λ v h. length-stateRow (treeAutomaton s k lv inn mk) t v) e after same (rw (← z) room) cells kept)
+      rw z (rows-over (size t) (s + 1) (stateRow (treeAutomaton s k lv inn mk) t)
+      (λ v h. length-stateRow (treeAutomaton s k lv inn mk) t v) e after same (rw (← z) room) cells kept)
     where
       ran : Ran (treeAutomaton s k lv inn mk) t (length ks) e st
       ran = R mk t x y
@@ -80,15 +83,19 @@ module _ (ks ls b lv inn : List ℕ) (s k : ℕ) (e st : List ℕ) (args : Table
       states v h =
           done .kept (v * (s + 1)) (state-no-map s (size t) v) ∙ ran .states v (omega (arith, size-of t ks x))
 
-      maps : (v : ℕ) → v < size t → (q : ℕ) → q < s → getD after (v * (s + 1) + 1 + q) 0 ≡ stateMap (treeAutomaton s k lv inn mk) t v q
+      maps : (v : ℕ) → v < size t → (q : ℕ) → q < s → getD after (v * (s + 1) + 1 + q) 0 ≡ stateMap
+          (treeAutomaton s k lv inn mk) t v q
       maps v h q l =
           let i : v * (s + 1) + 1 + q ≡ v * (s + 1) + (1 + q) = omega arith in
           ap (λ (j : ℕ). getD after j 0) i ∙ done .maps v q (omega arith) h l
 
-      cells : (v c : ℕ) → v < size t → c < s + 1 → getD after (v * (s + 1) + c) 0 ≡ getD (stateRow (treeAutomaton s k lv inn mk) t v) c 0
+      cells : (v c : ℕ) → v < size t → c < s + 1 → getD after (v * (s + 1) + c) 0 ≡ getD
+          (stateRow (treeAutomaton s k lv inn mk) t v) c 0
       cells v c h l =
-          mapRow-cells s (state (treeAutomaton s k lv inn mk) (sub t v)) (stateMap (treeAutomaton s k lv inn mk) t v) v after (states v h) (maps v h) c l
+          mapRow-cells s (state (treeAutomaton s k lv inn mk) (sub t v)) (stateMap (treeAutomaton s k lv inn mk) t v) v
+          after (states v h) (maps v h) c l
 
       kept : (j : ℕ) → size t * (s + 1) ≤ j → getD after j 0 ≡ getD e j 0
       kept j h =
-          done .kept j (λ v q l m. past-maps s (size t) j v q h l m) ∙ ran .kept j (λ v l. past-states s (size t) j v h l)
+          done .kept j (λ v q l m. past-maps s (size t) j v q h l m) ∙ ran .kept j
+          (λ v l. past-states s (size t) j v h l)
