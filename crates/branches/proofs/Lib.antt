@@ -1,0 +1,2 @@
+pub mod MapArrays
+pub mod FollowLaws
