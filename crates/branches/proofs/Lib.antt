@@ -1,2 +1,3 @@
 pub mod MapArrays
 pub mod FollowLaws
+pub mod FitLaws

@@ -1,3 +1,4 @@
 pub mod Question
 pub mod Promise
 pub mod Compose
+pub mod Fits
