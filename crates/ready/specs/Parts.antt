@@ -5,11 +5,12 @@
 -- highestBelow ms t c == the highest of the members ms below c, c included: the greatest in number; c where there is none
 -- anyBelow ms t c == whether one of ms is below c, c included
 -- moveState G m q == what one move of a climb makes of state q
--- climbTo G h c q == the state at c by the climb from h, where the state is q; climbLinks G h c == the number of its moves
+-- climbMoves t h c == the moves of the climb from node h to the depth of c
+-- partLinks t ms v == the links of the part of root v: the moves of its climb, if it has one; questionLinks t ms == those of all parts
 -- Part == a root, its state and the links of its climb; stateOf ps v == the state of the part of root v among ps; 0 where there is none
--- partOf G ms ps v == the part of root v, where ms are the roots and ps the parts before it
+-- partState G ms ps v, partOf G ms ps v == the state of the part of root v, and the part, where ms are the roots and ps the parts before
 -- partsOf G ms == all parts, in rising node number
--- answerState, answerLinks == the state of the last part, which is the plan's root; the links of all
+-- lastState ps q, allLinks ps == the state of the last part, which is the plan's root (q where there is none); the links of all
 --
 -- Assumes nothing.
 use Prim.Native.Nat.{ℕ, _+_, _-_, _≤_}
@@ -62,9 +63,27 @@ abbrev pub movesOf : Option (List Move) → List Move
 movesOf none = []
 movesOf (some ms) = ms
 
--- the moves of the climb from h to the depth of c
-unfoldable pub climbMoves : Given → ℕ → ℕ → List Move
-climbMoves G h c = movesOf (climb (forestOf (G .tree)) h (depth (G .tree) c))
+unfoldable pub climbMoves : Tree → ℕ → ℕ → List Move
+climbMoves t h c = movesOf (climb (forestOf t) h (depth t c))
+
+-- the moves of the climb from the highest member below child c to c's depth
+unfoldable pub climbedLinks : Tree → List ℕ → ℕ → ℕ
+climbedLinks t ms c = length (climbMoves t (highestBelow ms t c) c)
+
+-- "Only those climbs count as links." (members below one child only)
+unfoldable pub innerLinks : Tree → List ℕ → ℕ → ℕ → ℕ
+innerLinks t ms l r =
+    cond (anyBelow ms t l) (cond (anyBelow ms t r) 0 (climbedLinks t ms l)) (cond (anyBelow ms t r) (climbedLinks t ms r) 0)
+
+unfoldable pub partLinks : Tree → List ℕ → ℕ → ℕ
+partLinks t ms v = cond (eqb (kindAt t v) 0) 0 (innerLinks t ms (leftChild t v) (rightChild v))
+
+unfoldable pub sumOf : (ℕ → ℕ) → List ℕ → ℕ
+sumOf f [] = 0
+sumOf f (v ∷ vs) = f v + sumOf f vs
+
+unfoldable pub questionLinks : Tree → List ℕ → ℕ
+questionLinks t ms = sumOf (partLinks t ms) ms
 
 pub record Part : Type 0 where
   pub node : ℕ
@@ -81,30 +100,30 @@ stateOf (p ∷ ps) v = cond (eqb (p .node) v) (p .state) (stateOf ps v)
 -- the state at child c of a member, by the climb from the highest member below c
 unfoldable pub climbedState : Given → List ℕ → List Part → ℕ → ℕ
 climbedState G ms ps c =
-    moveStates G (climbMoves G (highestBelow ms (G .tree) c) c) (stateOf ps (highestBelow ms (G .tree) c))
-
-unfoldable pub climbedLinks : Given → List ℕ → ℕ → ℕ
-climbedLinks G ms c = length (climbMoves G (highestBelow ms (G .tree) c) c)
+    moveStates G (climbMoves (G .tree) (highestBelow ms (G .tree) c) c) (stateOf ps (highestBelow ms (G .tree) c))
 
 -- "A member with no member below takes its children's states from the run. With members below both children it takes theirs. With
 -- members below one child only, let w be the highest of them: climb from w to depth(v)+1 and use the other child's run state. In every
 -- case v's own label, as changed, is then applied."
-unfoldable pub innerPart : Given → List ℕ → List Part → ℕ → ℕ → ℕ → Part
-innerPart G ms ps v l r =
+unfoldable pub innerState : Given → List ℕ → List Part → ℕ → ℕ → ℕ → ℕ
+innerState G ms ps v l r =
     cond (anyBelow ms (G .tree) l)
     (cond (anyBelow ms (G .tree) r)
-    (part v (G .automaton .δ (stateOf ps l) (getD (G .labels) v 0) (stateOf ps r)) 0)
-    (part v (G .automaton .δ (climbedState G ms ps l) (getD (G .labels) v 0) (G .runState r)) (climbedLinks G ms l)))
+    (G .automaton .δ (stateOf ps l) (getD (G .labels) v 0) (stateOf ps r))
+    (G .automaton .δ (climbedState G ms ps l) (getD (G .labels) v 0) (G .runState r)))
     (cond (anyBelow ms (G .tree) r)
-    (part v (G .automaton .δ (G .runState l) (getD (G .labels) v 0) (climbedState G ms ps r)) (climbedLinks G ms r))
-    (part v (G .automaton .δ (G .runState l) (getD (G .labels) v 0) (G .runState r)) 0))
+    (G .automaton .δ (G .runState l) (getD (G .labels) v 0) (climbedState G ms ps r))
+    (G .automaton .δ (G .runState l) (getD (G .labels) v 0) (G .runState r)))
 
 -- "A leaf takes its leaf state."
-unfoldable pub partOf : Given → List ℕ → List Part → ℕ → Part
-partOf G ms ps v =
+unfoldable pub partState : Given → List ℕ → List Part → ℕ → ℕ
+partState G ms ps v =
     cond (eqb (kindAt (G .tree) v) 0)
-    (part v (G .automaton .ι (getD (G .labels) v 0)) 0)
-    (innerPart G ms ps v (leftChild (G .tree) v) (rightChild v))
+    (G .automaton .ι (getD (G .labels) v 0))
+    (innerState G ms ps v (leftChild (G .tree) v) (rightChild v))
+
+unfoldable pub partOf : Given → List ℕ → List Part → ℕ → Part
+partOf G ms ps v = part v (partState G ms ps v) (partLinks (G .tree) ms v)
 
 -- "parts are handled in rising node number, one for each advance"
 unfoldable pub partsFrom : Given → List ℕ → List Part → List ℕ → List Part

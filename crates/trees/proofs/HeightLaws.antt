@@ -11,20 +11,7 @@ use Rattle.trees.specs.Tree.{Tree, leaf, node, size, height}
 use Rattle.trees.specs.Numbering.{depth}
 use Rattle.trees.proofs.Choice.{le-or}
 use Rattle.trees.proofs.NodeLaws.{Place, inL, inR, top, place, size-pos, depth-root}
-use Rattle.trees.proofs.NodeLaws.{split-left, split-right, split-top}
-
-module _ (l : Tree) (a : ℕ) (r : Tree) (v : ℕ) where
-  depth-left : v < size l → depth (node l a r) v ≡ depth l v + 1
-  unfolding depth
-  depth-left h = split-left _ _ v _ _ _ h
-
-  depth-right : (j : ℕ) → v ≡ size l + j → j < size r → depth (node l a r) v ≡ depth r j + 1
-  unfolding depth
-  depth-right j e h = split-right _ _ v _ _ _ j e h
-
-  depth-top : v ≡ size l + size r → depth (node l a r) v ≡ 0
-  unfolding depth
-  depth-top e = split-top _ _ v _ _ _ e
+use Rattle.trees.proofs.NodeLaws.{depth-left, depth-right, depth-top}
 
 pub depth-height : (t : Tree) (v : ℕ) → v < size t → depth t v ≤ height t
 unfolding height
