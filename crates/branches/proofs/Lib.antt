@@ -1,3 +1,5 @@
 pub mod MapArrays
 pub mod FollowLaws
 pub mod FitLaws
+pub mod MoveMaps
+pub mod MovedLaws
