@@ -3,3 +3,4 @@ pub mod FollowLaws
 pub mod FitLaws
 pub mod MoveMaps
 pub mod MovedLaws
+pub mod ComposeTurns

@@ -127,3 +127,43 @@ fn compose_move(
         },
     }
 }
+
+// The climb from node `from` to depth `to`: the map from the state after the label reached to the state after `from`'s
+// label, and the links.
+pub fn compose_climb(
+    labels: &[u8],
+    steps: &[u8],
+    nums: &[u16],
+    bytes: &[u8],
+    n: usize,
+    s: usize,
+    k: usize,
+    from: usize,
+    to: usize,
+) -> Composed
+    requires { ⌜ ComposeArgs n s k (now labels) (now steps) (now nums) (now bytes) from ⌝ }
+    ensures { λ r. ⌜ r ≡ composed (composition n s k (now (labels .entry)) (now (steps .entry)) (now (nums .entry))
+        (now (bytes .entry)) from to) ⌝ }
+{
+    let mut v = from;
+    let mut map = identity(s);
+    let mut links: u32 = 0;
+    while to < depth_at(nums, v) {
+        let x = compose_move(labels, steps, nums, bytes, n, s, k, v, to, map);
+        if !x.ok {
+            return Composed {
+                ok: false,
+                map: [0u8; 16],
+                links: 0,
+            };
+        }
+        v = x.node;
+        map = x.map;
+        links += 1;
+    }
+    Composed {
+        ok: true,
+        map,
+        links,
+    }
+}
