@@ -4,3 +4,4 @@ pub mod FitLaws
 pub mod MoveMaps
 pub mod MovedLaws
 pub mod ComposeTurns
+pub mod FinishLaws
