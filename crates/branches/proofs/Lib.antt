@@ -5,3 +5,5 @@ pub mod MoveMaps
 pub mod MovedLaws
 pub mod ComposeTurns
 pub mod FinishLaws
+pub mod AskParts
+pub mod AskAnswer

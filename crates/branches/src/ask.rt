@@ -6,7 +6,6 @@ use crate::lent::lent_fits;
 use formats::bytes::read32;
 use links::moves::depth_at;
 use links::moves::size_at;
-
 ghost use mathlib.Core.Path.{_≡_};
 ghost use Prim.Native.Nat.{ℕ, _+_, _*_, _≤_};
 ghost use lib.ListN.{length};
@@ -53,7 +52,14 @@ fn finish_answer(
 }
 
 // The answer where 17, 13 and 16 pass.
-fn answer_branch(plan: &[u8], branch: &[u8], nums: &[u16], bytes: &[u8], u: usize, l: usize) -> Branching
+fn answer_branch(
+    plan: &[u8],
+    branch: &[u8],
+    nums: &[u16],
+    bytes: &[u8],
+    u: usize,
+    l: usize,
+) -> Branching
     requires { ⌜ AnswerArgs (now plan) (now branch) (now nums) (now bytes) u l ⌝ }
     ensures { λ r. ⌜ r ≡ toldBranch 0 (branchOn (now (plan .entry)) (now (branch .entry)) (now (nums .entry))
         (now (bytes .entry)) u l) ⌝ }

@@ -18,12 +18,12 @@ returns : tie.Need-returns
 returns c = finish-no-label _ _ _ _ _ _ _ _ (c .if1 .taken)
 
 shared-slice-read-q : tie.Need-shared-slice-read-q
-shared-slice-read-q c = 
+shared-slice-read-q c =
     let s = c .before .before .before in
     omega (arith, stride (s .args .k) 0 (s .args .s) (s .pre .least), s .pre .steps-room, c .before .if1 .left)
 
 cast-q : tie.Need-cast-q
-cast-q c = 
+cast-q c =
     let g = c .before .before .before .args in
     omega (arith, c .shared-slice-known2 .given (getD (g .labels .now) (g .u) 0))
 
@@ -37,10 +37,13 @@ cast-mark : tie.Need-cast-mark
 cast-mark c = search needs
 
 shared-slice-read-mark : tie.Need-shared-slice-read-mark
-shared-slice-read-mark c = 
+shared-slice-read-mark c =
     let s = c .before .before .before .before .before in
-    omega (arith, s .pre .below (getD (s .args .steps .now) (getD (s .args .labels .now) (s .args .u) 0) 0) (c .before .if2 .left),
-    s .pre .marks-room)
+    omega (
+      arith,
+      s .pre .below (getD (s .args .steps .now) (getD (s .args .labels .now) (s .args .u) 0) 0) (c .before .if2 .left),
+      s .pre .marks-room,
+    )
 
 returns-3 : tie.Need-returns-3
 returns-3 c = finish-told _ _ _ _ _ _ _ _ (c .before .before .before .if1 .left) (c .before .if2 .left)
