@@ -7,3 +7,8 @@ pub mod ComposeTurns
 pub mod FinishLaws
 pub mod AskParts
 pub mod AskAnswer
+pub mod AskChecks
+pub mod WordWalks
+pub mod AskBuilt
+pub mod AskClimb
+pub mod AskTheorem

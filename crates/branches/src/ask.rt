@@ -77,3 +77,26 @@ fn answer_branch(
     let map = x.map;
     finish_answer(labels, steps, &branch[16 + s * k..], s, k, u, map, x.links)
 }
+
+// A branch question: the word from the upper node down to the lower, both included. It takes N, S and K from the lent
+// headers and asks 17, 13, 16 and 18 in this order.
+pub fn ask_branch(plan: &[u8], branch: &[u8], nums: &[u16], bytes: &[u8], upper: u32, lower: u32) -> Branching
+    ensures { λ r. ⌜ AskDone (now (plan .entry)) (now (branch .entry)) (now (nums .entry)) (now (bytes .entry)) upper lower r ⌝ }
+{
+    if !lent_fits(plan, branch, nums, bytes) {
+        return Branching::Refused(17);
+    }
+    let n = read32(plan, 0);
+    let u = upper as usize;
+    if n <= u {
+        return Branching::Refused(13);
+    }
+    let l = lower as usize;
+    if n <= l {
+        return Branching::Refused(13);
+    }
+    if !is_below(nums, u, l) {
+        return Branching::Refused(16);
+    }
+    answer_branch(plan, branch, nums, bytes, u, l)
+}
