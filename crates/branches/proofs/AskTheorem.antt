@@ -69,8 +69,11 @@ module _ (p r nums bytes : List ℕ) (D : BranchBuilt p r nums bytes) (u l : ℕ
   first-built : firstState p r u ≡ some (B .step 0 (labelAt t u))
   unfolding firstState
   first-built =
-      rw (lt-ltb (getD (labelsIn p) u 0) (labelCount r) (label-below p r nums bytes D u), built-label p r nums bytes D u,
-      lt-ltb (B .step 0 (labelAt t u)) (stateCount r) (built-step p r nums bytes D 0 (labelAt t u)))
+      rw (
+        lt-ltb (getD (labelsIn p) u 0) (labelCount r) (label-below p r nums bytes D u),
+        built-label p r nums bytes D u,
+        lt-ltb (B .step 0 (labelAt t u)) (stateCount r) (built-step p r nums bytes D 0 (labelAt t u)),
+      )
 
   module _ (A : AtOrBelow (planTree p) u l) where
     above : Above t u l

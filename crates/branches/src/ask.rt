@@ -80,7 +80,14 @@ fn answer_branch(
 
 // A branch question: the word from the upper node down to the lower, both included. It takes N, S and K from the lent
 // headers and asks 17, 13, 16 and 18 in this order.
-pub fn ask_branch(plan: &[u8], branch: &[u8], nums: &[u16], bytes: &[u8], upper: u32, lower: u32) -> Branching
+pub fn ask_branch(
+    plan: &[u8],
+    branch: &[u8],
+    nums: &[u16],
+    bytes: &[u8],
+    upper: u32,
+    lower: u32,
+) -> Branching
     ensures { λ r. ⌜ AskDone (now (plan .entry)) (now (branch .entry)) (now (nums .entry)) (now (bytes .entry)) upper lower r ⌝ }
 {
     if !lent_fits(plan, branch, nums, bytes) {
