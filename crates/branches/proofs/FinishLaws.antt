@@ -4,7 +4,7 @@
 --                                                  what is told of a composed map
 --     finish-padded                                the map may stand in its array
 -- Assumes nothing.
-use Prim.Native.Nat.{ℕ, _+_, _*_, _≤_, _<_}
+use Prim.Native.Nat.{ℕ, _+_, _-_, _*_, _≤_, _<_}
 use mathlib.Core.Path.{_≡_, refl, sym, ap, ap₂, _∙_}
 use mathlib.Core.Bool.{Bool, true, false, cond, _&&_}
 use mathlib.Core.List.{List}
@@ -14,6 +14,7 @@ use lib.Dec.{leb, ltb, eqb}
 use lib.ListN.{length, getD}
 use borrow.Author.Tests.{leb-true, le-leb, lt-leb, ltb-true, lt-ltb, le-ltb}
 use Rattle.trees.specs.Climb.{andThen}
+use Rattle.trees.proofs.Choice.{le-or}
 use Rattle.formats.specs.Rules.{wordAutomaton}
 use Rattle.formats.proofs.CheckLaws.{and-both, and-left, and-right, and-no-left, and-no-right}
 use Rattle.links.specs.Cells.{sizeCell}
@@ -30,9 +31,13 @@ module _ (nums : List ℕ) (u l : ℕ) where
   unfolding isBelow
   below-no h = and-no-left (leb l u) (ltb u (l + sizeCell nums u)) (lt-leb l u h)
 
-  pub below-by : (z : ℕ) → z ≡ sizeCell nums u → l ≤ u → ltb u (l + z) ≡ isBelow nums u l
+  -- as a function asks it: no sum is formed
+  pub below-by : (z : ℕ) → z ≡ sizeCell nums u → l ≤ u → ltb (u - l) z ≡ isBelow nums u l
   unfolding isBelow
-  below-by z e h = rw (e, le-leb l u h)
+  below-by z e h =
+      rw (e, le-leb l u h) (le-or (sizeCell nums u) (u - l)
+      (λ i. le-ltb (u - l) (sizeCell nums u) i ∙ sym (le-ltb u (l + sizeCell nums u) (omega arith)))
+      (λ i. lt-ltb (u - l) (sizeCell nums u) i ∙ sym (lt-ltb u (l + sizeCell nums u) (omega arith))))
 
   pub isBelow-true : isBelow nums u l ≡ true → (l ≤ u) × (u < l + sizeCell nums u)
   unfolding isBelow

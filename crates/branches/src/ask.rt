@@ -21,7 +21,7 @@ fn is_below(nums: &[u16], u: usize, l: usize) -> bool
     if u < l {
         return false;
     }
-    u < l + size_at(nums, u)
+    u - l < size_at(nums, u)
 }
 
 // What is told of the map of a climb: the state after the upper node's label goes through it.

@@ -1,8 +1,7 @@
-use Prim.Native.Nat.{_+_, _*_}
 use mathlib.Core.Path.{sym}
 use native.Mathlib.Omega.{arith}
-use Rattle.branches.proofs.FinishLaws.{below-no, below-by}
 use borrow.Author.Needs.{needs}
+use Rattle.branches.proofs.FinishLaws.{below-no, below-by}
 use Rattle.branches.proofs.ask.is_below.Statement.{statement}
 use Rattle.branches.proofs.ask.is_below.Tie as tie
 use Rattle.branches.proofs.ask.is_below.Reads as reads
@@ -15,13 +14,8 @@ returns c = sym (below-no _ _ _ (c .if1 .taken))
 size-at-requires : tie.Need-size-at-requires
 size-at-requires c κs = search needs
 
-add-result : tie.Need-add-result
-add-result c =
-    let k = c .before .before in
-    omega (arith, c .size-at .ensures, k .shared-slice-known .given (k .before .args .u * 4 + 3), k .before .pre, c .before .if1 .left)
-
 returns-2 : tie.Need-returns-2
 returns-2 c = below-by _ _ _ (c .size-at .result) (c .size-at .ensures) (c .before .if1 .left)
 
 pub is-below-spec : {M : Type 1} → statement M
-is-below-spec = tie.close (tie.spec returns size-at-requires add-result returns-2)
+is-below-spec = tie.close (tie.spec returns size-at-requires returns-2)
