@@ -3,13 +3,13 @@
 --     answer-none                  no composition: 18
 --     answer-some                  a composition, finished
 -- Assumes nothing.
-use Prim.Native.Nat.{ℕ, _+_, _*_, _≤_, _<_}
+use Prim.Native.Nat.{ℕ, _+_, _*_}
 use mathlib.Core.Path.{_≡_, refl, sym, ap, ap₂, _∙_}
 use mathlib.Core.Bool.{true, false}
 use mathlib.Core.List.{List}
 use mathlib.Core.Option.{Option, none, some}
 use native.Mathlib.Omega.{arith}
-use lib.ListN.{length, getD}
+use lib.ListN.{length}
 use Rattle.trees.specs.Climb.{andThen}
 use Rattle.formats.specs.Plan.{nodeCount}
 use Rattle.formats.specs.Rules.{stateCount, labelCount}
@@ -25,7 +25,8 @@ use Rattle.branches.proofs.FitLaws.{LentFits, lent-fits}
 use Rattle.branches.proofs.FollowLaws.{MapOf}
 use Rattle.branches.proofs.MapArrays.{getD-padded}
 use Rattle.branches.proofs.FinishLaws.{finish-padded}
-use Rattle.branches.proofs.AskParts.{Handed, composition-map, composition-is, finish-is, branch-on-parts, branchFinish, branchComposition}
+use Rattle.branches.proofs.AskParts.{Handed, composition-map, composition-is, finish-is}
+use Rattle.branches.proofs.AskParts.{branch-on-parts, branchFinish}
 
 module _ (p r nums bytes : List ℕ) (u l n s k to : ℕ) (ls st mk : List ℕ) (A : AnswerArgs p r nums bytes u l)
     (H : Handed p r nums u n s k to ls st mk) where
@@ -46,7 +47,8 @@ module _ (p r nums bytes : List ℕ) (u l n s k to : ℕ) (ls st mk : List ℕ) 
   marks-long : length mk ≡ s
   marks-long =
       ap length (H .mark-run)
-      ∙ length-part r (16 + stateCount r * labelCount r) (stateCount r) (omega (arith, fit .branch .exact)) ∙ sym (H .states)
+      ∙ length-part r (16 + stateCount r * labelCount r) (stateCount r) (omega (arith, fit .branch .exact))
+      ∙ sym (H .states)
 
   pub compose-args : ComposeArgs n s k ls st nums bytes l
   compose-args = record {
@@ -61,12 +63,15 @@ module _ (p r nums bytes : List ℕ) (u l n s k to : ℕ) (ls st mk : List ℕ) 
 
   module _ (x : Composed) (e : x ≡ composed (composition n s k ls st nums bytes l to)) where
     -- a composition that was found
-    found : x .ok ≡ true → (y : Counted) × (composition n s k ls st nums bytes l to ≡ some y) × (x .map ≡ padded (y .map)) × (x .links ≡ y .links)
+    found : x .ok ≡ true
+        → (y : Counted) × (composition n s k ls st nums bytes l to ≡ some y)
+        × (x .map ≡ padded (y .map)) × (x .links ≡ y .links)
     unfolding composed
     found h = go (composition n s k ls st nums bytes l to) refl e
       where
         go : (o : Option Counted) → composition n s k ls st nums bytes l to ≡ o → x ≡ composed o
-            → (y : Counted) × (composition n s k ls st nums bytes l to ≡ some y) × (x .map ≡ padded (y .map)) × (x .links ≡ y .links)
+            → (y : Counted) × (composition n s k ls st nums bytes l to ≡ some y)
+            × (x .map ≡ padded (y .map)) × (x .links ≡ y .links)
         go none q z = absurd (true-false (sym h ∙ ap (λ (c : Composed). c .ok) z))
         go (some y) q z = (y, q, ap (λ (c : Composed). c .map) z, ap (λ (c : Composed). c .links) z)
 
@@ -95,7 +100,8 @@ module _ (p r nums bytes : List ℕ) (u l n s k to : ℕ) (ls st mk : List ℕ) 
     pub answer-none : x .ok ≡ false → Refused 18 ≡ toldBranch 0 (branchOn p r nums bytes u l)
     unfolding toldBranch
     answer-none h =
-        ap (λ (o : Option Counted). toldBranch 0 (andThen o (λ (y : Counted). branchFinish p r nums bytes u l (y .map) (y .links))))
+        ap (λ (o : Option Counted).
+        toldBranch 0 (andThen o (λ (y : Counted). branchFinish p r nums bytes u l (y .map) (y .links))))
         (sym (lost h) ∙ composition-is p r nums bytes u l n s k to ls st mk H)
         ∙ ap (toldBranch 0) (sym (branch-on-parts p r nums bytes u l))
 

@@ -4,32 +4,31 @@
 --     built-climb                            so a climb on them is the tree's
 --     built-label, built-step, built-map     the lent labels, steps and maps are the tree's and the automaton's
 -- Assumes nothing.
-use Prim.Native.Nat.{ℕ, _+_, _-_, _*_, _≤_, _<_}
-use mathlib.Core.Path.{_≡_, refl, sym, ap, ap₂, _∙_, subst}
+use Prim.Native.Nat.{ℕ, _+_, _*_, _≤_, _<_}
+use mathlib.Core.Path.{_≡_, sym, ap, _∙_, subst}
 use mathlib.Core.Bool.{true}
 use mathlib.Core.List.{List}
 use native.Mathlib.Omega.{arith}
 use lib.ListN.{length, getD, take, length-take}
-use Rattle.trees.specs.Tree.{Tree, size, labelsOf, labelAt}
+use Rattle.trees.specs.Tree.{Tree, size, labelAt}
 use Rattle.trees.specs.Automaton.{WordAutomaton}
-use Rattle.trees.specs.Numbering.{parent, depth, sub}
-use Rattle.trees.specs.Climb.{Forest, forestOf, climb}
+use Rattle.trees.specs.Climb.{forestOf, climb}
 use Rattle.trees.specs.Tables.{linkTable, branchTable, branchRow, branchMap}
 use Rattle.trees.proofs.RowLaws.{length-rows, length-branchRow, branchTable-map}
 use Rattle.trees.proofs.ClimbLaws.{Tells, same-climb}
 use Rattle.formats.specs.Plan.{nodeCount, labelsIn, planTree}
-use Rattle.formats.specs.Rules.{stateCount, labelCount, branchSteps, branchAutomaton}
+use Rattle.formats.specs.Rules.{stateCount, labelCount, branchAutomaton}
 use Rattle.formats.specs.Built.{BranchBuilt}
 use Rattle.formats.proofs.PlanLaws.{PlanPasses, labels-planTree, size-planTree}
 use Rattle.formats.proofs.BranchLaws.{BranchPasses, step-below}
 use Rattle.formats.proofs.ListLaws.{allBelow-all}
 use Rattle.formats.proofs.InputLaws.{branch-table-passes}
-use Rattle.links.specs.Cells.{depthCell, sizeCell, cellForest}
+use Rattle.links.specs.Cells.{cellForest}
 use Rattle.links.specs.LinkCells.{LinkCells}
 use Rattle.links.proofs.CellLaws.{length-linkTable, link-cells}
 use Rattle.tables.specs.StateCells.{mapCell}
 use Rattle.branches.specs.Question.{lentFits}
-use Rattle.branches.proofs.FitLaws.{LentFits, fits-lent}
+use Rattle.branches.proofs.FitLaws.{fits-lent}
 
 length-branchTable : (B : WordAutomaton) (t : Tree) → length (branchTable B t) ≡ size t * (B .states + 1)
 unfolding branchTable
@@ -60,7 +59,8 @@ module _ (p r nums bytes : List ℕ) (D : BranchBuilt p r nums bytes) where
   -- ---- 17
 
   links-room : nodeCount p * 4 ≤ length nums
-  links-room = begins (nodeCount p * 4) nums (linkTable tree) (D .links) (length-linkTable tree ∙ ap (λ (n : ℕ). n * 4) size-is)
+  links-room =
+      begins (nodeCount p * 4) nums (linkTable tree) (D .links) (length-linkTable tree ∙ ap (λ (n : ℕ). n * 4) size-is)
 
   states-room : nodeCount p * (stateCount r + 1) ≤ length bytes
   states-room =
@@ -69,7 +69,12 @@ module _ (p r nums bytes : List ℕ) (D : BranchBuilt p r nums bytes) where
 
   pub fits-built : lentFits p r nums bytes ≡ true
   fits-built = fits-lent p r nums bytes (record {
-    plan = record { long = plan-passes .long; least = plan-passes .least; most = plan-passes .most; exact = plan-passes .exact };
+    plan = record {
+      long = plan-passes .long;
+      least = plan-passes .least;
+      most = plan-passes .most;
+      exact = plan-passes .exact;
+    };
     branch = record {
       long = table-passes .long;
       states-least = table-passes .states-least;
@@ -111,4 +116,6 @@ module _ (p r nums bytes : List ℕ) (D : BranchBuilt p r nums bytes) where
   built-map v q h l =
       let e : v * (stateCount r + 1) + (1 + q) ≡ v * (stateCount r + 1) + 1 + q = omega arith in
       ap (λ (i : ℕ). getD bytes i 0) e
-      ∙ branchTable-map automaton tree bytes (subst (λ (n : ℕ). take (n * (stateCount r + 1)) bytes ≡ branchTable automaton tree) (sym size-is) (D .states)) v h q l
+      ∙ branchTable-map automaton tree bytes
+      (subst (λ (n : ℕ). take (n * (stateCount r + 1)) bytes ≡ branchTable automaton tree) (sym size-is) (D .states))
+      v h q l

@@ -3,22 +3,20 @@
 --     ask-on                                        the answer where 17, 13 and 16 pass
 --     ask-number                                    an answer's number is the first failing check's
 -- Assumes nothing.
-use Prim.Native.Nat.{ℕ, zero, suc, _≤_, _<_}
-use mathlib.Core.Path.{_≡_, refl, sym, ap, _∙_}
-use mathlib.Core.Bool.{Bool, true, false, cond, _&&_}
-use mathlib.Core.List.{List, []}
+use Prim.Native.Nat.{ℕ, _≤_, _<_}
+use mathlib.Core.Path.{_≡_, refl, sym, ap}
+use mathlib.Core.Bool.{Bool, true, false, _&&_}
+use mathlib.Core.List.{List}
 use mathlib.Core.Option.{Option, none, some}
-use native.Mathlib.Omega.{arith}
 use lib.Dec.{ltb}
 use borrow.Author.Tests.{lt-ltb, le-ltb}
 use Rattle.formats.specs.Plan.{nodeCount}
 use Rattle.formats.specs.Checks.{firstNo}
 use Rattle.formats.proofs.CheckLaws.{and-both, and-no-left, and-no-right}
 use Rattle.formats.proofs.PartLaws.{four, four-1, four-2, four-3}
-use Rattle.branches.specs.declared.answers.Branching.{Branching}
-use Rattle.branches.specs.declared.answers.Branching.the-variants.{Told, Refused}
-use Rattle.branches.specs.Question.{lentFits, isBelow, Branched, branchOn, isSome, askChecks, askNumber, branchNumber}
-use Rattle.branches.specs.Question.{toldBranch, askAnswer}
+use Rattle.branches.specs.declared.answers.Branching.the-variants.{Refused}
+use Rattle.branches.specs.Question.{lentFits, isBelow, Branched, branchOn, isSome, askChecks}
+use Rattle.branches.specs.Question.{askNumber, branchNumber, toldBranch, askAnswer}
 
 -- four checks, the last of which asks whether there is an answer
 module _ (a b c : Bool) (o : Option Branched) where
@@ -35,7 +33,8 @@ module _ (a b c : Bool) (o : Option Branched) where
 
 -- the number of an answer is that of its checks
 told-number : (a b c : Bool) (o : Option Branched)
-    → branchNumber (toldBranch (firstNo (four 16 12 15 17 a b c (isSome o))) o) ≡ firstNo (four 16 12 15 17 a b c (isSome o))
+    → branchNumber (toldBranch (firstNo (four 16 12 15 17 a b c (isSome o))) o)
+    ≡ firstNo (four 16 12 15 17 a b c (isSome o))
 unfolding branchNumber toldBranch firstNo
 told-number true true true none = refl
 told-number true true true (some x) = refl
@@ -75,9 +74,11 @@ module _ (p r nums bytes : List ℕ) (u l : ℕ) where
   ask-13-lower e h = ask-13 e (and-no-right (ltb u (nodeCount p)) (ltb l (nodeCount p)) (le-ltb l (nodeCount p) h))
 
   both-nodes : u < nodeCount p → l < nodeCount p → nodes ≡ true
-  both-nodes h i = and-both (ltb u (nodeCount p)) (ltb l (nodeCount p)) (lt-ltb u (nodeCount p) h) (lt-ltb l (nodeCount p) i)
+  both-nodes h i =
+      and-both (ltb u (nodeCount p)) (ltb l (nodeCount p)) (lt-ltb u (nodeCount p) h) (lt-ltb l (nodeCount p) i)
 
-  pub ask-16 : fits ≡ true → u < nodeCount p → l < nodeCount p → below ≡ false → Refused 16 ≡ askAnswer p r nums bytes u l
+  pub ask-16 : fits ≡ true → u < nodeCount p → l < nodeCount p → below ≡ false
+      → Refused 16 ≡ askAnswer p r nums bytes u l
   unfolding askAnswer askNumber askChecks toldBranch
   ask-16 e h i f =
       ap (λ (j : ℕ). toldBranch j on) (sym (four-3 16 12 15 17 fits nodes below (isSome on) e (both-nodes h i) f))

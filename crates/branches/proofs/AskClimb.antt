@@ -3,12 +3,10 @@
 --     carry-built               so the moves of a climb make what the whole walk makes
 -- Assumes nothing.
 use Prim.Native.Nat.{ℕ, _+_, _-_, _≤_, _<_}
-use mathlib.Core.Path.{_≡_, refl, sym, ap, _∙_, subst}
-use mathlib.Core.Bool.{Bool, true}
+use mathlib.Core.Path.{_≡_, sym, ap, _∙_}
 use mathlib.Core.List.{List}
-use mathlib.Core.Option.{Option, some}
+use mathlib.Core.Option.{some}
 use native.Mathlib.Omega.{arith}
-use lib.Dec.{ltb}
 use lib.ListN.{length, getD}
 use borrow.Author.Tests.{lt-ltb}
 use Rattle.trees.specs.Tree.{Tree, size, labelAt}
@@ -16,7 +14,7 @@ use Rattle.trees.specs.Automaton.{WordAutomaton, wordRun}
 use Rattle.trees.specs.Numbering.{depth, labelsDown}
 use Rattle.trees.specs.Jumps.{jump}
 use Rattle.trees.specs.Climb.{forestOf, Move, byJump, toParent, climb, carry, walk}
-use Rattle.trees.specs.Tables.{tabulate, branchMap, jumpLength}
+use Rattle.trees.specs.Tables.{tabulate, branchMap}
 use Rattle.trees.proofs.RowLaws.{length-tabulate, tabulate-ext}
 use Rattle.trees.proofs.BranchMapLaws.{branchMap-below}
 use Rattle.trees.proofs.CarryLaws.{carry-walk}
@@ -26,7 +24,7 @@ use Rattle.formats.specs.Built.{BranchBuilt}
 use Rattle.tables.specs.StateCells.{mapCell}
 use Rattle.branches.specs.Question.{moveMap}
 use Rattle.branches.proofs.FollowLaws.{follow-yes}
-use Rattle.branches.proofs.WordWalks.{labelStep, wordStep, walk-word}
+use Rattle.branches.proofs.WordWalks.{labelStep, walk-word}
 use Rattle.branches.proofs.AskBuilt.{built-label, label-below, built-step, built-map}
 
 module _ (p r nums bytes : List ℕ) (D : BranchBuilt p r nums bytes) where
@@ -42,7 +40,10 @@ module _ (p r nums bytes : List ℕ) (D : BranchBuilt p r nums bytes) where
   move-parent : (v : ℕ) (m : List ℕ) → moveMap p r bytes (toParent v) m ≡ some (labelStep B t v m)
   unfolding moveMap
   move-parent v m =
-      rw (lt-ltb (getD (labelsIn p) v 0) (labelCount r) (label-below p r nums bytes D v), built-label p r nums bytes D v)
+      rw (
+        lt-ltb (getD (labelsIn p) v 0) (labelCount r) (label-below p r nums bytes D v),
+        built-label p r nums bytes D v,
+      )
       (follow-yes (stateCount r) (λ q. B .step q (labelAt t v)) m (λ q h. built-step p r nums bytes D q (labelAt t v)))
 
   -- a jump's map is the word of the labels down from the jump

@@ -3,12 +3,10 @@
 --     branch-on-parts    branchOn is the composition on the runs of plan and branch table, finished
 --     on-none, on-some   what is told where there is none, and where there is one
 -- Assumes nothing.
-use Prim.Native.Nat.{ℕ, _+_, _-_, _*_, _≤_, _<_}
-use mathlib.Core.Path.{_≡_, refl, sym, ap, _∙_, subst}
-use mathlib.Core.Bool.{true, false}
+use Prim.Native.Nat.{ℕ, _+_, _-_, _*_}
+use mathlib.Core.Path.{_≡_, refl, ap, subst}
 use mathlib.Core.List.{List, [], _∷_}
 use mathlib.Core.Option.{Option, none, some, Option·some-injective}
-use native.Mathlib.Omega.{arith}
 use lib.ListN.{length, getD, take, drop}
 use Rattle.trees.specs.Climb.{Move, andThen, climb, carry}
 use Rattle.trees.specs.Tables.{tabulate}
@@ -17,17 +15,12 @@ use Rattle.formats.specs.Plan.{nodeCount, labelsIn}
 use Rattle.formats.specs.Rules.{stateCount, labelCount, branchLength, branchSteps, branchMarks, branchAutomaton}
 use Rattle.formats.proofs.PlanLaws.{labels-part}
 use Rattle.formats.proofs.BranchLaws.{steps-part, branch-marks-part-exact}
-use Rattle.formats.proofs.PartLaws.{length-part}
-use Rattle.formats.proofs.CheckLaws.{true-false}
 use Rattle.links.specs.Cells.{depthCell, cellForest}
-use Rattle.branches.specs.declared.answers.Branching.the-variants.{Told, Refused}
-use Rattle.branches.specs.declared.climb.Composed.{Composed}
-use Rattle.branches.specs.Question.{moveMap, firstState, Branched, branched, branchOn, toldBranch}
-use Rattle.branches.specs.Compose.{padded, runMove, Counted, composition, composed}
+use Rattle.branches.specs.Question.{moveMap, firstState, Branched, branched, branchOn}
+use Rattle.branches.specs.Compose.{runMove, Counted, composition}
 use Rattle.branches.specs.Finish.{firstOf, finish}
 use Rattle.branches.proofs.FollowLaws.{MapOf, identity-map}
 use Rattle.branches.proofs.MoveMaps.{run-move-map, move-map-run}
-use Rattle.branches.proofs.FinishLaws.{finish-padded}
 
 -- ---- composed maps
 
@@ -53,30 +46,34 @@ module _ (s k : ℕ) (ls st bytes : List ℕ) where
           → andThen o (λ m. some (record { map = m; links = length ms })) ≡ some x → MapOf s (x .map)
       carried ms none a q = absurd (none-some q)
       carried ms (some m) a q =
-          let z : m ≡ x .map = ap (λ (y : Counted). y .map) (Option·some-injective (record { map = m; links = length ms }) x q) in
+          let z : m ≡ x .map =
+          ap (λ (y : Counted). y .map) (Option·some-injective (record { map = m; links = length ms }) x q) in
           subst (MapOf s) z (carry-map ms (tabulate s (λ q. q)) m (identity-map s) a)
 
       climbed : (o : Option (List Move))
-          → andThen o (λ ms. andThen (carry act ms (tabulate s (λ q. q))) (λ m. some (record { map = m; links = length ms }))) ≡ some x
+          → andThen o (λ ms. andThen (carry act ms (tabulate s (λ q. q)))
+          (λ m. some (record { map = m; links = length ms }))) ≡ some x
           → MapOf s (x .map)
       climbed none q = absurd (none-some q)
       climbed (some ms) q = carried ms (carry act ms (tabulate s (λ q. q))) refl q
 
 -- ---- the answer
 
-carry-same : (f g : Move → List ℕ → Option (List ℕ)) → ((i : Move) (m : List ℕ) → f i m ≡ g i m) → (ms : List Move) (m : List ℕ)
-    → carry f ms m ≡ carry g ms m
+carry-same : (f g : Move → List ℕ → Option (List ℕ)) → ((i : Move) (m : List ℕ) → f i m ≡ g i m)
+    → (ms : List Move) (m : List ℕ) → carry f ms m ≡ carry g ms m
 carry-same f g e [] m = refl
 carry-same f g e (i ∷ ms) m = rw (e i m) (go (g i m) (λ x. carry-same f g e ms x))
   where
-    go : (o : Option (List ℕ)) → ((x : List ℕ) → carry f ms x ≡ carry g ms x) → andThen o (carry f ms) ≡ andThen o (carry g ms)
+    go : (o : Option (List ℕ)) → ((x : List ℕ) → carry f ms x ≡ carry g ms x)
+        → andThen o (carry f ms) ≡ andThen o (carry g ms)
     go none h = refl
     go (some x) h = h x
 
 module _ (p r nums bytes : List ℕ) (u l : ℕ) where
   abbrev pub branchComposition : Option Counted
   branchComposition =
-      composition (nodeCount p) (stateCount r) (labelCount r) (labelsIn p) (branchSteps r) nums bytes l (depthCell nums u)
+      composition (nodeCount p) (stateCount r) (labelCount r) (labelsIn p) (branchSteps r) nums bytes l
+      (depthCell nums u)
 
   abbrev pub branchFinish : List ℕ → ℕ → Option Branched
   branchFinish m c = finish (stateCount r) (labelCount r) (labelsIn p) (branchSteps r) (branchMarks r) u m c
@@ -135,7 +132,8 @@ handed p r nums u n s k to a b c d e = record {
   mark-run = branch-marks-part-exact r s k e b c;
 }
 
-module _ (p r nums bytes : List ℕ) (u l n s k to : ℕ) (ls st mk : List ℕ) (H : Handed p r nums u n s k to ls st mk) where
+module _ (p r nums bytes : List ℕ) (u l n s k to : ℕ) (ls st mk : List ℕ)
+    (H : Handed p r nums u n s k to ls st mk) where
   pub composition-is : composition n s k ls st nums bytes l to ≡ branchComposition p r nums bytes u l
   composition-is = rw (H .nodes, H .states, H .labels, H .depth, H .label-run, H .step-run)
 

@@ -5,20 +5,19 @@
 --     ask-done     the whole promise, for whatever answers as askAnswer does
 -- Assumes nothing.
 use Prim.Native.Nat.{ℕ, _+_, _-_, _*_, _≤_, _<_}
-use mathlib.Core.Path.{_≡_, refl, sym, ap, ap₂, _∙_, subst}
+use mathlib.Core.Path.{_≡_, refl, sym, ap, ap₂, _∙_}
 use mathlib.Core.Bool.{Bool, true, false}
-use mathlib.Core.List.{List, [], _∷_, _++_}
+use mathlib.Core.List.{List, _++_}
 use mathlib.Core.Option.{Option, some}
 use native.Mathlib.Omega.{arith}
-use lib.Dec.{ltb}
 use lib.ListN.{length, getD}
 use borrow.Author.Tests.{lt-ltb}
 use Rattle.trees.specs.Tree.{Tree, size, height, labelAt}
 use Rattle.trees.specs.Automaton.{WordAutomaton, wordRun}
 use Rattle.trees.specs.Numbering.{sub, depth, ancestor, labelsDown, word}
-use Rattle.trees.specs.Climb.{forestOf, Move, andThen, climb, carry, walk, moveCount, digits}
+use Rattle.trees.specs.Climb.{Move, andThen, climb, carry, walk, moveCount, digits}
 use Rattle.trees.specs.Tables.{tabulate}
-use Rattle.trees.proofs.BranchMapLaws.{wordRun-append, labelsDown-one, labelsDown-add}
+use Rattle.trees.proofs.BranchMapLaws.{labelsDown-one, labelsDown-add}
 use Rattle.trees.proofs.HeightLaws.{depth-height}
 use Rattle.trees.proofs.IntervalLaws.{Above, ancestor-interval, interval-ancestor, above-at}
 use Rattle.trees.proofs.MoveCount.{moveCount-done, moveCount-bound}
@@ -27,14 +26,16 @@ use Rattle.trees.proofs.TreeClimbs.{Climbed, climb-tree}
 use Rattle.formats.specs.Plan.{nodeCount, labelsIn, planTree}
 use Rattle.formats.specs.Rules.{stateCount, labelCount, branchAutomaton}
 use Rattle.formats.specs.Built.{BranchBuilt}
-use Rattle.links.specs.Cells.{depthCell, sizeCell, cellForest}
+use Rattle.links.specs.Cells.{depthCell, cellForest}
 use Rattle.branches.specs.declared.answers.Branching.{Branching}
-use Rattle.branches.specs.declared.answers.Branching.the-variants.{Told, Refused}
-use Rattle.branches.specs.Question.{isBelow, moveMap, firstState, Branched, branched, branchOn, toldBranch, askAnswer, branchNumber}
+use Rattle.branches.specs.declared.answers.Branching.the-variants.{Refused}
+use Rattle.branches.specs.Question.{isBelow, moveMap, firstState, Branched, branched, branchOn}
+use Rattle.branches.specs.Question.{toldBranch, askAnswer, branchNumber}
 use Rattle.branches.specs.Promise.{AtOrBelow, wordAnswer, AskDone}
 use Rattle.branches.proofs.FinishLaws.{isBelow-true, true-isBelow}
 use Rattle.branches.proofs.WordWalks.{labelStep, walk-identity}
-use Rattle.branches.proofs.AskBuilt.{size-is, fits-built, built-links, built-climb, built-label, label-below, built-step}
+use Rattle.branches.proofs.AskBuilt.{size-is, fits-built, built-links, built-climb, built-label}
+use Rattle.branches.proofs.AskBuilt.{label-below, built-step}
 use Rattle.branches.proofs.AskChecks.{ask-number, ask-16, ask-on}
 use Rattle.branches.proofs.AskClimb.{carry-built}
 
@@ -51,7 +52,8 @@ word-down B t u v e =
     ap (wordRun B 0) (labelsDown-add t v n 1 ∙ ap (λ (x : ℕ). labelsDown t x 1 ++ labelsDown t v n) e
     ∙ ap (λ (w : List ℕ). w ++ labelsDown t v n) (labelsDown-one t u))
 
-module _ (p r nums bytes : List ℕ) (D : BranchBuilt p r nums bytes) (u l : ℕ) (hu : u < nodeCount p) (hl : l < nodeCount p) where
+module _ (p r nums bytes : List ℕ) (D : BranchBuilt p r nums bytes) (u l : ℕ)
+    (hu : u < nodeCount p) (hl : l < nodeCount p) where
   abbrev t : Tree
   t = planTree p
 
@@ -109,11 +111,13 @@ module _ (p r nums bytes : List ℕ) (D : BranchBuilt p r nums bytes) (u l : ℕ
     abbrev told : List Move → List ℕ → ℕ → Option Branched
     told ms m q = some (branched B (getD m q 0) (length ms))
 
-    branch-on-built : branchOn p r nums bytes u l ≡ some (branched B (wordRun B 0 (word t u l)) (moveCount (depth t l) (depth t u)))
+    branch-on-built : branchOn p r nums bytes u l
+        ≡ some (branched B (wordRun B 0 (word t u l)) (moveCount (depth t l) (depth t u)))
     unfolding branchOn
     branch-on-built =
         on-some (climb (cellForest (nodeCount p) nums) l (depthCell nums u)) (climbed .moves)
-        (λ ms. andThen (carry (moveMap p r bytes) ms (tabulate (stateCount r) (λ q. q))) (λ m. andThen (firstState p r u) (told ms m)))
+        (λ ms. andThen (carry (moveMap p r bytes) ms (tabulate (stateCount r) (λ q. q)))
+        (λ m. andThen (firstState p r u) (told ms m)))
         climb-built
         ∙ on-some (carry (moveMap p r bytes) (climbed .moves) (tabulate (stateCount r) (λ q. q)))
         walked

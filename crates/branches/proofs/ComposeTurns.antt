@@ -1,24 +1,21 @@
 -- The turns of the loop that composes maps on a climb.
 --     countedMove                        a move on a map that counts its links
---     composition-carried                the composition is what the counted moves of the climb make of the identity
---     Climbing                           the loop's state: the map of the moves made so far, and the same answer from here
+--     composition-carried                the composition is what counted moves of the climb make of the identity
+--     Climbing                           the loop's state: the map of the moves so far, and the same answer from here
 --     climbing-start, climbing-turn      before the first move, and after one more
 --     climbing-done, climbing-lost       the answer where the climb has arrived, and where a move was not made
---     composition-map                    a composed map has s entries below s
---     composition-links                  its links are at most the depth of the node
 -- Assumes nothing.
 use Prim.Native.Nat.{ℕ, _+_, _≤_, _<_}
-use mathlib.Core.Path.{_≡_, refl, sym, ap, ap₂, _∙_, subst}
-use mathlib.Core.Bool.{Bool, true, false}
+use mathlib.Core.Path.{_≡_, refl, sym, ap, _∙_}
+use mathlib.Core.Bool.{true, false}
 use mathlib.Core.List.{List, [], _∷_}
-use mathlib.Core.Logic.{_⊎_, inl, inr}
-use mathlib.Core.Option.{Option, none, some, Option·some-injective}
+use mathlib.Core.Logic.{inl, inr}
+use mathlib.Core.Option.{Option, none, some}
 use native.Mathlib.Omega.{arith}
 use lib.ListN.{length, replicate}
-use Rattle.trees.specs.Climb.{Forest, Move, target, nextMove, andThen, climb, carry}
+use Rattle.trees.specs.Climb.{Forest, Move, nextMove, andThen, climb, carry}
 use Rattle.trees.specs.Tables.{tabulate}
-use Rattle.trees.proofs.MoveLaws.{none-some, next-inside, next-rises}
-use Rattle.trees.proofs.ClimbLaws.{climb-short}
+use Rattle.trees.proofs.MoveLaws.{next-inside, next-rises}
 use Rattle.trees.proofs.CarryLaws.{carried, carried-done, carried-move, carried-lost, carried-stuck}
 use Rattle.links.specs.Cells.{cellForest}
 use Rattle.branches.specs.declared.climb.Moved.{Moved}
@@ -42,7 +39,8 @@ module _ (act : Move → List ℕ → Option (List ℕ)) where
   counted-carry (i ∷ ms) m c = go (act i m) (λ x. counted-carry ms x (c + 1))
     where
       go : (o : Option (List ℕ))
-          → ((x : List ℕ) → carry (countedMove act) ms (counted x (c + 1)) ≡ andThen (carry act ms x) (λ x. some (counted x (c + 1 + length ms))))
+          → ((x : List ℕ) → carry (countedMove act) ms (counted x (c + 1))
+          ≡ andThen (carry act ms x) (λ x. some (counted x (c + 1 + length ms))))
           → andThen (andThen o (λ x. some (counted x (c + 1)))) (carry (countedMove act) ms)
           ≡ andThen (andThen o (carry act ms)) (λ x. some (counted x (c + length (i ∷ ms))))
       go none h = refl
@@ -95,7 +93,8 @@ module _ (n s k : ℕ) (ls st nums bytes : List ℕ) (from to : ℕ) where
   }
 
   module _ (a : List ℕ) (v c : ℕ) (C : Climbing a v c) where
-    pub climbing-done : forest .depth v ≤ to → record { ok = true; map = a; links = c } ≡ composed (composition n s k ls st nums bytes from to)
+    pub climbing-done : forest .depth v ≤ to
+        → record { ok = true; map = a; links = c } ≡ composed (composition n s k ls st nums bytes from to)
     unfolding composed
     climbing-done h =
         ap (λ (x : List ℕ). record { ok = true; map = x; links = c }) (C .array)
@@ -137,6 +136,7 @@ module _ (n s k : ℕ) (ls st nums bytes : List ℕ) (from to : ℕ) where
       ]
 
       pub climbing-lost : x .ok ≡ false
-          → record { ok = false; map = replicate 16 0; links = 0 } ≡ composed (composition n s k ls st nums bytes from to)
+          → record { ok = false; map = replicate 16 0; links = 0 }
+          ≡ composed (composition n s k ls st nums bytes from to)
       unfolding composed
       climbing-lost h = ap composed (sym (nothing h))

@@ -1,17 +1,18 @@
 -- Check 16, and the end of a branch question.
---     below-no, below-by                           isBelow, question by question; isBelow-true, true-isBelow: what it says
---     finish-no-label, finish-no-state, finish-told
---                                                  what is told of a composed map
---     finish-padded                                the map may stand in its array
+--     below-no, below-by                               isBelow, question by question
+--     isBelow-true, true-isBelow                       what it says, and back
+--     first-is                                         the state after the upper node's label
+--     finish-no-label, finish-no-state, finish-told    what is told of a composed map
+--     finish-padded                                    the map may stand in its array
 -- Assumes nothing.
 use Prim.Native.Nat.{ℕ, _+_, _-_, _*_, _≤_, _<_}
-use mathlib.Core.Path.{_≡_, refl, sym, ap, ap₂, _∙_}
-use mathlib.Core.Bool.{Bool, true, false, cond, _&&_}
+use mathlib.Core.Path.{_≡_, refl, sym, ap, _∙_}
+use mathlib.Core.Bool.{true, false}
 use mathlib.Core.List.{List}
 use mathlib.Core.Option.{Option, none, some}
 use native.Mathlib.Omega.{arith}
 use lib.Dec.{leb, ltb, eqb}
-use lib.ListN.{length, getD}
+use lib.ListN.{getD}
 use borrow.Author.Tests.{leb-true, le-leb, lt-leb, ltb-true, lt-ltb, le-ltb}
 use Rattle.trees.specs.Climb.{andThen}
 use Rattle.trees.proofs.Choice.{le-or}
@@ -67,7 +68,8 @@ module _ (s k : ℕ) (ls st : List ℕ) (u : ℕ) where
   first-no-state : s ≤ getD st label 0 → firstOf s k ls st u ≡ none
   unfolding firstOf
   first-no-state h =
-      rw (and-no-right (ltb label k) (ltb (getD st (0 * k + label) 0) s) (le-ltb (getD st (0 * k + label) 0) s (rw at-start h)))
+      rw (and-no-right (ltb label k) (ltb (getD st (0 * k + label) 0) s)
+      (le-ltb (getD st (0 * k + label) 0) s (rw at-start h)))
 
   pub first-is : label < k → getD st label 0 < s → firstOf s k ls st u ≡ some (getD st label 0)
   unfolding firstOf

@@ -1,5 +1,6 @@
 -- Check 17 of a branch question, part by part.
---     plan-short .. plan-fits-by        what planFits is, question by question; the last question decides where the others pass
+--     product-most                      a product of numbers within limits
+--     plan-short .. plan-fits-by        what planFits is, question by question; the last decides where the others pass
 --     branch-short .. branch-fits-by    the same for branchFits
 --     lent-plan-no .. lent-fits-by      the same for lentFits, by its parts
 --     PlanFits, BranchFits, LentFits    what each says, by name; plan-fits, branch-fits, lent-fits: where it says yes
@@ -18,7 +19,7 @@ use Rattle.formats.specs.Limits.{nodeLimit, stateLimit, labelLimit, within}
 use Rattle.formats.specs.Plan.{nodeCount, planLength}
 use Rattle.formats.specs.Rules.{stateCount, labelCount, branchLength}
 use Rattle.formats.specs.Checks.{linkLength, stateLength}
-use Rattle.formats.proofs.CheckLaws.{and-both, and-left, and-right, and-no-left, and-no-right}
+use Rattle.formats.proofs.CheckLaws.{and-left, and-right, and-no-left, and-no-right}
 use Rattle.formats.proofs.PlanLaws.{within-low, within-high, is-within}
 use Rattle.branches.specs.Question.{lentFits}
 use Rattle.branches.specs.Fits.{planFits, branchFits, roomFits}
@@ -66,7 +67,8 @@ module _ (p : List ℕ) where
       and-yes (leb 12 (length p)) (planCount && planEnd) (le-leb 12 (length p) a)
       ∙ and-yes planCount planEnd (is-within 1 nodeLimit (nodeCount p) b c)
 
-  pub plan-fits-by : (n : ℕ) → n ≡ nodeCount p → 12 ≤ length p → 1 ≤ n → n ≤ 65535 → eqb (length p) (12 + 2 * n) ≡ planFits p
+  pub plan-fits-by : (n : ℕ) → n ≡ nodeCount p → 12 ≤ length p → 1 ≤ n → n ≤ 65535
+      → eqb (length p) (12 + 2 * n) ≡ planFits p
   plan-fits-by n e a b c =
       ap (λ (i : ℕ). eqb (length p) (planLength i)) e ∙ sym (plan-fits-end a (omega arith) (omega arith))
 
@@ -196,8 +198,8 @@ module _ (p r nums bytes : List ℕ) where
   pub lent-parts : lentFits p r nums bytes ≡ (planFits p && (branchFits r && lentRoom))
   unfolding lentFits planFits branchFits roomFits
   lent-parts =
-      three-and-four (leb 12 (length p)) (planCount p) (planEnd p) (leb 16 (length r)) (stateRange r) (labelRange r) (branchEnd r)
-      lentRoom
+      three-and-four (leb 12 (length p)) (planCount p) (planEnd p) (leb 16 (length r)) (stateRange r) (labelRange r)
+      (branchEnd r) lentRoom
 
   pub lent-plan-no : planFits p ≡ false → lentFits p r nums bytes ≡ false
   lent-plan-no e = lent-parts ∙ and-no-left (planFits p) (branchFits r && lentRoom) e
@@ -211,7 +213,8 @@ module _ (p r nums bytes : List ℕ) where
   lent-nums-no h =
       lent-parts
       ∙ and-no-right (planFits p) (branchFits r && lentRoom) (and-no-right (branchFits r) lentRoom
-      (and-no-left (leb (linkLength (nodeCount p)) (length nums)) (leb (stateLength (nodeCount p) (stateCount r)) (length bytes))
+      (and-no-left (leb (linkLength (nodeCount p)) (length nums))
+      (leb (stateLength (nodeCount p) (stateCount r)) (length bytes))
       (lt-leb (linkLength (nodeCount p)) (length nums) h)))
 
   lent-fits-end : planFits p ≡ true → branchFits r ≡ true → nodeCount p * 4 ≤ length nums
@@ -219,7 +222,8 @@ module _ (p r nums bytes : List ℕ) where
   unfolding roomFits
   lent-fits-end a b c =
       lent-parts ∙ and-yes (planFits p) (branchFits r && lentRoom) a ∙ and-yes (branchFits r) lentRoom b
-      ∙ and-yes (leb (linkLength (nodeCount p)) (length nums)) (leb (stateLength (nodeCount p) (stateCount r)) (length bytes))
+      ∙ and-yes (leb (linkLength (nodeCount p)) (length nums))
+      (leb (stateLength (nodeCount p) (stateCount r)) (length bytes))
       (le-leb (linkLength (nodeCount p)) (length nums) c)
 
   pub lent-fits-by : (n s : ℕ) → n ≡ nodeCount p → s ≡ stateCount r → planFits p ≡ true → branchFits r ≡ true

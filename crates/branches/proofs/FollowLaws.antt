@@ -4,8 +4,8 @@
 --     follow-padded            the map carried may stand in its array
 --     MapOf s m                m has s entries, all below s; follow-map: a composed map is such a map
 -- Assumes nothing.
-use Prim.Native.Nat.{ℕ, _+_, _≤_, _<_}
-use mathlib.Core.Path.{_≡_, refl, sym, ap, _∙_, subst}
+use Prim.Native.Nat.{ℕ, _≤_, _<_}
+use mathlib.Core.Path.{_≡_, refl, ap, subst}
 use mathlib.Core.Bool.{Bool, true, false, cond}
 use mathlib.Core.List.{List}
 use mathlib.Core.Option.{Option, none, some, Option·some-injective}
@@ -56,7 +56,10 @@ module _ (s : ℕ) (f : ℕ → ℕ) where
 pub follow-ext : (s : ℕ) (m : List ℕ) (f g : ℕ → ℕ) → ((q : ℕ) → q < s → f q ≡ g q) → follow s m f ≡ follow s m g
 unfolding follow
 follow-ext s m f g e =
-    rw (tabulate-ext s f g e, tabulate-ext s (λ q. getD m (f q) 0) (λ q. getD m (g q) 0) (λ q h. ap (λ (x : ℕ). getD m x 0) (e q h)))
+    rw (
+      tabulate-ext s f g e,
+      tabulate-ext s (λ q. getD m (f q) 0) (λ q. getD m (g q) 0) (λ q h. ap (λ (x : ℕ). getD m x 0) (e q h)),
+    )
 
 pub follow-padded : (s : ℕ) (m : List ℕ) (f : ℕ → ℕ) → follow s (padded m) f ≡ follow s m f
 unfolding follow

@@ -7,7 +7,7 @@
 -- Assumes nothing.
 use Prim.Native.Nat.{ℕ, _+_, _-_, _≤_, _<_}
 use mathlib.Core.Path.{_≡_, refl, sym, ap, _∙_}
-use mathlib.Core.List.{List, _++_}
+use mathlib.Core.List.{List}
 use native.Mathlib.Decide.{decLt, ℕ-discrete}
 use native.Mathlib.Omega.{arith}
 use lib.ListN.{length, getD, set, take, replicate}
@@ -50,7 +50,8 @@ pub record Filled (g : ℕ → ℕ) (q : ℕ) (a : List ℕ) : Type 0 where
 pub filled-start : (g : ℕ → ℕ) → Filled g 0 (replicate 16 0)
 filled-start g = record { long = refl; done = λ j h. absurd (omega arith); rest = λ j h. getD-zeros 16 j }
 
-pub filled-turn : (g : ℕ → ℕ) (q : ℕ) (a : List ℕ) (x : ℕ) → q < 16 → x ≡ g q → Filled g q a → Filled g (q + 1) (set a q x)
+pub filled-turn : (g : ℕ → ℕ) (q : ℕ) (a : List ℕ) (x : ℕ) → q < 16 → x ≡ g q → Filled g q a
+    → Filled g (q + 1) (set a q x)
 filled-turn g q a x h e f = record {
   long = length-set a q x ∙ f .long;
   done = λ j l. elim (ℕ-discrete j q) [
@@ -62,7 +63,8 @@ filled-turn g q a x h e f = record {
 
 pub filled-is : (g : ℕ → ℕ) (s : ℕ) (a : List ℕ) → s ≤ 16 → Filled g s a → a ≡ padded (tabulate s g)
 filled-is g s a h f =
-    ext-getD 0 a (padded (tabulate s g)) (f .long ∙ sym (length-padded (tabulate s g) (omega (arith, length-tabulate s g))))
+    ext-getD 0 a (padded (tabulate s g))
+    (f .long ∙ sym (length-padded (tabulate s g) (omega (arith, length-tabulate s g))))
     (λ j l. each j ∙ sym (getD-padded (tabulate s g) j))
   where
     each : (j : ℕ) → getD a j 0 ≡ getD (tabulate s g) j 0

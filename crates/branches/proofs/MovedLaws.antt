@@ -4,14 +4,14 @@
 --     Went, moved-on                           a move that was made
 --     moved-lost                               one that was not: there is none, or it makes nothing of the map
 -- Assumes nothing.
-use Prim.Native.Nat.{ℕ, _<_}
-use mathlib.Core.Path.{_≡_, refl, sym, ap, _∙_, subst}
-use mathlib.Core.Bool.{Bool, true, false}
+use Prim.Native.Nat.{ℕ}
+use mathlib.Core.Path.{_≡_, refl, sym, ap, _∙_}
+use mathlib.Core.Bool.{true, false}
 use mathlib.Core.List.{List}
 use mathlib.Core.Logic.{_⊎_, inl, inr}
 use mathlib.Core.Option.{Option, none, some}
 use native.Mathlib.Omega.{arith}
-use lib.ListN.{length, replicate}
+use lib.ListN.{replicate}
 use Rattle.trees.specs.Climb.{Forest, Move, byJump, toParent, target, nextMove}
 use Rattle.trees.proofs.MoveLaws.{next-start}
 use Rattle.formats.proofs.CheckLaws.{true-false}
@@ -47,7 +47,8 @@ module _ (F : Forest) (v to : ℕ) where
           (q ∙ ap (λ (x : ℕ). some (byJump x)) z, ap node h ∙ ap (F .jump) z)
       go (some (toParent u)) q h = absurd (let z : _≡_ {A = ℕ} 0 1 = ap kind h in omega arith)
 
-  told-parent : (p : ℕ) → Parent p ≡ toldMove F (nextMove F v to) → (nextMove F v to ≡ some (toParent v)) × (p ≡ F .parent v)
+  told-parent : (p : ℕ) → Parent p ≡ toldMove F (nextMove F v to)
+      → (nextMove F v to ≡ some (toParent v)) × (p ≡ F .parent v)
   unfolding toldMove
   told-parent p e = go (nextMove F v to) refl e
     where
@@ -80,7 +81,8 @@ module _ (F : Forest) (act : Move → List ℕ → Option (List ℕ)) (m : List 
       → record { ok = f .ok; node = j; map = f .map } ≡ movedBy F act m (nextMove F v to)
   moved-jump j f e h = let t = told-jump F v to j e in moved-by (byJump v) j f (t .0) (t .1) h
 
-  pub moved-parent : (p : ℕ) (f : Followed) → Parent p ≡ toldMove F (nextMove F v to) → f ≡ followed (act (toParent v) m)
+  pub moved-parent : (p : ℕ) (f : Followed) → Parent p ≡ toldMove F (nextMove F v to)
+      → f ≡ followed (act (toParent v) m)
       → record { ok = f .ok; node = p; map = f .map } ≡ movedBy F act m (nextMove F v to)
   moved-parent p f e h = let t = told-parent F v to p e in moved-by (toParent v) p f (t .0) (t .1) h
 

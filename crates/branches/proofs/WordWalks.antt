@@ -13,7 +13,7 @@ use Rattle.trees.specs.Numbering.{parent, labelsDown}
 use Rattle.trees.specs.Climb.{walk}
 use Rattle.trees.specs.Tables.{tabulate}
 use Rattle.trees.proofs.RowLaws.{length-tabulate, getD-tabulate, tabulate-ext, tabulate-of}
-use Rattle.trees.proofs.BranchMapLaws.{wordRun-append, wordRun-below, labelsDown-suc}
+use Rattle.trees.proofs.BranchMapLaws.{wordRun-append, wordRun-below}
 
 module _ (B : WordAutomaton) (t : Tree) where
   abbrev pub labelStep : ℕ → List ℕ → List ℕ
@@ -29,8 +29,10 @@ module _ (B : WordAutomaton) (t : Tree) where
     walk-word v zero m e = tabulate-of (B .states) (λ q. getD m q 0) m e (λ j h. refl)
     walk-word v (suc n) m e =
         walk-word (parent t v) n (labelStep v m) (length-tabulate (B .states) (λ q. getD m (B .step q (labelAt t v)) 0))
-        ∙ tabulate-ext (B .states) (λ q. getD (labelStep v m) (up q) 0) (λ q. getD m (wordRun B q (labelsDown t v (suc n))) 0)
-        (λ q h. getD-tabulate (B .states) (λ i. getD m (B .step i (labelAt t v)) 0) (up q) (wordRun-below B below q (labelsDown t (parent t v) n) h)
+        ∙ tabulate-ext (B .states) (λ q. getD (labelStep v m) (up q) 0)
+        (λ q. getD m (wordRun B q (labelsDown t v (suc n))) 0)
+        (λ q h. getD-tabulate (B .states) (λ i. getD m (B .step i (labelAt t v)) 0) (up q)
+        (wordRun-below B below q (labelsDown t (parent t v) n) h)
         ∙ ap (λ (x : ℕ). getD m x 0) (sym (wordRun-append B q (labelsDown t (parent t v) n) (labelAt t v ∷ []))))
       where
         up : ℕ → ℕ
@@ -39,6 +41,8 @@ module _ (B : WordAutomaton) (t : Tree) where
     pub walk-identity : (v n q : ℕ) → q < B .states
         → getD (walk labelStep t v n (tabulate (B .states) (λ i. i))) q 0 ≡ wordRun B q (labelsDown t v n)
     walk-identity v n q h =
-        ap (λ (x : List ℕ). getD x q 0) (walk-word v n (tabulate (B .states) (λ i. i)) (length-tabulate (B .states) (λ i. i)))
+        ap (λ (x : List ℕ). getD x q 0)
+        (walk-word v n (tabulate (B .states) (λ i. i)) (length-tabulate (B .states) (λ i. i)))
         ∙ getD-tabulate (B .states) (λ i. getD (tabulate (B .states) (λ i. i)) (wordRun B i (labelsDown t v n)) 0) q h
-        ∙ getD-tabulate (B .states) (λ i. i) (wordRun B q (labelsDown t v n)) (wordRun-below B below q (labelsDown t v n) h)
+        ∙ getD-tabulate (B .states) (λ i. i) (wordRun B q (labelsDown t v n))
+        (wordRun-below B below q (labelsDown t v n) h)

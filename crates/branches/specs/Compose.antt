@@ -1,4 +1,5 @@
--- Maps composed on a climb, as the functions of the branch question have them: on runs of labels and steps, with arrays of 16.
+-- Maps composed on a climb, as the functions of the branch question have them: on runs of labels and steps, in arrays
+-- of 16.
 --
 -- padded m == the map m in an array of 16; the entries that it does not use are 0
 -- followed o == a composed map, or none, as a function returns it
@@ -7,14 +8,13 @@
 -- runMove s k ls st bytes == moveMap on the run of labels ls and the run of steps st
 -- movedBy F act m o == the node that the move o leads to and what it makes of the map m, as a function returns them
 -- Counted == a map and the number of links that it was composed of
--- composition .. == the map from after the label at depth `to` to after node l's label, with the links of the climb from l;
+-- composition .. == the map from after the label at depth `to` to after node l's label, with the links of the climb;
 --   none where a value read leads outside the plan, the states or the labels, or the climb does not rise
 -- composed o == a composition, or none, as a function returns it
 -- ComposeArgs .. == n nodes, s states and k labels within limits, and runs and tables that are long enough
 --
 -- Assumes nothing.
 use Prim.Native.Nat.{ℕ, _+_, _-_, _*_, _≤_, _<_}
-use mathlib.Core.Path.{_≡_}
 use mathlib.Core.Bool.{true, false, cond}
 use mathlib.Core.List.{List, _++_}
 use mathlib.Core.Option.{Option, none, some}

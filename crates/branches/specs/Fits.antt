@@ -1,8 +1,10 @@
--- Check 17 of a branch question in its three parts, as its functions ask them; lentFits is the three together (proofs/FitLaws).
+-- Check 17 of a branch question in its three parts, as its functions ask them.
 --
 -- planFits p == the plan has a whole header with N in its limits, and is exactly as long
 -- branchFits r == the branch table has a whole header with S and K in their limits, and is exactly as long
 -- roomFits n s nums bytes == both tables are at least as long as n nodes and s states need
+--
+-- lentFits (Question) is the three together: lent-parts of proofs/FitLaws.
 --
 -- Assumes nothing.
 use Prim.Native.Nat.{ℕ}

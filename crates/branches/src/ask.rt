@@ -7,7 +7,7 @@ use formats::bytes::read32;
 use links::moves::depth_at;
 use links::moves::size_at;
 ghost use mathlib.Core.Path.{_≡_};
-ghost use Prim.Native.Nat.{ℕ, _+_, _*_, _≤_};
+ghost use Prim.Native.Nat.{_+_, _*_, _≤_};
 ghost use lib.ListN.{length};
 ghost use Rattle.branches.specs.Question.{isBelow, branchOn, toldBranch};
 ghost use Rattle.branches.specs.Promise.{AskDone};
@@ -36,7 +36,8 @@ fn finish_answer(
     links: u32,
 ) -> Branching
     requires { ⌜ FinishArgs s k (now labels) (now steps) (now marks) u map ⌝ }
-    ensures { λ r. ⌜ r ≡ toldBranch 0 (finish s k (now (labels .entry)) (now (steps .entry)) (now (marks .entry)) u map links) ⌝ }
+    ensures { λ r. ⌜ r ≡ toldBranch 0 (finish s k (now (labels .entry)) (now (steps .entry)) (now (marks .entry)) u
+        map links) ⌝ }
 {
     let a = labels[u] as usize;
     if k <= a {
@@ -88,7 +89,8 @@ pub fn ask_branch(
     upper: u32,
     lower: u32,
 ) -> Branching
-    ensures { λ r. ⌜ AskDone (now (plan .entry)) (now (branch .entry)) (now (nums .entry)) (now (bytes .entry)) upper lower r ⌝ }
+    ensures { λ r. ⌜ AskDone (now (plan .entry)) (now (branch .entry)) (now (nums .entry)) (now (bytes .entry)) upper
+        lower r ⌝ }
 {
     if !lent_fits(plan, branch, nums, bytes) {
         return Branching::Refused(17);

@@ -27,7 +27,8 @@ steps-end : (c : tie.After-read323) → 16 + c .before .read322 .result * c .rea
     ≤ length (c .before .before .before .before .before .before .before .args .branch .now)
 steps-end c =
     let s = c .before .before .before .before .before .before .before in
-    let e : c .before .read322 .result * c .read323 .result ≡ stateCount (s .args .branch .now) * labelCount (s .args .branch .now) =
+    let e : c .before .read322 .result * c .read323 .result
+    ≡ stateCount (s .args .branch .now) * labelCount (s .args .branch .now) =
     ap₂ (λ (i j : ℕ). i * j) (c .before .read322 .ensures) (c .read323 .ensures) in
     omega (arith, fit s .branch .exact)
 
@@ -42,22 +43,27 @@ abbrev labels : tie.After-depth-at → ℕ
 labels c = c .before .before .before .read323 .result
 
 abbrev label-run : tie.After-depth-at → List ℕ
-label-run c = take (12 + nodes c - 12) (drop 12 (c .before .before .before .before .before .before .before .before .before .before .args .plan .now))
+label-run c = take (12 + nodes c - 12)
+    (drop 12 (c .before .before .before .before .before .before .before .before .before .before .args .plan .now))
 
 abbrev step-run : tie.After-depth-at → List ℕ
-step-run c = take (16 + states c * labels c - 16) (drop 16 (c .before .before .before .before .before .before .before .before .before .before .args .branch .now))
+step-run c = take (16 + states c * labels c - 16)
+    (drop 16 (c .before .before .before .before .before .before .before .before .before .before .args .branch .now))
 
 abbrev mark-run : tie.After-depth-at → List ℕ
 mark-run c =
     let r = c .before .before .before .before .before .before .before .before .before .before .args .branch .now in
     take (length r - (16 + states c * labels c)) (drop (16 + states c * labels c) r)
 
-on : (c : tie.After-depth-at) → let g = c .before .before .before .before .before .before .before .before .before .before .args in
+on : (c : tie.After-depth-at)
+    → let g = c .before .before .before .before .before .before .before .before .before .before .args in
     Handed (g .plan .now) (g .branch .now) (g .nums .now) (g .u) (nodes c) (states c) (labels c) (c .depth-at .result)
     (label-run c) (step-run c) (mark-run c)
 on c =
-    handed _ _ _ _ (nodes c) (states c) (labels c) (c .depth-at .result) (c .before .before .before .before .before .read32 .ensures) (c .before .before .before .before .read322 .ensures)
-    (c .before .before .before .read323 .ensures) (c .depth-at .ensures) (fit (c .before .before .before .before .before .before .before .before .before .before) .branch .exact)
+    handed _ _ _ _ (nodes c) (states c) (labels c) (c .depth-at .result)
+    (c .before .before .before .before .before .read32 .ensures) (c .before .before .before .before .read322 .ensures)
+    (c .before .before .before .read323 .ensures) (c .depth-at .ensures)
+    (fit (c .before .before .before .before .before .before .before .before .before .before) .branch .exact)
 
 read32-requires : tie.Need-read32-requires
 read32-requires c κs = omega (arith, fit (c .before .before .before .before) .plan .long)
@@ -69,7 +75,11 @@ read32-requires-3 : tie.Need-read32-requires-3
 read32-requires-3 c κs = omega (arith, fit (c .before .before .before .before .before .before) .branch .long)
 
 add-labels : tie.Need-add-labels
-add-labels c = omega (arith, fit (c .before .before .before .before .before .before .before) .plan .most, c .before .before .read32 .ensures)
+add-labels c = omega (
+  arith,
+  fit (c .before .before .before .before .before .before .before) .plan .most,
+  c .before .before .read32 .ensures,
+)
 
 sub-labels : tie.Need-sub-labels
 sub-labels c = search needs
@@ -78,7 +88,11 @@ part-labels-start : tie.Need-part-labels-start
 part-labels-start c = search needs
 
 part-labels-end : tie.Need-part-labels-end
-part-labels-end c = omega (arith, fit (c .before .before .before .before .before .before .before) .plan .exact, c .before .before .read32 .ensures)
+part-labels-end c = omega (
+  arith,
+  fit (c .before .before .before .before .before .before .before) .plan .exact,
+  c .before .before .read32 .ensures,
+)
 
 mul-steps : tie.Need-mul-steps
 mul-steps c = omega (arith, steps-end (c .before))
@@ -96,15 +110,24 @@ part-steps-end : tie.Need-part-steps-end
 part-steps-end c = steps-end (c .before)
 
 depth-at-requires : tie.Need-depth-at-requires
-depth-at-requires c κs = omega (arith, c .before .before .before .before .before .before .before .before .before .pre .upper, fit (c .before .before .before .before .before .before .before .before .before) .nums-room)
+depth-at-requires c κs =
+    omega (
+      arith,
+      c .before .before .before .before .before .before .before .before .before .pre .upper,
+      fit (c .before .before .before .before .before .before .before .before .before) .nums-room,
+    )
 
 compose-climb-requires : tie.Need-compose-climb-requires
-compose-climb-requires c κs = compose-args _ _ _ _ _ _ _ _ _ _ _ _ (mark-run c) (c .before .before .before .before .before .before .before .before .before .before .pre) (on c)
+compose-climb-requires c κs =
+    compose-args _ _ _ _ _ _ _ _ _ _ _ _ (mark-run c)
+    (c .before .before .before .before .before .before .before .before .before .before .pre) (on c)
 
 returns : tie.Need-returns
 returns c =
     let x = c .before .before in
-    answer-none _ _ _ _ _ _ _ _ _ _ _ _ (mark-run (x .before)) (c .before .before .before .before .before .before .before .before .before .before .before .before .before .pre) (on (x .before)) (x .compose-climb .result) (x .compose-climb .ensures)
+    answer-none _ _ _ _ _ _ _ _ _ _ _ _ (mark-run (x .before))
+    (c .before .before .before .before .before .before .before .before .before .before .before .before .before .pre)
+    (on (x .before)) (x .compose-climb .result) (x .compose-climb .ensures)
     (not-true _ (c .if1 .taken))
 
 mul-finish-answer : tie.Need-mul-finish-answer
@@ -125,13 +148,17 @@ part-finish-answer-end c = search needs
 finish-answer-requires : tie.Need-finish-answer-requires
 finish-answer-requires c κs =
     let x = c .before .before .before .before in
-    finish-args _ _ _ _ _ _ _ _ _ _ _ _ (mark-run (x .before)) (c .before .before .before .before .before .before .before .before .before .before .before .before .before .before .before .pre) (on (x .before)) (x .compose-climb .result) (x .compose-climb .ensures)
+    finish-args _ _ _ _ _ _ _ _ _ _ _ _ (mark-run (x .before))
+    (c .before .before .before .before .before .before .before .before .before .before .before .before .before .before
+    .before .pre) (on (x .before)) (x .compose-climb .result) (x .compose-climb .ensures)
     (not-false _ (c .before .before .if1 .left))
 
 returns-2 : tie.Need-returns-2
 returns-2 c =
     let x = c .before .before .before .before .before in
-    answer-some _ _ _ _ _ _ _ _ _ _ _ _ (mark-run (x .before)) (c .before .before .before .before .before .before .before .before .before .before .before .before .before .before .before .before .pre) (on (x .before)) (x .compose-climb .result) (x .compose-climb .ensures)
+    answer-some _ _ _ _ _ _ _ _ _ _ _ _ (mark-run (x .before))
+    (c .before .before .before .before .before .before .before .before .before .before .before .before .before .before
+    .before .before .pre) (on (x .before)) (x .compose-climb .result) (x .compose-climb .ensures)
     (c .finish-answer .result) (not-false _ (c .before .before .before .if1 .left)) (c .finish-answer .ensures)
 
 pub answer-branch-spec : {M : Type 1} → statement M

@@ -1,5 +1,4 @@
 use mathlib.Core.Path.{sym}
-use native.Mathlib.Omega.{arith}
 use borrow.Author.Needs.{needs}
 use Rattle.branches.proofs.FinishLaws.{below-no, below-by}
 use Rattle.branches.proofs.ask.is_below.Statement.{statement}

@@ -30,7 +30,8 @@ returns-2 : tie.Need-returns-2
 returns-2 c =
     let g = c .before .before .before .before .before .args in
     c .after-map .ensures
-    ∙ ap followed (sym (label-inside (g .s) (g .k) (g .labels .now) (g .steps .now) (g .v) (g .m) (c .before .if1 .left)))
+    ∙ ap followed (sym (label-inside (g .s) (g .k) (g .labels .now) (g .steps .now) (g .v) (g .m)
+    (c .before .if1 .left)))
 
 pub after-label-spec : {M : Type 1} → statement M
 after-label-spec =

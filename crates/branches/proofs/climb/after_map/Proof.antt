@@ -15,7 +15,10 @@ use Rattle.branches.proofs.climb.after_map.Reads as reads
 use Rattle.branches.proofs.climb.after_map.Lts as lts
 
 abbrev Inv-loop : tie.InvT-loop
-Inv-loop from at stride s m map₀ q₀ map q = (q ≤ s) × (((j : ℕ) → j < q → getD from (at + j * stride) 0 < s) × Filled (λ (i : ℕ). getD m (getD from (at + i * stride) 0) 0) q map)
+Inv-loop from at stride s m map₀ q₀ map q =
+    (q ≤ s)
+    × (((j : ℕ) → j < q → getD from (at + j * stride) 0 < s)
+    × Filled (λ (i : ℕ). getD m (getD from (at + i * stride) 0) 0) q map)
 
 abbrev μ-loop : tie.MeasureT-loop
 μ-loop from at stride s m map₀ q₀ map q = s - q
@@ -28,7 +31,8 @@ abbrev entry : tie.Start Inv-loop μ-loop → ℕ → ℕ
 entry s i = getD (s .args .t1) (read s i) 0
 
 inside : (c : tie.In-loop Inv-loop μ-loop)
-    → c .before .before .args .at + c .before .loop .q * c .before .before .args .stride < length (c .before .before .args .from .now)
+    → c .before .before .args .at + c .before .loop .q * c .before .before .args .stride
+    < length (c .before .before .args .from .now)
 inside c = c .before .before .pre .inside (c .before .loop .q) (c .loop-test .taken)
 
 loop-holds : tie.Need-loop-holds Inv-loop μ-loop
@@ -52,7 +56,8 @@ returns : tie.Need-returns Inv-loop μ-loop
 returns c =
     let a = c .before .before .before in
     let s = a .before in
-    ap followed (sym (follow-no (s .args .s) (read s) (s .args .t1) (a .loop .q) (c .before .before .loop-test .taken) (c .if1 .taken)))
+    ap followed (sym (follow-no (s .args .s) (read s) (s .args .t1) (a .loop .q) (c .before .before .loop-test .taken)
+    (c .if1 .taken)))
 
 array-read-map : tie.Need-array-read-map Inv-loop μ-loop
 array-read-map c = search needs
@@ -76,7 +81,8 @@ loop-again c =
           | yes e ↦ rw e (c .if1 .left)
           | no e ↦ a .loop .inv .1 .0 j (omega arith)
         ]),
-        filled-turn (entry s) (a .loop .q) (a .loop .map) (entry s (a .loop .q)) (omega (arith, s .pre .few, c .before .before .loop-test .taken)) refl (a .loop .inv .1 .1),
+        filled-turn (entry s) (a .loop .q) (a .loop .map) (entry s (a .loop .q))
+            (omega (arith, s .pre .few, c .before .before .loop-test .taken)) refl (a .loop .inv .1 .1),
       ),
     )
 

@@ -1,11 +1,9 @@
-use Prim.Native.Nat.{ℕ, _+_, _*_, _≤_, _<_}
-use mathlib.Core.Path.{_≡_, sym, ap, _∙_}
+use Prim.Native.Nat.{_+_, _*_, _<_}
 use native.Mathlib.Omega.{arith}
 use borrow.Author.Tests.{not-true, not-false}
-use lib.ListN.{length}
 use Rattle.links.specs.Cells.{depthCell}
-use Rattle.branches.proofs.ComposeTurns.{Climbing, climbing-start, climbing-turn, climbing-rises, climbing-done, climbing-lost}
-use borrow.Author.Needs.{needs}
+use Rattle.branches.proofs.ComposeTurns.{Climbing, climbing-start, climbing-turn, climbing-rises}
+use Rattle.branches.proofs.ComposeTurns.{climbing-done, climbing-lost}
 use Rattle.branches.proofs.climb.compose_climb.Statement.{statement}
 use Rattle.branches.proofs.climb.compose_climb.Tie as tie
 use Rattle.branches.proofs.climb.compose_climb.Reads as reads
@@ -15,24 +13,28 @@ use Rattle.branches.proofs.climb.identity.Reads as identity-reads
 use Rattle.links.proofs.moves.depth_at.Reads as depth-at-reads
 
 abbrev Inv-loop : tie.InvT-loop
-Inv-loop labels steps nums bytes n s k from to v₀ map₀ links₀ v map links = Climbing n s k labels steps nums bytes from to map v links
+Inv-loop labels steps nums bytes n s k from to v₀ map₀ links₀ v map links =
+    Climbing n s k labels steps nums bytes from to map v links
 
 abbrev μ-loop : tie.MeasureT-loop
 μ-loop labels steps nums bytes n s k from to v₀ map₀ links₀ v map links = depthCell nums v
 
 deeper : (c : tie.Then1 Inv-loop μ-loop)
     → c .before .before .before .before .before .before .before .before .args .to
-    < depthCell (c .before .before .before .before .before .before .before .before .args .nums .now) (c .before .before .loop .v)
+    < depthCell (c .before .before .before .before .before .before .before .before .args .nums .now)
+    (c .before .before .loop .v)
 deeper c = omega (arith, c .if1 .taken, c .before .depth-at .ensures)
 
 identity-requires : tie.Need-identity-requires Inv-loop μ-loop
 identity-requires c κs = c .before .before .before .before .pre .few
 
 loop-holds : tie.Need-loop-holds Inv-loop μ-loop
-loop-holds c = climbing-start _ _ _ _ _ _ _ _ _ (c .identity .result) (c .before .before .before .before .before .pre .at) (c .identity .ensures)
+loop-holds c = climbing-start _ _ _ _ _ _ _ _ _ (c .identity .result)
+    (c .before .before .before .before .before .pre .at) (c .identity .ensures)
 
 depth-at-requires : tie.Need-depth-at-requires Inv-loop μ-loop
-depth-at-requires c κs = omega (arith, c .loop .inv .inside, c .before .before .before .before .before .before .pre .nums-room)
+depth-at-requires c κs =
+    omega (arith, c .loop .inv .inside, c .before .before .before .before .before .before .pre .nums-room)
 
 compose-move-requires : tie.Need-compose-move-requires Inv-loop μ-loop
 compose-move-requires c κs =
@@ -59,7 +61,12 @@ add-links c =
     let m = c .before .before .before in
     let a = m .before .before .before in
     let k = a .before .before .before in
-    omega (arith, a .loop .inv .few, deeper (m .before), k .shared-slice-known3 .given (k .before .before .before .args .from * 4 + 2))
+    omega (
+      arith,
+      a .loop .inv .few,
+      deeper (m .before),
+      k .shared-slice-known3 .given (k .before .before .before .args .from * 4 + 2),
+    )
 
 loop-less : tie.Need-loop-less Inv-loop μ-loop
 loop-less c =
@@ -78,7 +85,8 @@ loop-again c =
 returns-2 : tie.Need-returns-2 Inv-loop μ-loop
 returns-2 c =
     let a = c .before .before in
-    climbing-done _ _ _ _ _ _ _ _ _ (a .loop .map) (a .loop .v) (a .loop .links) (a .loop .inv) (omega (arith, c .if1 .left, c .before .depth-at .ensures))
+    climbing-done _ _ _ _ _ _ _ _ _ (a .loop .map) (a .loop .v) (a .loop .links) (a .loop .inv)
+    (omega (arith, c .if1 .left, c .before .depth-at .ensures))
 
 pub compose-climb-spec : {M : Type 1} → statement M
 compose-climb-spec =

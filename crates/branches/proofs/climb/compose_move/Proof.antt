@@ -45,7 +45,8 @@ add-after-map-2 c = omega (arith, map-at (c .before .before .before .before .bef
 after-map-requires : tie.Need-after-map-requires
 after-map-requires c κs =
     let s = c .before .before .before .before .before .before .before .before in
-    jump-reads (s .args .s) (s .args .bytes .now) (s .args .v) (s .args .n) (s .pre .few) (s .pre .at) (s .pre .bytes-room)
+    jump-reads (s .args .s) (s .args .bytes .now) (s .args .v) (s .args .n) (s .pre .few) (s .pre .at)
+    (s .pre .bytes-room)
 
 enum-known-p : tie.Need-enum-known-p
 enum-known-p c = search needs
@@ -60,7 +61,8 @@ returns : tie.Need-returns
 returns c =
     let s = c .before .before .before .before .before .before .before .before .before .before in
     let g = s .args in
-    moved-jump (forest s) (act s) (g .m) (g .v) (g .to) (c .before .before .before .j .given .0 .0) (c .before .after-map .result)
+    moved-jump (forest s) (act s) (g .m) (g .v) (g .to) (c .before .before .before .j .given .0 .0)
+    (c .before .after-map .result)
     (sym (c .before .before .before .j .given .1) ∙ c .before .before .before .before .before .next-move .ensures)
     (c .before .after-map .ensures
     ∙ ap followed (sym (run-jump (g .s) (g .k) (g .labels .now) (g .steps .now) (g .bytes .now) (g .v) (g .m))))
@@ -69,7 +71,8 @@ returns-2 : tie.Need-returns-2
 returns-2 c =
     let s = c .before .before .before .before .before .before .before .before .before .before in
     let g = s .args in
-    moved-parent (forest s) (act s) (g .m) (g .v) (g .to) (c .before .before .before .p .given .0 .0) (c .before .after-label .result)
+    moved-parent (forest s) (act s) (g .m) (g .v) (g .to) (c .before .before .before .p .given .0 .0)
+    (c .before .after-label .result)
     (sym (c .before .before .before .p .given .1) ∙ c .before .before .before .before .before .next-move .ensures)
     (c .before .after-label .ensures
     ∙ ap followed (sym (run-parent (g .s) (g .k) (g .labels .now) (g .steps .now) (g .bytes .now) (g .v) (g .m))))

@@ -31,8 +31,11 @@ loop-less c = search needs
 
 loop-again : tie.Need-loop-again Inv-loop μ-loop
 loop-again c =
-    let a = c .before in
-    (search needs, filled-turn (λ (i : ℕ). i) (a .loop .q) (a .loop .map) (a .loop .q) (omega (arith, a .before .pre, c .loop-test .taken)) refl (a .loop .inv .1))
+    let a = c .before in (
+      search needs,
+      filled-turn (λ (i : ℕ). i) (a .loop .q) (a .loop .map) (a .loop .q)
+          (omega (arith, a .before .pre, c .loop-test .taken)) refl (a .loop .inv .1),
+    )
 
 returns : tie.Need-returns Inv-loop μ-loop
 returns c =

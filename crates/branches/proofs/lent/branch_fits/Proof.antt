@@ -1,12 +1,21 @@
 use native.Mathlib.Omega.{arith}
 use borrow.Author.Needs.{needs}
-use mathlib.Core.Path.{_≡_, sym, ap, _∙_}
-use Rattle.branches.proofs.FitLaws.{branch-short, states-none, states-many, labels-none, labels-many, branch-fits-by, product-most}
+use Prim.Native.Nat.{_*_, _≤_}
+use mathlib.Core.Path.{sym}
+use Rattle.branches.proofs.FitLaws.{branch-short, states-none, states-many, labels-none, labels-many}
+use Rattle.branches.proofs.FitLaws.{branch-fits-by, product-most}
 use Rattle.branches.proofs.lent.branch_fits.Statement.{statement}
 use Rattle.branches.proofs.lent.branch_fits.Tie as tie
 use Rattle.branches.proofs.lent.branch_fits.Reads as reads
 use Rattle.branches.proofs.lent.branch_fits.Lts as lts
 use Rattle.formats.proofs.bytes.read32.Reads as read32-reads
+
+-- the number of steps is small
+product : (c : tie.Else5)
+    → c .before .before .before .before .before .read32 .result * c .before .before .read322 .result ≤ 1024
+product c =
+    product-most (c .before .before .before .before .before .read32 .result) (c .before .before .read322 .result) 16 64
+    (omega arith) (omega arith)
 
 returns : tie.Need-returns
 returns c = sym (branch-short _ (omega arith))
@@ -30,16 +39,17 @@ returns-5 : tie.Need-returns-5
 returns-5 c = sym (labels-many _ (omega arith))
 
 mul-result : tie.Need-mul-result
-mul-result c = omega (arith, product-most (c .before .before .before .before .before .read32 .result) (c .before .before .read322 .result) 16 64 (omega arith) (omega arith))
+mul-result c = omega (arith, product c)
 
 add-result : tie.Need-add-result
-add-result c = omega (arith, product-most (c .before .before .before .before .before .read32 .result) (c .before .before .read322 .result) 16 64 (omega arith) (omega arith))
+add-result c = omega (arith, product c)
 
 add-result-2 : tie.Need-add-result-2
-add-result-2 c = omega (arith, product-most (c .before .before .before .before .before .read32 .result) (c .before .before .read322 .result) 16 64 (omega arith) (omega arith))
+add-result-2 c = omega (arith, product c)
 
 returns-6 : tie.Need-returns-6
-returns-6 c = branch-fits-by _ (c .before .before .before .before .before .read32 .result) (c .before .before .read322 .result)
+returns-6 c = branch-fits-by _ (c .before .before .before .before .before .read32 .result)
+    (c .before .before .read322 .result)
     (omega arith) (omega arith) (omega arith) (omega arith) (omega arith) (omega arith) (omega arith)
 
 pub branch-fits-spec : {M : Type 1} → statement M

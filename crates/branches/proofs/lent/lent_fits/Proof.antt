@@ -3,9 +3,10 @@ use borrow.Author.Needs.{needs}
 use Prim.Native.Nat.{_+_, _*_, _≤_}
 use mathlib.Core.Bool.{true}
 use borrow.Author.Tests.{not-true, not-false}
-use mathlib.Core.Path.{_≡_, sym, ap, _∙_}
+use mathlib.Core.Path.{_≡_, sym, _∙_}
 use Rattle.branches.specs.Fits.{planFits, branchFits}
-use Rattle.branches.proofs.FitLaws.{lent-plan-no, lent-branch-no, lent-nums-no, lent-fits-by, PlanFits, BranchFits, plan-fits, branch-fits, product-most}
+use Rattle.branches.proofs.FitLaws.{lent-plan-no, lent-branch-no, lent-nums-no, lent-fits-by, PlanFits}
+use Rattle.branches.proofs.FitLaws.{BranchFits, plan-fits, branch-fits, product-most}
 use Rattle.branches.proofs.lent.lent_fits.Statement.{statement}
 use Rattle.branches.proofs.lent.lent_fits.Tie as tie
 use Rattle.branches.proofs.lent.lent_fits.Reads as reads
@@ -17,16 +18,20 @@ use Rattle.formats.proofs.bytes.read32.Reads as read32-reads
 plan-fits-requires : tie.Need-plan-fits-requires
 plan-fits-requires c κs = search needs
 
-plan-yes : (c : tie.Else2) → planFits (c .before .before .before .before .before .before .before .before .args .plan .now) ≡ true
+plan-yes : (c : tie.Else2)
+    → planFits (c .before .before .before .before .before .before .before .before .args .plan .now) ≡ true
 plan-yes c = sym (c .before .before .before .plan-fits .ensures) ∙ not-false _ (c .before .before .if1 .left)
 
-branch-yes : (c : tie.Else2) → branchFits (c .before .before .before .before .before .before .before .before .args .branch .now) ≡ true
+branch-yes : (c : tie.Else2)
+    → branchFits (c .before .before .before .before .before .before .before .before .args .branch .now) ≡ true
 branch-yes c = sym (c .before .branch-fits .ensures) ∙ not-false _ (c .if2 .left)
 
-plan-in : (c : tie.Else2) → PlanFits (c .before .before .before .before .before .before .before .before .args .plan .now)
+plan-in : (c : tie.Else2)
+    → PlanFits (c .before .before .before .before .before .before .before .before .args .plan .now)
 plan-in c = plan-fits _ (plan-yes c)
 
-branch-in : (c : tie.Else2) → BranchFits (c .before .before .before .before .before .before .before .before .args .branch .now)
+branch-in : (c : tie.Else2)
+    → BranchFits (c .before .before .before .before .before .before .before .before .args .branch .now)
 branch-in c = branch-fits _ (branch-yes c)
 
 -- the length that the states and maps need is small
@@ -66,7 +71,8 @@ mul-result c = omega (arith, product c)
 returns-4 : tie.Need-returns-4
 returns-4 c =
     let e = c .before .before .before in
-    lent-fits-by _ _ _ _ (c .before .before .read32 .result) (c .read322 .result) (omega arith) (omega arith) (plan-yes e) (branch-yes e) (omega arith)
+    lent-fits-by _ _ _ _ (c .before .before .read32 .result) (c .read322 .result) (omega arith) (omega arith)
+    (plan-yes e) (branch-yes e) (omega arith)
 
 pub lent-fits-spec : {M : Type 1} → statement M
 lent-fits-spec =

@@ -1,6 +1,6 @@
 use native.Mathlib.Omega.{arith}
 use borrow.Author.Needs.{needs}
-use mathlib.Core.Path.{_≡_, sym, ap, _∙_}
+use mathlib.Core.Path.{sym}
 use Rattle.branches.proofs.FitLaws.{plan-short, plan-none, plan-many, plan-fits-by}
 use Rattle.branches.proofs.lent.plan_fits.Statement.{statement}
 use Rattle.branches.proofs.lent.plan_fits.Tie as tie
