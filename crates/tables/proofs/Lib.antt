@@ -1,3 +1,13 @@
+pub mod CompareLaws
+pub mod LocalLaws
+pub mod CheckLaws
+pub mod CheckStateTurns
+pub mod CheckMapTurns
+pub mod CheckMapPlaces
+pub mod CheckTableTurns
+pub mod CheckBothTurns
+pub mod CheckAnswers
+pub mod CheckTheorems
 pub mod RowTurns
 pub mod StateTurns
 pub mod MapTurns
