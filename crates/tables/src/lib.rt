@@ -1,2 +1,3 @@
 // Tables for rule tables: their build, their full check, and what branch tables share with them.
 pub mod answers;
+pub mod rows;
