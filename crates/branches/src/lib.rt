@@ -1,2 +1,3 @@
 // Branch tables: their build, their full check, and the branch question.
 pub mod answers;
+pub mod steps;
