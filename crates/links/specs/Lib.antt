@@ -1,1 +1,4 @@
 pub mod Cells
+pub mod LinkCells
+pub mod UpPass
+pub mod DownPass

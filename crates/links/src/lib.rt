@@ -1,8 +1,4 @@
-// The table of links: each node's parent, jump, depth and size.
-ghost use mathlib.Core.Path.{_≡_};
-
-pub fn same(x: u64) -> u64
-    ensures { λ r. ⌜ r ≡ x ⌝ }
-{
-    x
-}
+// The table of links: each node's parent, jump, depth and size. Its build, its full check, and one move of a climb on it.
+pub mod build;
+pub mod down;
+pub mod up;

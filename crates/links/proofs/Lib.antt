@@ -1,0 +1,3 @@
+pub mod UpTurns
+pub mod DownTurns
+pub mod CellLaws

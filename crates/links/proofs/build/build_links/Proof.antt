@@ -1,0 +1,42 @@
+-- `build_links` meets its contract: the pass up, then the pass down. Assumes nothing.
+use Prim.Native.Nat.{ℕ}
+use mathlib.Core.Path.{_≡_}
+use lib.ListN.{length}
+use Rattle.links.specs.Cells.{LinkArgs}
+use Rattle.links.proofs.CellLaws.{down-args, passes}
+use native.Mathlib.Omega.{arith}
+use borrow.Author.Needs.{needs}
+use Rattle.links.proofs.build.build_links.Statement.{statement}
+use Rattle.links.proofs.build.build_links.Tie as tie
+use Rattle.links.proofs.build.build_links.Reads as reads
+use Rattle.links.proofs.build.build_links.Lts as lts
+use Rattle.links.proofs.down.write_down.Reads as write-down-reads
+use Rattle.links.proofs.up.write_up.Reads as write-up-reads
+
+write-up-requires : tie.Need-write-up-requires
+write-up-requires c κs = search needs
+
+write-down-requires : tie.Need-write-down-requires
+write-down-requires c κs =
+    let l = c .before .before .before in
+    let s = l .before .before .before .before in
+    let args : LinkArgs (s .args .kinds .now) (length (l .write-up .last .1 .0)) = record {
+      postorder = s .pre .postorder;
+      most = s .pre .most;
+      room = omega (arith, l .write-up .kept .1 .0, s .pre .room);
+    } in
+    down-args (s .args .kinds .now) (l .write-up .last .1 .0) args (λ t e. l .write-up .ensures t e .cells)
+
+same-length : tie.Need-same-length
+same-length c = search needs
+
+returns : tie.Need-returns
+returns c =
+    let d = c .before .before in
+    let l = d .before .before .before .before in
+    let s = l .before .before .before .before in
+    passes (s .args .kinds .now) (s .args .nums .now) (l .write-up .last .1 .0) (d .write-down .last .0)
+    (omega (arith, l .write-up .kept .1 .0, d .write-down .kept .0)) (s .pre .room) (l .write-up .ensures) (d .write-down .ensures)
+
+pub build-links-spec : {M : Type 1} → statement M
+build-links-spec = tie.close (tie.spec write-up-requires write-down-requires same-length returns)

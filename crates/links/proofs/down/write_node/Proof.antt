@@ -1,0 +1,94 @@
+-- `write_node` meets its contract. Assumes nothing.
+use lib.ListN.{length-set}
+use native.Mathlib.Omega.{arith}
+use borrow.Author.Needs.{needs}
+use Rattle.links.proofs.down.write_node.Statement.{statement}
+use Rattle.links.proofs.down.write_node.Tie as tie
+use Rattle.links.proofs.down.write_node.Reads as reads
+use Rattle.links.proofs.down.write_node.Lts as lts
+use Rattle.links.proofs.down.child_jump.Reads as child-jump-reads
+
+mul-p : tie.Need-mul-p
+mul-p c = search needs
+
+mul-p-2 : tie.Need-mul-p-2
+mul-p-2 c = search needs
+
+slice-read-p : tie.Need-slice-read-p
+slice-read-p c = search needs
+
+cast-p : tie.Need-cast-p
+cast-p c = search needs
+
+mul-d : tie.Need-mul-d
+mul-d c = search needs
+
+add-d : tie.Need-add-d
+add-d c = search needs
+
+mul-d-2 : tie.Need-mul-d-2
+mul-d-2 c = search needs
+
+slice-read-d : tie.Need-slice-read-d
+slice-read-d c = search needs
+
+add-d-2 : tie.Need-add-d-2
+add-d-2 c = search needs
+
+child-jump-requires : tie.Need-child-jump-requires
+child-jump-requires c κs = search needs
+
+mul-nums : tie.Need-mul-nums
+mul-nums c = search needs
+
+add-nums : tie.Need-add-nums
+add-nums c = search needs
+
+mul-nums-2 : tie.Need-mul-nums-2
+mul-nums-2 c = search needs
+
+slice-write-nums : tie.Need-slice-write-nums
+slice-write-nums c = search needs
+
+mul-nums-3 : tie.Need-mul-nums-3
+mul-nums-3 c = search needs
+
+add-nums-2 : tie.Need-add-nums-2
+add-nums-2 c = search needs
+
+mul-nums-4 : tie.Need-mul-nums-4
+mul-nums-4 c = search needs
+
+slice-write-nums-2 : tie.Need-slice-write-nums-2
+slice-write-nums-2 c = simp length-set (omega arith)
+
+same-length : tie.Need-same-length
+same-length c = search needs
+
+returns : tie.Need-returns
+returns c = rw (c .child-jump .ensures)
+
+pub write-node-spec : {M : Type 1} → statement M
+write-node-spec =
+    tie.close
+    (tie.spec
+    mul-p
+    mul-p-2
+    slice-read-p
+    cast-p
+    mul-d
+    add-d
+    mul-d-2
+    slice-read-d
+    add-d-2
+    child-jump-requires
+    mul-nums
+    add-nums
+    mul-nums-2
+    slice-write-nums
+    mul-nums-3
+    add-nums-2
+    mul-nums-4
+    slice-write-nums-2
+    same-length
+    returns)
