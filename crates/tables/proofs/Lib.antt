@@ -1,1 +1,3 @@
+pub mod CompareLaws
+pub mod LocalLaws
 pub mod RowTurns

@@ -1,3 +1,5 @@
+pub mod Compare
+pub mod LocalTables
 pub mod Answers
 pub mod StateCells
 pub mod Rows

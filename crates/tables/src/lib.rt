@@ -1,3 +1,4 @@
 // Tables for rule tables: their build, their full check, and what branch tables share with them.
 pub mod answers;
+pub mod compare;
 pub mod rows;
