@@ -1,3 +1,4 @@
 pub mod CompareLaws
 pub mod LocalLaws
 pub mod RowTurns
+pub mod StateTurns

@@ -3,3 +3,4 @@ pub mod LocalTables
 pub mod Answers
 pub mod StateCells
 pub mod Rows
+pub mod States

@@ -2,3 +2,4 @@
 pub mod answers;
 pub mod compare;
 pub mod rows;
+pub mod states;
