@@ -1,1 +1,3 @@
 pub mod StepTurns
+pub mod StepRowTurns
+pub mod MapTurns

@@ -16,7 +16,7 @@ use Rattle.trees.specs.Automaton.{WordAutomaton}
 use Rattle.trees.specs.Numbering.{parent}
 use Rattle.trees.specs.Tables.{branchState}
 use Rattle.trees.proofs.NodeLaws.{up, size-pos, length-labels}
-use Rattle.trees.proofs.RowLaws.{stride, cell-in, cells-apart, linkTable-parent}
+use Rattle.trees.proofs.RowLaws.{stride, cell-in, cells-apart}
 use Rattle.trees.proofs.BranchMapLaws.{branchState-root, branchState-down, branchState-below}
 use Rattle.formats.specs.Checks.{stateLength}
 use Rattle.links.specs.Cells.{parentCell}
@@ -36,7 +36,7 @@ module _ (B : WordAutomaton) (t : Tree) (ls nums st : List ℕ) (s k n : ℕ) (L
   lent-label v = ap (λ (l : List ℕ). getD l v 0) (L .labels)
 
   pub lent-parent : (v : ℕ) → v < n → parentCell nums v ≡ parent t v
-  lent-parent v h = linkTable-parent t nums (L .links) v (omega (arith, L .count))
+  lent-parent v h = L .links .parents v (omega (arith, L .count))
 
   pub lent-below : ((j : ℕ) → getD st j 0 < s) → (q a : ℕ) → B .step q a < B .states
   lent-below below q a = rw (L .step q a, L .states) (below (q * k + a))

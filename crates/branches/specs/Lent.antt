@@ -10,11 +10,12 @@
 use Prim.Native.Nat.{ℕ, _+_, _*_, _≤_, _<_}
 use mathlib.Core.Path.{_≡_}
 use mathlib.Core.List.{List}
-use lib.ListN.{length, getD, take}
+use lib.ListN.{length, getD}
 use Rattle.trees.specs.Tree.{Tree, size, labelsOf}
 use Rattle.trees.specs.Automaton.{WordAutomaton}
-use Rattle.trees.specs.Tables.{linkTable, branchState}
+use Rattle.trees.specs.Tables.{branchState}
 use Rattle.formats.specs.Checks.{linkLength, stateLength}
+use Rattle.links.specs.LinkCells.{LinkCells}
 use Rattle.tables.specs.StateCells.{stateCell}
 
 pub record BranchLent (B : WordAutomaton) (t : Tree) (ls nums st : List ℕ) (s k n : ℕ) : Type 0 where
@@ -22,7 +23,7 @@ pub record BranchLent (B : WordAutomaton) (t : Tree) (ls nums st : List ℕ) (s 
   pub step : (q a : ℕ) → B .step q a ≡ getD st (q * k + a) 0
   pub labels : labelsOf t ≡ ls
   pub count : size t ≡ n
-  pub links : take (linkLength (size t)) nums ≡ linkTable t
+  pub links : LinkCells t nums
 
 pub record BranchArgs (ls nums st : List ℕ) (s k n m : ℕ) : Type 0 where
   pub automaton : WordAutomaton

@@ -1,3 +1,4 @@
 pub mod Question
 pub mod Promise
 pub mod Lent
+pub mod Maps

@@ -1,3 +1,4 @@
 // Branch tables: their build, their full check, and the branch question.
 pub mod answers;
+pub mod maps;
 pub mod steps;

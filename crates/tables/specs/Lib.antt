@@ -4,3 +4,4 @@ pub mod Answers
 pub mod StateCells
 pub mod Rows
 pub mod States
+pub mod MapTable
