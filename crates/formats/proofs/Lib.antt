@@ -5,3 +5,6 @@ pub mod PlanLaws
 pub mod RuleLaws
 pub mod BranchLaws
 pub mod InputLaws
+pub mod PlanAnswers
+pub mod TurnLaws
+pub mod RuleAnswers

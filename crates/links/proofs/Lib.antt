@@ -1,3 +1,6 @@
 pub mod UpTurns
 pub mod DownTurns
 pub mod CellLaws
+pub mod SameList
+pub mod CheckTurns
+pub mod CheckLaws

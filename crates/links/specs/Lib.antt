@@ -2,3 +2,5 @@ pub mod Cells
 pub mod LinkCells
 pub mod UpPass
 pub mod DownPass
+pub mod CheckPass
+pub mod ToldMove

@@ -5,3 +5,4 @@ pub mod StateCells
 pub mod Rows
 pub mod States
 pub mod MapTable
+pub mod Maps

@@ -1,6 +1,17 @@
 pub mod NodeLaws
 pub mod PostorderLaws
 pub mod JumpLaws
+pub mod Choice
+pub mod SkewBinary
+pub mod Digits
+pub mod MoveCount
+pub mod HeightLaws
+pub mod MoveLaws
+pub mod ClimbLaws
+pub mod TreeClimbs
+pub mod WalkLaws
+pub mod CarryLaws
+pub mod Samples
 pub mod RowLaws
 pub mod RunLaws
 pub mod MapLaws

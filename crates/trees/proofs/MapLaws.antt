@@ -1,5 +1,4 @@
 -- The laws of walks and of the maps to a node's jump.
---     walk-add                     a walk in two parts
 --     jump-ancestor, jump-far      the jump as an ancestor, and the jump that is not the parent
 --     toJump-root, -near, -far     a walk to the jump by the walks of the parent and of its jump, for any step
 --     stepUp-right, stepUp-left    a step of states by numbers; stepUp-state: the run's states go to the run's states
@@ -23,6 +22,7 @@ use Rattle.trees.specs.Numbering.{sub, parent, depth, ancestor}
 use Rattle.trees.specs.Jumps.{jump}
 use Rattle.trees.specs.Climb.{walk}
 use Rattle.trees.specs.Tables.{withChild, stepUp, jumpLength, stateMap}
+use Rattle.trees.proofs.WalkLaws.{walk-add}
 use Rattle.trees.proofs.NodeLaws.{Inner, inner, up, depth-root}
 use Rattle.trees.proofs.JumpLaws.{ancestor-add, jump-is, jump-in, depth-jump, jumpDepth-le, jump-rule}
 
@@ -68,14 +68,6 @@ module _ (t : Tree) where
 
 -- ---- walks, for any step
 module _ {X : Type 0} (step : ℕ → X → X) (t : Tree) where
-  pub walk-add : (v m n : ℕ) (x : X) → walk step t v (m + n) x ≡ walk step t (ancestor t v m) n (walk step t v m x)
-  unfolding walk ancestor
-  walk-add v zero n x = ap (λ (k : ℕ). walk step t v k x) (zero-add n)
-  walk-add v (suc m) n x =
-      ap (λ (k : ℕ). walk step t v k x) (suc-add m n)
-      ∙ walk-add (parent t v) m n (step v x)
-      ∙ ap (λ (u : ℕ). walk step t u n (walk step t (parent t v) m (step v x))) (ancestor-parent t v m)
-
   -- the walk to the jump
   pub toJump-root : (v : ℕ) (x : X) → v + 1 ≡ size t → walk step t v (jumpLength t v) x ≡ x
   unfolding walk
@@ -94,16 +86,16 @@ module _ {X : Type 0} (step : ℕ → X → X) (t : Tree) where
   toJump-far v x h ne =
       let p : ℕ = parent t v in
       ap (λ (k : ℕ). walk step t v k x) (jumpLength-far t v h ne)
-      ∙ walk-add p (jumpLength t p) (jumpLength t (jump t p)) (step v x)
+      ∙ walk-add step t p (jumpLength t p) (jumpLength t (jump t p)) (step v x)
       ∙ ap (λ (u : ℕ). walk step t u (jumpLength t (jump t p)) (walk step t p (jumpLength t p) (step v x)))
       (sym (jump-ancestor t p (up t v h .below)))
 
   -- what each step keeps, a walk keeps
-  pub walk-keeps : (P : X → Type 0) → ((v : ℕ) (x : X) → P x → P (step v x)) → (v n : ℕ) (x : X) → P x
+  pub walk-keeps-all : (P : X → Type 0) → ((v : ℕ) (x : X) → P x → P (step v x)) → (v n : ℕ) (x : X) → P x
       → P (walk step t v n x)
   unfolding walk
-  walk-keeps P k v zero x h = h
-  walk-keeps P k v (suc n) x h = walk-keeps P k (parent t v) n (step v x) (k v x h)
+  walk-keeps-all P k v zero x h = h
+  walk-keeps-all P k v (suc n) x h = walk-keeps-all P k (parent t v) n (step v x) (k v x h)
 
 -- ---- the other child
 
@@ -210,7 +202,7 @@ module _ (A : Automaton) (t : Tree) where
   pub stateMap-below : ((p a q : ℕ) → A .δ p a q < A .states) → (v q : ℕ) → q < A .states → stateMap A t v q < A .states
   unfolding stateMap
   stateMap-below below v q h =
-      walk-keeps (stepUp A t) t (λ (x : ℕ). x < A .states) (stepUp-below below) v (jumpLength t v) q h
+      walk-keeps-all (stepUp A t) t (λ (x : ℕ). x < A .states) (stepUp-below below) v (jumpLength t v) q h
 
   pub stateMap-state : (v : ℕ) → v < size t → stateMap A t v (state A (sub t v)) ≡ state A (sub t (jump t v))
   unfolding stateMap

@@ -132,15 +132,15 @@ module _ (l : Tree) (a : ℕ) (r : Tree) (v : ℕ) where
   unfolding parent
   parent-top e = split-top _ _ v _ _ _ e
 
-  depth-left : v < size l → depth (node l a r) v ≡ depth l v + 1
+  pub depth-left : v < size l → depth (node l a r) v ≡ depth l v + 1
   unfolding depth
   depth-left h = split-left _ _ v _ _ _ h
 
-  depth-right : (j : ℕ) → v ≡ size l + j → j < size r → depth (node l a r) v ≡ depth r j + 1
+  pub depth-right : (j : ℕ) → v ≡ size l + j → j < size r → depth (node l a r) v ≡ depth r j + 1
   unfolding depth
   depth-right j e h = split-right _ _ v _ _ _ j e h
 
-  depth-top : v ≡ size l + size r → depth (node l a r) v ≡ 0
+  pub depth-top : v ≡ size l + size r → depth (node l a r) v ≡ 0
   unfolding depth
   depth-top e = split-top _ _ v _ _ _ e
 

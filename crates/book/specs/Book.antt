@@ -1,0 +1,226 @@
+-- The panel book of document 01: a model of the session that is fed the calls and what is lent, never the record.
+--
+-- Standing == whether a question is clean; firm: plan, rules and 16-bit numbers as built and as at Start, bytes below S, so that
+--   "Parts of a question" settles it; loose: neither
+-- Question == "its list, what its Start lent, a count, and whether it is clean"; the parts replayed by the rule on the bytes lent
+-- Book == "the session's state, N, S and K of the last accepted Load", and the question
+-- Next == the book's reply to a call: settled without the program's answer, or left to the program and fed its answer
+-- step b c == the lines of "The panel book"
+--
+-- A settled answer cannot see the program's: it is the constructor's argument.
+-- Assumes nothing.
+use Prim.Native.Nat.{ℕ, zero, suc}
+use mathlib.Core.Bool.{Bool, true, false, cond, not, _&&_}
+use mathlib.Core.List.{List, [], _∷_, _++_}
+use lib.Dec.{eqb}
+use lib.ListN.{length, getD}
+use Rattle.trees.specs.Tree.{Tree}
+use Rattle.trees.specs.Automaton.{state, accepts}
+use Rattle.trees.specs.Postorder.{treeOf}
+use Rattle.trees.specs.Changes.{changed}
+use Rattle.formats.specs.Plan.{planTree, labelsIn, kindsIn}
+use Rattle.formats.specs.Rules.{ruleAutomaton}
+use Rattle.tables.specs.StateCells.{stateCell, mapCell}
+use Rattle.ready.specs.Members.{roots}
+use Rattle.ready.specs.Parts.{Given, Part, partOf, lastState, allLinks, questionLinks}
+use Rattle.book.specs.Lends.{Lent, Sizes, sizesIn, usedBytes, sameLinks, sameLent, linksBuilt, sound, bytesBelow}
+use Rattle.book.specs.Calls.{Call, load, start, advance, cancel, read, Answer, refused, parts, more, finished, told, Phase}
+use Rattle.book.specs.Refusals.{refusal}
+
+pub data Standing : Type 0 where
+  clean : Standing
+  firm : Standing
+  loose : Standing
+
+pub record Question : Type 0 where
+  pub nodes : List ℕ
+  pub labels : List ℕ
+  pub lent : Lent
+  pub count : ℕ
+  pub standing : Standing
+  pub trail : List Part
+
+pub data State : Type 0 where
+  empty : State
+  loaded : State
+  running : Question → State
+  answered : Question → State
+
+pub record Book : Type 0 where
+  pub state : State
+  pub sizes : Sizes
+
+pub data Next : Type 0 where
+  settled : Answer → Book → Next
+  -- which answers are allowed, and the book after each
+  left : (Answer → Bool) → (Answer → Book) → Next
+
+unfoldable pub phase : State → Phase
+phase State.empty = Phase.empty
+phase State.loaded = Phase.loaded
+phase (State.running q) = Phase.running
+phase (State.answered q) = Phase.answered
+
+-- "It starts empty"
+unfoldable pub newBook : Book
+newBook = record { state = State.empty; sizes = record { n = 0; s = 0; k = 0 } }
+
+unfoldable pub inState : Book → State → Book
+inState b s = record { state = s; sizes = b .sizes }
+
+-- ---- what a question's Start settles
+
+-- the roots of the parts, rising
+abbrev pub rootsOf : Question → List ℕ
+rootsOf q = roots (planTree (q .lent .plan)) (q .nodes)
+
+abbrev pub partCount : Question → ℕ
+partCount q = length (rootsOf q)
+
+-- Start's plan with the listed labels changed
+abbrev pub changedTree : Question → Tree
+changedTree q = treeOf (kindsIn (q .lent .plan)) (changed (labelsIn (q .lent .plan)) (q .nodes) (q .labels))
+
+-- what the rule reads: Start's plan and rules, and the bytes of this advance
+unfoldable pub givenBy : Sizes → Question → Lent → Given
+givenBy z q x = record {
+  tree = planTree (q .lent .plan);
+  automaton = ruleAutomaton (q .lent .rules);
+  labels = changed (labelsIn (q .lent .plan)) (q .nodes) (q .labels);
+  runState = stateCell (z .s) (usedBytes z x);
+  mapState = mapCell (z .s) (usedBytes z x);
+}
+
+-- one more part by the rule
+unfoldable pub longer : Sizes → Question → Lent → List Part
+longer z q x = q .trail ++ (partOf (givenBy z q x) (rootsOf q) (q .trail) (getD (rootsOf q) (length (q .trail)) 0) ∷ [])
+
+-- "the root state, and its yes or no, of a fresh run (source document 002's, on Start's plan with the listed labels changed), the
+-- parts, and as links the moves of its parts' climbs"
+unfoldable pub freshAnswer : Question → Answer
+freshAnswer q =
+    told (state (ruleAutomaton (q .lent .rules)) (changedTree q)) (accepts (ruleAutomaton (q .lent .rules)) (changedTree q))
+    (partCount q) (questionLinks (planTree (q .lent .plan)) (rootsOf q))
+
+-- what the rule of "Parts of a question" gave on the bytes that were lent
+unfoldable pub ruleAnswer : Question → Answer
+ruleAnswer q =
+    told (lastState (q .trail) 0) (ruleAutomaton (q .lent .rules) .accepting (lastState (q .trail) 0)) (partCount q) (allLinks (q .trail))
+
+-- ---- Start
+
+unfoldable pub standingOf : Sizes → Lent → Standing
+standingOf z x = cond (sound z x) clean (cond (linksBuilt z x) firm loose)
+
+unfoldable pub asked : Sizes → Lent → List ℕ → List ℕ → Question
+asked z x vs bs = record { nodes = vs; labels = bs; lent = x; count = 0; standing = standingOf z x; trail = [] }
+
+-- left to the program: 18, or any number of parts
+unfoldable pub mayStartWith : Answer → Bool
+mayStartWith (refused n) = eqb n 18
+mayStartWith (parts p) = true
+mayStartWith Answer.accepted = false
+mayStartWith more = false
+mayStartWith finished = false
+mayStartWith (told s y p l) = false
+
+-- "18 leaves the book as it is"
+unfoldable pub unlessRefused : Book → Book → Answer → Book
+unlessRefused b c (refused n) = b
+unlessRefused b c (parts p) = c
+unlessRefused b c Answer.accepted = c
+unlessRefused b c more = c
+unlessRefused b c finished = c
+unlessRefused b c (told s y p l) = c
+
+-- "Start: running, count 0, clean if sound; clean, it tells the number of parts."
+unfoldable pub starting : Book → Question → Standing → Next
+starting b q clean = settled (parts (partCount q)) (inState b (State.running q))
+starting b q firm = settled (parts (partCount q)) (inState b (State.running q))
+starting b q loose = left mayStartWith (unlessRefused b (inState b (State.running q)))
+
+-- ---- advance
+
+unfoldable pub advanced : Question → Standing → List Part → Question
+advanced q k ps =
+    record { nodes = q .nodes; labels = q .labels; lent = q .lent; count = suc (q .count); standing = k; trail = ps }
+
+-- "the count rises by one. At the number of parts it tells finished and the state is answered; until then it tells more."
+unfoldable pub goesOn : Book → Question → Next
+goesOn b q =
+    cond (eqb (q .count) (partCount q)) (settled finished (inState b (State.answered q))) (settled more (inState b (State.running q)))
+
+-- "Where plan and rules name the record's N, S and K and, like the 16-bit numbers, are as at Start and as built, but run states and
+-- maps are any bytes below S, an advance goes on as always and stores and counts what this rule gives on those bytes."
+unfoldable pub otherBytes : Sizes → Question → Lent → Bool
+otherBytes z q x = linksBuilt z (q .lent) && (sameLinks z (q .lent) x && bytesBelow z x)
+
+-- left to the program: more or finished, and 18 unless the tables are as built and as at Start, or other bytes
+unfoldable pub mayAdvanceWith : Bool → Answer → Bool
+mayAdvanceWith usable (refused n) = eqb n 18 && not usable
+mayAdvanceWith usable more = true
+mayAdvanceWith usable finished = true
+mayAdvanceWith usable (parts p) = false
+mayAdvanceWith usable Answer.accepted = false
+mayAdvanceWith usable (told s y p l) = false
+
+-- "an accepted advance makes the question unclean, and its more or finished gives the state"
+unfoldable pub byAnswer : Book → Question → Answer → Book
+byAnswer b q (refused n) = b
+byAnswer b q more = inState b (State.running q)
+byAnswer b q finished = inState b (State.answered q)
+byAnswer b q (parts p) = b
+byAnswer b q Answer.accepted = b
+byAnswer b q (told s y p l) = b
+
+unfoldable pub loosely : Book → Lent → Question → Next
+loosely b x q = left (mayAdvanceWith (otherBytes (b .sizes) q x)) (byAnswer b (advanced q loose []))
+
+unfoldable pub firmly : Book → Lent → Question → Next
+firmly b x q =
+    cond (otherBytes (b .sizes) q x) (goesOn b (advanced q firm (longer (b .sizes) q x))) (loosely b x q)
+
+unfoldable pub advancing : Book → Lent → Question → Standing → Next
+advancing b x q clean =
+    cond (sameLent (b .sizes) (q .lent) x) (goesOn b (advanced q clean (longer (b .sizes) q x))) (firmly b x q)
+advancing b x q firm = firmly b x q
+advancing b x q loose = loosely b x q
+
+-- ---- Read
+
+unfoldable pub isTold : Answer → Bool
+isTold (told s y p l) = true
+isTold (refused n) = false
+isTold (parts p) = false
+isTold Answer.accepted = false
+isTold more = false
+isTold finished = false
+
+unfoldable pub reading : Book → Question → Standing → Next
+reading b q clean = settled (freshAnswer q) b
+reading b q firm = settled (ruleAnswer q) b
+reading b q loose = left isTold (λ a. b)
+
+-- ---- the step
+
+-- a call that no check refuses, 18 apart; the states in which it may not be made do not come here
+unfoldable pub proceed : Book → State → Call → Next
+proceed b s (load x) = settled Answer.accepted (record { state = State.loaded; sizes = sizesIn x })
+proceed b s (start x vs bs) = starting b (asked (b .sizes) x vs bs) (standingOf (b .sizes) x)
+proceed b State.empty (advance x) = settled (refused 1) b
+proceed b State.loaded (advance x) = settled (refused 1) b
+proceed b (State.running q) (advance x) = advancing b x q (q .standing)
+proceed b (State.answered q) (advance x) = settled (refused 1) b
+proceed b s cancel = settled Answer.accepted (inState b State.loaded)
+proceed b State.empty read = settled (refused 1) b
+proceed b State.loaded read = settled (refused 1) b
+proceed b (State.running q) read = settled (refused 1) b
+proceed b (State.answered q) read = reading b q (q .standing)
+
+-- "One of the next section's checks, 18 apart, says no: the first such number; the book stays."
+unfoldable pub decided : ℕ → Book → Call → Next
+decided zero b c = proceed b (b .state) c
+decided (suc n) b c = settled (refused (suc n)) b
+
+unfoldable pub step : Book → Call → Next
+step b c = decided (refusal (phase (b .state)) (b .sizes) c) b c

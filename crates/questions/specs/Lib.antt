@@ -1,0 +1,4 @@
+pub mod Search
+pub mod Roots
+pub mod Climbs
+pub mod Part
