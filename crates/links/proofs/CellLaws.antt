@@ -1,18 +1,19 @@
 -- A table of links cell by cell and as one list.
---     length-linkTable     four numbers a node
---     link-cells           a buffer that begins with a tree's table has its four numbers at every node
---     cells-link           and back
---     cells-over           a buffer with these cells, and the rest as before, is the table and the excess
---     passes               the two passes of the build give all cells
+--     length-linkTable       four numbers a node
+--     link-cells             a buffer that begins with a tree's table has its four numbers at every node
+--     cells-link             and back
+--     take-table             what the build leaves begins with the table
+--     cells-over             a buffer with these cells, and the rest as before, is the table and the excess
+--     both-passes .. passes  the two passes of build and check give all cells
 -- Assumes nothing.
 use Prim.Native.Nat.{ℕ, _+_, _*_, _≤_, _<_}
-use mathlib.Core.Path.{_≡_, refl, sym, ap, _∙_}
+use mathlib.Core.Path.{_≡_, sym, _∙_}
 use mathlib.Core.List.{List, _++_}
 use native.Mathlib.Omega.{arith}
 use lib.ListN.{length, getD, take, drop}
 use Rattle.trees.specs.Tree.{Tree, kindsOf, size}
 use Rattle.trees.specs.Tables.{linkRow, linkTable}
-use Rattle.trees.proofs.RowLaws.{length-rows, length-linkRow, linkRow-cells, rows-of-cells, rows-over}
+use Rattle.trees.proofs.RowLaws.{length-rows, length-linkRow, linkRow-cells, rows-of-cells, rows-over, take-over}
 use Rattle.trees.proofs.RowLaws.{linkTable-parent, linkTable-jump, linkTable-depth, linkTable-size}
 use Rattle.formats.specs.Checks.{linkLength}
 use Rattle.links.specs.Cells.{LinkArgs}
@@ -45,7 +46,14 @@ unfolding linkTable
 cells-link t n b z room c =
     rw z (rows-of-cells (size t) 4 (linkRow t) (λ v h. length-linkRow t v) b (omega arith) (row-of t b c))
 
-pub cells-over : (t : Tree) (before after : List ℕ) → length after ≡ length before → size t * 4 ≤ length before → LinkCells t after
+-- what the build leaves begins with the table
+pub take-table : (t : Tree) (n : ℕ) (rest : List ℕ) → n ≡ size t
+    → take (linkLength n) (linkTable t ++ rest) ≡ linkTable t
+unfolding linkTable
+take-table t n rest z = rw z (take-over (size t) 4 (linkRow t) (λ v h. length-linkRow t v) rest)
+
+pub cells-over : (t : Tree) (before after : List ℕ) → length after ≡ length before → size t * 4 ≤ length before
+    → LinkCells t after
     → ((j : ℕ) → size t * 4 ≤ j → getD after j 0 ≡ getD before j 0)
     → after ≡ linkTable t ++ drop (size t * 4) before
 unfolding linkTable
@@ -70,10 +78,16 @@ up-parents t ks b e u = record {
 }
 
 -- the pass down can be made
-pub down-args : (ks b : List ℕ) → LinkArgs ks (length b) → ((t : Tree) → kindsOf t ≡ ks → UpCells t b) → DownArgs (length ks) b
+pub down-args : (ks b : List ℕ) → LinkArgs ks (length b) → ((t : Tree) → kindsOf t ≡ ks → UpCells t b)
+    → DownArgs (length ks) b
 down-args ks b args all =
     let T : (t : Tree) × (kindsOf t ≡ ks) = some-tree ks (args .postorder) in
-    record { tree = T .0; parents = up-parents (T .0) ks b (T .1) (all (T .0) (T .1)); most = args .most; room = args .room }
+    record {
+      tree = T .0;
+      parents = up-parents (T .0) ks b (T .1) (all (T .0) (T .1));
+      most = args .most;
+      room = args .room;
+    }
 
 -- the pass down leaves sizes and parents, and both leave the excess
 written-cells : (t : Tree) (b₀ b₁ b₂ : List ℕ) → AllUpWritten t b₀ b₁ → DownWritten t 0 b₁ b₂ → LinkCells t b₂
@@ -86,7 +100,8 @@ written-cells t b₀ b₁ b₂ u d =
     (d .cells)
 
 pub passes : (ks b₀ b₁ b₂ : List ℕ) → length b₂ ≡ length b₀ → linkLength (length ks) ≤ length b₀
-    → ((t : Tree) → kindsOf t ≡ ks → AllUpWritten t b₀ b₁) → ((t : Tree) → Parents t (length ks) b₁ → DownWritten t 0 b₁ b₂)
+    → ((t : Tree) → kindsOf t ≡ ks → AllUpWritten t b₀ b₁)
+    → ((t : Tree) → Parents t (length ks) b₁ → DownWritten t 0 b₁ b₂)
     → (t : Tree) → kindsOf t ≡ ks → b₂ ≡ linkTable t ++ drop (linkLength (length ks)) b₀
 passes ks b₀ b₁ b₂ len room ups downs t e =
     let z : length ks ≡ size t = size-of t ks e in

@@ -14,14 +14,14 @@ use Rattle.formats.specs.Checks.{linkLength}
 use Rattle.links.specs.Cells.{LinkArgs}
 use Rattle.links.specs.LinkCells.{LinkCells, UpCells}
 use Rattle.links.specs.DownPass.{DownArgs}
-use Rattle.links.specs.CheckPass.{Tells}
 use Rattle.links.proofs.UpTurns.{size-of}
 use Rattle.links.proofs.CellLaws.{link-cells, cells-link, both-passes, up-parents, down-args}
 use Rattle.links.proofs.SameList.{sameList-eq, sameList-no}
 use Rattle.links.proofs.CheckTurns.{UpTells, DownTells}
 
 module _ (ks b : List ℕ) where
-  denied : (t : Tree) → kindsOf t ≡ ks → (LinkCells t b → ⊥) → false ≡ sameList (take (linkLength (length ks)) b) (linkTable t)
+  denied : (t : Tree) → kindsOf t ≡ ks → (LinkCells t b → ⊥)
+      → false ≡ sameList (take (linkLength (length ks)) b) (linkTable t)
   denied t e n = sym (sameList-no _ _ (λ q. n (link-cells t (length ks) b (size-of t ks e) q)))
 
   pub told-no : UpTells false ks b → (t : Tree) → kindsOf t ≡ ks

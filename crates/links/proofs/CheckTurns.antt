@@ -1,10 +1,10 @@
 -- The turns of the full check.
---     so-far                      what a table that is right everywhere has as far as a pass has come
 --     up-step, up-right           one node more, where it matches; and it matches where the table is right
---     up-yes, up-no               the same of every tree with these kinds, as the loop has it
---     down-step, down-right ..    likewise of the pass down
+--     up-args .. up-tells         the same of every tree with these kinds, as the loop has it
+--     down-step, down-right       likewise of the pass down
+--     downs-args .. root-depth-no the same of every tree with these parents
 -- Assumes nothing.
-use Prim.Native.Nat.{ℕ, _+_, _-_, _*_, _≤_, _<_}
+use Prim.Native.Nat.{ℕ, _+_, _-_, _≤_, _<_}
 use mathlib.Core.Path.{_≡_, refl, sym, ap, _∙_, subst}
 use mathlib.Core.Bool.{Bool, true, false, _&&_, and-eq-true-iff}
 use mathlib.Core.List.{List}
@@ -15,9 +15,8 @@ use lib.Dec.{eqb}
 use lib.ListN.{length, getD}
 use borrow.Author.Tests.{eqb-true, eq-eqb, ne-eqb}
 use Rattle.trees.specs.Tree.{Tree, kindsOf, size}
-use Rattle.trees.specs.Numbering.{sub, parent, depth}
-use Rattle.trees.specs.Jumps.{jump}
-use Rattle.trees.proofs.NodeLaws.{Inner, inner, Up, up, sub-leaf, size-pos, parent-root, depth-root}
+use Rattle.trees.specs.Numbering.{parent}
+use Rattle.trees.proofs.NodeLaws.{Inner, inner, Up, up, sub-leaf, parent-root, depth-root}
 use Rattle.trees.proofs.JumpLaws.{jump-root}
 use Rattle.links.specs.Cells.{parentCell, jumpCell, depthCell, sizeCell, LinkArgs}
 use Rattle.links.specs.LinkCells.{LinkCells, UpCells, UpTo, DownFrom, Parents}
@@ -53,7 +52,8 @@ module _ (t : Tree) (i : ℕ) (b : List ℕ) (p : UpTo t i b) (h : i < size t) (
   inner-step : innerMatches b i ≡ true → UpTo t (i + 1) b
   unfolding innerMatches
   inner-step m =
-      let m0 = both (eqb (sizeCell b i) (innerSize b i)) (eqb (parentCell b (i - 1)) i && eqb (parentCell b (leftOf b i)) i) m in
+      let m0 = both (eqb (sizeCell b i) (innerSize b i))
+      (eqb (parentCell b (i - 1)) i && eqb (parentCell b (leftOf b i)) i) m in
       let m1 = both (eqb (parentCell b (i - 1)) i) (eqb (parentCell b (leftOf b i)) i) (m0 .1) in
       record {
         sizes = λ v l. elim (ℕ-discrete v i) [
@@ -61,13 +61,15 @@ module _ (t : Tree) (i : ℕ) (b : List ℕ) (p : UpTo t i b) (h : i < size t) (
           | no z ↦ p .sizes v (omega arith)
         ];
         parents = λ v l q. elim (ℕ-discrete (parent t v) i) [
-          | yes z ↦ matched v (eqb-true (parentCell b (i - 1)) i (m1 .0)) (eqb-true (parentCell b (leftOf b i)) i (m1 .1))
-            (child-is t i I v (subst (Up t v) z (up t v l))) ∙ sym z
+          | yes z ↦ matched v (eqb-true (parentCell b (i - 1)) i (m1 .0))
+              (eqb-true (parentCell b (leftOf b i)) i (m1 .1))
+              (child-is t i I v (subst (Up t v) z (up t v l))) ∙ sym z
           | no z ↦ p .parents v l (omega arith)
         ];
       }
     where
-      matched : (v : ℕ) → parentCell b (i - 1) ≡ i → parentCell b (leftOf b i) ≡ i → (v ≡ i - 1) ⊎ (v ≡ I .left) → parentCell b v ≡ i
+      matched : (v : ℕ) → parentCell b (i - 1) ≡ i → parentCell b (leftOf b i) ≡ i → (v ≡ i - 1) ⊎ (v ≡ I .left)
+          → parentCell b v ≡ i
       matched v r l (inl e) = ap (parentCell b) e ∙ r
       matched v r l (inr e) = ap (parentCell b) (e ∙ sym (at-left t i b p h I)) ∙ l
 
@@ -77,25 +79,30 @@ module _ (t : Tree) (i : ℕ) (b : List ℕ) (p : UpTo t i b) (h : i < size t) (
       let s : sizeCell b i ≡ innerSize b i = c .sizes i h ∙ sym (new-size t i b p h I) in
       let r : parentCell b (i - 1) ≡ i = c .parents (i - 1) (omega arith) ∙ I .right-up in
       let l : parentCell b (leftOf b i) ≡ i =
-        ap (parentCell b) (at-left t i b p h I) ∙ c .parents (I .left) (omega (arith, I .at)) ∙ I .left-up in
-      rw (eq-eqb (sizeCell b i) (innerSize b i) s, eq-eqb (parentCell b (i - 1)) i r, eq-eqb (parentCell b (leftOf b i)) i l)
+      ap (parentCell b) (at-left t i b p h I) ∙ c .parents (I .left) (omega (arith, I .at)) ∙ I .left-up in
+      rw (
+        eq-eqb (sizeCell b i) (innerSize b i) s,
+        eq-eqb (parentCell b (i - 1)) i r,
+        eq-eqb (parentCell b (leftOf b i)) i l,
+      )
 
 module _ (t : Tree) (ks : List ℕ) (i : ℕ) (b : List ℕ) (e : kindsOf t ≡ ks) (h : i < size t) where
   up-step : UpTo t i b → upMatches ks b i ≡ true → UpTo t (i + 1) b
   unfolding upMatches
   up-step p m = elim (ℕ-discrete (getD ks i 0) 0) [
     | yes k ↦ leaf-step t i b p h (kind-of t ks i e ∙ k)
-      (eqb-true (sizeCell b i) 1 (rw (eq-eqb (getD ks i 0) 0 k) at m))
-    | no k ↦ inner-step t i b p h (inner t i h (λ z. k (sym (kind-of t ks i e) ∙ z))) (rw (ne-eqb (getD ks i 0) 0 k) at m)
+        (eqb-true (sizeCell b i) 1 (rw (eq-eqb (getD ks i 0) 0 k) at m))
+    | no k ↦ inner-step t i b p h (inner t i h (λ z. k (sym (kind-of t ks i e) ∙ z)))
+        (rw (ne-eqb (getD ks i 0) 0 k) at m)
   ]
 
   up-right : LinkCells t b → upMatches ks b i ≡ true
   unfolding upMatches
   up-right c = elim (ℕ-discrete (getD ks i 0) 0) [
     | yes k ↦ rw (eq-eqb (getD ks i 0) 0 k)
-      (eq-eqb (sizeCell b i) 1 (c .sizes i h ∙ ap size (sub-leaf t i h (kind-of t ks i e ∙ k))))
+        (eq-eqb (sizeCell b i) 1 (c .sizes i h ∙ ap size (sub-leaf t i h (kind-of t ks i e ∙ k))))
     | no k ↦ rw (ne-eqb (getD ks i 0) 0 k)
-      (inner-right t i b (up-so-far t i b c (omega arith)) h (inner t i h (λ z. k (sym (kind-of t ks i e) ∙ z))) c)
+        (inner-right t i b (up-so-far t i b c (omega arith)) h (inner t i h (λ z. k (sym (kind-of t ks i e) ∙ z))) c)
   ]
 
 -- ---- the same of every tree with these kinds
@@ -132,11 +139,11 @@ up-tells ks i b m h all z t e = record {
     parents = λ v l. elim (ℕ-discrete v m) [
       | yes y ↦ rw y (eqb-true (parentCell b m) m q ∙ sym (parent-root t m (omega (arith, size-of t ks e))))
       | no y ↦ all t e .parents v (omega (arith, size-of t ks e))
-        (omega (arith, size-of t ks e, up t v (omega (arith, size-of t ks e)) .below))
+          (omega (arith, size-of t ks e, up t v (omega (arith, size-of t ks e)) .below))
     ];
   };
   no = λ q c. false-true (sym q ∙ eq-eqb (parentCell b m) m
-    (c .parents m (omega (arith, size-of t ks e)) ∙ parent-root t m (omega (arith, size-of t ks e))));
+      (c .parents m (omega (arith, size-of t ks e)) ∙ parent-root t m (omega (arith, size-of t ks e))));
 }
 
 -- ---- the pass down
@@ -145,7 +152,8 @@ module _ (t : Tree) (v : ℕ) (b : List ℕ) (h : v + 1 < size t) (e : parentCel
   down-step : DownFrom t (v + 1) b → downMatches b v ≡ true → DownFrom t v b
   unfolding downMatches
   down-step d m =
-      let m0 = both (eqb (depthCell b v) (depthCell b (parentCell b v) + 1)) (eqb (jumpCell b v) (childJump b (parentCell b v))) m in
+      let m0 = both (eqb (depthCell b v) (depthCell b (parentCell b v) + 1))
+      (eqb (jumpCell b v) (childJump b (parentCell b v))) m in
       record {
         depths = λ u l q. elim (ℕ-discrete u v) [
           | yes z ↦ rw z (eqb-true (depthCell b v) (depthCell b (parentCell b v) + 1) (m0 .0) ∙ depth-of t v b d h e)
@@ -161,9 +169,13 @@ module _ (t : Tree) (v : ℕ) (b : List ℕ) (h : v + 1 < size t) (e : parentCel
   unfolding downMatches
   down-right c =
       let d : DownFrom t (v + 1) b = record { depths = λ u l q. c .depths u q; jumps = λ u l q. c .jumps u q } in
-      let x : depthCell b v ≡ depthCell b (parentCell b v) + 1 = c .depths v (omega arith) ∙ sym (depth-of t v b d h e) in
+      let x : depthCell b v ≡ depthCell b (parentCell b v) + 1 =
+      c .depths v (omega arith) ∙ sym (depth-of t v b d h e) in
       let y : jumpCell b v ≡ childJump b (parentCell b v) = c .jumps v (omega arith) ∙ sym (jump-of t v b d h e) in
-      rw (eq-eqb (depthCell b v) (depthCell b (parentCell b v) + 1) x, eq-eqb (jumpCell b v) (childJump b (parentCell b v)) y)
+      rw (
+        eq-eqb (depthCell b v) (depthCell b (parentCell b v) + 1) x,
+        eq-eqb (jumpCell b v) (childJump b (parentCell b v)) y,
+      )
 
 -- ---- the same of every tree with these parents
 
@@ -202,8 +214,10 @@ downs-yes n v b h all t ps = record {
 module _ (n m : ℕ) (b : List ℕ) (z : m + 1 ≡ n) where
   pub root-from : jumpCell b m ≡ m → depthCell b m ≡ 0 → DownsFrom n m b
   root-from j d t ps = record {
-    depths = λ u l q. let e : u ≡ m = omega (arith, ps .count) in rw e (d ∙ sym (depth-root t m (omega (arith, ps .count))));
-    jumps = λ u l q. let e : u ≡ m = omega (arith, ps .count) in rw e (j ∙ sym (jump-root t m (omega (arith, ps .count))));
+    depths = λ u l q. let e : u ≡ m = omega (arith, ps .count) in
+        rw e (d ∙ sym (depth-root t m (omega (arith, ps .count))));
+    jumps = λ u l q. let e : u ≡ m = omega (arith, ps .count) in
+        rw e (j ∙ sym (jump-root t m (omega (arith, ps .count))));
   }
 
   pub root-jump-no : (jumpCell b m ≡ m → ⊥) → DownTells false n b

@@ -4,7 +4,7 @@
 --     depth-of, jump-of, args-of        a node's depth and jump, by its parent's cells
 --     node-turns, root-turns            one node more, of every tree with these parents, as the loop has it
 -- Assumes nothing.
-use Prim.Native.Nat.{ℕ, _+_, _-_, _*_, _≤_, _<_}
+use Prim.Native.Nat.{ℕ, _+_, _*_, _≤_, _<_}
 use mathlib.Core.Path.{_≡_, refl, sym, ap, _∙_, subst}
 use mathlib.Core.List.{List}
 use native.Mathlib.Decide.{ℕ-discrete}
@@ -13,11 +13,11 @@ use lib.ListN.{length, getD, set, length-set}
 use lib.Seq.{getD-set-same, getD-set-other}
 use Rattle.trees.specs.Tree.{Tree, size}
 use Rattle.trees.specs.Numbering.{parent, depth}
-use Rattle.trees.specs.Jumps.{jump, twoDistances, jumpDepth}
-use Rattle.trees.proofs.NodeLaws.{Up, up, depth-root, depth-small, size-pos}
+use Rattle.trees.specs.Jumps.{jump, twoDistances}
+use Rattle.trees.proofs.NodeLaws.{up, depth-root, depth-small, size-pos}
 use Rattle.trees.proofs.JumpLaws.{jump-in, jump-above, jump-rule, jump-root, depth-jump, jumpDepth-le}
 use Rattle.links.specs.Cells.{parentCell, jumpCell, depthCell}
-use Rattle.links.specs.LinkCells.{DownFrom, Parents, Beside, DownWritten}
+use Rattle.links.specs.LinkCells.{DownFrom, Parents, DownWritten}
 use Rattle.links.specs.DownPass.{childJump, put, nodeTurn, JumpArgs, NodeArgs, DownArgs}
 
 -- ---- what a turn leaves and what it writes
@@ -41,11 +41,13 @@ put-turn t v b₀ b d h room = record {
   cells = record {
     depths = λ u l q. elim (ℕ-discrete u v) [
       | yes e ↦ rw e (put-depth b v (jump t v) (depth t v) room)
-      | no e ↦ put-other b v (jump t v) (depth t v) (u * 4 + 2) (omega arith) (omega arith) ∙ d .cells .depths u (omega arith) q
+      | no e ↦ put-other b v (jump t v) (depth t v) (u * 4 + 2) (omega arith) (omega arith)
+          ∙ d .cells .depths u (omega arith) q
     ];
     jumps = λ u l q. elim (ℕ-discrete u v) [
       | yes e ↦ rw e (put-jump b v (jump t v) (depth t v) room)
-      | no e ↦ put-other b v (jump t v) (depth t v) (u * 4 + 1) (omega arith) (omega arith) ∙ d .cells .jumps u (omega arith) q
+      | no e ↦ put-other b v (jump t v) (depth t v) (u * 4 + 1) (omega arith) (omega arith)
+          ∙ d .cells .jumps u (omega arith) q
     ];
   };
   kept = λ j a. put-other b v (jump t v) (depth t v) j (a v h .0) (a v h .1) ∙ d .kept j a;
@@ -72,7 +74,8 @@ module _ (t : Tree) (v : ℕ) (b : List ℕ) (d : DownFrom t (v + 1) b) (p : ℕ
       ∙ d .depths (jump t (jump t p)) (omega (arith, jump-above t p hs, jump-above t (jump t p) (jump-in t p hs)))
       (jump-in t (jump t p) (jump-in t p hs))
 
-  child-jump : childJump b p ≡ twoDistances (depth t p) (depth t (jump t p)) (depth t (jump t (jump t p))) (jump t (jump t p)) p
+  child-jump : childJump b p
+      ≡ twoDistances (depth t p) (depth t (jump t p)) (depth t (jump t (jump t p))) (jump t (jump t p)) p
   child-jump = rw (depth-twice, depth-once, parent-depth, jump-twice)
 
   jump-args : size t ≤ 65535 → size t * 4 ≤ length b → JumpArgs b p
@@ -82,18 +85,23 @@ module _ (t : Tree) (v : ℕ) (b : List ℕ) (d : DownFrom t (v + 1) b) (p : ℕ
     once = omega (arith, jump-once, jump-in t p hs);
     twice = omega (arith, jump-twice, jump-in t (jump t p) (jump-in t p hs));
     falls = omega (arith, parent-depth, depth-once, depth-jump t p hs, jumpDepth-le (depth t p));
-    falls-again = omega (arith, depth-once, depth-twice, depth-jump t (jump t p) (jump-in t p hs), jumpDepth-le (depth t (jump t p)));
+    falls-again =
+        omega (arith, depth-once, depth-twice, depth-jump t (jump t p) (jump-in t p hs), jumpDepth-le (depth t (jump t p)));
   }
 
 -- ---- a node's depth and jump, by its parent's cells
 
-module _ (t : Tree) (v : ℕ) (b : List ℕ) (d : DownFrom t (v + 1) b) (h : v + 1 < size t) (e : parentCell b v ≡ parent t v) where
+module _ (t : Tree) (v : ℕ) (b : List ℕ) (d : DownFrom t (v + 1) b) (h : v + 1 < size t)
+    (e : parentCell b v ≡ parent t v) where
   pub jump-of : childJump b (parentCell b v) ≡ jump t v
   jump-of =
       ap (childJump b) e ∙ child-jump t v b d (parent t v) (up t v h .above) (up t v h .below) ∙ sym (jump-rule t v h)
 
   pub depth-of : depthCell b (parentCell b v) + 1 ≡ depth t v
-  depth-of = rw e (omega (arith, parent-depth t v b d (parent t v) (up t v h .above) (up t v h .below), up t v h .deeper))
+  depth-of =
+      let p : depthCell b (parent t v) ≡ depth t (parent t v) =
+      parent-depth t v b d (parent t v) (up t v h .above) (up t v h .below) in
+      rw e (omega (arith, up t v h .deeper))
 
   pub args-of : size t ≤ 65535 → size t * 4 ≤ length b → NodeArgs b v
   args-of m room = record {
@@ -118,7 +126,8 @@ module _ (n v : ℕ) (b₀ b : List ℕ) (all : DownsWritten n (v + 1) b₀ b) (
       let d : DownWritten t (v + 1) b₀ b = all t ps in
       let hs : v + 1 < size t = omega (arith, ps .count) in
       let e : parentCell b v ≡ parent t v = parent-cell t n (v + 1) v b₀ b ps d (omega arith) in
-      rw (jump-of t v b (d .cells) hs e, depth-of t v b (d .cells) hs e) (put-turn t v b₀ b d (omega arith) (omega arith))
+      rw (jump-of t v b (d .cells) hs e, depth-of t v b (d .cells) hs e)
+      (put-turn t v b₀ b d (omega arith) (omega arith))
 
   pub node-args : DownArgs n b₀ → NodeArgs b v
   node-args a =
@@ -134,7 +143,10 @@ root-turns n v b e room t ps =
     (subst (λ (y : ℕ). DownWritten t v b (put b v (jump t v) y)) (depth-root t v (omega (arith, ps .count)))
     (put-turn t v b b
     (record {
-      cells = record { depths = λ u l q. absurd (omega (arith, ps .count)); jumps = λ u l q. absurd (omega (arith, ps .count)) };
+      cells = record {
+        depths = λ u l q. absurd (omega (arith, ps .count));
+        jumps = λ u l q. absurd (omega (arith, ps .count));
+      };
       kept = λ j a. refl;
     })
     (omega (arith, ps .count)) (omega arith)))

@@ -14,13 +14,13 @@ use native.Mathlib.Decide.{ℕ-discrete}
 use native.Mathlib.Omega.{arith}
 use lib.ListN.{length, getD, set, length-set}
 use lib.Seq.{getD-set-same, getD-set-other}
-use Rattle.trees.specs.Tree.{Tree, node, kindsOf, labelsOf, size}
+use Rattle.trees.specs.Tree.{Tree, kindsOf, labelsOf, size}
 use Rattle.trees.specs.Numbering.{sub, parent}
 use Rattle.trees.specs.Postorder.{isPostorder}
 use Rattle.trees.proofs.NodeLaws.{Inner, inner, Up, up, sub-leaf, sub-size, size-pos, parent-root, length-kinds}
 use Rattle.trees.proofs.PostorderLaws.{postorder-tree}
 use Rattle.links.specs.Cells.{parentCell, sizeCell, LinkArgs}
-use Rattle.links.specs.LinkCells.{UpCells, UpTo, Beside, UpWritten, AllUpWritten}
+use Rattle.links.specs.LinkCells.{UpTo, UpWritten, AllUpWritten}
 use Rattle.links.specs.UpPass.{leftOf, innerSize, turn, innerTurn, InnerArgs}
 
 -- ---- what a turn leaves and what it writes
@@ -80,7 +80,8 @@ module _ (t : Tree) (i : ℕ) (b : List ℕ) (p : UpTo t i b) (h : i < size t) (
 
 -- ---- one node more
 
-module _ (t : Tree) (i : ℕ) (b₀ b : List ℕ) (p : UpWritten t i b₀ b) (h : i < size t) (room : i * 4 + 4 ≤ length b) where
+module _ (t : Tree) (i : ℕ) (b₀ b : List ℕ) (p : UpWritten t i b₀ b) (h : i < size t)
+    (room : i * 4 + 4 ≤ length b) where
   leaf-turn : getD (kindsOf t) i 0 ≡ 0 → UpWritten t (i + 1) b₀ (set b (i * 4 + 3) 1)
   leaf-turn k = record {
     cells = record {
@@ -119,7 +120,8 @@ module _ (t : Tree) (i : ℕ) (b₀ b : List ℕ) (p : UpWritten t i b₀ b) (h 
                   (λ z. e (ap (parent t) (omega arith) ∙ I .left-up)) ∙ p .cells .parents v l (omega arith)
             ];
           };
-          kept = λ j a. other j (a i h .1) (omega (arith, a (i - 1) (omega arith) .0)) (omega (arith, a (I .left) (omega arith) .0))
+          kept = λ j a. other j (a i h .1) (omega (arith, a (i - 1) (omega arith) .0))
+              (omega (arith, a (I .left) (omega arith) .0))
               ∙ p .kept j a;
         }
 

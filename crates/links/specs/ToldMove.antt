@@ -1,6 +1,7 @@
 -- What one move of a climb tells.
 --
--- toldMove F m == the code's answer for the move m of forest F: by a jump or to a parent, with the node it leads to; Stuck for none
+-- toldMove F m == the code's answer for the move m of forest F: by a jump or to a parent, with the node it leads to;
+--   Stuck for none
 -- risesTo F v u == whether u is a node of F and less deep than v
 -- MoveArgs n b v == v is one of n nodes, and table b has room for them
 --

@@ -1,4 +1,5 @@
--- The pass up: from the first node to the root, each node's size from its children's, and the node as its children's parent.
+-- The pass up: from the first node to the root, each node's size from its children's, and the node as its children's
+-- parent.
 --
 -- leftOf b v == the left child of inner node v, by the sizes in table b; its right child is v - 1
 -- innerSize b v == the size of inner node v, by the sizes of its children

@@ -12,7 +12,8 @@ ghost use Rattle.links.specs.Cells.{LinkArgs};
 // Writes the table of links of the tree with these kinds. The excess of a longer buffer is untouched.
 pub fn build_links(kinds: &[u8], nums: &mut [u16])
     requires { ⌜ LinkArgs (now kinds) (length (now nums)) ⌝ }
-    ensures { λ _. ⌜ ((t : Tree) → kindsOf t ≡ now (kinds .entry) → now (nums .exit) ≡ linkTable t ++ drop (linkLength (length (now (kinds .entry)))) (now (nums .entry))) ⌝ }
+    ensures { λ _. ⌜ ((t : Tree) → kindsOf t ≡ now (kinds .entry)
+        → now (nums .exit) ≡ linkTable t ++ drop (linkLength (length (now (kinds .entry)))) (now (nums .entry))) ⌝ }
 {
     write_up(kinds, nums);
     write_down(nums, kinds.len());

@@ -1,7 +1,8 @@
-// The full check of a table of links: both passes, comparing where the build writes. The first difference ends it, since what
-// comes after would be read by what is wrong.
+// The full check of a table of links: both passes, comparing where the build writes.
+// The first difference ends it, since what comes after would be read by what is wrong.
 use crate::down::child_jump;
-use crate::up::{inner_size, left_child};
+use crate::up::inner_size;
+use crate::up::left_child;
 ghost use mathlib.Core.Path.{_≡_};
 ghost use lib.ListN.{length, take};
 ghost use Rattle.trees.specs.Tree.{Tree, kindsOf};
@@ -44,7 +45,8 @@ fn up_matches(kinds: &[u8], nums: &[u16], v: usize) -> bool
 // Compares each node's parent and the size of its subtree.
 fn check_up(kinds: &[u8], nums: &[u16]) -> bool
     requires { ⌜ LinkArgs (now kinds) (length (now nums)) ⌝ }
-    ensures { λ r. ⌜ ((t : Tree) → kindsOf t ≡ now (kinds .entry) → Tells r (UpCells t (now (nums .entry))) (LinkCells t (now (nums .entry)))) ⌝ }
+    ensures { λ r. ⌜ ((t : Tree) → kindsOf t ≡ now (kinds .entry)
+        → Tells r (UpCells t (now (nums .entry))) (LinkCells t (now (nums .entry)))) ⌝ }
 {
     let n = kinds.len();
     let mut v = 0;
@@ -73,7 +75,8 @@ fn down_matches(nums: &[u16], v: usize) -> bool
 // Compares the depth and the jump of each of the n nodes.
 fn check_down(nums: &[u16], n: usize) -> bool
     requires { ⌜ DownArgs n (now nums) ⌝ }
-    ensures { λ r. ⌜ ((t : Tree) → Parents t n (now (nums .entry)) → Tells r (DownFrom t 0 (now (nums .entry))) (LinkCells t (now (nums .entry)))) ⌝ }
+    ensures { λ r. ⌜ ((t : Tree) → Parents t n (now (nums .entry))
+        → Tells r (DownFrom t 0 (now (nums .entry))) (LinkCells t (now (nums .entry)))) ⌝ }
 {
     let root = n - 1;
     if nums[root * 4 + 1] as usize != root {
@@ -95,7 +98,8 @@ fn check_down(nums: &[u16], n: usize) -> bool
 // Whether the buffer begins with the table of links of the tree with these kinds.
 pub fn check_links(kinds: &[u8], nums: &[u16]) -> bool
     requires { ⌜ LinkArgs (now kinds) (length (now nums)) ⌝ }
-    ensures { λ r. ⌜ ((t : Tree) → kindsOf t ≡ now (kinds .entry) → r ≡ sameList (take (linkLength (length (now (kinds .entry)))) (now (nums .entry))) (linkTable t)) ⌝ }
+    ensures { λ r. ⌜ ((t : Tree) → kindsOf t ≡ now (kinds .entry)
+        → r ≡ sameList (take (linkLength (length (now (kinds .entry)))) (now (nums .entry))) (linkTable t)) ⌝ }
 {
     if !check_up(kinds, nums) {
         return false;

@@ -33,7 +33,8 @@ fn write_node(nums: &mut [u16], v: usize)
 // Writes the depth and the jump of each of the n nodes, from their parents.
 pub fn write_down(nums: &mut [u16], n: usize)
     requires { ⌜ DownArgs n (now nums) ⌝ }
-    ensures { λ _. ⌜ ((t : Tree) → Parents t n (now (nums .entry)) → DownWritten t 0 (now (nums .entry)) (now (nums .exit))) ⌝ }
+    ensures { λ _. ⌜ ((t : Tree) → Parents t n (now (nums .entry))
+        → DownWritten t 0 (now (nums .entry)) (now (nums .exit))) ⌝ }
 {
     let root = n - 1;
     nums[root * 4 + 1] = root as u16;

@@ -1,17 +1,24 @@
 // One move of a climb on lent numbers, whatever they hold, and single cells of a table of links.
 ghost use mathlib.Core.Path.{_≡_};
-ghost use Prim.Native.Nat.{_+_, _*_, _≤_};
+ghost use Prim.Native.Nat.{_+_, _*_, _≤_, _<_};
 ghost use lib.ListN.{length};
 ghost use Rattle.trees.specs.Climb.{nextMove};
 ghost use Rattle.links.specs.Cells.{parentCell, jumpCell, depthCell, sizeCell, cellForest};
 ghost use Rattle.links.specs.ToldMove.{toldMove, risesTo, MoveArgs};
 
-// Where a climb goes next: by a jump or to a parent, each with the node it leads to. Stuck where the move would leave the plan
-// or not rise, which never happens on a table as built.
+// Where a climb goes next: by a jump or to a parent, each with the node it leads to. Stuck where the move would leave
+// the plan or not rise, which never happens on a table as built.
 pub enum NextMove {
     Jump(usize),
     Parent(usize),
     Stuck,
+}
+
+// A cell as a wider number.
+fn wide(x: u16) -> usize
+    ensures { λ r. ⌜ (r ≡ x) × (r < 65536) ⌝ }
+{
+    x as usize
 }
 
 // The parent of node v.
@@ -19,7 +26,7 @@ pub fn parent_at(nums: &[u16], v: usize) -> usize
     requires { ⌜ v * 4 + 4 ≤ length (now nums) ⌝ }
     ensures { λ r. ⌜ r ≡ parentCell (now (nums .entry)) v ⌝ }
 {
-    nums[v * 4] as usize
+    wide(nums[v * 4])
 }
 
 // The jump of node v.
@@ -27,7 +34,7 @@ pub fn jump_at(nums: &[u16], v: usize) -> usize
     requires { ⌜ v * 4 + 4 ≤ length (now nums) ⌝ }
     ensures { λ r. ⌜ r ≡ jumpCell (now (nums .entry)) v ⌝ }
 {
-    nums[v * 4 + 1] as usize
+    wide(nums[v * 4 + 1])
 }
 
 // The depth of node v.
@@ -35,7 +42,7 @@ pub fn depth_at(nums: &[u16], v: usize) -> usize
     requires { ⌜ v * 4 + 4 ≤ length (now nums) ⌝ }
     ensures { λ r. ⌜ r ≡ depthCell (now (nums .entry)) v ⌝ }
 {
-    nums[v * 4 + 2] as usize
+    wide(nums[v * 4 + 2])
 }
 
 // The size of node v's subtree.
@@ -43,7 +50,7 @@ pub fn size_at(nums: &[u16], v: usize) -> usize
     requires { ⌜ v * 4 + 4 ≤ length (now nums) ⌝ }
     ensures { λ r. ⌜ r ≡ sizeCell (now (nums .entry)) v ⌝ }
 {
-    nums[v * 4 + 3] as usize
+    wide(nums[v * 4 + 3])
 }
 
 // Whether node u is one of the n nodes and less deep than node v.
@@ -57,10 +64,12 @@ fn rises_to(nums: &[u16], n: usize, v: usize, u: usize) -> bool
     depth_at(nums, u) < depth_at(nums, v)
 }
 
-// The next move of a climb from node v to depth `to`, by the numbers as they are. Cells of nodes outside the plan are never read.
+// The next move of a climb from node v to depth `to`, by the numbers as they are. Cells of nodes outside the
+// plan are never read.
 pub fn next_move(nums: &[u16], n: usize, v: usize, to: usize) -> NextMove
     requires { ⌜ MoveArgs n (now nums) v ⌝ }
-    ensures { λ r. ⌜ r ≡ toldMove (cellForest n (now (nums .entry))) (nextMove (cellForest n (now (nums .entry))) v to) ⌝ }
+    ensures { λ r. ⌜ r
+        ≡ toldMove (cellForest n (now (nums .entry))) (nextMove (cellForest n (now (nums .entry))) v to) ⌝ }
 {
     let j = jump_at(nums, v);
     if j >= n {

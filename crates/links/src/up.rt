@@ -41,7 +41,8 @@ fn write_inner(nums: &mut [u16], v: usize)
 // Writes each node's parent and the size of its subtree.
 pub fn write_up(kinds: &[u8], nums: &mut [u16])
     requires { ⌜ LinkArgs (now kinds) (length (now nums)) ⌝ }
-    ensures { λ _. ⌜ ((t : Tree) → kindsOf t ≡ now (kinds .entry) → AllUpWritten t (now (nums .entry)) (now (nums .exit))) ⌝ }
+    ensures { λ _. ⌜ ((t : Tree) → kindsOf t ≡ now (kinds .entry)
+        → AllUpWritten t (now (nums .entry)) (now (nums .exit))) ⌝ }
 {
     let n = kinds.len();
     let mut v = 0;

@@ -1,17 +1,14 @@
 -- `check_down` meets its contract. The loop's invariant: depths and jumps are right from v on. Assumes nothing.
-use Prim.Native.Nat.{ℕ, _≤_, _<_, _+_, _-_, _*_}
-use mathlib.Core.Path.{_≡_, refl, sym, _∙_, subst}
-use lib.ListN.{length}
+use Prim.Native.Nat.{ℕ, _<_, _+_, _-_, _*_}
+use mathlib.Core.Path.{_≡_, sym, _∙_, subst}
 use borrow.Author.Tests.{not-true, not-false}
 use Rattle.links.proofs.DownTurns.{down-pos}
-use Rattle.links.proofs.CheckTurns.{DownsFrom, downs-args, downs-step, downs-no, downs-yes, root-from, root-jump-no, root-depth-no}
+use Rattle.links.proofs.CheckTurns.{DownsFrom, downs-args, downs-step, downs-no, downs-yes}
+use Rattle.links.proofs.CheckTurns.{root-from, root-jump-no, root-depth-no}
 use native.Mathlib.Omega.{arith}
 use borrow.Author.Needs.{needs}
 use Rattle.links.proofs.check.check_down.Statement.{statement}
 use Rattle.links.proofs.check.check_down.Tie as tie
-use Rattle.links.proofs.check.check_down.Reads as reads
-use Rattle.links.proofs.check.check_down.Lts as lts
-use Rattle.links.proofs.check.down_matches.Reads as down-matches-reads
 
 abbrev Inv-loop : tie.InvT-loop
 Inv-loop nums n root v₀ v = (v < n) × DownsFrom n v nums
@@ -76,9 +73,11 @@ returns-2 c =
 
 loop-holds : tie.Need-loop-holds Inv-loop μ-loop
 loop-holds c =
-    let s = c .before .before .before .before .before in
-    (omega (arith, pos s),
-    root-from (s .args .n) (s .args .n - 1) (s .args .nums .now) (omega (arith, pos s)) (c .before .before .if1 .left) (c .if2 .left))
+    let s = c .before .before .before .before .before in (
+      omega (arith, pos s),
+      root-from (s .args .n) (s .args .n - 1) (s .args .nums .now) (omega (arith, pos s))
+          (c .before .before .if1 .left) (c .if2 .left),
+    )
 
 sub-v : tie.Need-sub-v Inv-loop μ-loop
 sub-v c = search needs
@@ -87,7 +86,8 @@ down-matches-requires : tie.Need-down-matches-requires Inv-loop μ-loop
 down-matches-requires c κs =
     let a = c .before in
     let s = entry a in
-    downs-args (s .args .n) (a .loop .v - 1) (s .args .nums .now) (omega (arith, a .loop .inv .0, c .loop-test .taken)) (s .pre)
+    downs-args (s .args .n) (a .loop .v - 1) (s .args .nums .now)
+    (omega (arith, a .loop .inv .0, c .loop-test .taken)) (s .pre)
     (below a (c .loop-test .taken))
 
 returns-3 : tie.Need-returns-3 Inv-loop μ-loop
@@ -104,11 +104,13 @@ loop-less c = search needs
 loop-again : tie.Need-loop-again Inv-loop μ-loop
 loop-again c =
     let a = c .before .before .before in
-    let s = entry a in
-    (omega (arith, a .loop .inv .0),
-    downs-step (s .args .n) (a .loop .v - 1) (s .args .nums .now)
-    (omega (arith, a .loop .inv .0, c .before .before .loop-test .taken)) (below a (c .before .before .loop-test .taken))
-    (sym (c .before .down-matches .ensures) ∙ not-false _ (c .if3 .left)))
+    let s = entry a in (
+      omega (arith, a .loop .inv .0),
+      downs-step (s .args .n) (a .loop .v - 1) (s .args .nums .now)
+          (omega (arith, a .loop .inv .0, c .before .before .loop-test .taken))
+          (below a (c .before .before .loop-test .taken))
+          (sym (c .before .down-matches .ensures) ∙ not-false _ (c .if3 .left)),
+    )
 
 returns-4 : tie.Need-returns-4 Inv-loop μ-loop
 returns-4 c =

@@ -1,20 +1,16 @@
 -- `check_links` meets its contract: the pass up, then the pass down. Assumes nothing.
-use mathlib.Core.Path.{_≡_, subst}
-use mathlib.Core.Bool.{Bool, true, false}
+use mathlib.Core.Path.{subst}
+use mathlib.Core.Bool.{Bool, true}
 use borrow.Author.Tests.{not-true, not-false}
 use Rattle.links.proofs.CheckTurns.{UpTells}
 use Rattle.links.proofs.CheckLaws.{told-no, down-room, told-both}
-use native.Mathlib.Omega.{arith}
 use borrow.Author.Needs.{needs}
 use Rattle.links.proofs.check.check_links.Statement.{statement}
 use Rattle.links.proofs.check.check_links.Tie as tie
-use Rattle.links.proofs.check.check_links.Reads as reads
-use Rattle.links.proofs.check.check_links.Lts as lts
-use Rattle.links.proofs.check.check_down.Reads as check-down-reads
-use Rattle.links.proofs.check.check_up.Reads as check-up-reads
 
 -- where the pass up said yes
-up-yes : (e : tie.Else1) → UpTells true (e .before .before .before .before .args .kinds .now) (e .before .before .before .before .args .nums .now)
+up-yes : (e : tie.Else1)
+    → UpTells true (e .before .before .before .before .args .kinds .now) (e .before .before .before .before .args .nums .now)
 up-yes e =
     let s = e .before .before .before .before in
     subst (λ (r : Bool). UpTells r (s .args .kinds .now) (s .args .nums .now)) (not-false _ (e .if1 .left))

@@ -1,5 +1,6 @@
--- `check_up` meets its contract. The loop's invariant: sizes and parents are right as far as the pass has come. Assumes nothing.
-use Prim.Native.Nat.{ℕ, _≤_, _<_, _+_, _-_, _*_}
+-- `check_up` meets its contract. The loop's invariant: sizes and parents are right as far as the pass has come.
+-- Assumes nothing.
+use Prim.Native.Nat.{_≤_, _-_, _*_}
 use mathlib.Core.Path.{_≡_, refl, sym, _∙_}
 use lib.ListN.{length}
 use borrow.Author.Tests.{not-true, not-false}
@@ -9,9 +10,6 @@ use native.Mathlib.Omega.{arith}
 use borrow.Author.Needs.{needs}
 use Rattle.links.proofs.check.check_up.Statement.{statement}
 use Rattle.links.proofs.check.check_up.Tie as tie
-use Rattle.links.proofs.check.check_up.Reads as reads
-use Rattle.links.proofs.check.check_up.Lts as lts
-use Rattle.links.proofs.check.up_matches.Reads as up-matches-reads
 
 abbrev Inv-loop : tie.InvT-loop
 Inv-loop kinds nums n v₀ v = (v ≤ length kinds) × (n ≡ length kinds) × UpsTo kinds v nums
@@ -26,7 +24,8 @@ up-matches-requires : tie.Need-up-matches-requires Inv-loop μ-loop
 up-matches-requires c κs =
     let a = c .before in
     let s = a .before .before .before in
-    up-args (s .args .kinds .now) (a .loop .v) (s .args .nums .now) (s .pre) (omega (arith, c .loop-test .taken)) (a .loop .inv .2)
+    up-args (s .args .kinds .now) (a .loop .v) (s .args .nums .now) (s .pre) (omega (arith, c .loop-test .taken))
+    (a .loop .inv .2)
 
 returns : tie.Need-returns Inv-loop μ-loop
 returns c =
@@ -44,10 +43,13 @@ loop-less c = search needs
 loop-again : tie.Need-loop-again Inv-loop μ-loop
 loop-again c =
     let a = c .before .before .before in
-    let s = a .before .before .before in
-    (omega arith, refl,
-    ups-step (s .args .kinds .now) (a .loop .v) (s .args .nums .now) (c .before .before .loop-test .taken) (a .loop .inv .2)
-    (sym (c .before .up-matches .ensures) ∙ not-false _ (c .if1 .left)))
+    let s = a .before .before .before in (
+      omega arith,
+      refl,
+      ups-step (s .args .kinds .now) (a .loop .v) (s .args .nums .now) (c .before .before .loop-test .taken)
+          (a .loop .inv .2)
+          (sym (c .before .up-matches .ensures) ∙ not-false _ (c .if1 .left)),
+    )
 
 sub-root : tie.Need-sub-root Inv-loop μ-loop
 sub-root c = some-node _ (c .before .before .before .before .pre .postorder)
@@ -72,7 +74,8 @@ returns-2 : tie.Need-returns-2 Inv-loop μ-loop
 returns-2 c =
     let a = c .before .before in
     let s = a .before .before .before in
-    up-tells (s .args .kinds .now) (a .loop .v) (s .args .nums .now) (length (s .args .kinds .now) - 1) (c .before .loop-test .left)
+    up-tells (s .args .kinds .now) (a .loop .v) (s .args .nums .now) (length (s .args .kinds .now) - 1)
+    (c .before .loop-test .left)
     (a .loop .inv .2) (omega (arith, some-node _ (s .pre .postorder)))
 
 pub check-up-spec : {M : Type 1} → statement M

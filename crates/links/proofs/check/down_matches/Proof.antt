@@ -1,13 +1,9 @@
 -- `down_matches` meets its contract, by the way each test went. Assumes nothing.
 use borrow.Author.Tests.{eq-eqb, ne-eqb}
 use Rattle.links.specs.CheckPass.{downMatches}
-use native.Mathlib.Omega.{arith}
 use borrow.Author.Needs.{needs}
 use Rattle.links.proofs.check.down_matches.Statement.{statement}
 use Rattle.links.proofs.check.down_matches.Tie as tie
-use Rattle.links.proofs.check.down_matches.Reads as reads
-use Rattle.links.proofs.check.down_matches.Lts as lts
-use Rattle.links.proofs.down.child_jump.Reads as child-jump-reads
 
 mul-p : tie.Need-mul-p
 mul-p c = search needs

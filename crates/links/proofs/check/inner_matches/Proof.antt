@@ -1,16 +1,12 @@
 -- `inner_matches` meets its contract, by the way each test went. Assumes nothing.
-use Prim.Native.Nat.{ℕ, _+_, _-_, _*_}
-use mathlib.Core.Path.{_≡_, _∙_}
+use Prim.Native.Nat.{_-_, _*_}
+use mathlib.Core.Path.{_∙_}
 use borrow.Author.Tests.{eq-eqb, ne-eqb}
 use Rattle.links.specs.CheckPass.{innerMatches}
 use native.Mathlib.Omega.{arith}
 use borrow.Author.Needs.{needs}
 use Rattle.links.proofs.check.inner_matches.Statement.{statement}
 use Rattle.links.proofs.check.inner_matches.Tie as tie
-use Rattle.links.proofs.check.inner_matches.Reads as reads
-use Rattle.links.proofs.check.inner_matches.Lts as lts
-use Rattle.links.proofs.up.inner_size.Reads as inner-size-reads
-use Rattle.links.proofs.up.left_child.Reads as left-child-reads
 
 mul-if1 : tie.Need-mul-if1
 mul-if1 c = search needs

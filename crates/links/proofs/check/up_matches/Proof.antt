@@ -1,14 +1,9 @@
 -- `up_matches` meets its contract, by the kind. Assumes nothing.
-use mathlib.Core.Path.{_≡_, _∙_}
 use borrow.Author.Tests.{eq-eqb, ne-eqb}
 use Rattle.links.specs.CheckPass.{upMatches}
-use native.Mathlib.Omega.{arith}
 use borrow.Author.Needs.{needs}
 use Rattle.links.proofs.check.up_matches.Statement.{statement}
 use Rattle.links.proofs.check.up_matches.Tie as tie
-use Rattle.links.proofs.check.up_matches.Reads as reads
-use Rattle.links.proofs.check.up_matches.Lts as lts
-use Rattle.links.proofs.check.inner_matches.Reads as inner-matches-reads
 
 shared-slice-read-if1 : tie.Need-shared-slice-read-if1
 shared-slice-read-if1 c = search needs

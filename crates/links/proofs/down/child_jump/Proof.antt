@@ -1,11 +1,8 @@
 -- `child_jump` meets its contract: the two-distances rule, by the test's two ways. Assumes nothing.
 use borrow.Author.Tests.{eq-eqb, ne-eqb}
-use native.Mathlib.Omega.{arith}
 use borrow.Author.Needs.{needs}
 use Rattle.links.proofs.down.child_jump.Statement.{statement}
 use Rattle.links.proofs.down.child_jump.Tie as tie
-use Rattle.links.proofs.down.child_jump.Reads as reads
-use Rattle.links.proofs.down.child_jump.Lts as lts
 
 mul-j : tie.Need-mul-j
 mul-j c = search needs

@@ -1,5 +1,5 @@
--- `write_down` meets its contract. The loop's invariant: depths and jumps stand from v on, and no other place has changed, for
--- every table with which the loop may have begun. Assumes nothing.
+-- `write_down` meets its contract. The loop's invariant: depths and jumps stand from v on, and no other place has
+-- changed, for every table with which the loop may have begun. Assumes nothing.
 use Prim.Native.Nat.{ℕ, _≤_, _<_, _+_, _-_, _*_}
 use mathlib.Core.Path.{_≡_, refl, _∙_, subst}
 use mathlib.Core.List.{List}
@@ -9,12 +9,10 @@ use native.Mathlib.Omega.{arith}
 use borrow.Author.Needs.{needs}
 use Rattle.links.proofs.down.write_down.Statement.{statement}
 use Rattle.links.proofs.down.write_down.Tie as tie
-use Rattle.links.proofs.down.write_down.Reads as reads
-use Rattle.links.proofs.down.write_down.Lts as lts
-use Rattle.links.proofs.down.write_node.Reads as write-node-reads
 
 abbrev Inv-loop : tie.InvT-loop
-Inv-loop nums₀ n root v₀ nums v = (v < n) × (length nums ≡ length nums₀) × ((b : List ℕ) → DownsWritten n v₀ b nums₀ → DownsWritten n v b nums)
+Inv-loop nums₀ n root v₀ nums v =
+    (v < n) × (length nums ≡ length nums₀) × ((b : List ℕ) → DownsWritten n v₀ b nums₀ → DownsWritten n v b nums)
 
 abbrev μ-loop : tie.MeasureT-loop
 μ-loop nums₀ n root v₀ nums v = v

@@ -4,9 +4,6 @@ use native.Mathlib.Omega.{arith}
 use borrow.Author.Needs.{needs}
 use Rattle.links.proofs.down.write_node.Statement.{statement}
 use Rattle.links.proofs.down.write_node.Tie as tie
-use Rattle.links.proofs.down.write_node.Reads as reads
-use Rattle.links.proofs.down.write_node.Lts as lts
-use Rattle.links.proofs.down.child_jump.Reads as child-jump-reads
 
 mul-p : tie.Need-mul-p
 mul-p c = search needs

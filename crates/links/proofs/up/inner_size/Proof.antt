@@ -5,9 +5,6 @@ use native.Mathlib.Omega.{arith}
 use borrow.Author.Needs.{needs}
 use Rattle.links.proofs.up.inner_size.Statement.{statement}
 use Rattle.links.proofs.up.inner_size.Tie as tie
-use Rattle.links.proofs.up.inner_size.Reads as reads
-use Rattle.links.proofs.up.inner_size.Lts as lts
-use Rattle.links.proofs.up.left_child.Reads as left-child-reads
 
 sub-right : tie.Need-sub-right
 sub-right c = search needs
@@ -42,12 +39,22 @@ shared-slice-read-result-2 c = search needs
 add-result-3 : tie.Need-add-result-3
 add-result-3 c =
     let l = c .before .before in
-    omega (arith, ap (sizeCell (l .before .before .args .nums .now)) (l .left-child .ensures), l .before .before .pre .fits)
+    omega (
+      arith,
+      ap (sizeCell (l .before .before .args .nums .now))
+          (l .left-child .ensures),
+      l .before .before .pre .fits,
+    )
 
 add-result-4 : tie.Need-add-result-4
 add-result-4 c =
     let l = c .before .before in
-    omega (arith, ap (sizeCell (l .before .before .args .nums .now)) (l .left-child .ensures), l .before .before .pre .fits)
+    omega (
+      arith,
+      ap (sizeCell (l .before .before .args .nums .now))
+          (l .left-child .ensures),
+      l .before .before .pre .fits,
+    )
 
 returns : tie.Need-returns
 returns c = rw (c .before .before .left-child .ensures)

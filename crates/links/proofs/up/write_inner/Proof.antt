@@ -4,10 +4,6 @@ use native.Mathlib.Omega.{arith}
 use borrow.Author.Needs.{needs}
 use Rattle.links.proofs.up.write_inner.Statement.{statement}
 use Rattle.links.proofs.up.write_inner.Tie as tie
-use Rattle.links.proofs.up.write_inner.Reads as reads
-use Rattle.links.proofs.up.write_inner.Lts as lts
-use Rattle.links.proofs.up.inner_size.Reads as inner-size-reads
-use Rattle.links.proofs.up.left_child.Reads as left-child-reads
 
 sub-right : tie.Need-sub-right
 sub-right c = search needs

@@ -1,20 +1,19 @@
--- `write_up` meets its contract. The loop's invariant: sizes and parents stand as far as the pass has come, and no other place
--- has changed. Assumes nothing.
-use Prim.Native.Nat.{ℕ, _≤_, _<_, _+_, _-_, _*_}
+-- `write_up` meets its contract. The loop's invariant: sizes and parents stand as far as the pass has come, and no
+-- other place has changed. Assumes nothing.
+use Prim.Native.Nat.{_≤_, _-_, _*_}
 use mathlib.Core.Path.{_≡_, refl, _∙_}
 use mathlib.Core.Logic.{⊎-elim}
 use lib.ListN.{length, length-set}
-use Rattle.links.proofs.UpTurns.{UpsWritten, nothing-written, leaf-turns, inner-turns, inner-room, all-written, some-node}
+use Rattle.links.proofs.UpTurns.{UpsWritten, nothing-written, leaf-turns, inner-turns, inner-room}
+use Rattle.links.proofs.UpTurns.{all-written, some-node}
 use native.Mathlib.Omega.{arith}
 use borrow.Author.Needs.{needs}
 use Rattle.links.proofs.up.write_up.Statement.{statement}
 use Rattle.links.proofs.up.write_up.Tie as tie
-use Rattle.links.proofs.up.write_up.Reads as reads
-use Rattle.links.proofs.up.write_up.Lts as lts
-use Rattle.links.proofs.up.write_inner.Reads as write-inner-reads
 
 abbrev Inv-loop : tie.InvT-loop
-Inv-loop kinds nums₀ n v₀ nums v = (v ≤ length kinds) × (length nums ≡ length nums₀) × (n ≡ length kinds) × UpsWritten kinds v nums₀ nums
+Inv-loop kinds nums₀ n v₀ nums v =
+    (v ≤ length kinds) × (length nums ≡ length nums₀) × (n ≡ length kinds) × UpsWritten kinds v nums₀ nums
 
 abbrev μ-loop : tie.MeasureT-loop
 μ-loop kinds nums₀ n v₀ nums v = n - v
@@ -41,7 +40,8 @@ write-inner-requires : tie.Need-write-inner-requires Inv-loop μ-loop
 write-inner-requires c κs =
     let a = c .before .before .before .before in
     let s = a .before .before .before in
-    inner-room (s .args .kinds .now) (a .loop .v) (length (s .args .nums .now)) (a .loop .nums) (s .pre) (a .loop .inv .1)
+    inner-room (s .args .kinds .now) (a .loop .v) (length (s .args .nums .now)) (a .loop .nums) (s .pre)
+    (a .loop .inv .1)
     (c .before .before .before .loop-test .taken) (c .before .if1 .left) (λ t e. a .loop .inv .3 t e .cells)
 
 add-v : tie.Need-add-v Inv-loop μ-loop
@@ -62,7 +62,8 @@ loop-again c =
       omega arith,
       rw (w .1) (simp length-set (a .loop .inv .1)),
       refl,
-      rw (w .1) (leaf-turns ks (a .loop .v) (s .args .nums .now) (a .loop .nums) (a .loop .inv .3) t room (w .0 .taken)),
+      rw (w .1) (leaf-turns ks (a .loop .v) (s .args .nums .now) (a .loop .nums) (a .loop .inv .3) t room
+          (w .0 .taken)),
     ))
     (λ w. (
       omega arith,
@@ -95,7 +96,8 @@ returns : tie.Need-returns Inv-loop μ-loop
 returns c =
     let a = c .before in
     let s = a .before .before .before in
-    all-written (s .args .kinds .now) (a .loop .v) (s .args .nums .now) (a .loop .nums) (a .loop .inv .3) (c .loop-test .left)
+    all-written (s .args .kinds .now) (a .loop .v) (s .args .nums .now) (a .loop .nums) (a .loop .inv .3)
+    (c .loop-test .left)
     (a .loop .inv .0) (omega (arith, s .pre .room, a .loop .inv .1))
 
 pub write-up-spec : {M : Type 1} → statement M

@@ -1,0 +1,37 @@
+-- The ways out of one move of a climb.
+--     outside               the jump leads outside the forest
+--     by-jump, no-jump      it is taken, and rises or not
+--     to-parent, no-parent  it leads above the asked depth, and the parent rises or not
+-- Each takes what the code has read: j the jump, d its depth, p the parent.
+-- Assumes nothing.
+use Prim.Native.Nat.{ℕ, _≤_, _<_}
+use mathlib.Core.Path.{_≡_}
+use mathlib.Core.Bool.{true, false}
+use borrow.Author.Tests.{lt-ltb, le-ltb, le-leb, lt-leb}
+use Rattle.trees.specs.Climb.{Forest, nextMove}
+use Rattle.links.specs.declared.moves.NextMove.the-variants.{Jump, Parent, Stuck}
+use Rattle.links.specs.ToldMove.{toldMove, risesTo}
+
+module _ (F : Forest) (v to j : ℕ) (ej : j ≡ F .jump v) where
+  pub outside : F .nodes ≤ j → Stuck ≡ toldMove F (nextMove F v to)
+  unfolding toldMove nextMove
+  outside h = rw (← ej, le-ltb j (F .nodes) h)
+
+  module _ (h : j < F .nodes) (d : ℕ) (ed : d ≡ F .depth j) where
+    module _ (l : to ≤ d) where
+      pub by-jump : risesTo F v j ≡ true → Jump j ≡ toldMove F (nextMove F v to)
+      unfolding toldMove nextMove
+      by-jump r = rw (← ej, lt-ltb j (F .nodes) h, ← ed, le-leb to d l, ← ej, r, ← ej)
+
+      pub no-jump : risesTo F v j ≡ false → Stuck ≡ toldMove F (nextMove F v to)
+      unfolding toldMove nextMove
+      no-jump r = rw (← ej, lt-ltb j (F .nodes) h, ← ed, le-leb to d l, ← ej, r)
+
+    module _ (l : d < to) (p : ℕ) (ep : p ≡ F .parent v) where
+      pub to-parent : risesTo F v p ≡ true → Parent p ≡ toldMove F (nextMove F v to)
+      unfolding toldMove nextMove
+      to-parent r = rw (← ej, lt-ltb j (F .nodes) h, ← ed, lt-leb to d l, ← ep, r, ← ep)
+
+      pub no-parent : risesTo F v p ≡ false → Stuck ≡ toldMove F (nextMove F v to)
+      unfolding toldMove nextMove
+      no-parent r = rw (← ej, lt-ltb j (F .nodes) h, ← ed, lt-leb to d l, ← ep, r)
