@@ -26,7 +26,7 @@ use Rattle.links.specs.Cells.{parentCell, jumpCell}
 use Rattle.tables.specs.StateCells.{mapCell}
 use Rattle.tables.specs.Rows.{RowIn, Rowed}
 use Rattle.tables.specs.MapTable.{MapsWritten}
-use Rattle.tables.proofs.MapTableLaws.{row-ext, maps-start, maps-turn}
+use Rattle.tables.proofs.MapTableLaws.{row-ext, written-start, written-turn}
 use Rattle.branches.specs.Lent.{BranchLent, BranchArgs}
 use Rattle.branches.specs.Maps.{stepCell, nodeMap, StepRowArgs, NodeArgs, Mapped}
 use Rattle.branches.proofs.StepTurns.{lent-label, lent-parent, lent-below, args-labels, args-parent, step-at}
@@ -152,11 +152,11 @@ module _ (ls nums st : List ℕ) (s k n m : ℕ) (A : BranchArgs ls nums st s k 
       → Rowed s (nodeMap ls nums st s k b v) v b b₁ → Mapped ls nums st s k n v b₀ b₁
   map-turn v b₀ b b₁ S h r B t L =
       let M : MapsWritten s n (branchMap B t) (v + 1) b₀ b = S B t L in
-      maps-turn s n (branchMap B t) v b₀ b b₁ (omega arith) M
+      written-turn s n (branchMap B t) v b₀ b b₁ (omega arith) M
       (row-ext s (nodeMap ls nums st s k b v) (branchMap B t v) v s b b₁ r
       (nodeMap-is B t ls nums st s k n L (A .steps-below) v h b (M .maps)))
 
   pub map-root : (v : ℕ) (b b₁ : List ℕ) → v + 1 ≡ n → Rowed s (λ q. q) v b b₁ → Mapped ls nums st s k n v b b₁
   map-root v b b₁ e r B t L =
-      maps-turn s n (branchMap B t) v b b b₁ (omega arith) (rw e (maps-start s n (branchMap B t) b))
+      written-turn s n (branchMap B t) v b b b₁ (omega arith) (rw e (written-start s n (branchMap B t) b))
       (row-ext s (λ q. q) (branchMap B t v) v s b b₁ r (λ q l. sym (branchMap-root B t v q (e ∙ sym (L .count)))))
