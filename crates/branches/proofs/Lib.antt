@@ -1,3 +1,4 @@
 pub mod StepTurns
 pub mod StepRowTurns
 pub mod MapTurns
+pub mod FillLaws

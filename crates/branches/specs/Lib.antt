@@ -2,3 +2,4 @@ pub mod Question
 pub mod Promise
 pub mod Lent
 pub mod Maps
+pub mod Filled

@@ -1,4 +1,5 @@
 // Branch tables: their build, their full check, and the branch question.
 pub mod answers;
+pub mod build;
 pub mod maps;
 pub mod steps;
