@@ -8,3 +8,6 @@ pub mod InputLaws
 pub mod PlanAnswers
 pub mod TurnLaws
 pub mod RuleAnswers
+pub mod BranchAnswers
+pub mod ListAnswers
+pub mod InputAnswers

@@ -1,7 +1,8 @@
 -- One turn, and the end, of the loops over lists: what is known of the elements passed and of those still to come.
 --     below-turn, below-end       allBelow with a running answer
 --     holds-turn, holds-end       holds with a running answer
---     distinct-turn, distinct-end distinct from a place on
+--     distinct-no, distinct-yes, distinct-end
+--                                 distinct from a place on
 -- Assumes nothing.
 use Prim.Native.Nat.{ℕ, suc, _+_, _-_, _≤_, _<_}
 use mathlib.Core.Path.{_≡_, refl, sym, ap, _∙_}
@@ -10,9 +11,10 @@ use mathlib.Core.List.{List, [], _∷_}
 use native.Mathlib.Omega.{arith}
 use native.Mathlib.Numerals.{add-one}
 use lib.Dec.{ltb, eqb}
-use lib.ListN.{length, getD, drop, drop-of-length-le}
+use lib.ListN.{length, getD, take, drop, drop-of-length-le}
 use lib.Seq.{drop-cons}
 use Rattle.formats.specs.Bytes.{allBelow, holds, distinct}
+use Rattle.formats.proofs.PartLaws.{rest-part}
 
 and-assoc : (a b c : Bool) → (a && b && c) ≡ (a && (b && c))
 and-assoc true b c = refl
@@ -53,10 +55,23 @@ module _ (l : List ℕ) (i : ℕ) where
   unfolding holds
   holds-end x b h = ap (λ (t : List ℕ). b || holds x t) (drop-of-length-le l h) ∙ or-no b
 
-  pub distinct-turn : i < length l → distinct (drop i l) ≡ (not (holds (getD l i 0) (drop (i + 1) l)) && distinct (drop (i + 1) l))
+  distinct-turn : i < length l → distinct (drop i l) ≡ (not (holds (getD l i 0) (drop (i + 1) l)) && distinct (drop (i + 1) l))
   unfolding distinct
   distinct-turn h = ap distinct (from l i h)
 
   pub distinct-end : length l ≤ i → distinct (drop i l) ≡ true
   unfolding distinct
   distinct-end h = ap distinct (drop-of-length-le l h)
+
+  -- from the answer of the test on the rest that is handed on
+  pub distinct-no : i < length l → (x : Bool) → x ≡ holds (getD l i 0) (take (length l - (i + 1)) (drop (i + 1) l)) → x ≡ true
+      → distinct (drop i l) ≡ false
+  distinct-no h x e f =
+      let held : holds (getD l i 0) (drop (i + 1) l) ≡ true = ap (holds (getD l i 0)) (sym (rest-part l (i + 1))) ∙ sym e ∙ f in
+      distinct-turn h ∙ ap (λ (y : Bool). not y && distinct (drop (i + 1) l)) held
+
+  pub distinct-yes : i < length l → (x : Bool) → x ≡ holds (getD l i 0) (take (length l - (i + 1)) (drop (i + 1) l)) → x ≡ false
+      → distinct (drop i l) ≡ distinct (drop (i + 1) l)
+  distinct-yes h x e f =
+      let held : holds (getD l i 0) (drop (i + 1) l) ≡ false = ap (holds (getD l i 0)) (sym (rest-part l (i + 1))) ∙ sym e ∙ f in
+      distinct-turn h ∙ ap (λ (y : Bool). not y && distinct (drop (i + 1) l)) held

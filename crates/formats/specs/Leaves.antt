@@ -14,7 +14,8 @@ use mathlib.Core.List.{List}
 use lib.Dec.{leb, eqb}
 use lib.ListN.{length, take, drop}
 use Rattle.formats.specs.Bytes.{le32, allBelow}
-use Rattle.formats.specs.Limits.{stateLimit, labelLimit, within}
+use Rattle.formats.specs.Limits.{stateLimit, labelLimit, changeLimit, within}
+use Rattle.formats.specs.Plan.{nodeCount}
 use Rattle.formats.specs.Rules.{ruleLength, branchLength}
 use Rattle.formats.specs.Checks.{linkLength, stateLength}
 
@@ -60,6 +61,10 @@ branchShape b s k = eqb (le32 b 8) 16 && (eqb (le32 b 12) (16 + s * k) && eqb (l
 abbrev pub branchValues : List ℕ → ℕ → ℕ → Bool
 branchValues b s k = allBelow s (take (s * k) (drop 16 b)) && allBelow 2 (take s (drop (16 + s * k) b))
 
+-- check 12 as a test
+abbrev pub lengthsFit : List ℕ → List ℕ → Bool
+lengthsFit vs bs = eqb (length vs) (length bs) && leb (length vs) changeLimit
+
 -- check 11 as a test
 abbrev pub roomFits : ℕ → ℕ → ℕ → ℕ → Bool
 roomFits n s nums bytes = leb (linkLength n) nums && leb (stateLength n s) bytes
@@ -68,3 +73,8 @@ roomFits n s nums bytes = leb (linkLength n) nums && leb (stateLength n s) bytes
 pub record Sizes (n s : ℕ) : Type 0 where
   pub nodes : n ≤ 65535
   pub states : s ≤ 16
+
+-- the plan's labels are there whole, and K is at most its limit
+pub record Labelled (p : List ℕ) (k : ℕ) : Type 0 where
+  pub long : 12 + nodeCount p ≤ length p
+  pub labels : k ≤ 64

@@ -1,3 +1,5 @@
+-- `formats::rules::all_below` meets its contract. The loop's invariant: the running answer and that of the bytes to come make the
+-- answer for all. Assumes nothing.
 use Prim.Native.Nat.{ℕ, _+_, _-_, _≤_}
 use mathlib.Core.Path.{_≡_, refl, sym, ap, _∙_}
 use mathlib.Core.Bool.{Bool, true, _&&_}
@@ -8,8 +10,6 @@ use native.Mathlib.Omega.{arith}
 use borrow.Author.Needs.{needs}
 use Rattle.formats.proofs.rules.all_below.Statement.{statement}
 use Rattle.formats.proofs.rules.all_below.Tie as tie
-use Rattle.formats.proofs.rules.all_below.Reads as reads
-use Rattle.formats.proofs.rules.all_below.Lts as lts
 
 abbrev Inv-loop : tie.InvT-loop
 Inv-loop xs bound ok₀ i₀ ok i = (i ≤ length xs) × ((ok && allBelow bound (drop i xs)) ≡ allBelow bound xs)
