@@ -12,23 +12,9 @@ use native.Mathlib.Numerals.{add-one}
 use native.Mathlib.Omega.{arith}
 use lib.Dec.{eqb}
 use borrow.Author.Tests.{eq-eqb, ne-eqb, eqb-true}
+use Rattle.formats.proofs.CheckLaws.{and-both, and-left, and-right, and-no-right}
 use Rattle.tables.specs.StateCells.{mapCell}
 use Rattle.tables.specs.Compare.{every, rowIs}
-
-pub and-left : (a b : Bool) → (a && b) ≡ true → a ≡ true
-and-left true b e = refl
-and-left false b e = e
-
-pub and-right : (a b : Bool) → (a && b) ≡ true → b ≡ true
-and-right true b e = e
-and-right false b e = absurd (let z : _≡_ {A = ℕ} 0 1 = cc in omega arith)
-
-pub and-both : (a b : Bool) → a ≡ true → b ≡ true → (a && b) ≡ true
-and-both a b p q = rw (p, q)
-
-pub and-not : (a b : Bool) → b ≡ false → (a && b) ≡ false
-and-not true b e = e
-and-not false b e = refl
 
 pub every-all : (n : ℕ) (f : ℕ → Bool) → ((q : ℕ) → q < n → f q ≡ true) → every n f ≡ true
 unfolding every
@@ -47,9 +33,14 @@ pub every-not : (n : ℕ) (f : ℕ → Bool) (q : ℕ) → q < n → f q ≡ fal
 unfolding every
 every-not zero f q h e = absurd (omega arith)
 every-not (suc n) f q h e = elim (ℕ-discrete q n) [
-  | yes z ↦ and-not (every n f) (f n) (ap f (sym z) ∙ e)
+  | yes z ↦ and-no-right (every n f) (f n) (ap f (sym z) ∙ e)
   | no z ↦ rw (every-not n f q (omega arith) e)
 ]
+
+pub every-ext : (n : ℕ) (f g : ℕ → Bool) → ((q : ℕ) → q < n → f q ≡ g q) → every n f ≡ every n g
+unfolding every
+every-ext zero f g e = refl
+every-ext (suc n) f g e = rw (every-ext n f g (λ q h. e q (omega arith)), e n (omega arith))
 
 -- ---- one number more
 
@@ -70,7 +61,7 @@ every-same n f g same e h =
 pub every-other : (n : ℕ) (f g : ℕ → ℕ) → (f n ≡ g n → ⊥) → false ≡ every (n + 1) (λ q. eqb (f q) (g q))
 every-other n f g h =
     let t : ℕ → Bool = λ q. eqb (f q) (g q) in
-    sym (every-more n t ∙ and-not (every n t) (t n) (ne-eqb (f n) (g n) h))
+    sym (every-more n t ∙ and-no-right (every n t) (t n) (ne-eqb (f n) (g n) h))
 
 -- ---- rows
 
@@ -80,3 +71,8 @@ rowIs-map s b v f e q h = eqb-true (mapCell s b v q) (f q) (every-at s (λ x. eq
 pub map-rowIs : (s : ℕ) (b : List ℕ) (v : ℕ) (f : ℕ → ℕ) → ((q : ℕ) → q < s → mapCell s b v q ≡ f q) → rowIs s b v f ≡ true
 map-rowIs s b v f h =
     every-all s (λ x. eqb (mapCell s b v x) (f x)) (λ q l. eq-eqb (mapCell s b v q) (f q) (h q l))
+
+pub rowIs-ext : (s : ℕ) (b : List ℕ) (v : ℕ) (f g : ℕ → ℕ) → ((q : ℕ) → q < s → f q ≡ g q) → rowIs s b v f ≡ rowIs s b v g
+rowIs-ext s b v f g e =
+    every-ext s (λ q. eqb (mapCell s b v q) (f q)) (λ q. eqb (mapCell s b v q) (g q))
+    (λ q h. ap (eqb (mapCell s b v q)) (e q h))

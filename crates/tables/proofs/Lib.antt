@@ -1,7 +1,14 @@
 pub mod CompareLaws
 pub mod LocalLaws
+pub mod CheckLaws
+pub mod CheckStateTurns
+pub mod CheckMapTurns
+pub mod CheckMapPlaces
+pub mod CheckTableTurns
+pub mod CheckTheorems
 pub mod RowTurns
 pub mod StateTurns
 pub mod MapTableLaws
 pub mod MapTurns
 pub mod MapPlaces
+pub mod TableTurns

@@ -6,29 +6,24 @@
 --     table-same                   the built table, tested by states and maps
 -- Assumes nothing.
 use Prim.Native.Nat.{ℕ, zero, suc, _+_, _-_, _*_, _≤_, _<_}
-use mathlib.Core.Path.{_≡_, refl, sym, ap, ap₂, _∙_, subst}
-use mathlib.Core.Bool.{Bool, true, false, cond, _&&_}
-use mathlib.Core.List.{List, _∷_}
+use mathlib.Core.Path.{_≡_, sym, ap, ap₂, _∙_}
+use mathlib.Core.List.{List}
 use native.Mathlib.Decide.{decLt, ℕ-discrete}
 use native.Mathlib.Omega.{arith}
-use lib.Dec.{eqb}
 use lib.ListN.{length, getD, take}
-use borrow.Author.Tests.{eq-eqb, ne-eqb, eqb-true}
-use borrow.Author.Count.{below-more}
+use borrow.Author.Tests.{eq-eqb, ne-eqb}
 use Rattle.trees.specs.Tree.{Tree, size, kindAt, labelAt}
 use Rattle.trees.specs.Automaton.{Automaton, state}
 use Rattle.trees.specs.Numbering.{sub, parent}
 use Rattle.trees.specs.Jumps.{jump}
-use Rattle.trees.specs.Tables.{tabulate, rows, stepUp, stateMap, stateRow, stateTable}
+use Rattle.trees.specs.Tables.{rows, stepUp, stateMap, stateRow, stateTable}
 use Rattle.trees.proofs.NodeLaws.{up}
 use Rattle.trees.proofs.JumpLaws.{jump-in, jump-above}
-use Rattle.trees.proofs.RowLaws.{rows-of-cells, cells-of-rows, length-stateRow, mapRow-cells, stateTable-state, stateTable-map}
+use Rattle.trees.proofs.RowLaws.{rows-of-cells, length-stateRow, mapRow-cells, stateTable-state, stateTable-map}
 use Rattle.trees.proofs.RunLaws.{Children, children, state-leaf, state-inner}
 use Rattle.trees.proofs.MapLaws.{left-sibling-in, right-sibling-in, stepUp-right, stepUp-left, stepUp-below, stateMap-root, stateMap-near, stateMap-far, stateMap-below}
 use Rattle.tables.specs.StateCells.{stateCell, mapCell}
-use Rattle.tables.specs.Compare.{every, rowIs}
-use Rattle.tables.specs.LocalTables.{stepCells, LocalStates, LocalMaps, statesAre, mapsAre}
-use Rattle.tables.proofs.CompareLaws.{every-all, every-at, every-not, rowIs-map, map-rowIs}
+use Rattle.tables.specs.LocalTables.{stepCells, LocalStates, LocalMaps}
 
 -- ---- states: those of the nodes below i are the run's
 
@@ -121,3 +116,55 @@ module _ (A : Automaton) (t : Tree) (b : List ℕ) (below : (p a q : ℕ) → A 
               ])
         ]
       ]
+
+-- ---- a table by its cells
+
+module _ (A : Automaton) (t : Tree) (b : List ℕ) where
+  -- the place of a map's entry as the rows' laws have it
+  place-is : (v q : ℕ) → getD b (v * (A .states + 1) + 1 + q) 0 ≡ mapCell (A .states) b v q
+  place-is v q =
+      let e : v * (A .states + 1) + 1 + q ≡ v * (A .states + 1) + (1 + q) = omega arith in ap (λ (i : ℕ). getD b i 0) e
+
+  pub table-of-cells : size t * (A .states + 1) ≤ length b → StatesTo A t b (size t) → MapsFrom A t b 0
+      → take (size t * (A .states + 1)) b ≡ stateTable A t
+  unfolding stateTable
+  table-of-cells room to from =
+      rows-of-cells (size t) (A .states + 1) (stateRow A t) (λ v h. length-stateRow A t v) b room
+      (λ v k h l. mapRow-cells (A .states) (state A (sub t v)) (stateMap A t v) v b (to v h)
+      (λ q z. place-is v q ∙ from v (omega arith) h q z) k l)
+
+  module _ (e : take (size t * (A .states + 1)) b ≡ stateTable A t) where
+    pub table-states : StatesTo A t b (size t)
+    table-states v h = stateTable-state A t b e v h
+
+    pub table-maps : MapsFrom A t b 0
+    table-maps v l h q z = sym (place-is v q) ∙ stateTable-map A t b e v h q z
+
+-- a table that satisfies the equations node by node is the built one
+pub local-unique : (A : Automaton) (t : Tree) (b : List ℕ) → ((p a q : ℕ) → A .δ p a q < A .states)
+    → size t * (A .states + 1) ≤ length b → LocalStates A t b → LocalMaps A t b
+    → take (size t * (A .states + 1)) b ≡ stateTable A t
+local-unique A t b below room loc maps =
+    table-of-cells A t b room (to-end A t b below loc maps) (maps-from A t b below loc maps (size t) 0 (omega arith))
+
+-- and the built one satisfies them
+module _ (A : Automaton) (t : Tree) (b : List ℕ) (e : take (size t * (A .states + 1)) b ≡ stateTable A t) where
+  pub built-local-states : LocalStates A t b
+  built-local-states =
+      let to : StatesTo A t b (size t) = table-states A t b e in
+      record {
+        at-leaf = λ v h z. to v h ∙ sym (leaf-local A t b v h z);
+        at-inner = λ v h z. to v h ∙ sym (inner-local A t b v h z (λ u l. to u (omega arith)));
+      }
+
+  pub built-local-maps : ((p a q : ℕ) → A .δ p a q < A .states) → LocalMaps A t b
+  built-local-maps below =
+      let to : StatesTo A t b (size t) = table-states A t b e in
+      let from : MapsFrom A t b 0 = table-maps A t b e in
+      record {
+        at-root = λ v q r l. from v (omega arith) (omega arith) q l ∙ stateMap-root A t v q r;
+        near = λ v q h j l. from v (omega arith) (omega arith) q l ∙ stateMap-near A t v q h j ∙ sym (step-local A t b to v h q);
+        far = λ v q h j l. from v (omega arith) (omega arith) q l
+            ∙ sym (ap (λ (x : ℕ). mapCell (A .states) b (jump t (parent t v)) (mapCell (A .states) b (parent t v) x)) (step-local A t b to v h q)
+            ∙ far-local A t b to v h below (λ u a. from u (omega arith)) q j l);
+      }

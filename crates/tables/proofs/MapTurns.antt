@@ -57,7 +57,7 @@ module _ (s k : ℕ) (lv inn mk : List ℕ) (t : Tree) (ls b e : List ℕ) (P : 
       delta-below : (p a q : ℕ) → treeAutomaton s k lv inn mk .δ p a q < s
       delta-below p a q = below _
 
-      map-is : (q : ℕ) → q < s → mapValue ls b inn s k st v q ≡ stateMap (treeAutomaton s k lv inn mk) t v q
+      pub map-is : (q : ℕ) → q < s → mapValue ls b inn s k st v q ≡ stateMap (treeAutomaton s k lv inn mk) t v q
       unfolding mapValue
       map-is q l =
           let U : Up t v (parent t v) = up t v h in

@@ -73,7 +73,7 @@ module _ (A : Automaton) (t : Tree) (i : ℕ) (b₀ b : List ℕ) (ran : Ran A t
 
 -- ---- the same, of every tree with these kinds and labels
 
-size-of : (t : Tree) (ks : List ℕ) → kindsOf t ≡ ks → length ks ≡ size t
+pub size-of : (t : Tree) (ks : List ℕ) → kindsOf t ≡ ks → length ks ≡ size t
 size-of t ks e = ap length (sym e) ∙ length-kinds t
 
 module _ (s k : ℕ) (lv inn ks ls : List ℕ) (i : ℕ) (nums b₀ b : List ℕ) (all : Runs s k lv inn ks ls i b₀ b)

@@ -6,3 +6,4 @@ pub mod Rows
 pub mod States
 pub mod MapTable
 pub mod Maps
+pub mod Written

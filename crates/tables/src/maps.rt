@@ -11,7 +11,15 @@ ghost use Rattle.tables.specs.Rows.{Rowed};
 ghost use Rattle.tables.specs.Maps.{BaseArgs, StepArgs, FillArgs, FarMapArgs, MapArgs, Maps, nearBase, nearStep, nearValue, farValue, mapValue};
 
 // Where the step from node v to its parent p of label a stands in the inner states.
-fn near_base(nums: &[u16], bytes: &[u8], s: usize, k: usize, v: usize, p: usize, a: usize) -> usize
+pub fn near_base(
+    nums: &[u16],
+    bytes: &[u8],
+    s: usize,
+    k: usize,
+    v: usize,
+    p: usize,
+    a: usize,
+) -> usize
     requires { ⌜ BaseArgs (now nums) (now bytes) s k v p a ⌝ }
     ensures { λ r. ⌜ r ≡ nearBase (now (nums .entry)) (now (bytes .entry)) s k v p a ⌝ }
 {
@@ -24,7 +32,7 @@ fn near_base(nums: &[u16], bytes: &[u8], s: usize, k: usize, v: usize, p: usize,
 }
 
 // How far its entries stand apart.
-fn near_step(s: usize, k: usize, v: usize, p: usize) -> usize
+pub fn near_step(s: usize, k: usize, v: usize, p: usize) -> usize
     requires { ⌜ StepArgs s k v p ⌝ }
     ensures { λ r. ⌜ r ≡ nearStep s k v p ⌝ }
 {

@@ -13,7 +13,7 @@ fn rule(inner: &[u8], s: usize, k: usize, p: usize, a: usize, q: usize) -> u8
 }
 
 // The state of the inner node v of label a, from its children's.
-fn inner_state(
+pub fn inner_state(
     nums: &[u16],
     bytes: &[u8],
     inner: &[u8],
