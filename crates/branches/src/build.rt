@@ -1,8 +1,14 @@
 // The build of the tables for a branch table.
 use crate::maps::fill_maps;
 use crate::steps::fill_steps;
+use formats::bytes::read32;
+use formats::inputs::check_branch_build;
 use links::build::build_links;
+use tables::answers::Building;
 ghost use lib.ListN.{length};
+ghost use Rattle.formats.specs.Checks.{firstNo, branchBuildChecks};
+ghost use Rattle.formats.specs.Built.{builtLinks, builtSteps};
+ghost use Rattle.tables.specs.Answers.{BuildDone};
 ghost use Rattle.branches.specs.Filled.{FillArgs, BranchFilled};
 
 // Writes both tables, once all checks have passed. The excess of a longer buffer is untouched.
@@ -22,4 +28,20 @@ fn fill_branch(
     build_links(kinds, nums);
     fill_steps(labels, nums, steps, s, k, n, bytes);
     fill_maps(labels, nums, steps, s, k, n, bytes);
+}
+
+// Writes the tables of a plan and a branch table, or tells the first check of 2 to 11 that fails and alters nothing. Labels, kinds
+// and steps are handed on as parts of what is lent.
+pub fn build_branch(plan: &[u8], branch: &[u8], nums: &mut [u16], bytes: &mut [u8]) -> Building
+    ensures { λ r. ⌜ BuildDone (firstNo (branchBuildChecks (now (plan .entry)) (now (branch .entry)) (length (now (nums .entry))) (length (now (bytes .entry))))) (builtLinks (now (plan .entry))) (builtSteps (now (plan .entry)) (now (branch .entry))) (now (nums .entry)) (now (bytes .entry)) r (now (nums .exit)) (now (bytes .exit)) ⌝ }
+{
+    let no = check_branch_build(plan, branch, nums.len(), bytes.len());
+    if no != 0 {
+        return Building::Refused(no);
+    }
+    let n = read32(plan, 0);
+    let s = read32(branch, 0);
+    let k = read32(branch, 4);
+    fill_branch(&plan[12..12 + n], &plan[12 + n..], &branch[16..16 + s * k], s, k, nums, bytes);
+    Building::Built
 }

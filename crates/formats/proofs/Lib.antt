@@ -11,3 +11,6 @@ pub mod RuleAnswers
 pub mod BranchAnswers
 pub mod ListAnswers
 pub mod InputAnswers
+pub mod ByteLaws
+pub mod PlanTrees
+pub mod PlanTheorems

@@ -12,3 +12,4 @@ pub mod MapTableLaws
 pub mod MapTurns
 pub mod MapPlaces
 pub mod TableTurns
+pub mod BuildLaws

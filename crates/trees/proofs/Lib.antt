@@ -9,6 +9,7 @@ pub mod HeightLaws
 pub mod MoveLaws
 pub mod ClimbLaws
 pub mod TreeClimbs
+pub mod IntervalLaws
 pub mod WalkLaws
 pub mod CarryLaws
 pub mod Samples

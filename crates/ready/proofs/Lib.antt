@@ -1,0 +1,3 @@
+pub mod UnderLaws
+pub mod HighestLaws
+pub mod SameTrees

@@ -1,0 +1,34 @@
+// The build: both tables of a plan and a rule table.
+use crate::tables::write_states;
+use formats::rules::inner_count;
+use links::build::build_links;
+ghost use lib.ListN.{length};
+ghost use Rattle.tables.specs.Written.{BuildArgs, BothWritten};
+
+// Writes both tables of a plan of n nodes and a rule table of s states and k labels that pass their checks.
+// Labels, kinds and states are handed on as parts.
+fn write_tables(
+    plan: &[u8],
+    rules: &[u8],
+    n: usize,
+    s: usize,
+    k: usize,
+    nums: &mut [u16],
+    bytes: &mut [u8],
+)
+    requires { ⌜ BuildArgs (now plan) (now rules) n s k (now nums) (now bytes) ⌝ }
+    ensures { λ _. ⌜ BothWritten (now (plan .entry)) (now (rules .entry)) (now (nums .entry)) (now (bytes .entry)) (now (nums .exit)) (now (bytes .exit)) ⌝ }
+{
+    let end = 20 + k + inner_count(s, k);
+    build_links(&plan[12 + n..], nums);
+    write_states(
+        &plan[12 + n..],
+        &plan[12..12 + n],
+        nums,
+        &rules[20..20 + k],
+        &rules[20 + k..end],
+        s,
+        k,
+        bytes,
+    );
+}
