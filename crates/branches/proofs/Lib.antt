@@ -2,3 +2,4 @@ pub mod StepTurns
 pub mod StepRowTurns
 pub mod MapTurns
 pub mod FillLaws
+pub mod BranchInputs
