@@ -1,4 +1,5 @@
 pub mod CompareLaws
+pub mod TableTestLaws
 pub mod LocalLaws
 pub mod CheckLaws
 pub mod CheckStateTurns

@@ -7,3 +7,4 @@ pub mod States
 pub mod MapTable
 pub mod Maps
 pub mod Written
+pub mod TableTests
