@@ -3,3 +3,4 @@ pub mod StepRowTurns
 pub mod MapTurns
 pub mod FillLaws
 pub mod BranchInputs
+pub mod ToldTurns

@@ -1,8 +1,8 @@
 -- The turns of the loop that writes the state bytes of a branch table, from the root down.
 --     lent-parent, lent-root, lent-label   the cells and labels that the loops read, of a tree so lent
---     states-start, states-turn            no state byte written, and one more, for any states f
---     step-fits, step-turn                 a node's turn: its reads are inside their lists, and its state is the automaton's
---     root-inside, root-turn               the root's turn
+--     states-start, states-turn            no state byte written, and one more, for any states f; states-kept: it was there already
+--     step-fits, step-is, step-turn        a node's turn: its reads are inside their lists, and its state is the automaton's
+--     root-inside, root-is, root-turn      the root's turn
 -- Assumes nothing.
 use Prim.Native.Nat.{ℕ, _+_, _*_, _≤_, _<_}
 use mathlib.Core.Path.{_≡_, refl, sym, ap, _∙_}
@@ -58,6 +58,14 @@ states-turn s f n v b₀ b y S h room e = record {
   kept = λ j a. getD-set-other b (v * (s + 1)) j y 0 (a v h) ∙ S .kept j a;
 }
 
+-- a state byte that was there already
+pub states-kept : (s : ℕ) (f : ℕ → ℕ) (n v : ℕ) (b₀ b : List ℕ) → StatesFrom s f n (v + 1) b₀ b → stateCell s b v ≡ f v
+    → StatesFrom s f n v b₀ b
+states-kept s f n v b₀ b S e = record {
+  cells = λ u l q. elim (ℕ-discrete u v) [ yes z ↦ rw z e | no z ↦ S .cells u (omega arith) q ];
+  kept = S .kept;
+}
+
 -- ---- the automaton's
 
 -- the place of a step
@@ -109,25 +117,33 @@ module _ (ls nums st : List ℕ) (s k n m : ℕ) (A : BranchArgs ls nums st s k 
   root-inside v =
       omega (arith, step-at s k (length st) 0 (getD ls v 0) (omega (arith, A .steps-below 0)) (A .labels-below v) (A .steps-room))
 
+  -- the state that a node's turn reads, and the root's
+  pub step-is : (v : ℕ) (b₀ b : List ℕ) → Stepped ls nums st s k n (v + 1) b₀ b → v + 1 < n
+      → (B : WordAutomaton) (t : Tree) → BranchLent B t ls nums st s k n
+      → getD st (stateCell s b (parentCell nums v) * k + getD ls v 0) 0 ≡ branchState B t v
+  step-is v b₀ b S h B t L =
+      let p = args-parent v h in
+      let e : stateCell s b (parentCell nums v) ≡ branchState B t (parent t v) =
+      S B t L .cells (parentCell nums v) (omega arith) (p .1)
+      ∙ ap (branchState B t) (lent-parent B t ls nums st s k n L v (omega arith)) in
+      sym (L .step (stateCell s b (parentCell nums v)) (getD ls v 0))
+      ∙ rw (e, ← lent-label B t ls nums st s k n L v) (sym (branchState-down B t v (omega (arith, L .count))))
+
+  pub root-is : (v : ℕ) → v + 1 ≡ n → (B : WordAutomaton) (t : Tree) → BranchLent B t ls nums st s k n
+      → getD st (getD ls v 0) 0 ≡ branchState B t v
+  root-is v e B t L =
+      let z : 0 * k + getD ls v 0 ≡ getD ls v 0 = omega arith in
+      ap (λ (j : ℕ). getD st j 0) (sym z) ∙ sym (L .step 0 (getD ls v 0))
+      ∙ ap (B .step 0) (sym (lent-label B t ls nums st s k n L v))
+      ∙ sym (branchState-root B t v (e ∙ sym (L .count)))
+
   pub step-turn : (v : ℕ) (b₀ b : List ℕ) → Stepped ls nums st s k n (v + 1) b₀ b → v + 1 < n → v * (s + 1) < length b
       → Stepped ls nums st s k n v b₀
       (set b (v * (s + 1)) (getD st (stateCell s b (parentCell nums v) * k + getD ls v 0) 0))
   step-turn v b₀ b S h room B t L =
-      let p = args-parent v h in
-      let F : StatesFrom s (branchState B t) n (v + 1) b₀ b = S B t L in
-      let e : stateCell s b (parentCell nums v) ≡ branchState B t (parent t v) =
-      F .cells (parentCell nums v) (omega arith) (p .1)
-      ∙ ap (branchState B t) (lent-parent B t ls nums st s k n L v (omega arith)) in
-      let g : v + 1 < size t = omega (arith, L .count) in
-      states-turn s (branchState B t) n v b₀ b _ F (omega arith) room
-      (sym (L .step (stateCell s b (parentCell nums v)) (getD ls v 0))
-      ∙ rw (e, ← lent-label B t ls nums st s k n L v) (sym (branchState-down B t v g)))
+      states-turn s (branchState B t) n v b₀ b _ (S B t L) (omega arith) room (step-is v b₀ b S h B t L)
 
   pub root-turn : (v : ℕ) (b : List ℕ) → v + 1 ≡ n → v * (s + 1) < length b
       → Stepped ls nums st s k n v b (set b (v * (s + 1)) (getD st (getD ls v 0) 0))
   root-turn v b e room B t L =
-      let z : 0 * k + getD ls v 0 ≡ getD ls v 0 = omega arith in
-      states-turn s (branchState B t) n v b b _ (rw e (states-start s (branchState B t) n b)) (omega arith) room
-      (ap (λ (j : ℕ). getD st j 0) (sym z) ∙ sym (L .step 0 (getD ls v 0))
-      ∙ ap (B .step 0) (sym (lent-label B t ls nums st s k n L v))
-      ∙ sym (branchState-root B t v (e ∙ sym (L .count))))
+      states-turn s (branchState B t) n v b b _ (rw e (states-start s (branchState B t) n b)) (omega arith) room (root-is v e B t L)

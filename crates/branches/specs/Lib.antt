@@ -3,3 +3,4 @@ pub mod Promise
 pub mod Lent
 pub mod Maps
 pub mod Filled
+pub mod Told

@@ -1,12 +1,13 @@
 -- Maps of a whole table, for any maps f: the turns of a loop that writes them node by node, and the table that is written.
 --     written-start, written-turn  no map written, and one more
---     row-ext                  a written map, by equal entries
+--     row-ext                  a written map, by equal entries; kept-row: one that was there already
 --     state-no-map             a state byte is in no map; excess-no-map: nor is the excess
 --     table-written            a buffer with every state byte and every map is the table, and the excess
 --     passes-written           the same, where one pass writes the state bytes and the next the maps
 -- Assumes nothing.
 use Prim.Native.Nat.{ℕ, _+_, _*_, _≤_, _<_}
 use mathlib.Core.Path.{_≡_, refl, ap, _∙_}
+use mathlib.Core.Bool.{true}
 use mathlib.Core.List.{List, _∷_, _++_}
 use native.Mathlib.Decide.{ℕ-discrete}
 use native.Mathlib.Omega.{arith}
@@ -15,12 +16,17 @@ use Rattle.trees.specs.Tables.{tabulate, rows}
 use Rattle.trees.proofs.RowLaws.{stride, cells-apart, length-tabulate, rows-over, mapRow-cells}
 use Rattle.tables.specs.StateCells.{stateCell, mapCell}
 use Rattle.tables.specs.Rows.{RowTo, Rowed}
+use Rattle.tables.specs.Compare.{rowIs}
 use Rattle.tables.specs.MapTable.{NoMap, MapsWritten}
+use Rattle.tables.proofs.CompareLaws.{rowIs-map}
 use Rattle.tables.proofs.RowTurns.{row-other}
 
 pub row-ext : (s : ℕ) (f g : ℕ → ℕ) (v i : ℕ) (b₀ b : List ℕ) → RowTo s f v i b₀ b → ((q : ℕ) → q < i → f q ≡ g q)
     → RowTo s g v i b₀ b
 row-ext s f g v i b₀ b r e = record { cells = λ q l. r .cells q l ∙ e q l; kept = r .kept }
+
+pub kept-row : (s : ℕ) (b : List ℕ) (v : ℕ) (f : ℕ → ℕ) → rowIs s b v f ≡ true → Rowed s f v b b
+kept-row s b v f e = record { cells = rowIs-map s b v f e; kept = λ j a. refl }
 
 pub state-no-map : (s n u : ℕ) → NoMap s n (u * (s + 1))
 state-no-map s n u v q h l e = elim (ℕ-discrete u v) [
