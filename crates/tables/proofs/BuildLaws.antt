@@ -1,4 +1,5 @@
 -- The build of both tables: what its parts need where all checks pass, and what they leave together.
+--     plan-headed, rules-headed  the headers are there
 --     link-args, table-args    what the two writers need
 --     both-written             what both leave
 --     build-args .. both-written-of  the same of the parts that are handed on
@@ -19,8 +20,10 @@ use Rattle.formats.specs.Plan.{nodeCount, labelsIn, kindsIn, planTree}
 use Rattle.formats.specs.Rules.{stateCount, labelCount, leafStates, innerStates, ruleMarks, ruleAutomaton}
 use Rattle.formats.specs.Checks.{firstNo, ruleTableChecks, buildChecks, linkLength, stateLength}
 use Rattle.formats.specs.Built.{builtLinks, builtStates, linkPart, statePart, AsBuilt}
-use Rattle.formats.proofs.PlanLaws.{PlanPasses, length-labelsIn, length-kindsIn, labels-as-kinds, kinds-planTree, labels-planTree, size-planTree, labels-part, kinds-part}
-use Rattle.formats.proofs.RuleLaws.{RulesPass, length-leafStates, length-innerStates, leaf-state-below, inner-state-below, leaves-part, inner-part}
+use Rattle.formats.proofs.PlanLaws.{PlanPasses, length-labelsIn, length-kindsIn, labels-as-kinds, kinds-planTree}
+use Rattle.formats.proofs.PlanLaws.{labels-planTree, size-planTree, labels-part, kinds-part}
+use Rattle.formats.proofs.RuleLaws.{RulesPass, length-leafStates, length-innerStates, leaf-state-below}
+use Rattle.formats.proofs.RuleLaws.{inner-state-below, leaves-part, inner-part}
 use Rattle.formats.proofs.InputLaws.{rule-table-passes, label-below, build-passes, build-table}
 use Rattle.links.specs.Cells.{LinkArgs}
 use Rattle.links.specs.LinkCells.{LinkCells}
@@ -54,6 +57,12 @@ module _ (p r nums bytes : List ℕ) (ok : Passed p r nums bytes) where
   accepted : Accepted p r (length nums) (length bytes)
   accepted = build-passes p r (length nums) (length bytes) ok
 
+  pub plan-headed : 12 ≤ length p
+  plan-headed = accepted .0 .long
+
+  pub rules-headed : 20 ≤ length r
+  rules-headed = accepted .1 .long
+
   pub link-args : LinkArgs (kindsIn p) (length nums)
   link-args =
       let A : Accepted p r (length nums) (length bytes) = accepted in
@@ -74,45 +83,51 @@ module _ (p r nums bytes : List ℕ) (ok : Passed p r nums bytes) where
 
   -- after the table of links is written
   module _ (after : List ℕ) (same : length after ≡ length nums)
-      (L : (t : Tree) → kindsOf t ≡ kindsIn p → after ≡ linkTable t ++ drop (linkLength (length (kindsIn p))) nums) where
-    links-cells : (t : Tree) → kindsOf t ≡ kindsIn p → LinkCells t after
-    links-cells t e =
-        let z : length (kindsIn p) ≡ size t = size-of t (kindsIn p) e in
-        let l : length (linkTable t) ≡ linkLength (length (kindsIn p)) = length-linkTable t ∙ ap (λ (n : ℕ). n * 4) (sym z) in
-        link-cells t (length (kindsIn p)) after z
-        (rw (L t e) (take-at (linkTable t) (drop (linkLength (length (kindsIn p))) nums) (linkLength (length (kindsIn p))) l))
+      (L : (t : Tree) → kindsOf t ≡ kindsIn p → after ≡ linkTable t ++ drop (linkLength (length (kindsIn p))) nums)
+    where
+      links-cells : (t : Tree) → kindsOf t ≡ kindsIn p → LinkCells t after
+      links-cells t e =
+          let z : length (kindsIn p) ≡ size t = size-of t (kindsIn p) e in
+          let l : length (linkTable t) ≡ linkLength (length (kindsIn p)) = length-linkTable t ∙ ap (λ (n : ℕ). n * 4)
+          (sym z) in
+          link-cells t (length (kindsIn p)) after z
+          (rw (L t e) (take-at (linkTable t) (drop (linkLength (length (kindsIn p))) nums)
+          (linkLength (length (kindsIn p))) l))
 
-    pub table-args : TableArgs (kindsIn p) (labelsIn p) after (leafStates r) (innerStates r) (stateCount r) (labelCount r) (length bytes)
-    table-args =
-        let A : Accepted p r (length nums) (length bytes) = accepted in
-        let n : length (kindsIn p) ≡ nodeCount p = length-kindsIn p (A .0) in
-        record {
-          run = record {
-            postorder = A .0 .postorder;
-            count = labels-as-kinds p (A .0);
-            below = label-below p r (A .1 .labels-least) (A .2);
-            link-room = rw (n, same) (A .3);
-            sizes = λ t e. links-cells t e .sizes;
-            rules = rule-runs;
-            room = rw n (A .4);
-          };
-          links = links-cells;
-          some = A .1 .states-least;
-        }
+      pub table-args : TableArgs (kindsIn p) (labelsIn p) after (leafStates r) (innerStates r) (stateCount r)
+          (labelCount r) (length bytes)
+      table-args =
+          let A : Accepted p r (length nums) (length bytes) = accepted in
+          let n : length (kindsIn p) ≡ nodeCount p = length-kindsIn p (A .0) in
+          record {
+            run = record {
+              postorder = A .0 .postorder;
+              count = labels-as-kinds p (A .0);
+              below = label-below p r (A .1 .labels-least) (A .2);
+              link-room = rw (n, same) (A .3);
+              sizes = λ t e. links-cells t e .sizes;
+              rules = rule-runs;
+              room = rw n (A .4);
+            };
+            links = links-cells;
+            some = A .1 .states-least;
+          }
 
-    pub both-written : (end : List ℕ)
-        → StatesOver (stateCount r) (labelCount r) (leafStates r) (innerStates r) (kindsIn p) (labelsIn p) bytes end
-        → BothWritten p r nums bytes after end
-    both-written end S =
-        let P : PlanPasses p = accepted .0 in
-        let n : length (kindsIn p) ≡ nodeCount p = length-kindsIn p P in
-        record {
-          links = rw (length-builtLinks p P) (rw n at (L (planTree p) (kinds-planTree p P)));
-          states = rw (length-builtStates p P r) (rw n at (S (ruleMarks r) (planTree p) (kinds-planTree p P) (labels-planTree p P)));
-        }
+      pub both-written : (end : List ℕ)
+          → StatesOver (stateCount r) (labelCount r) (leafStates r) (innerStates r) (kindsIn p) (labelsIn p) bytes end
+          → BothWritten p r nums bytes after end
+      both-written end S =
+          let P : PlanPasses p = accepted .0 in
+          let n : length (kindsIn p) ≡ nodeCount p = length-kindsIn p P in
+          record {
+            links = rw (length-builtLinks p P) (rw n at (L (planTree p) (kinds-planTree p P)));
+            states = rw (length-builtStates p P r) (rw n at
+                (S (ruleMarks r) (planTree p) (kinds-planTree p P) (labels-planTree p P)));
+          }
 
 -- ---- the same of the parts that are handed on, with N, S and K as read
-pub build-args : (p r nums bytes : List ℕ) (n s k : ℕ) → Passed p r nums bytes → n ≡ nodeCount p → s ≡ stateCount r → k ≡ labelCount r
+pub build-args : (p r nums bytes : List ℕ) (n s k : ℕ) → Passed p r nums bytes → n ≡ nodeCount p → s ≡ stateCount r → k
+    ≡ labelCount r
     → BuildArgs p r n s k nums bytes
 build-args p r nums bytes n s k ok x y z =
     let A : Accepted p r (length nums) (length bytes) = accepted p r nums bytes ok in
@@ -160,15 +175,20 @@ module _ (p r nums bytes : List ℕ) (n s k : ℕ) (B : BuildArgs p r n s k nums
         → BothWritten p r nums bytes after end
     both-written-of end S =
         both-written p r nums bytes (B .passed) after same links-of end
-        (rw (kinds-are, labels-part p n (B .nodes), leaves-part r k (B .labels), inner-are c e, B .states, B .labels) at S)
+        (rw (kinds-are, labels-part p n (B .nodes), leaves-part r k (B .labels), inner-are c e, B .states, B .labels) at
+        S)
 
 -- ---- the two answers of a build
 
 module _ (links states nums bytes : List ℕ) where
-  pub build-refused : (n : ℕ) → (n ≡ 0 → ⊥) → BuildDone n links states nums bytes (Refused n) nums bytes
+  refused : (n : ℕ) → (n ≡ 0 → ⊥) → BuildDone n links states nums bytes (Refused n) nums bytes
   unfolding toldBuild numberOf written
-  build-refused zero e = absurd (e refl)
-  build-refused (suc n) e = record { told = refl; number = refl; links-written = refl; states-written = refl }
+  refused zero e = absurd (e refl)
+  refused (suc n) e = record { told = refl; number = refl; links-written = refl; states-written = refl }
+
+  -- x is the number that a check told
+  pub build-refused : (n x : ℕ) → x ≡ n → (x ≡ 0 → ⊥) → BuildDone n links states nums bytes (Refused x) nums bytes
+  build-refused n x e z = rw (← e) (refused x z)
 
   pub build-done : (n : ℕ) (nums′ bytes′ : List ℕ) → n ≡ 0 → nums′ ≡ links ++ drop (length links) nums
       → bytes′ ≡ states ++ drop (length states) bytes → BuildDone n links states nums bytes Built nums′ bytes′
@@ -184,7 +204,8 @@ written-zero zero h table entry = refl
 written-zero (suc n) h table entry = absurd (omega arith)
 
 module _ (p r : List ℕ) where
-  pub written-as-built : firstNo (ruleTableChecks p r) ≡ 0 → (x y : List ℕ) → AsBuilt p r (builtLinks p ++ x) (builtStates p r ++ y)
+  pub written-as-built : firstNo (ruleTableChecks p r) ≡ 0 → (x y : List ℕ) → AsBuilt p r (builtLinks p ++ x)
+      (builtStates p r ++ y)
   written-as-built e x y =
       let P : PlanPasses p = rule-table-passes p r e .0 in
       record {
@@ -195,10 +216,14 @@ module _ (p r : List ℕ) where
 
   -- whatever the buffers were, an accepted build leaves them as built
   pub built-as-built : (nums bytes nums′ bytes′ : List ℕ) (answer : Building)
-      → BuildDone (firstNo (buildChecks p r (length nums) (length bytes))) (builtLinks p) (builtStates p r) nums bytes answer nums′ bytes′
+      → BuildDone (firstNo (buildChecks p r (length nums) (length bytes))) (builtLinks p) (builtStates p r) nums bytes
+      answer nums′ bytes′
       → numberOf answer ≡ 0 → AsBuilt p r nums′ bytes′
   built-as-built nums bytes nums′ bytes′ answer D e =
       let z : firstNo (buildChecks p r (length nums) (length bytes)) ≡ 0 = sym (D .number) ∙ e in
-      let l : nums′ ≡ builtLinks p ++ drop (length (builtLinks p)) nums = D .links-written ∙ written-zero _ z (builtLinks p) nums in
-      let s : bytes′ ≡ builtStates p r ++ drop (length (builtStates p r)) bytes = D .states-written ∙ written-zero _ z (builtStates p r) bytes in
-      rw (l, s) (written-as-built (build-table p r (length nums) (length bytes) z) (drop (length (builtLinks p)) nums) (drop (length (builtStates p r)) bytes))
+      let l : nums′ ≡ builtLinks p ++ drop (length (builtLinks p)) nums = D .links-written ∙ written-zero _ z
+      (builtLinks p) nums in
+      let s : bytes′ ≡ builtStates p r ++ drop (length (builtStates p r)) bytes = D .states-written ∙ written-zero _ z
+      (builtStates p r) bytes in
+      rw (l, s) (written-as-built (build-table p r (length nums) (length bytes) z) (drop (length (builtLinks p)) nums)
+      (drop (length (builtStates p r)) bytes))

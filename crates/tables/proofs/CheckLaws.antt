@@ -1,5 +1,6 @@
 -- The tests of a whole table: what statesAre and mapsAre tell, and that together they test for the built table.
---     states-yes, states-no, states-told   all state bytes are the run's; maps-yes, maps-no, maps-told  all maps are those to the jumps
+--     states-yes, states-no, states-told   all state bytes are the run's
+--     maps-yes, maps-no, maps-told         all maps are those to the jumps
 --     table-same                           a buffer begins with the built table exactly where both tests say so
 -- Assumes nothing.
 use Prim.Native.Nat.{ℕ, _+_, _*_, _≤_, _<_}

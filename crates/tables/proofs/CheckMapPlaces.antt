@@ -49,6 +49,7 @@ module _ (ls b inn : List ℕ) (s k : ℕ) (st : List ℕ) (v : ℕ) (F : FillAr
       ≡ rowIs s st v (mapValue ls b inn s k st v)
   unfolding mapValue
   far-is-row c =
-      rowIs-ext s st v (farEntry s st (parentCell b v) (jumpCell b (parentCell b v)) inn base step) (mapValue ls b inn s k st v)
+      rowIs-ext s st v (farEntry s st (parentCell b v) (jumpCell b (parentCell b v)) inn base step)
+      (mapValue ls b inn s k st v)
       (λ q l. ap (λ (x : ℕ). mapCell s st (jumpCell b (parentCell b v)) (mapCell s st (parentCell b v) x)) (near-is q)
       ∙ rw (ne-eqb (jumpCell b v) (parentCell b v) c))

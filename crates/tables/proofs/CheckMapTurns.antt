@@ -6,7 +6,7 @@
 -- Assumes nothing.
 use Prim.Native.Nat.{ℕ, _+_, _<_}
 use mathlib.Core.Path.{_≡_, refl, sym, ap, _∙_}
-use mathlib.Core.Bool.{Bool, true, false}
+use mathlib.Core.Bool.{true, false}
 use mathlib.Core.List.{List}
 use native.Mathlib.Omega.{arith}
 use lib.ListN.{length, getD}
@@ -16,17 +16,12 @@ use Rattle.trees.proofs.NodeLaws.{length-labels}
 use Rattle.trees.proofs.MapLaws.{stateMap-root}
 use Rattle.formats.specs.Rules.{treeAutomaton}
 use Rattle.tables.specs.Compare.{rowIs}
-use Rattle.tables.specs.LocalTables.{mapsAre}
+use Rattle.tables.specs.Compared.{MapsTold}
 use Rattle.tables.specs.Maps.{Prepared, mapValue, Maps}
 use Rattle.tables.proofs.CompareLaws.{rowIs-ext}
 use Rattle.tables.proofs.MapTableLaws.{kept-row}
 use Rattle.tables.proofs.CheckLaws.{maps-yes, maps-no}
 use Rattle.tables.proofs.MapTurns.{map-is, map-start, map-turn}
-
--- what the check tells its caller
-abbrev pub MapsTold : List ℕ → List ℕ → List ℕ → ℕ → ℕ → List ℕ → Bool → Type 0
-MapsTold ls nums inn s k b r =
-    (lv mk : List ℕ) (t : Tree) → Prepared s k lv inn mk t ls nums b → r ≡ mapsAre (treeAutomaton s k lv inn mk) t b
 
 module _ (ls nums inn : List ℕ) (s k : ℕ) (b : List ℕ) where
   size-is : (lv mk : List ℕ) (t : Tree) → Prepared s k lv inn mk t ls nums b → size t ≡ length ls
@@ -44,7 +39,8 @@ module _ (ls nums inn : List ℕ) (s k : ℕ) (b : List ℕ) where
         (rowIs-ext s b v (stateMap (treeAutomaton s k lv inn mk) t v) (λ q. q)
         (λ q l. stateMap-root (treeAutomaton s k lv inn mk) t v q z) ∙ e))
 
-  module _ (v : ℕ) (h : v + 1 < length ls) (all : Maps ls nums inn s k (v + 1) b b) (below : (j : ℕ) → getD inn j 0 < s) where
+  module _ (v : ℕ) (h : v + 1 < length ls) (all : Maps ls nums inn s k (v + 1) b b)
+      (below : (j : ℕ) → getD inn j 0 < s) where
     pub map-same : rowIs s b v (mapValue ls nums inn s k b v) ≡ true → Maps ls nums inn s k v b b
     map-same e lv mk t P =
         map-turn s k lv inn mk t ls nums b P b v (omega (arith, size-is lv mk t P)) (all lv mk t P) below b

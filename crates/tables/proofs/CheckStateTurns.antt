@@ -1,17 +1,16 @@
 -- The turns of the loop that compares the state bytes with the run.
---     state-same      where node i's byte is what the build would write, the bytes of the nodes below i + 1 are the run's
+--     state-same      where node i's byte is what the build would write, the bytes up to node i's are the run's
 --     state-differs   where it is not, the table is not the run's
 --     all-same        at the end all are
 -- What the build would write at node i is told by the build's own turns (StateTurns).
 -- Assumes nothing.
 use Prim.Native.Nat.{ℕ, _+_, _*_, _≤_, _<_}
 use mathlib.Core.Path.{_≡_, refl, sym, ap, _∙_, subst}
-use mathlib.Core.Bool.{Bool, true, false}
+use mathlib.Core.Bool.{true, false}
 use mathlib.Core.List.{List}
 use native.Mathlib.Omega.{arith}
 use lib.ListN.{length, getD, set}
 use lib.Seq.{set-getD, getD-set-same}
-use Rattle.trees.specs.Tree.{Tree, kindsOf, labelsOf}
 use Rattle.trees.specs.Automaton.{state}
 use Rattle.trees.specs.Numbering.{sub}
 use Rattle.trees.proofs.RowLaws.{stride}
@@ -19,13 +18,8 @@ use Rattle.formats.specs.Rules.{treeAutomaton}
 use Rattle.links.proofs.UpTurns.{size-of}
 use Rattle.tables.specs.StateCells.{stateCell}
 use Rattle.tables.specs.States.{Runs}
-use Rattle.tables.specs.LocalTables.{statesAre}
+use Rattle.tables.specs.Compared.{StatesTold}
 use Rattle.tables.proofs.CheckLaws.{states-yes, states-no}
-
--- what the check tells its caller
-abbrev pub StatesTold : ℕ → ℕ → List ℕ → List ℕ → List ℕ → List ℕ → List ℕ → Bool → Type 0
-StatesTold s k lv inn ks ls b r =
-    (mk : List ℕ) (t : Tree) → kindsOf t ≡ ks → labelsOf t ≡ ls → r ≡ statesAre (treeAutomaton s k lv inn mk) t b
 
 module _ (s k : ℕ) (lv inn ks ls b : List ℕ) where
   pub states-start : Runs s k lv inn ks ls 0 b b

@@ -17,23 +17,17 @@ use Rattle.links.specs.LinkCells.{LinkCells}
 use Rattle.tables.specs.LocalTables.{statesAre, mapsAre}
 use Rattle.tables.specs.States.{Runs}
 use Rattle.tables.specs.Maps.{Prepared, MapArgs}
+use Rattle.tables.specs.Compared.{StatesTold, MapsTold, TableTold}
 use Rattle.tables.specs.Written.{TableArgs}
 use Rattle.tables.proofs.StateTurns.{size-of}
 use Rattle.tables.proofs.TableTurns.{map-args}
 use Rattle.tables.proofs.CheckLaws.{states-told, table-same}
-use Rattle.tables.proofs.CheckStateTurns.{StatesTold}
-use Rattle.tables.proofs.CheckMapTurns.{MapsTold}
-
--- what the check of a whole table tells its caller
-abbrev pub TableTold : ℕ → ℕ → List ℕ → List ℕ → List ℕ → List ℕ → List ℕ → Bool → Type 0
-TableTold s k lv inn ks ls b r =
-    (mk : List ℕ) (t : Tree) → kindsOf t ≡ ks → labelsOf t ≡ ls
-    → r ≡ sameList (take (stateLength (length ks) s) b) (stateTable (treeAutomaton s k lv inn mk) t)
 
 module _ (ks ls nums lv inn : List ℕ) (s k : ℕ) (b : List ℕ) (args : TableArgs ks ls nums lv inn s k (length b)) where
   told-runs : StatesTold s k lv inn ks ls b true → Runs s k lv inn ks ls (length ks) b b
   told-runs told mk t e f = record {
-    states = λ v h. states-told (treeAutomaton s k lv inn mk) t b (sym (told mk t e f)) v (omega (arith, size-of t ks e));
+    states = λ v h. states-told (treeAutomaton s k lv inn mk) t b (sym (told mk t e f)) v
+        (omega (arith, size-of t ks e));
     kept = λ j a. refl;
   }
 
@@ -64,7 +58,8 @@ module _ (ks ls nums lv inn : List ℕ) (s k : ℕ) (b : List ℕ) (args : Table
   states-fail told mk t e f =
       ap (λ (x : Bool). x && mapsAre (treeAutomaton s k lv inn mk) t b) (told mk t e f) ∙ sym (whole mk t e)
 
-  pub maps-tell : (r : Bool) → StatesTold s k lv inn ks ls b true → MapsTold ls nums inn s k b r → TableTold s k lv inn ks ls b r
+  pub maps-tell : (r : Bool) → StatesTold s k lv inn ks ls b true → MapsTold ls nums inn s k b r
+      → TableTold s k lv inn ks ls b r
   maps-tell r told maps mk t e f =
       maps lv mk t (prepared told mk t e f)
       ∙ ap (λ (x : Bool). x && mapsAre (treeAutomaton s k lv inn mk) t b) (told mk t e f) ∙ sym (whole mk t e)

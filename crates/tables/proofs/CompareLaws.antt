@@ -65,14 +65,17 @@ every-other n f g h =
 
 -- ---- rows
 
-pub rowIs-map : (s : ℕ) (b : List ℕ) (v : ℕ) (f : ℕ → ℕ) → rowIs s b v f ≡ true → (q : ℕ) → q < s → mapCell s b v q ≡ f q
+pub rowIs-map : (s : ℕ) (b : List ℕ) (v : ℕ) (f : ℕ → ℕ) → rowIs s b v f ≡ true
+    → (q : ℕ) → q < s → mapCell s b v q ≡ f q
 rowIs-map s b v f e q h = eqb-true (mapCell s b v q) (f q) (every-at s (λ x. eqb (mapCell s b v x) (f x)) e q h)
 
-pub map-rowIs : (s : ℕ) (b : List ℕ) (v : ℕ) (f : ℕ → ℕ) → ((q : ℕ) → q < s → mapCell s b v q ≡ f q) → rowIs s b v f ≡ true
+pub map-rowIs : (s : ℕ) (b : List ℕ) (v : ℕ) (f : ℕ → ℕ) → ((q : ℕ) → q < s → mapCell s b v q ≡ f q)
+    → rowIs s b v f ≡ true
 map-rowIs s b v f h =
     every-all s (λ x. eqb (mapCell s b v x) (f x)) (λ q l. eq-eqb (mapCell s b v q) (f q) (h q l))
 
-pub rowIs-ext : (s : ℕ) (b : List ℕ) (v : ℕ) (f g : ℕ → ℕ) → ((q : ℕ) → q < s → f q ≡ g q) → rowIs s b v f ≡ rowIs s b v g
+pub rowIs-ext : (s : ℕ) (b : List ℕ) (v : ℕ) (f g : ℕ → ℕ) → ((q : ℕ) → q < s → f q ≡ g q)
+    → rowIs s b v f ≡ rowIs s b v g
 rowIs-ext s b v f g e =
     every-ext s (λ q. eqb (mapCell s b v q) (f q)) (λ q. eqb (mapCell s b v q) (g q))
     (λ q h. ap (eqb (mapCell s b v q)) (e q h))

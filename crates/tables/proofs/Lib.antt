@@ -6,6 +6,8 @@ pub mod CheckStateTurns
 pub mod CheckMapTurns
 pub mod CheckMapPlaces
 pub mod CheckTableTurns
+pub mod CheckBothTurns
+pub mod CheckAnswers
 pub mod CheckTheorems
 pub mod RowTurns
 pub mod StateTurns

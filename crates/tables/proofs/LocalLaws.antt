@@ -21,7 +21,8 @@ use Rattle.trees.proofs.NodeLaws.{up}
 use Rattle.trees.proofs.JumpLaws.{jump-in, jump-above}
 use Rattle.trees.proofs.RowLaws.{stateTable-state}
 use Rattle.trees.proofs.RunLaws.{Children, children, state-leaf, state-inner}
-use Rattle.trees.proofs.MapLaws.{left-sibling-in, right-sibling-in, stepUp-right, stepUp-left, stepUp-below, stateMap-root, stateMap-near, stateMap-far, stateMap-below}
+use Rattle.trees.proofs.MapLaws.{left-sibling-in, right-sibling-in, stepUp-right, stepUp-left, stepUp-below}
+use Rattle.trees.proofs.MapLaws.{stateMap-root, stateMap-near, stateMap-far, stateMap-below}
 use Rattle.tables.specs.StateCells.{stateCell, mapCell}
 use Rattle.tables.specs.LocalTables.{stepCells, LocalStates, LocalMaps}
 use Rattle.tables.proofs.TableTestLaws.{cells-table, table-maps as cells-maps}
@@ -40,7 +41,8 @@ module _ (A : Automaton) (t : Tree) (b : List ℕ) (v : ℕ) (h : v < size t) wh
       ≡ state A (sub t v)
   inner-local e to =
       let C : Children t v = children t v h e in
-      ap₂ (λ (p q : ℕ). A .δ p (labelAt t v) q) (to (v - 1 - size (sub t (v - 1))) (C .left-in)) (to (v - 1) (omega (arith, C .pos)))
+      ap₂ (λ (p q : ℕ). A .δ p (labelAt t v) q) (to (v - 1 - size (sub t (v - 1))) (C .left-in))
+      (to (v - 1) (omega (arith, C .pos)))
       ∙ sym (state-inner A t v h e)
 
 states-to : (A : Automaton) (t : Tree) (b : List ℕ) → LocalStates A t b → (i : ℕ) → i ≤ size t → StatesTo A t b i
@@ -65,12 +67,14 @@ module _ (A : Automaton) (t : Tree) (b : List ℕ) (to : StatesTo A t b (size t)
   pub step-right : (q : ℕ) → v + 1 ≡ parent t v
       → A .δ (stateCell (A .states) b (v - size (sub t v))) (labelAt t (parent t v)) q ≡ stepUp A t v q
   step-right q e =
-      ap (λ (x : ℕ). A .δ x (labelAt t (parent t v)) q) (to (v - size (sub t v)) (left-sibling-in t v h e)) ∙ sym (stepUp-right A t v h q e)
+      ap (λ (x : ℕ). A .δ x (labelAt t (parent t v)) q) (to (v - size (sub t v)) (left-sibling-in t v h e))
+      ∙ sym (stepUp-right A t v h q e)
 
   pub step-left : (q : ℕ) → (v + 1 ≡ parent t v → ⊥)
       → A .δ q (labelAt t (parent t v)) (stateCell (A .states) b (parent t v - 1)) ≡ stepUp A t v q
   step-left q e =
-      ap (λ (x : ℕ). A .δ q (labelAt t (parent t v)) x) (to (parent t v - 1) (right-sibling-in t v h e)) ∙ sym (stepUp-left A t v h q e)
+      ap (λ (x : ℕ). A .δ q (labelAt t (parent t v)) x) (to (parent t v - 1) (right-sibling-in t v h e))
+      ∙ sym (stepUp-left A t v h q e)
 
   pub step-local : (q : ℕ) → stepCells A t b v q ≡ stepUp A t v q
   unfolding stepCells
@@ -81,7 +85,8 @@ module _ (A : Automaton) (t : Tree) (b : List ℕ) (to : StatesTo A t b (size t)
 
   module _ (below : (p a q : ℕ) → A .δ p a q < A .states) (from : MapsFrom A t b (v + 1)) where
     pub far-local : (q : ℕ) → (jump t v ≡ parent t v → ⊥) → q < A .states
-        → mapCell (A .states) b (jump t (parent t v)) (mapCell (A .states) b (parent t v) (stepUp A t v q)) ≡ stateMap A t v q
+        → mapCell (A .states) b (jump t (parent t v)) (mapCell (A .states) b (parent t v) (stepUp A t v q))
+        ≡ stateMap A t v q
     far-local q ne l =
         let p : ℕ = parent t v in
         let above : v < p = up t v h .above in
@@ -92,8 +97,8 @@ module _ (A : Automaton) (t : Tree) (b : List ℕ) (to : StatesTo A t b (size t)
         ∙ from (jump t p) (omega (arith, jump-above t p hp)) (jump-in t p hp) (stateMap A t p (stepUp A t v q)) y
         ∙ sym (stateMap-far A t v q h ne)
 
-module _ (A : Automaton) (t : Tree) (b : List ℕ) (below : (p a q : ℕ) → A .δ p a q < A .states) (loc : LocalStates A t b)
-    (maps : LocalMaps A t b) where
+module _ (A : Automaton) (t : Tree) (b : List ℕ) (below : (p a q : ℕ) → A .δ p a q < A .states)
+    (loc : LocalStates A t b) (maps : LocalMaps A t b) where
   to-end : StatesTo A t b (size t)
   to-end = states-to A t b loc (size t) (omega arith)
 
@@ -112,7 +117,8 @@ module _ (A : Automaton) (t : Tree) (b : List ℕ) (below : (p a q : ℕ) → A 
               elim (ℕ-discrete (jump t v) (parent t v)) [
                 | yes j ↦ maps .near v q k j z ∙ step-local A t b to-end v k q ∙ sym (stateMap-near A t v q k j)
                 | no j ↦ maps .far v q k j z
-                    ∙ ap (λ (x : ℕ). mapCell (A .states) b (jump t (parent t v)) (mapCell (A .states) b (parent t v) x)) (step-local A t b to-end v k q)
+                    ∙ ap (λ (x : ℕ). mapCell (A .states) b (jump t (parent t v)) (mapCell (A .states) b (parent t v) x))
+                    (step-local A t b to-end v k q)
                     ∙ far-local A t b to-end v k below from2 q j z
               ])
         ]
@@ -158,8 +164,10 @@ module _ (A : Automaton) (t : Tree) (b : List ℕ) (e : take (size t * (A .state
       let from : MapsFrom A t b 0 = table-maps A t b e in
       record {
         at-root = λ v q r l. from v (omega arith) (omega arith) q l ∙ stateMap-root A t v q r;
-        near = λ v q h j l. from v (omega arith) (omega arith) q l ∙ stateMap-near A t v q h j ∙ sym (step-local A t b to v h q);
+        near = λ v q h j l. from v (omega arith) (omega arith) q l ∙ stateMap-near A t v q h j
+            ∙ sym (step-local A t b to v h q);
         far = λ v q h j l. from v (omega arith) (omega arith) q l
-            ∙ sym (ap (λ (x : ℕ). mapCell (A .states) b (jump t (parent t v)) (mapCell (A .states) b (parent t v) x)) (step-local A t b to v h q)
+            ∙ sym (ap (λ (x : ℕ). mapCell (A .states) b (jump t (parent t v)) (mapCell (A .states) b (parent t v) x))
+            (step-local A t b to v h q)
             ∙ far-local A t b to v h below (λ u a. from u (omega arith)) q j l);
       }

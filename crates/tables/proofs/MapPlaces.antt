@@ -17,7 +17,8 @@ use Rattle.trees.proofs.RowLaws.{stride}
 use Rattle.links.specs.Cells.{parentCell, jumpCell, sizeCell}
 use Rattle.tables.specs.StateCells.{stateCell, mapCell}
 use Rattle.tables.specs.Rows.{Rowed, RowIn, NearArgs, FarArgs, farCell}
-use Rattle.tables.specs.Maps.{nearBase, nearStep, nearValue, farValue, mapValue, BaseArgs, StepArgs, FillArgs, FarMapArgs}
+use Rattle.tables.specs.Maps.{nearBase, nearStep, nearValue, farValue, mapValue, BaseArgs, StepArgs, FillArgs}
+use Rattle.tables.specs.Maps.{FarMapArgs}
 use Rattle.tables.proofs.StateTurns.{rule-in}
 use Rattle.tables.proofs.RowTurns.{row-other}
 
@@ -59,7 +60,8 @@ module _ (ls b inn : List ℕ) (s k : ℕ) (st : List ℕ) (v : ℕ) (F : FillAr
   step-args = record { few = F .few; labels = F .labels; above = F .above }
 
   near-inside : (q : ℕ) → q < s
-      → nearBase b st s k v (parentCell b v) (getD ls (parentCell b v) 0) + q * nearStep s k v (parentCell b v) < length inn
+      → nearBase b st s k v (parentCell b v) (getD ls (parentCell b v) 0) + q * nearStep s k v (parentCell b v) < length
+      inn
   near-inside q l =
       let below : getD ls (parentCell b v) 0 < k = F .below (parentCell b v) in
       elim (ℕ-discrete (v + 1) (parentCell b v)) [
@@ -80,7 +82,8 @@ module _ (ls b inn : List ℕ) (s k : ℕ) (st : List ℕ) (v : ℕ) (F : FillAr
       (nearBase b st s k v (parentCell b v) (getD ls (parentCell b v) 0)) (nearStep s k v (parentCell b v))
   near-args = record { room = row-room v (omega (arith, F .above, F .inside)); inside = near-inside }
 
-  pub near-row-is : (base step : ℕ) (after : List ℕ) → base ≡ nearBase b st s k v (parentCell b v) (getD ls (parentCell b v) 0)
+  pub near-row-is : (base step : ℕ) (after : List ℕ) → base ≡ nearBase b st s k v (parentCell b v)
+      (getD ls (parentCell b v) 0)
       → step ≡ nearStep s k v (parentCell b v) → Rowed s (λ q. getD inn (base + q * step) 0) v st after
       → Rowed s (nearValue ls b inn s k st v) v st after
   unfolding nearValue
@@ -121,7 +124,8 @@ module _ (ls b inn : List ℕ) (s k : ℕ) (st : List ℕ) (v : ℕ) (F : FillAr
         → Rowed s (mapValue ls b inn s k st v) v st end
     unfolding mapValue
     fill-done end f = record {
-      cells = λ q l. f .cells q l ∙ ap (farValue b s after v) (r .cells q l) ∙ far-same (nearValue ls b inn s k st v q) (near-below q);
+      cells = λ q l. f .cells q l ∙ ap (farValue b s after v) (r .cells q l) ∙ far-same (nearValue ls b inn s k st v q)
+          (near-below q);
       kept = λ j n. f .kept j n ∙ r .kept j n;
     }
 
@@ -140,7 +144,10 @@ module _ (b : List ℕ) (s : ℕ) (st : List ℕ) (v : ℕ) where
   pub far-done : (after : List ℕ) → (jumpCell b v ≡ parentCell b v → ⊥)
       → Rowed s (farCell s st v (parentCell b v) (jumpCell b (parentCell b v))) v st after
       → Rowed s (λ q. farValue b s st v (mapCell s st v q)) v st after
-  far-done after c r = record { cells = λ q l. r .cells q l ∙ rw (ne-eqb (jumpCell b v) (parentCell b v) c); kept = r .kept }
+  far-done after c r = record {
+    cells = λ q l. r .cells q l ∙ rw (ne-eqb (jumpCell b v) (parentCell b v) c);
+    kept = r .kept;
+  }
 
   pub near-done : jumpCell b v ≡ parentCell b v → Rowed s (λ q. farValue b s st v (mapCell s st v q)) v st st
   near-done c = record { cells = λ q l. rw (eq-eqb (jumpCell b v) (parentCell b v) c); kept = λ j n. refl }

@@ -18,13 +18,15 @@ use Rattle.trees.specs.Tables.{stepUp, stateMap}
 use Rattle.trees.proofs.NodeLaws.{Up, up, length-labels, size-pos}
 use Rattle.trees.proofs.JumpLaws.{jump-in, jump-above}
 use Rattle.trees.proofs.RowLaws.{stride}
-use Rattle.trees.proofs.MapLaws.{stepUp-right, stepUp-left, stepUp-below, stateMap-root, stateMap-near, stateMap-far, stateMap-below, right-child-size}
+use Rattle.trees.proofs.MapLaws.{stepUp-right, stepUp-left, stepUp-below, stateMap-root, stateMap-near, stateMap-far}
+use Rattle.trees.proofs.MapLaws.{stateMap-below, right-child-size}
 use Rattle.formats.specs.Rules.{treeAutomaton}
 use Rattle.links.specs.Cells.{parentCell, jumpCell, sizeCell}
 use Rattle.tables.specs.StateCells.{stateCell, mapCell}
 use Rattle.tables.specs.Rows.{Rowed, SameArgs}
 use Rattle.tables.specs.States.{RuleRuns}
-use Rattle.tables.specs.Maps.{Prepared, Mapped, nearBase, nearStep, nearValue, farValue, mapValue, FillArgs, MapArgs, Maps}
+use Rattle.tables.specs.Maps.{Prepared, Mapped, nearBase, nearStep, nearValue, farValue, mapValue}
+use Rattle.tables.specs.Maps.{FillArgs, MapArgs, Maps}
 use Rattle.tables.proofs.MapTableLaws.{state-no-map, row-ext, written-start, written-turn}
 use Rattle.tables.proofs.StateTurns.{rules-below}
 
@@ -42,9 +44,15 @@ module _ (s k : ℕ) (lv inn mk : List ℕ) (t : Tree) (ls b e : List ℕ) (P : 
     near-is q =
         rw (P .parents v (omega arith), ← P .labels)
         (elim (ℕ-discrete (v + 1) (parent t v)) [
-          | yes c ↦ rw (eq-eqb (v + 1) (parent t v) c, P .sizes v (omega arith), state-is (v - size (sub t v)) (omega arith)) (
+          | yes c ↦ rw (
+            eq-eqb (v + 1) (parent t v) c,
+            P .sizes v (omega arith),
+            state-is (v - size (sub t v))
+                (omega arith),
+          ) (
               let x : ℕ = state (treeAutomaton s k lv inn mk) (sub t (v - size (sub t v))) in
-              let i : (x * k + labelAt t (parent t v)) * s + q * 1 ≡ (x * k + labelAt t (parent t v)) * s + q = omega arith in
+              let i : (x * k + labelAt t (parent t v)) * s + q * 1 ≡ (x * k + labelAt t (parent t v)) * s + q = omega
+              arith in
               ap (λ (j : ℕ). getD inn j 0) i ∙ sym (stepUp-right (treeAutomaton s k lv inn mk) t v h q c))
           | no c ↦ rw (ne-eqb (v + 1) (parent t v) c, state-is (parent t v - 1) (omega (arith, up t v h .below))) (
               let x : ℕ = state (treeAutomaton s k lv inn mk) (sub t (parent t v - 1)) in
@@ -63,7 +71,8 @@ module _ (s k : ℕ) (lv inn mk : List ℕ) (t : Tree) (ls b e : List ℕ) (P : 
           let U : Up t v (parent t v) = up t v h in
           rw (near-is q, P .jumps v (omega arith), P .parents v (omega arith))
           (elim (ℕ-discrete (jump t v) (parent t v)) [
-            | yes c ↦ rw (eq-eqb (jump t v) (parent t v) c) (sym (stateMap-near (treeAutomaton s k lv inn mk) t v q h c))
+            | yes c ↦ rw (eq-eqb (jump t v) (parent t v) c)
+                (sym (stateMap-near (treeAutomaton s k lv inn mk) t v q h c))
             | no c ↦ rw (ne-eqb (jump t v) (parent t v) c, P .jumps (parent t v) (U .below)) (
                 let p : ℕ = parent t v in
                 let x : ℕ = stepUp (treeAutomaton s k lv inn mk) t v q in
@@ -100,7 +109,8 @@ module _ (ls b inn : List ℕ) (s k : ℕ) (e : List ℕ) (args : MapArgs ls b i
     few = omega (arith, args .rules .few);
   }
 
-pub fill-args : (ls b inn : List ℕ) (s k : ℕ) (e st : List ℕ) (v : ℕ) (args : MapArgs ls b inn s k e) → length st ≡ length e → v + 1 < length ls
+pub fill-args : (ls b inn : List ℕ) (s k : ℕ) (e st : List ℕ) (v : ℕ) (args : MapArgs ls b inn s k e) → length st ≡
+    length e → v + 1 < length ls
     → Mapped (treeAutomaton s k (args .leaves) inn []) (args .tree) (v + 1) e st → FillArgs ls b inn s k st v
 fill-args ls b inn s k e st v args same h M =
     let t : Tree = args .tree in
@@ -125,7 +135,8 @@ fill-args ls b inn s k e st v args same h M =
       size-in = λ c. omega (arith, right-child-size t v l (c ∙ p), P .sizes v (omega arith));
       jump-above = rw (p, j) (omega (arith, U .above, jump-above t (parent t v) (U .below)));
       jump-inside = rw (p, j) (omega (arith, jump-in t (parent t v) (U .below)));
-      state-below = λ u m. rw (state-is s k lv inn [] t ls b e P st v l M u (omega arith)) (rules-below s k lv inn [] (args .rules) (sub t u));
+      state-below = λ u m. rw (state-is s k lv inn [] t ls b e P st v l M u (omega arith))
+          (rules-below s k lv inn [] (args .rules) (sub t u));
       map-below = λ q m. rw (p, M .maps (parent t v) q (omega (arith, U .above)) (U .below) m)
           (stateMap-below (treeAutomaton s k lv inn []) t (λ x a y. args .rules .inner-below _) (parent t v) q m);
     }

@@ -29,7 +29,8 @@ module _ (s : ℕ) (f : ℕ → ℕ) (v i : ℕ) (b₀ b : List ℕ) (r : RowTo 
       | yes p ↦ rw (p, ← e) (getD-set-same b x y 0 room ∙ z)
       | no p ↦ getD-set-other b x (v * (s + 1) + (1 + q)) y 0 (omega arith) ∙ r .cells q (omega arith)
     ];
-    kept = λ j a. getD-set-other b x j y 0 (λ p. a i (omega arith) (omega arith)) ∙ r .kept j (λ q l. a q (omega arith));
+    kept = λ j a. getD-set-other b x j y 0 (λ p. a i (omega arith) (omega arith)) ∙ r .kept j
+        (λ q l. a q (omega arith));
   }
 
   pub row-ahead : (q : ℕ) → i ≤ q → mapCell s b v q ≡ mapCell s b₀ v q
@@ -37,7 +38,8 @@ module _ (s : ℕ) (f : ℕ → ℕ) (v i : ℕ) (b₀ b : List ℕ) (r : RowTo 
 
   pub row-other : (u q : ℕ) → (u ≡ v → ⊥) → i ≤ s → q < s → mapCell s b u q ≡ mapCell s b₀ u q
   row-other u q ne few l =
-      r .kept (u * (s + 1) + (1 + q)) (λ x h e. cells-apart (s + 1) u v (1 + q) (1 + x) (omega arith) (omega arith) ne e)
+      r .kept (u * (s + 1) + (1 + q)) (λ x h e. cells-apart (s + 1) u v (1 + q) (1 + x) (omega arith) (omega arith) ne
+      e)
 
   pub row-state : (u : ℕ) → i ≤ s → stateCell s b u ≡ stateCell s b₀ u
   row-state u few =
@@ -53,7 +55,8 @@ placed s b v q = getD b (v * (s + 1) + 1 + q) 0
 placed-is : (s : ℕ) (b : List ℕ) (v q : ℕ) → placed s b v q ≡ mapCell s b v q
 placed-is s b v q = let e : v * (s + 1) + 1 + q ≡ v * (s + 1) + (1 + q) = omega arith in ap (λ (j : ℕ). getD b j 0) e
 
-module _ (s v p j i : ℕ) (b₀ b : List ℕ) (r : RowTo s (farCell s b₀ v p j) v i b₀ b) (args : FarArgs b₀ s v p j) (h : i < s) where
+module _ (s v p j i : ℕ) (b₀ b : List ℕ) (r : RowTo s (farCell s b₀ v p j) v i b₀ b) (args : FarArgs b₀ s v p j)
+    (h : i < s) where
   far-here : placed s b v i ≡ mapCell s b₀ v i
   far-here = placed-is s b v i ∙ row-ahead s (farCell s b₀ v p j) v i b₀ b r i (omega arith)
 
@@ -63,7 +66,8 @@ module _ (s v p j i : ℕ) (b₀ b : List ℕ) (r : RowTo s (farCell s b₀ v p 
   far-near : placed s b p (placed s b v i) ≡ mapCell s b₀ p (mapCell s b₀ v i)
   far-near =
       ap (placed s b p) far-here ∙ placed-is s b p (mapCell s b₀ v i)
-      ∙ row-other s (farCell s b₀ v p j) v i b₀ b r p (mapCell s b₀ v i) (args .near-other) (omega arith) (args .here-below i h)
+      ∙ row-other s (farCell s b₀ v p j) v i b₀ b r p (mapCell s b₀ v i) (args .near-other) (omega arith)
+      (args .here-below i h)
 
   pub far-near-below : placed s b p (placed s b v i) < s
   far-near-below = rw far-near (args .near-below (mapCell s b₀ v i) (args .here-below i h))

@@ -35,8 +35,10 @@ rule-args lv inn s k p a q ok hp ha hq = record {
   inside = omega (arith, rule-in s k p a q hp ha hq, ok .inner-count);
 }
 
-pub rules-below : (s k : ℕ) (lv inn mk : List ℕ) → RuleRuns s k lv inn → (t : Tree) → state (treeAutomaton s k lv inn mk) t < s
-rules-below s k lv inn mk ok t = state-below (treeAutomaton s k lv inn mk) (ok .leaf-below) (λ p a q. ok .inner-below _) t
+pub rules-below : (s k : ℕ) (lv inn mk : List ℕ) → RuleRuns s k lv inn → (t : Tree) → state
+    (treeAutomaton s k lv inn mk) t < s
+rules-below s k lv inn mk ok t = state-below (treeAutomaton s k lv inn mk) (ok .leaf-below) (λ p a q. ok .inner-below _)
+    t
 
 -- ---- one more state
 
@@ -44,10 +46,12 @@ state-cells-apart : (w u v : ℕ) → 0 < w → (u ≡ v → ⊥) → u * w ≡ 
 state-cells-apart w u v pos ne e = cells-apart w u v 0 0 pos pos ne (omega arith)
 
 module _ (A : Automaton) (t : Tree) (i : ℕ) (b₀ b : List ℕ) (ran : Ran A t i b₀ b) (h : i < size t) where
-  state-turn : (x : ℕ) → size t * (A .states + 1) ≤ length b → x ≡ state A (sub t i) → Ran A t (i + 1) b₀ (set b (i * (A .states + 1)) x)
+  state-turn : (x : ℕ) → size t * (A .states + 1) ≤ length b → x ≡ state A (sub t i) → Ran A t (i + 1) b₀
+      (set b (i * (A .states + 1)) x)
   state-turn x room e = record {
     states = λ v l. elim (ℕ-discrete v i) [
-      | yes p ↦ rw p (getD-set-same b (i * (A .states + 1)) x 0 (omega (arith, stride (A .states + 1) i (size t) h)) ∙ e)
+      | yes p ↦ rw p (getD-set-same b (i * (A .states + 1)) x 0 (omega (arith, stride (A .states + 1) i (size t) h)) ∙
+          e)
       | no p ↦ getD-set-other b (i * (A .states + 1)) (v * (A .states + 1)) x 0
           (state-cells-apart (A .states + 1) v i (omega arith) p) ∙ ran .states v (omega arith)
     ];
@@ -55,21 +59,22 @@ module _ (A : Automaton) (t : Tree) (i : ℕ) (b₀ b : List ℕ) (ran : Ran A t
   }
 
   -- the children's states, where they stand
-  module _ (nums : List ℕ) (sizes : (v : ℕ) → v < size t → sizeCell nums v ≡ size (sub t v)) (e : kindAt t i ≡ 0 → ⊥) where
-    kin : Children t i
-    kin = children t i h e
+  module _ (nums : List ℕ) (sizes : (v : ℕ) → v < size t → sizeCell nums v ≡ size (sub t v)) (e : kindAt t i ≡ 0 → ⊥)
+    where
+      kin : Children t i
+      kin = children t i h e
 
-    right-size : sizeCell nums (i - 1) ≡ size (sub t (i - 1))
-    right-size = sizes (i - 1) (omega (arith, kin .pos))
+      right-size : sizeCell nums (i - 1) ≡ size (sub t (i - 1))
+      right-size = sizes (i - 1) (omega (arith, kin .pos))
 
-    left-is : leftOf nums i ≡ i - 1 - size (sub t (i - 1))
-    left-is = omega (arith, right-size)
+      left-is : leftOf nums i ≡ i - 1 - size (sub t (i - 1))
+      left-is = omega (arith, right-size)
 
-    right-state : stateCell (A .states) b (i - 1) ≡ state A (sub t (i - 1))
-    right-state = ran .states (i - 1) (omega (arith, kin .pos))
+      right-state : stateCell (A .states) b (i - 1) ≡ state A (sub t (i - 1))
+      right-state = ran .states (i - 1) (omega (arith, kin .pos))
 
-    left-state : stateCell (A .states) b (leftOf nums i) ≡ state A (sub t (i - 1 - size (sub t (i - 1))))
-    left-state = ap (stateCell (A .states) b) left-is ∙ ran .states (i - 1 - size (sub t (i - 1))) (kin .left-in)
+      left-state : stateCell (A .states) b (leftOf nums i) ≡ state A (sub t (i - 1 - size (sub t (i - 1))))
+      left-state = ap (stateCell (A .states) b) left-is ∙ ran .states (i - 1 - size (sub t (i - 1))) (kin .left-in)
 
 -- ---- the same, of every tree with these kinds and labels
 
@@ -78,7 +83,8 @@ size-of t ks e = ap length (sym e) ∙ length-kinds t
 
 module _ (s k : ℕ) (lv inn ks ls : List ℕ) (i : ℕ) (nums b₀ b : List ℕ) (all : Runs s k lv inn ks ls i b₀ b)
     (args : StateArgs ks ls nums lv inn s k (length b₀)) (same : length b ≡ length b₀) (h : i < length ks) where
-  turn : (x : ℕ) → ((mk : List ℕ) (t : Tree) → kindsOf t ≡ ks → labelsOf t ≡ ls → i < size t → x ≡ state (treeAutomaton s k lv inn mk) (sub t i))
+  turn : (x : ℕ) → ((mk : List ℕ) (t : Tree) → kindsOf t ≡ ks → labelsOf t ≡ ls → i < size t → x ≡ state
+      (treeAutomaton s k lv inn mk) (sub t i))
       → Runs s k lv inn ks ls (i + 1) b₀ (set b (i * (s + 1)) x)
   turn x is mk t e f =
       let z : length ks ≡ size t = size-of t ks e in
@@ -96,11 +102,13 @@ module _ (s k : ℕ) (lv inn ks ls : List ℕ) (i : ℕ) (nums b₀ b : List ℕ
     kind-is : (t : Tree) → kindsOf t ≡ ks → kindAt t i ≡ 0 → ⊥
     kind-is t e z = c (ap (λ (x : List ℕ). getD x i 0) (sym e) ∙ z)
 
-    pub inner-states : Runs s k lv inn ks ls (i + 1) b₀ (set b (i * (s + 1)) (innerState nums b inn s k i (getD ls i 0)))
+    pub inner-states : Runs s k lv inn ks ls (i + 1) b₀
+        (set b (i * (s + 1)) (innerState nums b inn s k i (getD ls i 0)))
     inner-states =
         turn (innerState nums b inn s k i (getD ls i 0)) (λ mk t e f l.
         let R : Ran (treeAutomaton s k lv inn mk) t i b₀ b = all mk t e f in
-        let p : stateCell s b (leftOf nums i) ≡ state (treeAutomaton s k lv inn mk) (sub t (i - 1 - size (sub t (i - 1)))) =
+        let p : stateCell s b (leftOf nums i) ≡ state (treeAutomaton s k lv inn mk)
+        (sub t (i - 1 - size (sub t (i - 1)))) =
         left-state (treeAutomaton s k lv inn mk) t i b₀ b R l nums (args .sizes t e) (kind-is t e) in
         let q : stateCell s b (i - 1) ≡ state (treeAutomaton s k lv inn mk) (sub t (i - 1)) =
         right-state (treeAutomaton s k lv inn mk) t i b₀ b R l nums (args .sizes t e) (kind-is t e) in
@@ -116,8 +124,10 @@ module _ (s k : ℕ) (lv inn ks ls : List ℕ) (i : ℕ) (nums b₀ b : List ℕ
             let z : kindAt t i ≡ 0 → ⊥ = kind-is t (T .1) in
             let R : Ran (treeAutomaton s k lv inn []) t i b₀ b = all [] t (T .1) (T .2) in
             let K : Children t i = children t i l z in
-            let r : sizeCell nums (i - 1) ≡ size (sub t (i - 1)) = args .sizes t (T .1) (i - 1) (omega (arith, K .pos)) in
-            let p : stateCell s b (leftOf nums i) ≡ state (treeAutomaton s k lv inn []) (sub t (i - 1 - size (sub t (i - 1)))) =
+            let r : sizeCell nums (i - 1) ≡ size (sub t (i - 1)) = args .sizes t (T .1) (i - 1)
+            (omega (arith, K .pos)) in
+            let p : stateCell s b (leftOf nums i) ≡ state (treeAutomaton s k lv inn [])
+            (sub t (i - 1 - size (sub t (i - 1)))) =
             left-state (treeAutomaton s k lv inn []) t i b₀ b R l nums (args .sizes t (T .1)) z in
             let q : stateCell s b (i - 1) ≡ state (treeAutomaton s k lv inn []) (sub t (i - 1)) =
             right-state (treeAutomaton s k lv inn []) t i b₀ b R l nums (args .sizes t (T .1)) z in
@@ -126,7 +136,11 @@ module _ (s k : ℕ) (lv inn ks ls : List ℕ) (i : ℕ) (nums b₀ b : List ℕ
               few = args .rules .few;
               room = omega (arith, args .link-room);
               right = omega (arith, K .right-size);
-              left-in = omega (arith, stride (s + 1) (leftOf nums i) (length ks) (omega (arith, K .left-in)), args .room);
+              left-in = omega (
+                arith,
+                stride (s + 1) (leftOf nums i) (length ks) (omega (arith, K .left-in)),
+                args .room,
+              );
               right-in = omega (arith, stride (s + 1) (i - 1) (length ks) (omega arith), args .room);
               rule = rule-args lv inn s k _ (getD ls i 0) _ (args .rules)
                   (rw p (rules-below s k lv inn [] (args .rules) (sub t (i - 1 - size (sub t (i - 1))))))

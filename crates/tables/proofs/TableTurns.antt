@@ -44,7 +44,8 @@ module _ (ks ls b lv inn : List ℕ) (s k : ℕ) (e st : List ℕ) (args : Table
 
   pub map-args : length st ≡ length e → MapArgs ls b inn s k st
   map-args same =
-      let T : (t : Tree) × (kindsOf t ≡ ks) × (labelsOf t ≡ ls) = postorder-tree ks ls (args .run .count) (args .run .postorder) in
+      let T : (t : Tree) × (kindsOf t ≡ ks) × (labelsOf t ≡ ls) = postorder-tree ks ls (args .run .count)
+      (args .run .postorder) in
       record {
         leaves = lv;
         tree = T .0;
@@ -56,7 +57,8 @@ module _ (ks ls b lv inn : List ℕ) (s k : ℕ) (e st : List ℕ) (args : Table
         room = rw (args .run .count, same) (args .run .room);
       }
 
-  pub states-over : (after : List ℕ) → length after ≡ length e → Maps ls b inn s k 0 st after → StatesOver s k lv inn ks ls e after
+  pub states-over : (after : List ℕ) → length after ≡ length e → Maps ls b inn s k 0 st after → StatesOver s k lv inn ks
+      ls e after
   unfolding stateTable
   states-over after same M mk t x y =
       let A : Automaton = treeAutomaton s k lv inn mk in

@@ -2,9 +2,9 @@
 --
 -- every n f == whether f holds of every number below n
 -- rowIs s b v f == whether node v's map in table b of s states is f
--- nearEntry table base stride q == the rule's value for state q, where the states' values stand `stride` apart from `base` on
+-- nearEntry table base stride q == the rule's value for state q, where the values stand `stride` apart from `base` on
 -- farEntry s b p j table base stride q == that value taken on by the maps of node p and then of node j
--- FarIsArgs == what the comparison with a far map reads lies inside the lent buffers; the others need RowIn and NearArgs (Rows)
+-- FarIsArgs == what the comparison with a far map reads lies inside the buffers; the others need RowIn and NearArgs (Rows)
 --
 -- Assumes nothing.
 use Prim.Native.Nat.{ℕ, zero, suc, _+_, _*_, _<_}

@@ -1,5 +1,6 @@
 pub mod Compare
 pub mod LocalTables
+pub mod Compared
 pub mod Answers
 pub mod StateCells
 pub mod Rows

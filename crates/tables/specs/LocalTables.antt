@@ -1,6 +1,6 @@
 -- A table of states by equations between neighbouring nodes, and whether its cells are the built ones.
 --
--- stepCells A t b v q == the state at the parent of v if the state at v is q, with the sibling's state as table b has it
+-- stepCells A t b v q == the state at the parent of v if the state at v is q, with the sibling's state by table b
 -- LocalStates A t b == each node's state byte follows by A's rules from its label and its children's state bytes
 -- LocalMaps A t b == each node's map follows from that step and the maps of its parent and of its parent's jump
 -- statesAre A t b == whether all state bytes are the run's
@@ -21,7 +21,8 @@ use Rattle.trees.specs.Tables.{stateMap}
 use Rattle.tables.specs.StateCells.{stateCell, mapCell}
 use Rattle.tables.specs.Compare.{every, rowIs}
 
--- a right child v stands just before its parent p, and its left sibling before v's subtree; a left child's sibling is p - 1
+-- a right child v stands just before its parent, and its left sibling before v's subtree; a left child's sibling stands
+-- just before their parent
 unfoldable pub stepCells : Automaton → Tree → List ℕ → ℕ → ℕ → ℕ
 stepCells A t b v q =
     cond (eqb (v + 1) (parent t v))

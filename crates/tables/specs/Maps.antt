@@ -2,7 +2,8 @@
 --
 -- Prepared s k lv inn mk t ls b e == labels ls and links b are the tree's, and the state bytes of e are its run's
 -- Mapped A t i before after == the nodes from i on have their maps, and no byte outside the maps is changed
--- nearBase, nearStep == where node v's step to its parent stands in the inner states: entry q at nearBase + q * nearStep
+-- nearBase, nearStep == where node v's step to its parent stands in the inner states: entry q at
+--   nearBase + q * nearStep
 -- nearValue == that entry; mapValue == it, followed by the parent's map and its jump's where v's jump is not the parent
 -- Maps ls b inn s k i before after == Mapped, for the tree and the rule tables that the table before is prepared for
 -- BaseArgs, StepArgs, FillArgs, FarMapArgs == what the writers of one node's map need; MapArgs == what fill_maps needs
@@ -40,7 +41,7 @@ Mapped A t i before after = MapsWritten (A .states) (size t) (stateMap A t) i be
 
 -- ---- one node
 
--- of a right child the left sibling's state and the label stand first, of a left child the right sibling's state stands last
+-- of a right child the left sibling's state and the label stand first, of a left child the right sibling's state last
 abbrev pub nearBase : List ℕ → List ℕ → ℕ → ℕ → ℕ → ℕ → ℕ → ℕ
 nearBase b st s k v p a =
     cond (eqb (v + 1) p) ((stateCell s st (v - sizeCell b v) * k + a) * s) (a * s + stateCell s st (p - 1))
@@ -117,4 +118,5 @@ pub record MapArgs (ls b inn : List ℕ) (s k : ℕ) (st : List ℕ) : Type 0 wh
 -- the same for every tree and rule table that the table before is prepared for
 abbrev pub Maps : List ℕ → List ℕ → List ℕ → ℕ → ℕ → ℕ → List ℕ → List ℕ → Type 0
 Maps ls b inn s k i before after =
-    (lv mk : List ℕ) (t : Tree) → Prepared s k lv inn mk t ls b before → Mapped (treeAutomaton s k lv inn mk) t i before after
+    (lv mk : List ℕ) (t : Tree) → Prepared s k lv inn mk t ls b before
+    → Mapped (treeAutomaton s k lv inn mk) t i before after

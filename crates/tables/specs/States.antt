@@ -1,12 +1,13 @@
 -- The state bytes of a table of states: what the loop that writes them leaves, and what it needs.
 --
--- RuleRuns s k lv inn == leaf states and inner states of s states and k labels, within the limits; past a run's end the state is 0
+-- RuleRuns s k lv inn == leaf states and inner states of s states and k labels, within the limits; past a run's end
+--   the state is 0
 -- Sizes ks b == the table of links b has the sizes of the tree with kinds ks
 -- Ran A t i before after == the state bytes of the nodes below i are the run's, and no byte but a state byte is changed
 -- Runs s k lv inn ks ls i before after == that, for the tree with kinds ks and labels ls, whatever the marks are
 -- StateArgs == what run_states needs
 -- leftOf b v == the left child of an inner node v, by the sizes in table b; its right child is v - 1
--- innerState == the rule at an inner node, from its children's state bytes; RuleArgs, InnerArgs == what reading it needs
+-- innerState == the rule at an inner node, from its children's state bytes; RuleArgs, InnerArgs == what it needs
 --
 -- Assumes nothing.
 use Prim.Native.Nat.{ℕ, _+_, _-_, _*_, _≤_, _<_}

@@ -1,11 +1,14 @@
 -- The two tables as a build leaves them.
 --
--- TableArgs ks ls b lv inn s k m == what writing a whole table of states needs: the run's needs, and a table of links as built
--- StatesOver s k lv inn ks ls before after == the buffer begins with the state table of the tree with kinds ks and labels ls, whatever
---   the marks are, and its excess is as before
+-- TableArgs ks ls b lv inn s k m == what writing a whole table of states needs: the run's needs, and a table of links
+--   as built
+-- StatesOver s k lv inn ks ls before after == the buffer begins with the state table of the tree with kinds ks and
+--   labels ls, whatever the marks are, and its excess is as before
 -- Passed p r nums bytes == plan and rule table pass 2 to 10, and the buffers are long enough
--- BuildArgs p r n s k nums bytes == besides, n, s and k are their N, S and K, and the lengths that follow, for the parts handed on
--- BothWritten p r nums bytes nums′ bytes′ == both buffers begin with the tables built from p and r, and their excess is as before
+-- BuildArgs p r n s k nums bytes == besides, n, s and k are their N, S and K, with the lengths that the parts handed
+--   on go by
+-- BothWritten p r nums bytes nums′ bytes′ == both buffers begin with the tables built from p and r, and their excess is
+--   as before
 --
 -- Assumes nothing.
 use Prim.Native.Nat.{ℕ, _≤_, _<_}

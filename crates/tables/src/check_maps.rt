@@ -5,13 +5,9 @@ use crate::compare::root_row_is;
 use crate::maps::near_base;
 use crate::maps::near_step;
 ghost use mathlib.Core.Path.{_≡_};
-ghost use mathlib.Core.List.{List};
-ghost use Prim.Native.Nat.{ℕ};
-ghost use Rattle.trees.specs.Tree.{Tree};
-ghost use Rattle.formats.specs.Rules.{treeAutomaton};
 ghost use Rattle.tables.specs.Compare.{rowIs};
-ghost use Rattle.tables.specs.Maps.{FillArgs, MapArgs, Prepared, mapValue};
-ghost use Rattle.tables.specs.LocalTables.{mapsAre};
+ghost use Rattle.tables.specs.Maps.{FillArgs, MapArgs, mapValue};
+ghost use Rattle.tables.specs.Compared.{MapsTold};
 
 // Whether node v's map is what the build would write from the states beside it and the maps above it.
 fn map_is(
@@ -24,7 +20,8 @@ fn map_is(
     bytes: &[u8],
 ) -> bool
     requires { ⌜ FillArgs (now labels) (now nums) (now inner) s k (now bytes) v ⌝ }
-    ensures { λ r. ⌜ r ≡ rowIs s (now (bytes .entry)) v (mapValue (now (labels .entry)) (now (nums .entry)) (now (inner .entry)) s k (now (bytes .entry)) v) ⌝ }
+    ensures { λ r. ⌜ r ≡ rowIs s (now (bytes .entry)) v
+        (mapValue (now (labels .entry)) (now (nums .entry)) (now (inner .entry)) s k (now (bytes .entry)) v) ⌝ }
 {
     let p = nums[v * 4] as usize;
     let a = labels[p] as usize;
@@ -36,7 +33,7 @@ fn map_is(
     far_row_is(bytes, s, v, p, nums[p * 4 + 1] as usize, inner, base, step)
 }
 
-// Whether each node's map is the one to its jump. Where one is not, those below it are not looked at: they would be read from it.
+// Whether each node's map is the one to its jump. Those below a wrong one are not looked at: they would be read from it.
 pub fn check_maps(
     labels: &[u8],
     nums: &[u16],
@@ -46,7 +43,7 @@ pub fn check_maps(
     bytes: &[u8],
 ) -> bool
     requires { ⌜ MapArgs (now labels) (now nums) (now inner) s k (now bytes) ⌝ }
-    ensures { λ r. ⌜ ((lv mk : List ℕ) (t : Tree) → Prepared s k lv (now (inner .entry)) mk t (now (labels .entry)) (now (nums .entry)) (now (bytes .entry)) → r ≡ mapsAre (treeAutomaton s k lv (now (inner .entry)) mk) t (now (bytes .entry))) ⌝ }
+    ensures { λ r. ⌜ MapsTold (now (labels .entry)) (now (nums .entry)) (now (inner .entry)) s k (now (bytes .entry)) r ⌝ }
 {
     let mut v = labels.len() - 1;
     if !root_row_is(bytes, s, v) {

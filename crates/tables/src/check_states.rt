@@ -1,15 +1,10 @@
 // The state bytes of a lent table compared with the run, in rising node number.
 use crate::states::inner_state;
-ghost use mathlib.Core.Path.{_≡_};
-ghost use mathlib.Core.List.{List};
-ghost use Prim.Native.Nat.{ℕ};
 ghost use lib.ListN.{length};
-ghost use Rattle.trees.specs.Tree.{Tree, kindsOf, labelsOf};
-ghost use Rattle.formats.specs.Rules.{treeAutomaton};
 ghost use Rattle.tables.specs.States.{StateArgs};
-ghost use Rattle.tables.specs.LocalTables.{statesAre};
+ghost use Rattle.tables.specs.Compared.{StatesTold};
 
-// Whether each node's state byte is the run's. Where a byte is not, those after it are not looked at: they would be read from it.
+// Whether each node's state byte is the run's. Those after a wrong one are not looked at: they would be read from it.
 pub fn check_states(
     kinds: &[u8],
     labels: &[u8],
@@ -21,7 +16,8 @@ pub fn check_states(
     bytes: &[u8],
 ) -> bool
     requires { ⌜ StateArgs (now kinds) (now labels) (now nums) (now leaves) (now inner) s k (length (now bytes)) ⌝ }
-    ensures { λ r. ⌜ ((mk : List ℕ) (t : Tree) → kindsOf t ≡ now (kinds .entry) → labelsOf t ≡ now (labels .entry) → r ≡ statesAre (treeAutomaton s k (now (leaves .entry)) (now (inner .entry)) mk) t (now (bytes .entry))) ⌝ }
+    ensures { λ r. ⌜ StatesTold s k (now (leaves .entry)) (now (inner .entry)) (now (kinds .entry)) (now (labels .entry))
+        (now (bytes .entry)) r ⌝ }
 {
     let n = kinds.len();
     let w = s + 1;

@@ -1,4 +1,4 @@
-// Rows of a table of states compared with what they have to be: what the full checks of rule and of branch tables share.
+// Rows of a table of states compared with what they have to be, for the full checks of rule and of branch tables.
 ghost use mathlib.Core.Path.{_≡_};
 ghost use lib.ListN.{length};
 ghost use Rattle.tables.specs.Rows.{RowIn, NearArgs};
@@ -60,7 +60,8 @@ pub fn far_row_is(
     stride: usize,
 ) -> bool
     requires { ⌜ FarIsArgs s (now bytes) v p j (now table) base stride ⌝ }
-    ensures { λ r. ⌜ r ≡ rowIs s (now (bytes .entry)) v (farEntry s (now (bytes .entry)) p j (now (table .entry)) base stride) ⌝ }
+    ensures { λ r. ⌜ r ≡ rowIs s (now (bytes .entry)) v
+        (farEntry s (now (bytes .entry)) p j (now (table .entry)) base stride) ⌝ }
 {
     let at = v * (s + 1);
     let first = p * (s + 1);

@@ -8,7 +8,8 @@ ghost use lib.ListN.{length, getD};
 ghost use Rattle.links.specs.Cells.{parentCell, jumpCell};
 ghost use Rattle.tables.specs.StateCells.{mapCell};
 ghost use Rattle.tables.specs.Rows.{Rowed};
-ghost use Rattle.tables.specs.Maps.{BaseArgs, StepArgs, FillArgs, FarMapArgs, MapArgs, Maps, nearBase, nearStep, nearValue, farValue, mapValue};
+ghost use Rattle.tables.specs.Maps.{BaseArgs, StepArgs, FillArgs, FarMapArgs, MapArgs};
+ghost use Rattle.tables.specs.Maps.{nearBase, nearStep, nearValue, farValue, mapValue, Maps};
 
 // Where the step from node v to its parent p of label a stands in the inner states.
 pub fn near_base(
@@ -53,7 +54,9 @@ fn near_map(
     bytes: &mut [u8],
 )
     requires { ⌜ FillArgs (now labels) (now nums) (now inner) s k (now bytes) v ⌝ }
-    ensures { λ _. ⌜ Rowed s (nearValue (now (labels .entry)) (now (nums .entry)) (now (inner .entry)) s k (now (bytes .entry)) v) v (now (bytes .entry)) (now (bytes .exit)) ⌝ }
+    ensures { λ _. ⌜
+        Rowed s (nearValue (now (labels .entry)) (now (nums .entry)) (now (inner .entry)) s k (now (bytes .entry)) v) v
+        (now (bytes .entry)) (now (bytes .exit)) ⌝ }
 {
     let p = nums[v * 4] as usize;
     let a = labels[p] as usize;
@@ -65,7 +68,9 @@ fn near_map(
 // Node v's map, where its jump is not the parent, goes on by the maps of the parent and of its jump.
 fn far_map(nums: &[u16], s: usize, v: usize, bytes: &mut [u8])
     requires { ⌜ FarMapArgs (now nums) s (now bytes) v ⌝ }
-    ensures { λ _. ⌜ Rowed s (λ q. farValue (now (nums .entry)) s (now (bytes .entry)) v (mapCell s (now (bytes .entry)) v q)) v (now (bytes .entry)) (now (bytes .exit)) ⌝ }
+    ensures { λ _. ⌜
+        Rowed s (λ q. farValue (now (nums .entry)) s (now (bytes .entry)) v (mapCell s (now (bytes .entry)) v q)) v
+        (now (bytes .entry)) (now (bytes .exit)) ⌝ }
 {
     let p = nums[v * 4] as usize;
     if (nums[v * 4 + 1] as usize) != p {
@@ -84,7 +89,9 @@ fn fill_map(
     bytes: &mut [u8],
 )
     requires { ⌜ FillArgs (now labels) (now nums) (now inner) s k (now bytes) v ⌝ }
-    ensures { λ _. ⌜ Rowed s (mapValue (now (labels .entry)) (now (nums .entry)) (now (inner .entry)) s k (now (bytes .entry)) v) v (now (bytes .entry)) (now (bytes .exit)) ⌝ }
+    ensures { λ _. ⌜
+        Rowed s (mapValue (now (labels .entry)) (now (nums .entry)) (now (inner .entry)) s k (now (bytes .entry)) v) v
+        (now (bytes .entry)) (now (bytes .exit)) ⌝ }
 {
     near_map(labels, nums, inner, s, k, v, bytes);
     far_map(nums, s, v, bytes);
@@ -93,7 +100,9 @@ fn fill_map(
 // Writes each node's map.
 pub fn fill_maps(labels: &[u8], nums: &[u16], inner: &[u8], s: usize, k: usize, bytes: &mut [u8])
     requires { ⌜ MapArgs (now labels) (now nums) (now inner) s k (now bytes) ⌝ }
-    ensures { λ _. ⌜ Maps (now (labels .entry)) (now (nums .entry)) (now (inner .entry)) s k 0 (now (bytes .entry)) (now (bytes .exit)) ⌝ }
+    ensures { λ _. ⌜
+        Maps (now (labels .entry)) (now (nums .entry)) (now (inner .entry)) s k 0
+        (now (bytes .entry)) (now (bytes .exit)) ⌝ }
 {
     let mut v = labels.len() - 1;
     same_row(bytes, s, v);

@@ -7,7 +7,8 @@ ghost use Rattle.tables.specs.Rows.{Rowed, NearArgs, FarArgs, SameArgs, 
 // Node v's map, from a table of states: entry q is the table's at base + q * stride.
 pub fn near_row(bytes: &mut [u8], s: usize, v: usize, table: &[u8], base: usize, stride: usize)
     requires { ⌜ NearArgs (length (now bytes)) s v (length (now table)) base stride ⌝ }
-    ensures { λ _. ⌜ Rowed s (λ q. getD (now (table .entry)) (base + q * stride) 0) v (now (bytes .entry)) (now (bytes .exit)) ⌝ }
+    ensures { λ _. ⌜
+        Rowed s (λ q. getD (now (table .entry)) (base + q * stride) 0) v (now (bytes .entry)) (now (bytes .exit)) ⌝ }
 {
     let at = v * (s + 1) + 1;
     let mut q = 0;

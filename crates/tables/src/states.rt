@@ -45,7 +45,9 @@ pub fn run_states(
     bytes: &mut [u8],
 )
     requires { ⌜ StateArgs (now kinds) (now labels) (now nums) (now leaves) (now inner) s k (length (now bytes)) ⌝ }
-    ensures { λ _. ⌜ Runs s k (now (leaves .entry)) (now (inner .entry)) (now (kinds .entry)) (now (labels .entry)) (length (now (kinds .entry))) (now (bytes .entry)) (now (bytes .exit)) ⌝ }
+    ensures { λ _. ⌜
+        Runs s k (now (leaves .entry)) (now (inner .entry)) (now (kinds .entry)) (now (labels .entry))
+        (length (now (kinds .entry))) (now (bytes .entry)) (now (bytes .exit)) ⌝ }
 {
     let n = kinds.len();
     let w = s + 1;

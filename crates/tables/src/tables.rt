@@ -16,7 +16,9 @@ pub fn write_states(
     bytes: &mut [u8],
 )
     requires { ⌜ TableArgs (now kinds) (now labels) (now nums) (now leaves) (now inner) s k (length (now bytes)) ⌝ }
-    ensures { λ _. ⌜ StatesOver s k (now (leaves .entry)) (now (inner .entry)) (now (kinds .entry)) (now (labels .entry)) (now (bytes .entry)) (now (bytes .exit)) ⌝ }
+    ensures { λ _. ⌜
+        StatesOver s k (now (leaves .entry)) (now (inner .entry)) (now (kinds .entry)) (now (labels .entry))
+        (now (bytes .entry)) (now (bytes .exit)) ⌝ }
 {
     run_states(kinds, labels, nums, leaves, inner, s, k, bytes);
     fill_maps(labels, nums, inner, s, k, bytes);

@@ -30,7 +30,8 @@ part-build-links-end c = search needs
 build-links-requires : tie.Need-build-links-requires
 build-links-requires c κs =
     let s = c .before .before .before .before .before .before .before in
-    link-args-of (s .args .plan .now) (s .args .rules .now) (s .args .nums .now) (s .args .bytes .now) (s .args .n) (s .args .s) (s .args .k) (s .pre)
+    link-args-of (s .args .plan .now) (s .args .rules .now) (s .args .nums .now) (s .args .bytes .now) (s .args .n)
+    (s .args .s) (s .args .k) (s .pre)
 
 add-write-states : tie.Need-add-write-states
 add-write-states c = search needs
@@ -85,8 +86,10 @@ write-states-requires c κs =
     let l = c .before .before .before .before .before .before .before .before in
     let i = l .before .before .before in
     let s = i .before .before .before .before .before in
-    table-args-of (s .args .plan .now) (s .args .rules .now) (s .args .nums .now) (s .args .bytes .now) (s .args .n) (s .args .s) (s .args .k) (s .pre)
-    (l .build-links .last .1 .0) (omega arith) (l .build-links .ensures) (i .inner-count .result) (i .inner-count .ensures .value)
+    table-args-of (s .args .plan .now) (s .args .rules .now) (s .args .nums .now) (s .args .bytes .now) (s .args .n)
+    (s .args .s) (s .args .k) (s .pre)
+    (l .build-links .last .1 .0) (omega arith) (l .build-links .ensures) (i .inner-count .result)
+    (i .inner-count .ensures .value)
 
 same-length : tie.Need-same-length
 same-length c = search needs
@@ -100,8 +103,10 @@ returns c =
     let l = w .before .before .before .before .before .before .before .before .before in
     let i = l .before .before .before in
     let s = i .before .before .before .before .before in
-    both-written-of (s .args .plan .now) (s .args .rules .now) (s .args .nums .now) (s .args .bytes .now) (s .args .n) (s .args .s) (s .args .k) (s .pre)
-    (l .build-links .last .1 .0) (omega arith) (l .build-links .ensures) (i .inner-count .result) (i .inner-count .ensures .value)
+    both-written-of (s .args .plan .now) (s .args .rules .now) (s .args .nums .now) (s .args .bytes .now) (s .args .n)
+    (s .args .s) (s .args .k) (s .pre)
+    (l .build-links .last .1 .0) (omega arith) (l .build-links .ensures) (i .inner-count .result)
+    (i .inner-count .ensures .value)
     (w .write-states .last .1 .1 .1 .1 .1 .1 .1 .0) (w .write-states .ensures)
 
 pub write-tables-spec : {M : Type 1} → statement M

@@ -1,4 +1,4 @@
--- `check_maps::check_maps` meets its contract. The loop's invariant: the maps of the nodes from v on lead to their jumps.
+-- `check_maps::check_maps` meets its contract. The loop's invariant: the maps of the nodes from v on are right.
 -- Assumes nothing.
 use Prim.Native.Nat.{ℕ, _+_, _-_, _<_}
 use mathlib.Core.Path.{_≡_, refl, sym, subst, _∙_}
@@ -24,13 +24,16 @@ abbrev μ-loop : tie.MeasureT-loop
 above : (c : tie.In-loop Inv-loop μ-loop)
     → (let a = c .before in
     let g = a .before .before .before .before .before .before .before .args in
-    Maps (g .labels .now) (g .nums .now) (g .inner .now) (g .s) (g .k) (a .loop .v - 1 + 1) (g .bytes .now) (g .bytes .now))
+    Maps (g .labels .now) (g .nums .now) (g .inner .now) (g .s) (g .k) (a .loop .v - 1 + 1)
+    (g .bytes .now) (g .bytes .now))
 above c =
     let a = c .before in
     let s = a .before .before .before .before .before .before .before in
     let g = s .args in
     let z : a .loop .v ≡ a .loop .v - 1 + 1 = omega (arith, c .loop-test .taken) in
-    subst (λ (i : ℕ). Maps (g .labels .now) (g .nums .now) (g .inner .now) (g .s) (g .k) i (g .bytes .now) (g .bytes .now)) z (a .loop .inv .1)
+    subst
+    (λ (i : ℕ). Maps (g .labels .now) (g .nums .now) (g .inner .now) (g .s) (g .k) i (g .bytes .now) (g .bytes .now))
+    z (a .loop .inv .1)
 
 sub-v : tie.Need-sub-v Inv-loop μ-loop
 sub-v c =
@@ -48,7 +51,9 @@ returns : tie.Need-returns Inv-loop μ-loop
 returns c =
     let s = c .before .before .before .before .before .before in
     let g = s .args in
-    root-differs (g .labels .now) (g .nums .now) (g .inner .now) (g .s) (g .k) (g .bytes .now) (length (g .labels .now) - 1) (omega (arith, map-some (g .labels .now) (g .nums .now) (g .inner .now) (g .s) (g .k) (g .bytes .now) (s .pre)))
+    let pos = map-some (g .labels .now) (g .nums .now) (g .inner .now) (g .s) (g .k) (g .bytes .now) (s .pre) in
+    root-differs (g .labels .now) (g .nums .now) (g .inner .now) (g .s) (g .k) (g .bytes .now)
+    (length (g .labels .now) - 1) (omega (arith, pos))
     (sym (c .before .root-row-is .ensures) ∙ not-true (c .before .root-row-is .result) (c .if1 .taken))
 
 loop-holds : tie.Need-loop-holds Inv-loop μ-loop
@@ -57,7 +62,8 @@ loop-holds c =
     let g = s .args in
     let pos = map-some (g .labels .now) (g .nums .now) (g .inner .now) (g .s) (g .k) (g .bytes .now) (s .pre) in (
       omega (arith, pos),
-      root-same (g .labels .now) (g .nums .now) (g .inner .now) (g .s) (g .k) (g .bytes .now) (length (g .labels .now) - 1) (omega (arith, pos))
+      root-same (g .labels .now) (g .nums .now) (g .inner .now) (g .s) (g .k) (g .bytes .now)
+          (length (g .labels .now) - 1) (omega (arith, pos))
           (sym (c .before .root-row-is .ensures) ∙ not-false (c .before .root-row-is .result) (c .if1 .left)),
     )
 
@@ -69,7 +75,8 @@ map-is-requires c κs =
     let a = c .before in
     let s = a .before .before .before .before .before .before .before in
     let g = s .args in
-    fill-args (g .labels .now) (g .nums .now) (g .inner .now) (g .s) (g .k) (g .bytes .now) (g .bytes .now) (a .loop .v - 1) (s .pre) refl (omega arith)
+    fill-args (g .labels .now) (g .nums .now) (g .inner .now) (g .s) (g .k) (g .bytes .now) (g .bytes .now)
+    (a .loop .v - 1) (s .pre) refl (omega arith)
     (above c (s .pre .leaves) [] (s .pre .tree) (s .pre .prepared))
 
 returns-2 : tie.Need-returns-2 Inv-loop μ-loop
@@ -77,7 +84,8 @@ returns-2 c =
     let a = c .before .before .before in
     let s = a .before .before .before .before .before .before .before in
     let g = s .args in
-    map-differs (g .labels .now) (g .nums .now) (g .inner .now) (g .s) (g .k) (g .bytes .now) (a .loop .v - 1) (omega (arith, c .before .before .loop-test .taken))
+    map-differs (g .labels .now) (g .nums .now) (g .inner .now) (g .s) (g .k) (g .bytes .now)
+    (a .loop .v - 1) (omega (arith, c .before .before .loop-test .taken))
     (above (c .before .before)) (s .pre .rules .inner-below)
     (sym (c .before .map-is .ensures) ∙ not-true (c .before .map-is .result) (c .if2 .taken))
 
@@ -90,7 +98,8 @@ loop-again c =
     let s = a .before .before .before .before .before .before .before in
     let g = s .args in (
       omega arith,
-      map-same (g .labels .now) (g .nums .now) (g .inner .now) (g .s) (g .k) (g .bytes .now) (a .loop .v - 1) (omega (arith, c .before .before .loop-test .taken))
+      map-same (g .labels .now) (g .nums .now) (g .inner .now) (g .s) (g .k) (g .bytes .now)
+          (a .loop .v - 1) (omega (arith, c .before .before .loop-test .taken))
           (above (c .before .before)) (s .pre .rules .inner-below)
           (sym (c .before .map-is .ensures) ∙ not-false (c .before .map-is .result) (c .if2 .left)),
     )
@@ -102,7 +111,9 @@ returns-3 c =
     let g = s .args in
     let z : a .loop .v ≡ 0 = omega arith in
     all-maps (g .labels .now) (g .nums .now) (g .inner .now) (g .s) (g .k) (g .bytes .now)
-    (subst (λ (i : ℕ). Maps (g .labels .now) (g .nums .now) (g .inner .now) (g .s) (g .k) i (g .bytes .now) (g .bytes .now)) z (a .loop .inv .1))
+    (subst
+    (λ (i : ℕ). Maps (g .labels .now) (g .nums .now) (g .inner .now) (g .s) (g .k) i (g .bytes .now) (g .bytes .now))
+    z (a .loop .inv .1))
 
 pub check-maps-spec : {M : Type 1} → statement M
 check-maps-spec =

@@ -62,15 +62,19 @@ near-row-is-requires : tie.Need-near-row-is-requires
 near-row-is-requires c κs =
     let s = c .before .before .before .before .before .before .before .before .before .before in
     let g = s .args in
-    near-is-args (g .labels .now) (g .nums .now) (g .inner .now) (g .s) (g .k) (g .bytes .now) (g .v) (s .pre)
-    (c .before .before .before .near-base .result) (c .before .before .near-step .result) (c .before .before .before .near-base .ensures) (c .before .before .near-step .ensures)
+    let nb = c .before .before .before .near-base in
+    let ns = c .before .before .near-step in
+    near-is-args (g .labels .now) (g .nums .now) (g .inner .now) (g .s) (g .k) (g .bytes .now)
+    (g .v) (s .pre) (nb .result) (ns .result) (nb .ensures) (ns .ensures)
 
 returns : tie.Need-returns
 returns c =
     let s = c .before .before .before .before .before .before .before .before .before .before .before in
     let g = s .args in
-    c .near-row-is .ensures ∙ near-is-row (g .labels .now) (g .nums .now) (g .inner .now) (g .s) (g .k) (g .bytes .now) (g .v) (s .pre)
-    (c .before .before .before .before .near-base .result) (c .before .before .before .near-step .result) (c .before .before .before .before .near-base .ensures) (c .before .before .before .near-step .ensures) (c .before .if1 .taken)
+    let nb = c .before .before .before .before .near-base in
+    let ns = c .before .before .before .near-step in
+    c .near-row-is .ensures ∙ near-is-row (g .labels .now) (g .nums .now) (g .inner .now) (g .s) (g .k) (g .bytes .now)
+    (g .v) (s .pre) (nb .result) (ns .result) (nb .ensures) (ns .ensures) (c .before .if1 .taken)
 
 mul-far-row-is : tie.Need-mul-far-row-is
 mul-far-row-is c = search needs
@@ -91,15 +95,19 @@ far-row-is-requires : tie.Need-far-row-is-requires
 far-row-is-requires c κs =
     let s = c .before .before .before .before .before .before .before .before .before .before .before in
     let g = s .args in
-    far-is-args (g .labels .now) (g .nums .now) (g .inner .now) (g .s) (g .k) (g .bytes .now) (g .v) (s .pre)
-    (c .before .before .before .before .near-base .result) (c .before .before .before .near-step .result) (c .before .before .before .before .near-base .ensures) (c .before .before .before .near-step .ensures)
+    let nb = c .before .before .before .before .near-base in
+    let ns = c .before .before .before .near-step in
+    far-is-args (g .labels .now) (g .nums .now) (g .inner .now) (g .s) (g .k) (g .bytes .now)
+    (g .v) (s .pre) (nb .result) (ns .result) (nb .ensures) (ns .ensures)
 
 returns-2 : tie.Need-returns-2
 returns-2 c =
     let s = c .before .before .before .before .before .before .before .before .before .before .before .before in
     let g = s .args in
-    c .far-row-is .ensures ∙ far-is-row (g .labels .now) (g .nums .now) (g .inner .now) (g .s) (g .k) (g .bytes .now) (g .v) (s .pre)
-    (c .before .before .before .before .before .near-base .result) (c .before .before .before .before .near-step .result) (c .before .before .before .before .before .near-base .ensures) (c .before .before .before .before .near-step .ensures) (c .before .before .if1 .left)
+    let nb = c .before .before .before .before .before .near-base in
+    let ns = c .before .before .before .before .near-step in
+    c .far-row-is .ensures ∙ far-is-row (g .labels .now) (g .nums .now) (g .inner .now) (g .s) (g .k) (g .bytes .now)
+    (g .v) (s .pre) (nb .result) (ns .result) (nb .ensures) (ns .ensures) (c .before .before .if1 .left)
 
 pub map-is-spec : {M : Type 1} → statement M
 map-is-spec =

@@ -34,8 +34,8 @@ place-in c =
 written : (c : tie.Joined1 Inv-loop μ-loop)
     → (let a = c .before .before .before .before in
     let g = a .before .before .before .before .before .before .before .args in
-    Runs (g .s) (g .k) (g .leaves .now) (g .inner .now) (g .kinds .now) (g .labels .now) (a .loop .v + 1) (g .bytes .now)
-    (set (g .bytes .now) (a .loop .v * (g .s + 1)) (c .if1 .x)))
+    Runs (g .s) (g .k) (g .leaves .now) (g .inner .now) (g .kinds .now) (g .labels .now) (a .loop .v + 1)
+    (g .bytes .now) (set (g .bytes .now) (a .loop .v * (g .s + 1)) (c .if1 .x)))
 written c =
     let a = c .before .before .before .before in
     let s = a .before .before .before .before .before .before .before in
@@ -44,7 +44,8 @@ written c =
     elim (c .if1 .came) [
       | inl w ↦ rw (w .2) (leaf-states (g .s) (g .k) (g .leaves .now) (g .inner .now) (g .kinds .now) (g .labels .now)
           (a .loop .v) (g .nums .now) (g .bytes .now) (g .bytes .now) (a .loop .inv .2) (s .pre) refl l (w .0 .taken))
-      | inr w ↦ rw (w .2 ∙ w .1 .ensures) (inner-states (g .s) (g .k) (g .leaves .now) (g .inner .now) (g .kinds .now) (g .labels .now)
+      | inr w ↦ rw (w .2 ∙ w .1 .ensures)
+          (inner-states (g .s) (g .k) (g .leaves .now) (g .inner .now) (g .kinds .now) (g .labels .now)
           (a .loop .v) (g .nums .now) (g .bytes .now) (g .bytes .now) (a .loop .inv .2) (s .pre) refl l (w .0 .left))
     ]
 
@@ -53,8 +54,11 @@ add-w c = search needs
 
 loop-holds : tie.Need-loop-holds Inv-loop μ-loop
 loop-holds c =
-    let g = c .before .before .before .before .before .before .args in
-    (omega arith, refl, states-start (g .s) (g .k) (g .leaves .now) (g .inner .now) (g .kinds .now) (g .labels .now) (g .bytes .now))
+    let g = c .before .before .before .before .before .before .args in (
+      omega arith,
+      refl,
+      states-start (g .s) (g .k) (g .leaves .now) (g .inner .now) (g .kinds .now) (g .labels .now) (g .bytes .now),
+    )
 
 shared-slice-read-a : tie.Need-shared-slice-read-a Inv-loop μ-loop
 shared-slice-read-a c = search needs

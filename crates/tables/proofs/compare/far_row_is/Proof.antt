@@ -1,4 +1,4 @@
--- `tables::compare::far_row_is` meets its contract. The loop's invariant: the flag is the comparison of the entries passed.
+-- `compare::far_row_is` meets its contract. The loop's invariant: the flag compares the entries passed.
 -- Assumes nothing.
 use Prim.Native.Nat.{ℕ, _≤_, _-_}
 use mathlib.Core.Path.{_≡_, refl, _∙_}
@@ -51,33 +51,41 @@ shared-slice-read-x : tie.Need-shared-slice-read-x Inv-loop μ-loop
 shared-slice-read-x c = search needs
 
 mul-near : tie.Need-mul-near Inv-loop μ-loop
-mul-near c = omega (arith, c .before .before .before .pre .inside (c .before .before .loop .q) (c .before .loop-test .taken))
+mul-near c =
+    omega (arith, c .before .before .before .pre .inside (c .before .before .loop .q) (c .before .loop-test .taken))
 
 add-near : tie.Need-add-near Inv-loop μ-loop
-add-near c = omega (arith, c .before .before .before .pre .inside (c .before .before .loop .q) (c .before .loop-test .taken))
+add-near c =
+    omega (arith, c .before .before .before .pre .inside (c .before .before .loop .q) (c .before .loop-test .taken))
 
 shared-slice-read-near : tie.Need-shared-slice-read-near Inv-loop μ-loop
-shared-slice-read-near c = c .before .before .before .before .pre .inside (c .before .before .before .loop .q) (c .before .before .loop-test .taken)
+shared-slice-read-near c =
+    c .before .before .before .before .pre .inside
+    (c .before .before .before .loop .q) (c .before .before .loop-test .taken)
 
 cast-near : tie.Need-cast-near Inv-loop μ-loop
 cast-near c =
     let s = c .before .before .before .before in
-    omega (arith, s .pre .near-below (c .before .before .before .loop .q) (c .before .before .loop-test .taken), s .pre .first)
+    let h = c .before .before .loop-test .taken in
+    omega (arith, s .pre .near-below (c .before .before .before .loop .q) h, s .pre .first)
 
 add-next : tie.Need-add-next Inv-loop μ-loop
 add-next c =
     let s = c .before .before .before .before in
-    omega (arith, s .pre .near-below (c .before .before .before .loop .q) (c .before .before .loop-test .taken), s .pre .first)
+    let h = c .before .before .loop-test .taken in
+    omega (arith, s .pre .near-below (c .before .before .before .loop .q) h, s .pre .first)
 
 add-next-2 : tie.Need-add-next-2 Inv-loop μ-loop
 add-next-2 c =
     let s = c .before .before .before .before in
-    omega (arith, s .pre .near-below (c .before .before .before .loop .q) (c .before .before .loop-test .taken), s .pre .first)
+    let h = c .before .before .loop-test .taken in
+    omega (arith, s .pre .near-below (c .before .before .before .loop .q) h, s .pre .first)
 
 shared-slice-read-next : tie.Need-shared-slice-read-next Inv-loop μ-loop
 shared-slice-read-next c =
     let s = c .before .before .before .before .before in
-    omega (arith, s .pre .near-below (c .before .before .before .before .loop .q) (c .before .before .before .loop-test .taken), s .pre .first)
+    let h = c .before .before .before .loop-test .taken in
+    omega (arith, s .pre .near-below (c .before .before .before .before .loop .q) h, s .pre .first)
 
 cast-next : tie.Need-cast-next Inv-loop μ-loop
 cast-next c =

@@ -1,4 +1,4 @@
--- `tables::compare::near_row_is` meets its contract. The loop's invariant: the flag is the comparison of the entries passed.
+-- `compare::near_row_is` meets its contract. The loop's invariant: the flag compares the entries passed.
 -- Assumes nothing.
 use Prim.Native.Nat.{ℕ, _≤_, _-_}
 use mathlib.Core.Path.{_≡_, refl, _∙_}
@@ -48,7 +48,8 @@ add-y c =
 
 shared-slice-read-y : tie.Need-shared-slice-read-y Inv-loop μ-loop
 shared-slice-read-y c =
-    c .before .before .before .before .pre .inside (c .before .before .before .loop .q) (c .before .before .loop-test .taken)
+    c .before .before .before .before .pre .inside
+    (c .before .before .before .loop .q) (c .before .before .loop-test .taken)
 
 add-q : tie.Need-add-q Inv-loop μ-loop
 add-q c = search needs

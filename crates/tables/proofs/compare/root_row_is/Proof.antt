@@ -1,4 +1,4 @@
--- `tables::compare::root_row_is` meets its contract. The loop's invariant: the flag is the comparison of the entries passed.
+-- `compare::root_row_is` meets its contract. The loop's invariant: the flag compares the entries passed.
 -- Assumes nothing.
 use Prim.Native.Nat.{_≤_, _+_, _-_, _*_}
 use mathlib.Core.Path.{_≡_, refl, _∙_}
@@ -56,7 +56,8 @@ loop-again c =
       omega arith,
       elim (c .if1 .came) [
         | inl w ↦ w .1 ∙ every-other (l .q) (mapCell (a .s) (a .bytes .now) (a .v)) (λ x. x) (w .0 .taken)
-        | inr w ↦ w .1 ∙ every-same (l .q) (mapCell (a .s) (a .bytes .now) (a .v)) (λ x. x) (l .same) (l .inv .1) (w .0 .left)
+        | inr w ↦ w .1
+            ∙ every-same (l .q) (mapCell (a .s) (a .bytes .now) (a .v)) (λ x. x) (l .same) (l .inv .1) (w .0 .left)
       ],
     )
 

@@ -65,7 +65,8 @@ returns : tie.Need-returns
 returns c =
     let r = c .before .before in
     let s = r .before .before .before .before .before .before .before .before in
-    far-done (s .args .nums .now) (s .args .s) (s .args .bytes .now) (s .args .v) (r .far-row .last .0) (r .before .before .before .if1 .taken) (r .far-row .ensures)
+    far-done (s .args .nums .now) (s .args .s) (s .args .bytes .now) (s .args .v) (r .far-row .last .0)
+    (r .before .before .before .if1 .taken) (r .far-row .ensures)
 
 returns-2 : tie.Need-returns-2
 returns-2 c =

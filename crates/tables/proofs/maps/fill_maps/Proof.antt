@@ -1,5 +1,5 @@
--- `maps::fill_maps` meets its contract. The loop's invariant: whatever buffer e the root's map was written over, the nodes from v on
--- have their maps, and no byte outside the maps is changed.
+-- `maps::fill_maps` meets its contract. The loop's invariant: whatever buffer e the root's map was written over, the
+-- nodes from v on have their maps, and no byte outside the maps is changed.
 -- Assumes nothing.
 use Prim.Native.Nat.{ℕ, _+_, _-_, _*_, _≤_, _<_}
 use mathlib.Core.Path.{_≡_, refl, subst}
@@ -33,23 +33,37 @@ mapped c =
     let s = r .before .before .before .before .before .before in
     let n : ℕ = length (s .args .labels .now) in
     c .loop .inv .2 (s .args .bytes .now)
-    (maps-start (s .args .labels .now) (s .args .nums .now) (s .args .inner .now) (s .args .s) (s .args .k) (s .args .bytes .now)
-    (r .same-row .last .0) (n - 1) (omega (arith, map-some (s .args .labels .now) (s .args .nums .now) (s .args .inner .now) (s .args .s) (s .args .k) (s .args .bytes .now) (s .pre))) (r .same-row .ensures))
+    (maps-start (s .args .labels .now) (s .args .nums .now) (s .args .inner .now) (s .args .s) (s .args .k)
+    (s .args .bytes .now)
+    (r .same-row .last .0) (n - 1) (omega (
+      arith,
+      map-some (s .args .labels .now) (s .args .nums .now)
+          (s .args .inner .now) (s .args .s) (s .args .k) (s .args .bytes .now) (s .pre),
+    )) (r .same-row .ensures))
 
 sub-v : tie.Need-sub-v Inv-loop μ-loop
 sub-v c =
     let s = c .before .before .before .before in
-    map-some (s .args .labels .now) (s .args .nums .now) (s .args .inner .now) (s .args .s) (s .args .k) (s .args .bytes .now) (s .pre)
+    map-some (s .args .labels .now) (s .args .nums .now) (s .args .inner .now) (s .args .s) (s .args .k)
+    (s .args .bytes .now) (s .pre)
 
 same-row-requires : tie.Need-same-row-requires Inv-loop μ-loop
 same-row-requires c κs =
     let s = c .before .before .before .before .before in
-    root-args (s .args .labels .now) (s .args .nums .now) (s .args .inner .now) (s .args .s) (s .args .k) (s .args .bytes .now) (s .pre)
+    root-args (s .args .labels .now) (s .args .nums .now) (s .args .inner .now) (s .args .s) (s .args .k)
+    (s .args .bytes .now) (s .pre)
 
 loop-holds : tie.Need-loop-holds Inv-loop μ-loop
 loop-holds c =
-    let s = c .before .before .before .before .before .before .before .before in
-    (omega (arith, map-some (s .args .labels .now) (s .args .nums .now) (s .args .inner .now) (s .args .s) (s .args .k) (s .args .bytes .now) (s .pre)), refl, λ e m. m)
+    let s = c .before .before .before .before .before .before .before .before in (
+      omega (
+        arith,
+        map-some (s .args .labels .now) (s .args .nums .now) (s .args .inner .now) (s .args .s) (s .args .k)
+            (s .args .bytes .now) (s .pre),
+      ),
+      refl,
+      λ e m. m,
+    )
 
 sub-v-2 : tie.Need-sub-v-2 Inv-loop μ-loop
 sub-v-2 c = search needs
@@ -60,8 +74,10 @@ fill-map-requires c κs =
     let s = a .before .before .before .before .before .before .before .before .before in
     let v : ℕ = a .loop .v in
     let e : v ≡ v - 1 + 1 = omega arith in
-    fill-args (s .args .labels .now) (s .args .nums .now) (s .args .inner .now) (s .args .s) (s .args .k) (s .args .bytes .now) (a .loop .bytes) (v - 1) (s .pre) (omega arith) (omega arith)
-    (subst (λ (i : ℕ). Maps (s .args .labels .now) (s .args .nums .now) (s .args .inner .now) (s .args .s) (s .args .k) i (s .args .bytes .now) (a .loop .bytes)) e
+    fill-args (s .args .labels .now) (s .args .nums .now) (s .args .inner .now) (s .args .s) (s .args .k)
+    (s .args .bytes .now) (a .loop .bytes) (v - 1) (s .pre) (omega arith) (omega arith)
+    (subst (λ (i : ℕ). Maps (s .args .labels .now) (s .args .nums .now) (s .args .inner .now) (s .args .s) (s .args .k)
+    i (s .args .bytes .now) (a .loop .bytes)) e
     (mapped a) (s .pre .leaves) [] (s .pre .tree) (s .pre .prepared))
 
 loop-less : tie.Need-loop-less Inv-loop μ-loop
@@ -77,9 +93,11 @@ loop-again c =
       omega arith,
       omega arith,
       λ e m.
-          maps-turn (s .args .labels .now) (s .args .nums .now) (s .args .inner .now) (s .args .s) (s .args .k) e (a .loop .bytes) (v - 1)
+          maps-turn (s .args .labels .now) (s .args .nums .now) (s .args .inner .now) (s .args .s) (s .args .k) e
+          (a .loop .bytes) (v - 1)
           (f .fill-map .last .1 .1 .1 .1 .1 .1 .0) (s .pre .rules .inner-below) (omega arith)
-          (subst (λ (i : ℕ). Maps (s .args .labels .now) (s .args .nums .now) (s .args .inner .now) (s .args .s) (s .args .k) i e (a .loop .bytes)) z
+          (subst (λ (i : ℕ). Maps (s .args .labels .now) (s .args .nums .now) (s .args .inner .now) (s .args .s)
+          (s .args .k) i e (a .loop .bytes)) z
           (a .loop .inv .2 e m)) (f .fill-map .ensures),
     )
 
@@ -91,7 +109,8 @@ returns c =
     let a = c .before in
     let s = a .before .before .before .before .before .before .before .before .before in
     let z : a .loop .v ≡ 0 = omega arith in
-    subst (λ (i : ℕ). Maps (s .args .labels .now) (s .args .nums .now) (s .args .inner .now) (s .args .s) (s .args .k) i (s .args .bytes .now) (a .loop .bytes)) z
+    subst (λ (i : ℕ). Maps (s .args .labels .now) (s .args .nums .now) (s .args .inner .now) (s .args .s) (s .args .k) i
+    (s .args .bytes .now) (a .loop .bytes)) z
     (mapped a)
 
 pub fill-maps-spec : {M : Type 1} → statement M

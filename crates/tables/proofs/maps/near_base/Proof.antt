@@ -17,25 +17,29 @@ left-in : (c : tie.Then1)
     < length (c .before .args .bytes .now)
 left-in c =
     let s = c .before in
-    state-place (s .args .s) (s .args .v - sizeCell (s .args .nums .now) (s .args .v)) (s .args .p) (length (s .args .bytes .now))
+    state-place (s .args .s) (s .args .v - sizeCell (s .args .nums .now) (s .args .v)) (s .args .p)
+    (length (s .args .bytes .now))
     (omega (arith, s .pre .above)) (s .pre .room)
 
 left-small : (c : tie.After-shared-slice-known2)
     → Small (c .before .before .before .args .s) (c .before .before .before .args .k)
     (stateCell (c .before .before .before .args .s) (c .before .before .before .args .bytes .now)
-    (c .before .before .before .args .v - sizeCell (c .before .before .before .args .nums .now) (c .before .before .before .args .v)))
+    (c .before .before .before .args .v - sizeCell (c .before .before .before .args .nums .now)
+    (c .before .before .before .args .v)))
     (c .before .before .before .args .a)
 left-small c =
     let s = c .before .before .before in
     let u : ℕ = s .args .v - sizeCell (s .args .nums .now) (s .args .v) in
-    small (s .args .s) (s .args .k) (stateCell (s .args .s) (s .args .bytes .now) u) (s .args .a) (s .pre .few) (s .pre .labels) (s .pre .label)
+    small (s .args .s) (s .args .k) (stateCell (s .args .s) (s .args .bytes .now) u) (s .args .a) (s .pre .few)
+    (s .pre .labels) (s .pre .label)
     (omega (arith, c .shared-slice-known2 .given (u * (s .args .s + 1))))
 
 -- the right sibling's
 right-in : (c : tie.Else1) → (c .before .args .p - 1) * (c .before .args .s + 1) < length (c .before .args .bytes .now)
 right-in c =
     let s = c .before in
-    state-place (s .args .s) (s .args .p - 1) (s .args .p) (length (s .args .bytes .now)) (omega (arith, s .pre .above)) (s .pre .room)
+    state-place (s .args .s) (s .args .p - 1) (s .args .p) (length (s .args .bytes .now)) (omega (arith, s .pre .above))
+    (s .pre .room)
 
 right-small : (c : tie.Else1) → Small (c .before .args .s) (c .before .args .k) 0 (c .before .args .a)
 right-small c =
@@ -73,7 +77,11 @@ shared-slice-read-result : tie.Need-shared-slice-read-result
 shared-slice-read-result c = left-in (c .before .before)
 
 cast-result : tie.Need-cast-result
-cast-result c = let s = c .before .before .before in omega (arith, c .shared-slice-known2 .given ((s .args .v - sizeCell (s .args .nums .now) (s .args .v)) * (s .args .s + 1)))
+cast-result c = let s = c .before .before .before in omega (
+  arith,
+  c .shared-slice-known2 .given ((s .args .v - sizeCell (s .args .nums .now) (s .args .v)) *
+      (s .args .s + 1)),
+)
 
 mul-result-2 : tie.Need-mul-result-2
 mul-result-2 c = omega (arith, left-small c .product)
@@ -100,10 +108,19 @@ shared-slice-read-result-2 : tie.Need-shared-slice-read-result-2
 shared-slice-read-result-2 c = right-in (c .before)
 
 cast-result-2 : tie.Need-cast-result-2
-cast-result-2 c = let s = c .before .before in omega (arith, c .shared-slice-known3 .given ((s .args .p - 1) * (s .args .s + 1)))
+cast-result-2 c = let s = c .before .before in omega (
+  arith,
+  c .shared-slice-known3 .given
+      ((s .args .p - 1) * (s .args .s + 1)),
+)
 
 add-result-2 : tie.Need-add-result-2
-add-result-2 c = let s = c .before .before in omega (arith, c .shared-slice-known3 .given ((s .args .p - 1) * (s .args .s + 1)), right-small (c .before) .label)
+add-result-2 c = let s = c .before .before in omega (
+  arith,
+  c .shared-slice-known3 .given
+      ((s .args .p - 1) * (s .args .s + 1)),
+  right-small (c .before) .label,
+)
 
 returns-2 : tie.Need-returns-2
 returns-2 c = rw (ne-eqb _ _ (c .before .if1 .left))

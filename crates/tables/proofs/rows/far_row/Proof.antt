@@ -1,4 +1,5 @@
--- `rows::far_row` meets its contract. The loop's invariant: the first q bytes of the map are composed, no other byte is changed.
+-- `rows::far_row` meets its contract. The loop's invariant: the first q bytes of the map are composed, no other byte
+-- is changed.
 -- Assumes nothing.
 use Prim.Native.Nat.{ℕ, _+_, _-_, _*_, _≤_, _<_}
 use mathlib.Core.Path.{_≡_, refl, subst}
@@ -18,17 +19,22 @@ abbrev μ-loop : tie.MeasureT-loop
 μ-loop bytes₀ s v p j at near far q₀ bytes q = s - q
 
 -- what a turn reads
-here : (c : tie.In-loop Inv-loop μ-loop) → placed (c .before .before .args .s) (c .before .loop .bytes) (c .before .before .args .v) (c .before .loop .q) < c .before .before .args .s
+here : (c : tie.In-loop Inv-loop μ-loop) → placed (c .before .before .args .s) (c .before .loop .bytes)
+    (c .before .before .args .v) (c .before .loop .q) < c .before .before .args .s
 here c =
     let a = c .before in
     let s = a .before in
-    far-here-below (s .args .s) (s .args .v) (s .args .p) (s .args .j) (a .loop .q) (s .args .bytes .now) (a .loop .bytes) (a .loop .inv .2) (s .pre) (c .loop-test .taken)
+    far-here-below (s .args .s) (s .args .v) (s .args .p) (s .args .j) (a .loop .q) (s .args .bytes .now)
+    (a .loop .bytes) (a .loop .inv .2) (s .pre) (c .loop-test .taken)
 
-near : (c : tie.In-loop Inv-loop μ-loop) → placed (c .before .before .args .s) (c .before .loop .bytes) (c .before .before .args .p) (placed (c .before .before .args .s) (c .before .loop .bytes) (c .before .before .args .v) (c .before .loop .q)) < c .before .before .args .s
+near : (c : tie.In-loop Inv-loop μ-loop) → placed (c .before .before .args .s) (c .before .loop .bytes)
+    (c .before .before .args .p) (placed (c .before .before .args .s) (c .before .loop .bytes)
+    (c .before .before .args .v) (c .before .loop .q)) < c .before .before .args .s
 near c =
     let a = c .before in
     let s = a .before in
-    far-near-below (s .args .s) (s .args .v) (s .args .p) (s .args .j) (a .loop .q) (s .args .bytes .now) (a .loop .bytes) (a .loop .inv .2) (s .pre) (c .loop-test .taken)
+    far-near-below (s .args .s) (s .args .v) (s .args .p) (s .args .j) (a .loop .q) (s .args .bytes .now)
+    (a .loop .bytes) (a .loop .inv .2) (s .pre) (c .loop-test .taken)
 
 add-at : tie.Need-add-at Inv-loop μ-loop
 add-at c = search needs
@@ -73,7 +79,12 @@ add-y : tie.Need-add-y Inv-loop μ-loop
 add-y c = omega (arith, here (c .before), c .before .before .before .pre .near-room)
 
 slice-read-y : tie.Need-slice-read-y Inv-loop μ-loop
-slice-read-y c = omega (arith, here (c .before .before), c .before .before .before .before .pre .near-room, c .before .before .before .loop .inv .1)
+slice-read-y c = omega (
+  arith,
+  here (c .before .before),
+  c .before .before .before .before .pre .near-room,
+  c .before .before .before .loop .inv .1,
+)
 
 cast-y : tie.Need-cast-y Inv-loop μ-loop
 cast-y c = omega (arith, near (c .before .before))
@@ -82,7 +93,12 @@ add-bytes : tie.Need-add-bytes Inv-loop μ-loop
 add-bytes c = omega (arith, near (c .before .before), c .before .before .before .before .pre .far-room)
 
 slice-read-bytes : tie.Need-slice-read-bytes Inv-loop μ-loop
-slice-read-bytes c = omega (arith, near (c .before .before .before), c .before .before .before .before .before .pre .far-room, c .before .before .before .before .loop .inv .1)
+slice-read-bytes c = omega (
+  arith,
+  near (c .before .before .before),
+  c .before .before .before .before .before .pre .far-room,
+  c .before .before .before .before .loop .inv .1,
+)
 
 add-bytes-2 : tie.Need-add-bytes-2 Inv-loop μ-loop
 add-bytes-2 c = search needs
@@ -103,9 +119,11 @@ loop-again c =
     let l = c .before .before .before .loop-test .taken in (
       omega arith,
       simp length-set (a .loop .inv .1),
-      row-turn (s .args .s) (farCell (s .args .s) (s .args .bytes .now) (s .args .v) (s .args .p) (s .args .j)) (s .args .v) (a .loop .q) (s .args .bytes .now) (a .loop .bytes)
+      row-turn (s .args .s) (farCell (s .args .s) (s .args .bytes .now) (s .args .v) (s .args .p) (s .args .j))
+          (s .args .v) (a .loop .q) (s .args .bytes .now) (a .loop .bytes)
           (a .loop .inv .2) (s .args .v * (s .args .s + 1) + 1 + a .loop .q) _ (omega arith) (omega arith)
-          (far-is (s .args .s) (s .args .v) (s .args .p) (s .args .j) (a .loop .q) (s .args .bytes .now) (a .loop .bytes) (a .loop .inv .2) (s .pre) l),
+          (far-is (s .args .s) (s .args .v) (s .args .p) (s .args .j) (a .loop .q) (s .args .bytes .now)
+          (a .loop .bytes) (a .loop .inv .2) (s .pre) l),
     )
 
 same-length : tie.Need-same-length Inv-loop μ-loop
@@ -116,7 +134,8 @@ returns c =
     let a = c .before in
     let s = a .before in
     let e : a .loop .q ≡ s .args .s = omega arith in
-    subst (λ (i : ℕ). RowTo (s .args .s) (farCell (s .args .s) (s .args .bytes .now) (s .args .v) (s .args .p) (s .args .j)) (s .args .v) i (s .args .bytes .now) (a .loop .bytes)) e (a .loop .inv .2)
+    subst (λ (i : ℕ). RowTo (s .args .s) (farCell (s .args .s) (s .args .bytes .now) (s .args .v) (s .args .p)
+    (s .args .j)) (s .args .v) i (s .args .bytes .now) (a .loop .bytes)) e (a .loop .inv .2)
 
 pub far-row-spec : {M : Type 1} → statement M
 far-row-spec =

@@ -1,4 +1,5 @@
--- `rows::near_row` meets its contract. The loop's invariant: the first q bytes of the map are the table's, no other byte is changed.
+-- `rows::near_row` meets its contract. The loop's invariant: the first q bytes of the map are the table's, no other
+-- byte is changed.
 -- Assumes nothing.
 use Prim.Native.Nat.{ℕ, _+_, _-_, _*_, _≤_, _<_}
 use mathlib.Core.Path.{_≡_, refl, subst}
@@ -36,7 +37,8 @@ add-bytes : tie.Need-add-bytes Inv-loop μ-loop
 add-bytes c = omega (arith, c .before .before .pre .inside (c .before .loop .q) (c .loop-test .taken))
 
 shared-slice-read-bytes : tie.Need-shared-slice-read-bytes Inv-loop μ-loop
-shared-slice-read-bytes c = c .before .before .before .pre .inside (c .before .before .loop .q) (c .before .loop-test .taken)
+shared-slice-read-bytes c = c .before .before .before .pre .inside (c .before .before .loop .q)
+    (c .before .loop-test .taken)
 
 add-bytes-2 : tie.Need-add-bytes-2 Inv-loop μ-loop
 add-bytes-2 c = search needs
@@ -57,7 +59,8 @@ loop-again c =
     let l = c .before .loop-test .taken in (
       omega arith,
       simp length-set (a .loop .inv .1),
-      row-turn (s .args .s) (λ x. getD (s .args .table .now) (s .args .base + x * s .args .stride) 0) (s .args .v) (a .loop .q) (s .args .bytes .now) (a .loop .bytes)
+      row-turn (s .args .s) (λ x. getD (s .args .table .now) (s .args .base + x * s .args .stride) 0) (s .args .v)
+          (a .loop .q) (s .args .bytes .now) (a .loop .bytes)
           (a .loop .inv .2) (s .args .v * (s .args .s + 1) + 1 + a .loop .q) _ (omega arith) (omega arith) refl,
     )
 
@@ -69,7 +72,8 @@ returns c =
     let a = c .before in
     let s = a .before in
     let e : a .loop .q ≡ s .args .s = omega arith in
-    subst (λ (i : ℕ). RowTo (s .args .s) (λ x. getD (s .args .table .now) (s .args .base + x * s .args .stride) 0) (s .args .v) i (s .args .bytes .now) (a .loop .bytes)) e (a .loop .inv .2)
+    subst (λ (i : ℕ). RowTo (s .args .s) (λ x. getD (s .args .table .now) (s .args .base + x * s .args .stride) 0)
+    (s .args .v) i (s .args .bytes .now) (a .loop .bytes)) e (a .loop .inv .2)
 
 pub near-row-spec : {M : Type 1} → statement M
 near-row-spec =

@@ -1,4 +1,5 @@
--- `rows::same_row` meets its contract. The loop's invariant: the first q bytes of the map are their own numbers, no other byte is changed.
+-- `rows::same_row` meets its contract. The loop's invariant: the first q bytes of the map are their own numbers, no
+-- other byte is changed.
 -- Assumes nothing.
 use Prim.Native.Nat.{ℕ, _+_, _-_, _*_, _≤_, _<_}
 use mathlib.Core.Path.{_≡_, refl, subst}
@@ -63,7 +64,8 @@ returns c =
     let a = c .before in
     let s = a .before in
     let e : a .loop .q ≡ s .args .s = omega arith in
-    subst (λ (i : ℕ). RowTo (s .args .s) (λ x. x) (s .args .v) i (s .args .bytes .now) (a .loop .bytes)) e (a .loop .inv .2)
+    subst (λ (i : ℕ). RowTo (s .args .s) (λ x. x) (s .args .v) i (s .args .bytes .now) (a .loop .bytes)) e
+    (a .loop .inv .2)
 
 pub same-row-spec : {M : Type 1} → statement M
 same-row-spec =

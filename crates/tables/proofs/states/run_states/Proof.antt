@@ -1,4 +1,5 @@
--- `states::run_states` meets its contract. The loop's invariant: the state bytes below v are the run's, no other byte is changed.
+-- `states::run_states` meets its contract. The loop's invariant: the state bytes below v are the run's, no other byte
+-- is changed.
 -- Assumes nothing.
 use Prim.Native.Nat.{ℕ, _+_, _-_, _*_, _≤_, _<_}
 use mathlib.Core.Path.{_≡_, refl, subst, _∙_}
@@ -14,17 +15,24 @@ use Rattle.tables.proofs.states.run_states.Tie as tie
 
 abbrev Inv-loop : tie.InvT-loop
 Inv-loop kinds labels nums leaves inner s k bytes₀ n w v₀ bytes v =
-    (v ≤ length kinds) × (length bytes ≡ length bytes₀) × (n ≡ length kinds) × Runs s k leaves inner kinds labels v bytes₀ bytes
+    (v ≤ length kinds) × (length bytes ≡ length bytes₀) × (n ≡ length kinds) × Runs s k leaves inner kinds labels v
+    bytes₀ bytes
 
 abbrev μ-loop : tie.MeasureT-loop
 μ-loop kinds labels nums leaves inner s k bytes₀ n w v₀ bytes v = n - v
 
 -- the place of the state byte that a turn writes
-place-in : (c : tie.In-loop Inv-loop μ-loop) → c .before .loop .v * (c .before .before .before .before .before .before .before .before .args .s + 1) < length (c .before .loop .bytes)
+place-in : (c : tie.In-loop Inv-loop μ-loop) → c .before .loop .v *
+    (c .before .before .before .before .before .before .before .before .args .s + 1) < length (c .before .loop .bytes)
 place-in c =
     let a = c .before in
     let s = a .before .before .before .before .before .before .before in
-    omega (arith, stride (s .args .s + 1) (a .loop .v) (length (s .args .kinds .now)) (c .loop-test .taken), s .pre .room, a .loop .inv .1)
+    omega (
+      arith,
+      stride (s .args .s + 1) (a .loop .v) (length (s .args .kinds .now)) (c .loop-test .taken),
+      s .pre .room,
+      a .loop .inv .1,
+    )
 
 add-w : tie.Need-add-w Inv-loop μ-loop
 add-w c = search needs
@@ -51,8 +59,10 @@ inner-state-requires : tie.Need-inner-state-requires Inv-loop μ-loop
 inner-state-requires c κs =
     let a = c .before .before .before .before .before in
     let s = a .before .before .before .before .before .before .before in
-    inner-args (s .args .s) (s .args .k) (s .args .leaves .now) (s .args .inner .now) (s .args .kinds .now) (s .args .labels .now)
-    (a .loop .v) (s .args .nums .now) (s .args .bytes .now) (a .loop .bytes) (a .loop .inv .3) (s .pre) (a .loop .inv .1) (c .before .before .before .before .loop-test .taken) (c .before .if1 .left)
+    inner-args (s .args .s) (s .args .k) (s .args .leaves .now) (s .args .inner .now) (s .args .kinds .now)
+    (s .args .labels .now)
+    (a .loop .v) (s .args .nums .now) (s .args .bytes .now) (a .loop .bytes) (a .loop .inv .3) (s .pre)
+    (a .loop .inv .1) (c .before .before .before .before .loop-test .taken) (c .before .if1 .left)
 
 mul-bytes : tie.Need-mul-bytes Inv-loop μ-loop
 mul-bytes c = omega (arith, place-in (c .before .before .before))
@@ -75,10 +85,14 @@ loop-again c =
       simp length-set (a .loop .inv .1),
       refl,
       ⊎-elim
-          (λ w. rw (w .2) (leaf-states (s .args .s) (s .args .k) (s .args .leaves .now) (s .args .inner .now) (s .args .kinds .now) (s .args .labels .now)
-          (a .loop .v) (s .args .nums .now) (s .args .bytes .now) (a .loop .bytes) (a .loop .inv .3) (s .pre) (a .loop .inv .1) l (w .0 .taken)))
-          (λ w. rw (w .3 ∙ w .2 .ensures) (inner-states (s .args .s) (s .args .k) (s .args .leaves .now) (s .args .inner .now) (s .args .kinds .now) (s .args .labels .now)
-          (a .loop .v) (s .args .nums .now) (s .args .bytes .now) (a .loop .bytes) (a .loop .inv .3) (s .pre) (a .loop .inv .1) l (w .0 .left)))
+          (λ w. rw (w .2) (leaf-states (s .args .s) (s .args .k) (s .args .leaves .now) (s .args .inner .now)
+          (s .args .kinds .now) (s .args .labels .now)
+          (a .loop .v) (s .args .nums .now) (s .args .bytes .now) (a .loop .bytes) (a .loop .inv .3) (s .pre)
+          (a .loop .inv .1) l (w .0 .taken)))
+          (λ w. rw (w .3 ∙ w .2 .ensures) (inner-states (s .args .s) (s .args .k) (s .args .leaves .now)
+          (s .args .inner .now) (s .args .kinds .now) (s .args .labels .now)
+          (a .loop .v) (s .args .nums .now) (s .args .bytes .now) (a .loop .bytes) (a .loop .inv .3) (s .pre)
+          (a .loop .inv .1) l (w .0 .left)))
           (c .if1 .came),
     )
 
@@ -90,7 +104,8 @@ returns c =
     let a = c .before in
     let s = a .before .before .before .before .before .before .before in
     let e : a .loop .v ≡ length (s .args .kinds .now) = omega arith in
-    subst (λ (i : ℕ). Runs (s .args .s) (s .args .k) (s .args .leaves .now) (s .args .inner .now) (s .args .kinds .now) (s .args .labels .now)
+    subst (λ (i : ℕ). Runs (s .args .s) (s .args .k) (s .args .leaves .now) (s .args .inner .now) (s .args .kinds .now)
+    (s .args .labels .now)
     i (s .args .bytes .now) (a .loop .bytes)) e (a .loop .inv .3)
 
 pub run-states-spec : {M : Type 1} → statement M

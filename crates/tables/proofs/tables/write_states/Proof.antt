@@ -13,7 +13,8 @@ fill-maps-requires : tie.Need-fill-maps-requires
 fill-maps-requires c κs =
     let r = c .before .before .before in
     let s = r .before .before .before .before .before .before .before .before in
-    map-args (s .args .kinds .now) (s .args .labels .now) (s .args .nums .now) (s .args .leaves .now) (s .args .inner .now) (s .args .s) (s .args .k)
+    map-args (s .args .kinds .now) (s .args .labels .now) (s .args .nums .now) (s .args .leaves .now)
+    (s .args .inner .now) (s .args .s) (s .args .k)
     (s .args .bytes .now) (r .run-states .last .1 .1 .1 .1 .1 .1 .1 .0) (s .pre) (r .run-states .ensures) (omega arith)
 
 same-length : tie.Need-same-length
@@ -24,7 +25,8 @@ returns c =
     let f = c .before .before in
     let r = f .before .before .before .before in
     let s = r .before .before .before .before .before .before .before .before in
-    states-over (s .args .kinds .now) (s .args .labels .now) (s .args .nums .now) (s .args .leaves .now) (s .args .inner .now) (s .args .s) (s .args .k)
+    states-over (s .args .kinds .now) (s .args .labels .now) (s .args .nums .now) (s .args .leaves .now)
+    (s .args .inner .now) (s .args .s) (s .args .k)
     (s .args .bytes .now) (r .run-states .last .1 .1 .1 .1 .1 .1 .1 .0) (s .pre) (r .run-states .ensures)
     (f .fill-maps .last .1 .1 .1 .1 .1 .0) (omega arith) (f .fill-maps .ensures)
 
