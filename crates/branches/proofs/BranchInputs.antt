@@ -3,10 +3,11 @@
 --     length-builtSteps          the length of the table of a branch table
 --     parts-filled               labels, kinds and steps, as parts, are what the writers need
 --     parts-written              what the writers leave is what the build has to write
+--     parts-told                 what the comparisons tell is what the full check has to tell
 -- Assumes nothing.
 use Prim.Native.Nat.{ℕ, _+_, _-_, _*_, _≤_}
 use mathlib.Core.Path.{_≡_, refl, sym, ap, _∙_}
-use mathlib.Core.Bool.{true}
+use mathlib.Core.Bool.{Bool, true}
 use mathlib.Core.List.{List, _++_}
 use native.Mathlib.Omega.{arith}
 use lib.ListN.{length, take, drop}
@@ -16,13 +17,15 @@ use Rattle.trees.specs.Tables.{linkTable, branchRow, branchTable}
 use Rattle.trees.proofs.RowLaws.{length-rows, length-branchRow}
 use Rattle.formats.specs.Bytes.{allBelow}
 use Rattle.formats.specs.Plan.{nodeCount, labelsIn, kindsIn, planTree}
-use Rattle.formats.specs.Rules.{stateCount, labelCount, branchSteps, branchMarks, branchAutomaton}
+use Rattle.formats.specs.Rules.{stateCount, labelCount, branchSteps, branchMarks, wordAutomaton, branchAutomaton}
 use Rattle.formats.specs.Checks.{firstNo, branchBuildChecks, linkLength, stateLength}
 use Rattle.formats.specs.Built.{builtLinks, builtSteps}
 use Rattle.formats.proofs.PlanLaws.{PlanPasses, length-labelsIn, kinds-planTree, labels-planTree, size-planTree, labels-part, kinds-part}
 use Rattle.formats.proofs.BranchLaws.{BranchPasses, length-branchSteps, step-below, steps-part}
 use Rattle.formats.proofs.InputLaws.{branch-build-passes, label-below}
 use Rattle.links.proofs.CellLaws.{length-linkTable}
+use Rattle.tables.specs.Answers.{sameTables}
+use Rattle.branches.specs.Told.{TablesTold}
 use Rattle.branches.specs.Filled.{FillArgs, TablesFilled, BranchFilled, PartArgs, BranchWritten}
 
 pub length-branchTable : (B : WordAutomaton) (t : Tree) → length (branchTable B t) ≡ size t * (B .states + 1)
@@ -75,6 +78,11 @@ filled-same : {st st′ : List ℕ} {s s′ k k′ : ℕ} (mk : List ℕ) (t : T
     → k ≡ k′ → TablesFilled st s k mk t nums bytes nums′ bytes′ → TablesFilled st′ s′ k′ mk t nums bytes nums′ bytes′
 filled-same mk t nums bytes nums′ bytes′ a b c F = rw (← a, ← b, ← c) F
 
+told-same : {st st′ : List ℕ} {s s′ k k′ : ℕ} (mk : List ℕ) (t : Tree) (nums b : List ℕ) (x : Bool) → st ≡ st′ → s ≡ s′ → k ≡ k′
+    → x ≡ sameTables (linkTable t) (branchTable (wordAutomaton s k st mk) t) nums b
+    → x ≡ sameTables (linkTable t) (branchTable (wordAutomaton s′ k′ st′ mk) t) nums b
+told-same mk t nums b x a d c F = rw (← a, ← d, ← c) F
+
 module _ (p r : List ℕ) (n s k l m : ℕ) (args : PartArgs p r n s k l m) where
   labels-is : take (12 + n - 12) (drop 12 p) ≡ labelsIn p
   labels-is = labels-part p n (args .nodes)
@@ -103,3 +111,12 @@ module _ (p r : List ℕ) (n s k l m : ℕ) (args : PartArgs p r n s k l m) wher
         links = G .links ∙ ap (λ (i : ℕ). builtLinks p ++ drop i nums) (sym (length-linkTable t));
         states = G .states ∙ ap (λ (i : ℕ). builtSteps p r ++ drop i bytes) (sym (length-branchTable (branchAutomaton r) t));
       }
+
+  pub parts-told : (nums b : List ℕ) (x : Bool)
+      → TablesTold (take (12 + n - 12) (drop 12 p)) (take (length p - (12 + n)) (drop (12 + n) p))
+      (take (16 + s * k - 16) (drop 16 r)) s k nums b x
+      → x ≡ sameTables (builtLinks p) (builtSteps p r) nums b
+  parts-told nums b x F =
+      let P : PlanPasses p = accepted p r l m (args .passed) .0 in
+      told-same (branchMarks r) (planTree p) nums b x steps-is (args .states) (args .labels)
+      (F (branchMarks r) (planTree p) (kinds-planTree p P ∙ sym kinds-is) (labels-planTree p P ∙ sym labels-is))

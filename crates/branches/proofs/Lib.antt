@@ -4,3 +4,4 @@ pub mod MapTurns
 pub mod FillLaws
 pub mod BranchInputs
 pub mod ToldTurns
+pub mod MatchLaws

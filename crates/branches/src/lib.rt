@@ -1,6 +1,7 @@
 // Branch tables: their build, their full check, and the branch question.
 pub mod answers;
 pub mod build;
+pub mod check;
 pub mod check_maps;
 pub mod check_steps;
 pub mod maps;

@@ -27,9 +27,9 @@ check-branch-build-requires c κs = search needs
 returns : tie.Need-returns
 returns c =
     let g = c .before .before .before .before .before .before .args in
-    rw (← c .before .check-branch-build .ensures)
-    (build-refused (builtLinks (g .plan .now)) (builtSteps (g .plan .now) (g .branch .now)) (g .nums .now) (g .bytes .now)
-    (c .before .check-branch-build .result) (c .if1 .taken))
+    let r = c .before .check-branch-build in
+    build-refused (builtLinks (g .plan .now)) (builtSteps (g .plan .now) (g .branch .now)) (g .nums .now) (g .bytes .now) _
+    (r .result) (r .ensures) (c .if1 .taken)
 
 read32-requires : tie.Need-read32-requires
 read32-requires c κs = omega (arith, accepts c .0 .long)
