@@ -20,11 +20,12 @@ use Rattle.formats.specs.Bytes.{le32, allBelow}
 use Rattle.formats.specs.Limits.{stateLimit, labelLimit, within}
 use Rattle.formats.specs.Rules.{stateCount, labelCount, branchLength, branchSteps, branchMarks}
 use Rattle.formats.specs.Checks.{firstNo, branchChecks}
+use Rattle.formats.specs.Leaves.{countsFit, branchShape, branchValues}
 use Rattle.formats.proofs.CheckLaws.{Numbered, and-both, and-left, and-right}
 use Rattle.formats.proofs.ListLaws.{allBelow-all}
 use Rattle.formats.proofs.PartLaws.{four, four-pass, pass-four, end-part, run-part, length-part}
 use Rattle.formats.proofs.PlanLaws.{within-low, within-high, is-within, same-left, same-both}
-use Rattle.formats.proofs.RuleLaws.{countsFit, counts-fit}
+use Rattle.formats.proofs.RuleLaws.{counts-fit}
 
 pub record BranchPasses (r : List ℕ) : Type 0 where
   pub long : 16 ≤ length r
@@ -40,26 +41,21 @@ pub record BranchPasses (r : List ℕ) : Type 0 where
 
 -- ---- the checks
 
--- check 8 as a test, from its last part
-abbrev pub branchEnd : List ℕ → Bool
+-- the last parts of check 8
+abbrev branchEnd : List ℕ → Bool
 branchEnd r = eqb (length r) (branchLength (stateCount r) (labelCount r))
 
-abbrev pub branchMarksAt : List ℕ → Bool
+abbrev branchMarksAt : List ℕ → Bool
 branchMarksAt r = eqb (le32 r 12) (16 + stateCount r * labelCount r) && branchEnd r
-
-abbrev pub branchShape : List ℕ → Bool
-branchShape r = eqb (le32 r 8) 16 && branchMarksAt r
-
--- check 9 as a test
-abbrev pub branchValues : List ℕ → Bool
-branchValues r = allBelow (stateCount r) (branchSteps r) && allBelow 2 (branchMarks r)
 
 module _ (r : List ℕ) where
   pub branch-passes : firstNo (branchChecks r) ≡ 0 → BranchPasses r
   unfolding branchChecks
   branch-passes e =
-      let q : (leb 16 (length r) ≡ true) × (countsFit r ≡ true) × (branchShape r ≡ true) × (branchValues r ≡ true) =
-      four-pass 5 6 7 8 (leb 16 (length r)) (countsFit r) (branchShape r) (branchValues r) e in
+      let q : (leb 16 (length r) ≡ true) × (countsFit (stateCount r) (labelCount r) ≡ true) × (branchShape r (stateCount r) (labelCount r) ≡ true)
+      × (branchValues r (stateCount r) (labelCount r) ≡ true) =
+      four-pass 5 6 7 8 (leb 16 (length r)) (countsFit (stateCount r) (labelCount r)) (branchShape r (stateCount r) (labelCount r))
+      (branchValues r (stateCount r) (labelCount r)) e in
       let s : within 1 stateLimit (stateCount r) ≡ true = and-left (within 1 stateLimit (stateCount r)) (within 1 labelLimit (labelCount r)) (q .1) in
       let k : within 1 labelLimit (labelCount r) ≡ true = and-right (within 1 stateLimit (stateCount r)) (within 1 labelLimit (labelCount r)) (q .1) in
       let marks : branchMarksAt r ≡ true = and-right (eqb (le32 r 8) 16) (branchMarksAt r) (q .2) in
@@ -78,7 +74,7 @@ module _ (r : List ℕ) where
       }
 
   pub branch-shape : le32 r 8 ≡ 16 → le32 r 12 ≡ 16 + stateCount r * labelCount r → length r ≡ branchLength (stateCount r) (labelCount r)
-      → branchShape r ≡ true
+      → branchShape r (stateCount r) (labelCount r) ≡ true
   branch-shape a b c =
       same-both (le32 r 8) 16 (branchMarksAt r) a
       (same-both (le32 r 12) (16 + stateCount r * labelCount r) (branchEnd r) b
@@ -87,9 +83,10 @@ module _ (r : List ℕ) where
   pub passes-branch : BranchPasses r → firstNo (branchChecks r) ≡ 0
   unfolding branchChecks
   passes-branch h =
-      pass-four 5 6 7 8 (leb 16 (length r)) (countsFit r) (branchShape r) (branchValues r)
+      pass-four 5 6 7 8 (leb 16 (length r)) (countsFit (stateCount r) (labelCount r)) (branchShape r (stateCount r) (labelCount r))
+      (branchValues r (stateCount r) (labelCount r))
       (le-leb 16 (length r) (h .long))
-      (counts-fit r (h .states-least) (h .states-most) (h .labels-least) (h .labels-most))
+      (counts-fit (stateCount r) (labelCount r) (h .states-least) (h .states-most) (h .labels-least) (h .labels-most))
       (branch-shape (h .steps-at) (h .marks-at) (h .exact))
       (and-both (allBelow (stateCount r) (branchSteps r)) (allBelow 2 (branchMarks r)) (h .steps-below) (h .marks-below))
 

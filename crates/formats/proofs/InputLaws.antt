@@ -20,6 +20,7 @@ use Rattle.formats.specs.Limits.{changeLimit}
 use Rattle.formats.specs.Plan.{nodeCount, labelsIn}
 use Rattle.formats.specs.Rules.{stateCount, labelCount}
 use Rattle.formats.specs.Checks.{Check, firstNo, planChecks, ruleChecks, branchChecks, labelCheck, roomCheck, linkLength, stateLength, listChecks, ruleTableChecks, branchTableChecks, buildChecks, branchBuildChecks, freshRunChecks}
+use Rattle.formats.specs.Leaves.{lengthsFit, roomFits}
 use Rattle.formats.proofs.CheckLaws.{Numbered, numbered-append, firstNo-none, firstNo-yes, firstNo-head, firstNo-append-zero, firstNo-append-left, firstNo-append-right, and-both, and-left, and-right}
 use Rattle.formats.proofs.ListLaws.{allBelow-all}
 use Rattle.formats.proofs.PartLaws.{four-pass, pass-four}
@@ -35,10 +36,6 @@ pub record ListPasses (n k : ℕ) (vs bs : List ℕ) : Type 0 where
   pub nodes-below : allBelow n vs ≡ true
   pub labels-below : allBelow k bs ≡ true
   pub no-twice : distinct vs ≡ true
-
--- check 12 as a test
-abbrev pub lengthsFit : List ℕ → List ℕ → Bool
-lengthsFit vs bs = eqb (length vs) (length bs) && leb (length vs) changeLimit
 
 module _ (n k : ℕ) (vs bs : List ℕ) where
   pub list-passes : firstNo (listChecks n k vs bs) ≡ 0 → ListPasses n k vs bs
@@ -129,10 +126,6 @@ module _ (p r : List ℕ) where
   label-below h e j = allBelow-all (labelCount r) (labelsIn p) e h j
 
 -- ---- room in the table buffers
-
--- check 11 as a test
-abbrev pub roomFits : ℕ → ℕ → ℕ → ℕ → Bool
-roomFits n s nums bytes = leb (linkLength n) nums && leb (stateLength n s) bytes
 
 pub room-passes : (n s nums bytes : ℕ) → firstNo (roomCheck n s nums bytes ∷ []) ≡ 0 → (linkLength n ≤ nums) × (stateLength n s ≤ bytes)
 room-passes n s nums bytes e =

@@ -5,3 +5,12 @@ pub mod PlanLaws
 pub mod RuleLaws
 pub mod BranchLaws
 pub mod InputLaws
+pub mod PlanAnswers
+pub mod TurnLaws
+pub mod RuleAnswers
+pub mod BranchAnswers
+pub mod ListAnswers
+pub mod InputAnswers
+pub mod ByteLaws
+pub mod PlanTrees
+pub mod PlanTheorems

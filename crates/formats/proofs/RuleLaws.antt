@@ -19,6 +19,7 @@ use Rattle.formats.specs.Bytes.{le32, allBelow}
 use Rattle.formats.specs.Limits.{stateLimit, labelLimit, within}
 use Rattle.formats.specs.Rules.{stateCount, labelCount, ruleLength, leafStates, innerStates, ruleMarks}
 use Rattle.formats.specs.Checks.{firstNo, ruleChecks}
+use Rattle.formats.specs.Leaves.{countsFit, ruleShape, ruleValues}
 use Rattle.formats.proofs.CheckLaws.{Numbered, and-both, and-left, and-right}
 use Rattle.formats.proofs.ListLaws.{allBelow-all}
 use Rattle.formats.proofs.PartLaws.{four, four-pass, pass-four, end-part, run-part, length-part}
@@ -40,41 +41,31 @@ pub record RulesPass (r : List ℕ) : Type 0 where
 
 -- ---- the checks
 
--- check 7 as a test, for either kind of table
-abbrev pub countsFit : List ℕ → Bool
-countsFit r = within 1 stateLimit (stateCount r) && within 1 labelLimit (labelCount r)
-
--- check 8 as a test, from its last part
-abbrev pub ruleEnd : List ℕ → Bool
+-- the last parts of checks 8 and 9
+abbrev ruleEnd : List ℕ → Bool
 ruleEnd r = eqb (length r) (ruleLength (stateCount r) (labelCount r))
 
-abbrev pub ruleMarksAt : List ℕ → Bool
+abbrev ruleMarksAt : List ℕ → Bool
 ruleMarksAt r = eqb (le32 r 16) (20 + labelCount r + stateCount r * labelCount r * stateCount r) && ruleEnd r
 
-abbrev pub ruleInnerAt : List ℕ → Bool
+abbrev ruleInnerAt : List ℕ → Bool
 ruleInnerAt r = eqb (le32 r 12) (20 + labelCount r) && ruleMarksAt r
 
-abbrev pub ruleShape : List ℕ → Bool
-ruleShape r = eqb (le32 r 8) 20 && ruleInnerAt r
-
--- check 9 as a test
-abbrev pub innerAndMarks : List ℕ → Bool
+abbrev innerAndMarks : List ℕ → Bool
 innerAndMarks r = allBelow (stateCount r) (innerStates r) && allBelow 2 (ruleMarks r)
 
-abbrev pub ruleValues : List ℕ → Bool
-ruleValues r = allBelow (stateCount r) (leafStates r) && innerAndMarks r
+pub counts-fit : (s k : ℕ) → 1 ≤ s → s ≤ 16 → 1 ≤ k → k ≤ 64 → countsFit s k ≡ true
+counts-fit s k a b c d =
+    and-both (within 1 stateLimit s) (within 1 labelLimit k) (is-within 1 stateLimit s a b) (is-within 1 labelLimit k c d)
 
 module _ (r : List ℕ) where
-  pub counts-fit : 1 ≤ stateCount r → stateCount r ≤ 16 → 1 ≤ labelCount r → labelCount r ≤ 64 → countsFit r ≡ true
-  counts-fit a b c d =
-      and-both (within 1 stateLimit (stateCount r)) (within 1 labelLimit (labelCount r)) (is-within 1 stateLimit (stateCount r) a b)
-      (is-within 1 labelLimit (labelCount r) c d)
-
   pub rules-pass : firstNo (ruleChecks r) ≡ 0 → RulesPass r
   unfolding ruleChecks
   rules-pass e =
-      let q : (leb 20 (length r) ≡ true) × (countsFit r ≡ true) × (ruleShape r ≡ true) × (ruleValues r ≡ true) =
-      four-pass 5 6 7 8 (leb 20 (length r)) (countsFit r) (ruleShape r) (ruleValues r) e in
+      let q : (leb 20 (length r) ≡ true) × (countsFit (stateCount r) (labelCount r) ≡ true) × (ruleShape r (stateCount r) (labelCount r) ≡ true)
+      × (ruleValues r (stateCount r) (labelCount r) ≡ true) =
+      four-pass 5 6 7 8 (leb 20 (length r)) (countsFit (stateCount r) (labelCount r)) (ruleShape r (stateCount r) (labelCount r))
+      (ruleValues r (stateCount r) (labelCount r)) e in
       let s : within 1 stateLimit (stateCount r) ≡ true = and-left (within 1 stateLimit (stateCount r)) (within 1 labelLimit (labelCount r)) (q .1) in
       let k : within 1 labelLimit (labelCount r) ≡ true = and-right (within 1 stateLimit (stateCount r)) (within 1 labelLimit (labelCount r)) (q .1) in
       let inner : ruleInnerAt r ≡ true = and-right (eqb (le32 r 8) 20) (ruleInnerAt r) (q .2) in
@@ -98,7 +89,7 @@ module _ (r : List ℕ) where
 
   pub rule-shape : le32 r 8 ≡ 20 → le32 r 12 ≡ 20 + labelCount r
       → le32 r 16 ≡ 20 + labelCount r + stateCount r * labelCount r * stateCount r
-      → length r ≡ ruleLength (stateCount r) (labelCount r) → ruleShape r ≡ true
+      → length r ≡ ruleLength (stateCount r) (labelCount r) → ruleShape r (stateCount r) (labelCount r) ≡ true
   rule-shape a b c d =
       same-both (le32 r 8) 20 (ruleInnerAt r) a
       (same-both (le32 r 12) (20 + labelCount r) (ruleMarksAt r) b
@@ -108,9 +99,10 @@ module _ (r : List ℕ) where
   pub pass-rules : RulesPass r → firstNo (ruleChecks r) ≡ 0
   unfolding ruleChecks
   pass-rules h =
-      pass-four 5 6 7 8 (leb 20 (length r)) (countsFit r) (ruleShape r) (ruleValues r)
+      pass-four 5 6 7 8 (leb 20 (length r)) (countsFit (stateCount r) (labelCount r)) (ruleShape r (stateCount r) (labelCount r))
+      (ruleValues r (stateCount r) (labelCount r))
       (le-leb 20 (length r) (h .long))
-      (counts-fit (h .states-least) (h .states-most) (h .labels-least) (h .labels-most))
+      (counts-fit (stateCount r) (labelCount r) (h .states-least) (h .states-most) (h .labels-least) (h .labels-most))
       (rule-shape (h .leaves-at) (h .inner-at) (h .marks-at) (h .exact))
       (and-both (allBelow (stateCount r) (leafStates r)) (innerAndMarks r) (h .leaves-below)
       (and-both (allBelow (stateCount r) (innerStates r)) (allBelow 2 (ruleMarks r)) (h .inner-below) (h .marks-below)))

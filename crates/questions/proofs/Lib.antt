@@ -1,0 +1,3 @@
+pub mod InsertLaws
+pub mod SearchLaws
+pub mod MeetWays

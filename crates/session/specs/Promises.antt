@@ -1,0 +1,67 @@
+-- What the five calls promise, on every record and whatever is lent.
+--
+-- Lent x == plan, rules, numbers and bytes as the call was lent them
+-- answerOf.. == document 01's answer (crate book, Calls) of each case of a call's enum: its number and values
+-- LoadDone, StartDone, AdvanceDone, CancelDone, ReadDone == the promises. A struct that breaks the layout's conditions gets 1;
+--   on any other the answer and the whole record after are those of `act` (crate book, Model)
+--
+-- Assumes nothing.
+use Prim.Native.Nat.{ℕ}
+use mathlib.Core.Path.{_≡_}
+use mathlib.Core.Bool.{Bool, true, false, cond}
+use mathlib.Core.List.{List}
+use Rattle.formats.specs.Built.{builtLinks, builtStates}
+use Rattle.tables.specs.Answers.{written}
+use Rattle.book.specs.Lends.{Lent}
+use Rattle.book.specs.Calls.{Call, load, start, advance, cancel, read, Answer, refused, accepted, parts, more, finished, told}
+use Rattle.book.specs.Refusals.{refusal}
+use Rattle.book.specs.Model.{Record, act}
+use Rattle.session.specs.declared.state.Session.{Session}
+use Rattle.session.specs.declared.answers.Doing.{Doing}
+use Rattle.session.specs.declared.answers.Doing.the-variants.{Done as Made, Refused as NotDone}
+use Rattle.session.specs.declared.answers.Starting.{Starting}
+use Rattle.session.specs.declared.answers.Starting.the-variants.{Parts, Refused as NotStarted}
+use Rattle.session.specs.declared.answers.Advancing.{Advancing}
+use Rattle.session.specs.declared.answers.Advancing.the-variants.{More, Finished, Refused as NotAdvanced}
+use Rattle.session.specs.declared.answers.Reading.{Reading}
+use Rattle.session.specs.declared.answers.Reading.the-variants.{Told, Refused as NotRead}
+use Rattle.session.specs.Records.{recordOf, sessionOf, valid}
+
+unfoldable pub doingAnswer : Doing → Answer
+doingAnswer Made = accepted
+doingAnswer (NotDone n) = refused n
+
+unfoldable pub startingAnswer : Starting → Answer
+startingAnswer (Parts p) = parts p
+startingAnswer (NotStarted n) = refused n
+
+unfoldable pub advancingAnswer : Advancing → Answer
+advancingAnswer More = more
+advancingAnswer Finished = finished
+advancingAnswer (NotAdvanced n) = refused n
+
+unfoldable pub readingAnswer : Reading → Answer
+readingAnswer (Told q y p l) = told q y p l
+readingAnswer (NotRead n) = refused n
+
+-- the answer and the record of a call on a struct
+unfoldable pub answerOn : Session → Call → Answer
+answerOn s c = cond (valid s) (act (recordOf s) c .answer) (refused 1)
+
+unfoldable pub recordOn : Session → Call → Session
+recordOn s c = cond (valid s) (sessionOf (act (recordOf s) c .record′)) s
+
+-- the number of the refusal of a call on a struct, 18 apart
+unfoldable pub refusalOn : Session → Call → ℕ
+refusalOn s c = cond (valid s) (refusal (recordOf s .phase) (recordOf s .sizes) c) 1
+
+-- a call's promise: what is told and the whole record after
+pub record CallDone (s : Session) (c : Call) (a : Answer) (s′ : Session) : Type 0 where
+  pub tells : a ≡ answerOn s c
+  pub leaves : s′ ≡ recordOn s c
+
+-- Load's besides: the tables of the definition in the lent buffers, excess untouched; as at entry where it is refused
+pub record LoadDone (s : Session) (x : Lent) (a : Answer) (s′ : Session) (nums′ bytes′ : List ℕ) : Type 0 where
+  pub call : CallDone s (load x) a s′
+  pub links-written : nums′ ≡ written (refusalOn s (load x)) (builtLinks (x .plan)) (x .nums)
+  pub states-written : bytes′ ≡ written (refusalOn s (load x)) (builtStates (x .plan) (x .rules)) (x .bytes)
