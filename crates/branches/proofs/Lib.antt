@@ -12,3 +12,10 @@ pub mod WordWalks
 pub mod AskBuilt
 pub mod AskClimb
 pub mod AskTheorem
+pub mod StepTurns
+pub mod StepRowTurns
+pub mod MapTurns
+pub mod FillLaws
+pub mod BranchInputs
+pub mod ToldTurns
+pub mod MatchLaws

@@ -3,3 +3,7 @@ pub mod Promise
 pub mod Compose
 pub mod Fits
 pub mod Finish
+pub mod Lent
+pub mod Maps
+pub mod Filled
+pub mod Told

@@ -15,17 +15,13 @@ use Rattle.trees.specs.Tables.{stateMap}
 use Rattle.trees.proofs.NodeLaws.{length-labels}
 use Rattle.trees.proofs.MapLaws.{stateMap-root}
 use Rattle.formats.specs.Rules.{treeAutomaton}
-use Rattle.tables.specs.Rows.{Rowed}
 use Rattle.tables.specs.Compare.{rowIs}
 use Rattle.tables.specs.Compared.{MapsTold}
 use Rattle.tables.specs.Maps.{Prepared, mapValue, Maps}
-use Rattle.tables.proofs.CompareLaws.{rowIs-map, rowIs-ext}
+use Rattle.tables.proofs.CompareLaws.{rowIs-ext}
+use Rattle.tables.proofs.MapTableLaws.{kept-row}
 use Rattle.tables.proofs.CheckLaws.{maps-yes, maps-no}
 use Rattle.tables.proofs.MapTurns.{map-is, map-start, map-turn}
-
--- a row that is already what would be written
-kept-row : (s : ℕ) (b : List ℕ) (v : ℕ) (f : ℕ → ℕ) → rowIs s b v f ≡ true → Rowed s f v b b
-kept-row s b v f e = record { cells = rowIs-map s b v f e; kept = λ j a. refl }
 
 module _ (ls nums inn : List ℕ) (s k : ℕ) (b : List ℕ) where
   size-is : (lv mk : List ℕ) (t : Tree) → Prepared s k lv inn mk t ls nums b → size t ≡ length ls

@@ -1,4 +1,5 @@
 pub mod CompareLaws
+pub mod TableTestLaws
 pub mod LocalLaws
 pub mod CheckLaws
 pub mod CheckStateTurns
@@ -10,6 +11,7 @@ pub mod CheckAnswers
 pub mod CheckTheorems
 pub mod RowTurns
 pub mod StateTurns
+pub mod MapTableLaws
 pub mod MapTurns
 pub mod MapPlaces
 pub mod TableTurns

@@ -19,12 +19,13 @@ use Rattle.trees.specs.Jumps.{jump}
 use Rattle.trees.specs.Tables.{rows, stepUp, stateMap, stateRow, stateTable}
 use Rattle.trees.proofs.NodeLaws.{up}
 use Rattle.trees.proofs.JumpLaws.{jump-in, jump-above}
-use Rattle.trees.proofs.RowLaws.{rows-of-cells, length-stateRow, mapRow-cells, stateTable-state, stateTable-map}
+use Rattle.trees.proofs.RowLaws.{stateTable-state}
 use Rattle.trees.proofs.RunLaws.{Children, children, state-leaf, state-inner}
 use Rattle.trees.proofs.MapLaws.{left-sibling-in, right-sibling-in, stepUp-right, stepUp-left, stepUp-below}
 use Rattle.trees.proofs.MapLaws.{stateMap-root, stateMap-near, stateMap-far, stateMap-below}
 use Rattle.tables.specs.StateCells.{stateCell, mapCell}
 use Rattle.tables.specs.LocalTables.{stepCells, LocalStates, LocalMaps}
+use Rattle.tables.proofs.TableTestLaws.{cells-table, table-maps as cells-maps}
 
 -- ---- states: those of the nodes below i are the run's
 
@@ -126,25 +127,19 @@ module _ (A : Automaton) (t : Tree) (b : List ℕ) (below : (p a q : ℕ) → A 
 -- ---- a table by its cells
 
 module _ (A : Automaton) (t : Tree) (b : List ℕ) where
-  -- the place of a map's entry as the rows' laws have it
-  place-is : (v q : ℕ) → getD b (v * (A .states + 1) + 1 + q) 0 ≡ mapCell (A .states) b v q
-  place-is v q =
-      let e : v * (A .states + 1) + 1 + q ≡ v * (A .states + 1) + (1 + q) = omega arith in ap (λ (i : ℕ). getD b i 0) e
-
   pub table-of-cells : size t * (A .states + 1) ≤ length b → StatesTo A t b (size t) → MapsFrom A t b 0
       → take (size t * (A .states + 1)) b ≡ stateTable A t
   unfolding stateTable
   table-of-cells room to from =
-      rows-of-cells (size t) (A .states + 1) (stateRow A t) (λ v h. length-stateRow A t v) b room
-      (λ v k h l. mapRow-cells (A .states) (state A (sub t v)) (stateMap A t v) v b (to v h)
-      (λ q z. place-is v q ∙ from v (omega arith) h q z) k l)
+      cells-table (A .states) (size t) (λ v. state A (sub t v)) (stateMap A t) b room to (λ v h. from v (omega arith) h)
 
   module _ (e : take (size t * (A .states + 1)) b ≡ stateTable A t) where
     pub table-states : StatesTo A t b (size t)
     table-states v h = stateTable-state A t b e v h
 
     pub table-maps : MapsFrom A t b 0
-    table-maps v l h q z = sym (place-is v q) ∙ stateTable-map A t b e v h q z
+    unfolding stateTable
+    table-maps v l h = cells-maps (A .states) (size t) (λ u. state A (sub t u)) (stateMap A t) b e v h
 
 -- a table that satisfies the equations node by node is the built one
 pub local-unique : (A : Automaton) (t : Tree) (b : List ℕ) → ((p a q : ℕ) → A .δ p a q < A .states)

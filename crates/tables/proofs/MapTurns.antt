@@ -17,24 +17,17 @@ use Rattle.trees.specs.Jumps.{jump}
 use Rattle.trees.specs.Tables.{stepUp, stateMap}
 use Rattle.trees.proofs.NodeLaws.{Up, up, length-labels, size-pos}
 use Rattle.trees.proofs.JumpLaws.{jump-in, jump-above}
-use Rattle.trees.proofs.RowLaws.{stride, cells-apart}
+use Rattle.trees.proofs.RowLaws.{stride}
 use Rattle.trees.proofs.MapLaws.{stepUp-right, stepUp-left, stepUp-below, stateMap-root, stateMap-near, stateMap-far}
 use Rattle.trees.proofs.MapLaws.{stateMap-below, right-child-size}
 use Rattle.formats.specs.Rules.{treeAutomaton}
 use Rattle.links.specs.Cells.{parentCell, jumpCell}
 use Rattle.tables.specs.StateCells.{stateCell, mapCell}
 use Rattle.tables.specs.Rows.{Rowed, SameArgs}
-use Rattle.tables.specs.Maps.{Prepared, NoMap, Mapped, nearValue, mapValue}
+use Rattle.tables.specs.Maps.{Prepared, Mapped, nearValue, mapValue}
 use Rattle.tables.specs.Maps.{FillArgs, MapArgs, Maps}
-use Rattle.tables.proofs.RowTurns.{row-other}
+use Rattle.tables.proofs.MapTableLaws.{state-no-map, row-ext, written-start, written-turn}
 use Rattle.tables.proofs.StateTurns.{rules-below}
-
--- a state byte is in no map
-pub state-no-map : (s n u : ℕ) → NoMap s n (u * (s + 1))
-state-no-map s n u v q h l e = elim (ℕ-discrete u v) [
-  | yes p ↦ (let z : u * (s + 1) ≡ v * (s + 1) = rw p in omega arith)
-  | no p ↦ cells-apart (s + 1) u v 0 (1 + q) (omega arith) (omega arith) p (omega arith)
-]
 
 module _ (s k : ℕ) (lv inn mk : List ℕ) (t : Tree) (ls b e : List ℕ) (P : Prepared s k lv inn mk t ls b e) where
   count : size t ≡ length ls
@@ -94,23 +87,15 @@ module _ (s k : ℕ) (lv inn mk : List ℕ) (t : Tree) (ls b e : List ℕ) (P : 
 
       pub map-turn : (after : List ℕ) → Rowed s (mapValue ls b inn s k st v) v st after
           → Mapped (treeAutomaton s k lv inn mk) t v e after
-      map-turn after r = record {
-        maps = λ u q l m n. elim (ℕ-discrete u v) [
-          | yes c ↦ rw c (r .cells q n ∙ map-is q n)
-          | no c ↦ row-other s (mapValue ls b inn s k st v) v s st after r u q c (omega arith) n ∙ M .maps u q
-              (omega arith) m n
-        ];
-        kept = λ j a. r .kept j (λ q l. a v q (omega arith) l) ∙ M .kept j a;
-      }
+      map-turn after r =
+          written-turn s (size t) (stateMap (treeAutomaton s k lv inn mk) t) v e st after (omega arith) M
+          (row-ext s (mapValue ls b inn s k st v) (stateMap (treeAutomaton s k lv inn mk) t v) v s st after r map-is)
 
-  pub map-start : (st : List ℕ) (v : ℕ) → v + 1 ≡ size t → Rowed s (λ q. q) v e st → Mapped
-      (treeAutomaton s k lv inn mk) t v e st
-  map-start st v h r = record {
-    maps = λ u q l m n. (
-        let c : u ≡ v = omega arith in
-        rw c (r .cells q n ∙ sym (stateMap-root (treeAutomaton s k lv inn mk) t v q h)));
-    kept = λ j a. r .kept j (λ q l. a v q (omega arith) l);
-  }
+  pub map-start : (st : List ℕ) (v : ℕ) → v + 1 ≡ size t → Rowed s (λ q. q) v e st → Mapped (treeAutomaton s k lv inn mk) t v e st
+  map-start st v h r =
+      let f : ℕ → ℕ → ℕ = stateMap (treeAutomaton s k lv inn mk) t in
+      written-turn s (size t) f v e e st (omega arith) (rw h (written-start s (size t) f e))
+      (row-ext s (λ q. q) (f v) v s e st r (λ q l. sym (stateMap-root (treeAutomaton s k lv inn mk) t v q h)))
 
 -- ---- what the writers need
 module _ (ls b inn : List ℕ) (s k : ℕ) (e : List ℕ) (args : MapArgs ls b inn s k e) where

@@ -5,5 +5,7 @@ pub mod Answers
 pub mod StateCells
 pub mod Rows
 pub mod States
+pub mod MapTable
 pub mod Maps
 pub mod Written
+pub mod TableTests

@@ -28,6 +28,7 @@ use Rattle.links.specs.Cells.{parentCell, jumpCell, sizeCell}
 use Rattle.tables.specs.StateCells.{stateCell, mapCell}
 use Rattle.tables.specs.Rows.{RowIn}
 use Rattle.tables.specs.States.{RuleRuns}
+use Rattle.tables.specs.MapTable.{MapsWritten}
 
 pub record Prepared (s k : ℕ) (lv inn mk : List ℕ) (t : Tree) (ls b e : List ℕ) : Type 0 where
   pub labels : labelsOf t ≡ ls
@@ -36,13 +37,8 @@ pub record Prepared (s k : ℕ) (lv inn mk : List ℕ) (t : Tree) (ls b e : List
   pub sizes : (v : ℕ) → v < size t → sizeCell b v ≡ size (sub t v)
   pub states : (v : ℕ) → v < size t → stateCell s e v ≡ state (treeAutomaton s k lv inn mk) (sub t v)
 
--- a byte outside the maps of n nodes
-abbrev pub NoMap : ℕ → ℕ → ℕ → Type 0
-NoMap s n j = (v q : ℕ) → v < n → q < s → j ≡ v * (s + 1) + (1 + q) → ⊥
-
-pub record Mapped (A : Automaton) (t : Tree) (i : ℕ) (before after : List ℕ) : Type 0 where
-  pub maps : (v q : ℕ) → i ≤ v → v < size t → q < A .states → mapCell (A .states) after v q ≡ stateMap A t v q
-  pub kept : (j : ℕ) → NoMap (A .states) (size t) j → getD after j 0 ≡ getD before j 0
+abbrev pub Mapped : Automaton → Tree → ℕ → List ℕ → List ℕ → Type 0
+Mapped A t i before after = MapsWritten (A .states) (size t) (stateMap A t) i before after
 
 -- ---- one node
 
