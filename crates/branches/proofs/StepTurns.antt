@@ -113,9 +113,8 @@ module _ (ls nums st : List ℕ) (s k n m : ℕ) (A : BranchArgs ls nums st s k 
         here = state-in s n v (length b) (omega arith) room;
       }
 
-  pub root-inside : (v : ℕ) → getD ls v 0 < length st
-  root-inside v =
-      omega (arith, step-at s k (length st) 0 (getD ls v 0) (omega (arith, A .steps-below 0)) (A .labels-below v) (A .steps-room))
+  pub root-inside : (v : ℕ) → 0 * k + getD ls v 0 < length st
+  root-inside v = step-at s k (length st) 0 (getD ls v 0) (omega (arith, A .steps-below 0)) (A .labels-below v) (A .steps-room)
 
   -- the state that a node's turn reads, and the root's
   pub step-is : (v : ℕ) (b₀ b : List ℕ) → Stepped ls nums st s k n (v + 1) b₀ b → v + 1 < n
@@ -130,10 +129,9 @@ module _ (ls nums st : List ℕ) (s k n m : ℕ) (A : BranchArgs ls nums st s k 
       ∙ rw (e, ← lent-label B t ls nums st s k n L v) (sym (branchState-down B t v (omega (arith, L .count))))
 
   pub root-is : (v : ℕ) → v + 1 ≡ n → (B : WordAutomaton) (t : Tree) → BranchLent B t ls nums st s k n
-      → getD st (getD ls v 0) 0 ≡ branchState B t v
+      → getD st (0 * k + getD ls v 0) 0 ≡ branchState B t v
   root-is v e B t L =
-      let z : 0 * k + getD ls v 0 ≡ getD ls v 0 = omega arith in
-      ap (λ (j : ℕ). getD st j 0) (sym z) ∙ sym (L .step 0 (getD ls v 0))
+      sym (L .step 0 (getD ls v 0))
       ∙ ap (B .step 0) (sym (lent-label B t ls nums st s k n L v))
       ∙ sym (branchState-root B t v (e ∙ sym (L .count)))
 
@@ -144,6 +142,6 @@ module _ (ls nums st : List ℕ) (s k n m : ℕ) (A : BranchArgs ls nums st s k 
       states-turn s (branchState B t) n v b₀ b _ (S B t L) (omega arith) room (step-is v b₀ b S h B t L)
 
   pub root-turn : (v : ℕ) (b : List ℕ) → v + 1 ≡ n → v * (s + 1) < length b
-      → Stepped ls nums st s k n v b (set b (v * (s + 1)) (getD st (getD ls v 0) 0))
+      → Stepped ls nums st s k n v b (set b (v * (s + 1)) (getD st (0 * k + getD ls v 0) 0))
   root-turn v b e room B t L =
       states-turn s (branchState B t) n v b b _ (rw e (states-start s (branchState B t) n b)) (omega arith) room (root-is v e B t L)

@@ -1,4 +1,5 @@
 // The state bytes of a lent table compared with those of a branch table's build, from the root down.
+use crate::steps::START;
 ghost use mathlib.Core.Path.{_≡_};
 ghost use lib.ListN.{length};
 ghost use Rattle.branches.specs.Lent.{BranchArgs};
@@ -20,8 +21,10 @@ pub fn check_steps(
 {
     let w = s + 1;
     let root = n - 1;
-    let first = steps[labels[root] as usize];
-    if bytes[root * w] != first {
+    let first = labels[root] as usize;
+    let x = steps[START * k + first];
+    let y = bytes[root * w];
+    if y != x {
         return false;
     }
     let mut v = root;

@@ -73,11 +73,17 @@ shared-slice-read-first c = omega (arith, labels-in (c .before), pos (c .before)
 cast-first : tie.Need-cast-first Inv-loop μ-loop
 cast-first c = omega (arith, c .shared-slice-known .given (c .before .args .n - 1))
 
+mul-bytes : tie.Need-mul-bytes Inv-loop μ-loop
+mul-bytes c = omega arith
+
+add-bytes : tie.Need-add-bytes Inv-loop μ-loop
+add-bytes c = omega (arith, root-inside _ _ _ _ _ _ _ (entered (c .before)) (c .before .args .n - 1))
+
 shared-slice-read-bytes : tie.Need-shared-slice-read-bytes Inv-loop μ-loop
 shared-slice-read-bytes c = root-inside _ _ _ _ _ _ _ (entered (c .before .before)) (c .before .before .args .n - 1)
 
-mul-bytes : tie.Need-mul-bytes Inv-loop μ-loop
-mul-bytes c = omega (arith, root-in (c .before .before))
+mul-bytes-2 : tie.Need-mul-bytes-2 Inv-loop μ-loop
+mul-bytes-2 c = omega (arith, root-in (c .before .before))
 
 slice-write-bytes : tie.Need-slice-write-bytes Inv-loop μ-loop
 slice-write-bytes c = omega (arith, root-in (c .before .before))
@@ -120,17 +126,17 @@ shared-slice-read-a c =
 cast-a : tie.Need-cast-a Inv-loop μ-loop
 cast-a c = omega (arith, c .shared-slice-known4 .given (c .before .before .before .before .loop .v - 1))
 
-mul-bytes-2 : tie.Need-mul-bytes-2 Inv-loop μ-loop
-mul-bytes-2 c = omega (arith, fits (c .before .before .before) .inside)
+mul-bytes-3 : tie.Need-mul-bytes-3 Inv-loop μ-loop
+mul-bytes-3 c = omega (arith, fits (c .before .before .before) .inside)
 
-add-bytes : tie.Need-add-bytes Inv-loop μ-loop
-add-bytes c = omega (arith, fits (c .before .before .before) .inside)
+add-bytes-2 : tie.Need-add-bytes-2 Inv-loop μ-loop
+add-bytes-2 c = omega (arith, fits (c .before .before .before) .inside)
 
 shared-slice-read-bytes-2 : tie.Need-shared-slice-read-bytes-2 Inv-loop μ-loop
 shared-slice-read-bytes-2 c = fits (c .before .before .before .before) .inside
 
-mul-bytes-3 : tie.Need-mul-bytes-3 Inv-loop μ-loop
-mul-bytes-3 c =
+mul-bytes-4 : tie.Need-mul-bytes-4 Inv-loop μ-loop
+mul-bytes-4 c =
     let i = c .before .before .before .before in
     omega (arith, fits i .here, kept-length (i .before))
 
@@ -172,8 +178,10 @@ fill-steps-spec =
     sub-root
     shared-slice-read-first
     cast-first
-    shared-slice-read-bytes
     mul-bytes
+    add-bytes
+    shared-slice-read-bytes
+    mul-bytes-2
     slice-write-bytes
     loop-holds
     sub-v
@@ -186,10 +194,10 @@ fill-steps-spec =
     cast-q
     shared-slice-read-a
     cast-a
-    mul-bytes-2
-    add-bytes
-    shared-slice-read-bytes-2
     mul-bytes-3
+    add-bytes-2
+    shared-slice-read-bytes-2
+    mul-bytes-4
     slice-write-bytes-2
     loop-less
     loop-again
