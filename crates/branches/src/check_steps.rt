@@ -5,8 +5,8 @@ ghost use lib.ListN.{length};
 ghost use Rattle.branches.specs.Lent.{BranchArgs};
 ghost use Rattle.branches.specs.Told.{StepsTold};
 
-// Whether each of the n nodes has the state of the build. Where one has not, those below it are not looked at: they would be read
-// from it.
+// Whether each of the n nodes has the state of the build. Where one has not, those below it are not looked at: they
+// would be read from it.
 pub fn check_steps(
     labels: &[u8],
     nums: &[u16],
@@ -17,7 +17,8 @@ pub fn check_steps(
     bytes: &[u8],
 ) -> bool
     requires { ⌜ BranchArgs (now labels) (now nums) (now steps) s k n (length (now bytes)) ⌝ }
-    ensures { λ r. ⌜ StepsTold (now (labels .entry)) (now (nums .entry)) (now (steps .entry)) s k n (now (bytes .entry)) r ⌝ }
+    ensures { λ r. ⌜ StepsTold (now (labels .entry)) (now (nums .entry)) (now (steps .entry)) s k n
+        (now (bytes .entry)) r ⌝ }
 {
     let w = s + 1;
     let root = n - 1;

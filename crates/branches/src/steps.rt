@@ -16,7 +16,8 @@ pub fn fill_steps(
     bytes: &mut [u8],
 )
     requires { ⌜ BranchArgs (now labels) (now nums) (now steps) s k n (length (now bytes)) ⌝ }
-    ensures { λ _. ⌜ Stepped (now (labels .entry)) (now (nums .entry)) (now (steps .entry)) s k n 0 (now (bytes .entry)) (now (bytes .exit)) ⌝ }
+    ensures { λ _. ⌜ Stepped (now (labels .entry)) (now (nums .entry)) (now (steps .entry)) s k n 0
+        (now (bytes .entry)) (now (bytes .exit)) ⌝ }
 {
     let w = s + 1;
     let root = n - 1;

@@ -30,14 +30,17 @@ labels-in : (s : tie.Start Inv-loop μ-loop) → length (s .args .labels .now) �
 labels-in s = args-labels _ _ _ _ _ _ _ (entered s)
 
 root-in : (s : tie.Start Inv-loop μ-loop) → (s .args .n - 1) * (s .args .s + 1) < length (s .args .bytes .now)
-root-in s = state-in (s .args .s) (s .args .n) (s .args .n - 1) (length (s .args .bytes .now)) (omega (arith, pos s)) (s .pre .room)
+root-in s = state-in (s .args .s) (s .args .n) (s .args .n - 1) (length (s .args .bytes .now)) (omega (arith, pos s))
+    (s .pre .room)
 
 -- the state bytes above the node that a turn looks at
 above : (c : tie.In-loop Inv-loop μ-loop) → let g = c .before .before .before .before .before .before .args in
-    Stepped (g .labels .now) (g .nums .now) (g .steps .now) (g .s) (g .k) (g .n) (c .before .loop .v - 1 + 1) (g .bytes .now)
+    Stepped (g .labels .now) (g .nums .now) (g .steps .now) (g .s) (g .k) (g .n) (c .before .loop .v - 1 + 1)
+    (g .bytes .now)
     (g .bytes .now)
 above c =
-    let e : c .before .loop .v - 1 + 1 ≡ c .before .loop .v = omega (arith, c .loop-test .taken) in rw e (c .before .loop .inv .1)
+    let e : c .before .loop .v - 1 + 1 ≡ c .before .loop .v = omega (arith, c .loop-test .taken) in rw e
+    (c .before .loop .inv .1)
 
 fits : (c : tie.In-loop Inv-loop μ-loop) → let g = c .before .before .before .before .before .before .args in
     StepFits (g .labels .now) (g .nums .now) (g .steps .now) (g .s) (g .k) (c .before .loop .v - 1) (g .bytes .now)
@@ -76,13 +79,15 @@ shared-slice-read-y c = root-in (c .before .before .before)
 returns : tie.Need-returns Inv-loop μ-loop
 returns c =
     let s = c .before .before .before .before in
-    root-state-differs _ _ _ _ _ _ _ (entered s) (s .args .bytes .now) (s .args .n - 1) (omega (arith, pos s)) (c .if1 .taken)
+    root-state-differs _ _ _ _ _ _ _ (entered s) (s .args .bytes .now) (s .args .n - 1) (omega (arith, pos s))
+    (c .if1 .taken)
 
 loop-holds : tie.Need-loop-holds Inv-loop μ-loop
 loop-holds c =
     let s = c .before .before .before .before in (
       omega (arith, pos s),
-      root-state-same _ _ _ _ _ _ _ (entered s) (s .args .bytes .now) (s .args .n - 1) (omega (arith, pos s)) (c .if1 .left),
+      root-state-same _ _ _ _ _ _ _ (entered s) (s .args .bytes .now) (s .args .n - 1) (omega (arith, pos s))
+          (c .if1 .left),
     )
 
 sub-v : tie.Need-sub-v Inv-loop μ-loop

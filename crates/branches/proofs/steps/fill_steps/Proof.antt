@@ -1,4 +1,5 @@
--- `steps::fill_steps` meets its contract. The loop's invariant: the state bytes from v on are the automaton's, and no other byte is
+-- `steps::fill_steps` meets its contract. The loop's invariant: the state bytes from v on are the automaton's, and no
+-- other byte is
 -- changed, counted from any buffer of which that holds where the loop begins.
 -- Assumes nothing.
 use Prim.Native.Nat.{ℕ, _+_, _-_, _*_, _≤_, _<_}
@@ -9,7 +10,8 @@ use Rattle.trees.proofs.RowLaws.{cell-in}
 use Rattle.links.specs.Cells.{parentCell}
 use Rattle.tables.specs.StateCells.{stateCell}
 use Rattle.branches.specs.Lent.{BranchArgs, Stepped}
-use Rattle.branches.proofs.StepTurns.{args-pos, args-labels, state-in, StepFits, step-fits, step-turn, root-inside, root-turn}
+use Rattle.branches.proofs.StepTurns.{args-pos, args-labels, state-in, StepFits, step-fits, step-turn}
+use Rattle.branches.proofs.StepTurns.{root-inside, root-turn}
 use native.Mathlib.Omega.{arith}
 use borrow.Author.Needs.{needs}
 use Rattle.branches.proofs.steps.fill_steps.Statement.{statement}
@@ -35,27 +37,32 @@ labels-in : (s : tie.Start Inv-loop μ-loop) → length (s .args .labels .now) �
 labels-in s = args-labels _ _ _ _ _ _ _ (entered s)
 
 root-in : (s : tie.Start Inv-loop μ-loop) → (s .args .n - 1) * (s .args .s + 1) < length (s .args .bytes .now)
-root-in s = state-in (s .args .s) (s .args .n) (s .args .n - 1) (length (s .args .bytes .now)) (omega (arith, pos s)) (s .pre .room)
+root-in s = state-in (s .args .s) (s .args .n) (s .args .n - 1) (length (s .args .bytes .now)) (omega (arith, pos s))
+    (s .pre .room)
 
 kept-length : (a : tie.At-loop Inv-loop μ-loop)
     → length (a .loop .bytes) ≡ length (a .before .before .before .args .bytes .now)
 kept-length a = a .loop .inv .1 ∙ simp length-set
 
 stepped : (a : tie.At-loop Inv-loop μ-loop) → let g = a .before .before .before .args in
-    Stepped (g .labels .now) (g .nums .now) (g .steps .now) (g .s) (g .k) (g .n) (a .loop .v) (g .bytes .now) (a .loop .bytes)
+    Stepped (g .labels .now) (g .nums .now) (g .steps .now) (g .s) (g .k) (g .n) (a .loop .v) (g .bytes .now)
+    (a .loop .bytes)
 stepped a =
     let s = a .before .before .before in
     a .loop .inv .2 (s .args .bytes .now)
     (root-turn _ _ _ _ _ _ _ (entered s) (s .args .n - 1) (s .args .bytes .now) (omega (arith, pos s)) (root-in s))
 
 turn : (c : tie.In-loop Inv-loop μ-loop) → let g = c .before .before .before .before .args in
-    Stepped (g .labels .now) (g .nums .now) (g .steps .now) (g .s) (g .k) (g .n) (c .before .loop .v - 1 + 1) (g .bytes .now)
+    Stepped (g .labels .now) (g .nums .now) (g .steps .now) (g .s) (g .k) (g .n) (c .before .loop .v - 1 + 1)
+    (g .bytes .now)
     (c .before .loop .bytes)
 turn c =
-    let e : c .before .loop .v - 1 + 1 ≡ c .before .loop .v = omega (arith, c .loop-test .taken) in rw e (stepped (c .before))
+    let e : c .before .loop .v - 1 + 1 ≡ c .before .loop .v = omega (arith, c .loop-test .taken) in rw e
+    (stepped (c .before))
 
 fits : (c : tie.In-loop Inv-loop μ-loop) → let g = c .before .before .before .before .args in
-    StepFits (g .labels .now) (g .nums .now) (g .steps .now) (g .s) (g .k) (c .before .loop .v - 1) (c .before .loop .bytes)
+    StepFits (g .labels .now) (g .nums .now) (g .steps .now) (g .s) (g .k) (c .before .loop .v - 1)
+    (c .before .loop .bytes)
 fits c =
     let s = c .before .before .before .before in
     step-fits _ _ _ _ _ _ _ (entered s) (c .before .loop .v - 1) (s .args .bytes .now) (c .before .loop .bytes) (turn c)
