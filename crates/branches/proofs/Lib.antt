@@ -1,3 +1,17 @@
+pub mod MapArrays
+pub mod FollowLaws
+pub mod FitLaws
+pub mod MoveMaps
+pub mod MovedLaws
+pub mod ComposeTurns
+pub mod FinishLaws
+pub mod AskParts
+pub mod AskAnswer
+pub mod AskChecks
+pub mod WordWalks
+pub mod AskBuilt
+pub mod AskClimb
+pub mod AskTheorem
 pub mod StepTurns
 pub mod StepRowTurns
 pub mod MapTurns

@@ -1,5 +1,8 @@
 // Branch tables: their build, their full check, and the branch question.
 pub mod answers;
+pub mod ask;
+pub mod climb;
+pub mod lent;
 pub mod build;
 pub mod check;
 pub mod check_maps;

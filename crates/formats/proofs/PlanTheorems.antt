@@ -2,9 +2,9 @@
 --     plan-decodes        bytes pass 2 to 5 exactly when they are the plan of a tree of at most 65,535 nodes
 --     one-tree, only-tree two trees have no plan in common, so it is the tree that is read
 --     one-node            N 1 is accepted with 14 bytes
---     two-nodes           N 2 gets 5, whatever the kinds
+--     two-nodes           N 2 gets 5, whatever the kinds; two-nodes-any: there are such bytes
 -- Assumes nothing.
-use Prim.Native.Nat.{ℕ, zero, suc, _+_, _*_, _≤_}
+use Prim.Native.Nat.{ℕ, zero, suc, _+_, _≤_}
 use mathlib.Core.Path.{_≡_, refl, sym, ap, _∙_, subst}
 use mathlib.Core.Bool.{true, false}
 use mathlib.Core.Logic.{_↔_}
@@ -69,3 +69,8 @@ pub two-nodes : (p : List ℕ) → length p ≡ 16 → nodeCount p ≡ 2 → le3
 two-nodes p h n a b =
     let kinds : length (kindsIn p) ≡ 2 = length-part p (12 + nodeCount p) (nodeCount p) (omega arith) ∙ n in
     sym (plan-5 p (omega arith) (omega arith) (omega arith) a (omega arith) (omega arith) (two-kinds (kindsIn p) kinds))
+
+-- there are such bytes, with any labels and any kinds
+pub two-nodes-any : (a b k l : ℕ)
+    → firstNo (planChecks (2 ∷ 0 ∷ 0 ∷ 0 ∷ 12 ∷ 0 ∷ 0 ∷ 0 ∷ 14 ∷ 0 ∷ 0 ∷ 0 ∷ a ∷ b ∷ k ∷ l ∷ [])) ≡ 5
+two-nodes-any a b k l = two-nodes (2 ∷ 0 ∷ 0 ∷ 0 ∷ 12 ∷ 0 ∷ 0 ∷ 0 ∷ 14 ∷ 0 ∷ 0 ∷ 0 ∷ a ∷ b ∷ k ∷ l ∷ []) refl refl refl refl

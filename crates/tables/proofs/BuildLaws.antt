@@ -7,7 +7,7 @@
 --     built-lists              what an accepted build leaves
 --     written-as-built, built-as-built  the buffers afterwards are as built, whatever their excess is
 -- Assumes nothing.
-use Prim.Native.Nat.{ℕ, zero, suc, _+_, _-_, _*_, _≤_, _<_}
+use Prim.Native.Nat.{ℕ, zero, suc, _+_, _-_, _*_, _≤_}
 use mathlib.Core.Path.{_≡_, refl, sym, ap, _∙_}
 use mathlib.Core.Bool.{true}
 use mathlib.Core.List.{List, _++_}
@@ -15,13 +15,13 @@ use native.Mathlib.Omega.{arith}
 use lib.ListN.{length, take, drop}
 use lib.Seq.{take-at}
 use Rattle.trees.specs.Tree.{Tree, kindsOf, size}
-use Rattle.trees.specs.Tables.{linkTable, stateTable}
+use Rattle.trees.specs.Tables.{linkTable}
 use Rattle.formats.specs.Bytes.{allBelow}
 use Rattle.formats.specs.Plan.{nodeCount, labelsIn, kindsIn, planTree}
 use Rattle.formats.specs.Rules.{stateCount, labelCount, leafStates, innerStates, ruleMarks, ruleAutomaton}
 use Rattle.formats.specs.Checks.{firstNo, ruleTableChecks, buildChecks, linkLength, stateLength}
-use Rattle.formats.specs.Built.{builtLinks, builtStates, linkPart, statePart, AsBuilt}
-use Rattle.formats.proofs.PlanLaws.{PlanPasses, length-labelsIn, length-kindsIn, labels-as-kinds, kinds-planTree}
+use Rattle.formats.specs.Built.{builtLinks, builtStates, AsBuilt}
+use Rattle.formats.proofs.PlanLaws.{PlanPasses, length-kindsIn, labels-as-kinds, kinds-planTree}
 use Rattle.formats.proofs.PlanLaws.{labels-planTree, size-planTree, labels-part, kinds-part}
 use Rattle.formats.proofs.RuleLaws.{RulesPass, length-leafStates, length-innerStates, leaf-state-below}
 use Rattle.formats.proofs.RuleLaws.{inner-state-below, leaves-part, inner-part}
@@ -32,7 +32,7 @@ use Rattle.links.proofs.CellLaws.{length-linkTable, link-cells}
 use Rattle.tables.specs.declared.answers.Building.{Building}
 use Rattle.tables.specs.declared.answers.Building.the-variants.{Built, Refused}
 use Rattle.tables.specs.Answers.{numberOf, toldBuild, written, BuildDone}
-use Rattle.tables.specs.States.{RuleRuns, StateArgs}
+use Rattle.tables.specs.States.{RuleRuns}
 use Rattle.tables.specs.Written.{TableArgs, StatesOver, Passed, BuildArgs, BothWritten}
 use Rattle.tables.proofs.StateTurns.{size-of}
 use Rattle.tables.proofs.TableTurns.{length-stateTable}

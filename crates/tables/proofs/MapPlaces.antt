@@ -1,5 +1,6 @@
 -- The places that the writers of one node's map read: inside their lists, and small enough for the machine's numbers.
 --     state-place            a state byte before node p's
+--     sibling-left .. sibling-below  the sibling's number
 --     Small, small           a rule's place in the making
 --     base-args .. far-args  what the writers of rows need, from what the node's writer has
 --     far-done, near-done    the two ways through far_map
@@ -17,13 +18,27 @@ use Rattle.trees.proofs.RowLaws.{stride}
 use Rattle.links.specs.Cells.{parentCell, jumpCell, sizeCell}
 use Rattle.tables.specs.StateCells.{stateCell, mapCell}
 use Rattle.tables.specs.Rows.{Rowed, RowIn, NearArgs, FarArgs, farCell}
-use Rattle.tables.specs.Maps.{nearBase, nearStep, nearValue, farValue, mapValue, BaseArgs, StepArgs, FillArgs}
+use Rattle.tables.specs.Maps.{siblingOf, nearBase, nearStep, nearValue, farValue, mapValue, BaseArgs, StepArgs, FillArgs}
 use Rattle.tables.specs.Maps.{FarMapArgs}
 use Rattle.tables.proofs.StateTurns.{rule-in}
 use Rattle.tables.proofs.RowTurns.{row-other}
 
 pub state-place : (s u p m : ℕ) → u < p → p * (s + 1) ≤ m → u * (s + 1) < m
 state-place s u p m h room = omega (arith, stride (s + 1) u p h)
+
+-- the sibling stands before the parent, to the left or to the right
+module _ (b : List ℕ) (v p u : ℕ) (e : u ≡ siblingOf b v p) where
+  pub sibling-left : v + 1 ≡ p → u ≡ v - sizeCell b v
+  sibling-left c = e ∙ rw (eq-eqb (v + 1) p c)
+
+  pub sibling-right : (v + 1 ≡ p → ⊥) → u ≡ p - 1
+  sibling-right c = e ∙ rw (ne-eqb (v + 1) p c)
+
+  pub sibling-below : v < p → u < p
+  sibling-below h = elim (ℕ-discrete (v + 1) p) [
+    | yes c ↦ omega (arith, sibling-left c)
+    | no c ↦ omega (arith, sibling-right c)
+  ]
 
 pub record Small (s k x a : ℕ) : Type 0 where
   pub product : x * k < 65536

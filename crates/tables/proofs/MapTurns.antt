@@ -4,13 +4,13 @@
 --     fill-args               what one node's writers need
 -- Assumes nothing.
 use Prim.Native.Nat.{ℕ, _+_, _-_, _*_, _≤_, _<_}
-use mathlib.Core.Path.{_≡_, refl, sym, ap, ap₂, _∙_, subst}
+use mathlib.Core.Path.{_≡_, sym, ap, _∙_}
 use mathlib.Core.List.{List, []}
 use native.Mathlib.Decide.{ℕ-discrete}
 use native.Mathlib.Omega.{arith}
 use borrow.Author.Tests.{eq-eqb, ne-eqb}
 use lib.ListN.{length, getD}
-use Rattle.trees.specs.Tree.{Tree, labelsOf, size, labelAt}
+use Rattle.trees.specs.Tree.{Tree, size, labelAt}
 use Rattle.trees.specs.Automaton.{state}
 use Rattle.trees.specs.Numbering.{sub, parent}
 use Rattle.trees.specs.Jumps.{jump}
@@ -21,11 +21,10 @@ use Rattle.trees.proofs.RowLaws.{stride}
 use Rattle.trees.proofs.MapLaws.{stepUp-right, stepUp-left, stepUp-below, stateMap-root, stateMap-near, stateMap-far}
 use Rattle.trees.proofs.MapLaws.{stateMap-below, right-child-size}
 use Rattle.formats.specs.Rules.{treeAutomaton}
-use Rattle.links.specs.Cells.{parentCell, jumpCell, sizeCell}
+use Rattle.links.specs.Cells.{parentCell, jumpCell}
 use Rattle.tables.specs.StateCells.{stateCell, mapCell}
 use Rattle.tables.specs.Rows.{Rowed, SameArgs}
-use Rattle.tables.specs.States.{RuleRuns}
-use Rattle.tables.specs.Maps.{Prepared, Mapped, nearBase, nearStep, nearValue, farValue, mapValue}
+use Rattle.tables.specs.Maps.{Prepared, Mapped, nearValue, mapValue}
 use Rattle.tables.specs.Maps.{FillArgs, MapArgs, Maps}
 use Rattle.tables.proofs.MapTableLaws.{state-no-map, row-ext, written-start, written-turn}
 use Rattle.tables.proofs.StateTurns.{rules-below}

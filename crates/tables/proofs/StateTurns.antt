@@ -5,14 +5,14 @@
 --     inner-args                  what reading an inner node's children needs
 -- Assumes nothing.
 use Prim.Native.Nat.{ℕ, _+_, _-_, _*_, _≤_, _<_}
-use mathlib.Core.Path.{_≡_, refl, sym, ap, _∙_, subst}
+use mathlib.Core.Path.{_≡_, sym, ap, _∙_, subst}
 use mathlib.Core.List.{List, []}
 use native.Mathlib.Decide.{ℕ-discrete}
 use native.Mathlib.Nat.{mul-le-mul-right}
 use native.Mathlib.Omega.{arith}
 use lib.ListN.{length, getD, set}
 use lib.Seq.{getD-set-same, getD-set-other}
-use Rattle.trees.specs.Tree.{Tree, kindsOf, labelsOf, size, kindAt, labelAt}
+use Rattle.trees.specs.Tree.{Tree, kindsOf, labelsOf, size, kindAt}
 use Rattle.trees.specs.Automaton.{Automaton, state}
 use Rattle.trees.specs.Numbering.{sub}
 use Rattle.trees.proofs.NodeLaws.{length-kinds}
@@ -22,7 +22,7 @@ use Rattle.trees.proofs.RunLaws.{Children, children, state-leaf, state-inner, s
 use Rattle.formats.specs.Rules.{treeAutomaton}
 use Rattle.links.specs.Cells.{sizeCell}
 use Rattle.tables.specs.StateCells.{stateCell}
-use Rattle.tables.specs.States.{RuleRuns, Sizes, Ran, Runs, StateArgs, leftOf, RuleArgs, innerState, InnerArgs}
+use Rattle.tables.specs.States.{RuleRuns, Ran, Runs, StateArgs, leftOf, RuleArgs, innerState, InnerArgs}
 
 -- ---- rules
 

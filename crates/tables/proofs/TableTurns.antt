@@ -4,22 +4,19 @@
 --     states-over         both give the state table, and the excess as before
 -- Assumes nothing.
 use Prim.Native.Nat.{ℕ, _+_, _*_, _≤_, _<_}
-use mathlib.Core.Path.{_≡_, refl, sym, ap, _∙_, subst}
-use mathlib.Core.List.{List, [], _++_}
+use mathlib.Core.Path.{_≡_, ap, _∙_}
+use mathlib.Core.List.{List, []}
 use native.Mathlib.Omega.{arith}
-use lib.ListN.{length, getD, drop}
+use lib.ListN.{length, getD}
 use Rattle.trees.specs.Tree.{Tree, kindsOf, labelsOf, size}
 use Rattle.trees.specs.Automaton.{Automaton, state}
 use Rattle.trees.specs.Numbering.{sub}
 use Rattle.trees.specs.Tables.{stateMap, stateRow, stateTable}
-use Rattle.trees.proofs.NodeLaws.{length-kinds}
 use Rattle.trees.proofs.PostorderLaws.{postorder-tree}
 use Rattle.trees.proofs.RowLaws.{length-rows, length-stateRow}
 use Rattle.formats.specs.Rules.{treeAutomaton}
-use Rattle.formats.specs.Checks.{stateLength}
 use Rattle.links.specs.LinkCells.{LinkCells}
-use Rattle.tables.specs.StateCells.{stateCell, mapCell}
-use Rattle.tables.specs.States.{StateArgs, Ran, Runs}
+use Rattle.tables.specs.States.{Ran, Runs}
 use Rattle.tables.specs.Maps.{Prepared, Mapped, MapArgs, Maps}
 use Rattle.tables.specs.Written.{TableArgs, StatesOver}
 use Rattle.tables.proofs.StateTurns.{size-of}

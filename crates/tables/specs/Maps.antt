@@ -2,11 +2,12 @@
 --
 -- Prepared s k lv inn mk t ls b e == labels ls and links b are the tree's, and the state bytes of e are its run's
 -- Mapped A t i before after == the nodes from i on have their maps, and no byte outside the maps is changed
+-- siblingOf b v p == the other child of v's parent p, by the sizes in table b
 -- nearBase, nearStep == where node v's step to its parent stands in the inner states: entry q at
 --   nearBase + q * nearStep
 -- nearValue == that entry; mapValue == it, followed by the parent's map and its jump's where v's jump is not the parent
 -- Maps ls b inn s k i before after == Mapped, for the tree and the rule tables that the table before is prepared for
--- BaseArgs, StepArgs, FillArgs, FarMapArgs == what the writers of one node's map need; MapArgs == what fill_maps needs
+-- SiblingArgs, BaseArgs, StepArgs, FillArgs, FarMapArgs == what the writers of one node's map need; MapArgs == what fill_maps needs
 --
 -- A node is its parent's right child exactly where its number is one less.
 -- Assumes nothing.
@@ -25,7 +26,7 @@ use Rattle.formats.specs.Rules.{treeAutomaton}
 use Rattle.formats.specs.Checks.{linkLength, stateLength}
 use Rattle.links.specs.Cells.{parentCell, jumpCell, sizeCell}
 use Rattle.tables.specs.StateCells.{stateCell, mapCell}
-use Rattle.tables.specs.Rows.{Rowed, RowIn, farCell}
+use Rattle.tables.specs.Rows.{RowIn}
 use Rattle.tables.specs.States.{RuleRuns}
 use Rattle.tables.specs.MapTable.{MapsWritten}
 
@@ -40,6 +41,10 @@ abbrev pub Mapped : Automaton → Tree → ℕ → List ℕ → List ℕ → Typ
 Mapped A t i before after = MapsWritten (A .states) (size t) (stateMap A t) i before after
 
 -- ---- one node
+
+-- the right child of p is p - 1
+abbrev pub siblingOf : List ℕ → ℕ → ℕ → ℕ
+siblingOf b v p = cond (eqb (v + 1) p) (v - sizeCell b v) (p - 1)
 
 -- of a right child the left sibling's state and the label stand first, of a left child the right sibling's state last
 abbrev pub nearBase : List ℕ → List ℕ → ℕ → ℕ → ℕ → ℕ → ℕ → ℕ
@@ -61,6 +66,11 @@ farValue b s st v x =
 
 unfoldable pub mapValue : List ℕ → List ℕ → List ℕ → ℕ → ℕ → List ℕ → ℕ → ℕ → ℕ
 mapValue ls b inn s k st v q = farValue b s st v (nearValue ls b inn s k st v q)
+
+pub record SiblingArgs (b : List ℕ) (v p : ℕ) : Type 0 where
+  pub above : v < p
+  pub place : v * 4 + 4 ≤ length b
+  pub size-in : v + 1 ≡ p → sizeCell b v ≤ v
 
 pub record BaseArgs (b st : List ℕ) (s k v p a : ℕ) : Type 0 where
   pub few : s ≤ 16

@@ -3,13 +3,22 @@ use crate::rows::far_row;
 use crate::rows::near_row;
 use crate::rows::same_row;
 ghost use mathlib.Core.Path.{_≡_};
-ghost use Prim.Native.Nat.{ℕ, _+_, _*_};
-ghost use lib.ListN.{length, getD};
-ghost use Rattle.links.specs.Cells.{parentCell, jumpCell};
+ghost use Prim.Native.Nat.{_+_, _*_};
 ghost use Rattle.tables.specs.StateCells.{mapCell};
 ghost use Rattle.tables.specs.Rows.{Rowed};
-ghost use Rattle.tables.specs.Maps.{BaseArgs, StepArgs, FillArgs, FarMapArgs, MapArgs};
-ghost use Rattle.tables.specs.Maps.{nearBase, nearStep, nearValue, farValue, mapValue, Maps};
+ghost use Rattle.tables.specs.Maps.{SiblingArgs, BaseArgs, StepArgs, FillArgs, FarMapArgs, MapArgs};
+ghost use Rattle.tables.specs.Maps.{siblingOf, nearBase, nearStep, nearValue, farValue, mapValue, Maps};
+
+// The other child of node v's parent p.
+pub fn sibling(nums: &[u16], v: usize, p: usize) -> usize
+    requires { ⌜ SiblingArgs (now nums) v p ⌝ }
+    ensures { λ r. ⌜ r ≡ siblingOf (now (nums .entry)) v p ⌝ }
+{
+    if v + 1 == p {
+        return v - (nums[v * 4 + 3] as usize);
+    }
+    p - 1
+}
 
 // Where the step from node v to its parent p of label a stands in the inner states.
 pub fn near_base(
@@ -24,12 +33,12 @@ pub fn near_base(
     requires { ⌜ BaseArgs (now nums) (now bytes) s k v p a ⌝ }
     ensures { λ r. ⌜ r ≡ nearBase (now (nums .entry)) (now (bytes .entry)) s k v p a ⌝ }
 {
-    let w = s + 1;
+    let u = sibling(nums, v, p);
+    let x = bytes[u * (s + 1)] as usize;
     if v + 1 == p {
-        let left = v - (nums[v * 4 + 3] as usize);
-        return ((bytes[left * w] as usize) * k + a) * s;
+        return (x * k + a) * s;
     }
-    a * s + (bytes[(p - 1) * w] as usize)
+    a * s + x
 }
 
 // How far its entries stand apart.

@@ -1,6 +1,5 @@
 // Writing one node's map, for rule tables and branch tables.
-ghost use mathlib.Core.Path.{_≡_};
-ghost use Prim.Native.Nat.{ℕ, _+_, _*_, _≤_, _<_};
+ghost use Prim.Native.Nat.{_+_, _*_, _<_};
 ghost use lib.ListN.{length, getD};
 ghost use Rattle.tables.specs.Rows.{Rowed, NearArgs, FarArgs, SameArgs, farCell};
 

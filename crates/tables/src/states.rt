@@ -1,6 +1,6 @@
 // The run over a plan: each node's state byte, in rising node number.
 ghost use mathlib.Core.Path.{_≡_};
-ghost use Prim.Native.Nat.{ℕ, _+_, _*_};
+ghost use Prim.Native.Nat.{_+_, _*_};
 ghost use lib.ListN.{length, getD};
 ghost use Rattle.tables.specs.States.{RuleArgs, InnerArgs, StateArgs, Runs, innerState};
 

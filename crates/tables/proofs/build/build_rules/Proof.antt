@@ -1,6 +1,6 @@
 -- `build::build_rules` meets its contract.
 -- Assumes nothing.
-use mathlib.Core.Path.{_≡_, sym, _∙_}
+use mathlib.Core.Path.{sym, _∙_}
 use lib.ListN.{length}
 use Rattle.formats.specs.Checks.{firstNo, buildChecks}
 use Rattle.formats.specs.Built.{builtLinks, builtStates}

@@ -1,8 +1,6 @@
 -- `maps::far_map` meets its contract.
 -- Assumes nothing.
-use Prim.Native.Nat.{ℕ, _+_, _*_}
-use lib.ListN.{length, getD}
-use Rattle.links.specs.Cells.{parentCell}
+use Prim.Native.Nat.{_+_, _*_}
 use Rattle.tables.proofs.MapPlaces.{far-args, far-done, near-done}
 use native.Mathlib.Omega.{arith}
 use borrow.Author.Needs.{needs}

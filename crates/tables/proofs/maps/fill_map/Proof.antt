@@ -1,7 +1,5 @@
 -- `maps::fill_map` meets its contract.
 -- Assumes nothing.
-use Prim.Native.Nat.{ℕ, _+_, _*_}
-use lib.ListN.{length, getD}
 use Rattle.tables.proofs.MapPlaces.{far-map-args, fill-done}
 use native.Mathlib.Omega.{arith}
 use borrow.Author.Needs.{needs}

@@ -1,7 +1,7 @@
 -- `maps::fill_maps` meets its contract. The loop's invariant: whatever buffer e the root's map was written over, the
 -- nodes from v on have their maps, and no byte outside the maps is changed.
 -- Assumes nothing.
-use Prim.Native.Nat.{ℕ, _+_, _-_, _*_, _≤_, _<_}
+use Prim.Native.Nat.{ℕ, _+_, _-_, _<_}
 use mathlib.Core.Path.{_≡_, refl, subst}
 use mathlib.Core.List.{List, []}
 use lib.ListN.{length}

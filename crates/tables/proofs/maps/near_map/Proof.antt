@@ -1,7 +1,5 @@
 -- `maps::near_map` meets its contract.
 -- Assumes nothing.
-use Prim.Native.Nat.{ℕ, _+_, _*_}
-use lib.ListN.{length, getD}
 use Rattle.links.specs.Cells.{parentCell}
 use Rattle.tables.proofs.MapPlaces.{base-args, near-args, near-row-is}
 use native.Mathlib.Omega.{arith}

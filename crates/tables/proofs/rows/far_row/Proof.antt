@@ -2,8 +2,8 @@
 -- is changed.
 -- Assumes nothing.
 use Prim.Native.Nat.{ℕ, _+_, _-_, _*_, _≤_, _<_}
-use mathlib.Core.Path.{_≡_, refl, subst}
-use lib.ListN.{length, getD, length-set}
+use mathlib.Core.Path.{_≡_, subst}
+use lib.ListN.{length, length-set}
 use Rattle.tables.specs.Rows.{RowTo, farCell}
 use Rattle.tables.proofs.RowTurns.{row-turn, placed, far-here-below, far-near-below, far-is}
 use native.Mathlib.Omega.{arith}

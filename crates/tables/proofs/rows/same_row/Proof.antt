@@ -1,9 +1,9 @@
 -- `rows::same_row` meets its contract. The loop's invariant: the first q bytes of the map are their own numbers, no
 -- other byte is changed.
 -- Assumes nothing.
-use Prim.Native.Nat.{ℕ, _+_, _-_, _*_, _≤_, _<_}
+use Prim.Native.Nat.{ℕ, _+_, _-_, _*_, _≤_}
 use mathlib.Core.Path.{_≡_, refl, subst}
-use lib.ListN.{length, getD, length-set}
+use lib.ListN.{length, length-set}
 use Rattle.tables.specs.Rows.{RowTo}
 use Rattle.tables.proofs.RowTurns.{row-turn}
 use native.Mathlib.Omega.{arith}
