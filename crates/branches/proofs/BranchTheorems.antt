@@ -1,6 +1,8 @@
 -- What the answers of the build and of the full check for a branch table mean.
---     written-branch-built, built-branch-built   an accepted build leaves both buffers as built, whatever their excess is
---     check-yes, yes-check   the check's answer is yes exactly where plan and branch table pass and the tables are as built
+--     written-branch-built, built-branch-built   an accepted build leaves both buffers as built, whatever their
+--         excess is
+--     check-yes, yes-check   the check's answer is yes exactly where plan and branch table pass and the tables are as
+--         built
 --     check-no, no-check     it is no exactly where 2 to 11 pass and the tables are not as built
 --     build-then-check       what an accepted build leaves is answered with yes
 -- Assumes nothing.
@@ -54,7 +56,8 @@ built-branch-built p r nums bytes nums′ bytes′ answer D e =
 -- ---- yes and no
 
 module _ (p r nums bytes : List ℕ) where
-  begins-built : firstNo (branchTableChecks p r) ≡ 0 → Begins (builtLinks p) (builtSteps p r) nums bytes → BranchBuilt p r nums bytes
+  begins-built : firstNo (branchTableChecks p r) ≡ 0 → Begins (builtLinks p) (builtSteps p r) nums bytes
+      → BranchBuilt p r nums bytes
   begins-built pass b = record {
     accepted = pass;
     links = ap (λ (n : ℕ). take n nums) (sym (links-length p r pass)) ∙ b .0;
@@ -72,7 +75,8 @@ module _ (p r nums bytes : List ℕ) where
   branch-built-passes B =
       passes-branch-build p r (length nums) (length bytes) (B .accepted)
       (begins-room (linkLength (nodeCount p)) nums (builtLinks p) (B .links) (links-length p r (B .accepted)))
-      (begins-room (stateLength (nodeCount p) (stateCount r)) bytes (builtSteps p r) (B .states) (steps-length p r (B .accepted)))
+      (begins-room (stateLength (nodeCount p) (stateCount r)) bytes (builtSteps p r) (B .states)
+      (steps-length p r (B .accepted)))
 
   module _ (answer : Checking)
       (done : CheckDone (branchBuildNumber p r nums bytes) (builtLinks p) (builtSteps p r) nums bytes answer) where
@@ -83,7 +87,8 @@ module _ (p r nums bytes : List ℕ) where
 
     pub yes-check : BranchBuilt p r nums bytes → answer ≡ Yes
     yes-check B =
-        yes-done (branchBuildNumber p r nums bytes) (builtLinks p) (builtSteps p r) nums bytes answer done (branch-built-passes B)
+        yes-done (branchBuildNumber p r nums bytes) (builtLinks p) (builtSteps p r) nums bytes answer done
+        (branch-built-passes B)
         (built-begins B)
 
     pub check-no : answer ≡ No → (branchBuildNumber p r nums bytes ≡ 0) × (BranchBuilt p r nums bytes → ⊥)
@@ -100,6 +105,7 @@ module _ (p r nums bytes : List ℕ) where
 pub build-then-check : (p r nums bytes nums′ bytes′ : List ℕ) (built : Building) (checked : Checking)
     → BuildDone (branchBuildNumber p r nums bytes) (builtLinks p) (builtSteps p r) nums bytes built nums′ bytes′
     → numberOf built ≡ 0
-    → CheckDone (branchBuildNumber p r nums′ bytes′) (builtLinks p) (builtSteps p r) nums′ bytes′ checked → checked ≡ Yes
+    → CheckDone (branchBuildNumber p r nums′ bytes′) (builtLinks p) (builtSteps p r) nums′ bytes′ checked
+    → checked ≡ Yes
 build-then-check p r nums bytes nums′ bytes′ built checked B e C =
     yes-check p r nums′ bytes′ checked C (built-branch-built p r nums bytes nums′ bytes′ built B e)

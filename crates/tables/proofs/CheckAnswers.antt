@@ -92,9 +92,11 @@ module _ (links states nums bytes : List ℕ) where
   pub begins-same : Begins links states nums bytes → sameTables links states nums bytes ≡ true
   unfolding sameTables one two
   begins-same b =
-      and-both one two (sameList-is (take (length links) nums) links (b .0)) (sameList-is (take (length states) bytes) states (b .1))
+      and-both one two (sameList-is (take (length links) nums) links (b .0))
+      (sameList-is (take (length states) bytes) states (b .1))
 
-module _ (n : ℕ) (links states nums bytes : List ℕ) (answer : Checking) (done : CheckDone n links states nums bytes answer) where
+module _ (n : ℕ) (links states nums bytes : List ℕ) (answer : Checking)
+    (done : CheckDone n links states nums bytes answer) where
   pub done-yes : answer ≡ Yes → (n ≡ 0) × Begins links states nums bytes
   done-yes e =
       let q : (n ≡ 0) × (sameTables links states nums bytes ≡ true) =
@@ -102,7 +104,8 @@ module _ (n : ℕ) (links states nums bytes : List ℕ) (answer : Checking) (don
       (q .0, same-begins links states nums bytes (q .1))
 
   pub yes-done : n ≡ 0 → Begins links states nums bytes → answer ≡ Yes
-  yes-done pass b = done .told ∙ yes-told n (sameTables links states nums bytes) pass (begins-same links states nums bytes b)
+  yes-done pass b = done .told ∙ yes-told n (sameTables links states nums bytes) pass
+      (begins-same links states nums bytes b)
 
   pub done-no : answer ≡ No → (n ≡ 0) × (Begins links states nums bytes → ⊥)
   done-no e =

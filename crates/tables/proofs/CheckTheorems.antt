@@ -1,5 +1,6 @@
 -- What the answer of the full check of a rule table means.
---     check-yes, yes-check   it is yes exactly where plan and rules pass and the buffers begin with what the build writes
+--     check-yes, yes-check   it is yes exactly where plan and rules pass and the buffers begin with what the build
+--         writes
 --     check-no, no-check     it is no exactly where 2 to 11 pass and a buffer begins otherwise
 --     build-then-check       what an accepted build leaves is answered with yes
 -- Not here: that the equations between neighbouring nodes leave one table only (LocalLaws).
@@ -33,7 +34,8 @@ module _ (p r nums bytes : List ℕ) where
   states-length pass = length-builtStates p (rule-table-passes p r pass .0) r
 
   -- plan and rules pass and the buffers begin with what the build writes
-  begins-built : firstNo (ruleTableChecks p r) ≡ 0 → Begins (builtLinks p) (builtStates p r) nums bytes → AsBuilt p r nums bytes
+  begins-built : firstNo (ruleTableChecks p r) ≡ 0 → Begins (builtLinks p) (builtStates p r) nums bytes
+      → AsBuilt p r nums bytes
   begins-built pass b = record {
     accepted = pass;
     links = ap (λ (n : ℕ). take n nums) (sym (links-length pass)) ∙ b .0;
@@ -64,7 +66,8 @@ module _ (p r nums bytes : List ℕ) where
 
     pub yes-check : AsBuilt p r nums bytes → answer ≡ Yes
     yes-check B =
-        yes-done (buildNumber p r nums bytes) (builtLinks p) (builtStates p r) nums bytes answer done (built-passes B) (built-begins B)
+        yes-done (buildNumber p r nums bytes) (builtLinks p) (builtStates p r) nums bytes answer done (built-passes B)
+        (built-begins B)
 
     pub check-no : answer ≡ No → (buildNumber p r nums bytes ≡ 0) × (AsBuilt p r nums bytes → ⊥)
     check-no e =
