@@ -1,5 +1,5 @@
 pub mod SearchLaws
 pub mod MeetWays
 pub mod ShiftLaws
-pub mod InsertLaws
+pub mod PlaceLaws
 pub mod InsertTurns
