@@ -1,3 +1,4 @@
+pub mod InsertLaws
 pub mod SearchLaws
 pub mod MeetWays
 pub mod ShiftLaws

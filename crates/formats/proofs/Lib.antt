@@ -1,0 +1,13 @@
+pub mod CheckLaws
+pub mod ListLaws
+pub mod PartLaws
+pub mod PlanLaws
+pub mod RuleLaws
+pub mod BranchLaws
+pub mod InputLaws
+pub mod PlanAnswers
+pub mod TurnLaws
+pub mod RuleAnswers
+pub mod BranchAnswers
+pub mod ListAnswers
+pub mod InputAnswers

@@ -1,0 +1,170 @@
+/*
+ * whatif.h: the what-if checker for C and C++.
+ *
+ * Order: limits, sizes, answers, then the six functions.
+ * The bytes of plans and tables are in docs/LAYOUT.md, the order of the checks of each call in docs/REFUSALS.md.
+ *
+ * Link with libcapi.a (x86-64). The library never allocates, keeps nothing between calls and is re-entrant: any
+ * number of threads may call it at once, each with buffers that no other thread writes during the call.
+ *
+ * What holds for every function:
+ * - A slice is a pointer, then its count of elements (not bytes).
+ * - What is `const` is only read. What is not is written as its comment says, and nowhere else.
+ * - No two buffers of one call overlap, unless both are only read. Out values overlap nothing.
+ * - 16-bit buffers are aligned to 2, out values to 4. No pointer is NULL, save that an empty slice (count 0) may have
+ *   any pointer, NULL too: nothing is read or written through it.
+ * - The answer is WHATIF_ACCEPTED or the number of the first check that says no.
+ * - A refused call has changed nothing: every buffer and every out value holds what it held. This is proved.
+ * - Whatever bytes are lent, a call ends and stays inside the lent buffers. This is proved too.
+ * - The library can't see whether a pointer and its count are right. That is the caller's part.
+ */
+#ifndef WHATIF_H
+#define WHATIF_H
+
+#include <stddef.h>
+#include <stdint.h>
+
+#ifdef __cplusplus
+extern "C" {
+#endif
+
+#define WHATIF_VERSION "0.1.0"
+
+/* Limits: nodes of a plan (1 to), states and labels of a table (1 to), changes in a list (0 to). */
+#define WHATIF_MAX_NODES 65535u
+#define WHATIF_MAX_STATES 16u
+#define WHATIF_MAX_LABELS 64u
+#define WHATIF_MAX_CHANGES 64u
+/* The greatest depth of a node, root 0. It follows from the limit on nodes and is no check of its own. */
+#define WHATIF_MAX_DEPTH 32767u
+
+/* Sizes: bytes of a plan of n nodes, of a rule table and of a branch table of s states and k labels; elements of the
+ * node table (uint16_t) and of the state table (uint8_t) for n nodes and s states. A plan, a rule table and a branch
+ * table have exactly these bytes; the node table and the state table may be longer, and their excess is untouched. */
+#define WHATIF_PLAN_BYTES(n) ((size_t)12 + (size_t)2 * (size_t)(n))
+#define WHATIF_RULES_BYTES(s, k) ((size_t)20 + (size_t)(k) + (size_t)(s) * (size_t)(k) * (size_t)(s) + (size_t)(s))
+#define WHATIF_BRANCH_BYTES(s, k) ((size_t)16 + (size_t)(s) * (size_t)(k) + (size_t)(s))
+#define WHATIF_NODE_TABLE_LEN(n) ((size_t)4 * (size_t)(n))
+#define WHATIF_STATE_TABLE_LEN(n, s) (((size_t)(s) + (size_t)1) * (size_t)(n))
+
+/* Answers. The numbers are fixed for good. */
+enum whatif_answer {
+    /* The call was accepted. */
+    WHATIF_ACCEPTED = 0,
+    /* The session is in a state in which this call may not be made. */
+    WHATIF_REFUSED_SESSION_STATE = 1,
+    /* The plan has fewer than 12 bytes. */
+    WHATIF_REFUSED_PLAN_SHORT = 2,
+    /* The plan's node count is not 1 to 65,535. */
+    WHATIF_REFUSED_NODE_COUNT = 3,
+    /* The plan's offsets or its length are not exact. */
+    WHATIF_REFUSED_PLAN_LAYOUT = 4,
+    /* The plan's kinds are not those of one tree in post-order. */
+    WHATIF_REFUSED_PLAN_TREE = 5,
+    /* The rule table has fewer than 20 bytes, or the branch table fewer than 16. */
+    WHATIF_REFUSED_TABLE_SHORT = 6,
+    /* The table's count of states is not 1 to 16, or its count of labels not 1 to 64. */
+    WHATIF_REFUSED_TABLE_COUNTS = 7,
+    /* The table's offsets or its length are not exact. */
+    WHATIF_REFUSED_TABLE_LAYOUT = 8,
+    /* The table holds a state that it does not have, or a mark that is neither 0 nor 1. */
+    WHATIF_REFUSED_TABLE_ENTRY = 9,
+    /* The plan has a label that the table does not have. */
+    WHATIF_REFUSED_PLAN_LABEL = 10,
+    /* The node table or the state table is too short. */
+    WHATIF_REFUSED_BUFFER_SHORT = 11,
+    /* The list has more than 64 changes, or not as many labels as nodes. */
+    WHATIF_REFUSED_LIST_LENGTH = 12,
+    /* A node given is not one of the plan. */
+    WHATIF_REFUSED_NODE = 13,
+    /* A label given is not one of the table. */
+    WHATIF_REFUSED_LABEL = 14,
+    /* The list has a node twice. */
+    WHATIF_REFUSED_NODE_TWICE = 15,
+    /* The lower node is not at or below the upper node. */
+    WHATIF_REFUSED_NOT_BELOW = 16,
+    /* What is lent does not have the length that its counts of nodes, states and labels need. */
+    WHATIF_REFUSED_LENT_LENGTH = 17,
+    /* A value read leads outside the plan, the states or the labels, or a climb does not rise. */
+    WHATIF_REFUSED_LENT_VALUE = 18
+};
+
+/*
+ * Writes the tables of a plan and a rule table: those on which questions are answered.
+ * Lent:    the plan and the rule table, read; node_table and state_table, written.
+ * Written: the first WHATIF_NODE_TABLE_LEN(N) numbers of node_table (parent, jump, depth and size of the subtree, for
+ *          each node) and the first WHATIF_STATE_TABLE_LEN(N, S) bytes of state_table (state in the run, then the
+ *          map, for each node), N and S as the headers name them. The rest of a longer buffer is untouched.
+ * Answers: WHATIF_ACCEPTED, or the first of 2, 3, 4, 5, 6, 7, 8, 9, 10, 11. Refused, both buffers are as they were.
+ */
+uint32_t whatif_build(const uint8_t *plan, size_t plan_len, const uint8_t *rules, size_t rules_len,
+                      uint16_t *node_table, size_t node_table_len, uint8_t *state_table, size_t state_table_len);
+
+/*
+ * Full check: are the lent tables what whatif_build writes for this plan and rule table?
+ * Lent:    the plan, the rule table and both tables, read. The rest of a longer table is not looked at.
+ * Written: *yes, 1 where every number and byte of the tables is what whatif_build writes, else 0.
+ * Answers: WHATIF_ACCEPTED, or the first of 2, 3, 4, 5, 6, 7, 8, 9, 10, 11. A table too short is 11, never a no.
+ *          Refused, *yes is as it was.
+ */
+uint32_t whatif_check(const uint8_t *plan, size_t plan_len, const uint8_t *rules, size_t rules_len,
+                      const uint16_t *node_table, size_t node_table_len, const uint8_t *state_table,
+                      size_t state_table_len, uint32_t *yes);
+
+/*
+ * Fresh run: runs the rule table over the whole plan with some labels changed, without tables.
+ * Lent:    the plan, the rule table and the list of changes, read: node nodes[i] takes labels[i]. nodes_len and
+ *          labels_len are equal, 0 to 64. The order of the list has no effect.
+ * Written: *state, the root's state; *yes, 1 where that state's mark is 1, else 0.
+ * Answers: WHATIF_ACCEPTED, or the first of 2, 3, 4, 5, 6, 7, 8, 9, 10, 12, 13, 14, 15; each is put to the whole list
+ *          before the next. Refused, *state and *yes are as they were.
+ * It needs about 32 KiB of stack.
+ */
+uint32_t whatif_fresh_run(const uint8_t *plan, size_t plan_len, const uint8_t *rules, size_t rules_len,
+                          const uint16_t *nodes, size_t nodes_len, const uint8_t *labels, size_t labels_len,
+                          uint32_t *state, uint32_t *yes);
+
+/*
+ * Writes the tables of a plan and a branch table: those on which branch questions are answered.
+ * Lent:    the plan and the branch table, read; node_table and state_table, written.
+ * Written: as by whatif_build, the state of a node being the one after its label on the word from the root, and its
+ *          map going from the state after the jump's label to the state after the node's.
+ * Answers: WHATIF_ACCEPTED, or the first of 2, 3, 4, 5, 6, 7, 8, 9, 10, 11. Refused, both buffers are as they were.
+ */
+uint32_t whatif_branch_build(const uint8_t *plan, size_t plan_len, const uint8_t *branch, size_t branch_len,
+                             uint16_t *node_table, size_t node_table_len, uint8_t *state_table,
+                             size_t state_table_len);
+
+/*
+ * Full check of branch tables: are the lent tables what whatif_branch_build writes for this plan and branch table?
+ * Lent:    the plan, the branch table and both tables, read. The rest of a longer table is not looked at.
+ * Written: *yes, 1 where every number and byte of the tables is what whatif_branch_build writes, else 0.
+ * Answers: WHATIF_ACCEPTED, or the first of 2, 3, 4, 5, 6, 7, 8, 9, 10, 11. A table too short is 11, never a no.
+ *          Refused, *yes is as it was.
+ */
+uint32_t whatif_branch_check(const uint8_t *plan, size_t plan_len, const uint8_t *branch, size_t branch_len,
+                             const uint16_t *node_table, size_t node_table_len, const uint8_t *state_table,
+                             size_t state_table_len, uint32_t *yes);
+
+/*
+ * Branch question: the branch table reads the labels from node `upper` down to node `lower`, both included, from
+ * state 0 on. The same node twice is a word of one letter.
+ * Lent:    the plan, the branch table and the tables of whatif_branch_build, read. N, S and K are those of the
+ *          headers of the plan and the branch table.
+ * Written: *state, the state after the last label; *yes, 1 where its mark is 1, else 0; *links, the moves of the
+ *          climb from lower to the depth of upper.
+ * Answers: WHATIF_ACCEPTED, or the first of 17, 13, 16, 18. 17 is given too where a header is cut short or names a
+ *          number outside its limits. 18 is never given on tables as whatif_branch_build wrote them for what is
+ *          lent. On other tables the call ends as well, with 16, 18 or an answer. Refused, *state, *yes and *links
+ *          are as they were.
+ */
+uint32_t whatif_branch(const uint8_t *plan, size_t plan_len, const uint8_t *branch, size_t branch_len,
+                       const uint16_t *node_table, size_t node_table_len, const uint8_t *state_table,
+                       size_t state_table_len, uint32_t upper, uint32_t lower, uint32_t *state, uint32_t *yes,
+                       uint32_t *links);
+
+#ifdef __cplusplus
+}
+#endif
+
+#endif /* WHATIF_H */

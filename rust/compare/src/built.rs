@@ -1,0 +1,48 @@
+//! A case with the tables that the library built for it.
+
+use crate::calls::{self, Kind, Lent};
+use crate::inputs::Case;
+use crate::random::Random;
+use reference::formats::read_plan;
+use reference::tree::Tree;
+
+pub struct Built {
+    pub kind: Kind,
+    pub case: Case,
+    pub numbers: Vec<u16>,
+    pub bytes: Vec<u8>,
+}
+
+impl Built {
+    /// In buffers that are exactly long enough.
+    pub fn new(kind: Kind, case: Case, random: &mut Random) -> Built {
+        let lens = (case.numbers_len(), case.bytes_len());
+        let (numbers, bytes) = calls::build(kind, &case.plan, case.table(kind), lens, random).expect("accepted");
+        Built { kind, case, numbers, bytes }
+    }
+
+    pub fn tree(&self) -> Tree {
+        Tree::of(&read_plan(&self.case.plan).expect("accepted"))
+    }
+
+    /// What the full check says of some tables with this case's plan and table.
+    pub fn says(&self, numbers: &[u16], bytes: &[u8], random: &mut Random) -> bool {
+        let table = self.case.table(self.kind);
+        calls::library_check(self.kind, &self.case.plan, table, numbers, bytes, random).expect("accepted")
+    }
+
+    /// For a branch question.
+    pub fn lent(&self) -> Lent<'_> {
+        Lent { plan: &self.case.plan, branch: &self.case.branch, numbers: &self.numbers, bytes: &self.bytes }
+    }
+
+    /// A random node and one of the nodes from it up to the root: lower, upper.
+    pub fn pair(&self, tree: &Tree, random: &mut Random) -> (u32, u32) {
+        let lower = random.below(self.case.n);
+        let mut upper = lower;
+        for _ in 0..random.below(tree.depth[lower] + 1) {
+            upper = tree.parent[upper];
+        }
+        (lower as u32, upper as u32)
+    }
+}

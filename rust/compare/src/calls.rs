@@ -1,0 +1,224 @@
+//! The library's calls, with everything lent held to account, each compared with the reference implementation.
+//!
+//! Buffers that are written stand inside longer ones: what is outside must stay, and so must all of it on a refusal.
+//! Out values start at a random number, which they must keep on a refusal.
+
+use crate::random::Random;
+use reference::tables::Tables;
+use std::fmt::Debug;
+use whatif::raw;
+
+/// Which kind of table a call is about.
+#[derive(Clone, Copy, Debug, PartialEq, Eq)]
+pub enum Kind {
+    Rules,
+    Branch,
+}
+
+pub const KINDS: [Kind; 2] = [Kind::Rules, Kind::Branch];
+
+/// Panics at the first difference, without printing whole tables.
+pub fn same<T: PartialEq + Debug>(what: &str, got: &[T], want: &[T]) {
+    if got != want {
+        let at = got.iter().zip(want).position(|(g, w)| g != w);
+        let (g, w) = at.map_or((None, None), |i| (got.get(i), want.get(i)));
+        panic!("{}: {} and {} long, first different at {:?}: {:?}, not {:?}", what, got.len(), want.len(), at, g, w);
+    }
+}
+
+const MARGIN: usize = 9;
+
+/// A build into buffers of these lengths that hold random numbers, compared whole. What was written, or the refusal.
+pub fn build(
+    kind: Kind,
+    plan: &[u8],
+    table: &[u8],
+    lens: (usize, usize),
+    random: &mut Random,
+) -> Result<(Vec<u16>, Vec<u8>), u32> {
+    let expected = match kind {
+        Kind::Rules => reference::build(plan, table, lens.0, lens.1),
+        Kind::Branch => reference::branch_build(plan, table, lens.0, lens.1),
+    };
+    build_as(kind, plan, table, lens, expected.as_ref().map_err(|&number| number), random)
+}
+
+/// The same where it is known already what comes out.
+pub fn build_as(
+    kind: Kind,
+    plan: &[u8],
+    table: &[u8],
+    lens: (usize, usize),
+    expected: Result<&Tables, u32>,
+    random: &mut Random,
+) -> Result<(Vec<u16>, Vec<u8>), u32> {
+    let mut numbers = random.numbers(lens.0 + 2 * MARGIN);
+    let mut bytes = random.bytes(lens.1 + 2 * MARGIN);
+    let (mut want_numbers, mut want_bytes) = (numbers.clone(), bytes.clone());
+    let (plan_was, table_was) = (plan.to_vec(), table.to_vec());
+    let f = match kind {
+        Kind::Rules => raw::whatif_build,
+        Kind::Branch => raw::whatif_branch_build,
+    };
+    // SAFETY: pointers into vectors of at least these lengths, none of which overlap
+    let number = unsafe {
+        f(
+            plan.as_ptr(),
+            plan.len(),
+            table.as_ptr(),
+            table.len(),
+            numbers.as_mut_ptr().add(MARGIN),
+            lens.0,
+            bytes.as_mut_ptr().add(MARGIN),
+            lens.1,
+        )
+    };
+    assert_eq!(number, expected.err().unwrap_or(0), "the answer of the build");
+    if let Ok(tables) = expected {
+        want_numbers[MARGIN..MARGIN + tables.numbers.len()].copy_from_slice(&tables.numbers);
+        want_bytes[MARGIN..MARGIN + tables.bytes.len()].copy_from_slice(&tables.bytes);
+    }
+    same("node table", &numbers, &want_numbers);
+    same("state table", &bytes, &want_bytes);
+    same("plan", plan, &plan_was);
+    same("table", table, &table_was);
+    let lent = (numbers[MARGIN..MARGIN + lens.0].to_vec(), bytes[MARGIN..MARGIN + lens.1].to_vec());
+    expected.map(|_| lent)
+}
+
+/// A full check, its answer alone. The number 0 or 1 that it tells, and nothing on a refusal.
+pub fn library_check(
+    kind: Kind,
+    plan: &[u8],
+    table: &[u8],
+    numbers: &[u16],
+    bytes: &[u8],
+    random: &mut Random,
+) -> Result<bool, u32> {
+    let unset = random.word() as u32 | 2;
+    let mut yes = unset;
+    let f = match kind {
+        Kind::Rules => raw::whatif_check,
+        Kind::Branch => raw::whatif_branch_check,
+    };
+    // SAFETY: each pointer comes with its own slice's length
+    let number = unsafe {
+        f(
+            plan.as_ptr(),
+            plan.len(),
+            table.as_ptr(),
+            table.len(),
+            numbers.as_ptr(),
+            numbers.len(),
+            bytes.as_ptr(),
+            bytes.len(),
+            &mut yes,
+        )
+    };
+    told(number, &[yes], &[unset])?;
+    assert!(yes <= 1, "the full check told {}", yes);
+    Ok(yes == 1)
+}
+
+/// A full check, compared.
+pub fn check(
+    kind: Kind,
+    plan: &[u8],
+    table: &[u8],
+    numbers: &[u16],
+    bytes: &[u8],
+    random: &mut Random,
+) -> Result<bool, u32> {
+    let expected = match kind {
+        Kind::Rules => reference::check(plan, table, numbers, bytes),
+        Kind::Branch => reference::branch_check(plan, table, numbers, bytes),
+    };
+    let answer = library_check(kind, plan, table, numbers, bytes, random);
+    assert_eq!(answer, expected, "the answer of the full check");
+    answer
+}
+
+/// A fresh run, compared.
+pub fn fresh_run(plan: &[u8], rules: &[u8], nodes: &[u16], labels: &[u8], random: &mut Random) -> Result<(), u32> {
+    let expected = reference::fresh::fresh_run(plan, rules, nodes, labels);
+    let unset = [random.word() as u32 | 16, random.word() as u32 | 16];
+    let mut out = unset;
+    let [state, yes] = &mut out;
+    // SAFETY: each pointer comes with its own slice's length
+    let number = unsafe {
+        raw::whatif_fresh_run(
+            plan.as_ptr(),
+            plan.len(),
+            rules.as_ptr(),
+            rules.len(),
+            nodes.as_ptr(),
+            nodes.len(),
+            labels.as_ptr(),
+            labels.len(),
+            state,
+            yes,
+        )
+    };
+    let answer = told(number, &out, &unset).map(|()| out);
+    let want = expected.map(|told| [told.state as u32, told.yes as u32]);
+    assert_eq!(answer, want, "the answer of the fresh run with {:?} and {:?}", nodes, labels);
+    answer.map(|_| ())
+}
+
+/// What is lent for a branch question.
+#[derive(Clone, Copy)]
+pub struct Lent<'a> {
+    pub plan: &'a [u8],
+    pub branch: &'a [u8],
+    pub numbers: &'a [u16],
+    pub bytes: &'a [u8],
+}
+
+/// A branch question, its answer alone: state, yes and links, and nothing on a refusal.
+pub fn library_branch(lent: Lent, upper: u32, lower: u32, random: &mut Random) -> Result<[u32; 3], u32> {
+    let unset = [random.word() as u32, random.word() as u32, random.word() as u32];
+    let mut out = unset;
+    let [state, yes, links] = &mut out;
+    // SAFETY: each pointer comes with its own slice's length
+    let number = unsafe {
+        raw::whatif_branch(
+            lent.plan.as_ptr(),
+            lent.plan.len(),
+            lent.branch.as_ptr(),
+            lent.branch.len(),
+            lent.numbers.as_ptr(),
+            lent.numbers.len(),
+            lent.bytes.as_ptr(),
+            lent.bytes.len(),
+            upper,
+            lower,
+            state,
+            yes,
+            links,
+        )
+    };
+    told(number, &out, &unset).map(|()| out)
+}
+
+/// A branch question on any tables, compared with the rule on those very tables.
+pub fn branch(lent: Lent, upper: u32, lower: u32, random: &mut Random) -> Result<[u32; 3], u32> {
+    let expected = reference::branch::on_tables(lent.plan, lent.branch, lent.numbers, lent.bytes, upper, lower);
+    let answer = library_branch(lent, upper, lower, random);
+    let want = expected.map(|told| [told.state as u32, told.yes as u32, told.links as u32]);
+    assert_eq!(answer, want, "the branch question from {} to {}", upper, lower);
+    answer
+}
+
+/// A refusal leaves the out values.
+fn told(number: u32, out: &[u32], unset: &[u32]) -> Result<(), u32> {
+    if number == 0 {
+        return Ok(());
+    }
+    assert_eq!(out, unset, "refused with {}, and told something", number);
+    Err(number)
+}
+
+/// A longer copy with random excess.
+pub fn longer<T: Clone>(table: &[T], excess: Vec<T>) -> Vec<T> {
+    [table, &excess[..]].concat()
+}

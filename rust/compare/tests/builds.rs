@@ -1,0 +1,80 @@
+//! Builds of rule tables and of branch tables: every number and byte that is written, for trees of every shape and
+//! size. Each build is followed by a full check, which must say yes, also with excess.
+
+use compare::calls::{self, Kind, KINDS};
+use compare::inputs::Case;
+use compare::random::Random;
+use compare::shapes::{self, DEEPEST, SHAPES};
+
+/// Builds both tables of a case in buffers a little too long, and checks what came out.
+fn build_both(case: &Case, random: &mut Random) {
+    for kind in KINDS {
+        let table = case.table(kind);
+        let lens = (case.numbers_len() + random.below(4), case.bytes_len() + random.below(4));
+        let (numbers, bytes) = calls::build(kind, &case.plan, table, lens, random).expect("accepted");
+        let yes = calls::library_check(kind, &case.plan, table, &numbers, &bytes, random);
+        assert_eq!(yes, Ok(true), "the full check of what was built");
+    }
+}
+
+#[test]
+fn every_tree_of_up_to_seven_leaves() {
+    let random = &mut Random::new(101);
+    let mut trees = 0;
+    for leaves in 1..=7 {
+        for kinds in shapes::all(leaves) {
+            for (s, k) in [(1, 1), (2, 2), (3, 5), (16, 64)] {
+                build_both(&Case::of_kinds(&kinds, s, k, random), random);
+            }
+            trees += 1;
+        }
+    }
+    assert_eq!(trees, 197);
+}
+
+#[test]
+fn every_count_of_states_and_labels() {
+    let random = &mut Random::new(102);
+    for s in 1..=16 {
+        for k in 1..=64 {
+            let shape = *random.pick(&SHAPES);
+            let leaves = random.between(1, 40);
+            build_both(&Case::new(shape, leaves, s, k, random), random);
+        }
+    }
+}
+
+#[test]
+fn every_shape_from_one_leaf_on() {
+    let random = &mut Random::new(103);
+    for shape in SHAPES {
+        for leaves in (1..=260).chain([500, 501, 512, 1_024, 2_047, 4_097]) {
+            let (s, k) = (random.between(1, 16), random.between(1, 64));
+            build_both(&Case::new(shape, leaves, s, k, random), random);
+        }
+    }
+}
+
+#[test]
+fn the_largest_plans_of_every_shape() {
+    let random = &mut Random::new(104);
+    for shape in SHAPES {
+        for (leaves, s, k) in [(32_768, 1, 1), (32_768, 2, 64), (32_768, 16, 64), (32_767, 16, 1), (20_000, 7, 33)] {
+            let case = Case::new(shape, leaves, s, k, random);
+            assert_eq!(case.n, 2 * leaves - 1);
+            build_both(&case, random);
+        }
+    }
+}
+
+#[test]
+fn the_greatest_depth() {
+    let random = &mut Random::new(105);
+    for shape in DEEPEST {
+        let case = Case::new(shape, 32_768, 3, 4, random);
+        let (numbers, _) =
+            calls::build(Kind::Rules, &case.plan, &case.rules, (case.numbers_len(), case.bytes_len()), random).unwrap();
+        let deepest = numbers.chunks(4).map(|row| row[2]).max();
+        assert_eq!((case.n, deepest), (65_535, Some(32_767)));
+    }
+}

@@ -1,0 +1,196 @@
+//! Build and full check of branch tables, and the branch question.
+
+use crate::checks::{self, number, Branch, Plan};
+use crate::links::{self, DEPTH, JUMP, PARENT, SIZE};
+
+pub fn branch_build(plan: &[u8], branch: &[u8], numbers: &mut [u16], bytes: &mut [u8]) -> Result<(), u32> {
+    let plan = checks::plan(plan)?;
+    let branch = checks::branch(branch)?;
+    checks::labels(&plan, branch.k)?;
+    checks::buffers(plan.n, branch.s, numbers.len(), bytes.len())?;
+    let row = branch.s + 1;
+    let (numbers, bytes) = (&mut numbers[..4 * plan.n], &mut bytes[..row * plan.n]);
+    up(&plan, numbers);
+    let root = plan.n - 1;
+    numbers[4 * root..4 * root + 3].copy_from_slice(&links::root(plan.n));
+    bytes[row * root] = branch.steps[plan.labels[root] as usize];
+    for q in 0..branch.s {
+        bytes[row * root + 1 + q] = q as u8;
+    }
+    down(&plan, &branch, numbers, bytes);
+    Ok(())
+}
+
+fn up(plan: &Plan, numbers: &mut [u16]) {
+    for v in 0..plan.n {
+        if plan.kinds[v] == 0 {
+            numbers[4 * v + SIZE] = 1;
+        } else {
+            let (l, r) = links::children(numbers, v);
+            numbers[4 * v + SIZE] = 1 + numbers[4 * l + SIZE] + numbers[4 * r + SIZE];
+            numbers[4 * l + PARENT] = v as u16;
+            numbers[4 * r + PARENT] = v as u16;
+        }
+    }
+}
+
+fn down(plan: &Plan, branch: &Branch, numbers: &mut [u16], bytes: &mut [u8]) {
+    let row = branch.s + 1;
+    for v in (0..plan.n - 1).rev() {
+        let p = numbers[4 * v + PARENT] as usize;
+        let jump = links::jump(numbers, p);
+        numbers[4 * v + JUMP] = jump.to;
+        numbers[4 * v + DEPTH] = jump.depth;
+        bytes[row * v] = branch.steps[bytes[row * p] as usize * branch.k + plan.labels[v] as usize];
+        let map = map(plan, branch, bytes, v, p, jump.over);
+        bytes[row * v + 1..row * v + row].copy_from_slice(&map[..branch.s]);
+    }
+}
+
+/// The map of node v with parent p, from the top down: where the jump is far the map of p's jump, then p's; then the
+/// step.
+#[inline]
+fn map(plan: &Plan, branch: &Branch, bytes: &[u8], v: usize, p: usize, over: Option<usize>) -> [u8; 16] {
+    let (s, row) = (branch.s, branch.s + 1);
+    let a = plan.labels[v] as usize;
+    let mut map = [0u8; 16];
+    match over {
+        Some(j) => {
+            let of_p = &bytes[row * p + 1..row * p + row];
+            let of_j = &bytes[row * j + 1..row * j + row];
+            for (to, &at_j) in map[..s].iter_mut().zip(of_j) {
+                *to = branch.steps[of_p[at_j as usize] as usize * branch.k + a];
+            }
+        }
+        None => {
+            for (q, to) in map[..s].iter_mut().enumerate() {
+                *to = branch.steps[q * branch.k + a];
+            }
+        }
+    }
+    map
+}
+
+pub fn branch_check(plan: &[u8], branch: &[u8], numbers: &[u16], bytes: &[u8]) -> Result<bool, u32> {
+    let plan = checks::plan(plan)?;
+    let branch = checks::branch(branch)?;
+    checks::labels(&plan, branch.k)?;
+    checks::buffers(plan.n, branch.s, numbers.len(), bytes.len())?;
+    let row = branch.s + 1;
+    let (numbers, bytes) = (&numbers[..4 * plan.n], &bytes[..row * plan.n]);
+    Ok(checked_up(&plan, numbers) && checked_down(&plan, &branch, numbers, bytes))
+}
+
+fn checked_up(plan: &Plan, numbers: &[u16]) -> bool {
+    for v in 0..plan.n {
+        let mut size = 1;
+        if plan.kinds[v] != 0 {
+            let (l, r) = links::children(numbers, v);
+            if numbers[4 * l + PARENT] as usize != v || numbers[4 * r + PARENT] as usize != v {
+                return false;
+            }
+            size += numbers[4 * l + SIZE] + numbers[4 * r + SIZE];
+        }
+        if numbers[4 * v + SIZE] != size {
+            return false;
+        }
+    }
+    true
+}
+
+fn checked_down(plan: &Plan, branch: &Branch, numbers: &[u16], bytes: &[u8]) -> bool {
+    let row = branch.s + 1;
+    let root = plan.n - 1;
+    if numbers[4 * root..4 * root + 3] != links::root(plan.n)
+        || bytes[row * root] != branch.steps[plan.labels[root] as usize]
+        || (0..branch.s).any(|q| bytes[row * root + 1 + q] != q as u8)
+    {
+        return false;
+    }
+    for v in (0..root).rev() {
+        let p = numbers[4 * v + PARENT] as usize;
+        let jump = links::jump(numbers, p);
+        let state = branch.steps[bytes[row * p] as usize * branch.k + plan.labels[v] as usize];
+        if numbers[4 * v + JUMP] != jump.to || numbers[4 * v + DEPTH] != jump.depth || bytes[row * v] != state {
+            return false;
+        }
+        let map = map(plan, branch, bytes, v, p, jump.over);
+        if bytes[row * v + 1..row * v + row] != map[..branch.s] {
+            return false;
+        }
+    }
+    true
+}
+
+#[derive(Clone, Copy, Debug, PartialEq, Eq)]
+pub struct Told {
+    pub state: u8,
+    pub yes: bool,
+    pub links: u32,
+}
+
+/// 17: the parts of the lent bytes by the headers' N, S and K.
+fn lent<'a>(plan: &'a [u8], branch: &'a [u8], numbers: usize, bytes: usize) -> Option<(&'a [u8], Branch<'a>)> {
+    if plan.len() < 12 || branch.len() < 16 {
+        return None;
+    }
+    let (n, s, k) = (number(plan, 0), number(branch, 0), number(branch, 4));
+    if !(1..=65_535).contains(&n) || !(1..=16).contains(&s) || !(1..=64).contains(&k) {
+        return None;
+    }
+    if plan.len() != 12 + 2 * n || branch.len() != 16 + s * k + s || numbers < 4 * n || bytes < (s + 1) * n {
+        return None;
+    }
+    let (steps, marks) = branch[16..].split_at(s * k);
+    Some((&plan[12..12 + n], Branch { s, k, steps, marks }))
+}
+
+/// The branch question. The map carried goes from the node climbed to down to `lower`; each move is put before it.
+pub fn ask(plan: &[u8], branch: &[u8], numbers: &[u16], bytes: &[u8], upper: u32, lower: u32) -> Result<Told, u32> {
+    let (labels, branch) = lent(plan, branch, numbers.len(), bytes.len()).ok_or(17u32)?;
+    let (n, s, k, row) = (labels.len(), branch.s, branch.k, branch.s + 1);
+    let (upper, lower) = (upper as usize, lower as usize);
+    if upper >= n || lower >= n {
+        return Err(13);
+    }
+    if lower > upper || upper >= lower + numbers[4 * upper + SIZE] as usize {
+        return Err(16);
+    }
+    let depth = |v: usize| numbers[4 * v + DEPTH];
+    let top = depth(upper);
+    let mut carried: [u8; 16] = std::array::from_fn(|q| q as u8);
+    let (mut v, mut links) = (lower, 0);
+    while depth(v) > top {
+        let jump = numbers[4 * v + JUMP] as usize;
+        if jump >= n {
+            return Err(18);
+        }
+        let by_jump = depth(jump) >= top;
+        let next = if by_jump { jump } else { numbers[4 * v + PARENT] as usize };
+        if next >= n || depth(next) >= depth(v) {
+            return Err(18);
+        }
+        let before = carried;
+        if by_jump {
+            for (to, &q) in carried[..s].iter_mut().zip(&bytes[row * v + 1..row * v + row]) {
+                *to = *before[..s].get(q as usize).ok_or(18u32)?;
+            }
+        } else {
+            let a = labels[v] as usize;
+            if a >= k {
+                return Err(18);
+            }
+            for (q, to) in carried[..s].iter_mut().enumerate() {
+                *to = *before[..s].get(branch.steps[q * k + a] as usize).ok_or(18u32)?;
+            }
+        }
+        v = next;
+        links += 1;
+    }
+    let a = labels[upper] as usize;
+    if a >= k {
+        return Err(18);
+    }
+    let state = *carried[..s].get(branch.steps[a] as usize).ok_or(18u32)?;
+    Ok(Told { state, yes: branch.marks[state as usize] == 1, links })
+}

@@ -1,0 +1,48 @@
+//! The fresh run, over a copy of the labels with the changes laid on and a stack of the states that wait.
+
+use crate::checks;
+
+/// The root's state and its yes or no, or the first of 2 to 10 and 12 to 15.
+pub fn fresh_run(plan: &[u8], rules: &[u8], nodes: &[u16], changes: &[u8]) -> Result<(u8, bool), u32> {
+    let plan = checks::plan(plan)?;
+    let rules = checks::rules(rules)?;
+    checks::labels(&plan, rules.k)?;
+    list(nodes, changes, plan.n, rules.k)?;
+    let mut labels = plan.labels.to_vec();
+    for (&v, &a) in nodes.iter().zip(changes) {
+        labels[v as usize] = a;
+    }
+    let mut waiting = vec![0u8; (plan.n + 1) / 2];
+    let mut count = 0;
+    for (&kind, &a) in plan.kinds.iter().zip(&labels) {
+        let a = a as usize;
+        if kind == 0 {
+            waiting[count] = rules.leaf[a];
+            count += 1;
+        } else {
+            count -= 1;
+            let (p, q) = (waiting[count - 1] as usize, waiting[count] as usize);
+            waiting[count - 1] = rules.inner[(p * rules.k + a) * rules.s + q];
+        }
+    }
+    let state = waiting[0];
+    Ok((state, rules.marks[state as usize] == 1))
+}
+
+fn list(nodes: &[u16], changes: &[u8], n: usize, k: usize) -> Result<(), u32> {
+    if nodes.len() != changes.len() || nodes.len() > 64 {
+        return Err(12);
+    }
+    if nodes.iter().any(|&v| v as usize >= n) {
+        return Err(13);
+    }
+    if changes.iter().any(|&a| a as usize >= k) {
+        return Err(14);
+    }
+    for (i, v) in nodes.iter().enumerate() {
+        if nodes[..i].contains(v) {
+            return Err(15);
+        }
+    }
+    Ok(())
+}

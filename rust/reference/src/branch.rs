@@ -1,0 +1,121 @@
+//! Branch questions, twice: by the word itself (`by_word`, what holds on tables as built), and on lent tables, whatever
+//! they hold (`on_tables`: it follows the lent links and maps).
+
+use crate::climb::{climb, Lent, Links, Move};
+use crate::formats::{number, Branch, Plan, MAX_LABELS, MAX_NODES, MAX_STATES};
+use crate::tables::labels_down;
+use crate::tree::Tree;
+
+#[derive(Clone, Copy, Debug, PartialEq, Eq)]
+pub struct Answer {
+    pub state: u8,
+    pub yes: bool,
+    pub links: usize,
+}
+
+/// "The word runs from the upper node to the lower, both included". 13, 16 or the answer.
+/// The tree is the plan's; plan and branch table passed 2 to 10.
+pub fn by_word(tree: &Tree, plan: &Plan, branch: &Branch, upper: u32, lower: u32) -> Result<Answer, u32> {
+    let (upper, lower) = (upper as usize, lower as usize);
+    if upper >= plan.nodes() || lower >= plan.nodes() {
+        return Err(13);
+    }
+    if !tree.at_or_below(lower, upper) {
+        return Err(16);
+    }
+    let first = branch.step(0, plan.labels[upper]);
+    let rest = labels_down(tree, plan.labels, upper, lower);
+    let state = rest.iter().fold(first, |s, &a| branch.step(s, a));
+    let links = climb(tree, lower, tree.depth[upper])?.len();
+    Ok(Answer { state, yes: branch.accepts(state), links })
+}
+
+/// Lent bytes with the counts that the headers name, of the lengths that these need.
+struct Question<'a> {
+    links: Lent<'a>,
+    labels: &'a [u8],
+    bytes: &'a [u8],
+    s: usize,
+    k: usize,
+    steps: &'a [u8],
+    marks: &'a [u8],
+}
+
+/// "A branch question takes N, S and K from the lent headers: 17, also for a header cut short or a number outside its
+/// limits". Offsets and kinds are not looked at.
+fn lent<'a>(plan: &'a [u8], branch: &'a [u8], numbers: &'a [u16], bytes: &'a [u8]) -> Option<Question<'a>> {
+    if plan.len() < 12 || branch.len() < 16 {
+        return None;
+    }
+    let (n, s, k) = (number(plan, 0), number(branch, 0), number(branch, 4));
+    if !(1..=MAX_NODES).contains(&n) || !(1..=MAX_STATES).contains(&s) || !(1..=MAX_LABELS).contains(&k) {
+        return None;
+    }
+    let (n, s, k) = (n as usize, s as usize, k as usize);
+    let exact = plan.len() == 12 + 2 * n && branch.len() == 16 + s * k + s;
+    if !exact || numbers.len() < 4 * n || bytes.len() < (s + 1) * n {
+        return None;
+    }
+    let (steps, marks) = branch[16..].split_at(s * k);
+    Some(Question { links: Lent { nodes: n, numbers }, labels: &plan[12..12 + n], bytes, s, k, steps, marks })
+}
+
+/// 17, 13, 16, 18 or the answer.
+pub fn on_tables(
+    plan: &[u8],
+    branch: &[u8],
+    numbers: &[u16],
+    bytes: &[u8],
+    upper: u32,
+    lower: u32,
+) -> Result<Answer, u32> {
+    let lent = lent(plan, branch, numbers, bytes).ok_or(17u32)?;
+    let (upper, lower) = (upper as usize, lower as usize);
+    if upper >= lent.links.nodes || lower >= lent.links.nodes {
+        return Err(13);
+    }
+    // by the lent size of the upper node's subtree, which ends at the upper node
+    if lower > upper || upper >= lower + lent.links.size(upper) {
+        return Err(16);
+    }
+    let moves = climb(&lent.links, lower, lent.links.depth(upper))?;
+    lent.answer(upper, &moves)
+}
+
+impl Question<'_> {
+    /// The climb carries a map, from the state after the label of the node reached down to the state after the lower
+    /// node's. It is whole, so a move is read for every state, also for those that the answer doesn't need.
+    fn answer(&self, upper: usize, moves: &[Move]) -> Result<Answer, u32> {
+        let mut carried: Vec<usize> = (0..self.s).collect();
+        for &one in moves {
+            let entered = (0..self.s).map(|q| self.through(one, q)).collect::<Result<Vec<usize>, u32>>()?;
+            carried = entered.into_iter().map(|q| carried[q]).collect();
+        }
+        let state = carried[self.step(0, upper)?];
+        Ok(Answer { state: state as u8, yes: self.marks[state] == 1, links: moves.len() })
+    }
+
+    /// The state at the lower end of a move, from the state at its upper end.
+    fn through(&self, one: Move, state: usize) -> Result<usize, u32> {
+        match one {
+            Move::ByJump(v) => self.inside(self.bytes[(self.s + 1) * v + 1 + state]),
+            Move::ToParent(v) => self.step(state, v),
+        }
+    }
+
+    fn step(&self, state: usize, v: usize) -> Result<usize, u32> {
+        let a = self.labels[v] as usize;
+        if a >= self.k {
+            return Err(18);
+        }
+        self.inside(self.steps[state * self.k + a])
+    }
+
+    fn inside(&self, state: u8) -> Result<usize, u32> {
+        if (state as usize) < self.s {
+            Ok(state as usize)
+        } else {
+            Err(18)
+        }
+    }
+}

@@ -1,0 +1,78 @@
+//! Climbs: "while deeper than t, take the jump if its depth is at least t, else the parent. Each move is one link."
+
+/// Parents, jumps and depths of `nodes` nodes, by a tree or by a lent table.
+pub trait Links {
+    fn nodes(&self) -> usize;
+    fn parent(&self, v: usize) -> usize;
+    fn jump(&self, v: usize) -> usize;
+    fn depth(&self, v: usize) -> usize;
+}
+
+/// A move from a node.
+#[derive(Clone, Copy, Debug, PartialEq, Eq)]
+pub enum Move {
+    ByJump(usize),
+    ToParent(usize),
+}
+
+/// The moves from node w to depth t, in order; 18 where one "leads outside the plan" or "doesn't rise".
+pub fn climb(links: &impl Links, w: usize, t: usize) -> Result<Vec<Move>, u32> {
+    let mut moves = Vec::new();
+    let mut v = w;
+    while links.depth(v) > t {
+        let jump = links.jump(v);
+        if jump >= links.nodes() {
+            return Err(18);
+        }
+        let (one, next) =
+            if links.depth(jump) >= t { (Move::ByJump(v), jump) } else { (Move::ToParent(v), links.parent(v)) };
+        if next >= links.nodes() || links.depth(next) >= links.depth(v) {
+            return Err(18);
+        }
+        moves.push(one);
+        v = next;
+    }
+    Ok(moves)
+}
+
+impl Links for crate::tree::Tree {
+    fn nodes(&self) -> usize {
+        self.parent.len()
+    }
+    fn parent(&self, v: usize) -> usize {
+        self.parent[v]
+    }
+    fn jump(&self, v: usize) -> usize {
+        self.jump[v]
+    }
+    fn depth(&self, v: usize) -> usize {
+        self.depth[v]
+    }
+}
+
+/// The numbers of a lent node table, for its first `nodes` nodes.
+pub struct Lent<'a> {
+    pub nodes: usize,
+    pub numbers: &'a [u16],
+}
+
+impl Lent<'_> {
+    pub fn size(&self, v: usize) -> usize {
+        self.numbers[4 * v + 3] as usize
+    }
+}
+
+impl Links for Lent<'_> {
+    fn nodes(&self) -> usize {
+        self.nodes
+    }
+    fn parent(&self, v: usize) -> usize {
+        self.numbers[4 * v] as usize
+    }
+    fn jump(&self, v: usize) -> usize {
+        self.numbers[4 * v + 1] as usize
+    }
+    fn depth(&self, v: usize) -> usize {
+        self.numbers[4 * v + 2] as usize
+    }
+}

@@ -1,0 +1,60 @@
+//! The what-if checker again, written from document 01 alone and for clarity: the library is compared with it.
+//!
+//! Order: `formats` (bytes and checks 2 to 10), `tree` (parents, depths, sizes, jumps), `tables` (run, maps, both table
+//! buffers), `climb` (moves), `branch` (branch questions), `fresh` (fresh run). The calls are in this file.
+//! A refusal is its number. Nothing here is fast, and nothing is shared with the library.
+
+pub mod branch;
+pub mod climb;
+pub mod formats;
+pub mod fresh;
+pub mod tables;
+pub mod tree;
+
+use formats::{read_branch, read_plan, read_rules, Plan};
+use tables::Tables;
+
+/// The tables of a plan and a rule table, or the first of 2 to 11.
+/// Of the buffers only the lengths matter: count of 16-bit numbers, count of bytes.
+pub fn build(plan: &[u8], rules: &[u8], numbers_len: usize, bytes_len: usize) -> Result<Tables, u32> {
+    let plan = read_plan(plan)?;
+    let rules = read_rules(rules)?;
+    labels_and_buffers(&plan, rules.states, rules.labels, numbers_len, bytes_len)?;
+    Ok(tables::rule_tables(&plan, &rules))
+}
+
+/// The tables of a plan and a branch table, or the first of 2 to 11.
+pub fn branch_build(plan: &[u8], branch: &[u8], numbers_len: usize, bytes_len: usize) -> Result<Tables, u32> {
+    let plan = read_plan(plan)?;
+    let branch = read_branch(branch)?;
+    labels_and_buffers(&plan, branch.states, branch.labels, numbers_len, bytes_len)?;
+    Ok(tables::branch_tables(&plan, &branch))
+}
+
+/// Are the lent tables what `build` writes? Or the first of 2 to 11.
+pub fn check(plan: &[u8], rules: &[u8], numbers: &[u16], bytes: &[u8]) -> Result<bool, u32> {
+    let built = build(plan, rules, numbers.len(), bytes.len())?;
+    Ok(built.starts(numbers, bytes))
+}
+
+/// Are the lent tables what `branch_build` writes? Or the first of 2 to 11.
+pub fn branch_check(plan: &[u8], branch: &[u8], numbers: &[u16], bytes: &[u8]) -> Result<bool, u32> {
+    let built = branch_build(plan, branch, numbers.len(), bytes.len())?;
+    Ok(built.starts(numbers, bytes))
+}
+
+/// "every plan label below K? 10; both table buffers long enough? 11"
+fn labels_and_buffers(
+    plan: &Plan,
+    states: usize,
+    labels: usize,
+    numbers_len: usize,
+    bytes_len: usize,
+) -> Result<(), u32> {
+    plan.labels_below(labels)?;
+    let n = plan.nodes();
+    if numbers_len < 4 * n || bytes_len < (states + 1) * n {
+        return Err(11);
+    }
+    Ok(())
+}

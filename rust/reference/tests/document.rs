@@ -1,0 +1,132 @@
+//! The reference implementation against the numbers that document 01 itself gives.
+
+use reference::branch::{by_word, Answer};
+use reference::climb::climb;
+use reference::formats::{read_branch, read_plan, read_rules};
+use reference::fresh::fresh_run;
+use reference::tree::Tree;
+
+fn bytes(header: &[u32], parts: &[&[u8]]) -> Vec<u8> {
+    header.iter().flat_map(|n| n.to_le_bytes()).chain(parts.concat()).collect()
+}
+
+fn plan_a() -> Vec<u8> {
+    bytes(&[7, 12, 19], &[&[1, 1, 1, 0, 1, 0, 1], &[0, 0, 1, 0, 0, 1, 1]])
+}
+
+fn table_a() -> Vec<u8> {
+    bytes(&[2, 2, 20, 22, 30], &[&[0, 1], &[0, 1, 0, 0, 1, 1, 0, 1], &[0, 1]])
+}
+
+/// Leaves at the left of a path of inner nodes: the depths are 0, then 1 twice, 2 twice ..
+fn comb(leaves: usize) -> Vec<u8> {
+    let n = 2 * leaves - 1;
+    let kinds = [vec![0; leaves], vec![1; leaves - 1]].concat();
+    bytes(&[n as u32, 12, 12 + n as u32], &[&vec![0; n], &kinds])
+}
+
+#[test]
+fn sizes() {
+    assert_eq!((plan_a().len(), table_a().len()), (26, 32));
+}
+
+/// Nodes, labels, and what is told.
+type Row = (&'static [u16], &'static [u8], Result<(u8, bool), u32>);
+
+#[test]
+fn sample_clearance() {
+    let rows: [Row; 9] = [
+        (&[], &[], Ok((1, true))),
+        (&[0], &[0], Ok((0, false))),
+        (&[0, 2], &[0, 0], Ok((1, true))),
+        (&[0, 3], &[0, 1], Ok((0, false))),
+        (&[4], &[0], Ok((0, false))),
+        (&[6], &[0], Ok((1, true))),
+        (&[7], &[0], Err(13)),
+        (&[0], &[2], Err(14)),
+        (&[0, 0], &[0, 1], Err(15)),
+    ];
+    for (nodes, labels, told) in rows {
+        let answer = fresh_run(&plan_a(), &table_a(), nodes, labels);
+        assert_eq!(answer.map(|a| (a.state, a.yes)), told, "{:?} {:?}", nodes, labels);
+    }
+}
+
+/// The first node of each depth, on a comb.
+fn by_depth(tree: &Tree, depth: usize) -> usize {
+    tree.depth.iter().position(|&d| d == depth).unwrap()
+}
+
+#[test]
+fn jumps_of_depths_1_to_7() {
+    let plan = comb(8);
+    let tree = Tree::of(&read_plan(&plan).unwrap());
+    let jumps: Vec<usize> = (1..=7).map(|d| tree.depth[tree.jump[by_depth(&tree, d)]]).collect();
+    assert_eq!(jumps, [0, 1, 0, 3, 4, 3, 0]);
+}
+
+#[test]
+fn climbs_from_depth_6() {
+    let plan = comb(8);
+    let tree = Tree::of(&read_plan(&plan).unwrap());
+    let links = |t| climb(&tree, by_depth(&tree, 6), t).unwrap().len();
+    assert_eq!((links(1), links(0), links(6)), (3, 2, 0));
+}
+
+#[test]
+fn climbs_stay_below_three_times_the_digits() {
+    let plan = comb(300);
+    let tree = Tree::of(&read_plan(&plan).unwrap());
+    for depth in 0..300 {
+        let node = by_depth(&tree, depth);
+        for t in 0..=depth {
+            // the greatest depth is 299, of 9 binary digits
+            assert!(climb(&tree, node, t).unwrap().len() <= 27);
+        }
+    }
+}
+
+#[test]
+fn one_node_is_accepted_with_14_bytes() {
+    let plan = bytes(&[1, 12, 13], &[&[0], &[0]]);
+    assert_eq!(plan.len(), 14);
+    assert!(read_plan(&plan).is_ok());
+}
+
+#[test]
+fn two_nodes_get_5() {
+    for first in 0..=255 {
+        for second in 0..=255 {
+            let plan = bytes(&[2, 12, 14], &[&[0, 0], &[first, second]]);
+            assert_eq!(read_plan(&plan).err(), Some(5));
+        }
+    }
+}
+
+#[test]
+fn label_0_takes_the_greater_state_and_1_the_lesser() {
+    let table = table_a();
+    let rules = read_rules(&table).unwrap();
+    for p in 0..2 {
+        for q in 0..2 {
+            assert_eq!((rules.inner(p, 0, q), rules.inner(p, 1, q)), (p.max(q), p.min(q)));
+        }
+    }
+}
+
+#[test]
+fn branch_words_run_downward() {
+    // three states: 0 until label 1 was read, then 1, and 2 once a 0 came after that; 2 is marked
+    let table = bytes(&[3, 2, 16, 22], &[&[0, 1, 2, 1, 2, 2], &[0, 0, 1]]);
+    let plan = plan_a();
+    let (plan, branch) = (read_plan(&plan).unwrap(), read_branch(&table).unwrap());
+    let tree = Tree::of(&plan);
+    let ask = |upper, lower| by_word(&tree, &plan, &branch, upper, lower);
+    // labels 1 0 0 from the root by node 5 to node 3, label 0 alone at node 3, labels 0 0 from node 5
+    assert_eq!(ask(6, 3), Ok(Answer { state: 2, yes: true, links: 2 }));
+    assert_eq!(ask(3, 3), Ok(Answer { state: 0, yes: false, links: 0 }));
+    assert_eq!(ask(5, 3), Ok(Answer { state: 0, yes: false, links: 1 }));
+    assert_eq!(ask(5, 0), Err(16));
+    assert_eq!(ask(3, 5), Err(16));
+    assert_eq!(ask(7, 0), Err(13));
+}

@@ -1,0 +1,233 @@
+//! A safe wrapper over the what-if checker's static library.
+//!
+//! A plan is a binary tree with a label at each node, a rule table a bottom-up tree automaton, a branch table an
+//! automaton on the words from an upper node down to a lower. Plans and tables are bytes (docs/LAYOUT.md). The library
+//! never allocates; the caller lends the tables. A refused call has changed nothing.
+//!
+//! Order: `sizes` (limits and lengths), `Refusal`, the calls. `raw` has the library's own functions.
+//!
+//! The sample of document 01: plan A of seven nodes, and table A, under which label 0 takes the greater state of two
+//! children and label 1 the lesser.
+//!
+//! ```
+//! # fn main() -> Result<(), whatif::Refusal> {
+//! let plan: Vec<u8> = [7u32, 12, 19].iter().flat_map(|n| n.to_le_bytes())
+//!     .chain([1, 1, 1, 0, 1, 0, 1]) // labels
+//!     .chain([0, 0, 1, 0, 0, 1, 1]) // kinds: 0 leaf, 1 inner
+//!     .collect();
+//! let rules: Vec<u8> = [2u32, 2, 20, 22, 30].iter().flat_map(|n| n.to_le_bytes())
+//!     .chain([0, 1]) // leaf states by label
+//!     .chain([0, 1, 0, 0, 1, 1, 0, 1]) // inner states by left state, label, right state
+//!     .chain([0, 1]) // marks
+//!     .collect();
+//!
+//! // with no change the root is in state 1, which is marked; with label 0 at node 0 it is in state 0
+//! let asis = whatif::fresh_run(&plan, &rules, &[], &[])?;
+//! assert_eq!((asis.state, asis.yes), (1, true));
+//! let changed = whatif::fresh_run(&plan, &rules, &[0], &[0])?;
+//! assert_eq!((changed.state, changed.yes), (0, false));
+//!
+//! // the tables, and a full check of them
+//! let mut node_table = [0u16; whatif::sizes::node_table_len(7)];
+//! let mut state_table = [0u8; whatif::sizes::state_table_len(7, 2)];
+//! whatif::build(&plan, &rules, &mut node_table, &mut state_table)?;
+//! assert!(whatif::check(&plan, &rules, &node_table, &state_table)?);
+//! # Ok(())
+//! # }
+//! ```
+
+pub mod raw;
+mod refusal;
+pub mod sizes;
+
+pub use refusal::Refusal;
+
+/// The library's version.
+pub const VERSION: &str = env!("CARGO_PKG_VERSION");
+
+/// What a fresh run tells.
+#[derive(Clone, Copy, Debug, PartialEq, Eq)]
+pub struct Verdict {
+    /// The root's state.
+    pub state: u8,
+    /// Is that state marked?
+    pub yes: bool,
+}
+
+/// What a branch question tells.
+#[derive(Clone, Copy, Debug, PartialEq, Eq)]
+pub struct BranchVerdict {
+    /// The state after the lower node's label.
+    pub state: u8,
+    /// Is that state marked?
+    pub yes: bool,
+    /// The moves of the climb from the lower node to the upper's depth.
+    pub links: u32,
+}
+
+/// Writes the tables of a plan and a rule table into the first `4N` numbers and `(S+1)N` bytes of the lent buffers; the
+/// rest is untouched. Refused with 2 to 11.
+///
+/// ```
+/// let mut node_table = [7u16; 4];
+/// let mut state_table = [7u8; 4];
+/// let refused = whatif::build(&[], &[], &mut node_table, &mut state_table);
+/// assert_eq!(refused, Err(whatif::Refusal::PlanShort));
+/// assert_eq!((node_table, state_table), ([7; 4], [7; 4]));
+/// ```
+pub fn build(plan: &[u8], rules: &[u8], node_table: &mut [u16], state_table: &mut [u8]) -> Result<(), Refusal> {
+    // SAFETY: each pointer comes with its own slice's count, and the borrows keep the buffers apart
+    accepted(unsafe {
+        raw::whatif_build(
+            plan.as_ptr(),
+            plan.len(),
+            rules.as_ptr(),
+            rules.len(),
+            node_table.as_mut_ptr(),
+            node_table.len(),
+            state_table.as_mut_ptr(),
+            state_table.len(),
+        )
+    })
+}
+
+/// Are the lent tables what `build` writes for this plan and rule table? The rest of a longer table is not looked at.
+/// Refused with 2 to 11.
+pub fn check(plan: &[u8], rules: &[u8], node_table: &[u16], state_table: &[u8]) -> Result<bool, Refusal> {
+    let mut yes = 0;
+    // SAFETY: each pointer comes with its own slice's count; `yes` is a place of this function
+    accepted(unsafe {
+        raw::whatif_check(
+            plan.as_ptr(),
+            plan.len(),
+            rules.as_ptr(),
+            rules.len(),
+            node_table.as_ptr(),
+            node_table.len(),
+            state_table.as_ptr(),
+            state_table.len(),
+            &mut yes,
+        )
+    })?;
+    Ok(yes == 1)
+}
+
+/// Runs the rule table over the whole plan with the listed labels changed: node `nodes[i]` takes `labels[i]`.
+/// Refused with 2 to 10, 12 to 15.
+pub fn fresh_run(plan: &[u8], rules: &[u8], nodes: &[u16], labels: &[u8]) -> Result<Verdict, Refusal> {
+    let (mut state, mut yes) = (0, 0);
+    // SAFETY: as in `check`
+    accepted(unsafe {
+        raw::whatif_fresh_run(
+            plan.as_ptr(),
+            plan.len(),
+            rules.as_ptr(),
+            rules.len(),
+            nodes.as_ptr(),
+            nodes.len(),
+            labels.as_ptr(),
+            labels.len(),
+            &mut state,
+            &mut yes,
+        )
+    })?;
+    Ok(Verdict { state: state as u8, yes: yes == 1 })
+}
+
+/// Writes the tables of a plan and a branch table, as `build` does for a rule table. Refused with 2 to 11.
+pub fn branch_build(plan: &[u8], branch: &[u8], node_table: &mut [u16], state_table: &mut [u8]) -> Result<(), Refusal> {
+    // SAFETY: as in `build`
+    accepted(unsafe {
+        raw::whatif_branch_build(
+            plan.as_ptr(),
+            plan.len(),
+            branch.as_ptr(),
+            branch.len(),
+            node_table.as_mut_ptr(),
+            node_table.len(),
+            state_table.as_mut_ptr(),
+            state_table.len(),
+        )
+    })
+}
+
+/// Are the lent tables what `branch_build` writes for this plan and branch table? Refused with 2 to 11.
+pub fn branch_check(plan: &[u8], branch: &[u8], node_table: &[u16], state_table: &[u8]) -> Result<bool, Refusal> {
+    let mut yes = 0;
+    // SAFETY: as in `check`
+    accepted(unsafe {
+        raw::whatif_branch_check(
+            plan.as_ptr(),
+            plan.len(),
+            branch.as_ptr(),
+            branch.len(),
+            node_table.as_ptr(),
+            node_table.len(),
+            state_table.as_ptr(),
+            state_table.len(),
+            &mut yes,
+        )
+    })?;
+    Ok(yes == 1)
+}
+
+/// What the branch table makes of the labels from node `upper` down to node `lower`, both included, from state 0 on.
+/// Refused with 17, 13, 16, 18 (in this order); never 18 on tables as `branch_build` wrote them for what is lent.
+///
+/// ```
+/// # fn main() -> Result<(), whatif::Refusal> {
+/// // one node with label 1; two states, of which label 1 leads to the marked one
+/// let plan: Vec<u8> = [1u32, 12, 13].iter().flat_map(|n| n.to_le_bytes()).chain([1, 0]).collect();
+/// let branch: Vec<u8> = [2u32, 2, 16, 20].iter().flat_map(|n| n.to_le_bytes())
+///     .chain([0, 1, 1, 1]) // steps by state and label
+///     .chain([0, 1]) // marks
+///     .collect();
+/// let (mut node_table, mut state_table) = ([0u16; 4], [0u8; 3]);
+/// whatif::branch_build(&plan, &branch, &mut node_table, &mut state_table)?;
+/// assert!(whatif::branch_check(&plan, &branch, &node_table, &state_table)?);
+///
+/// let told = whatif::branch(&plan, &branch, &node_table, &state_table, 0, 0)?;
+/// assert_eq!((told.state, told.yes, told.links), (1, true, 0));
+/// let refused = whatif::branch(&plan, &branch, &node_table, &state_table, 0, 65_536);
+/// assert_eq!(refused, Err(whatif::Refusal::Node));
+/// # Ok(())
+/// # }
+/// ```
+pub fn branch(
+    plan: &[u8],
+    branch: &[u8],
+    node_table: &[u16],
+    state_table: &[u8],
+    upper: u32,
+    lower: u32,
+) -> Result<BranchVerdict, Refusal> {
+    let (mut state, mut yes, mut links) = (0, 0, 0);
+    // SAFETY: as in `check`
+    accepted(unsafe {
+        raw::whatif_branch(
+            plan.as_ptr(),
+            plan.len(),
+            branch.as_ptr(),
+            branch.len(),
+            node_table.as_ptr(),
+            node_table.len(),
+            state_table.as_ptr(),
+            state_table.len(),
+            upper,
+            lower,
+            &mut state,
+            &mut yes,
+            &mut links,
+        )
+    })?;
+    Ok(BranchVerdict { state: state as u8, yes: yes == 1, links })
+}
+
+/// 0 is accepted; any other number is a refusal's.
+fn accepted(number: u32) -> Result<(), Refusal> {
+    match Refusal::from_number(number) {
+        None if number == 0 => Ok(()),
+        None => panic!("the library answered {}, which this wrapper does not know", number),
+        Some(refusal) => Err(refusal),
+    }
+}

@@ -1,0 +1,77 @@
+//! Why a call was refused: the pinned numbers of include/whatif.h, with its sentences.
+
+use std::fmt;
+
+macro_rules! refusals {
+    ($($name:ident = $number:literal, $sentence:literal;)*) => {
+        /// Why a call was refused. A refused call has changed nothing.
+        #[derive(Clone, Copy, Debug, PartialEq, Eq, Hash)]
+        #[non_exhaustive]
+        #[repr(u32)]
+        pub enum Refusal {
+            $(#[doc = $sentence] $name = $number,)*
+        }
+
+        impl Refusal {
+            /// All of them, by rising number.
+            pub const ALL: &'static [Refusal] = &[$(Refusal::$name),*];
+
+            /// The refusal of a number, if it has one.
+            ///
+            /// ```
+            /// use whatif::Refusal;
+            /// assert_eq!(Refusal::from_number(5), Some(Refusal::PlanTree));
+            /// assert_eq!(Refusal::from_number(0), None);
+            /// ```
+            pub fn from_number(number: u32) -> Option<Refusal> {
+                match number {
+                    $($number => Some(Refusal::$name),)*
+                    _ => None,
+                }
+            }
+
+            /// One plain sentence.
+            pub fn sentence(self) -> &'static str {
+                match self {
+                    $(Refusal::$name => $sentence,)*
+                }
+            }
+        }
+    };
+}
+
+refusals! {
+    SessionState = 1, "The session is in a state in which this call may not be made.";
+    PlanShort = 2, "The plan has fewer than 12 bytes.";
+    NodeCount = 3, "The plan's node count is not 1 to 65,535.";
+    PlanLayout = 4, "The plan's offsets or its length are not exact.";
+    PlanTree = 5, "The plan's kinds are not those of one tree in post-order.";
+    TableShort = 6, "The rule table has fewer than 20 bytes, or the branch table fewer than 16.";
+    TableCounts = 7, "The table's count of states is not 1 to 16, or its count of labels not 1 to 64.";
+    TableLayout = 8, "The table's offsets or its length are not exact.";
+    TableEntry = 9, "The table holds a state that it does not have, or a mark that is neither 0 nor 1.";
+    PlanLabel = 10, "The plan has a label that the table does not have.";
+    BufferShort = 11, "The node table or the state table is too short.";
+    ListLength = 12, "The list has more than 64 changes, or not as many labels as nodes.";
+    Node = 13, "A node given is not one of the plan.";
+    Label = 14, "A label given is not one of the table.";
+    NodeTwice = 15, "The list has a node twice.";
+    NotBelow = 16, "The lower node is not at or below the upper node.";
+    LentLength = 17, "What is lent does not have the length that its counts of nodes, states and labels need.";
+    LentValue = 18, "A value read leads outside the plan, the states or the labels, or a climb does not rise.";
+}
+
+impl Refusal {
+    /// The library's number, as document 01 gives it.
+    pub fn number(self) -> u32 {
+        self as u32
+    }
+}
+
+impl fmt::Display for Refusal {
+    fn fmt(&self, f: &mut fmt::Formatter<'_>) -> fmt::Result {
+        write!(f, "refused {}: {}", self.number(), self.sentence())
+    }
+}
+
+impl std::error::Error for Refusal {}

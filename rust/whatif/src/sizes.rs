@@ -1,0 +1,33 @@
+//! Limits and sizes, as the macros of include/whatif.h have them.
+
+pub const MAX_NODES: usize = 65_535;
+pub const MAX_STATES: usize = 16;
+pub const MAX_LABELS: usize = 64;
+pub const MAX_CHANGES: usize = 64;
+/// The greatest depth of a node, root 0. It follows from the limit on nodes.
+pub const MAX_DEPTH: usize = 32_767;
+
+/// Bytes of a plan of `n` nodes.
+pub const fn plan_bytes(n: usize) -> usize {
+    12 + 2 * n
+}
+
+/// Bytes of a rule table of `s` states and `k` labels.
+pub const fn rules_bytes(s: usize, k: usize) -> usize {
+    20 + k + s * k * s + s
+}
+
+/// Bytes of a branch table of `s` states and `k` labels.
+pub const fn branch_bytes(s: usize, k: usize) -> usize {
+    16 + s * k + s
+}
+
+/// 16-bit numbers of the node table for `n` nodes.
+pub const fn node_table_len(n: usize) -> usize {
+    4 * n
+}
+
+/// Bytes of the state table for `n` nodes and `s` states.
+pub const fn state_table_len(n: usize, s: usize) -> usize {
+    (s + 1) * n
+}
