@@ -4,3 +4,4 @@ pub mod MeetWays
 pub mod ShiftLaws
 pub mod PlaceLaws
 pub mod InsertTurns
+pub mod RootsLaws
