@@ -5,3 +5,4 @@ pub mod ShiftLaws
 pub mod PlaceLaws
 pub mod InsertTurns
 pub mod RootsLaws
+pub mod GrowLaws
