@@ -6,3 +6,4 @@ pub mod PlaceLaws
 pub mod InsertTurns
 pub mod RootsLaws
 pub mod GrowLaws
+pub mod ForkTurns
