@@ -7,3 +7,4 @@ pub mod InsertTurns
 pub mod RootsLaws
 pub mod GrowLaws
 pub mod ForkTurns
+pub mod FillTurns
