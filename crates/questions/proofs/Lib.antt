@@ -8,3 +8,8 @@ pub mod RootsLaws
 pub mod GrowLaws
 pub mod ForkTurns
 pub mod FillTurns
+pub mod MeetBuilt
+pub mod ForksBuilt
+pub mod RootsBuilt
+pub mod ClimbBuilt
+pub mod PartBuilt

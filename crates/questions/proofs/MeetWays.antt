@@ -19,7 +19,8 @@ use Rattle.questions.specs.declared.search.Meeting.{Meeting}
 use Rattle.questions.specs.declared.search.Meeting.the-variants.{At, Outside}
 use Rattle.questions.specs.Search.{isBelow, nextUnless, meetOn}
 use Rattle.questions.specs.SearchTold.{toldMeeting, toldTarget, toldRising}
-use Rattle.questions.proofs.SearchLaws.{unless, Taken, taken, search-here, search-move, search-stuck, search-inside}
+use Rattle.questions.proofs.SearchLaws.{unless, Taken, taken, search-here, search-move, search-stuck}
+use Rattle.questions.proofs.SearchLaws.{search-inside}
 
 -- ---- is_below
 
@@ -69,10 +70,12 @@ module _ (F : Forest) (stop : ℕ → Bool) (v j : ℕ) (ej : j ≡ F .jump v) w
     pub parent-taken : (p : ℕ) → p ≡ F .parent v → stop j ≡ true
         → toldRising F v p ≡ toldTarget F (nextUnless F stop v)
     parent-taken p ep s =
-        ap (toldRising F v) ep ∙ told-rising F v (toParent v) ∙ ap (toldTarget F) (sym (is-move (toParent v) (rw (← ej, s))))
+        ap (toldRising F v) ep ∙ told-rising F v (toParent v)
+        ∙ ap (toldTarget F) (sym (is-move (toParent v) (rw (← ej, s))))
 
     pub jump-taken : stop j ≡ false → toldRising F v j ≡ toldTarget F (nextUnless F stop v)
-    jump-taken s = ap (toldRising F v) ej ∙ told-rising F v (byJump v) ∙ ap (toldTarget F) (sym (is-move (byJump v) (rw (← ej, s))))
+    jump-taken s = ap (toldRising F v) ej ∙ told-rising F v (byJump v)
+        ∙ ap (toldTarget F) (sym (is-move (byJump v) (rw (← ej, s))))
 
 -- ---- meet
 
