@@ -5,6 +5,7 @@ pub mod ShiftLaws
 pub mod PlaceLaws
 pub mod InsertTurns
 pub mod RootsLaws
+pub mod FitLaws
 pub mod GrowLaws
 pub mod ForkTurns
 pub mod FillTurns
