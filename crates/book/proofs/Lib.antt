@@ -6,3 +6,5 @@ pub mod PartStates
 pub mod Relation
 pub mod Simulation
 pub mod StartSim
+pub mod AdvanceSim
+pub mod Demand3Theorem

@@ -39,7 +39,7 @@ some-part q =
     let t = planTree (q .lent .plan) in
     let top : size t - 1 + 1 ≡ size t = omega (arith, size-pos t) in
     let L = list-last (λ v. holds v (q .nodes)) t (size t - 1) top in
-    rw (L .1 ) (omega (arith, length-more (L .0) (size t - 1)))
+    rw (L .1) (omega (arith, length-more (L .0) (size t - 1)))
 
 pub start-list : (p : Phase) (z : Sizes) (x : Lent) (vs bs : List ℕ) → refusal p z (start x vs bs) ≡ 0
     → firstNo (listChecks (z .n) (z .k) vs bs) ≡ 0
