@@ -1,5 +1,6 @@
 pub mod Search
 pub mod SearchTold
 pub mod Roots
+pub mod Rising
 pub mod Climbs
 pub mod Part
