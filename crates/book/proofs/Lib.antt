@@ -8,3 +8,7 @@ pub mod Simulation
 pub mod StartSim
 pub mod AdvanceSim
 pub mod Demand3Theorem
+pub mod Ceilings
+pub mod AloneLaws
+pub mod OrderLaws
+pub mod QuestionTheorem
