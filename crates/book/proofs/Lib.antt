@@ -12,3 +12,7 @@ pub mod Ceilings
 pub mod AloneLaws
 pub mod OrderLaws
 pub mod QuestionTheorem
+pub mod WrittenSound
+pub mod JudgeLaws
+pub mod Sample
+pub mod Controls

@@ -5,3 +5,4 @@ pub mod Book
 pub mod Demand3
 pub mod Model
 pub mod Alone
+pub mod Judge
