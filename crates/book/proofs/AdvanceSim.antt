@@ -26,7 +26,8 @@ use Rattle.book.specs.Refusals.{refusal}
 use Rattle.book.specs.Book.{Standing, clean, firm, loose, Question, State, Book, Next, settled, phase, inState, rootsOf, partCount}
 use Rattle.book.specs.Book.{givenBy, longer, advanced, goesOn, otherBytes, mayAdvanceWith, byAnswer, loosely, firmly, advancing, proceed}
 use Rattle.book.specs.Model.{Record, Acted, acted, viewBy, marksBy, stepped, advanceWith, partNext, proceeds}
-use Rattle.book.proofs.Facts.{nodesOf, statesOf, reachedBy, Firmly, Handled, nextRoot, Layers}
+use Rattle.ready.specs.Parts.{nodesOf, statesOf}
+use Rattle.book.proofs.Facts.{reachedBy, Firmly, Handled, nextRoot, Layers}
 use Rattle.book.proofs.TrailLaws.{length-states, nodes-more, states-more, length-more, last-more, links-more, below-more, from-more}
 use Rattle.book.proofs.LendLaws.{Built, Same, links-built, same-links, lent-links, same-bytes, marks-built}
 use Rattle.book.proofs.FreshLaws.{part-state, given-same, sound-below}

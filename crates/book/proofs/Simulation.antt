@@ -23,7 +23,7 @@ use Rattle.book.specs.Book.{Standing, clean, firm, loose, Question, Stat
 use Rattle.book.specs.Book.{rootsOf, partCount, changedTree, givenBy, freshAnswer, ruleAnswer, reading, isTold}
 use Rattle.book.specs.Demand3.{Conforms, after}
 use Rattle.book.specs.Model.{Record, Acted, acted, idle, act, unless, proceeds, Does, toldBy, lastOf}
-use Rattle.book.proofs.Facts.{statesOf}
+use Rattle.ready.specs.Parts.{statesOf}
 use Rattle.book.proofs.TrailLaws.{last-states}
 use Rattle.book.proofs.LendLaws.{Built, links-built}
 use Rattle.book.proofs.FreshLaws.{whole-state, whole-links}
