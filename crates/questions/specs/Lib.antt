@@ -2,3 +2,4 @@ pub mod Search
 pub mod Roots
 pub mod Climbs
 pub mod Part
+pub mod PathViews
