@@ -1,1 +1,3 @@
 pub mod LookupLaws
+pub mod StepLaws
+pub mod ClimbTurns

@@ -1,6 +1,7 @@
 -- The lookups of a climb, by what is read.
 --     below-yes, below-no, below-state     a number is a state, or is not; what `below` gives is one
 --     stride, rule-place, rule-small       rows of equal length: the place of a rule is inside the rules, and small
+--     map-place, state-place               the place of a node's map entry, and of its state, is inside the bytes
 --     rule-outside, rule-at                a rule for a number that is no label, and for a label
 --     sibling-left .. sibling-none         the other child, by the tests of the code
 -- Assumes nothing.
@@ -46,6 +47,13 @@ below-none s q e =
 -- the row of u ends where a later row starts
 pub stride : (w u v : ℕ) → u < v → u * w + w ≤ v * w
 stride w u v h = let e : u + 1 ≤ v = omega arith in omega (arith, mul-le-mul-right w e)
+
+-- the state and the map of a node are inside the bytes
+pub map-place : (n s v q m : ℕ) → v < n → q < s → n * (s + 1) ≤ m → v * (s + 1) + (1 + q) < m
+map-place n s v q m hv hq hm = omega (arith, stride (s + 1) v n hv)
+
+pub state-place : (n s v m : ℕ) → v < n → n * (s + 1) ≤ m → v * (s + 1) < m
+state-place n s v m hv hm = omega (arith, stride (s + 1) v n hv)
 
 pub rule-place : (s k p a q : ℕ) → p < s → a < k → q < s → (p * k + a) * s + q < s * k * s
 rule-place s k p a q hp ha hq =

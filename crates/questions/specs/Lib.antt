@@ -3,3 +3,5 @@ pub mod Roots
 pub mod Climbs
 pub mod Part
 pub mod PathViews
+pub mod PartTold
+pub mod Steps

@@ -1,2 +1,3 @@
 // What a question is: the roots of its parts and the state and links of each part, on lent tables.
+pub mod climb;
 pub mod rules;
