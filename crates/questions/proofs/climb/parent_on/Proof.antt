@@ -10,11 +10,6 @@ use Rattle.questions.proofs.LookupLaws.{below-no, state-place}
 use Rattle.questions.proofs.StepLaws.{parent-alone, parent-lost, parent-right, parent-left}
 use Rattle.questions.proofs.climb.parent_on.Statement.{statement}
 use Rattle.questions.proofs.climb.parent_on.Tie as tie
-use Rattle.questions.proofs.climb.parent_on.Reads as reads
-use Rattle.questions.proofs.climb.parent_on.Lts as lts
-use Rattle.questions.proofs.rules.rule_on.Reads as rule-on-reads
-use Rattle.questions.proofs.rules.run_on.Reads as run-on-reads
-use Rattle.questions.proofs.rules.sibling_on.Reads as sibling-on-reads
 
 abbrev view : tie.Start → View
 view s =
@@ -56,8 +51,11 @@ shared-slice-read-a c = search needs
 
 cast-a : tie.Need-cast-a
 cast-a c =
-    omega (arith, c .shared-slice-known5 .given
-    (c .before .before .before .before .before .before .before .before .before .args .p))
+    omega (
+      arith,
+      c .shared-slice-known5 .given
+          (c .before .before .before .before .before .before .before .before .before .args .p),
+    )
 
 add-if3 : tie.Need-add-if3
 add-if3 c = search needs

@@ -12,10 +12,6 @@ use Rattle.questions.proofs.LookupLaws.{map-place}
 use Rattle.questions.proofs.StepLaws.{told-inside, step-jump, step-parent, step-stuck}
 use Rattle.questions.proofs.climb.step_on.Statement.{statement}
 use Rattle.questions.proofs.climb.step_on.Tie as tie
-use Rattle.questions.proofs.climb.step_on.Reads as reads
-use Rattle.questions.proofs.climb.step_on.Lts as lts
-use Rattle.links.proofs.moves.next_move.Reads as next-move-reads
-use Rattle.questions.proofs.climb.parent_on.Reads as parent-on-reads
 
 abbrev view : tie.Start → View
 view s =
