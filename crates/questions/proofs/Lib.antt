@@ -1,3 +1,4 @@
 pub mod LookupLaws
 pub mod StepLaws
 pub mod ClimbTurns
+pub mod ScanLaws

@@ -5,3 +5,4 @@ pub mod Part
 pub mod PathViews
 pub mod PartTold
 pub mod Steps
+pub mod Scans
