@@ -6,3 +6,4 @@ pub mod PathViews
 pub mod PartTold
 pub mod Steps
 pub mod Scans
+pub mod PartArgs

@@ -1,4 +1,5 @@
 // What a question is: the roots of its parts and the state and links of each part, on lent tables.
 pub mod climb;
+pub mod part;
 pub mod rules;
 pub mod scan;

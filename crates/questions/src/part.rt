@@ -1,0 +1,132 @@
+// One part of a question: the state of its root, from the parts before it, and the links of its climb, on whatever is
+// lent.
+use crate::climb::Climbed;
+use crate::climb::climb_state;
+use crate::rules::rule_on;
+use crate::rules::run_on;
+use crate::scan::last_in;
+use links::moves::depth_at;
+use links::moves::size_at;
+ghost use mathlib.Core.Path.{_≡_};
+ghost use Prim.Native.Nat.{ℕ, _≤_};
+ghost use lib.ListN.{getD};
+ghost use Rattle.trees.specs.Changes.{changed};
+ghost use Rattle.links.specs.Cells.{sizeCell};
+ghost use Rattle.questions.specs.Climbs.{below};
+ghost use Rattle.questions.specs.Part.{joinOn, leafOn, forkOn, partOn};
+ghost use Rattle.questions.specs.PathViews.{pathView, rulesView};
+ghost use Rattle.questions.specs.Scans.{lastIn, foundOf, sideOn};
+ghost use Rattle.questions.specs.PartArgs.{partView, leavesView, unmoved, heard, LastArgs, LabelArgs, LeafArgs};
+ghost use Rattle.questions.specs.PartArgs.{JoinArgs, SideArgs, ForkArgs, PartArgs};
+ghost use Rattle.questions.specs.PartTold.{toldReached};
+
+// The place, from 1, of the last of the earlier roots that is c or below it; 0 where there is none.
+fn last_below(nums: &[u16], earlier: &[u16], c: usize) -> usize
+    requires { ⌜ LastArgs (now nums) (now earlier) c ⌝ }
+    ensures { λ r. ⌜ r ≡ lastIn c (sizeCell (now (nums .entry)) c) (now (earlier .entry)) ⌝ }
+{
+    last_in(earlier, c as u16, nums[c * 4 + 3]) as usize
+}
+
+// The label of node v as changed: the last entry of v in the list, else the plan's label.
+fn label_on(labels: &[u8], nodes: &[u16], changes: &[u8], v: usize) -> usize
+    requires { ⌜ LabelArgs (now labels) (now nodes) (now changes) v ⌝ }
+    ensures { λ r. ⌜ r
+        ≡ getD (changed (now (labels .entry)) (now (nodes .entry)) (now (changes .entry))) v 0 ⌝ }
+{
+    let at = last_in(nodes, v as u16, 1) as usize;
+    if at == 0 {
+        return labels[v] as usize;
+    }
+    changes[at - 1] as usize
+}
+
+// A number read as a state, reached by no link.
+fn told_state(q: usize, s: usize) -> Climbed
+    requires { ⌜ s ≤ 16 ⌝ }
+    ensures { λ r. ⌜ r ≡ toldReached (unmoved (below s q)) ⌝ }
+{
+    if s <= q {
+        return Climbed::Outside;
+    }
+    Climbed::Reached(q as u8, 0)
+}
+
+// The part of a leaf with label a.
+fn leaf_on(leaves: &[u8], s: usize, k: usize, a: usize) -> Climbed
+    requires { ⌜ LeafArgs s k (now leaves) ⌝ }
+    ensures { λ r. ⌜ r ≡ toldReached (leafOn (leavesView s k (now (leaves .entry))) a) ⌝ }
+{
+    if k <= a {
+        return Climbed::Outside;
+    }
+    told_state(leaves[a] as usize, s)
+}
+
+// The rule for the states of both children and the label a, with the links of both.
+fn join_on(inner: &[u8], s: usize, k: usize, a: usize, left: Climbed, right: Climbed) -> Climbed
+    requires { ⌜ JoinArgs s k (now inner) left right ⌝ }
+    ensures { λ r. ⌜ r
+        ≡ toldReached (joinOn (rulesView s k (now (inner .entry))) a (heard left) (heard right)) ⌝ }
+{
+    match left {
+        Climbed::Reached(p, x) => match right {
+            Climbed::Reached(q, y) => {
+                let r = rule_on(inner, s, k, p as usize, a, q as usize);
+                if s <= r {
+                    return Climbed::Outside;
+                }
+                Climbed::Reached(r as u8, x + y)
+            }
+            Climbed::Outside => Climbed::Outside,
+        },
+        Climbed::Outside => Climbed::Outside,
+    }
+}
+
+// The state at child c, at depth `to`, where `own` is the place of the last earlier root below c and `other` that of
+// the last below its sibling: the run's without a root below, the root's own with roots below both, else what the
+// climb from the root gives.
+fn side_on(
+    labels: &[u8],
+    inner: &[u8],
+    nums: &[u16],
+    bytes: &[u8],
+    n: usize,
+    s: usize,
+    k: usize,
+    earlier: &[u16],
+    states: &[u8],
+    to: usize,
+    c: usize,
+    own: usize,
+    other: usize,
+) -> Climbed
+    requires { ⌜ SideArgs n s k (now labels) (now inner) (now nums) (now bytes) (now earlier) (now states) c own ⌝ }
+    ensures { λ r. ⌜ r ≡ toldReached (sideOn (pathView n s k (now (labels .entry)) (now (inner .entry))
+        (now (nums .entry)) (now (bytes .entry))) to c (foundOf (now (earlier .entry)) (now (states .entry)) own)
+        (foundOf (now (earlier .entry)) (now (states .entry)) other)) ⌝ }
+{
+    if own == 0 {
+        return told_state(run_on(bytes, s, c), s);
+    }
+    let q = states[own - 1] as usize;
+    if other != 0 {
+        return told_state(q, s);
+    }
+    if s <= q {
+        return Climbed::Outside;
+    }
+    climb_state(
+        labels,
+        inner,
+        nums,
+        bytes,
+        n,
+        s,
+        k,
+        earlier[own - 1] as usize,
+        to,
+        q,
+    )
+}
