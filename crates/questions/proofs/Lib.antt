@@ -3,3 +3,6 @@ pub mod StepLaws
 pub mod ClimbTurns
 pub mod ScanLaws
 pub mod PartLaws
+pub mod ClimbBounds
+pub mod PartBounds
+pub mod PartViews
