@@ -6,3 +6,4 @@ pub mod PartLaws
 pub mod ClimbBounds
 pub mod PartBounds
 pub mod PartViews
+pub mod PartTurns

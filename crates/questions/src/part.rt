@@ -130,3 +130,108 @@ fn side_on(
         q,
     )
 }
+
+// The part of inner node v with left child l, whose right child is the node before it, and with label a.
+fn fork_on(
+    labels: &[u8],
+    inner: &[u8],
+    nums: &[u16],
+    bytes: &[u8],
+    n: usize,
+    s: usize,
+    k: usize,
+    earlier: &[u16],
+    states: &[u8],
+    v: usize,
+    l: usize,
+    a: usize,
+) -> Climbed
+    requires { ⌜ ForkArgs n s k (now labels) (now inner) (now nums) (now bytes) (now earlier) (now states) v l ⌝ }
+    ensures { λ r. ⌜ r ≡ toldReached (forkOn (pathView n s k (now (labels .entry)) (now (inner .entry))
+        (now (nums .entry)) (now (bytes .entry))) (now (earlier .entry)) (now (states .entry)) v l a) ⌝ }
+{
+    let to = depth_at(nums, v) + 1;
+    let i = last_below(nums, earlier, l);
+    let j = last_below(nums, earlier, v - 1);
+    let left = side_on(
+        labels,
+        inner,
+        nums,
+        bytes,
+        n,
+        s,
+        k,
+        earlier,
+        states,
+        to,
+        l,
+        i,
+        j,
+    );
+    let right = side_on(
+        labels,
+        inner,
+        nums,
+        bytes,
+        n,
+        s,
+        k,
+        earlier,
+        states,
+        to,
+        v - 1,
+        j,
+        i,
+    );
+    join_on(inner, s, k, a, left, right)
+}
+
+// The part of root v, after the earlier roots and their states.
+fn part_on(
+    labels: &[u8],
+    kinds: &[u8],
+    leaves: &[u8],
+    inner: &[u8],
+    nums: &[u16],
+    bytes: &[u8],
+    n: usize,
+    s: usize,
+    k: usize,
+    earlier: &[u16],
+    states: &[u8],
+    nodes: &[u16],
+    changes: &[u8],
+    v: usize,
+) -> Climbed
+    requires { ⌜ PartArgs n s k (now labels) (now kinds) (now leaves) (now inner) (now nums) (now bytes)
+        (now earlier) (now states) (now nodes) (now changes) v ⌝ }
+    ensures { λ r. ⌜ r ≡ toldReached (partOn (partView n s k (now (labels .entry)) (now (kinds .entry))
+        (now (leaves .entry)) (now (inner .entry)) (now (nums .entry)) (now (bytes .entry)))
+        (now (earlier .entry)) (now (states .entry)) (now (nodes .entry)) (now (changes .entry)) v) ⌝ }
+{
+    let a = label_on(labels, nodes, changes, v);
+    if kinds[v] == 0 {
+        return leaf_on(leaves, s, k, a);
+    }
+    if v == 0 {
+        return Climbed::Outside;
+    }
+    let z = size_at(nums, v - 1);
+    if v - 1 < z {
+        return Climbed::Outside;
+    }
+    fork_on(
+        labels,
+        inner,
+        nums,
+        bytes,
+        n,
+        s,
+        k,
+        earlier,
+        states,
+        v,
+        v - 1 - z,
+        a,
+    )
+}
