@@ -7,3 +7,5 @@ pub mod ClimbBounds
 pub mod PartBounds
 pub mod PartViews
 pub mod PartTurns
+pub mod PartFits
+pub mod PartHanded

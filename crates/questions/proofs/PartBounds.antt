@@ -23,7 +23,7 @@ use Rattle.questions.specs.Part.{Found, climbFrom, runReached, ownReache
 use Rattle.questions.specs.Part.{foundBelow, labelOn}
 use Rattle.questions.specs.Scans.{sideOn}
 use Rattle.questions.specs.PartArgs.{unmoved}
-use Rattle.questions.specs.PartTold.{lentFits, partFits, lentView, partGiven}
+use Rattle.questions.specs.PartTold.{limitsFit, partFits, lentView, partGiven}
 use Rattle.questions.proofs.LookupLaws.{below-state}
 use Rattle.questions.proofs.ClimbBounds.{rule-state, Bounded, climb-bounded}
 
@@ -166,7 +166,7 @@ module _ (n s k : ℕ) (plan rules nums bytes roots states vs bs : List ℕ) (x 
   partGiven-below = given .1 .state
 
   nodes-most : n ≤ 65535
-  unfolding partFits lentFits
+  unfolding partFits limitsFit
   nodes-most = leb-true n nodeLimit (and-right (leb 1 n) (leb n nodeLimit) (and-left (within 1 nodeLimit n) _ (and-left _ _ (given .0))))
 
   pub part-links : x .links ≤ 65535

@@ -1,11 +1,12 @@
 -- What the functions of a part tell, and the part that a caller asks for.
 --
 -- toldReached x == a state reached and the links that led to it, as they are told; Outside (18) where there is none
--- lentFits n s k plan rules nums bytes == n, s and k are within their limits, plan and rules exactly as long as these need, and both
---   tables at least
+-- limitsFit n s k == n, s and k are within their limits
+-- lengthsFit n s k .. == of the lengths lent, those of plan and rules are exactly what n, s and k need, and those of both tables at
+--   least
 -- askedFits n roots states vs bs == there is a root after as many as have states, it is one of n nodes, the lists of nodes and labels
 --   have one length, and neither list of nodes is longer than a plan can be
--- partFits .. == both
+-- partFits .. == all three
 -- partGiven .. == the part of the root that comes next after those whose states are given; none (18) where it does not fit, too
 --
 -- Of the earlier roots nothing is asked: one that is found below a child is a node.
@@ -29,14 +30,13 @@ unfoldable pub toldReached : Option Reached → Climbed
 toldReached none = Outside
 toldReached (some x) = Told (x .state) (x .links)
 
-unfoldable pub lentFits : ℕ → ℕ → ℕ → List ℕ → List ℕ → List ℕ → List ℕ → Bool
-lentFits n s k plan rules nums bytes =
-    within 1 nodeLimit n
-    && (within 1 stateLimit s
-    && (within 1 labelLimit k
-    && (eqb (length plan) (planLength n)
-    && (eqb (length rules) (ruleLength s k)
-    && (leb (linkLength n) (length nums) && leb (stateLength n s) (length bytes))))))
+unfoldable pub limitsFit : ℕ → ℕ → ℕ → Bool
+limitsFit n s k = within 1 nodeLimit n && (within 1 stateLimit s && within 1 labelLimit k)
+
+unfoldable pub lengthsFit : ℕ → ℕ → ℕ → ℕ → ℕ → ℕ → ℕ → Bool
+lengthsFit n s k plan rules nums bytes =
+    eqb plan (planLength n)
+    && (eqb rules (ruleLength s k) && (leb (linkLength n) nums && leb (stateLength n s) bytes))
 
 unfoldable pub askedFits : ℕ → List ℕ → List ℕ → List ℕ → List ℕ → Bool
 askedFits n roots states vs bs =
@@ -46,7 +46,8 @@ askedFits n roots states vs bs =
 
 unfoldable pub partFits : ℕ → ℕ → ℕ → List ℕ → List ℕ → List ℕ → List ℕ → List ℕ → List ℕ → List ℕ → List ℕ → Bool
 partFits n s k plan rules nums bytes roots states vs bs =
-    lentFits n s k plan rules nums bytes && askedFits n roots states vs bs
+    limitsFit n s k
+    && (lengthsFit n s k (length plan) (length rules) (length nums) (length bytes) && askedFits n roots states vs bs)
 
 -- what is lent, without the excess of longer tables
 abbrev pub lentView : ℕ → ℕ → ℕ → List ℕ → List ℕ → List ℕ → List ℕ → View

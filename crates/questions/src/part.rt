@@ -2,6 +2,9 @@
 // lent.
 use crate::climb::Climbed;
 use crate::climb::climb_state;
+use crate::fits::asked_fits;
+use crate::fits::lengths_fit;
+use crate::fits::limits_fit;
 use crate::rules::rule_on;
 use crate::rules::run_on;
 use crate::scan::last_in;
@@ -18,7 +21,7 @@ ghost use Rattle.questions.specs.PathViews.{pathView, rulesView};
 ghost use Rattle.questions.specs.Scans.{lastIn, foundOf, sideOn};
 ghost use Rattle.questions.specs.PartArgs.{partView, leavesView, unmoved, heard, LastArgs, LabelArgs, LeafArgs};
 ghost use Rattle.questions.specs.PartArgs.{JoinArgs, SideArgs, ForkArgs, PartArgs};
-ghost use Rattle.questions.specs.PartTold.{toldReached};
+ghost use Rattle.questions.specs.PartTold.{toldReached, partGiven};
 
 // The place, from 1, of the last of the earlier roots that is c or below it; 0 where there is none.
 fn last_below(nums: &[u16], earlier: &[u16], c: usize) -> usize
@@ -233,5 +236,52 @@ fn part_on(
         v,
         v - 1 - z,
         a,
+    )
+}
+
+// The part of the root that comes next after those whose states are given, with N, S and K as given, on whatever is
+// lent and with the listed nodes' labels changed. Outside also where what is lent or asked for does not fit.
+pub fn part(
+    n: usize,
+    s: usize,
+    k: usize,
+    plan: &[u8],
+    rules: &[u8],
+    nums: &[u16],
+    bytes: &[u8],
+    roots: &[u16],
+    states: &[u8],
+    nodes: &[u16],
+    labels: &[u8],
+) -> Climbed
+    ensures { λ r. ⌜ r ≡ toldReached (partGiven n s k (now (plan .entry)) (now (rules .entry)) (now (nums .entry))
+        (now (bytes .entry)) (now (roots .entry)) (now (states .entry)) (now (nodes .entry))
+        (now (labels .entry))) ⌝ }
+{
+    if !limits_fit(n, s, k) {
+        return Climbed::Outside;
+    }
+    if !lengths_fit(n, s, k, plan.len(), rules.len(), nums.len(), bytes.len()) {
+        return Climbed::Outside;
+    }
+    if !asked_fits(n, roots, states, nodes, labels) {
+        return Climbed::Outside;
+    }
+    let i = states.len();
+    part_on(
+        &plan[12..12 + n],
+        &plan[12 + n..],
+        &rules[20..20 + k],
+        &rules[20 + k..20 + k + s * k * s],
+        &nums[..n * 4],
+        &bytes[..n * (s + 1)],
+        n,
+        s,
+        k,
+        &roots[..i],
+        states,
+        nodes,
+        labels,
+        roots[i] as usize,
     )
 }
