@@ -21,7 +21,7 @@ use Rattle.trees.proofs.MoveLaws.{none-some, next-inside, next-rises}
 use Rattle.trees.proofs.ClimbLaws.{climb-cons}
 use Rattle.links.specs.Cells.{parentCell, cellForest}
 use Rattle.questions.specs.Climbs.{View, below, runOn, ruleOn, siblingOn, parentOn, moveOn, Reached, reached, climbOn}
-use Rattle.questions.proofs.LookupLaws.{below-state, rule-outside, rule-at}
+use Rattle.questions.proofs.LookupLaws.{below-state}
 
 -- ---- how many nodes have a property
 

@@ -6,7 +6,7 @@
 --     part-links                        its links fit: it makes one climb at most
 -- Assumes nothing.
 use Prim.Native.Nat.{ℕ, _+_, _-_, _≤_, _<_}
-use mathlib.Core.Path.{_≡_, refl, sym, ap, _∙_, subst}
+use mathlib.Core.Path.{_≡_, refl, ap, subst}
 use mathlib.Core.Bool.{Bool, true, false, cond, _&&_}
 use mathlib.Core.List.{List}
 use mathlib.Core.Option.{Option, none, some, Option·some-injective}
@@ -16,11 +16,11 @@ use lib.ListN.{length, getD, take}
 use borrow.Author.Tests.{leb-true}
 use Rattle.trees.specs.Climb.{andThen}
 use Rattle.trees.proofs.MoveLaws.{none-some}
-use Rattle.formats.specs.Limits.{nodeLimit, stateLimit, labelLimit, within}
-use Rattle.links.specs.Cells.{depthCell, sizeCell}
+use Rattle.formats.specs.Limits.{nodeLimit, within}
+use Rattle.links.specs.Cells.{sizeCell}
 use Rattle.questions.specs.Climbs.{View, below, runOn, ruleOn, Reached, reached, climbOn}
 use Rattle.questions.specs.Part.{Found, climbFrom, runReached, ownReached, joinOn, innerOn, leafOn, forkOn, partOn}
-use Rattle.questions.specs.Part.{foundBelow, labelOn}
+use Rattle.questions.specs.Part.{labelOn}
 use Rattle.questions.specs.Scans.{sideOn}
 use Rattle.questions.specs.PartArgs.{unmoved}
 use Rattle.questions.specs.PartTold.{limitsFit, partFits, lentView, partGiven}

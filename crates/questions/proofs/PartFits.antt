@@ -6,11 +6,10 @@
 --     Limits, Lengths, Asked                           what each says, by name; limits-are, lengths-are, asked-are: where it says yes
 --     given-limits, given-lengths, given-asked, given-yes   partGiven by the three
 -- Assumes nothing.
-use Prim.Native.Nat.{ℕ, _+_, _*_, _≤_, _<_}
-use mathlib.Core.Path.{_≡_, refl, sym, ap, _∙_}
-use mathlib.Core.Bool.{Bool, true, false, cond, _&&_}
+use Prim.Native.Nat.{ℕ, _*_, _≤_, _<_}
+use mathlib.Core.Path.{_≡_, refl, _∙_}
+use mathlib.Core.Bool.{Bool, true, false, _&&_}
 use mathlib.Core.List.{List}
-use mathlib.Core.Option.{Option, none, some}
 use native.Mathlib.Omega.{arith}
 use native.Mathlib.Nat.{mul-le-mul-right}
 use lib.Dec.{leb, ltb, eqb}
@@ -20,8 +19,7 @@ use Rattle.formats.specs.Limits.{nodeLimit, stateLimit, labelLimit, within}
 use Rattle.formats.specs.Plan.{planLength}
 use Rattle.formats.specs.Rules.{ruleLength}
 use Rattle.formats.specs.Checks.{linkLength, stateLength}
-use Rattle.questions.specs.declared.climb.Climbed.the-variants.{Reached as Told, Outside}
-use Rattle.questions.specs.Climbs.{Reached}
+use Rattle.questions.specs.declared.climb.Climbed.the-variants.{Outside}
 use Rattle.questions.specs.Part.{partOn}
 use Rattle.questions.specs.PartTold.{toldReached, limitsFit, lengthsFit, askedFits, partFits, lentView, partGiven}
 

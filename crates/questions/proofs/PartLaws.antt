@@ -7,16 +7,15 @@
 --     side-run, side-own, side-lost, side-climb   the state at a child
 --     heard-told                         what is told is heard
 -- Assumes nothing.
-use Prim.Native.Nat.{ℕ, zero, suc, _+_, _-_, _≤_, _<_}
+use Prim.Native.Nat.{ℕ, _+_, _-_, _≤_, _<_}
 use mathlib.Core.Path.{_≡_, refl, sym, ap, _∙_}
 use mathlib.Core.List.{List}
 use mathlib.Core.Option.{Option, none, some}
 use native.Mathlib.Omega.{arith}
 use native.Mathlib.Numerals.{add-one}
-use lib.ListN.{length, getD}
+use lib.ListN.{getD}
 use borrow.Author.Tests.{lt-ltb, le-ltb}
 use Rattle.trees.specs.Climb.{andThen}
-use Rattle.questions.specs.declared.climb.Climbed.{Climbed}
 use Rattle.questions.specs.declared.climb.Climbed.the-variants.{Reached as Told, Outside}
 use Rattle.questions.specs.Climbs.{View, below, runOn, ruleOn, Reached, reached, climbOn}
 use Rattle.questions.specs.Part.{Found, found, climbFrom, runReached, ownReached, joinOn, leafOn}

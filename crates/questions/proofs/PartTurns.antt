@@ -2,22 +2,20 @@
 --     side-args, join-few, fork-told              an inner node: its searches, its two sides, its rule
 --     part-leaf, part-first, part-outside, part-fork   by the root's kind and children
 -- Assumes nothing.
-use Prim.Native.Nat.{ℕ, _+_, _-_, _*_, _≤_, _<_}
-use mathlib.Core.Path.{_≡_, refl, sym, ap, ap₂, _∙_}
-use mathlib.Core.Bool.{Bool, true, false, cond, _&&_}
+use Prim.Native.Nat.{ℕ, _+_, _-_, _≤_, _<_}
+use mathlib.Core.Path.{_≡_, sym, ap, ap₂, _∙_}
 use mathlib.Core.List.{List}
-use mathlib.Core.Option.{Option, none, some}
+use mathlib.Core.Option.{Option, some}
 use native.Mathlib.Omega.{arith}
-use lib.Dec.{leb, ltb, eqb}
 use lib.ListN.{length, getD}
 use borrow.Author.Tests.{lt-ltb, le-ltb, le-leb, lt-leb, eq-eqb, ne-eqb}
 use Rattle.trees.specs.Changes.{changed}
 use Rattle.links.specs.Cells.{depthCell, sizeCell}
 use Rattle.questions.specs.declared.climb.Climbed.{Climbed}
-use Rattle.questions.specs.declared.climb.Climbed.the-variants.{Reached as Told, Outside}
+use Rattle.questions.specs.declared.climb.Climbed.the-variants.{Outside}
 use Rattle.questions.specs.Climbs.{View, ruleOn, Reached}
 use Rattle.questions.specs.Part.{Found, joinOn, leafOn, forkOn, partOn, foundBelow, labelOn}
-use Rattle.questions.specs.PathViews.{pathView, rulesView, PathArgs}
+use Rattle.questions.specs.PathViews.{rulesView, PathArgs}
 use Rattle.questions.specs.Scans.{lastIn, foundOf, sideOn}
 use Rattle.questions.specs.PartArgs.{pathOf, leavesView, heard, Few, SideArgs}
 use Rattle.questions.specs.PartTold.{toldReached}

@@ -5,11 +5,11 @@
 --     found-scan                                the last root below c is the one at the place found
 --     label-scan                                the label as changed is the one at the place found
 -- Assumes nothing.
-use Prim.Native.Nat.{ℕ, zero, suc, _+_, _-_, _≤_, _<_}
+use Prim.Native.Nat.{ℕ, suc, _+_, _-_, _≤_, _<_}
 use mathlib.Core.Path.{_≡_, refl, sym, ap, _∙_, subst}
 use mathlib.Core.Bool.{Bool, true, false, cond, _&&_}
 use mathlib.Core.List.{List, [], _∷_}
-use mathlib.Core.Option.{Option, none, some}
+use mathlib.Core.Option.{some}
 use native.Mathlib.Omega.{arith}
 use native.Mathlib.Numerals.{add-one}
 use lib.Dec.{leb, ltb}
@@ -20,7 +20,7 @@ use Rattle.trees.specs.Changes.{changed}
 use Rattle.trees.proofs.Choice.{by-test}
 use Rattle.links.specs.Cells.{sizeCell}
 use Rattle.questions.specs.Search.{isBelow}
-use Rattle.questions.specs.Part.{Found, found, lastFound, foundBelow}
+use Rattle.questions.specs.Part.{found, lastFound, foundBelow}
 use Rattle.questions.specs.Scans.{covers, lastFrom, lastIn, foundOf, labelOf}
 
 both : (a b : Bool) → (a && b) ≡ true → (a ≡ true) × (b ≡ true)

@@ -6,19 +6,18 @@
 -- Assumes nothing.
 use Prim.Native.Nat.{ℕ, _+_, _≤_, _<_}
 use mathlib.Core.Path.{_≡_, refl, sym, ap, _∙_}
-use mathlib.Core.Bool.{Bool, true, false, cond}
-use mathlib.Core.List.{List}
+use mathlib.Core.Bool.{cond}
 use mathlib.Core.Logic.{_⊎_, inl, inr}
 use mathlib.Core.Option.{Option, none, some, Option·some-injective}
 use native.Mathlib.Omega.{arith}
 use native.Mathlib.Nat.{le-refl}
 use lib.Dec.{ltb}
-use lib.ListN.{length, getD}
+use lib.ListN.{getD}
 use borrow.Author.Tests.{lt-ltb, le-ltb, eq-eqb, ne-eqb}
 use Rattle.trees.specs.Climb.{Forest, Move, byJump, toParent, target, nextMove, andThen}
 use Rattle.trees.proofs.Choice.{le-or}
 use Rattle.trees.proofs.MoveLaws.{none-some, next-start, next-inside}
-use Rattle.links.specs.Cells.{parentCell, cellForest}
+use Rattle.links.specs.Cells.{cellForest}
 use Rattle.links.specs.declared.moves.NextMove.{NextMove}
 use Rattle.links.specs.declared.moves.NextMove.the-variants.{Jump, Parent, Stuck}
 use Rattle.links.specs.ToldMove.{toldMove}

@@ -6,7 +6,7 @@
 -- StepArgs .. == v is one of the nodes and q a state; ParentArgs .. == so is p one of the nodes
 --
 -- Assumes nothing.
-use Prim.Native.Nat.{ℕ, _≤_, _<_}
+use Prim.Native.Nat.{ℕ, _<_}
 use mathlib.Core.Bool.{cond}
 use mathlib.Core.List.{List}
 use mathlib.Core.Option.{Option, none, some}

@@ -1,9 +1,7 @@
 -- `climb_state` meets its contract: at each turn the rest of the climb gives the whole climb's answer. The depth falls.
 -- Assumes nothing.
-use Prim.Native.Nat.{ℕ, _+_, _*_, _<_}
-use mathlib.Core.List.{List}
+use Prim.Native.Nat.{_+_, _*_, _<_}
 use native.Mathlib.Omega.{arith}
-use borrow.Author.Needs.{needs}
 use Rattle.links.specs.Cells.{depthCell}
 use Rattle.questions.specs.Climbs.{View}
 use Rattle.questions.specs.PathViews.{pathView}

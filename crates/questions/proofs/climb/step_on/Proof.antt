@@ -4,7 +4,6 @@ use mathlib.Core.Path.{refl, sym, _∙_}
 use native.Mathlib.Omega.{arith}
 use lib.ListN.{length}
 use borrow.Author.Needs.{needs}
-use Rattle.trees.specs.Climb.{Forest}
 use Rattle.links.specs.Cells.{cellForest}
 use Rattle.questions.specs.Climbs.{View}
 use Rattle.questions.specs.PathViews.{pathView}

@@ -1,6 +1,4 @@
 -- `within` meets its contract. Assumes nothing.
-use native.Mathlib.Omega.{arith}
-use borrow.Author.Needs.{needs}
 use mathlib.Core.Path.{sym}
 use Rattle.questions.proofs.PartFits.{within-no, within-end}
 use Rattle.questions.proofs.fits.within.Statement.{statement}

@@ -2,7 +2,7 @@
 use native.Mathlib.Omega.{arith}
 use borrow.Author.Needs.{needs}
 use Prim.Native.Nat.{ℕ, _+_, _-_, _*_}
-use mathlib.Core.Path.{_≡_, refl, sym, ap, _∙_}
+use mathlib.Core.Path.{ap}
 use Rattle.questions.specs.Climbs.{View}
 use Rattle.questions.specs.PathViews.{pathView}
 use Rattle.questions.proofs.PartTurns.{side-args, side-few, fork-told}

@@ -1,10 +1,9 @@
 -- `join_on` meets its contract. Assumes nothing.
 use native.Mathlib.Omega.{arith}
 use borrow.Author.Needs.{needs}
-use Prim.Native.Nat.{ℕ, _+_}
+use Prim.Native.Nat.{ℕ}
 use mathlib.Core.Path.{_≡_, refl, sym, ap, ap₂, _∙_}
-use mathlib.Core.Option.{Option, none, some}
-use Rattle.questions.specs.declared.climb.Climbed.{Climbed}
+use mathlib.Core.Option.{Option, some}
 use Rattle.questions.specs.Climbs.{View, Reached, reached}
 use Rattle.questions.specs.Part.{joinOn}
 use Rattle.questions.specs.PathViews.{rulesView}

@@ -1,11 +1,11 @@
 -- `label_on` meets its contract. Assumes nothing.
 use native.Mathlib.Omega.{arith}
 use borrow.Author.Needs.{needs}
-use Prim.Native.Nat.{ℕ, _+_, _-_, _≤_}
+use Prim.Native.Nat.{_-_}
 use mathlib.Core.Path.{_≡_, sym, ap, _∙_}
-use lib.ListN.{length, getD}
+use lib.ListN.{getD}
 use Rattle.trees.specs.Changes.{changed}
-use Rattle.questions.specs.Scans.{lastIn, labelOf}
+use Rattle.questions.specs.Scans.{labelOf}
 use Rattle.questions.proofs.ScanLaws.{last-bound, label-scan}
 use Rattle.questions.proofs.PartLaws.{label-none, label-found}
 use Rattle.questions.proofs.part.label_on.Statement.{statement}

@@ -1,8 +1,7 @@
 -- `part_on` meets its contract. Assumes nothing.
 use native.Mathlib.Omega.{arith}
 use borrow.Author.Needs.{needs}
-use Prim.Native.Nat.{ℕ, _+_, _-_, _*_, _<_}
-use mathlib.Core.Path.{_≡_, refl, sym, ap, _∙_}
+use Prim.Native.Nat.{_-_}
 use Rattle.questions.specs.Climbs.{View}
 use Rattle.questions.specs.PartArgs.{partView}
 use Rattle.questions.proofs.PartTurns.{part-leaf, part-first, part-outside, part-fork}

@@ -1,5 +1,4 @@
 -- `told_state` meets its contract. Assumes nothing.
-use native.Mathlib.Omega.{arith}
 use borrow.Author.Needs.{needs}
 use Rattle.questions.proofs.PartLaws.{told-no, told-yes}
 use Rattle.questions.proofs.part.told_state.Statement.{statement}

@@ -1,6 +1,6 @@
 -- `last_in` meets its contract: at each turn the search in the rest gives the whole search's place. Assumes nothing.
-use Prim.Native.Nat.{ℕ, _+_, _-_, _*_, _≤_, _<_}
-use mathlib.Core.Path.{_≡_, refl, sym, ap, _∙_}
+use Prim.Native.Nat.{_-_, _≤_}
+use mathlib.Core.Path.{_≡_, refl, sym, _∙_}
 use lib.ListN.{length, drop}
 use Rattle.questions.specs.Scans.{lastFrom, lastIn}
 use Rattle.questions.proofs.ScanLaws.{last-more, last-same, last-end}
