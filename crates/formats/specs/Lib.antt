@@ -4,3 +4,4 @@ pub mod Plan
 pub mod Rules
 pub mod Checks
 pub mod Built
+pub mod Leaves

@@ -1,2 +1,16 @@
 // Plans, rule tables, branch tables and lists of changes as bytes: checks 2 to 15.
+//     limits   the limits of document 01
+//     bytes    numbers in bytes
+//     plan     checks 2 to 5
+//     rules    checks 6 to 9 of a rule table
+//     branch   checks 6 to 9 of a branch table
+//     lists    checks 12 to 15
+//     inputs   the checks of whole calls, 10 and 11 among them
+// A check answers the number of the first question that is answered with no, and 0 where none is.
+pub mod branch;
 pub mod bytes;
+pub mod inputs;
+pub mod limits;
+pub mod lists;
+pub mod plan;
+pub mod rules;

@@ -2,5 +2,8 @@
 pub mod climb;
 pub mod fits;
 pub mod part;
+pub mod rising;
+pub mod roots;
 pub mod rules;
 pub mod scan;
+pub mod search;

@@ -1,0 +1,17 @@
+pub mod CheckLaws
+pub mod ListLaws
+pub mod PartLaws
+pub mod TurnLaws
+pub mod KindTurns
+pub mod ByteLaws
+pub mod PlanLaws
+pub mod PlanAnswers
+pub mod PlanTrees
+pub mod PlanTheorems
+pub mod RuleLaws
+pub mod RuleAnswers
+pub mod BranchLaws
+pub mod BranchAnswers
+pub mod ListAnswers
+pub mod InputLaws
+pub mod InputAnswers

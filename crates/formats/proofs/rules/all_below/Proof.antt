@@ -1,0 +1,44 @@
+-- `formats::rules::all_below` meets its contract. The loop's invariant: the running answer and that of the bytes to come make the
+-- answer for all. Assumes nothing.
+use Prim.Native.Nat.{_-_, _≤_}
+use mathlib.Core.Path.{_≡_, refl, sym, _∙_}
+use mathlib.Core.Bool.{_&&_}
+use lib.ListN.{length, drop}
+use Rattle.formats.specs.Bytes.{allBelow}
+use Rattle.formats.proofs.TurnLaws.{below-turn, below-end}
+use native.Mathlib.Omega.{arith}
+use borrow.Author.Needs.{needs}
+use Rattle.formats.proofs.rules.all_below.Statement.{statement}
+use Rattle.formats.proofs.rules.all_below.Tie as tie
+
+abbrev Inv-loop : tie.InvT-loop
+Inv-loop xs bound ok₀ i₀ ok i = (i ≤ length xs) × ((ok && allBelow bound (drop i xs)) ≡ allBelow bound xs)
+
+abbrev μ-loop : tie.MeasureT-loop
+μ-loop xs bound ok₀ i₀ ok i = length xs - i
+
+loop-holds : tie.Need-loop-holds Inv-loop μ-loop
+loop-holds c = (omega arith, refl)
+
+shared-slice-read-ok : tie.Need-shared-slice-read-ok Inv-loop μ-loop
+shared-slice-read-ok c = search needs
+
+add-i : tie.Need-add-i Inv-loop μ-loop
+add-i c = search needs
+
+loop-less : tie.Need-loop-less Inv-loop μ-loop
+loop-less c = search needs
+
+loop-again : tie.Need-loop-again Inv-loop μ-loop
+loop-again c =
+    let l = c .before .before .loop in
+    let a = c .before .before .before .args in
+    (omega arith, below-turn (a .xs .now) (l .i) (a .bound) (l .ok) (c .before .loop-test .taken) ∙ l .inv .1)
+
+returns : tie.Need-returns Inv-loop μ-loop
+returns c = sym (below-end _ _ _ _ (c .loop-test .left)) ∙ c .before .loop .inv .1
+
+pub all-below-spec : {M : Type 1} → statement M
+all-below-spec =
+    tie.close
+    (tie.spec Inv-loop μ-loop loop-holds shared-slice-read-ok add-i loop-less loop-again returns)

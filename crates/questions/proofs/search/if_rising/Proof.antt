@@ -1,0 +1,36 @@
+-- `if_rising` meets its contract. Assumes nothing.
+use native.Mathlib.Omega.{arith}
+use Rattle.links.specs.Cells.{cellForest}
+use Rattle.questions.proofs.MeetWays.{rising-outside, rising-flat, rising-up}
+use borrow.Author.Needs.{needs}
+use Rattle.questions.proofs.search.if_rising.Statement.{statement}
+use Rattle.questions.proofs.search.if_rising.Tie as tie
+
+returns : tie.Need-returns
+returns c =
+    let a = c .before .before .args in
+    rising-outside (cellForest (a .n) (a .nums .now)) (a .v) (a .u) (c .if1 .taken)
+
+depth-at-requires : tie.Need-depth-at-requires
+depth-at-requires c κs = search needs
+
+depth-at-requires-2 : tie.Need-depth-at-requires-2
+depth-at-requires-2 c κs = search needs
+
+returns-2 : tie.Need-returns-2
+returns-2 c =
+    let d = c .before .before in
+    let a = d .before .before .before .args in
+    rising-flat (cellForest (a .n) (a .nums .now)) (a .v) (a .u) (d .before .if1 .left)
+    (omega (arith, c .before .depth-at2 .ensures, d .depth-at .ensures, c .if2 .taken))
+
+returns-3 : tie.Need-returns-3
+returns-3 c =
+    let d = c .before .before in
+    let a = d .before .before .before .args in
+    rising-up (cellForest (a .n) (a .nums .now)) (a .v) (a .u) (d .before .if1 .left)
+    (omega (arith, c .before .depth-at2 .ensures, d .depth-at .ensures, c .if2 .left))
+
+pub if-rising-spec : {M : Type 1} → statement M
+if-rising-spec =
+    tie.close (tie.spec returns depth-at-requires depth-at-requires-2 returns-2 returns-3)

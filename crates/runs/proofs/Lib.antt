@@ -1,0 +1,5 @@
+pub mod ListedLaws
+pub mod StackLaws
+pub mod PassTurns
+pub mod OrderLaws
+pub mod RunLaws

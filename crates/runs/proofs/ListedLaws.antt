@@ -1,0 +1,174 @@
+-- Laws of a list of changes that is read node by node.
+--     label-hit .. label-end, next-low .. next-end   the two scans of the list, entry by entry: what their loops use
+--     label-changed   labelFor is the label that `changed` holds
+--     label-last, label-unlisted   it is the last entry's for the node, or the node's own where none is for it
+--     next-from, next-most, next-skips   the next listed node is in range, and no node before it is listed
+-- Assumes nothing.
+use Prim.Native.Nat.{ℕ, zero, suc, _+_, _≤_, _<_}
+use mathlib.Core.Path.{_≡_, refl, sym, ap, _∙_}
+use mathlib.Core.Bool.{Bool, true, false, cond, _&&_, _||_}
+use mathlib.Core.List.{List, [], _∷_, _++_}
+use native.Mathlib.Decide.{decLt, ℕ-discrete}
+use native.Mathlib.Numerals.{add-one}
+use native.Mathlib.Omega.{arith}
+use borrow.Author.Tests.{eq-eqb, ne-eqb, eqb-false, le-leb, lt-leb, lt-ltb, le-ltb}
+use lib.Dec.{leb, ltb, eqb}
+use lib.ListN.{length, getD, drop, set, length-set, drop-of-length-le}
+use lib.Seq.{drop-cons, getD-set-same, getD-set-other, set-out}
+use Rattle.trees.specs.Changes.{changed}
+use Rattle.formats.specs.Bytes.{holds}
+use Rattle.formats.proofs.CheckLaws.{true-false}
+use Rattle.runs.specs.Listed.{labelFor, nextListed}
+
+-- ---- the scan for a label
+
+module _ (vs bs : List ℕ) (v i : ℕ) (hv : i < length vs) (hb : i < length bs) (a : ℕ) where
+  label-turn : (t : Bool) → eqb (getD vs i 0) v ≡ t
+      → labelFor a (drop i vs) (drop i bs) v ≡ labelFor (cond t (getD bs i 0) a) (drop (i + 1) vs) (drop (i + 1) bs) v
+  unfolding labelFor
+  label-turn t e =
+      rw (add-one, drop-cons vs i 0, drop-cons bs i 0)
+      (ap (λ (t : Bool). labelFor (cond t (getD bs i 0) a) (drop (suc i) vs) (drop (suc i) bs) v) e)
+
+  pub label-hit : getD vs i 0 ≡ v
+      → labelFor a (drop i vs) (drop i bs) v ≡ labelFor (getD bs i 0) (drop (i + 1) vs) (drop (i + 1) bs) v
+  label-hit e = label-turn true (eq-eqb (getD vs i 0) v e)
+
+  pub label-miss : (getD vs i 0 ≡ v → ⊥)
+      → labelFor a (drop i vs) (drop i bs) v ≡ labelFor a (drop (i + 1) vs) (drop (i + 1) bs) v
+  label-miss e = label-turn false (ne-eqb (getD vs i 0) v e)
+
+pub label-end : (vs bs : List ℕ) (v i a : ℕ) → length vs ≤ i → labelFor a (drop i vs) (drop i bs) v ≡ a
+unfolding labelFor
+label-end vs bs v i a h = rw (drop-of-length-le vs {i = i} h)
+
+-- ---- the scan for the next listed node
+
+module _ (vs : List ℕ) (from i : ℕ) (h : i < length vs) (n : ℕ) where
+  next-turn : (t : Bool) → leb from (getD vs i 0) && ltb (getD vs i 0) n ≡ t
+      → nextListed (drop i vs) from n ≡ nextListed (drop (i + 1) vs) from (cond t (getD vs i 0) n)
+  unfolding nextListed
+  next-turn t e =
+      rw (add-one, drop-cons vs i 0) (ap (λ (t : Bool). nextListed (drop (suc i) vs) from (cond t (getD vs i 0) n)) e)
+
+  pub next-low : getD vs i 0 < from → nextListed (drop i vs) from n ≡ nextListed (drop (i + 1) vs) from n
+  next-low l = next-turn false (rw (lt-leb from (getD vs i 0) l))
+
+  pub next-high : from ≤ getD vs i 0 → n ≤ getD vs i 0
+      → nextListed (drop i vs) from n ≡ nextListed (drop (i + 1) vs) from n
+  next-high l m = next-turn false (rw (le-leb from (getD vs i 0) l, le-ltb (getD vs i 0) n m))
+
+  pub next-least : from ≤ getD vs i 0 → getD vs i 0 < n
+      → nextListed (drop i vs) from n ≡ nextListed (drop (i + 1) vs) from (getD vs i 0)
+  next-least l m = next-turn true (rw (le-leb from (getD vs i 0) l, lt-ltb (getD vs i 0) n m))
+
+pub next-end : (vs : List ℕ) (from i n : ℕ) → length vs ≤ i → nextListed (drop i vs) from n ≡ n
+unfolding nextListed
+next-end vs from i n h = rw (drop-of-length-le vs {i = i} h)
+
+-- ---- what they mean
+
+-- the label that the changed labels have at v
+pub label-changed : (ls vs bs : List ℕ) (v : ℕ) → v < length ls
+    → getD (changed ls vs bs) v 0 ≡ labelFor (getD ls v 0) vs bs v
+unfolding changed labelFor
+label-changed ls [] bs v h = refl
+label-changed ls (u ∷ vs) [] v h = refl
+label-changed ls (u ∷ vs) (b ∷ bs) v h =
+    label-changed (set ls u b) vs bs v (rw length-set h) ∙ ap (λ (a : ℕ). labelFor a vs bs v) (here (ℕ-discrete u v))
+  where
+    here : Dec (u ≡ v) → getD (set ls u b) v 0 ≡ cond (eqb u v) b (getD ls v 0)
+    here (yes e) = rw (eq-eqb u v e, e) (getD-set-same ls v b 0 h)
+    here (no e) = rw (ne-eqb u v e) (getD-set-other ls u v b 0 (λ q. e (sym q)))
+
+or-none : (s t : Bool) → (s || t) ≡ false → (s ≡ false) × (t ≡ false)
+or-none true t e = absurd (true-false e)
+or-none false t e = (refl, e)
+
+pub label-unlisted : (a : ℕ) (vs bs : List ℕ) (v : ℕ) → holds v vs ≡ false → labelFor a vs bs v ≡ a
+unfolding labelFor holds
+label-unlisted a [] bs v h = refl
+label-unlisted a (u ∷ vs) [] v h = refl
+label-unlisted a (u ∷ vs) (b ∷ bs) v h =
+    let o : (eqb v u ≡ false) × (holds v vs ≡ false) = or-none (eqb v u) (holds v vs) h in
+    label-unlisted (cond (eqb u v) b a) vs bs v (o .1)
+    ∙ ap (λ (t : Bool). cond t b a) (ne-eqb u v (λ e. eqb-false v u (o .0) (sym e)))
+
+-- the last entry for v holds
+pub label-last : (a : ℕ) (vs bs : List ℕ) (v b : ℕ) (us cs : List ℕ) → length vs ≡ length bs → holds v us ≡ false
+    → labelFor a (vs ++ (v ∷ us)) (bs ++ (b ∷ cs)) v ≡ b
+unfolding labelFor
+label-last a [] [] v b us cs e h =
+    label-unlisted (cond (eqb v v) b a) us cs v h ∙ ap (λ (t : Bool). cond t b a) (eq-eqb v v refl)
+label-last a [] (x ∷ bs) v b us cs e h = absurd (omega arith)
+label-last a (u ∷ vs) [] v b us cs e h = absurd (omega arith)
+label-last a (u ∷ vs) (x ∷ bs) v b us cs e h = label-last (cond (eqb u v) x a) vs bs v b us cs (omega arith) h
+
+pub length-changed : (ls vs bs : List ℕ) → length (changed ls vs bs) ≡ length ls
+unfolding changed
+length-changed ls [] bs = refl
+length-changed ls (u ∷ vs) [] = refl
+length-changed ls (u ∷ vs) (b ∷ bs) = length-changed (set ls u b) vs bs ∙ length-set ls u b
+
+pub label-below : (k a : ℕ) (vs bs : List ℕ) (v : ℕ) → a < k → ((j : ℕ) → getD bs j 0 < k) → labelFor a vs bs v < k
+unfolding labelFor
+label-below k a [] bs v h below = h
+label-below k a (u ∷ vs) [] v h below = h
+label-below k a (u ∷ vs) (b ∷ bs) v h below =
+    label-below k (cond (eqb u v) b a) vs bs v (either (eqb u v)) (λ j. below (suc j))
+  where
+    either : (t : Bool) → cond t b a < k
+    either true = below 0
+    either false = h
+
+-- one entry of the scan: it keeps the least so far or takes a smaller one that is not below `from`
+least-in : (from u n : ℕ) → from ≤ n → from ≤ cond (leb from u && ltb u n) u n
+least-in from u n h =
+    elim (decLt u from) [
+      | yes l ↦ rw (lt-leb from u l) h
+      | no l ↦ elim (decLt u n) [
+        | yes m ↦ rw (le-leb from u (omega arith), lt-ltb u n m) (omega arith)
+        | no m ↦ rw (le-leb from u (omega arith), le-ltb u n (omega arith)) h
+      ]
+    ]
+
+least-most : (from u n : ℕ) → cond (leb from u && ltb u n) u n ≤ n
+least-most from u n =
+    elim (decLt u from) [
+      | yes l ↦ rw (lt-leb from u l) (omega arith)
+      | no l ↦ elim (decLt u n) [
+        | yes m ↦ rw (le-leb from u (omega arith), lt-ltb u n m) (omega arith)
+        | no m ↦ rw (le-leb from u (omega arith), le-ltb u n (omega arith)) (omega arith)
+      ]
+    ]
+
+least-here : (from u n : ℕ) → from ≤ u → cond (leb from u && ltb u n) u n ≤ u
+least-here from u n h =
+    elim (decLt u n) [
+      | yes m ↦ rw (le-leb from u h, lt-ltb u n m) (omega arith)
+      | no m ↦ rw (le-leb from u h, le-ltb u n (omega arith)) (omega arith)
+    ]
+
+pub next-from : (vs : List ℕ) (from n : ℕ) → from ≤ n → from ≤ nextListed vs from n
+unfolding nextListed
+next-from [] from n h = h
+next-from (u ∷ vs) from n h = next-from vs from (cond (leb from u && ltb u n) u n) (least-in from u n h)
+
+pub next-most : (vs : List ℕ) (from n : ℕ) → nextListed vs from n ≤ n
+unfolding nextListed
+next-most [] from n = omega arith
+next-most (u ∷ vs) from n =
+    omega (arith, next-most vs from (cond (leb from u && ltb u n) u n), least-most from u n)
+
+-- no node from `from` on is listed before the next listed one
+pub next-skips : (vs bs : List ℕ) (from n u : ℕ) → from ≤ u → u < nextListed vs from n
+    → (a : ℕ) → labelFor a vs bs u ≡ a
+unfolding nextListed labelFor
+next-skips [] bs from n u h l a = refl
+next-skips (w ∷ vs) [] from n u h l a = refl
+next-skips (w ∷ vs) (b ∷ bs) from n u h l a =
+    next-skips vs bs from (cond (leb from w && ltb w n) w n) u h l (cond (eqb w u) b a)
+    ∙ ap (λ (t : Bool). cond t b a) (ne-eqb w u away)
+  where
+    away : w ≡ u → ⊥
+    away e = omega (arith, next-most vs from (cond (leb from w && ltb w n) w n), least-here from w n (omega arith))

@@ -1,0 +1,197 @@
+-- The turns of the pass over a plan's nodes.
+--     Onward         the next listed node, seen from a node
+--     label-listed, label-own, onward, onward-own   the label of a turn, and the next listed node after it
+--     Passed         what holds before each turn
+--     pass-start, leaf-turn, inner-turn, pass-end   it holds at first, a turn keeps it, and what it says at the end
+--     top-most, leaf-room, inner-two, rule-args     what the machine asks in a turn
+-- Assumes nothing.
+use Prim.Native.Nat.{ℕ, suc, _+_, _-_, _*_, _≤_, _<_}
+use mathlib.Core.Path.{_≡_, refl, sym, ap, ap₂, _∙_, subst}
+use mathlib.Core.Bool.{Bool, true}
+use mathlib.Core.List.{List, [], _∷_}
+use mathlib.Core.Option.{Option, none, some}
+use native.Mathlib.Decide.{decLt, ℕ-discrete}
+use native.Mathlib.Nat.{mul-le-mul-right}
+use native.Mathlib.Omega.{arith}
+use borrow.Author.Tests.{eqb-true}
+use lib.ListN.{length, getD, set, drop, length-set, length-drop, drop-of-length-le}
+use lib.Seq.{getD-set-same, getD-set-other}
+use Rattle.trees.specs.Automaton.{Automaton, state}
+use Rattle.trees.specs.Postorder.{waiting, isOne, isPostorder, read, treeOf}
+use Rattle.trees.specs.Changes.{changed}
+use Rattle.trees.proofs.PostorderLaws.{state-fold, read-whole, treeOf-kinds, treeOf-labels}
+use Rattle.trees.proofs.PostorderLaws.{leaf-at, inner-at, short-at, other-at, end-at}
+use Rattle.formats.specs.Rules.{treeAutomaton}
+use Rattle.runs.specs.Listed.{labelFor, nextListed}
+use Rattle.runs.specs.Pass.{RuleArgs}
+use Rattle.runs.proofs.ListedLaws.{label-changed, next-from, next-skips}
+use Rattle.runs.proofs.StackLaws.{stackOf, stack-push, stack-two, none-some, some-some, waiting-most}
+use Rattle.runs.proofs.StackLaws.{read-leaf, read-inner}
+
+-- ---- the label of a turn
+
+-- from node v on, `next` is listed first
+pub record Onward (vs bs : List ℕ) (v next : ℕ) : Type 0 where
+  pub ahead : v ≤ next
+  pub skips : (u : ℕ) → v ≤ u → u < next → (a : ℕ) → labelFor a vs bs u ≡ a
+
+pub onward : (vs bs : List ℕ) (v n : ℕ) → v ≤ n → Onward vs bs v (nextListed vs v n)
+onward vs bs v n h = record { ahead = next-from vs v n h; skips = next-skips vs bs v n }
+
+pub onward-own : {vs bs : List ℕ} {v next : ℕ} → Onward vs bs v next → (v ≡ next → ⊥) → Onward vs bs (v + 1) next
+onward-own o ne = record { ahead = omega (arith, o .ahead); skips = λ u h. o .skips u (omega arith) }
+
+module _ (ls vs bs : List ℕ) (v : ℕ) (h : v < length ls) where
+  pub label-listed : labelFor (getD ls v 0) vs bs v ≡ getD (changed ls vs bs) v 0
+  label-listed = sym (label-changed ls vs bs v h)
+
+  pub label-own : {next : ℕ} → Onward vs bs v next → (v ≡ next → ⊥) → getD ls v 0 ≡ getD (changed ls vs bs) v 0
+  label-own o ne = sym (o .skips v (omega arith) (omega (arith, o .ahead)) (getD ls v 0)) ∙ label-listed
+
+-- ---- what holds before a turn
+
+abbrev pub leafOf : List ℕ → ℕ → ℕ
+leafOf lv a = getD lv a 0
+
+abbrev pub innerOf : ℕ → ℕ → List ℕ → ℕ → ℕ → ℕ → ℕ
+innerOf s k inn p a q = getD inn ((p * k + a) * s + q) 0
+
+abbrev pub reads : ℕ → ℕ → List ℕ → List ℕ → List ℕ → List ℕ → List ℕ → Option (List ℕ)
+reads s k lv inn ks ls st = read (leafOf lv) (innerOf s k inn) ks ls st
+
+-- before the turn of node v `top` trees wait, and their states are the first of st: reading the nodes from v on, from
+-- these, gives what reading the whole gives, and one tree will be left
+pub record Passed (ks ls lv inn : List ℕ) (s k v : ℕ) (st : List ℕ) (top : ℕ) : Type 0 where
+  pub here : v ≤ length ks
+  pub room : length st ≡ 32768
+  pub few : top ≤ v
+  pub one : waiting (drop v ks) top ≡ some 1
+  pub same : reads s k lv inn (drop v ks) (drop v ls) (stackOf st top) ≡ reads s k lv inn ks ls []
+  pub below : (i : ℕ) → i < top → getD st i 0 < s
+
+is-one : (o : Option ℕ) → isOne o ≡ true → o ≡ some 1
+is-one none q = let z : _≡_ {A = ℕ} 0 1 = cc in absurd (omega arith)
+is-one (some w) q = ap some (eqb-true w 1 q)
+
+pub pass-start : {ks ls lv inn : List ℕ} {s k : ℕ} {st : List ℕ} → length st ≡ 32768 → isPostorder ks ≡ true
+    → Passed ks ls lv inn s k 0 st 0
+unfolding isPostorder stackOf
+pass-start {ks = ks} e p = record {
+  here = omega arith;
+  room = e;
+  few = omega arith;
+  one = is-one (waiting ks 0) p;
+  same = refl;
+  below = λ i h. absurd (omega arith);
+}
+
+-- ---- bounds
+
+-- u < v: a stride lies between them
+stride : (w u v : ℕ) → u < v → u * w + w ≤ v * w
+stride w u v h = omega (arith, mul-le-mul-right w h)
+
+-- the rule of states below s stands in the table
+pub rule-args : {inn : List ℕ} {s k p a q : ℕ} → p < s → a < k → q < s → s ≤ 16 → k ≤ 64 → length inn ≡ s * k * s
+    → RuleArgs inn s k p a q
+rule-args {s = s} {k = k} {p = p} {a = a} hp ha hq hs hk e =
+    record {
+      small = omega (arith, stride k p s hp, mul-le-mul-right k hs);
+      inside = omega (arith, stride s (p * k + a) (s * k) (omega (arith, stride k p s hp)));
+    }
+
+-- a state below s is stored on states below s
+store-below : (s : ℕ) (st : List ℕ) (w x : ℕ) → w < length st → x < s → ((i : ℕ) → i < w → getD st i 0 < s)
+    → (i : ℕ) → i < w + 1 → getD (set st w x) i 0 < s
+store-below s st w x h l below i m =
+    elim (ℕ-discrete i w) [
+      | yes e ↦ rw (e, getD-set-same st w x 0 h) l
+      | no e ↦ rw (getD-set-other st w i x 0 e) (below i (omega arith))
+    ]
+
+-- ---- the turns
+
+module _ {ks ls lv inn : List ℕ} {s k v : ℕ} {st : List ℕ} {top : ℕ} (p : Passed ks ls lv inn s k v st top) where
+  -- at the end one state is left, the root's
+  pub pass-end : length ks ≤ v → length ls ≡ length ks → isPostorder ks ≡ true → (marks : List ℕ)
+      → getD st 0 0 ≡ state (treeAutomaton s k lv inn marks) (treeOf ks ls)
+  unfolding stackOf
+  pass-end h e ok marks =
+      let A : Automaton = treeAutomaton s k lv inn marks in
+      let whole : reads s k lv inn ks ls [] ≡ some (state A (treeOf ks ls) ∷ []) =
+      ap₂ (λ (a b : List ℕ). reads s k lv inn a b []) (sym (treeOf-kinds ks ls e ok)) (sym (treeOf-labels ks ls e ok))
+      ∙ read-whole (A .ι) (A .δ) (treeOf ks ls)
+      ∙ ap (λ (q : ℕ). some (q ∷ [])) (state-fold A (treeOf ks ls)) in
+      let last : reads s k lv inn (drop v ks) (drop v ls) (stackOf st top) ≡ some (stackOf st top) =
+      rw (drop-of-length-le ks {i = v} h) in
+      let alone : top ≡ 1 = some-some (sym (end-at ks v top h) ∙ p .one) in
+      let f : stackOf st top ≡ getD st 0 0 ∷ [] = ap (stackOf st) alone in
+      cc (p .same)
+
+  -- no more trees wait than half the nodes, rounded up
+  pub top-most : length ks ≤ 65535 → top ≤ 32768
+  top-most m = omega (arith, waiting-most (drop v ks) top (p .one), length-drop v ks, p .few, p .here)
+
+  module _ (h : v < length ks) (g : length ls ≡ length ks) (m : length ks ≤ 65535) where
+    -- a leaf is one more tree that waits
+    pub leaf-room : getD ks v 0 ≡ 0 → top < 32768
+    leaf-room e =
+        let w : waiting (drop (v + 1) ks) (top + 1) ≡ some 1 = sym (leaf-at ks v h top e) ∙ p .one in
+        omega (arith, waiting-most (drop (v + 1) ks) (top + 1) w, length-drop (v + 1) ks, p .few)
+
+    pub leaf-turn : getD ks v 0 ≡ 0 → ((j : ℕ) → getD lv j 0 < s) → {a : ℕ} → a ≡ getD ls v 0
+        → Passed ks ls lv inn s k (v + 1) (set st top (leafOf lv a)) (top + 1)
+    leaf-turn e below {a} is =
+        let x : ℕ = leafOf lv a in
+        let r : top < length st = omega (arith, leaf-room e, p .room) in
+        record {
+          here = omega arith;
+          room = length-set st top x ∙ p .room;
+          few = omega (arith, p .few);
+          one = sym (leaf-at ks v h top e) ∙ p .one;
+          same =
+              ap (reads s k lv inn (drop (v + 1) ks) (drop (v + 1) ls))
+              (stack-push st top x r ∙ ap (λ (b : ℕ). leafOf lv b ∷ stackOf st top) is)
+              ∙ sym (read-leaf (leafOf lv) (innerOf s k inn) ks ls v h (omega arith) (stackOf st top) e)
+              ∙ p .same;
+          below = store-below s st top x r (below a) (p .below);
+        }
+
+    module _ (ne : getD ks v 0 ≡ 0 → ⊥) where
+      pub inner-kind : getD ks v 0 ≡ 1
+      inner-kind =
+          elim (ℕ-discrete (getD ks v 0) 1) [
+            | yes e ↦ e
+            | no e ↦ absurd (none-some (sym (other-at ks v h top ne e) ∙ p .one))
+          ]
+
+      -- an inner node finds two trees
+      pub inner-two : 2 ≤ top
+      inner-two =
+          elim (decLt top 2) [
+            | yes l ↦ absurd (none-some (sym (short-at ks v h top inner-kind l) ∙ p .one))
+            | no l ↦ omega arith
+          ]
+
+      pub inner-turn : ((j : ℕ) → getD inn j 0 < s) → {a w : ℕ} → a ≡ getD ls v 0 → w ≡ top - 2
+          → Passed ks ls lv inn s k (v + 1) (set st w (innerOf s k inn (getD st w 0) a (getD st (w + 1) 0))) (w + 1)
+      inner-turn below {a} {w} is at =
+          let l : ℕ = getD st w 0 in
+          let r : ℕ = getD st (w + 1) 0 in
+          let x : ℕ = innerOf s k inn l a r in
+          let f : top ≡ w + 2 = omega (arith, inner-two) in
+          let i : w < length st = omega (arith, top-most m, p .room) in
+          let back : w + 1 ≡ top - 1 = omega arith in
+          record {
+            here = omega arith;
+            room = length-set st w x ∙ p .room;
+            few = omega (arith, p .few);
+            one = ap (waiting (drop (v + 1) ks)) back ∙ sym (inner-at ks v h top inner-kind inner-two) ∙ p .one;
+            same =
+                ap (reads s k lv inn (drop (v + 1) ks) (drop (v + 1) ls))
+                (stack-push st w x i ∙ ap (λ (b : ℕ). innerOf s k inn l b r ∷ stackOf st w) is)
+                ∙ sym (read-inner (leafOf lv) (innerOf s k inn) ks ls v h (omega arith) l r (stackOf st w) inner-kind)
+                ∙ ap (reads s k lv inn (drop v ks) (drop v ls)) (sym (stack-two st w top f))
+                ∙ p .same;
+            below = store-below s st w x i (below ((l * k + a) * s + r)) (λ j q. p .below j (omega arith));
+          }

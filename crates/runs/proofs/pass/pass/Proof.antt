@@ -1,0 +1,241 @@
+-- The pass meets its contract. The invariant: `Passed` of the labels as changed, and `next` is listed first from v on.
+-- The measure is what is left of the nodes. The laws of a turn are in proofs/PassTurns.
+-- Assumes nothing.
+use Prim.Native.Nat.{ℕ, _+_, _-_, _≤_, _<_}
+use mathlib.Core.Path.{_≡_, refl, _∙_}
+use mathlib.Core.Logic.{⊎-elim}
+use mathlib.Core.List.{List}
+use native.Mathlib.Omega.{arith}
+use borrow.Author.Needs.{needs}
+use lib.ListN.{length, getD}
+use Rattle.trees.specs.Changes.{changed}
+use Rattle.runs.proofs.ListedLaws.{label-below, label-changed, length-changed}
+use Rattle.runs.proofs.PassTurns.{Onward, onward, onward-own, label-listed, label-own}
+use Rattle.runs.proofs.PassTurns.{Passed, pass-start, leaf-turn, inner-turn, pass-end}
+use Rattle.runs.proofs.PassTurns.{top-most, leaf-room, inner-two, rule-args}
+use Rattle.runs.proofs.pass.pass.Statement.{statement}
+use Rattle.runs.proofs.pass.pass.Tie as tie
+use Rattle.runs.proofs.pass.pass.Reads as reads
+use Rattle.runs.proofs.pass.pass.Lts as lts
+use Rattle.runs.proofs.changes.label_for.Reads as label-for-reads
+use Rattle.runs.proofs.changes.next_listed.Reads as next-listed-reads
+use Rattle.runs.proofs.pass.room.Reads as room-reads
+use Rattle.runs.proofs.pass.rule.Reads as rule-reads
+
+abbrev Inv-loop : tie.InvT-loop
+Inv-loop kinds labels nodes news leaves inner s k n waiting₀ top₀ next₀ v₀ waiting top next v =
+    (n ≡ length kinds) × Passed kinds (changed labels nodes news) leaves inner s k v waiting top
+    × Onward nodes news v next
+
+abbrev μ-loop : tie.MeasureT-loop
+μ-loop kinds labels nodes news leaves inner s k n waiting₀ top₀ next₀ v₀ waiting top next v = n - v
+
+-- ---- at the loop's head
+
+abbrev entered : tie.At-loop Inv-loop μ-loop → tie.Start Inv-loop μ-loop
+entered l = l .before .before .before .before .before .before .before .before .before
+
+-- the labels as changed
+abbrev labelled : tie.At-loop Inv-loop μ-loop → List ℕ
+labelled l = changed (entered l .args .labels .now) (entered l .args .nodes .now) (entered l .args .news .now)
+
+labelled-length : (l : tie.At-loop Inv-loop μ-loop) → length (labelled l) ≡ length (entered l .args .kinds .now)
+labelled-length l =
+    let s = entered l in
+    length-changed (s .args .labels .now) (s .args .nodes .now) (s .args .news .now) ∙ s .pre .labelled
+
+labels-in : (l : tie.At-loop Inv-loop μ-loop) (v : ℕ) → v < length (entered l .args .labels .now)
+    → getD (labelled l) v 0 < entered l .args .k
+labels-in l v h =
+    let s = entered l in
+    let ls = s .args .labels .now in
+    let vs = s .args .nodes .now in
+    let bs = s .args .news .now in
+    rw (label-changed ls vs bs v h)
+    (label-below (s .args .k) (getD ls v 0) vs bs v (s .pre .labels-below v) (s .pre .changes-below))
+
+most : (l : tie.At-loop Inv-loop μ-loop) → l .loop .top ≤ 32768
+most l = top-most (l .loop .inv .1) (entered l .pre .most)
+
+-- ---- where the first arms meet: the label of the turn and the next listed node
+
+label-is : (c : tie.Joined1 Inv-loop μ-loop)
+    → let l = c .before .before .before in c .if1 .a ≡ getD (labelled l) (l .loop .v) 0
+label-is c =
+    let l = c .before .before .before in
+    let s = entered l in
+    let ls = s .args .labels .now in
+    let vs = s .args .nodes .now in
+    let bs = s .args .news .now in
+    let v = l .loop .v in
+    let h : v < length ls = omega (arith, s .pre .labelled, l .loop .inv .0) in
+    ⊎-elim
+    (λ w. w .4 ∙ w .1 .ensures ∙ label-listed ls vs bs v h)
+    (λ w. w .2 ∙ label-own ls vs bs v h (l .loop .inv .2) (w .0 .left))
+    (c .if1 .came)
+
+next-is : (c : tie.Joined1 Inv-loop μ-loop)
+    → let l = c .before .before .before in
+    Onward (entered l .args .nodes .now) (entered l .args .news .now) (l .loop .v + 1) (c .if1 .next)
+next-is c =
+    let l = c .before .before .before in
+    let a = entered l .args in
+    ⊎-elim
+    (λ w. rw (w .3 ∙ w .2 .ensures)
+    (onward (a .nodes .now) (a .news .now) (l .loop .v + 1) (length (a .kinds .now)) (omega arith)))
+    (λ w. rw (w .1) (onward-own (l .loop .inv .2) (w .0 .left)))
+    (c .if1 .came)
+
+label-in : (c : tie.Joined1 Inv-loop μ-loop) → c .if1 .a < entered (c .before .before .before) .args .k
+label-in c =
+    let l = c .before .before .before in
+    rw (label-is c) (labels-in l (l .loop .v) (omega (arith, entered l .pre .labelled, l .loop .inv .0)))
+
+-- an inner node finds two trees
+two : (c : tie.Else2 Inv-loop μ-loop) → 2 ≤ c .before .before .before .before .before .loop .top
+two c =
+    let l = c .before .before .before .before .before in
+    let h : l .loop .v < length (entered l .args .kinds .now) = omega (arith, l .loop .inv .0) in
+    inner-two (l .loop .inv .1) h (labelled-length l) (entered l .pre .most) (c .if2 .left)
+
+-- ---- the needs
+
+room-requires : tie.Need-room-requires Inv-loop μ-loop
+room-requires c κs = search needs
+
+next-listed-requires : tie.Need-next-listed-requires Inv-loop μ-loop
+next-listed-requires c κs = search needs
+
+loop-holds : tie.Need-loop-holds Inv-loop μ-loop
+loop-holds c =
+    let s = c .before .before .before .before .before .before .before .before in
+    let a = s .args in (
+      refl,
+      pass-start (c .before .room .ensures) (s .pre .postorder),
+      rw (c .next-listed .ensures) (onward (a .nodes .now) (a .news .now) 0 (length (a .kinds .now)) (omega arith)),
+    )
+
+shared-slice-read-a : tie.Need-shared-slice-read-a Inv-loop μ-loop
+shared-slice-read-a c = search needs
+
+label-for-requires : tie.Need-label-for-requires Inv-loop μ-loop
+label-for-requires c κs = search needs
+
+add-next-listed : tie.Need-add-next-listed Inv-loop μ-loop
+add-next-listed c = search needs
+
+next-listed-requires-2 : tie.Need-next-listed-requires-2 Inv-loop μ-loop
+next-listed-requires-2 c κs = search needs
+
+shared-slice-read-if2 : tie.Need-shared-slice-read-if2 Inv-loop μ-loop
+shared-slice-read-if2 c = search needs
+
+shared-slice-read-x : tie.Need-shared-slice-read-x Inv-loop μ-loop
+shared-slice-read-x c =
+    let j = c .before .before .before .before in
+    omega (arith, label-in j, entered (j .before .before .before) .pre .leaf-count)
+
+sub-top : tie.Need-sub-top Inv-loop μ-loop
+sub-top c = two c
+
+array-read-p : tie.Need-array-read-p Inv-loop μ-loop
+array-read-p c = omega (arith, two c, most (c .before .before .before .before .before))
+
+cast-p : tie.Need-cast-p Inv-loop μ-loop
+cast-p c =
+    let l = c .before .before .before .before .before in
+    omega (arith, l .loop .inv .1 .below (l .loop .top - 2) (omega (arith, two c)), entered l .pre .states)
+
+add-q : tie.Need-add-q Inv-loop μ-loop
+add-q c = search needs
+
+array-read-q : tie.Need-array-read-q Inv-loop μ-loop
+array-read-q c = omega (arith, two c, most (c .before .before .before .before .before))
+
+cast-q : tie.Need-cast-q Inv-loop μ-loop
+cast-q c =
+    let l = c .before .before .before .before .before in
+    let w : ℕ = l .loop .top - 2 + 1 in
+    omega (arith, l .loop .inv .1 .below w (omega (arith, two c)), entered l .pre .states)
+
+rule-requires : tie.Need-rule-requires Inv-loop μ-loop
+rule-requires c κs =
+    let l = c .before .before .before .before .before .before in
+    let w : ℕ = l .loop .top - 2 in
+    let t = two (c .before) in
+    let left : getD (l .loop .waiting) w 0 < entered l .args .s = l .loop .inv .1 .below w (omega arith) in
+    let right : getD (l .loop .waiting) (w + 1) 0 < entered l .args .s = l .loop .inv .1 .below (w + 1) (omega arith) in
+    let p = entered l .pre in
+    rule-args (omega arith) (label-in (c .before .before .before)) (omega arith) (p .states) (p .letters) (p .inner-count)
+
+array-write-waiting : tie.Need-array-write-waiting Inv-loop μ-loop
+array-write-waiting c =
+    let l = c .before .before .before .before .before in
+    let h : l .loop .v < length (entered l .args .kinds .now) = omega (arith, l .loop .inv .0) in
+    ⊎-elim
+    (λ w. rw (w .3) (leaf-room (l .loop .inv .1) h (labelled-length l) (entered l .pre .most) (w .0 .taken)))
+    (λ w. rw (w .3) (omega (arith, most l)))
+    (c .if2 .came)
+
+add-top : tie.Need-add-top Inv-loop μ-loop
+add-top c = omega (arith, array-write-waiting (c .before))
+
+add-v : tie.Need-add-v Inv-loop μ-loop
+add-v c = search needs
+
+loop-less : tie.Need-loop-less Inv-loop μ-loop
+loop-less c = search needs
+
+loop-again : tie.Need-loop-again Inv-loop μ-loop
+loop-again c =
+    let j = c .before .before .before in
+    let l = j .before .before .before in
+    let p = entered l .pre in
+    let i = l .loop .inv .1 in
+    let h : l .loop .v < length (entered l .args .kinds .now) = omega (arith, l .loop .inv .0) in
+    let g = labelled-length l in (
+      refl,
+      ⊎-elim
+          (λ w. rw (w .3, w .4) (leaf-turn i h g (p .most) (w .0 .taken) (p .leaf-below) (label-is j)))
+          (λ w. rw (w .3, w .4 ∙ w .2 .ensures) (inner-turn i h g (p .most) (w .0 .left) (p .inner-below) (label-is j) refl))
+          (c .before .if2 .came),
+      next-is j,
+    )
+
+array-read-result : tie.Need-array-read-result Inv-loop μ-loop
+array-read-result c = search needs
+
+returns : tie.Need-returns Inv-loop μ-loop
+returns c =
+    let l = c .before in
+    pass-end (l .loop .inv .1) (omega (arith, l .loop .inv .0)) (labelled-length l) (entered l .pre .postorder)
+
+pub pass-spec : {M : Type 1} → statement M
+pass-spec =
+    tie.close
+    (tie.spec
+    Inv-loop
+    μ-loop
+    room-requires
+    next-listed-requires
+    loop-holds
+    shared-slice-read-a
+    label-for-requires
+    add-next-listed
+    next-listed-requires-2
+    shared-slice-read-if2
+    shared-slice-read-x
+    sub-top
+    array-read-p
+    cast-p
+    add-q
+    array-read-q
+    cast-q
+    rule-requires
+    array-write-waiting
+    add-top
+    add-v
+    loop-less
+    loop-again
+    array-read-result
+    returns)

@@ -1,0 +1,63 @@
+use crate::changes::label_for;
+use crate::changes::next_listed;
+ghost use mathlib.Core.Path.{_≡_};
+ghost use Prim.Native.Nat.{ℕ, _+_, _*_};
+ghost use lib.ListN.{length, getD};
+ghost use Rattle.runs.specs.Pass.{RuleArgs, PassArgs, PassDone};
+
+// Room for the states of the trees that wait: of N nodes at most (N + 1) / 2.
+fn room() -> [u8; 32768]
+    ensures { λ r. ⌜ length r ≡ 32768 ⌝ }
+{
+    [0u8; 32768]
+}
+
+// The state for left state p, label a and right state q.
+fn rule(inner: &[u8], s: usize, k: usize, p: usize, a: usize, q: usize) -> u8
+    requires { ⌜ RuleArgs (now inner) s k p a q ⌝ }
+    ensures { λ r. ⌜ r ≡ getD (now (inner .entry)) ((p * k + a) * s + q) 0 ⌝ }
+{
+    inner[(p * k + a) * s + q]
+}
+
+// The root's state in the run over the plan with the listed labels changed. One pass over the nodes in order: the
+// states of the trees that wait are kept, the last completed on top, and the list is looked up only at a listed node.
+pub fn pass(
+    kinds: &[u8],
+    labels: &[u8],
+    nodes: &[u16],
+    news: &[u8],
+    leaves: &[u8],
+    inner: &[u8],
+    s: usize,
+    k: usize,
+) -> u8
+    requires { ⌜ PassArgs (now kinds) (now labels) (now nodes) (now news) (now leaves) (now inner) s k ⌝ }
+    ensures { λ r. ⌜ PassDone (now (kinds .entry)) (now (labels .entry)) (now (nodes .entry)) (now (news .entry))
+        (now (leaves .entry)) (now (inner .entry)) s k r ⌝ }
+{
+    let n = kinds.len();
+    let mut waiting = room();
+    let mut top: usize = 0;
+    let mut next = next_listed(nodes, 0, n);
+    let mut v: usize = 0;
+    while v < n {
+        let mut a = labels[v];
+        if v == next {
+            a = label_for(a, nodes, news, v);
+            next = next_listed(nodes, v + 1, n);
+        }
+        let x = if kinds[v] == 0 {
+            leaves[a as usize]
+        } else {
+            top -= 2;
+            let p = waiting[top] as usize;
+            let q = waiting[top + 1] as usize;
+            rule(inner, s, k, p, a as usize, q)
+        };
+        waiting[top] = x;
+        top += 1;
+        v += 1;
+    }
+    waiting[0]
+}
