@@ -1,2 +1,9 @@
 pub mod Question
 pub mod Promise
+pub mod Compose
+pub mod Fits
+pub mod Finish
+pub mod Lent
+pub mod Maps
+pub mod Filled
+pub mod Told

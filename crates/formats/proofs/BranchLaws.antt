@@ -9,8 +9,8 @@
 --                                 what `&branch[16..16 + s * k]` and `&branch[16 + s * k..]` are to a proof
 -- Assumes nothing.
 use Prim.Native.Nat.{ℕ, _+_, _-_, _*_, _≤_, _<_}
-use mathlib.Core.Path.{_≡_, refl, sym, ap, ap₂, _∙_}
-use mathlib.Core.Bool.{Bool, true, false, _&&_}
+use mathlib.Core.Path.{_≡_, sym, ap₂, _∙_}
+use mathlib.Core.Bool.{Bool, true, _&&_}
 use mathlib.Core.List.{List}
 use native.Mathlib.Omega.{arith}
 use lib.Dec.{leb, eqb}
@@ -23,8 +23,8 @@ use Rattle.formats.specs.Checks.{firstNo, branchChecks}
 use Rattle.formats.specs.Leaves.{countsFit, branchShape, branchValues}
 use Rattle.formats.proofs.CheckLaws.{Numbered, and-both, and-left, and-right}
 use Rattle.formats.proofs.ListLaws.{allBelow-all}
-use Rattle.formats.proofs.PartLaws.{four, four-pass, pass-four, end-part, run-part, length-part}
-use Rattle.formats.proofs.PlanLaws.{within-low, within-high, is-within, same-left, same-both}
+use Rattle.formats.proofs.PartLaws.{four-pass, pass-four, end-part, run-part, length-part}
+use Rattle.formats.proofs.PlanLaws.{within-low, within-high, same-left, same-both}
 use Rattle.formats.proofs.RuleLaws.{counts-fit}
 
 pub record BranchPasses (r : List ℕ) : Type 0 where

@@ -6,7 +6,7 @@
 --     firstNo-append-left, -right   where nothing of both fails, nothing of either fails
 --     and-both, and-left, and-right what a conjunction of tests tells
 -- Assumes nothing.
-use Prim.Native.Nat.{ℕ, zero, suc, _<_}
+use Prim.Native.Nat.{ℕ, suc, _<_}
 use mathlib.Core.Path.{_≡_, refl, sym, _∙_}
 use mathlib.Core.Bool.{Bool, true, false, cond, _&&_}
 use mathlib.Core.List.{List, [], _∷_, _++_}
@@ -75,7 +75,8 @@ unfolding firstNo
 firstNo-append-zero [] ys p e = refl
 firstNo-append-zero (c ∷ xs) ys p e = go (c .passes) (firstNo-append-zero xs ys (p .1)) e
   where
-    go : (b : Bool) → (firstNo xs ≡ 0 → firstNo (xs ++ ys) ≡ firstNo ys) → cond b (firstNo xs) (c .number) ≡ 0 → cond b (firstNo (xs ++ ys)) (c .number) ≡ firstNo ys
+    go : (b : Bool) → (firstNo xs ≡ 0 → firstNo (xs ++ ys) ≡ firstNo ys)
+        → cond b (firstNo xs) (c .number) ≡ 0 → cond b (firstNo (xs ++ ys)) (c .number) ≡ firstNo ys
     go true rest f = rest f
     go false rest f = absurd (omega (arith, p .0))
 
@@ -84,7 +85,8 @@ unfolding firstNo
 firstNo-append-no [] ys h = absurd (h refl)
 firstNo-append-no (c ∷ xs) ys h = go (c .passes) (firstNo-append-no xs ys) h
   where
-    go : (b : Bool) → ((firstNo xs ≡ 0 → ⊥) → firstNo (xs ++ ys) ≡ firstNo xs) → (cond b (firstNo xs) (c .number) ≡ 0 → ⊥) → cond b (firstNo (xs ++ ys)) (c .number) ≡ cond b (firstNo xs) (c .number)
+    go : (b : Bool) → ((firstNo xs ≡ 0 → ⊥) → firstNo (xs ++ ys) ≡ firstNo xs)
+        → (cond b (firstNo xs) (c .number) ≡ 0 → ⊥) → cond b (firstNo (xs ++ ys)) (c .number) ≡ cond b (firstNo xs) (c .number)
     go true rest f = rest f
     go false rest f = refl
 
@@ -96,7 +98,8 @@ unfolding firstNo
 firstNo-append-left [] ys p e = refl
 firstNo-append-left (c ∷ xs) ys p e = go (c .passes) (firstNo-append-left xs ys (p .1)) e
   where
-    go : (b : Bool) → (firstNo (xs ++ ys) ≡ 0 → firstNo xs ≡ 0) → cond b (firstNo (xs ++ ys)) (c .number) ≡ 0 → cond b (firstNo xs) (c .number) ≡ 0
+    go : (b : Bool) → (firstNo (xs ++ ys) ≡ 0 → firstNo xs ≡ 0)
+        → cond b (firstNo (xs ++ ys)) (c .number) ≡ 0 → cond b (firstNo xs) (c .number) ≡ 0
     go true rest f = rest f
     go false rest f = f
 

@@ -6,8 +6,8 @@
 --     then-list                   a list after checks ts
 -- Assumes nothing.
 use Prim.Native.Nat.{ℕ, _+_, _*_, _≤_, _<_}
-use mathlib.Core.Path.{_≡_, refl, sym, ap, ap₂, _∙_}
-use mathlib.Core.Bool.{Bool, true, false, not, _&&_}
+use mathlib.Core.Path.{_≡_, sym, ap, ap₂, _∙_}
+use mathlib.Core.Bool.{Bool, true, false, not}
 use mathlib.Core.List.{List, [], _∷_, _++_}
 use native.Mathlib.Omega.{arith}
 use native.Mathlib.Nat.{mul-le-mul}
@@ -15,7 +15,7 @@ use lib.Dec.{leb}
 use borrow.Author.Tests.{le-leb, lt-leb, not-true, not-false}
 use Rattle.formats.specs.Bytes.{allBelow}
 use Rattle.formats.specs.Plan.{labelsIn}
-use Rattle.formats.specs.Checks.{Check, firstNo, planChecks, labelCheck, roomCheck, linkLength, stateLength}
+use Rattle.formats.specs.Checks.{Check, firstNo, planChecks, labelCheck, roomCheck}
 use Rattle.formats.specs.Leaves.{roomFits}
 use Rattle.formats.proofs.CheckLaws.{Numbered, firstNo-none, firstNo-yes, firstNo-no, firstNo-append-zero, firstNo-append-no}
 use Rattle.formats.proofs.PlanLaws.{plan-numbered}

@@ -7,21 +7,24 @@
 --     build-table, branch-build-table, fresh-run-table
 --                                 where 2 to 11, or 2 to 15, pass, 2 to 10 do
 -- Assumes nothing.
-use Prim.Native.Nat.{ℕ, _+_, _*_, _≤_, _<_}
-use mathlib.Core.Path.{_≡_, refl, sym, _∙_}
-use mathlib.Core.Bool.{Bool, true, false, _&&_}
+use Prim.Native.Nat.{ℕ, _+_, _≤_, _<_}
+use mathlib.Core.Path.{_≡_, _∙_}
+use mathlib.Core.Bool.{true}
 use mathlib.Core.List.{List, [], _∷_, _++_}
 use native.Mathlib.Omega.{arith}
 use lib.Dec.{leb, eqb}
 use lib.ListN.{length, getD}
-use borrow.Author.Tests.{leb-true, le-leb, eqb-true, eq-eqb}
+use borrow.Author.Tests.{leb-true, le-leb}
 use Rattle.formats.specs.Bytes.{allBelow, distinct}
 use Rattle.formats.specs.Limits.{changeLimit}
 use Rattle.formats.specs.Plan.{nodeCount, labelsIn}
 use Rattle.formats.specs.Rules.{stateCount, labelCount}
-use Rattle.formats.specs.Checks.{Check, firstNo, planChecks, ruleChecks, branchChecks, labelCheck, roomCheck, linkLength, stateLength, listChecks, ruleTableChecks, branchTableChecks, buildChecks, branchBuildChecks, freshRunChecks}
+use Rattle.formats.specs.Checks.{Check, firstNo, planChecks, ruleChecks, branchChecks, labelCheck, roomCheck, listChecks}
+use Rattle.formats.specs.Checks.{linkLength, stateLength, ruleTableChecks, branchTableChecks}
+use Rattle.formats.specs.Checks.{buildChecks, branchBuildChecks, freshRunChecks}
 use Rattle.formats.specs.Leaves.{lengthsFit, roomFits}
-use Rattle.formats.proofs.CheckLaws.{Numbered, numbered-append, firstNo-none, firstNo-yes, firstNo-head, firstNo-append-zero, firstNo-append-left, firstNo-append-right, and-both, and-left, and-right}
+use Rattle.formats.proofs.CheckLaws.{Numbered, numbered-append, firstNo-none, firstNo-yes, firstNo-head}
+use Rattle.formats.proofs.CheckLaws.{firstNo-append-zero, firstNo-append-left, firstNo-append-right, and-both, and-left, and-right}
 use Rattle.formats.proofs.ListLaws.{allBelow-all}
 use Rattle.formats.proofs.PartLaws.{four-pass, pass-four}
 use Rattle.formats.proofs.PlanLaws.{PlanPasses, plan-passes, passes-plan, plan-numbered, same-left, same-both}
@@ -136,7 +139,9 @@ room-passes n s nums bytes e =
 
 pub passes-room : (n s nums bytes : ℕ) → linkLength n ≤ nums → stateLength n s ≤ bytes → firstNo (roomCheck n s nums bytes ∷ []) ≡ 0
 passes-room n s nums bytes h i =
-    firstNo-yes 11 (roomFits n s nums bytes) [] (and-both (leb (linkLength n) nums) (leb (stateLength n s) bytes) (le-leb (linkLength n) nums h) (le-leb (stateLength n s) bytes i))
+    let links : leb (linkLength n) nums ≡ true = le-leb (linkLength n) nums h in
+    let states : leb (stateLength n s) bytes ≡ true = le-leb (stateLength n s) bytes i in
+    firstNo-yes 11 (roomFits n s nums bytes) [] (and-both (leb (linkLength n) nums) (leb (stateLength n s) bytes) links states)
     ∙ firstNo-none
 
 module _ (p r : List ℕ) (nums bytes : ℕ) where

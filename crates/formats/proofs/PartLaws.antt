@@ -4,14 +4,13 @@
 --     rest-part, run-part         what `&s[a..]` and `&s[a..a + n]` are to a proof
 -- Assumes nothing.
 use Prim.Native.Nat.{ℕ, suc, _+_, _-_, _≤_}
-use mathlib.Core.Path.{_≡_, refl, sym, ap, _∙_}
+use mathlib.Core.Path.{_≡_, refl, ap}
 use mathlib.Core.Bool.{Bool, true, false}
 use mathlib.Core.List.{List, [], _∷_}
 use native.Mathlib.Omega.{arith}
 use lib.ListN.{length, take, drop, length-take, length-drop}
 use lib.Seq.{take-all}
 use Rattle.formats.specs.Checks.{Check, check, firstNo}
-use Rattle.formats.proofs.CheckLaws.{true-false}
 
 -- ---- four checks in a row, with numbers above 0
 

@@ -1,10 +1,9 @@
 -- The number that each refusal of a plan gives: 2 to 5, by what the code finds.
 -- Assumes nothing.
-use Prim.Native.Nat.{ℕ, _+_, _*_, _≤_, _<_}
-use mathlib.Core.Path.{_≡_, refl, sym, ap, _∙_}
+use Prim.Native.Nat.{ℕ, _+_, _≤_, _<_}
+use mathlib.Core.Path.{_≡_, sym}
 use mathlib.Core.Bool.{Bool, true, false, _&&_}
 use mathlib.Core.List.{List}
-use native.Mathlib.Omega.{arith}
 use lib.Dec.{leb, eqb}
 use lib.ListN.{length}
 use borrow.Author.Tests.{le-leb, lt-leb, eq-eqb, ne-eqb}
@@ -15,7 +14,7 @@ use Rattle.formats.specs.Plan.{nodeCount, planLength, kindsIn}
 use Rattle.formats.specs.Checks.{firstNo, planChecks}
 use Rattle.formats.proofs.CheckLaws.{and-no-left, and-no-right}
 use Rattle.formats.proofs.PartLaws.{four-1, four-2, four-3, four-4}
-use Rattle.formats.proofs.PlanLaws.{PlanPasses, passes-plan, planShape, is-within, same-both}
+use Rattle.formats.proofs.PlanLaws.{passes-plan, planShape, is-within, same-both}
 
 pub below-within : (low high n : ℕ) → n < low → within low high n ≡ false
 below-within low high n h = and-no-left (leb low n) (leb n high) (lt-leb low n h)

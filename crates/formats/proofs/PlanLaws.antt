@@ -6,15 +6,15 @@
 --     labels-part, kinds-part      what `&plan[12..12 + n]` and `&plan[12 + n..]` are to a proof
 -- Not here: the numbers that a refusal gives (proofs/plan/check_plan), the way from trees to plans (PlanTheorems).
 -- Assumes nothing.
-use Prim.Native.Nat.{ℕ, _+_, _-_, _*_, _≤_}
-use mathlib.Core.Path.{_≡_, refl, sym, ap, _∙_}
-use mathlib.Core.Bool.{Bool, true, false, _&&_}
+use Prim.Native.Nat.{ℕ, _+_, _-_, _≤_}
+use mathlib.Core.Path.{_≡_, sym, ap, _∙_}
+use mathlib.Core.Bool.{Bool, true, _&&_}
 use mathlib.Core.List.{List}
 use native.Mathlib.Omega.{arith}
 use lib.Dec.{leb, eqb}
 use lib.ListN.{length, take, drop}
 use borrow.Author.Tests.{leb-true, le-leb, eqb-true, eq-eqb}
-use Rattle.trees.specs.Tree.{Tree, size, kindsOf, labelsOf}
+use Rattle.trees.specs.Tree.{size, kindsOf, labelsOf}
 use Rattle.trees.specs.Postorder.{isPostorder}
 use Rattle.trees.proofs.PostorderLaws.{treeOf-kinds, treeOf-labels, treeOf-size}
 use Rattle.formats.specs.Bytes.{le32}
@@ -22,7 +22,7 @@ use Rattle.formats.specs.Limits.{nodeLimit, within}
 use Rattle.formats.specs.Plan.{nodeCount, planLength, labelsIn, kindsIn, planTree}
 use Rattle.formats.specs.Checks.{firstNo, planChecks}
 use Rattle.formats.proofs.CheckLaws.{Numbered, and-both, and-left, and-right}
-use Rattle.formats.proofs.PartLaws.{four, four-pass, pass-four, end-part, run-part, length-part}
+use Rattle.formats.proofs.PartLaws.{four-pass, pass-four, end-part, run-part, length-part}
 
 pub record PlanPasses (p : List ℕ) : Type 0 where
   pub long : 12 ≤ length p
@@ -62,14 +62,16 @@ module _ (p : List ℕ) where
   plan-passes e =
       let q : (leb 12 (length p) ≡ true) × (within 1 nodeLimit (nodeCount p) ≡ true) × (planShape p ≡ true) × (isPostorder (kindsIn p) ≡ true) =
       four-pass 1 2 3 4 (leb 12 (length p)) (within 1 nodeLimit (nodeCount p)) (planShape p) (isPostorder (kindsIn p)) e in
-      let kinds : Bool = eqb (le32 p 8) (12 + nodeCount p) && eqb (length p) (planLength (nodeCount p)) in
+      let end : Bool = eqb (length p) (planLength (nodeCount p)) in
+      let kinds : Bool = eqb (le32 p 8) (12 + nodeCount p) && end in
+      let later : kinds ≡ true = and-right (eqb (le32 p 4) 12) kinds (q .2) in
       record {
         long = leb-true 12 (length p) (q .0);
         least = within-low 1 nodeLimit (nodeCount p) (q .1);
         most = within-high 1 nodeLimit (nodeCount p) (q .1);
         labels-at = same-left (le32 p 4) 12 kinds (q .2);
-        kinds-at = same-left (le32 p 8) (12 + nodeCount p) (eqb (length p) (planLength (nodeCount p))) (and-right (eqb (le32 p 4) 12) kinds (q .2));
-        exact = eqb-true (length p) (planLength (nodeCount p)) (and-right (eqb (le32 p 8) (12 + nodeCount p)) (eqb (length p) (planLength (nodeCount p))) (and-right (eqb (le32 p 4) 12) kinds (q .2)));
+        kinds-at = same-left (le32 p 8) (12 + nodeCount p) end later;
+        exact = eqb-true (length p) (planLength (nodeCount p)) (and-right (eqb (le32 p 8) (12 + nodeCount p)) end later);
         postorder = q .3;
       }
 

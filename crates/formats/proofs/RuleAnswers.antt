@@ -6,7 +6,7 @@
 --     rules-6 .. rules-good       the answers
 -- Assumes nothing.
 use Prim.Native.Nat.{ℕ, _+_, _-_, _*_, _≤_, _<_}
-use mathlib.Core.Path.{_≡_, refl, sym, ap, ap₂, _∙_}
+use mathlib.Core.Path.{_≡_, sym, ap, ap₂, _∙_}
 use mathlib.Core.Bool.{Bool, true, false, not, _&&_}
 use mathlib.Core.List.{List}
 use native.Mathlib.Omega.{arith}
@@ -21,7 +21,7 @@ use Rattle.formats.specs.Checks.{firstNo, ruleChecks}
 use Rattle.formats.specs.Leaves.{countsFit, ruleShape, ruleValues}
 use Rattle.formats.proofs.CheckLaws.{and-left, and-right, and-no-left, and-no-right}
 use Rattle.formats.proofs.PartLaws.{four-1, four-2, four-3, four-4, pass-four, run-part, end-part}
-use Rattle.formats.proofs.PlanLaws.{within-low, within-high, is-within}
+use Rattle.formats.proofs.PlanLaws.{within-low, within-high}
 
 pub product-inner : (s k : ℕ) → s ≤ 16 → k ≤ 64 → (s * k ≤ 1024) × (s * k * s ≤ 16384)
 product-inner s k a b =

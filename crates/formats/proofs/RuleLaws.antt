@@ -8,8 +8,8 @@
 --                                 what `&rules[20..20 + k]`, `&rules[20 + k..20 + k + s * k * s]` and the rest are to a proof
 -- Assumes nothing.
 use Prim.Native.Nat.{ℕ, _+_, _-_, _*_, _≤_, _<_}
-use mathlib.Core.Path.{_≡_, refl, sym, ap, ap₂, _∙_}
-use mathlib.Core.Bool.{Bool, true, false, _&&_}
+use mathlib.Core.Path.{_≡_, sym, ap, ap₂, _∙_}
+use mathlib.Core.Bool.{Bool, true, _&&_}
 use mathlib.Core.List.{List}
 use native.Mathlib.Omega.{arith}
 use lib.Dec.{leb, eqb}
@@ -22,7 +22,7 @@ use Rattle.formats.specs.Checks.{firstNo, ruleChecks}
 use Rattle.formats.specs.Leaves.{countsFit, ruleShape, ruleValues}
 use Rattle.formats.proofs.CheckLaws.{Numbered, and-both, and-left, and-right}
 use Rattle.formats.proofs.ListLaws.{allBelow-all}
-use Rattle.formats.proofs.PartLaws.{four, four-pass, pass-four, end-part, run-part, length-part}
+use Rattle.formats.proofs.PartLaws.{four-pass, pass-four, end-part, run-part, length-part}
 use Rattle.formats.proofs.PlanLaws.{within-low, within-high, is-within, same-left, same-both}
 
 pub record RulesPass (r : List ℕ) : Type 0 where

@@ -1,10 +1,14 @@
--- What the functions below the checks of tables ask and answer, with S and K as read from the header.
+-- What the functions below the checks ask and answer, with N, S and K as read from the headers.
 --
--- Counts s k == S and K are at most their limits, so that products of them fit
+-- Counts s k == S and K are at most their limits, so that products of them fit; Sizes n s == so are N and S
 -- Headed b head s k == besides, the header is there whole; RuleSized b s k, BranchSized b s k == the length is exact
+-- Labelled p k == the plan's labels are there whole, and K is at most its limit
+-- Product n most r == r is the product n, and at most `most`
 -- countsFit s k == check 7 as a test
 -- ruleShape b s k, branchShape b s k == check 8 as a test
 -- ruleValues b s k, branchValues b s k == check 9 as a test
+-- roomFits n s nums bytes == check 11 as a test
+-- lengthsFit vs bs == check 12 as a test
 --
 -- Assumes nothing.
 use Prim.Native.Nat.{ℕ, _+_, _*_, _≤_}
@@ -38,6 +42,14 @@ pub record BranchSized (b : List ℕ) (s k : ℕ) : Type 0 where
   pub states : s ≤ 16
   pub labels : k ≤ 64
 
+pub record Sizes (n s : ℕ) : Type 0 where
+  pub nodes : n ≤ 65535
+  pub states : s ≤ 16
+
+pub record Labelled (p : List ℕ) (k : ℕ) : Type 0 where
+  pub long : 12 + nodeCount p ≤ length p
+  pub labels : k ≤ 64
+
 -- a product of counts and its bound, for callers' sums
 pub record Product (n most r : ℕ) : Type 0 where
   pub value : r ≡ n
@@ -61,20 +73,10 @@ branchShape b s k = eqb (le32 b 8) 16 && (eqb (le32 b 12) (16 + s * k) && eqb (l
 abbrev pub branchValues : List ℕ → ℕ → ℕ → Bool
 branchValues b s k = allBelow s (take (s * k) (drop 16 b)) && allBelow 2 (take s (drop (16 + s * k) b))
 
--- check 12 as a test
-abbrev pub lengthsFit : List ℕ → List ℕ → Bool
-lengthsFit vs bs = eqb (length vs) (length bs) && leb (length vs) changeLimit
-
 -- check 11 as a test
 abbrev pub roomFits : ℕ → ℕ → ℕ → ℕ → Bool
 roomFits n s nums bytes = leb (linkLength n) nums && leb (stateLength n s) bytes
 
--- N and S are at most their limits
-pub record Sizes (n s : ℕ) : Type 0 where
-  pub nodes : n ≤ 65535
-  pub states : s ≤ 16
-
--- the plan's labels are there whole, and K is at most its limit
-pub record Labelled (p : List ℕ) (k : ℕ) : Type 0 where
-  pub long : 12 + nodeCount p ≤ length p
-  pub labels : k ≤ 64
+-- check 12 as a test
+abbrev pub lengthsFit : List ℕ → List ℕ → Bool
+lengthsFit vs bs = eqb (length vs) (length bs) && leb (length vs) changeLimit

@@ -6,26 +6,22 @@ ghost use Rattle.trees.specs.Postorder.{isPostorder};
 ghost use Rattle.formats.specs.Checks.{firstNo, planChecks};
 
 // Whether kinds are 0 or 1, two trees wait at each inner node and one at the end.
+// A leaf is one tree more and an inner node one less; after either at least one waits. The count starts at the number of kinds, so
+// that it never falls below 0. There is no branch on a kind and no early exit.
 pub fn is_postorder(kinds: &[u8]) -> bool
     ensures { λ r. ⌜ r ≡ isPostorder (now (kinds .entry)) ⌝ }
 {
-    let mut trees: usize = 0;
+    let none = kinds.len();
+    let mut trees = none;
+    let mut ok = true;
     let mut i = 0;
     while i < kinds.len() {
-        let k = kinds[i];
-        if k == 0 {
-            trees += 1;
-        } else if k == 1 {
-            if trees < 2 {
-                return false;
-            }
-            trees -= 1;
-        } else {
-            return false;
-        }
+        let k = kinds[i] as usize;
+        trees = trees + 1 - 2 * (k % 2);
+        ok = ok & (k < 2) & (none < trees);
         i += 1;
     }
-    trees == 1
+    ok & (trees == none + 1)
 }
 
 // Checks 2 to 5. The kinds are the rest of the plan, where its length is exact.

@@ -5,3 +5,12 @@ pub mod ShiftLaws
 pub mod PlaceLaws
 pub mod InsertTurns
 pub mod RootsLaws
+pub mod FitLaws
+pub mod GrowLaws
+pub mod ForkTurns
+pub mod FillTurns
+pub mod MeetBuilt
+pub mod ForksBuilt
+pub mod RootsBuilt
+pub mod ClimbBuilt
+pub mod PartBuilt

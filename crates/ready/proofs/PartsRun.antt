@@ -55,7 +55,7 @@ pub record RunGiven (G : Given) (u : Tree) : Type 0 where
 
 -- ---- lists of parts
 
-nodesOf : List Part → List ℕ
+unfoldable pub nodesOf : List Part → List ℕ
 nodesOf [] = []
 nodesOf (p ∷ ps) = p .node ∷ nodesOf ps
 

@@ -99,10 +99,10 @@ module _ (t : Tree) where
   pub under-root : (r u : ℕ) → r + 1 ≡ size t → u < size t → Under t r u
   under-root r u e h = (omega arith, omega (arith, ap size (sub-root t r e)))
 
-  meet-here : (u v : ℕ) → v < size t → Under t v u → Meet t u v v
+  pub meet-here : (u v : ℕ) → v < size t → Under t v u → Meet t u v v
   meet-here u v h p = record { inside = h; first = p; second = under-self v; lowest = λ y hy a b. b }
 
-  meet-up : (u v x : ℕ) → u < size t → v + 1 < size t → (Under t v u → ⊥) → Meet t u (parent t v) x → Meet t u v x
+  pub meet-up : (u v x : ℕ) → u < size t → v + 1 < size t → (Under t v u → ⊥) → Meet t u (parent t v) x → Meet t u v x
   meet-up u v x hu h ne m = record {
     inside = m .inside;
     first = m .first;

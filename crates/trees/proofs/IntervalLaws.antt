@@ -6,7 +6,7 @@
 --     above-at             u is then depth t l - depth t u parents above l
 -- Assumes nothing.
 use Prim.Native.Nat.{ℕ, zero, suc, _+_, _-_, _≤_, _<_}
-use mathlib.Core.Path.{_≡_, refl, sym, ap, _∙_, subst}
+use mathlib.Core.Path.{_≡_, sym, ap, _∙_, subst}
 use mathlib.Core.Logic.{inl, inr}
 use native.Mathlib.Decide.{ℕ-discrete}
 use native.Mathlib.Omega.{arith}
@@ -15,7 +15,7 @@ use Rattle.trees.specs.Tree.{Tree, size, kindsOf}
 use Rattle.trees.specs.Numbering.{sub, parent, depth, ancestor}
 use Rattle.trees.proofs.Choice.{le-or}
 use Rattle.trees.proofs.NodeLaws.{Inner, inner, Up, up, sub-leaf, size-pos}
-use Rattle.trees.proofs.JumpLaws.{ancestor-in, ancestor-above, ancestor-depth}
+use Rattle.trees.proofs.JumpLaws.{ancestor-in, ancestor-depth}
 use Rattle.trees.proofs.TreeClimbs.{below-root}
 
 module _ (t : Tree) where
@@ -93,7 +93,8 @@ module _ (t : Tree) where
   pub interval-ancestor : (u l : ℕ) → u < size t → l < size t → Within u l → Above u l
   interval-ancestor u l h i c = counted (suc u) u l (omega arith) h i c
 
-  pub above-at : (u l : ℕ) → l < size t → Above u l → (depth t u ≤ depth t l) × (ancestor t l (depth t l - depth t u) ≡ u)
+  pub above-at : (u l : ℕ) → l < size t → Above u l
+      → (depth t u ≤ depth t l) × (ancestor t l (depth t l - depth t u) ≡ u)
   above-at u l i a =
       let e : a .0 ≡ depth t l - depth t u = ancestor-distance u l (a .0) i (a .1) (a .2) in
       let d : depth t u + a .0 ≡ depth t l =

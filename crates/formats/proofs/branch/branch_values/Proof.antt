@@ -2,7 +2,6 @@
 use Prim.Native.Nat.{ℕ, _+_, _*_}
 use mathlib.Core.Path.{_≡_, ap}
 use Rattle.formats.proofs.BranchAnswers.{values-steps, values-branch}
-use native.Mathlib.Omega.{arith}
 use borrow.Author.Needs.{needs}
 use Rattle.formats.proofs.branch.branch_values.Statement.{statement}
 use Rattle.formats.proofs.branch.branch_values.Tie as tie

@@ -1,8 +1,9 @@
 -- `formats::branch::check_branch` meets its contract: each return cites the law of its answer. Assumes nothing.
 use Prim.Native.Nat.{ℕ, _≤_}
 use mathlib.Core.Bool.{true}
+use mathlib.Core.List.{List}
 use Rattle.formats.specs.Leaves.{countsFit, branchShape}
-use mathlib.Core.Path.{_≡_, refl, sym, _∙_}
+use mathlib.Core.Path.{_≡_, sym, _∙_}
 use borrow.Author.Tests.{not-true, not-false}
 use Rattle.formats.proofs.RuleAnswers.{counts-told}
 use Rattle.formats.proofs.BranchAnswers.{branch-exact, branch-6, branch-7, branch-8, branch-9, branch-good}
@@ -11,19 +12,24 @@ use borrow.Author.Needs.{needs}
 use Rattle.formats.proofs.branch.check_branch.Statement.{statement}
 use Rattle.formats.proofs.branch.check_branch.Tie as tie
 
--- S and K are in their limits
-limits : (e : tie.Else2)
-    → (1 ≤ e .before .before .before .read32 .result) × (e .before .before .before .read32 .result ≤ 16)
-    × (1 ≤ e .before .before .read322 .result) × (e .before .before .read322 .result ≤ 64)
-limits e = counts-told _ _ (sym (e .before .counts-fit .ensures) ∙ not-false _ (e .if2 .left))
+-- the table, S and K where check 7 has passed
+abbrev table-of : tie.Else2 → List ℕ
+table-of e = e .before .before .before .before .before .before .args .branch .now
 
-counted : (e : tie.Else2) → countsFit (e .before .before .before .read32 .result) (e .before .before .read322 .result) ≡ true
+abbrev states-of : tie.Else2 → ℕ
+states-of e = e .before .before .before .read32 .result
+
+abbrev labels-of : tie.Else2 → ℕ
+labels-of e = e .before .before .read322 .result
+
+counted : (e : tie.Else2) → countsFit (states-of e) (labels-of e) ≡ true
 counted e = sym (e .before .counts-fit .ensures) ∙ not-false _ (e .if2 .left)
 
-shaped : (e : tie.Else3)
-    → branchShape (e .before .before .before .before .before .before .before .before .args .branch .now) (e .before .before .before .before .before .read32 .result) (e .before .before .before .before .read322 .result)
-    ≡ true
-shaped e = sym (e .before .branch-shape .ensures) ∙ not-false _ (e .if3 .left)
+limits : (e : tie.Else2) → (1 ≤ states-of e) × (states-of e ≤ 16) × (1 ≤ labels-of e) × (labels-of e ≤ 64)
+limits e = counts-told _ _ (counted e)
+
+shaped : (f : tie.Else3) → branchShape (table-of (f .before .before)) (states-of (f .before .before)) (labels-of (f .before .before)) ≡ true
+shaped f = sym (f .before .branch-shape .ensures) ∙ not-false _ (f .if3 .left)
 
 returns : tie.Need-returns
 returns c = branch-6 _ (c .if1 .taken)
@@ -54,8 +60,7 @@ returns-3 c =
 branch-values-requires : tie.Need-branch-values-requires
 branch-values-requires c κs =
     let e = c .before .before in
-    let r = e .before .before .before .before .before .before .args .branch .now in
-    let exact = branch-exact r (e .before .before .before .read32 .result) (e .before .before .read322 .result) (shaped c) in
+    let exact = branch-exact (table-of e) (states-of e) (labels-of e) (shaped c) in
     record { exact = exact; states = limits e .1; labels = limits e .3 }
 
 returns-4 : tie.Need-returns-4

@@ -2,7 +2,6 @@
 use mathlib.Core.Path.{refl}
 use Rattle.formats.proofs.RuleAnswers.{product-inner}
 use native.Mathlib.Omega.{arith}
-use borrow.Author.Needs.{needs}
 use Rattle.formats.proofs.branch.step_count.Statement.{statement}
 use Rattle.formats.proofs.branch.step_count.Tie as tie
 

@@ -1,5 +1,5 @@
 -- `formats::inputs::check_build` meets its contract: each return cites the law of its answer. Assumes nothing.
-use mathlib.Core.Path.{_≡_, refl, sym, ap, _∙_}
+use mathlib.Core.Path.{_≡_, sym, _∙_}
 use Rattle.formats.specs.Checks.{firstNo, ruleTableChecks, buildChecks}
 use Rattle.formats.specs.Plan.{nodeCount}
 use Rattle.formats.specs.Rules.{stateCount}

@@ -1,6 +1,7 @@
 -- `formats::inputs::check_fresh_run` meets its contract: each return cites the law of its answer. Assumes nothing.
 use Prim.Native.Nat.{ℕ}
-use mathlib.Core.Path.{_≡_, refl, sym, ap, ap₂, _∙_}
+use mathlib.Core.Path.{_≡_, sym, ap₂, _∙_}
+use mathlib.Core.List.{List}
 use Rattle.formats.specs.Checks.{firstNo, ruleTableChecks, listChecks, freshRunChecks}
 use Rattle.formats.proofs.InputLaws.{rule-table-passes, rule-table-numbered}
 use Rattle.formats.proofs.InputAnswers.{first-part, last-part}
@@ -10,8 +11,13 @@ use Rattle.formats.proofs.inputs.check_fresh_run.Statement.{statement}
 use Rattle.formats.proofs.inputs.check_fresh_run.Tie as tie
 
 -- where 2 to 10 passed
-table-none : (e : tie.Else1)
-    → firstNo (ruleTableChecks (e .before .before .before .before .before .before .args .plan .now) (e .before .before .before .before .before .before .args .rules .now)) ≡ 0
+abbrev plan-of : tie.Else1 → List ℕ
+plan-of e = e .before .before .before .before .before .before .args .plan .now
+
+abbrev rules-of : tie.Else1 → List ℕ
+rules-of e = e .before .before .before .before .before .before .args .rules .now
+
+table-none : (e : tie.Else1) → firstNo (ruleTableChecks (plan-of e) (rules-of e)) ≡ 0
 table-none e = sym (e .before .check-rule-inputs .ensures) ∙ e .if1 .left
 
 check-rule-inputs-requires : tie.Need-check-rule-inputs-requires

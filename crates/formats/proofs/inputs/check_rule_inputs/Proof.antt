@@ -1,5 +1,5 @@
 -- `formats::inputs::check_rule_inputs` meets its contract: each return cites the law of its answer. Assumes nothing.
-use mathlib.Core.Path.{_≡_, refl, sym, ap, _∙_}
+use mathlib.Core.Path.{_≡_, refl, sym, _∙_}
 use Rattle.formats.specs.Checks.{firstNo, planChecks, ruleChecks, ruleTableChecks}
 use Rattle.formats.specs.Rules.{labelCount}
 use Rattle.formats.proofs.PlanLaws.{PlanPasses, plan-passes}

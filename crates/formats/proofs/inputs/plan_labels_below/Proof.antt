@@ -1,8 +1,7 @@
 -- `formats::inputs::plan_labels_below` meets its contract: the labels are the part of the plan that is handed on. Assumes nothing.
-use mathlib.Core.Path.{_≡_, ap, _∙_}
+use mathlib.Core.Path.{ap, _∙_}
 use Rattle.formats.specs.Bytes.{allBelow}
 use Rattle.formats.proofs.PlanLaws.{labels-part}
-use native.Mathlib.Omega.{arith}
 use borrow.Author.Needs.{needs}
 use Rattle.formats.proofs.inputs.plan_labels_below.Statement.{statement}
 use Rattle.formats.proofs.inputs.plan_labels_below.Tie as tie

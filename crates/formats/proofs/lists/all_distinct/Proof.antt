@@ -1,6 +1,6 @@
 -- `formats::lists::all_distinct` meets its contract. The loop's invariant: the answer for all is that for the numbers to come.
 -- Assumes nothing.
-use Prim.Native.Nat.{ℕ, _+_, _-_, _≤_}
+use Prim.Native.Nat.{_-_, _≤_}
 use mathlib.Core.Path.{_≡_, refl, sym, _∙_}
 use lib.ListN.{length, drop}
 use Rattle.formats.specs.Bytes.{distinct}
@@ -47,7 +47,9 @@ returns : tie.Need-returns Inv-loop μ-loop
 returns c =
     let l = c .before .before .before .before .before in
     let h = c .before .holds-one in
-    sym (distinct-no (l .before .before .args .nodes .now) (l .loop .i) (c .before .before .before .before .loop-test .taken) (h .result) (h .ensures) (c .if1 .taken))
+    let n = l .before .before .args .nodes .now in
+    let t = c .before .before .before .before .loop-test .taken in
+    sym (distinct-no n (l .loop .i) t (h .result) (h .ensures) (c .if1 .taken))
     ∙ l .loop .inv .1
 
 add-i : tie.Need-add-i Inv-loop μ-loop

@@ -1,6 +1,5 @@
 -- `formats::lists::check_list` meets its contract: each return cites the law of its answer. Assumes nothing.
 use Rattle.formats.proofs.ListAnswers.{list-12, list-13, list-14, list-15, list-good}
-use native.Mathlib.Omega.{arith}
 use borrow.Author.Needs.{needs}
 use Rattle.formats.proofs.lists.check_list.Statement.{statement}
 use Rattle.formats.proofs.lists.check_list.Tie as tie

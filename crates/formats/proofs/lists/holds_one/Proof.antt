@@ -1,8 +1,8 @@
 -- `formats::lists::holds_one` meets its contract. The loop's invariant: the running answer or that of the numbers to come is the
 -- answer for all. Assumes nothing.
-use Prim.Native.Nat.{ℕ, _+_, _-_, _≤_}
+use Prim.Native.Nat.{_-_, _≤_}
 use mathlib.Core.Path.{_≡_, refl, sym, _∙_}
-use mathlib.Core.Bool.{Bool, false, _||_}
+use mathlib.Core.Bool.{_||_}
 use lib.ListN.{length, drop}
 use Rattle.formats.specs.Bytes.{holds}
 use Rattle.formats.proofs.TurnLaws.{holds-turn, holds-end}

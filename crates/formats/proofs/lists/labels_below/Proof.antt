@@ -1,5 +1,5 @@
 -- `formats::lists::labels_below` meets its contract: a byte is below a K above 255. Assumes nothing.
-use mathlib.Core.Path.{_≡_, sym}
+use mathlib.Core.Path.{sym}
 use Rattle.formats.proofs.ListLaws.{at-allBelow}
 use native.Mathlib.Omega.{arith}
 use borrow.Author.Needs.{needs}

@@ -1,8 +1,5 @@
 -- `formats::lists::lengths_fit` meets its contract. Assumes nothing.
-use mathlib.Core.Path.{_≡_, refl}
 use borrow.Author.Tests.{eq-eqb, ne-eqb}
-use native.Mathlib.Omega.{arith}
-use borrow.Author.Needs.{needs}
 use Rattle.formats.proofs.lists.lengths_fit.Statement.{statement}
 use Rattle.formats.proofs.lists.lengths_fit.Tie as tie
 

@@ -1,5 +1,7 @@
 -- `formats::plan::check_plan` meets its contract: each return cites the law of its answer. Assumes nothing.
-use mathlib.Core.Path.{_≡_, refl, sym, ap, _∙_}
+use mathlib.Core.Path.{_≡_, sym, ap, _∙_}
+use Prim.Native.Nat.{ℕ}
+use mathlib.Core.List.{List}
 use native.Mathlib.Omega.{arith}
 use borrow.Author.Tests.{not-true, not-false}
 use Rattle.trees.specs.Postorder.{isPostorder}
@@ -14,12 +16,12 @@ use Rattle.formats.proofs.plan.check_plan.Lts as lts
 use Rattle.formats.proofs.bytes.read32.Reads as read32-reads
 use Rattle.formats.proofs.plan.is_postorder.Reads as is-postorder-reads
 
--- what the test of the kinds says, in the plan's terms
-kinds-told : (c : tie.After-is-postorder)
-    → c .is-postorder .result ≡ isPostorder (kindsIn (c .before .before .before .before .before .before .before .before .before .before .before .before .args .plan .now))
-kinds-told c =
-    let p = c .before .before .before .before .before .before .before .before .before .before .before .before .args .plan .now in
-    c .is-postorder .ensures ∙ ap isPostorder (kinds-part-exact p _ (omega arith) (omega arith))
+-- the plan, and what the test of the kinds says in the plan's terms
+abbrev plan-of : tie.After-is-postorder → List ℕ
+plan-of c = c .before .before .before .before .before .before .before .before .before .before .before .before .args .plan .now
+
+kinds-told : (c : tie.After-is-postorder) → c .is-postorder .result ≡ isPostorder (kindsIn (plan-of c))
+kinds-told c = c .is-postorder .ensures ∙ ap isPostorder (kinds-part-exact (plan-of c) _ (omega arith) (omega arith))
 
 returns : tie.Need-returns
 returns c = plan-2 _ (c .if1 .taken)

@@ -1,8 +1,8 @@
 -- `formats::rules::all_below` meets its contract. The loop's invariant: the running answer and that of the bytes to come make the
 -- answer for all. Assumes nothing.
-use Prim.Native.Nat.{ℕ, _+_, _-_, _≤_}
-use mathlib.Core.Path.{_≡_, refl, sym, ap, _∙_}
-use mathlib.Core.Bool.{Bool, true, _&&_}
+use Prim.Native.Nat.{_-_, _≤_}
+use mathlib.Core.Path.{_≡_, refl, sym, _∙_}
+use mathlib.Core.Bool.{_&&_}
 use lib.ListN.{length, drop}
 use Rattle.formats.specs.Bytes.{allBelow}
 use Rattle.formats.proofs.TurnLaws.{below-turn, below-end}

@@ -1,8 +1,6 @@
 -- `formats::rules::counts_fit` meets its contract: each return cites the law of its answer. Assumes nothing.
 use Rattle.formats.proofs.PlanAnswers.{below-within, above-within}
 use Rattle.formats.proofs.RuleAnswers.{counts-states, counts-labels, counts-last}
-use native.Mathlib.Omega.{arith}
-use borrow.Author.Needs.{needs}
 use Rattle.formats.proofs.rules.counts_fit.Statement.{statement}
 use Rattle.formats.proofs.rules.counts_fit.Tie as tie
 

@@ -2,7 +2,6 @@
 use Prim.Native.Nat.{ℕ, _+_, _*_}
 use mathlib.Core.Path.{_≡_, ap}
 use Rattle.formats.proofs.RuleAnswers.{values-leaves, values-inner, values-marks}
-use native.Mathlib.Omega.{arith}
 use borrow.Author.Needs.{needs}
 use Rattle.formats.proofs.rules.rule_values.Statement.{statement}
 use Rattle.formats.proofs.rules.rule_values.Tie as tie
@@ -34,10 +33,16 @@ cast-all-below c = search needs
 all-below-requires : tie.Need-all-below-requires
 all-below-requires c κs = search needs
 
--- where the marks begin
+-- S, K, and where the marks begin
+abbrev states-of : tie.After-inner-count → ℕ
+states-of e = e .before .before .args .s
+
+abbrev labels-of : tie.After-inner-count → ℕ
+labels-of e = e .before .before .args .k
+
 marks-at : (e : tie.After-inner-count)
-    → 20 + e .before .before .args .k + e .inner-count .result ≡ 20 + e .before .before .args .k + e .before .before .args .s * e .before .before .args .k * e .before .before .args .s
-marks-at e = ap (λ (i : ℕ). 20 + e .before .before .args .k + i) (e .inner-count .ensures .value)
+    → 20 + labels-of e + e .inner-count .result ≡ 20 + labels-of e + states-of e * labels-of e * states-of e
+marks-at e = ap (λ (i : ℕ). 20 + labels-of e + i) (e .inner-count .ensures .value)
 
 returns : tie.Need-returns
 returns c =

@@ -1,0 +1,121 @@
+-- What tables as built say to a branch question.
+--     size-is, fits-built                    17 passes
+--     built-links                            the lent numbers are the tree's
+--     built-climb                            so a climb on them is the tree's
+--     built-label, built-step, built-map     the lent labels, steps and maps are the tree's and the automaton's
+-- Assumes nothing.
+use Prim.Native.Nat.{ℕ, _+_, _*_, _≤_, _<_}
+use mathlib.Core.Path.{_≡_, sym, ap, _∙_, subst}
+use mathlib.Core.Bool.{true}
+use mathlib.Core.List.{List}
+use native.Mathlib.Omega.{arith}
+use lib.ListN.{length, getD, take, length-take}
+use Rattle.trees.specs.Tree.{Tree, size, labelAt}
+use Rattle.trees.specs.Automaton.{WordAutomaton}
+use Rattle.trees.specs.Climb.{forestOf, climb}
+use Rattle.trees.specs.Tables.{linkTable, branchTable, branchRow, branchMap}
+use Rattle.trees.proofs.RowLaws.{length-rows, length-branchRow, branchTable-map}
+use Rattle.trees.proofs.ClimbLaws.{Tells, same-climb}
+use Rattle.formats.specs.Plan.{nodeCount, labelsIn, planTree}
+use Rattle.formats.specs.Rules.{stateCount, labelCount, branchAutomaton}
+use Rattle.formats.specs.Built.{BranchBuilt}
+use Rattle.formats.proofs.PlanLaws.{PlanPasses, labels-planTree, size-planTree}
+use Rattle.formats.proofs.BranchLaws.{BranchPasses, step-below}
+use Rattle.formats.proofs.ListLaws.{allBelow-all}
+use Rattle.formats.proofs.InputLaws.{branch-table-passes}
+use Rattle.links.specs.Cells.{cellForest}
+use Rattle.links.specs.LinkCells.{LinkCells}
+use Rattle.links.proofs.CellLaws.{length-linkTable, link-cells}
+use Rattle.tables.specs.StateCells.{mapCell}
+use Rattle.branches.specs.Question.{lentFits}
+use Rattle.branches.proofs.FitLaws.{fits-lent}
+
+length-branchTable : (B : WordAutomaton) (t : Tree) → length (branchTable B t) ≡ size t * (B .states + 1)
+unfolding branchTable
+length-branchTable B t = length-rows (size t) (B .states + 1) (branchRow B t) (λ v h. length-branchRow B t v)
+
+-- a buffer that begins with a list of n elements has n
+begins : (n : ℕ) (b l : List ℕ) → take n b ≡ l → length l ≡ n → n ≤ length b
+begins n b l e z =
+    let q : length (take n b) ≡ n = ap length e ∙ z in
+    omega (arith, length-take n b)
+
+module _ (p r nums bytes : List ℕ) (D : BranchBuilt p r nums bytes) where
+  abbrev tree : Tree
+  tree = planTree p
+
+  abbrev automaton : WordAutomaton
+  automaton = branchAutomaton r
+
+  pub plan-passes : PlanPasses p
+  plan-passes = branch-table-passes p r (D .accepted) .0
+
+  pub table-passes : BranchPasses r
+  table-passes = branch-table-passes p r (D .accepted) .1
+
+  pub size-is : size (planTree p) ≡ nodeCount p
+  size-is = size-planTree p plan-passes
+
+  -- ---- 17
+
+  links-room : nodeCount p * 4 ≤ length nums
+  links-room =
+      begins (nodeCount p * 4) nums (linkTable tree) (D .links) (length-linkTable tree ∙ ap (λ (n : ℕ). n * 4) size-is)
+
+  states-room : nodeCount p * (stateCount r + 1) ≤ length bytes
+  states-room =
+      begins (nodeCount p * (stateCount r + 1)) bytes (branchTable automaton tree) (D .states)
+      (length-branchTable automaton tree ∙ ap (λ (n : ℕ). n * (stateCount r + 1)) size-is)
+
+  pub fits-built : lentFits p r nums bytes ≡ true
+  fits-built = fits-lent p r nums bytes (record {
+    plan = record {
+      long = plan-passes .long;
+      least = plan-passes .least;
+      most = plan-passes .most;
+      exact = plan-passes .exact;
+    };
+    branch = record {
+      long = table-passes .long;
+      states-least = table-passes .states-least;
+      states-most = table-passes .states-most;
+      labels-least = table-passes .labels-least;
+      labels-most = table-passes .labels-most;
+      exact = table-passes .exact;
+    };
+    nums-room = links-room;
+    bytes-room = states-room;
+  })
+
+  -- ---- the links
+
+  pub built-links : LinkCells (planTree p) nums
+  built-links = link-cells tree (nodeCount p) nums (sym size-is) (D .links)
+
+  tells : Tells (cellForest (nodeCount p) nums) tree
+  tells v h = (built-links .parents v h, built-links .jumps v h, built-links .depths v h)
+
+  pub built-climb : (w to : ℕ) → w < size (planTree p)
+      → climb (cellForest (nodeCount p) nums) w to ≡ climb (forestOf (planTree p)) w to
+  built-climb w to h = same-climb (cellForest (nodeCount p) nums) tree (sym size-is) tells w to h
+
+  -- ---- labels, steps and maps
+
+  pub built-label : (v : ℕ) → getD (labelsIn p) v 0 ≡ labelAt (planTree p) v
+  built-label v = ap (λ (l : List ℕ). getD l v 0) (sym (labels-planTree p plan-passes))
+
+  pub label-below : (v : ℕ) → getD (labelsIn p) v 0 < labelCount r
+  label-below v =
+      allBelow-all (labelCount r) (labelsIn p) (branch-table-passes p r (D .accepted) .2) (table-passes .labels-least) v
+
+  pub built-step : (q a : ℕ) → branchAutomaton r .step q a < stateCount r
+  built-step q a = step-below r table-passes (q * labelCount r + a)
+
+  pub built-map : (v q : ℕ) → v < size (planTree p) → q < stateCount r
+      → mapCell (stateCount r) bytes v q ≡ branchMap (branchAutomaton r) (planTree p) v q
+  built-map v q h l =
+      let e : v * (stateCount r + 1) + (1 + q) ≡ v * (stateCount r + 1) + 1 + q = omega arith in
+      ap (λ (i : ℕ). getD bytes i 0) e
+      ∙ branchTable-map automaton tree bytes
+      (subst (λ (n : ℕ). take (n * (stateCount r + 1)) bytes ≡ branchTable automaton tree) (sym size-is) (D .states))
+      v h q l

@@ -1,0 +1,141 @@
+-- The answer of a branch question by its composition.
+--     composition-map    a composed map has s entries, all below s
+--     branch-on-parts    branchOn is the composition on the runs of plan and branch table, finished
+--     on-none, on-some   what is told where there is none, and where there is one
+-- Assumes nothing.
+use Prim.Native.Nat.{ℕ, _+_, _-_, _*_}
+use mathlib.Core.Path.{_≡_, refl, ap, subst}
+use mathlib.Core.List.{List, [], _∷_}
+use mathlib.Core.Option.{Option, none, some, Option·some-injective}
+use lib.ListN.{length, getD, take, drop}
+use Rattle.trees.specs.Climb.{Move, andThen, climb, carry}
+use Rattle.trees.specs.Tables.{tabulate}
+use Rattle.trees.proofs.MoveLaws.{none-some}
+use Rattle.formats.specs.Plan.{nodeCount, labelsIn}
+use Rattle.formats.specs.Rules.{stateCount, labelCount, branchLength, branchSteps, branchMarks, branchAutomaton}
+use Rattle.formats.proofs.PlanLaws.{labels-part}
+use Rattle.formats.proofs.BranchLaws.{steps-part, branch-marks-part-exact}
+use Rattle.links.specs.Cells.{depthCell, cellForest}
+use Rattle.branches.specs.Question.{moveMap, firstState, Branched, branched, branchOn}
+use Rattle.branches.specs.Compose.{runMove, Counted, composition}
+use Rattle.branches.specs.Finish.{firstOf, finish}
+use Rattle.branches.proofs.FollowLaws.{MapOf, identity-map}
+use Rattle.branches.proofs.MoveMaps.{run-move-map, move-map-run}
+
+-- ---- composed maps
+
+module _ (s k : ℕ) (ls st bytes : List ℕ) where
+  abbrev act : Move → List ℕ → Option (List ℕ)
+  act = runMove s k ls st bytes
+
+  carry-map : (ms : List Move) (m m′ : List ℕ) → MapOf s m → carry act ms m ≡ some m′ → MapOf s m′
+  carry-map [] m m′ M e = subst (MapOf s) (Option·some-injective m m′ e) M
+  carry-map (i ∷ ms) m m′ M e = go (act i m) refl e (λ x. carry-map ms x m′)
+    where
+      go : (o : Option (List ℕ)) → act i m ≡ o → andThen o (carry act ms) ≡ some m′
+          → ((x : List ℕ) → MapOf s x → carry act ms x ≡ some m′ → MapOf s m′) → MapOf s m′
+      go none a q h = absurd (none-some q)
+      go (some x) a q h = h x (run-move-map s k ls st bytes i m x M a) q
+
+  pub composition-map : (n : ℕ) (nums : List ℕ) (l to : ℕ) (x : Counted)
+      → composition n s k ls st nums bytes l to ≡ some x → MapOf s (x .map)
+  unfolding composition
+  composition-map n nums l to x e = climbed (climb (cellForest n nums) l to) e
+    where
+      carried : (ms : List Move) (o : Option (List ℕ)) → carry act ms (tabulate s (λ q. q)) ≡ o
+          → andThen o (λ m. some (record { map = m; links = length ms })) ≡ some x → MapOf s (x .map)
+      carried ms none a q = absurd (none-some q)
+      carried ms (some m) a q =
+          let z : m ≡ x .map =
+          ap (λ (y : Counted). y .map) (Option·some-injective (record { map = m; links = length ms }) x q) in
+          subst (MapOf s) z (carry-map ms (tabulate s (λ q. q)) m (identity-map s) a)
+
+      climbed : (o : Option (List Move))
+          → andThen o (λ ms. andThen (carry act ms (tabulate s (λ q. q)))
+          (λ m. some (record { map = m; links = length ms }))) ≡ some x
+          → MapOf s (x .map)
+      climbed none q = absurd (none-some q)
+      climbed (some ms) q = carried ms (carry act ms (tabulate s (λ q. q))) refl q
+
+-- ---- the answer
+
+carry-same : (f g : Move → List ℕ → Option (List ℕ)) → ((i : Move) (m : List ℕ) → f i m ≡ g i m)
+    → (ms : List Move) (m : List ℕ) → carry f ms m ≡ carry g ms m
+carry-same f g e [] m = refl
+carry-same f g e (i ∷ ms) m = rw (e i m) (go (g i m) (λ x. carry-same f g e ms x))
+  where
+    go : (o : Option (List ℕ)) → ((x : List ℕ) → carry f ms x ≡ carry g ms x)
+        → andThen o (carry f ms) ≡ andThen o (carry g ms)
+    go none h = refl
+    go (some x) h = h x
+
+module _ (p r nums bytes : List ℕ) (u l : ℕ) where
+  abbrev pub branchComposition : Option Counted
+  branchComposition =
+      composition (nodeCount p) (stateCount r) (labelCount r) (labelsIn p) (branchSteps r) nums bytes l
+      (depthCell nums u)
+
+  abbrev pub branchFinish : List ℕ → ℕ → Option Branched
+  branchFinish m c = finish (stateCount r) (labelCount r) (labelsIn p) (branchSteps r) (branchMarks r) u m c
+
+  abbrev branchMove : Move → List ℕ → Option (List ℕ)
+  branchMove = runMove (stateCount r) (labelCount r) (labelsIn p) (branchSteps r) bytes
+
+  abbrev count : List Move → List ℕ → Option Counted
+  count ms m = some (record { map = m; links = length ms })
+
+  -- as branchOn has it: what is told of the map m of the moves ms
+  abbrev told : List Move → List ℕ → Option Branched
+  told ms m = andThen (firstState p r u) (λ q. some (branched (branchAutomaton r) (getD m q 0) (length ms)))
+
+  pub branch-on-parts : branchOn p r nums bytes u l ≡ andThen branchComposition (λ x. branchFinish (x .map) (x .links))
+  unfolding branchOn composition finish firstOf firstState
+  branch-on-parts = climbed (climb (cellForest (nodeCount p) nums) l (depthCell nums u))
+    where
+      carried : (ms : List Move) (o : Option (List ℕ))
+          → andThen o (told ms) ≡ andThen (andThen o (count ms)) (λ (x : Counted). branchFinish (x .map) (x .links))
+      carried ms none = refl
+      carried ms (some m) = refl
+
+      climbed : (o : Option (List Move))
+          → andThen o (λ ms. andThen (carry (moveMap p r bytes) ms (tabulate (stateCount r) (λ q. q))) (told ms))
+          ≡ andThen (andThen o (λ ms. andThen (carry branchMove ms (tabulate (stateCount r) (λ q. q))) (count ms)))
+          (λ (x : Counted). branchFinish (x .map) (x .links))
+      climbed none = refl
+      climbed (some ms) =
+          rw (carry-same (moveMap p r bytes) branchMove (move-map-run p r bytes) ms (tabulate (stateCount r) (λ q. q)))
+          (carried ms (carry branchMove ms (tabulate (stateCount r) (λ q. q))))
+
+-- ---- from what is handed on
+
+-- the header numbers, the depth and the runs are those of what is lent
+pub record Handed (p r nums : List ℕ) (u n s k to : ℕ) (ls st mk : List ℕ) : Type 0 where
+  pub nodes : n ≡ nodeCount p
+  pub states : s ≡ stateCount r
+  pub labels : k ≡ labelCount r
+  pub depth : to ≡ depthCell nums u
+  pub label-run : ls ≡ labelsIn p
+  pub step-run : st ≡ branchSteps r
+  pub mark-run : mk ≡ branchMarks r
+
+pub handed : (p r nums : List ℕ) (u n s k to : ℕ) → n ≡ nodeCount p → s ≡ stateCount r → k ≡ labelCount r
+    → to ≡ depthCell nums u → length r ≡ branchLength (stateCount r) (labelCount r)
+    → Handed p r nums u n s k to (take (12 + n - 12) (drop 12 p)) (take (16 + s * k - 16) (drop 16 r))
+    (take (length r - (16 + s * k)) (drop (16 + s * k) r))
+handed p r nums u n s k to a b c d e = record {
+  nodes = a;
+  states = b;
+  labels = c;
+  depth = d;
+  label-run = labels-part p n a;
+  step-run = steps-part r s k b c;
+  mark-run = branch-marks-part-exact r s k e b c;
+}
+
+module _ (p r nums bytes : List ℕ) (u l n s k to : ℕ) (ls st mk : List ℕ)
+    (H : Handed p r nums u n s k to ls st mk) where
+  pub composition-is : composition n s k ls st nums bytes l to ≡ branchComposition p r nums bytes u l
+  composition-is = rw (H .nodes, H .states, H .labels, H .depth, H .label-run, H .step-run)
+
+  pub finish-is : (m : List ℕ) (c : ℕ) → finish s k ls st mk u m c ≡ branchFinish p r nums bytes u l m c
+  finish-is m c = rw (H .states, H .labels, H .label-run, H .step-run, H .mark-run)

@@ -1,0 +1,99 @@
+-- The writers of a plan's tables for a branch table, one after the other: the links, the state bytes, the maps.
+--     fill-link-args, branch-args        what each needs; fill-branch-args: after the links are written
+--     filled                             what they leave together
+-- Assumes nothing.
+use Prim.Native.Nat.{ℕ, _+_, _*_, _≤_}
+use mathlib.Core.Path.{_≡_, refl, sym, ap, _∙_}
+use mathlib.Core.List.{List, [], _++_}
+use native.Mathlib.Omega.{arith}
+use lib.ListN.{length, drop}
+use Rattle.trees.specs.Tree.{Tree, size, kindsOf, labelsOf}
+use Rattle.trees.specs.Automaton.{WordAutomaton}
+use Rattle.trees.specs.Tables.{linkTable, branchTable, branchState, branchMap}
+use Rattle.trees.specs.Postorder.{isPostorder}
+use Rattle.trees.proofs.NodeLaws.{length-labels, length-kinds}
+use Rattle.trees.proofs.PostorderLaws.{tree-postorder}
+use Rattle.formats.specs.Rules.{wordAutomaton}
+use Rattle.formats.specs.Checks.{linkLength, stateLength}
+use Rattle.links.specs.Cells.{LinkArgs}
+use Rattle.links.specs.LinkCells.{LinkCells}
+use Rattle.links.proofs.CellLaws.{take-table, link-cells}
+use Rattle.tables.proofs.MapTableLaws.{passes-written}
+use Rattle.branches.specs.Lent.{BranchLent, BranchArgs, StatesFrom, Stepped}
+use Rattle.branches.specs.Maps.{Mapped}
+use Rattle.branches.specs.Filled.{FillArgs, TablesFilled, BranchFilled}
+
+-- what the build of the links leaves
+abbrev pub Linked : List ℕ → List ℕ → List ℕ → Type 0
+Linked ks nums nums′ = (t : Tree) → kindsOf t ≡ ks → nums′ ≡ linkTable t ++ drop (linkLength (length ks)) nums
+
+-- a table of links that has the cells of every tree with these kinds
+abbrev pub AllCells : List ℕ → List ℕ → Type 0
+AllCells ks nums = (t : Tree) → kindsOf t ≡ ks → LinkCells t nums
+
+module _ (ls ks st : List ℕ) (s k l m : ℕ) (A : FillArgs ls ks st s k (length ls) l m) where
+  kinds-count : length ks ≡ length ls
+  kinds-count = ap length (sym (A .kinds)) ∙ length-kinds (A .tree) ∙ A .count
+
+  pub fill-link-args : LinkArgs ks l
+  fill-link-args = record {
+    postorder = rw (← A .kinds) (tree-postorder (A .tree));
+    most = omega (arith, kinds-count, A .most);
+    room = omega (arith, kinds-count, A .nums-room);
+  }
+
+  size-is : (t : Tree) → labelsOf t ≡ ls → size t ≡ length ls
+  size-is t e = sym (length-labels t) ∙ ap length e
+
+  pub kinds-size : (t : Tree) → kindsOf t ≡ ks → length ks ≡ size t
+  kinds-size t e = ap length (sym e) ∙ length-kinds t
+
+  -- with a table of links as built
+  module _ (nums : List ℕ) (cells : AllCells ks nums) where
+    pub lent : (mk : List ℕ) (t : Tree) → kindsOf t ≡ ks → labelsOf t ≡ ls
+        → BranchLent (wordAutomaton s k st mk) t ls nums st s k (length ls)
+    lent mk t e d = record {
+      states = refl;
+      step = λ q a. refl;
+      labels = d;
+      count = size-is t d;
+      links = cells t e;
+    }
+
+    pub branch-args : length nums ≡ l → BranchArgs ls nums st s k (length ls) m
+    branch-args e = record {
+      automaton = wordAutomaton s k st [];
+      tree = A .tree;
+      lent = lent [] (A .tree) (A .kinds) (A .labels);
+      few = A .few;
+      nums-room = omega (arith, A .nums-room);
+      room = A .room;
+      steps-room = A .steps-room;
+      steps-below = A .steps-below;
+      labels-below = A .labels-below;
+    }
+
+  -- once the build has written it
+  module _ (nums nums′ : List ℕ) (W : Linked ks nums nums′) where
+    linked-cells : AllCells ks nums′
+    linked-cells t e =
+        let z : length ks ≡ size t = kinds-size t e in
+        rw (W t e) (link-cells t (length ks) _ z (take-table t (length ks) _ z))
+
+    pub fill-branch-args : length nums′ ≡ l → BranchArgs ls nums′ st s k (length ls) m
+    fill-branch-args e = branch-args nums′ linked-cells e
+
+    pub filled : (b₀ b₁ b₂ : List ℕ) → length b₀ ≡ m → length b₂ ≡ length b₀
+        → Stepped ls nums′ st s k (length ls) 0 b₀ b₁ → Mapped ls nums′ st s k (length ls) 0 b₁ b₂
+        → BranchFilled ls ks st s k nums b₀ nums′ b₂
+    unfolding branchTable
+    filled b₀ b₁ b₂ e f S M mk t p d =
+        let B : WordAutomaton = wordAutomaton s k st mk in
+        let L : BranchLent B t ls nums′ st s k (length ls) = lent nums′ linked-cells mk t p d in
+        let F : StatesFrom s (branchState B t) (length ls) 0 b₀ b₁ = S B t L in
+        record {
+          links = rw (← kinds-size t p) (W t p);
+          states = rw (size-is t d)
+              (passes-written s (length ls) (branchMap B t) (branchState B t) b₀ b₁ b₂ f
+              (omega (arith, A .room)) (λ v h. F .cells v (omega arith) h) (F .kept) (M B t L));
+        }

@@ -1,0 +1,102 @@
+-- Check 16, and the end of a branch question.
+--     below-no, below-by                               isBelow, question by question
+--     isBelow-true, true-isBelow                       what it says, and back
+--     first-is                                         the state after the upper node's label
+--     finish-no-label, finish-no-state, finish-told    what is told of a composed map
+--     finish-padded                                    the map may stand in its array
+-- Assumes nothing.
+use Prim.Native.Nat.{ℕ, _+_, _-_, _*_, _≤_, _<_}
+use mathlib.Core.Path.{_≡_, refl, sym, ap, _∙_}
+use mathlib.Core.Bool.{true, false}
+use mathlib.Core.List.{List}
+use mathlib.Core.Option.{Option, none, some}
+use native.Mathlib.Omega.{arith}
+use lib.Dec.{leb, ltb, eqb}
+use lib.ListN.{getD}
+use borrow.Author.Tests.{leb-true, le-leb, lt-leb, ltb-true, lt-ltb, le-ltb}
+use Rattle.trees.specs.Climb.{andThen}
+use Rattle.trees.proofs.Choice.{le-or}
+use Rattle.formats.specs.Rules.{wordAutomaton}
+use Rattle.formats.proofs.CheckLaws.{and-both, and-left, and-right, and-no-left, and-no-right}
+use Rattle.links.specs.Cells.{sizeCell}
+use Rattle.branches.specs.declared.answers.Branching.the-variants.{Told, Refused}
+use Rattle.branches.specs.Question.{isBelow, branched, toldBranch}
+use Rattle.branches.specs.Compose.{padded}
+use Rattle.branches.specs.Finish.{firstOf, finish}
+use Rattle.branches.proofs.MapArrays.{getD-padded}
+
+-- ---- check 16
+
+module _ (nums : List ℕ) (u l : ℕ) where
+  pub below-no : u < l → isBelow nums u l ≡ false
+  unfolding isBelow
+  below-no h = and-no-left (leb l u) (ltb u (l + sizeCell nums u)) (lt-leb l u h)
+
+  -- as a function asks it: no sum is formed
+  pub below-by : (z : ℕ) → z ≡ sizeCell nums u → l ≤ u → ltb (u - l) z ≡ isBelow nums u l
+  unfolding isBelow
+  below-by z e h =
+      rw (e, le-leb l u h) (le-or (sizeCell nums u) (u - l)
+      (λ i. le-ltb (u - l) (sizeCell nums u) i ∙ sym (le-ltb u (l + sizeCell nums u) (omega arith)))
+      (λ i. lt-ltb (u - l) (sizeCell nums u) i ∙ sym (lt-ltb u (l + sizeCell nums u) (omega arith))))
+
+  pub isBelow-true : isBelow nums u l ≡ true → (l ≤ u) × (u < l + sizeCell nums u)
+  unfolding isBelow
+  isBelow-true e = (
+    leb-true l u (and-left (leb l u) (ltb u (l + sizeCell nums u)) e),
+    ltb-true u (l + sizeCell nums u) (and-right (leb l u) (ltb u (l + sizeCell nums u)) e),
+  )
+
+  pub true-isBelow : l ≤ u → u < l + sizeCell nums u → isBelow nums u l ≡ true
+  unfolding isBelow
+  true-isBelow h i = and-both (leb l u) (ltb u (l + sizeCell nums u)) (le-leb l u h) (lt-ltb u (l + sizeCell nums u) i)
+
+-- ---- the state after the upper node's label
+
+module _ (s k : ℕ) (ls st : List ℕ) (u : ℕ) where
+  abbrev label : ℕ
+  label = getD ls u 0
+
+  -- a function reads the steps of state 0 from the start
+  at-start : getD st (0 * k + label) 0 ≡ getD st label 0
+  at-start = let e : 0 * k + label ≡ label = omega arith in ap (λ (i : ℕ). getD st i 0) e
+
+  first-no-label : k ≤ label → firstOf s k ls st u ≡ none
+  unfolding firstOf
+  first-no-label h = rw (le-ltb label k h)
+
+  first-no-state : s ≤ getD st label 0 → firstOf s k ls st u ≡ none
+  unfolding firstOf
+  first-no-state h =
+      rw (and-no-right (ltb label k) (ltb (getD st (0 * k + label) 0) s)
+      (le-ltb (getD st (0 * k + label) 0) s (rw at-start h)))
+
+  pub first-is : label < k → getD st label 0 < s → firstOf s k ls st u ≡ some (getD st label 0)
+  unfolding firstOf
+  first-is h i = rw (at-start, lt-ltb label k h, lt-ltb (getD st label 0) s i)
+
+  -- ---- what is told
+
+  module _ (mk m : List ℕ) (c : ℕ) where
+    pub finish-no-label : k ≤ label → Refused 18 ≡ toldBranch 0 (finish s k ls st mk u m c)
+    unfolding finish toldBranch
+    finish-no-label h = rw (first-no-label h)
+
+    pub finish-no-state : s ≤ getD st label 0 → Refused 18 ≡ toldBranch 0 (finish s k ls st mk u m c)
+    unfolding finish toldBranch
+    finish-no-state h = rw (first-no-state h)
+
+    pub finish-told : label < k → getD st label 0 < s
+        → Told (getD m (getD st label 0) 0) (eqb (getD mk (getD m (getD st label 0) 0) 0) 1) c
+        ≡ toldBranch 0 (finish s k ls st mk u m c)
+    unfolding finish toldBranch
+    finish-told h i = rw (first-is h i)
+
+    pub finish-padded : finish s k ls st mk u (padded m) c ≡ finish s k ls st mk u m c
+    unfolding finish
+    finish-padded = go (firstOf s k ls st u)
+      where
+        go : (o : Option ℕ) → andThen o (λ q. some (branched (wordAutomaton s k st mk) (getD (padded m) q 0) c))
+            ≡ andThen o (λ q. some (branched (wordAutomaton s k st mk) (getD m q 0) c))
+        go none = refl
+        go (some q) = ap (λ (x : ℕ). some (branched (wordAutomaton s k st mk) x c)) (getD-padded m q)

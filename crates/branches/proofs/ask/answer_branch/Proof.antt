@@ -1,0 +1,189 @@
+use Prim.Native.Nat.{ℕ, _+_, _-_, _*_, _≤_}
+use mathlib.Core.Path.{_≡_, ap₂}
+use native.Mathlib.Omega.{arith}
+use borrow.Author.Tests.{not-true, not-false}
+use mathlib.Core.List.{List}
+use lib.ListN.{length, take, drop}
+use Rattle.formats.specs.Rules.{stateCount, labelCount}
+use Rattle.branches.proofs.FitLaws.{LentFits, lent-fits}
+use Rattle.branches.proofs.AskParts.{Handed, handed}
+use Rattle.branches.proofs.AskAnswer.{compose-args, finish-args, answer-none, answer-some}
+use borrow.Author.Needs.{needs}
+use Rattle.branches.proofs.ask.answer_branch.Statement.{statement}
+use Rattle.branches.proofs.ask.answer_branch.Tie as tie
+use Rattle.branches.proofs.ask.answer_branch.Reads as reads
+use Rattle.branches.proofs.ask.answer_branch.Lts as lts
+use Rattle.branches.proofs.ask.finish_answer.Reads as finish-answer-reads
+use Rattle.branches.proofs.climb.compose_climb.Reads as compose-climb-reads
+use Rattle.formats.proofs.bytes.read32.Reads as read32-reads
+use Rattle.links.proofs.moves.depth_at.Reads as depth-at-reads
+
+-- what the lent headers and lengths say
+fit : (s : tie.Start) → LentFits (s .args .plan .now) (s .args .branch .now) (s .args .nums .now) (s .args .bytes .now)
+fit s = lent-fits _ _ _ _ (s .pre .fits)
+
+-- the steps end inside the branch table
+steps-end : (c : tie.After-read323) → 16 + c .before .read322 .result * c .read323 .result
+    ≤ length (c .before .before .before .before .before .before .before .args .branch .now)
+steps-end c =
+    let s = c .before .before .before .before .before .before .before in
+    let e : c .before .read322 .result * c .read323 .result
+    ≡ stateCount (s .args .branch .now) * labelCount (s .args .branch .now) =
+    ap₂ (λ (i j : ℕ). i * j) (c .before .read322 .ensures) (c .read323 .ensures) in
+    omega (arith, fit s .branch .exact)
+
+-- what is handed on
+abbrev nodes : tie.After-depth-at → ℕ
+nodes c = c .before .before .before .before .before .read32 .result
+
+abbrev states : tie.After-depth-at → ℕ
+states c = c .before .before .before .before .read322 .result
+
+abbrev labels : tie.After-depth-at → ℕ
+labels c = c .before .before .before .read323 .result
+
+abbrev label-run : tie.After-depth-at → List ℕ
+label-run c = take (12 + nodes c - 12)
+    (drop 12 (c .before .before .before .before .before .before .before .before .before .before .args .plan .now))
+
+abbrev step-run : tie.After-depth-at → List ℕ
+step-run c = take (16 + states c * labels c - 16)
+    (drop 16 (c .before .before .before .before .before .before .before .before .before .before .args .branch .now))
+
+abbrev mark-run : tie.After-depth-at → List ℕ
+mark-run c =
+    let r = c .before .before .before .before .before .before .before .before .before .before .args .branch .now in
+    take (length r - (16 + states c * labels c)) (drop (16 + states c * labels c) r)
+
+on : (c : tie.After-depth-at)
+    → let g = c .before .before .before .before .before .before .before .before .before .before .args in
+    Handed (g .plan .now) (g .branch .now) (g .nums .now) (g .u) (nodes c) (states c) (labels c) (c .depth-at .result)
+    (label-run c) (step-run c) (mark-run c)
+on c =
+    handed _ _ _ _ (nodes c) (states c) (labels c) (c .depth-at .result)
+    (c .before .before .before .before .before .read32 .ensures) (c .before .before .before .before .read322 .ensures)
+    (c .before .before .before .read323 .ensures) (c .depth-at .ensures)
+    (fit (c .before .before .before .before .before .before .before .before .before .before) .branch .exact)
+
+read32-requires : tie.Need-read32-requires
+read32-requires c κs = omega (arith, fit (c .before .before .before .before) .plan .long)
+
+read32-requires-2 : tie.Need-read32-requires-2
+read32-requires-2 c κs = omega (arith, fit (c .before .before .before .before .before) .branch .long)
+
+read32-requires-3 : tie.Need-read32-requires-3
+read32-requires-3 c κs = omega (arith, fit (c .before .before .before .before .before .before) .branch .long)
+
+add-labels : tie.Need-add-labels
+add-labels c = omega (
+  arith,
+  fit (c .before .before .before .before .before .before .before) .plan .most,
+  c .before .before .read32 .ensures,
+)
+
+sub-labels : tie.Need-sub-labels
+sub-labels c = search needs
+
+part-labels-start : tie.Need-part-labels-start
+part-labels-start c = search needs
+
+part-labels-end : tie.Need-part-labels-end
+part-labels-end c = omega (
+  arith,
+  fit (c .before .before .before .before .before .before .before) .plan .exact,
+  c .before .before .read32 .ensures,
+)
+
+mul-steps : tie.Need-mul-steps
+mul-steps c = omega (arith, steps-end (c .before))
+
+add-steps : tie.Need-add-steps
+add-steps c = omega (arith, steps-end (c .before))
+
+sub-steps : tie.Need-sub-steps
+sub-steps c = search needs
+
+part-steps-start : tie.Need-part-steps-start
+part-steps-start c = search needs
+
+part-steps-end : tie.Need-part-steps-end
+part-steps-end c = steps-end (c .before)
+
+depth-at-requires : tie.Need-depth-at-requires
+depth-at-requires c κs =
+    omega (
+      arith,
+      c .before .before .before .before .before .before .before .before .before .pre .upper,
+      fit (c .before .before .before .before .before .before .before .before .before) .nums-room,
+    )
+
+compose-climb-requires : tie.Need-compose-climb-requires
+compose-climb-requires c κs =
+    compose-args _ _ _ _ _ _ _ _ _ _ _ _ (mark-run c)
+    (c .before .before .before .before .before .before .before .before .before .before .pre) (on c)
+
+returns : tie.Need-returns
+returns c =
+    let x = c .before .before in
+    answer-none _ _ _ _ _ _ _ _ _ _ _ _ (mark-run (x .before))
+    (c .before .before .before .before .before .before .before .before .before .before .before .before .before .pre)
+    (on (x .before)) (x .compose-climb .result) (x .compose-climb .ensures)
+    (not-true _ (c .if1 .taken))
+
+mul-finish-answer : tie.Need-mul-finish-answer
+mul-finish-answer c = omega (arith, steps-end (c .before .before .before .before .before .before .before))
+
+add-finish-answer : tie.Need-add-finish-answer
+add-finish-answer c = omega (arith, steps-end (c .before .before .before .before .before .before .before))
+
+sub-finish-answer : tie.Need-sub-finish-answer
+sub-finish-answer c = steps-end (c .before .before .before .before .before .before .before)
+
+part-finish-answer-start : tie.Need-part-finish-answer-start
+part-finish-answer-start c = steps-end (c .before .before .before .before .before .before .before)
+
+part-finish-answer-end : tie.Need-part-finish-answer-end
+part-finish-answer-end c = search needs
+
+finish-answer-requires : tie.Need-finish-answer-requires
+finish-answer-requires c κs =
+    let x = c .before .before .before .before in
+    finish-args _ _ _ _ _ _ _ _ _ _ _ _ (mark-run (x .before))
+    (c .before .before .before .before .before .before .before .before .before .before .before .before .before .before
+    .before .pre) (on (x .before)) (x .compose-climb .result) (x .compose-climb .ensures)
+    (not-false _ (c .before .before .if1 .left))
+
+returns-2 : tie.Need-returns-2
+returns-2 c =
+    let x = c .before .before .before .before .before in
+    answer-some _ _ _ _ _ _ _ _ _ _ _ _ (mark-run (x .before))
+    (c .before .before .before .before .before .before .before .before .before .before .before .before .before .before
+    .before .before .pre) (on (x .before)) (x .compose-climb .result) (x .compose-climb .ensures)
+    (c .finish-answer .result) (not-false _ (c .before .before .before .if1 .left)) (c .finish-answer .ensures)
+
+pub answer-branch-spec : {M : Type 1} → statement M
+answer-branch-spec =
+    tie.close
+    (tie.spec
+    read32-requires
+    read32-requires-2
+    read32-requires-3
+    add-labels
+    sub-labels
+    part-labels-start
+    part-labels-end
+    mul-steps
+    add-steps
+    sub-steps
+    part-steps-start
+    part-steps-end
+    depth-at-requires
+    compose-climb-requires
+    returns
+    mul-finish-answer
+    add-finish-answer
+    sub-finish-answer
+    part-finish-answer-start
+    part-finish-answer-end
+    finish-answer-requires
+    returns-2)

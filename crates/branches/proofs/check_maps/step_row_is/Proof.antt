@@ -1,0 +1,161 @@
+-- `check_maps::step_row_is` meets its contract. The loop's invariant: the flag is the comparison of the entries passed.
+-- Assumes nothing.
+use Prim.Native.Nat.{ℕ, _+_, _-_, _*_, _≤_, _<_}
+use mathlib.Core.Path.{_≡_, refl, _∙_}
+use mathlib.Core.Logic.{inl, inr}
+use lib.Dec.{eqb}
+use lib.ListN.{length}
+use Rattle.tables.specs.StateCells.{mapCell}
+use Rattle.tables.specs.Compare.{every}
+use Rattle.tables.proofs.CompareLaws.{every-same, every-other}
+use Rattle.branches.specs.Maps.{stepCell}
+use native.Mathlib.Omega.{arith}
+use borrow.Author.Needs.{needs}
+use Rattle.branches.proofs.check_maps.step_row_is.Statement.{statement}
+use Rattle.branches.proofs.check_maps.step_row_is.Tie as tie
+
+abbrev Inv-loop : tie.InvT-loop
+Inv-loop bytes s v p j steps k a at near far same₀ q₀ same q =
+    (q ≤ s) × (same ≡ every q (λ x. eqb (mapCell s bytes v x) (stepCell s bytes p j steps k a x)))
+
+abbrev μ-loop : tie.MeasureT-loop
+μ-loop bytes s v p j steps k a at near far same₀ q₀ same q = s - q
+
+-- what a turn reads
+far-below : (c : tie.In-loop Inv-loop μ-loop) → let g = c .before .before .args in
+    mapCell (g .s) (g .bytes .now) (g .j) (c .before .loop .q) < g .s
+far-below c = c .before .before .pre .far-below (c .before .loop .q) (c .loop-test .taken)
+
+inside : (c : tie.In-loop Inv-loop μ-loop) → let g = c .before .before .args in
+    mapCell (g .s) (g .bytes .now) (g .p) (mapCell (g .s) (g .bytes .now) (g .j) (c .before .loop .q)) * g .k + g .a
+    < length (g .steps .now)
+inside c = let g = c .before .before .args in
+    c .before .before .pre .inside (mapCell (g .s) (g .bytes .now) (g .j) (c .before .loop .q)) (far-below c)
+
+add-at : tie.Need-add-at Inv-loop μ-loop
+add-at c = search needs
+
+mul-at : tie.Need-mul-at Inv-loop μ-loop
+mul-at c = search needs
+
+add-near : tie.Need-add-near Inv-loop μ-loop
+add-near c = search needs
+
+mul-near : tie.Need-mul-near Inv-loop μ-loop
+mul-near c = search needs
+
+add-far : tie.Need-add-far Inv-loop μ-loop
+add-far c = search needs
+
+mul-far : tie.Need-mul-far Inv-loop μ-loop
+mul-far c = search needs
+
+loop-holds : tie.Need-loop-holds Inv-loop μ-loop
+unfolding every
+loop-holds c = (omega arith, refl)
+
+add-x : tie.Need-add-x Inv-loop μ-loop
+add-x c = search needs
+
+add-x-2 : tie.Need-add-x-2 Inv-loop μ-loop
+add-x-2 c = search needs
+
+shared-slice-read-x : tie.Need-shared-slice-read-x Inv-loop μ-loop
+shared-slice-read-x c = search needs
+
+add-y : tie.Need-add-y Inv-loop μ-loop
+add-y c = search needs
+
+add-y-2 : tie.Need-add-y-2 Inv-loop μ-loop
+add-y-2 c = search needs
+
+shared-slice-read-y : tie.Need-shared-slice-read-y Inv-loop μ-loop
+shared-slice-read-y c = search needs
+
+cast-y : tie.Need-cast-y Inv-loop μ-loop
+cast-y c = omega (arith, far-below (c .before .before), c .before .before .before .before .pre .near-room)
+
+add-z : tie.Need-add-z Inv-loop μ-loop
+add-z c = omega (arith, far-below (c .before .before), c .before .before .before .before .pre .near-room)
+
+add-z-2 : tie.Need-add-z-2 Inv-loop μ-loop
+add-z-2 c = omega (arith, far-below (c .before .before), c .before .before .before .before .pre .near-room)
+
+shared-slice-read-z : tie.Need-shared-slice-read-z Inv-loop μ-loop
+shared-slice-read-z c = omega
+    (arith, far-below (c .before .before .before), c .before .before .before .before .before .pre .near-room)
+
+cast-z : tie.Need-cast-z Inv-loop μ-loop
+cast-z c =
+    let i = c .before .before .before in
+    let g = i .before .before .args in
+    omega (
+      arith,
+      c .shared-slice-known3 .given
+          (g .p * (g .s + 1) + (1 + mapCell (g .s) (g .bytes .now) (g .j) (i .before .loop .q))),
+    )
+
+mul-next : tie.Need-mul-next Inv-loop μ-loop
+mul-next c = omega (arith, inside (c .before .before .before))
+
+add-next : tie.Need-add-next Inv-loop μ-loop
+add-next c = omega (arith, inside (c .before .before .before))
+
+shared-slice-read-next : tie.Need-shared-slice-read-next Inv-loop μ-loop
+shared-slice-read-next c = inside (c .before .before .before .before)
+
+add-q : tie.Need-add-q Inv-loop μ-loop
+add-q c = search needs
+
+loop-less : tie.Need-loop-less Inv-loop μ-loop
+loop-less c = search needs
+
+loop-again : tie.Need-loop-again Inv-loop μ-loop
+loop-again c =
+    let l = c .before .before .before .before .before .before .loop in
+    let g = c .before .before .before .before .before .before .before .args in
+    let f : ℕ → ℕ = stepCell (g .s) (g .bytes .now) (g .p) (g .j) (g .steps .now) (g .k) (g .a) in (
+      omega arith,
+      elim (c .if1 .came) [
+        | inl w ↦ w .1 ∙ every-other (l .q) (mapCell (g .s) (g .bytes .now) (g .v)) f (w .0 .taken)
+        | inr w ↦ w .1 ∙ every-same (l .q) (mapCell (g .s) (g .bytes .now) (g .v)) f (l .same) (l .inv .1) (w .0 .left)
+      ],
+    )
+
+returns : tie.Need-returns Inv-loop μ-loop
+returns c =
+    let g = c .before .before .args in
+    let e : c .before .loop .q ≡ g .s = omega (arith, c .before .loop .inv .0, c .loop-test .left) in
+    rw e at (c .before .loop .inv .1)
+
+pub step-row-is-spec : {M : Type 1} → statement M
+step-row-is-spec =
+    tie.close
+    (tie.spec
+    Inv-loop
+    μ-loop
+    add-at
+    mul-at
+    add-near
+    mul-near
+    add-far
+    mul-far
+    loop-holds
+    add-x
+    add-x-2
+    shared-slice-read-x
+    add-y
+    add-y-2
+    shared-slice-read-y
+    cast-y
+    add-z
+    add-z-2
+    shared-slice-read-z
+    cast-z
+    mul-next
+    add-next
+    shared-slice-read-next
+    add-q
+    loop-less
+    loop-again
+    returns)

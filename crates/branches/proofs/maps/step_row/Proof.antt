@@ -1,0 +1,182 @@
+-- `maps::step_row` meets its contract. The loop's invariant: the first q bytes of the map are composed, no other byte
+-- is changed.
+-- Assumes nothing.
+use Prim.Native.Nat.{ℕ, _+_, _-_, _*_, _≤_, _<_}
+use mathlib.Core.Path.{_≡_, refl, subst}
+use lib.ListN.{length, getD, length-set}
+use Rattle.tables.specs.StateCells.{mapCell}
+use Rattle.tables.specs.Rows.{RowTo}
+use Rattle.tables.proofs.RowTurns.{row-turn}
+use Rattle.branches.specs.Maps.{stepCell}
+use Rattle.branches.proofs.StepRowTurns.{step-far-below, step-inside, step-is}
+use native.Mathlib.Omega.{arith}
+use borrow.Author.Needs.{needs}
+use Rattle.branches.proofs.maps.step_row.Statement.{statement}
+use Rattle.branches.proofs.maps.step_row.Tie as tie
+
+abbrev Inv-loop : tie.InvT-loop
+Inv-loop bytes₀ s v p j steps k a at near far q₀ bytes q =
+    (q ≤ s) × (length bytes ≡ length bytes₀) × RowTo s (stepCell s bytes₀ p j steps k a) v q bytes₀ bytes
+
+abbrev μ-loop : tie.MeasureT-loop
+μ-loop bytes₀ s v p j steps k a at near far q₀ bytes q = s - q
+
+-- what a turn reads
+far-below : (c : tie.In-loop Inv-loop μ-loop) → let g = c .before .before .args in
+    mapCell (g .s) (c .before .loop .bytes) (g .j) (c .before .loop .q) < g .s
+far-below c =
+    let a = c .before in
+    let g = a .before .args in
+    step-far-below (g .s) (g .v) (g .p) (g .j) (g .k) (g .a) (a .loop .q) (g .steps .now) (g .bytes .now)
+    (a .loop .bytes)
+    (a .loop .inv .2) (a .before .pre) (c .loop-test .taken)
+
+inside : (c : tie.In-loop Inv-loop μ-loop) → let g = c .before .before .args in
+    mapCell (g .s)
+    (c .before .loop .bytes) (g .p) (mapCell (g .s) (c .before .loop .bytes) (g .j) (c .before .loop .q)) * g .k
+    + g .a < length (g .steps .now)
+inside c =
+    let a = c .before in
+    let g = a .before .args in
+    step-inside (g .s) (g .v) (g .p) (g .j) (g .k) (g .a) (a .loop .q) (g .steps .now) (g .bytes .now) (a .loop .bytes)
+    (a .loop .inv .2) (a .before .pre) (c .loop-test .taken)
+
+add-at : tie.Need-add-at Inv-loop μ-loop
+add-at c = search needs
+
+mul-at : tie.Need-mul-at Inv-loop μ-loop
+mul-at c = search needs
+
+add-near : tie.Need-add-near Inv-loop μ-loop
+add-near c = search needs
+
+mul-near : tie.Need-mul-near Inv-loop μ-loop
+mul-near c = search needs
+
+add-far : tie.Need-add-far Inv-loop μ-loop
+add-far c = search needs
+
+mul-far : tie.Need-mul-far Inv-loop μ-loop
+mul-far c = search needs
+
+loop-holds : tie.Need-loop-holds Inv-loop μ-loop
+loop-holds c = search needs
+
+add-x : tie.Need-add-x Inv-loop μ-loop
+add-x c = search needs
+
+add-x-2 : tie.Need-add-x-2 Inv-loop μ-loop
+add-x-2 c = search needs
+
+slice-read-x : tie.Need-slice-read-x Inv-loop μ-loop
+slice-read-x c = search needs
+
+cast-x : tie.Need-cast-x Inv-loop μ-loop
+cast-x c = omega (arith, far-below (c .before))
+
+add-y : tie.Need-add-y Inv-loop μ-loop
+add-y c = omega (arith, far-below (c .before), c .before .before .before .pre .near-room)
+
+add-y-2 : tie.Need-add-y-2 Inv-loop μ-loop
+add-y-2 c = omega (arith, far-below (c .before), c .before .before .before .pre .near-room)
+
+slice-read-y : tie.Need-slice-read-y Inv-loop μ-loop
+slice-read-y c =
+    let a = c .before .before .before in
+    omega (arith, far-below (c .before .before), a .before .pre .near-room, a .loop .inv .1)
+
+cast-y : tie.Need-cast-y Inv-loop μ-loop
+cast-y c =
+    let a = c .before .before .before in
+    let g = a .before .args in
+    omega (
+      arith,
+      c .slice-known2 .given
+          (g .p * (g .s + 1) + (1 + mapCell (g .s) (a .loop .bytes) (g .j) (a .loop .q))),
+    )
+
+mul-bytes : tie.Need-mul-bytes Inv-loop μ-loop
+mul-bytes c = omega (arith, inside (c .before .before))
+
+add-bytes : tie.Need-add-bytes Inv-loop μ-loop
+add-bytes c = omega (arith, inside (c .before .before))
+
+shared-slice-read-bytes : tie.Need-shared-slice-read-bytes Inv-loop μ-loop
+shared-slice-read-bytes c = inside (c .before .before .before)
+
+add-bytes-2 : tie.Need-add-bytes-2 Inv-loop μ-loop
+add-bytes-2 c = search needs
+
+add-bytes-3 : tie.Need-add-bytes-3 Inv-loop μ-loop
+add-bytes-3 c = search needs
+
+slice-write-bytes : tie.Need-slice-write-bytes Inv-loop μ-loop
+slice-write-bytes c = search needs
+
+add-q : tie.Need-add-q Inv-loop μ-loop
+add-q c = search needs
+
+loop-less : tie.Need-loop-less Inv-loop μ-loop
+loop-less c = search needs
+
+loop-again : tie.Need-loop-again Inv-loop μ-loop
+loop-again c =
+    let i = c .before .before .before in
+    let a = i .before in
+    let s = a .before in
+    let g = s .args in (
+      omega arith,
+      simp length-set (a .loop .inv .1),
+      row-turn (g .s) (stepCell (g .s) (g .bytes .now) (g .p) (g .j) (g .steps .now) (g .k) (g .a)) (g .v)
+          (a .loop .q) (g .bytes .now)
+          (a .loop .bytes) (a .loop .inv .2) (g .v * (g .s + 1) + (1 + a .loop .q)) _ refl
+          (omega (arith, i .loop-test .taken, s .pre .room, a .loop .inv .1))
+          (step-is (g .s) (g .v) (g .p) (g .j) (g .k) (g .a) (a .loop .q) (g .steps .now) (g .bytes .now)
+          (a .loop .bytes)
+          (a .loop .inv .2) (s .pre) (i .loop-test .taken)),
+    )
+
+same-length : tie.Need-same-length Inv-loop μ-loop
+same-length c = search needs
+
+returns : tie.Need-returns Inv-loop μ-loop
+returns c =
+    let a = c .before in
+    let g = a .before .args in
+    let e : a .loop .q ≡ g .s = omega (arith, a .loop .inv .0, c .loop-test .left) in
+    subst (λ (i : ℕ). RowTo (g .s) (stepCell (g .s) (g .bytes .now) (g .p) (g .j) (g .steps .now) (g .k) (g .a))
+    (g .v) i
+    (g .bytes .now) (a .loop .bytes)) e (a .loop .inv .2)
+
+pub step-row-spec : {M : Type 1} → statement M
+step-row-spec =
+    tie.close
+    (tie.spec
+    Inv-loop
+    μ-loop
+    add-at
+    mul-at
+    add-near
+    mul-near
+    add-far
+    mul-far
+    loop-holds
+    add-x
+    add-x-2
+    slice-read-x
+    cast-x
+    add-y
+    add-y-2
+    slice-read-y
+    cast-y
+    mul-bytes
+    add-bytes
+    shared-slice-read-bytes
+    add-bytes-2
+    add-bytes-3
+    slice-write-bytes
+    add-q
+    loop-less
+    loop-again
+    same-length
+    returns)

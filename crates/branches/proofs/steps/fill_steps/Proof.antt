@@ -1,0 +1,212 @@
+-- `steps::fill_steps` meets its contract. The loop's invariant: the state bytes from v on are the automaton's, and no
+-- other byte is
+-- changed, counted from any buffer of which that holds where the loop begins.
+-- Assumes nothing.
+use Prim.Native.Nat.{ℕ, _+_, _-_, _*_, _≤_, _<_}
+use mathlib.Core.Path.{_≡_, refl, _∙_, subst}
+use mathlib.Core.List.{List}
+use lib.ListN.{length, getD, length-set}
+use Rattle.trees.proofs.RowLaws.{cell-in}
+use Rattle.links.specs.Cells.{parentCell}
+use Rattle.tables.specs.StateCells.{stateCell}
+use Rattle.branches.specs.Lent.{BranchArgs, Stepped}
+use Rattle.branches.proofs.StepTurns.{args-pos, args-labels, state-in, StepFits, step-fits, step-turn}
+use Rattle.branches.proofs.StepTurns.{root-inside, root-turn}
+use native.Mathlib.Omega.{arith}
+use borrow.Author.Needs.{needs}
+use Rattle.branches.proofs.steps.fill_steps.Statement.{statement}
+use Rattle.branches.proofs.steps.fill_steps.Tie as tie
+
+abbrev Inv-loop : tie.InvT-loop
+Inv-loop labels nums steps s k n bytes₀ w root first v₀ bytes v =
+    (v < n) × (length bytes ≡ length bytes₀)
+    × ((b : List ℕ) → Stepped labels nums steps s k n v₀ b bytes₀ → Stepped labels nums steps s k n v b bytes)
+
+abbrev μ-loop : tie.MeasureT-loop
+μ-loop labels nums steps s k n bytes₀ w root first v₀ bytes v = v
+
+-- the state bytes from the loop's v on, since the function's entry
+entered : (s : tie.Start Inv-loop μ-loop) → BranchArgs (s .args .labels .now) (s .args .nums .now) (s .args .steps .now)
+    (s .args .s) (s .args .k) (s .args .n) (length (s .args .bytes .now))
+entered s = s .pre
+
+pos : (s : tie.Start Inv-loop μ-loop) → 0 < s .args .n
+pos s = args-pos _ _ _ _ _ _ _ (entered s)
+
+labels-in : (s : tie.Start Inv-loop μ-loop) → length (s .args .labels .now) ≡ s .args .n
+labels-in s = args-labels _ _ _ _ _ _ _ (entered s)
+
+root-in : (s : tie.Start Inv-loop μ-loop) → (s .args .n - 1) * (s .args .s + 1) < length (s .args .bytes .now)
+root-in s = state-in (s .args .s) (s .args .n) (s .args .n - 1) (length (s .args .bytes .now)) (omega (arith, pos s))
+    (s .pre .room)
+
+kept-length : (a : tie.At-loop Inv-loop μ-loop)
+    → length (a .loop .bytes) ≡ length (a .before .before .before .args .bytes .now)
+kept-length a = a .loop .inv .1 ∙ simp length-set
+
+stepped : (a : tie.At-loop Inv-loop μ-loop) → let g = a .before .before .before .args in
+    Stepped (g .labels .now) (g .nums .now) (g .steps .now) (g .s) (g .k) (g .n) (a .loop .v) (g .bytes .now)
+    (a .loop .bytes)
+stepped a =
+    let s = a .before .before .before in
+    a .loop .inv .2 (s .args .bytes .now)
+    (root-turn _ _ _ _ _ _ _ (entered s) (s .args .n - 1) (s .args .bytes .now) (omega (arith, pos s)) (root-in s))
+
+turn : (c : tie.In-loop Inv-loop μ-loop) → let g = c .before .before .before .before .args in
+    Stepped (g .labels .now) (g .nums .now) (g .steps .now) (g .s) (g .k) (g .n) (c .before .loop .v - 1 + 1)
+    (g .bytes .now)
+    (c .before .loop .bytes)
+turn c =
+    let e : c .before .loop .v - 1 + 1 ≡ c .before .loop .v = omega (arith, c .loop-test .taken) in rw e
+    (stepped (c .before))
+
+fits : (c : tie.In-loop Inv-loop μ-loop) → let g = c .before .before .before .before .args in
+    StepFits (g .labels .now) (g .nums .now) (g .steps .now) (g .s) (g .k) (c .before .loop .v - 1)
+    (c .before .loop .bytes)
+fits c =
+    let s = c .before .before .before .before in
+    step-fits _ _ _ _ _ _ _ (entered s) (c .before .loop .v - 1) (s .args .bytes .now) (c .before .loop .bytes) (turn c)
+    (omega (arith, c .before .loop .inv .0, c .loop-test .taken)) (omega (arith, kept-length (c .before), s .pre .room))
+
+add-w : tie.Need-add-w Inv-loop μ-loop
+add-w c = search needs
+
+sub-root : tie.Need-sub-root Inv-loop μ-loop
+sub-root c = omega (arith, pos c)
+
+shared-slice-read-first : tie.Need-shared-slice-read-first Inv-loop μ-loop
+shared-slice-read-first c = omega (arith, labels-in (c .before), pos (c .before))
+
+cast-first : tie.Need-cast-first Inv-loop μ-loop
+cast-first c = omega (arith, c .shared-slice-known .given (c .before .args .n - 1))
+
+mul-bytes : tie.Need-mul-bytes Inv-loop μ-loop
+mul-bytes c = omega arith
+
+add-bytes : tie.Need-add-bytes Inv-loop μ-loop
+add-bytes c = omega (arith, root-inside _ _ _ _ _ _ _ (entered (c .before)) (c .before .args .n - 1))
+
+shared-slice-read-bytes : tie.Need-shared-slice-read-bytes Inv-loop μ-loop
+shared-slice-read-bytes c = root-inside _ _ _ _ _ _ _ (entered (c .before .before)) (c .before .before .args .n - 1)
+
+mul-bytes-2 : tie.Need-mul-bytes-2 Inv-loop μ-loop
+mul-bytes-2 c = omega (arith, root-in (c .before .before))
+
+slice-write-bytes : tie.Need-slice-write-bytes Inv-loop μ-loop
+slice-write-bytes c = omega (arith, root-in (c .before .before))
+
+loop-holds : tie.Need-loop-holds Inv-loop μ-loop
+loop-holds c = (omega (arith, pos (c .before .before)), refl, λ b d. d)
+
+sub-v : tie.Need-sub-v Inv-loop μ-loop
+sub-v c = search needs
+
+mul-p : tie.Need-mul-p Inv-loop μ-loop
+mul-p c = search needs
+
+mul-p-2 : tie.Need-mul-p-2 Inv-loop μ-loop
+mul-p-2 c = search needs
+
+shared-slice-read-p : tie.Need-shared-slice-read-p Inv-loop μ-loop
+shared-slice-read-p c = search needs
+
+cast-p : tie.Need-cast-p Inv-loop μ-loop
+cast-p c = omega (arith, c .shared-slice-known3 .given ((c .before .before .loop .v - 1) * 4))
+
+mul-q : tie.Need-mul-q Inv-loop μ-loop
+mul-q c = omega (arith, fits (c .before) .up, kept-length (c .before .before))
+
+slice-read-q : tie.Need-slice-read-q Inv-loop μ-loop
+slice-read-q c = fits (c .before .before) .up
+
+cast-q : tie.Need-cast-q Inv-loop μ-loop
+cast-q c =
+    let a = c .before .before .before in
+    let g = a .before .before .before .args in
+    omega (arith, c .slice-known .given (parentCell (g .nums .now) (a .loop .v - 1) * (g .s + 1)))
+
+shared-slice-read-a : tie.Need-shared-slice-read-a Inv-loop μ-loop
+shared-slice-read-a c =
+    let a = c .before .before .before .before in
+    omega (arith, a .loop .inv .0, labels-in (a .before .before .before))
+
+cast-a : tie.Need-cast-a Inv-loop μ-loop
+cast-a c = omega (arith, c .shared-slice-known4 .given (c .before .before .before .before .loop .v - 1))
+
+mul-bytes-3 : tie.Need-mul-bytes-3 Inv-loop μ-loop
+mul-bytes-3 c = omega (arith, fits (c .before .before .before) .inside)
+
+add-bytes-2 : tie.Need-add-bytes-2 Inv-loop μ-loop
+add-bytes-2 c = omega (arith, fits (c .before .before .before) .inside)
+
+shared-slice-read-bytes-2 : tie.Need-shared-slice-read-bytes-2 Inv-loop μ-loop
+shared-slice-read-bytes-2 c = fits (c .before .before .before .before) .inside
+
+mul-bytes-4 : tie.Need-mul-bytes-4 Inv-loop μ-loop
+mul-bytes-4 c =
+    let i = c .before .before .before .before in
+    omega (arith, fits i .here, kept-length (i .before))
+
+slice-write-bytes-2 : tie.Need-slice-write-bytes-2 Inv-loop μ-loop
+slice-write-bytes-2 c = fits (c .before .before .before .before) .here
+
+loop-less : tie.Need-loop-less Inv-loop μ-loop
+loop-less c = search needs
+
+loop-again : tie.Need-loop-again Inv-loop μ-loop
+loop-again c =
+    let i = c .before .before .before .before in
+    let a = i .before in
+    let s = a .before .before .before in
+    let e : a .loop .v - 1 + 1 ≡ a .loop .v = omega (arith, i .loop-test .taken) in (
+      omega (arith, a .loop .inv .0),
+      simp length-set (kept-length a),
+      λ b d. step-turn _ _ _ _ _ _ _ (entered s) (a .loop .v - 1) b (a .loop .bytes) (rw e (a .loop .inv .2 b d))
+          (omega (arith, a .loop .inv .0, i .loop-test .taken)) (fits i .here),
+    )
+
+same-length : tie.Need-same-length Inv-loop μ-loop
+same-length c = kept-length (c .before)
+
+returns : tie.Need-returns Inv-loop μ-loop
+returns c =
+    let a = c .before in
+    let s = a .before .before .before in
+    let e : 0 ≡ a .loop .v = omega (arith, c .loop-test .left) in
+    rw e (stepped a)
+
+pub fill-steps-spec : {M : Type 1} → statement M
+fill-steps-spec =
+    tie.close
+    (tie.spec
+    Inv-loop
+    μ-loop
+    add-w
+    sub-root
+    shared-slice-read-first
+    cast-first
+    mul-bytes
+    add-bytes
+    shared-slice-read-bytes
+    mul-bytes-2
+    slice-write-bytes
+    loop-holds
+    sub-v
+    mul-p
+    mul-p-2
+    shared-slice-read-p
+    cast-p
+    mul-q
+    slice-read-q
+    cast-q
+    shared-slice-read-a
+    cast-a
+    mul-bytes-3
+    add-bytes-2
+    shared-slice-read-bytes-2
+    mul-bytes-4
+    slice-write-bytes-2
+    loop-less
+    loop-again
+    same-length
+    returns)

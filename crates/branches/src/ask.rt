@@ -1,0 +1,111 @@
+// The branch question: the state after the word from the upper node down to the lower, whether it is marked, and the
+// links of the climb.
+use crate::answers::Branching;
+use crate::climb::compose_climb;
+use crate::lent::lent_fits;
+use formats::bytes::read32;
+use links::moves::depth_at;
+use links::moves::size_at;
+ghost use mathlib.Core.Path.{_≡_};
+ghost use Prim.Native.Nat.{_+_, _*_, _≤_};
+ghost use lib.ListN.{length};
+ghost use Rattle.branches.specs.Question.{isBelow, branchOn, toldBranch};
+ghost use Rattle.branches.specs.Promise.{AskDone};
+ghost use Rattle.branches.specs.Finish.{finish, FinishArgs, AnswerArgs};
+
+// Check 16: is node l in the run of numbers that ends at node u and is as long as u's size?
+fn is_below(nums: &[u16], u: usize, l: usize) -> bool
+    requires { ⌜ u * 4 + 4 ≤ length (now nums) ⌝ }
+    ensures { λ r. ⌜ r ≡ isBelow (now (nums .entry)) u l ⌝ }
+{
+    if u < l {
+        return false;
+    }
+    u - l < size_at(nums, u)
+}
+
+// What is told of the map of a climb: the state after the upper node's label goes through it.
+fn finish_answer(
+    labels: &[u8],
+    steps: &[u8],
+    marks: &[u8],
+    s: usize,
+    k: usize,
+    u: usize,
+    map: [u8; 16],
+    links: u32,
+) -> Branching
+    requires { ⌜ FinishArgs s k (now labels) (now steps) (now marks) u map ⌝ }
+    ensures { λ r. ⌜ r ≡ toldBranch 0 (finish s k (now (labels .entry)) (now (steps .entry)) (now (marks .entry)) u
+        map links) ⌝ }
+{
+    let a = labels[u] as usize;
+    if k <= a {
+        return Branching::Refused(18);
+    }
+    let q = steps[a] as usize;
+    if s <= q {
+        return Branching::Refused(18);
+    }
+    let state = map[q];
+    let mark = marks[state as usize];
+    Branching::Told(state, mark == 1, links)
+}
+
+// The answer where 17, 13 and 16 pass.
+fn answer_branch(
+    plan: &[u8],
+    branch: &[u8],
+    nums: &[u16],
+    bytes: &[u8],
+    u: usize,
+    l: usize,
+) -> Branching
+    requires { ⌜ AnswerArgs (now plan) (now branch) (now nums) (now bytes) u l ⌝ }
+    ensures { λ r. ⌜ r ≡ toldBranch 0 (branchOn (now (plan .entry)) (now (branch .entry)) (now (nums .entry))
+        (now (bytes .entry)) u l) ⌝ }
+{
+    let n = read32(plan, 0);
+    let s = read32(branch, 0);
+    let k = read32(branch, 4);
+    let labels = &plan[12..12 + n];
+    let steps = &branch[16..16 + s * k];
+    let to = depth_at(nums, u);
+    let x = compose_climb(labels, steps, nums, bytes, n, s, k, l, to);
+    if !x.ok {
+        return Branching::Refused(18);
+    }
+    let map = x.map;
+    finish_answer(labels, steps, &branch[16 + s * k..], s, k, u, map, x.links)
+}
+
+// A branch question: the word from the upper node down to the lower, both included. It takes N, S and K from the lent
+// headers and asks 17, 13, 16 and 18 in this order.
+pub fn ask_branch(
+    plan: &[u8],
+    branch: &[u8],
+    nums: &[u16],
+    bytes: &[u8],
+    upper: u32,
+    lower: u32,
+) -> Branching
+    ensures { λ r. ⌜ AskDone (now (plan .entry)) (now (branch .entry)) (now (nums .entry)) (now (bytes .entry)) upper
+        lower r ⌝ }
+{
+    if !lent_fits(plan, branch, nums, bytes) {
+        return Branching::Refused(17);
+    }
+    let n = read32(plan, 0);
+    let u = upper as usize;
+    if n <= u {
+        return Branching::Refused(13);
+    }
+    let l = lower as usize;
+    if n <= l {
+        return Branching::Refused(13);
+    }
+    if !is_below(nums, u, l) {
+        return Branching::Refused(16);
+    }
+    answer_branch(plan, branch, nums, bytes, u, l)
+}

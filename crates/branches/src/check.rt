@@ -1,0 +1,87 @@
+// The full check of lent tables for a plan and a branch table.
+use crate::check_maps::check_maps;
+use crate::check_steps::check_steps;
+use formats::bytes::read32;
+use formats::inputs::check_branch_build;
+use links::check::check_links;
+use tables::answers::Checking;
+ghost use mathlib.Core.Path.{_≡_};
+ghost use lib.ListN.{length};
+ghost use Rattle.formats.specs.Checks.{firstNo, branchBuildChecks};
+ghost use Rattle.formats.specs.Built.{builtLinks, builtSteps};
+ghost use Rattle.tables.specs.Answers.{sameTables, CheckDone};
+ghost use Rattle.branches.specs.Filled.{FillArgs, PartArgs};
+ghost use Rattle.branches.specs.Told.{TablesTold};
+
+// Whether both buffers begin with the tables of the tree with these labels and kinds: the links first, since the rest
+// is read by them.
+fn tables_match(
+    labels: &[u8],
+    kinds: &[u8],
+    steps: &[u8],
+    s: usize,
+    k: usize,
+    nums: &[u16],
+    bytes: &[u8],
+) -> bool
+    requires { ⌜ FillArgs (now labels) (now kinds) (now steps) s k (length (now labels)) (length (now nums))
+        (length (now bytes)) ⌝ }
+    ensures { λ r. ⌜ TablesTold (now (labels .entry)) (now (kinds .entry)) (now (steps .entry)) s k
+        (now (nums .entry)) (now (bytes .entry)) r ⌝ }
+{
+    if !check_links(kinds, nums) {
+        return false;
+    }
+    let n = labels.len();
+    if !check_steps(labels, nums, steps, s, k, n, bytes) {
+        return false;
+    }
+    check_maps(labels, nums, steps, s, k, n, bytes)
+}
+
+// The same from a plan of n nodes and a branch table of s states and k labels: labels, kinds and steps are handed on
+// as parts.
+fn branch_matches(
+    plan: &[u8],
+    branch: &[u8],
+    n: usize,
+    s: usize,
+    k: usize,
+    nums: &[u16],
+    bytes: &[u8],
+) -> bool
+    requires { ⌜ PartArgs (now plan) (now branch) n s k (length (now nums)) (length (now bytes)) ⌝ }
+    ensures { λ r. ⌜ r ≡ sameTables (builtLinks (now (plan .entry)))
+        (builtSteps (now (plan .entry)) (now (branch .entry))) (now (nums .entry)) (now (bytes .entry)) ⌝ }
+{
+    tables_match(
+        &plan[12..12 + n],
+        &plan[12 + n..],
+        &branch[16..16 + s * k],
+        s,
+        k,
+        nums,
+        bytes,
+    )
+}
+
+// Whether the lent tables are what the build writes, or the first check of 2 to 11 that fails.
+pub fn check_branch_tables(plan: &[u8], branch: &[u8], nums: &[u16], bytes: &[u8]) -> Checking
+    ensures { λ r. ⌜ CheckDone
+        (firstNo (branchBuildChecks (now (plan .entry)) (now (branch .entry)) (length (now (nums .entry)))
+        (length (now (bytes .entry)))))
+        (builtLinks (now (plan .entry))) (builtSteps (now (plan .entry)) (now (branch .entry)))
+        (now (nums .entry)) (now (bytes .entry)) r ⌝ }
+{
+    let no = check_branch_build(plan, branch, nums.len(), bytes.len());
+    if no != 0 {
+        return Checking::Refused(no);
+    }
+    let n = read32(plan, 0);
+    let s = read32(branch, 0);
+    let k = read32(branch, 4);
+    if branch_matches(plan, branch, n, s, k, nums, bytes) {
+        return Checking::Yes;
+    }
+    Checking::No
+}

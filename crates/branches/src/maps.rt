@@ -1,0 +1,84 @@
+// The maps of a branch table's build: from the state after the jump's label to the state after the node's.
+use tables::rows::near_row;
+use tables::rows::same_row;
+ghost use mathlib.Core.Path.{_≡_};
+ghost use lib.ListN.{length};
+ghost use Rattle.tables.specs.Rows.{Rowed};
+ghost use Rattle.branches.specs.Lent.{BranchArgs};
+ghost use Rattle.branches.specs.Maps.{stepCell, nodeMap, StepRowArgs, NodeArgs, Mapped};
+
+// Node v's map: the map of j, then that of p, and then a step by label a.
+fn step_row(
+    bytes: &mut [u8],
+    s: usize,
+    v: usize,
+    p: usize,
+    j: usize,
+    steps: &[u8],
+    k: usize,
+    a: usize,
+)
+    requires { ⌜ StepRowArgs (now bytes) s v p j (length (now steps)) k a ⌝ }
+    ensures { λ _. ⌜ Rowed s (stepCell s (now (bytes .entry)) p j (now (steps .entry)) k a) v (now (bytes .entry))
+        (now (bytes .exit)) ⌝ }
+{
+    let at = v * (s + 1);
+    let near = p * (s + 1);
+    let far = j * (s + 1);
+    let mut q = 0;
+    while q < s {
+        let x = bytes[far + (1 + q)] as usize;
+        let y = bytes[near + (1 + x)] as usize;
+        bytes[at + (1 + q)] = steps[y * k + a];
+        q += 1;
+    }
+}
+
+// Node v's map, from its label and the maps above it.
+fn node_map(
+    labels: &[u8],
+    nums: &[u16],
+    steps: &[u8],
+    s: usize,
+    k: usize,
+    v: usize,
+    bytes: &mut [u8],
+)
+    requires { ⌜ NodeArgs (now labels) (now nums) (now steps) s k (now bytes) v ⌝ }
+    ensures { λ _. ⌜ Rowed s
+        (nodeMap (now (labels .entry)) (now (nums .entry)) (now (steps .entry)) s k (now (bytes .entry)) v) v
+        (now (bytes .entry)) (now (bytes .exit)) ⌝ }
+{
+    let a = labels[v] as usize;
+    let p = nums[v * 4] as usize;
+    let j = nums[v * 4 + 1] as usize;
+    if j == p {
+        near_row(bytes, s, v, steps, a, k);
+    } else {
+        let far = nums[p * 4 + 1] as usize;
+        step_row(bytes, s, v, p, far, steps, k, a);
+    }
+}
+
+// Writes the map of each of the n nodes, the root's first.
+pub fn fill_maps(
+    labels: &[u8],
+    nums: &[u16],
+    steps: &[u8],
+    s: usize,
+    k: usize,
+    n: usize,
+    bytes: &mut [u8],
+)
+    requires { ⌜ BranchArgs (now labels) (now nums) (now steps) s k n (length (now bytes)) ⌝ }
+    ensures { λ _. ⌜ Mapped (now (labels .entry)) (now (nums .entry)) (now (steps .entry)) s k n 0
+        (now (bytes .entry)) (now (bytes .exit)) ⌝ }
+{
+    let root = n - 1;
+    same_row(bytes, s, root);
+    let mut v = root;
+    while 0 < v {
+        v -= 1;
+        node_map(labels, nums, steps, s, k, v, bytes);
+    }
+}

@@ -1,0 +1,65 @@
+-- A whole table of states compared: its state bytes, then its maps.
+--     check-map-args         where the states are the run's, the maps can be compared
+--     states-fail, maps-tell the test of the whole table, where the states say no and where the maps decide
+-- Assumes nothing.
+use Prim.Native.Nat.{ℕ, _+_, _*_, _≤_}
+use mathlib.Core.Path.{_≡_, refl, sym, ap, _∙_}
+use mathlib.Core.Bool.{Bool, true, false, _&&_}
+use mathlib.Core.List.{List}
+use native.Mathlib.Omega.{arith}
+use lib.ListN.{length, take}
+use Rattle.trees.specs.Tree.{Tree, kindsOf, labelsOf, size}
+use Rattle.trees.specs.Tables.{stateTable}
+use Rattle.formats.specs.Bytes.{sameList}
+use Rattle.formats.specs.Rules.{treeAutomaton}
+use Rattle.formats.specs.Checks.{stateLength}
+use Rattle.links.specs.LinkCells.{LinkCells}
+use Rattle.tables.specs.LocalTables.{statesAre, mapsAre}
+use Rattle.tables.specs.States.{Runs}
+use Rattle.tables.specs.Maps.{Prepared, MapArgs}
+use Rattle.tables.specs.Compared.{StatesTold, MapsTold, TableTold}
+use Rattle.tables.specs.Written.{TableArgs}
+use Rattle.tables.proofs.StateTurns.{size-of}
+use Rattle.tables.proofs.TableTurns.{map-args}
+use Rattle.tables.proofs.CheckLaws.{states-told, table-same}
+
+module _ (ks ls nums lv inn : List ℕ) (s k : ℕ) (b : List ℕ) (args : TableArgs ks ls nums lv inn s k (length b)) where
+  told-runs : StatesTold s k lv inn ks ls b true → Runs s k lv inn ks ls (length ks) b b
+  told-runs told mk t e f = record {
+    states = λ v h. states-told (treeAutomaton s k lv inn mk) t b (sym (told mk t e f)) v
+        (omega (arith, size-of t ks e));
+    kept = λ j a. refl;
+  }
+
+  pub check-map-args : StatesTold s k lv inn ks ls b true → MapArgs ls nums inn s k b
+  check-map-args told = map-args ks ls nums lv inn s k b b args (told-runs told) refl
+
+  prepared : StatesTold s k lv inn ks ls b true → (mk : List ℕ) (t : Tree) → kindsOf t ≡ ks → labelsOf t ≡ ls
+      → Prepared s k lv inn mk t ls nums b
+  prepared told mk t e f =
+      let L : LinkCells t nums = args .links t e in
+      record {
+        labels = f;
+        parents = L .parents;
+        jumps = L .jumps;
+        sizes = L .sizes;
+        states = states-told (treeAutomaton s k lv inn mk) t b (sym (told mk t e f));
+      }
+
+  whole : (mk : List ℕ) (t : Tree) → kindsOf t ≡ ks
+      → sameList (take (stateLength (length ks) s) b) (stateTable (treeAutomaton s k lv inn mk) t)
+      ≡ (statesAre (treeAutomaton s k lv inn mk) t b && mapsAre (treeAutomaton s k lv inn mk) t b)
+  whole mk t e =
+      let z : length ks ≡ size t = size-of t ks e in
+      let room : length ks * (s + 1) ≤ length b = args .run .room in
+      rw z (table-same (treeAutomaton s k lv inn mk) t b (rw z at room))
+
+  pub states-fail : StatesTold s k lv inn ks ls b false → TableTold s k lv inn ks ls b false
+  states-fail told mk t e f =
+      ap (λ (x : Bool). x && mapsAre (treeAutomaton s k lv inn mk) t b) (told mk t e f) ∙ sym (whole mk t e)
+
+  pub maps-tell : (r : Bool) → StatesTold s k lv inn ks ls b true → MapsTold ls nums inn s k b r
+      → TableTold s k lv inn ks ls b r
+  maps-tell r told maps mk t e f =
+      maps lv mk t (prepared told mk t e f)
+      ∙ ap (λ (x : Bool). x && mapsAre (treeAutomaton s k lv inn mk) t b) (told mk t e f) ∙ sym (whole mk t e)

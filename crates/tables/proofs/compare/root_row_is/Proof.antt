@@ -1,0 +1,86 @@
+-- `compare::root_row_is` meets its contract. The loop's invariant: the flag compares the entries passed.
+-- Assumes nothing.
+use Prim.Native.Nat.{_≤_, _+_, _-_, _*_}
+use mathlib.Core.Path.{_≡_, refl, _∙_}
+use mathlib.Core.Logic.{inl, inr}
+use lib.Dec.{eqb}
+use Rattle.tables.specs.StateCells.{mapCell}
+use Rattle.tables.specs.Compare.{every}
+use Rattle.tables.proofs.CompareLaws.{every-same, every-other}
+use native.Mathlib.Omega.{arith}
+use borrow.Author.Needs.{needs}
+use Rattle.tables.proofs.compare.root_row_is.Statement.{statement}
+use Rattle.tables.proofs.compare.root_row_is.Tie as tie
+
+abbrev Inv-loop : tie.InvT-loop
+Inv-loop bytes s v at same₀ q₀ same q =
+    (q ≤ s) × (same ≡ every q (λ x. eqb (mapCell s bytes v x) (x)))
+
+abbrev μ-loop : tie.MeasureT-loop
+μ-loop bytes s v at same₀ q₀ same q = s - q
+
+add-at : tie.Need-add-at Inv-loop μ-loop
+add-at c = search needs
+
+mul-at : tie.Need-mul-at Inv-loop μ-loop
+mul-at c = search needs
+
+loop-holds : tie.Need-loop-holds Inv-loop μ-loop
+unfolding every
+loop-holds c = (omega arith, refl)
+
+add-x : tie.Need-add-x Inv-loop μ-loop
+add-x c = search needs
+
+add-x-2 : tie.Need-add-x-2 Inv-loop μ-loop
+add-x-2 c = search needs
+
+shared-slice-read-x : tie.Need-shared-slice-read-x Inv-loop μ-loop
+shared-slice-read-x c = search needs
+
+cast-x : tie.Need-cast-x Inv-loop μ-loop
+cast-x c =
+    let a = c .before .before .before .args in
+    omega (arith, c .shared-slice-known .given (a .v * (a .s + 1) + (1 + c .before .before .loop .q)))
+
+add-q : tie.Need-add-q Inv-loop μ-loop
+add-q c = search needs
+
+loop-less : tie.Need-loop-less Inv-loop μ-loop
+loop-less c = search needs
+
+loop-again : tie.Need-loop-again Inv-loop μ-loop
+loop-again c =
+    let l = c .before .before .before .loop in
+    let a = c .before .before .before .before .args in (
+      omega arith,
+      elim (c .if1 .came) [
+        | inl w ↦ w .1 ∙ every-other (l .q) (mapCell (a .s) (a .bytes .now) (a .v)) (λ x. x) (w .0 .taken)
+        | inr w ↦ w .1
+            ∙ every-same (l .q) (mapCell (a .s) (a .bytes .now) (a .v)) (λ x. x) (l .same) (l .inv .1) (w .0 .left)
+      ],
+    )
+
+returns : tie.Need-returns Inv-loop μ-loop
+returns c =
+    let a = c .before .before .args in
+    let e : c .before .loop .q ≡ a .s = omega arith in
+    rw e at (c .before .loop .inv .1)
+
+pub root-row-is-spec : {M : Type 1} → statement M
+root-row-is-spec =
+    tie.close
+    (tie.spec
+    Inv-loop
+    μ-loop
+    add-at
+    mul-at
+    loop-holds
+    add-x
+    add-x-2
+    shared-slice-read-x
+    cast-x
+    add-q
+    loop-less
+    loop-again
+    returns)

@@ -1,0 +1,170 @@
+-- `rows::far_row` meets its contract. The loop's invariant: the first q bytes of the map are composed, no other byte
+-- is changed.
+-- Assumes nothing.
+use Prim.Native.Nat.{ℕ, _+_, _-_, _*_, _≤_, _<_}
+use mathlib.Core.Path.{_≡_, subst}
+use lib.ListN.{length, length-set}
+use Rattle.tables.specs.Rows.{RowTo, farCell}
+use Rattle.tables.proofs.RowTurns.{row-turn, placed, far-here-below, far-near-below, far-is}
+use native.Mathlib.Omega.{arith}
+use borrow.Author.Needs.{needs}
+use Rattle.tables.proofs.rows.far_row.Statement.{statement}
+use Rattle.tables.proofs.rows.far_row.Tie as tie
+
+abbrev Inv-loop : tie.InvT-loop
+Inv-loop bytes₀ s v p j at near far q₀ bytes q =
+    (q ≤ s) × (length bytes ≡ length bytes₀) × RowTo s (farCell s bytes₀ v p j) v q bytes₀ bytes
+
+abbrev μ-loop : tie.MeasureT-loop
+μ-loop bytes₀ s v p j at near far q₀ bytes q = s - q
+
+-- what a turn reads
+here : (c : tie.In-loop Inv-loop μ-loop) → placed (c .before .before .args .s) (c .before .loop .bytes)
+    (c .before .before .args .v) (c .before .loop .q) < c .before .before .args .s
+here c =
+    let a = c .before in
+    let s = a .before in
+    far-here-below (s .args .s) (s .args .v) (s .args .p) (s .args .j) (a .loop .q) (s .args .bytes .now)
+    (a .loop .bytes) (a .loop .inv .2) (s .pre) (c .loop-test .taken)
+
+near : (c : tie.In-loop Inv-loop μ-loop) → placed (c .before .before .args .s) (c .before .loop .bytes)
+    (c .before .before .args .p) (placed (c .before .before .args .s) (c .before .loop .bytes)
+    (c .before .before .args .v) (c .before .loop .q)) < c .before .before .args .s
+near c =
+    let a = c .before in
+    let s = a .before in
+    far-near-below (s .args .s) (s .args .v) (s .args .p) (s .args .j) (a .loop .q) (s .args .bytes .now)
+    (a .loop .bytes) (a .loop .inv .2) (s .pre) (c .loop-test .taken)
+
+add-at : tie.Need-add-at Inv-loop μ-loop
+add-at c = search needs
+
+mul-at : tie.Need-mul-at Inv-loop μ-loop
+mul-at c = search needs
+
+add-at-2 : tie.Need-add-at-2 Inv-loop μ-loop
+add-at-2 c = search needs
+
+add-near : tie.Need-add-near Inv-loop μ-loop
+add-near c = search needs
+
+mul-near : tie.Need-mul-near Inv-loop μ-loop
+mul-near c = search needs
+
+add-near-2 : tie.Need-add-near-2 Inv-loop μ-loop
+add-near-2 c = search needs
+
+add-far : tie.Need-add-far Inv-loop μ-loop
+add-far c = search needs
+
+mul-far : tie.Need-mul-far Inv-loop μ-loop
+mul-far c = search needs
+
+add-far-2 : tie.Need-add-far-2 Inv-loop μ-loop
+add-far-2 c = search needs
+
+loop-holds : tie.Need-loop-holds Inv-loop μ-loop
+loop-holds c = search needs
+
+add-x : tie.Need-add-x Inv-loop μ-loop
+add-x c = search needs
+
+slice-read-x : tie.Need-slice-read-x Inv-loop μ-loop
+slice-read-x c = search needs
+
+cast-x : tie.Need-cast-x Inv-loop μ-loop
+cast-x c = omega (arith, here (c .before))
+
+add-y : tie.Need-add-y Inv-loop μ-loop
+add-y c = omega (arith, here (c .before), c .before .before .before .pre .near-room)
+
+slice-read-y : tie.Need-slice-read-y Inv-loop μ-loop
+slice-read-y c = omega (
+  arith,
+  here (c .before .before),
+  c .before .before .before .before .pre .near-room,
+  c .before .before .before .loop .inv .1,
+)
+
+cast-y : tie.Need-cast-y Inv-loop μ-loop
+cast-y c = omega (arith, near (c .before .before))
+
+add-bytes : tie.Need-add-bytes Inv-loop μ-loop
+add-bytes c = omega (arith, near (c .before .before), c .before .before .before .before .pre .far-room)
+
+slice-read-bytes : tie.Need-slice-read-bytes Inv-loop μ-loop
+slice-read-bytes c = omega (
+  arith,
+  near (c .before .before .before),
+  c .before .before .before .before .before .pre .far-room,
+  c .before .before .before .before .loop .inv .1,
+)
+
+add-bytes-2 : tie.Need-add-bytes-2 Inv-loop μ-loop
+add-bytes-2 c = search needs
+
+slice-write-bytes : tie.Need-slice-write-bytes Inv-loop μ-loop
+slice-write-bytes c = search needs
+
+add-q : tie.Need-add-q Inv-loop μ-loop
+add-q c = search needs
+
+loop-less : tie.Need-loop-less Inv-loop μ-loop
+loop-less c = search needs
+
+loop-again : tie.Need-loop-again Inv-loop μ-loop
+loop-again c =
+    let a = c .before .before .before .before in
+    let s = a .before in
+    let l = c .before .before .before .loop-test .taken in (
+      omega arith,
+      simp length-set (a .loop .inv .1),
+      row-turn (s .args .s) (farCell (s .args .s) (s .args .bytes .now) (s .args .v) (s .args .p) (s .args .j))
+          (s .args .v) (a .loop .q) (s .args .bytes .now) (a .loop .bytes)
+          (a .loop .inv .2) (s .args .v * (s .args .s + 1) + 1 + a .loop .q) _ (omega arith) (omega arith)
+          (far-is (s .args .s) (s .args .v) (s .args .p) (s .args .j) (a .loop .q) (s .args .bytes .now)
+          (a .loop .bytes) (a .loop .inv .2) (s .pre) l),
+    )
+
+same-length : tie.Need-same-length Inv-loop μ-loop
+same-length c = search needs
+
+returns : tie.Need-returns Inv-loop μ-loop
+returns c =
+    let a = c .before in
+    let s = a .before in
+    let e : a .loop .q ≡ s .args .s = omega arith in
+    subst (λ (i : ℕ). RowTo (s .args .s) (farCell (s .args .s) (s .args .bytes .now) (s .args .v) (s .args .p)
+    (s .args .j)) (s .args .v) i (s .args .bytes .now) (a .loop .bytes)) e (a .loop .inv .2)
+
+pub far-row-spec : {M : Type 1} → statement M
+far-row-spec =
+    tie.close
+    (tie.spec
+    Inv-loop
+    μ-loop
+    add-at
+    mul-at
+    add-at-2
+    add-near
+    mul-near
+    add-near-2
+    add-far
+    mul-far
+    add-far-2
+    loop-holds
+    add-x
+    slice-read-x
+    cast-x
+    add-y
+    slice-read-y
+    cast-y
+    add-bytes
+    slice-read-bytes
+    add-bytes-2
+    slice-write-bytes
+    add-q
+    loop-less
+    loop-again
+    same-length
+    returns)

@@ -1,0 +1,87 @@
+-- `rows::same_row` meets its contract. The loop's invariant: the first q bytes of the map are their own numbers, no
+-- other byte is changed.
+-- Assumes nothing.
+use Prim.Native.Nat.{ℕ, _+_, _-_, _*_, _≤_}
+use mathlib.Core.Path.{_≡_, refl, subst}
+use lib.ListN.{length, length-set}
+use Rattle.tables.specs.Rows.{RowTo}
+use Rattle.tables.proofs.RowTurns.{row-turn}
+use native.Mathlib.Omega.{arith}
+use borrow.Author.Needs.{needs}
+use Rattle.tables.proofs.rows.same_row.Statement.{statement}
+use Rattle.tables.proofs.rows.same_row.Tie as tie
+
+abbrev Inv-loop : tie.InvT-loop
+Inv-loop bytes₀ s v at q₀ bytes q =
+    (q ≤ s) × (length bytes ≡ length bytes₀) × RowTo s (λ x. x) v q bytes₀ bytes
+
+abbrev μ-loop : tie.MeasureT-loop
+μ-loop bytes₀ s v at q₀ bytes q = s - q
+
+add-at : tie.Need-add-at Inv-loop μ-loop
+add-at c = search needs
+
+mul-at : tie.Need-mul-at Inv-loop μ-loop
+mul-at c = search needs
+
+add-at-2 : tie.Need-add-at-2 Inv-loop μ-loop
+add-at-2 c = search needs
+
+loop-holds : tie.Need-loop-holds Inv-loop μ-loop
+loop-holds c = search needs
+
+cast-bytes : tie.Need-cast-bytes Inv-loop μ-loop
+cast-bytes c = search needs
+
+add-bytes : tie.Need-add-bytes Inv-loop μ-loop
+add-bytes c = search needs
+
+slice-write-bytes : tie.Need-slice-write-bytes Inv-loop μ-loop
+slice-write-bytes c = search needs
+
+add-q : tie.Need-add-q Inv-loop μ-loop
+add-q c = search needs
+
+loop-less : tie.Need-loop-less Inv-loop μ-loop
+loop-less c = search needs
+
+loop-again : tie.Need-loop-again Inv-loop μ-loop
+loop-again c =
+    let a = c .before in
+    let s = a .before in
+    let l = c .loop-test .taken in (
+      omega arith,
+      simp length-set (a .loop .inv .1),
+      row-turn (s .args .s) (λ x. x) (s .args .v) (a .loop .q) (s .args .bytes .now) (a .loop .bytes)
+          (a .loop .inv .2) (s .args .v * (s .args .s + 1) + 1 + a .loop .q) _ (omega arith) (omega arith) refl,
+    )
+
+same-length : tie.Need-same-length Inv-loop μ-loop
+same-length c = search needs
+
+returns : tie.Need-returns Inv-loop μ-loop
+returns c =
+    let a = c .before in
+    let s = a .before in
+    let e : a .loop .q ≡ s .args .s = omega arith in
+    subst (λ (i : ℕ). RowTo (s .args .s) (λ x. x) (s .args .v) i (s .args .bytes .now) (a .loop .bytes)) e
+    (a .loop .inv .2)
+
+pub same-row-spec : {M : Type 1} → statement M
+same-row-spec =
+    tie.close
+    (tie.spec
+    Inv-loop
+    μ-loop
+    add-at
+    mul-at
+    add-at-2
+    loop-holds
+    cast-bytes
+    add-bytes
+    slice-write-bytes
+    add-q
+    loop-less
+    loop-again
+    same-length
+    returns)

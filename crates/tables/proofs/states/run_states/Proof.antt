@@ -1,0 +1,130 @@
+-- `states::run_states` meets its contract. The loop's invariant: the state bytes below v are the run's, no other byte
+-- is changed.
+-- Assumes nothing.
+use Prim.Native.Nat.{ℕ, _+_, _-_, _*_, _≤_, _<_}
+use mathlib.Core.Path.{_≡_, refl, subst, _∙_}
+use mathlib.Core.Logic.{⊎-elim}
+use lib.ListN.{length, length-set}
+use Rattle.trees.proofs.RowLaws.{stride}
+use Rattle.tables.specs.States.{Runs}
+use Rattle.tables.proofs.StateTurns.{leaf-states, inner-states, inner-args}
+use native.Mathlib.Omega.{arith}
+use borrow.Author.Needs.{needs}
+use Rattle.tables.proofs.states.run_states.Statement.{statement}
+use Rattle.tables.proofs.states.run_states.Tie as tie
+
+abbrev Inv-loop : tie.InvT-loop
+Inv-loop kinds labels nums leaves inner s k bytes₀ n w v₀ bytes v =
+    (v ≤ length kinds) × (length bytes ≡ length bytes₀) × (n ≡ length kinds) × Runs s k leaves inner kinds labels v
+    bytes₀ bytes
+
+abbrev μ-loop : tie.MeasureT-loop
+μ-loop kinds labels nums leaves inner s k bytes₀ n w v₀ bytes v = n - v
+
+-- the place of the state byte that a turn writes
+place-in : (c : tie.In-loop Inv-loop μ-loop) → c .before .loop .v *
+    (c .before .before .before .before .before .before .before .before .args .s + 1) < length (c .before .loop .bytes)
+place-in c =
+    let a = c .before in
+    let s = a .before .before .before .before .before .before .before in
+    omega (
+      arith,
+      stride (s .args .s + 1) (a .loop .v) (length (s .args .kinds .now)) (c .loop-test .taken),
+      s .pre .room,
+      a .loop .inv .1,
+    )
+
+add-w : tie.Need-add-w Inv-loop μ-loop
+add-w c = search needs
+
+loop-holds : tie.Need-loop-holds Inv-loop μ-loop
+loop-holds c = search needs
+
+shared-slice-read-a : tie.Need-shared-slice-read-a Inv-loop μ-loop
+shared-slice-read-a c = search needs
+
+cast-a : tie.Need-cast-a Inv-loop μ-loop
+cast-a c = omega (arith, c .shared-slice-known6 .given (c .before .before .loop .v))
+
+shared-slice-read-if1 : tie.Need-shared-slice-read-if1 Inv-loop μ-loop
+shared-slice-read-if1 c = search needs
+
+shared-slice-read-x : tie.Need-shared-slice-read-x Inv-loop μ-loop
+shared-slice-read-x c =
+    let a = c .before .before .before .before .before in
+    let s = a .before .before .before .before .before .before .before in
+    omega (arith, s .pre .below (a .loop .v), s .pre .rules .leaf-count)
+
+inner-state-requires : tie.Need-inner-state-requires Inv-loop μ-loop
+inner-state-requires c κs =
+    let a = c .before .before .before .before .before in
+    let s = a .before .before .before .before .before .before .before in
+    inner-args (s .args .s) (s .args .k) (s .args .leaves .now) (s .args .inner .now) (s .args .kinds .now)
+    (s .args .labels .now)
+    (a .loop .v) (s .args .nums .now) (s .args .bytes .now) (a .loop .bytes) (a .loop .inv .3) (s .pre)
+    (a .loop .inv .1) (c .before .before .before .before .loop-test .taken) (c .before .if1 .left)
+
+mul-bytes : tie.Need-mul-bytes Inv-loop μ-loop
+mul-bytes c = omega (arith, place-in (c .before .before .before))
+
+slice-write-bytes : tie.Need-slice-write-bytes Inv-loop μ-loop
+slice-write-bytes c = place-in (c .before .before .before)
+
+add-v : tie.Need-add-v Inv-loop μ-loop
+add-v c = search needs
+
+loop-less : tie.Need-loop-less Inv-loop μ-loop
+loop-less c = search needs
+
+loop-again : tie.Need-loop-again Inv-loop μ-loop
+loop-again c =
+    let a = c .before .before .before .before in
+    let s = a .before .before .before .before .before .before .before in
+    let l = c .before .before .before .loop-test .taken in (
+      omega arith,
+      simp length-set (a .loop .inv .1),
+      refl,
+      ⊎-elim
+          (λ w. rw (w .2) (leaf-states (s .args .s) (s .args .k) (s .args .leaves .now) (s .args .inner .now)
+          (s .args .kinds .now) (s .args .labels .now)
+          (a .loop .v) (s .args .nums .now) (s .args .bytes .now) (a .loop .bytes) (a .loop .inv .3) (s .pre)
+          (a .loop .inv .1) l (w .0 .taken)))
+          (λ w. rw (w .3 ∙ w .2 .ensures) (inner-states (s .args .s) (s .args .k) (s .args .leaves .now)
+          (s .args .inner .now) (s .args .kinds .now) (s .args .labels .now)
+          (a .loop .v) (s .args .nums .now) (s .args .bytes .now) (a .loop .bytes) (a .loop .inv .3) (s .pre)
+          (a .loop .inv .1) l (w .0 .left)))
+          (c .if1 .came),
+    )
+
+same-length : tie.Need-same-length Inv-loop μ-loop
+same-length c = search needs
+
+returns : tie.Need-returns Inv-loop μ-loop
+returns c =
+    let a = c .before in
+    let s = a .before .before .before .before .before .before .before in
+    let e : a .loop .v ≡ length (s .args .kinds .now) = omega arith in
+    subst (λ (i : ℕ). Runs (s .args .s) (s .args .k) (s .args .leaves .now) (s .args .inner .now) (s .args .kinds .now)
+    (s .args .labels .now)
+    i (s .args .bytes .now) (a .loop .bytes)) e (a .loop .inv .3)
+
+pub run-states-spec : {M : Type 1} → statement M
+run-states-spec =
+    tie.close
+    (tie.spec
+    Inv-loop
+    μ-loop
+    add-w
+    loop-holds
+    shared-slice-read-a
+    cast-a
+    shared-slice-read-if1
+    shared-slice-read-x
+    inner-state-requires
+    mul-bytes
+    slice-write-bytes
+    add-v
+    loop-less
+    loop-again
+    same-length
+    returns)

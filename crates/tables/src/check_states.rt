@@ -1,0 +1,39 @@
+// The state bytes of a lent table compared with the run, in rising node number.
+use crate::states::inner_state;
+ghost use lib.ListN.{length};
+ghost use Rattle.tables.specs.States.{StateArgs};
+ghost use Rattle.tables.specs.Compared.{StatesTold};
+
+// Whether each node's state byte is the run's. Those after a wrong one are not looked at: they would be read from it.
+pub fn check_states(
+    kinds: &[u8],
+    labels: &[u8],
+    nums: &[u16],
+    leaves: &[u8],
+    inner: &[u8],
+    s: usize,
+    k: usize,
+    bytes: &[u8],
+) -> bool
+    requires { ⌜ StateArgs (now kinds) (now labels) (now nums) (now leaves) (now inner) s k (length (now bytes)) ⌝ }
+    ensures { λ r. ⌜ StatesTold s k (now (leaves .entry)) (now (inner .entry)) (now (kinds .entry)) (now (labels .entry))
+        (now (bytes .entry)) r ⌝ }
+{
+    let n = kinds.len();
+    let w = s + 1;
+    let mut v = 0;
+    while v < n {
+        let a = labels[v] as usize;
+        let x = if kinds[v] == 0 {
+            leaves[a]
+        } else {
+            inner_state(nums, bytes, inner, s, k, v, a)
+        };
+        let y = bytes[v * w];
+        if y != x {
+            return false;
+        }
+        v += 1;
+    }
+    true
+}

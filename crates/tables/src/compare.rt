@@ -1,0 +1,82 @@
+// Rows of a table of states compared with what they have to be, for the full checks of rule and of branch tables.
+ghost use mathlib.Core.Path.{_≡_};
+ghost use lib.ListN.{length};
+ghost use Rattle.tables.specs.Rows.{RowIn, NearArgs};
+ghost use Rattle.tables.specs.Compare.{rowIs, nearEntry, farEntry, FarIsArgs};
+
+// Whether node v's map is the identity, as the root's has to be.
+pub fn root_row_is(bytes: &[u8], s: usize, v: usize) -> bool
+    requires { ⌜ RowIn (length (now bytes)) s v ⌝ }
+    ensures { λ r. ⌜ r ≡ rowIs s (now (bytes .entry)) v (λ q. q) ⌝ }
+{
+    let at = v * (s + 1);
+    let mut same = true;
+    let mut q = 0;
+    while q < s {
+        let x = bytes[at + (1 + q)] as usize;
+        if x != q {
+            same = false;
+        }
+        q += 1;
+    }
+    same
+}
+
+// Whether node v's map has the rule's values that start at `base`, `stride` apart.
+pub fn near_row_is(
+    bytes: &[u8],
+    s: usize,
+    v: usize,
+    table: &[u8],
+    base: usize,
+    stride: usize,
+) -> bool
+    requires { ⌜ NearArgs (length (now bytes)) s v (length (now table)) base stride ⌝ }
+    ensures { λ r. ⌜ r ≡ rowIs s (now (bytes .entry)) v (nearEntry (now (table .entry)) base stride) ⌝ }
+{
+    let at = v * (s + 1);
+    let mut same = true;
+    let mut q = 0;
+    while q < s {
+        let x = bytes[at + (1 + q)];
+        let y = table[base + q * stride];
+        if x != y {
+            same = false;
+        }
+        q += 1;
+    }
+    same
+}
+
+// Whether node v's map has those values taken on by the maps of nodes p and j.
+pub fn far_row_is(
+    bytes: &[u8],
+    s: usize,
+    v: usize,
+    p: usize,
+    j: usize,
+    table: &[u8],
+    base: usize,
+    stride: usize,
+) -> bool
+    requires { ⌜ FarIsArgs s (now bytes) v p j (now table) base stride ⌝ }
+    ensures { λ r. ⌜ r ≡ rowIs s (now (bytes .entry)) v
+        (farEntry s (now (bytes .entry)) p j (now (table .entry)) base stride) ⌝ }
+{
+    let at = v * (s + 1);
+    let first = p * (s + 1);
+    let second = j * (s + 1);
+    let mut same = true;
+    let mut q = 0;
+    while q < s {
+        let x = bytes[at + (1 + q)];
+        let near = table[base + q * stride] as usize;
+        let next = bytes[first + (1 + near)] as usize;
+        let y = bytes[second + (1 + next)];
+        if x != y {
+            same = false;
+        }
+        q += 1;
+    }
+    same
+}
