@@ -17,7 +17,7 @@ use Rattle.formats.specs.Bytes.{allBelow}
 use Rattle.formats.specs.Rules.{ruleAutomaton}
 use Rattle.formats.specs.Checks.{check, firstNo}
 use Rattle.formats.proofs.CheckLaws.{true-false, and-both, and-left, and-right, firstNo-head, firstNo-tail}
-use Rattle.ready.specs.Parts.{Given, Part, part, partOf, partsFrom}
+use Rattle.ready.specs.Parts.{Given, Part, part, partOf, partsFrom, statesOf}
 use Rattle.questions.specs.Climbs.{Reached}
 use Rattle.questions.specs.Part.{partOn}
 use Rattle.book.specs.Lends.{Lent, Sizes, fits, sameLinks, sameLent, linksBuilt}
@@ -29,7 +29,7 @@ use Rattle.book.specs.Book.{rootsOf, partCount}
 use Rattle.book.specs.Book.{givenBy, longer, advanced, goesOn, otherBytes, mayAdvanceWith, byAnswer, loosely}
 use Rattle.book.specs.Book.{firmly, advancing, proceed}
 use Rattle.book.specs.Model.{Record, acted, viewBy, marksBy, stepped, advanceWith, partNext, proceeds}
-use Rattle.book.proofs.Facts.{statesOf, reachedBy, nextRoot, Layers}
+use Rattle.book.proofs.Facts.{reachedBy, nextRoot, Layers}
 use Rattle.book.proofs.TrailLaws.{length-states, nodes-more, states-more, length-more, last-more, links-more}
 use Rattle.book.proofs.TrailLaws.{below-more, from-more}
 use Rattle.book.proofs.LendLaws.{Built, Same, links-built, same-links, lent-links, same-bytes, marks-built}

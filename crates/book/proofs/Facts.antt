@@ -1,5 +1,4 @@
 -- What demand 3 takes from the questions layer: two facts about calls on numbers as built.
---     nodesOf, statesOf    the roots and the states of parts
 --     Firmly z q x         what an advance is lent: plan, rules and numbers as built and as at Start, bytes below S
 --     Handled z q ps       parts of the first roots, with any states below S
 --     reachedBy p          what an advance finds for part p
@@ -17,21 +16,13 @@ use Rattle.formats.specs.Bytes.{allBelow}
 use Rattle.formats.specs.Plan.{planTree}
 use Rattle.formats.specs.Checks.{firstNo, listChecks}
 use Rattle.ready.specs.Members.{roots}
-use Rattle.ready.specs.Parts.{Part, partOf}
+use Rattle.ready.specs.Parts.{Part, nodesOf, statesOf, partOf}
 use Rattle.questions.specs.Climbs.{Reached, reached}
 use Rattle.questions.specs.Roots.{rootsOn}
 use Rattle.questions.specs.Part.{partOn}
 use Rattle.book.specs.Lends.{Lent, Sizes, fits, usedNums, sameLinks, linksBuilt, bytesBelow}
 use Rattle.book.specs.Book.{Question, rootsOf, partCount, givenBy}
 use Rattle.book.specs.Model.{viewBy}
-
-abbrev pub nodesOf : List Part → List ℕ
-nodesOf [] = []
-nodesOf (p ∷ ps) = p .node ∷ nodesOf ps
-
-abbrev pub statesOf : List Part → List ℕ
-statesOf [] = []
-statesOf (p ∷ ps) = p .state ∷ statesOf ps
 
 abbrev pub reachedBy : Part → Reached
 reachedBy p = reached (p .state) (p .links)

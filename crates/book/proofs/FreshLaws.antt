@@ -47,7 +47,7 @@ use Rattle.ready.proofs.BelowLaws.{rising-above}
 use Rattle.ready.proofs.ListLaws.{list-members, list-last, list-rising}
 use Rattle.book.specs.Lends.{Lent, Sizes, usedBytes, bytesBuilt, bytesBelow}
 use Rattle.book.specs.Book.{Question, rootsOf, changedTree, givenBy}
-use Rattle.book.proofs.Facts.{nodesOf}
+use Rattle.ready.specs.Parts.{nodesOf}
 use Rattle.book.proofs.TrailLaws.{last-more, from-more, from-nodes, from-links}
 use Rattle.book.proofs.LendLaws.{Built, plan-of, rules-of}
 

@@ -8,6 +8,7 @@ pub mod Simulation
 pub mod StartSim
 pub mod AdvanceSim
 pub mod Demand3Theorem
+pub mod LayersHold
 pub mod Ceilings
 pub mod AloneLaws
 pub mod OrderLaws

@@ -20,7 +20,8 @@ use Rattle.book.specs.Lends.{Sizes, linksBuilt, bytesBuilt}
 use Rattle.book.specs.Book.{Standing, clean, firm, loose, Question, State, Book, phase, rootsOf, partCount}
 use Rattle.book.specs.Book.{givenBy}
 use Rattle.book.specs.Model.{Record}
-use Rattle.book.proofs.Facts.{statesOf, Handled}
+use Rattle.ready.specs.Parts.{statesOf}
+use Rattle.book.proofs.Facts.{Handled}
 
 pub record Parted (r : Record) (z : Sizes) (q : Question) (ps : List Part) : Type 0 where
   pub nodes : r .nodes ≡ q .nodes

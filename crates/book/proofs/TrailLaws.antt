@@ -17,7 +17,7 @@ use Rattle.formats.specs.Bytes.{allBelow}
 use Rattle.formats.proofs.CheckLaws.{and-both, and-left, and-right}
 use Rattle.ready.specs.Parts.{Given, Part, partOf, partLinks, sumOf, partsFrom, lastState, allLinks}
 use Rattle.book.specs.Model.{lastOf}
-use Rattle.book.proofs.Facts.{nodesOf, statesOf}
+use Rattle.ready.specs.Parts.{nodesOf, statesOf}
 
 pub length-nodes : (ps : List Part) → length (nodesOf ps) ≡ length ps
 length-nodes [] = refl

@@ -15,7 +15,6 @@ use Rattle.formats.specs.Plan.{nodeCount}
 use Rattle.formats.specs.Rules.{stateCount}
 use Rattle.formats.specs.Checks.{firstNo, branchTableChecks, branchBuildChecks, linkLength, stateLength}
 use Rattle.formats.specs.Built.{builtLinks, builtSteps, BranchBuilt}
-use Rattle.formats.proofs.PlanLaws.{PlanPasses}
 use Rattle.formats.proofs.InputLaws.{branch-table-passes, branch-build-table, passes-branch-build}
 use Rattle.tables.specs.declared.answers.Building.{Building}
 use Rattle.tables.specs.declared.answers.Checking.{Checking}

@@ -2,7 +2,7 @@
 --     fill-link-args, branch-args        what each needs; fill-branch-args: after the links are written
 --     filled                             what they leave together
 -- Assumes nothing.
-use Prim.Native.Nat.{ℕ, _+_, _*_, _≤_}
+use Prim.Native.Nat.{ℕ}
 use mathlib.Core.Path.{_≡_, refl, sym, ap, _∙_}
 use mathlib.Core.List.{List, [], _++_}
 use native.Mathlib.Omega.{arith}
@@ -10,18 +10,17 @@ use lib.ListN.{length, drop}
 use Rattle.trees.specs.Tree.{Tree, size, kindsOf, labelsOf}
 use Rattle.trees.specs.Automaton.{WordAutomaton}
 use Rattle.trees.specs.Tables.{linkTable, branchTable, branchState, branchMap}
-use Rattle.trees.specs.Postorder.{isPostorder}
 use Rattle.trees.proofs.NodeLaws.{length-labels, length-kinds}
 use Rattle.trees.proofs.PostorderLaws.{tree-postorder}
 use Rattle.formats.specs.Rules.{wordAutomaton}
-use Rattle.formats.specs.Checks.{linkLength, stateLength}
+use Rattle.formats.specs.Checks.{linkLength}
 use Rattle.links.specs.Cells.{LinkArgs}
 use Rattle.links.specs.LinkCells.{LinkCells}
 use Rattle.links.proofs.CellLaws.{take-table, link-cells}
 use Rattle.tables.proofs.MapTableLaws.{passes-written}
 use Rattle.branches.specs.Lent.{BranchLent, BranchArgs, StatesFrom, Stepped}
 use Rattle.branches.specs.Maps.{Mapped}
-use Rattle.branches.specs.Filled.{FillArgs, TablesFilled, BranchFilled}
+use Rattle.branches.specs.Filled.{FillArgs, BranchFilled}
 
 -- what the build of the links leaves
 abbrev pub Linked : List ℕ → List ℕ → List ℕ → Type 0

@@ -6,7 +6,7 @@
 --     map-turn, map-root   the turns
 -- Assumes nothing.
 use Prim.Native.Nat.{ℕ, _+_, _*_, _≤_, _<_}
-use mathlib.Core.Path.{_≡_, refl, sym, ap, ap₂, _∙_}
+use mathlib.Core.Path.{_≡_, sym, ap, ap₂, _∙_}
 use mathlib.Core.List.{List}
 use native.Mathlib.Decide.{ℕ-discrete}
 use native.Mathlib.Omega.{arith}
@@ -28,7 +28,7 @@ use Rattle.tables.specs.Rows.{RowIn, Rowed}
 use Rattle.tables.specs.MapTable.{MapsWritten}
 use Rattle.tables.proofs.MapTableLaws.{row-ext, written-start, written-turn}
 use Rattle.branches.specs.Lent.{BranchLent, BranchArgs}
-use Rattle.branches.specs.Maps.{stepCell, nodeMap, StepRowArgs, NodeArgs, Mapped}
+use Rattle.branches.specs.Maps.{stepCell, nodeMap, NodeArgs, Mapped}
 use Rattle.branches.proofs.StepTurns.{lent-label, lent-parent, lent-below, args-labels, args-parent, step-at}
 
 -- ---- a node's map by its test

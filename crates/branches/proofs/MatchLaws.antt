@@ -4,14 +4,13 @@
 --     links-fail, steps-fail, maps-tell   the test of both tables, where the links or the state bytes say no, and
 --         where the maps decide
 -- Assumes nothing.
-use Prim.Native.Nat.{ℕ, _+_, _*_, _≤_}
+use Prim.Native.Nat.{ℕ, _≤_}
 use mathlib.Core.Path.{_≡_, refl, sym, ap, ap₂, _∙_}
 use mathlib.Core.Bool.{Bool, true, false, _&&_}
 use mathlib.Core.List.{List}
 use native.Mathlib.Omega.{arith}
 use lib.ListN.{length, take}
 use Rattle.trees.specs.Tree.{Tree, size, kindsOf, labelsOf}
-use Rattle.trees.specs.Automaton.{WordAutomaton}
 use Rattle.trees.specs.Tables.{linkTable, branchState, branchMap, branchTable}
 use Rattle.trees.proofs.NodeLaws.{length-labels}
 use Rattle.formats.specs.Bytes.{sameList}

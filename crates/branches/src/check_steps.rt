@@ -1,6 +1,5 @@
 // The state bytes of a lent table compared with those of a branch table's build, from the root down.
 use crate::steps::START;
-ghost use mathlib.Core.Path.{_≡_};
 ghost use lib.ListN.{length};
 ghost use Rattle.branches.specs.Lent.{BranchArgs};
 ghost use Rattle.branches.specs.Told.{StepsTold};

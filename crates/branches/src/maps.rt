@@ -1,7 +1,6 @@
 // The maps of a branch table's build: from the state after the jump's label to the state after the node's.
 use tables::rows::near_row;
 use tables::rows::same_row;
-ghost use mathlib.Core.Path.{_≡_};
 ghost use lib.ListN.{length};
 ghost use Rattle.tables.specs.Rows.{Rowed};
 ghost use Rattle.branches.specs.Lent.{BranchArgs};

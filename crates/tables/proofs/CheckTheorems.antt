@@ -6,7 +6,7 @@
 -- Not here: that the equations between neighbouring nodes leave one table only (LocalLaws).
 -- Assumes nothing.
 use Prim.Native.Nat.{ℕ}
-use mathlib.Core.Path.{_≡_, refl, sym, ap, _∙_}
+use mathlib.Core.Path.{_≡_, sym, ap, _∙_}
 use mathlib.Core.List.{List}
 use lib.ListN.{length, take}
 use Rattle.formats.specs.Plan.{nodeCount}

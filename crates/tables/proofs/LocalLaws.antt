@@ -10,13 +10,13 @@ use mathlib.Core.Path.{_≡_, sym, ap, ap₂, _∙_}
 use mathlib.Core.List.{List}
 use native.Mathlib.Decide.{decLt, ℕ-discrete}
 use native.Mathlib.Omega.{arith}
-use lib.ListN.{length, getD, take}
+use lib.ListN.{length, take}
 use borrow.Author.Tests.{eq-eqb, ne-eqb}
 use Rattle.trees.specs.Tree.{Tree, size, kindAt, labelAt}
 use Rattle.trees.specs.Automaton.{Automaton, state}
 use Rattle.trees.specs.Numbering.{sub, parent}
 use Rattle.trees.specs.Jumps.{jump}
-use Rattle.trees.specs.Tables.{rows, stepUp, stateMap, stateRow, stateTable}
+use Rattle.trees.specs.Tables.{stepUp, stateMap, stateTable}
 use Rattle.trees.proofs.NodeLaws.{up}
 use Rattle.trees.proofs.JumpLaws.{jump-in, jump-above}
 use Rattle.trees.proofs.RowLaws.{stateTable-state}

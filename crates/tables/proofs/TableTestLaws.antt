@@ -12,7 +12,7 @@ use native.Mathlib.Omega.{arith}
 use lib.Dec.{eqb}
 use lib.ListN.{length, getD, take}
 use borrow.Author.Tests.{eq-eqb, ne-eqb, eqb-true}
-use Rattle.trees.specs.Tables.{tabulate, rows}
+use Rattle.trees.specs.Tables.{tabulate}
 use Rattle.trees.proofs.RowLaws.{length-tabulate, getD-tabulate, rows-of-cells, cells-of-rows, mapRow-cells}
 use Rattle.formats.specs.Bytes.{sameList}
 use Rattle.formats.proofs.CheckLaws.{true-false}

@@ -3,11 +3,11 @@
 --     map-args            after the first pass the second can be made
 --     states-over         both give the state table, and the excess as before
 -- Assumes nothing.
-use Prim.Native.Nat.{ℕ, _+_, _*_, _≤_, _<_}
-use mathlib.Core.Path.{_≡_, ap, _∙_}
+use Prim.Native.Nat.{ℕ, _+_, _*_}
+use mathlib.Core.Path.{_≡_}
 use mathlib.Core.List.{List, []}
 use native.Mathlib.Omega.{arith}
-use lib.ListN.{length, getD}
+use lib.ListN.{length}
 use Rattle.trees.specs.Tree.{Tree, kindsOf, labelsOf, size}
 use Rattle.trees.specs.Automaton.{Automaton, state}
 use Rattle.trees.specs.Numbering.{sub}
@@ -17,7 +17,7 @@ use Rattle.trees.proofs.RowLaws.{length-rows, length-stateRow}
 use Rattle.formats.specs.Rules.{treeAutomaton}
 use Rattle.links.specs.LinkCells.{LinkCells}
 use Rattle.tables.specs.States.{Ran, Runs}
-use Rattle.tables.specs.Maps.{Prepared, Mapped, MapArgs, Maps}
+use Rattle.tables.specs.Maps.{Prepared, MapArgs, Maps}
 use Rattle.tables.specs.Written.{TableArgs, StatesOver}
 use Rattle.tables.proofs.StateTurns.{size-of}
 use Rattle.tables.proofs.MapTableLaws.{passes-written}

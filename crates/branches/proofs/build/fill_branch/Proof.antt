@@ -1,8 +1,7 @@
 -- `build::fill_branch` meets its contract: its three writers, one after the other.
 -- Assumes nothing.
-use mathlib.Core.Path.{_≡_, refl, _∙_}
+use mathlib.Core.Path.{refl, _∙_}
 use Rattle.branches.proofs.FillLaws.{fill-link-args, fill-branch-args, filled}
-use native.Mathlib.Omega.{arith}
 use borrow.Author.Needs.{needs}
 use Rattle.branches.proofs.build.fill_branch.Statement.{statement}
 use Rattle.branches.proofs.build.fill_branch.Tie as tie

@@ -2,7 +2,6 @@
 -- Assumes nothing.
 use lib.ListN.{length}
 use Rattle.branches.proofs.BranchInputs.{parts-filled, parts-written}
-use native.Mathlib.Omega.{arith}
 use borrow.Author.Needs.{needs}
 use Rattle.branches.proofs.build.write_branch.Statement.{statement}
 use Rattle.branches.proofs.build.write_branch.Tie as tie

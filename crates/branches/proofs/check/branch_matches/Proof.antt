@@ -2,7 +2,6 @@
 -- Assumes nothing.
 use lib.ListN.{length}
 use Rattle.branches.proofs.BranchInputs.{parts-filled, parts-told}
-use native.Mathlib.Omega.{arith}
 use borrow.Author.Needs.{needs}
 use Rattle.branches.proofs.check.branch_matches.Statement.{statement}
 use Rattle.branches.proofs.check.branch_matches.Tie as tie

@@ -9,7 +9,6 @@ use Rattle.branches.specs.Filled.{FillArgs}
 use Rattle.branches.proofs.FillLaws.{fill-link-args, branch-args}
 use Rattle.branches.proofs.MatchLaws.{LinksTold, told-cells, links-fail, steps-fail, maps-tell}
 use native.Mathlib.Omega.{arith}
-use borrow.Author.Needs.{needs}
 use Rattle.branches.proofs.check.tables_match.Statement.{statement}
 use Rattle.branches.proofs.check.tables_match.Tie as tie
 

@@ -1,7 +1,7 @@
 -- `check_maps::node_map_is` meets its contract, by near_row_is or by step_row_is.
 -- Assumes nothing.
-use Prim.Native.Nat.{ℕ, _+_, _*_}
-use mathlib.Core.Path.{_≡_, sym, _∙_}
+use Prim.Native.Nat.{_+_, _*_}
+use mathlib.Core.Path.{sym, _∙_}
 use lib.ListN.{getD}
 use Rattle.links.specs.Cells.{parentCell, jumpCell}
 use Rattle.tables.specs.Compare.{nearEntry}

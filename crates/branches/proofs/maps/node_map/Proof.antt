@@ -1,7 +1,7 @@
 -- `maps::node_map` meets its contract, by near_row or by step_row.
 -- Assumes nothing.
-use Prim.Native.Nat.{ℕ, _+_, _*_}
-use mathlib.Core.Path.{_≡_, sym}
+use Prim.Native.Nat.{_+_, _*_}
+use mathlib.Core.Path.{sym}
 use lib.ListN.{getD}
 use Rattle.links.specs.Cells.{parentCell, jumpCell}
 use Rattle.tables.proofs.MapTableLaws.{row-ext}

@@ -2,13 +2,11 @@
 -- other byte is
 -- changed, counted from any buffer of which that holds where the loop begins.
 -- Assumes nothing.
-use Prim.Native.Nat.{ℕ, _+_, _-_, _*_, _≤_, _<_}
-use mathlib.Core.Path.{_≡_, refl, _∙_, subst}
+use Prim.Native.Nat.{ℕ, _+_, _-_, _*_, _<_}
+use mathlib.Core.Path.{_≡_, refl, _∙_}
 use mathlib.Core.List.{List}
-use lib.ListN.{length, getD, length-set}
-use Rattle.trees.proofs.RowLaws.{cell-in}
+use lib.ListN.{length, length-set}
 use Rattle.links.specs.Cells.{parentCell}
-use Rattle.tables.specs.StateCells.{stateCell}
 use Rattle.branches.specs.Lent.{BranchArgs, Stepped}
 use Rattle.branches.proofs.StepTurns.{args-pos, args-labels, state-in, StepFits, step-fits, step-turn}
 use Rattle.branches.proofs.StepTurns.{root-inside, root-turn}
