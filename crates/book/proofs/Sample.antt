@@ -24,7 +24,8 @@ use Rattle.ready.specs.Parts.{isUnder, anyBelow, lastBelow, moveState, climbMov
 use Rattle.ready.specs.Parts.{partLinks, sumOf, questionLinks}
 use Rattle.ready.specs.Parts.{stateOf, climbedState, innerState, partState, partOf, partsFrom, partsOf, lastState}
 use Rattle.ready.specs.Parts.{allLinks}
-use Rattle.questions.specs.Search.{isBelow, nextUnless, searchIn, search, meetOn}
+use Rattle.questions.specs.Search.{nextUnless, searchIn, search, meetOn}
+use Rattle.links.specs.Cells.{isBelow}
 use Rattle.questions.specs.Roots.{insertRising, risingOf, wanted, withFork, withMeet, forksOn, rootsOn}
 use Rattle.questions.specs.Climbs.{below, runOn, ruleOn, siblingOn, parentOn, moveOn, climbOn}
 use Rattle.questions.specs.Part.{lastFound, labelOn, climbFrom, runReached, ownReached, joinOn, innerOn, leafOn}

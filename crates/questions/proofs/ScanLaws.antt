@@ -19,7 +19,7 @@ use borrow.Author.Tests.{lt-ltb, le-ltb, le-leb, lt-leb, leb-true, ltb-true}
 use Rattle.trees.specs.Changes.{changed}
 use Rattle.trees.proofs.Choice.{by-test}
 use Rattle.links.specs.Cells.{sizeCell}
-use Rattle.questions.specs.Search.{isBelow}
+use Rattle.links.specs.Cells.{isBelow}
 use Rattle.questions.specs.Part.{found, lastFound, foundBelow}
 use Rattle.questions.specs.Scans.{covers, lastFrom, lastIn, foundOf, labelOf}
 
