@@ -1,0 +1,49 @@
+use native.Mathlib.Omega.{arith}
+use borrow.Author.Needs.{needs}
+use Rattle.session.proofs.state.Session.no_question.Statement.{statement}
+use Rattle.session.proofs.state.Session.no_question.Tie as tie
+use Rattle.session.proofs.state.Session.no_question.Reads as reads
+use Rattle.session.proofs.state.Session.no_question.Lts as lts
+use Rattle.formats.proofs.rules.all_below.Reads as all-below-reads
+use Rattle.session.proofs.runs.below.Reads as below-reads
+
+slice-aggregate-below : tie.Need-slice-aggregate-below
+slice-aggregate-below c = search needs
+
+below-requires : tie.Need-below-requires
+below-requires c κs = search needs
+
+slice-aggregate-all-below : tie.Need-slice-aggregate-all-below
+slice-aggregate-all-below c = search needs
+
+all-below-requires : tie.Need-all-below-requires
+all-below-requires c κs = search needs
+
+slice-aggregate-below-2 : tie.Need-slice-aggregate-below-2
+slice-aggregate-below-2 c = search needs
+
+below-requires-2 : tie.Need-below-requires-2
+below-requires-2 c κs = search needs
+
+slice-aggregate-all-below-2 : tie.Need-slice-aggregate-all-below-2
+slice-aggregate-all-below-2 c = search needs
+
+all-below-requires-2 : tie.Need-all-below-requires-2
+all-below-requires-2 c κs = search needs
+
+returns : tie.Need-returns
+returns c = search needs
+
+pub no-question-spec : {M : Type 1} → statement M
+no-question-spec =
+    tie.close
+    (tie.spec
+    slice-aggregate-below
+    below-requires
+    slice-aggregate-all-below
+    all-below-requires
+    slice-aggregate-below-2
+    below-requires-2
+    slice-aggregate-all-below-2
+    all-below-requires-2
+    returns)
