@@ -11,7 +11,7 @@ use lib.ListN.{length, getD, drop, drop-of-length-le}
 use lib.Seq.{drop-cons}
 use Rattle.session.specs.Records.{risesTo}
 
-and-assoc : (a b c : Bool) → (a && b && c) ≡ (a && (b && c))
+pub and-assoc : (a b c : Bool) → (a && b && c) ≡ (a && (b && c))
 and-assoc true b c = refl
 and-assoc false b c = refl
 
