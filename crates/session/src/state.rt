@@ -31,8 +31,11 @@ pub struct Session {
 // The limits of document 01, and a fresh session.
 impl Session {
     pub const NODE_LIMIT: usize = limits::NODE_LIMIT;
+
     pub const STATE_LIMIT: usize = limits::STATE_LIMIT;
+
     pub const LABEL_LIMIT: usize = limits::LABEL_LIMIT;
+
     pub const CHANGE_LIMIT: usize = limits::CHANGE_LIMIT;
 
     // A session with nothing loaded.

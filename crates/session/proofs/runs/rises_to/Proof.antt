@@ -49,9 +49,13 @@ loop-again : tie.Need-loop-again Inv-loop μ-loop
 loop-again c =
     let l = c .before .before .before .loop in
     let a = c .before .before .before .before .before .args in
-    let e : l .i + 1 - 1 ≡ l .i = omega arith in
-    (omega arith, (omega arith,
-    rw e (rises-turn (a .last) (a .xs .now) (l .i) (l .i - 1) (omega arith) (l .ok) (c .before .before .loop-test .taken) ∙ l .inv .1 .1)))
+    let e : l .i + 1 - 1 ≡ l .i = omega arith in (
+      omega arith,
+      (
+        omega arith,
+        rw e (rises-turn (a .last) (a .xs .now) (l .i) (l .i - 1) (omega arith) (l .ok) (c .before .before .loop-test .taken) ∙ l .inv .1 .1),
+      ),
+    )
 
 sub-result : tie.Need-sub-result Inv-loop μ-loop
 sub-result c = search needs
