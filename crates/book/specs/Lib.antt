@@ -4,3 +4,5 @@ pub mod Refusals
 pub mod Book
 pub mod Demand3
 pub mod Model
+pub mod Alone
+pub mod Judge

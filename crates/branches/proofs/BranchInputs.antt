@@ -20,7 +20,8 @@ use Rattle.formats.specs.Plan.{nodeCount, labelsIn, kindsIn, planTree}
 use Rattle.formats.specs.Rules.{stateCount, labelCount, branchSteps, branchMarks, wordAutomaton, branchAutomaton}
 use Rattle.formats.specs.Checks.{firstNo, branchBuildChecks, linkLength, stateLength}
 use Rattle.formats.specs.Built.{builtLinks, builtSteps}
-use Rattle.formats.proofs.PlanLaws.{PlanPasses, length-labelsIn, kinds-planTree, labels-planTree, size-planTree, labels-part, kinds-part}
+use Rattle.formats.proofs.PlanLaws.{PlanPasses, length-labelsIn, kinds-planTree, labels-planTree, size-planTree}
+use Rattle.formats.proofs.PlanLaws.{labels-part, kinds-part}
 use Rattle.formats.proofs.BranchLaws.{BranchPasses, length-branchSteps, step-below, steps-part}
 use Rattle.formats.proofs.InputLaws.{branch-build-passes, label-below}
 use Rattle.links.proofs.CellLaws.{length-linkTable}
@@ -32,7 +33,8 @@ pub length-branchTable : (B : WordAutomaton) (t : Tree) → length (branchTable 
 unfolding branchTable
 length-branchTable B t = length-rows (size t) (B .states + 1) (branchRow B t) (λ v h. length-branchRow B t v)
 
-pub length-builtSteps : (p r : List ℕ) → PlanPasses p → length (builtSteps p r) ≡ stateLength (nodeCount p) (stateCount r)
+pub length-builtSteps : (p r : List ℕ) → PlanPasses p
+    → length (builtSteps p r) ≡ stateLength (nodeCount p) (stateCount r)
 length-builtSteps p r h =
     length-branchTable (branchAutomaton r) (planTree p) ∙ ap (λ (n : ℕ). n * (stateCount r + 1)) (size-planTree p h)
 
@@ -56,7 +58,8 @@ module _ (p r : List ℕ) (l m : ℕ) (ok : firstNo (branchBuildChecks p r l m) 
     branch-exact = rw (b, c) (accepted .1 .exact);
   }
 
-  runs-filled : FillArgs (labelsIn p) (kindsIn p) (branchSteps r) (stateCount r) (labelCount r) (length (labelsIn p)) l m
+  runs-filled : FillArgs (labelsIn p) (kindsIn p) (branchSteps r) (stateCount r) (labelCount r)
+      (length (labelsIn p)) l m
   runs-filled =
       let A : Accepted p r l m = accepted in
       let z : length (labelsIn p) ≡ nodeCount p = length-labelsIn p (A .0) in
@@ -74,11 +77,13 @@ module _ (p r : List ℕ) (l m : ℕ) (ok : firstNo (branchBuildChecks p r l m) 
         labels-below = label-below p r (A .1 .labels-least) (A .2);
       }
 
-filled-same : {st st′ : List ℕ} {s s′ k k′ : ℕ} (mk : List ℕ) (t : Tree) (nums bytes nums′ bytes′ : List ℕ) → st ≡ st′ → s ≡ s′
+filled-same : {st st′ : List ℕ} {s s′ k k′ : ℕ} (mk : List ℕ) (t : Tree) (nums bytes nums′ bytes′ : List ℕ) → st ≡ st′
+    → s ≡ s′
     → k ≡ k′ → TablesFilled st s k mk t nums bytes nums′ bytes′ → TablesFilled st′ s′ k′ mk t nums bytes nums′ bytes′
 filled-same mk t nums bytes nums′ bytes′ a b c F = rw (← a, ← b, ← c) F
 
-told-same : {st st′ : List ℕ} {s s′ k k′ : ℕ} (mk : List ℕ) (t : Tree) (nums b : List ℕ) (x : Bool) → st ≡ st′ → s ≡ s′ → k ≡ k′
+told-same : {st st′ : List ℕ} {s s′ k k′ : ℕ} (mk : List ℕ) (t : Tree) (nums b : List ℕ) (x : Bool) → st ≡ st′
+    → s ≡ s′ → k ≡ k′
     → x ≡ sameTables (linkTable t) (branchTable (wordAutomaton s k st mk) t) nums b
     → x ≡ sameTables (linkTable t) (branchTable (wordAutomaton s′ k′ st′ mk) t) nums b
 told-same mk t nums b x a d c F = rw (← a, ← d, ← c) F
@@ -109,7 +114,8 @@ module _ (p r : List ℕ) (n s k l m : ℕ) (args : PartArgs p r n s k l m) wher
       (F (branchMarks r) t (kinds-planTree p P ∙ sym kinds-is) (labels-planTree p P ∙ sym labels-is)) in
       record {
         links = G .links ∙ ap (λ (i : ℕ). builtLinks p ++ drop i nums) (sym (length-linkTable t));
-        states = G .states ∙ ap (λ (i : ℕ). builtSteps p r ++ drop i bytes) (sym (length-branchTable (branchAutomaton r) t));
+        states = G .states ∙ ap (λ (i : ℕ). builtSteps p r ++ drop i bytes)
+            (sym (length-branchTable (branchAutomaton r) t));
       }
 
   pub parts-told : (nums b : List ℕ) (x : Bool)

@@ -19,3 +19,4 @@ pub mod FillLaws
 pub mod BranchInputs
 pub mod ToldTurns
 pub mod MatchLaws
+pub mod BranchTheorems

@@ -34,7 +34,8 @@ use Rattle.branches.proofs.StepTurns.{lent-label, lent-parent, lent-bel
 -- ---- a node's map by its test
 
 module _ (ls nums st : List ℕ) (s k : ℕ) (b : List ℕ) (v q : ℕ) where
-  pub nodeMap-near : jumpCell nums v ≡ parentCell nums v → nodeMap ls nums st s k b v q ≡ getD st (getD ls v 0 + q * k) 0
+  pub nodeMap-near : jumpCell nums v ≡ parentCell nums v
+      → nodeMap ls nums st s k b v q ≡ getD st (getD ls v 0 + q * k) 0
   unfolding nodeMap
   nodeMap-near e = rw (eq-eqb (jumpCell nums v) (parentCell nums v) e)
 
@@ -54,7 +55,8 @@ module _ (B : WordAutomaton) (t : Tree) (ls nums st : List ℕ) (s k n : ℕ) (L
     (below : (j : ℕ) → getD st j 0 < s) where
   pub map-below : (v q : ℕ) → q < s → branchMap B t v q < s
   map-below v q h =
-      omega (arith, L .states, branchMap-below B t (lent-below B t ls nums st s k n L below) v q (omega (arith, L .states)))
+      let l : q < B .states = omega (arith, L .states) in
+      omega (arith, L .states, branchMap-below B t (lent-below B t ls nums st s k n L below) v q l)
 
   module _ (v : ℕ) (h : v + 1 < n) where
     lent-inside : v + 1 < size t
@@ -73,7 +75,8 @@ module _ (B : WordAutomaton) (t : Tree) (ls nums st : List ℕ) (s k n : ℕ) (L
     far-is = ap (jumpCell nums) parent-is ∙ L .links .jumps (parent t v) (up t v lent-inside .below)
 
     pub far-above : v < jumpCell nums (parentCell nums v)
-    far-above = rw far-is (omega (arith, up t v lent-inside .above, jump-above t (parent t v) (up t v lent-inside .below)))
+    far-above = rw far-is
+        (omega (arith, up t v lent-inside .above, jump-above t (parent t v) (up t v lent-inside .below)))
 
     pub far-in : jumpCell nums (parentCell nums v) < n
     far-in = rw far-is (omega (arith, L .count, jump-in t (parent t v) (up t v lent-inside .below)))
@@ -90,7 +93,8 @@ module _ (B : WordAutomaton) (t : Tree) (ls nums st : List ℕ) (s k n : ℕ) (L
 
       pub parent-map : (q : ℕ) → q < s → mapCell s b (parentCell nums v) q ≡ branchMap B t (parent t v) q
       parent-map q l =
-          M (parentCell nums v) q (omega (arith, parent-above)) parent-in l ∙ ap (λ (u : ℕ). branchMap B t u q) parent-is
+          M (parentCell nums v) q (omega (arith, parent-above)) parent-in l
+          ∙ ap (λ (u : ℕ). branchMap B t u q) parent-is
 
       pub nodeMap-is : (q : ℕ) → q < s → nodeMap ls nums st s k b v q ≡ branchMap B t v q
       nodeMap-is q l = elim (ℕ-discrete (jumpCell nums v) (parentCell nums v)) [
@@ -99,10 +103,12 @@ module _ (B : WordAutomaton) (t : Tree) (ls nums st : List ℕ) (s k n : ℕ) (L
             ∙ sym (L .step q (getD ls v 0)) ∙ ap (B .step q) (sym (lent-label B t ls nums st s k n L v))
             ∙ sym (branchMap-near B t v q lent-inside (sym here-is ∙ e ∙ parent-is)))
         | no e ↦ (let x : ℕ = branchMap B t (jump t (parent t v)) q in
-            let y : mapCell s b (parentCell nums v) (mapCell s b (jumpCell nums (parentCell nums v)) q) ≡ branchMap B t (parent t v) x =
+            let y : mapCell s b (parentCell nums v)
+            (mapCell s b (jumpCell nums (parentCell nums v)) q) ≡ branchMap B t (parent t v) x =
             ap (mapCell s b (parentCell nums v)) (far-map q l) ∙ parent-map x (map-below (jump t (parent t v)) q l) in
             nodeMap-far ls nums st s k b v q e
-            ∙ sym (L .step (mapCell s b (parentCell nums v) (mapCell s b (jumpCell nums (parentCell nums v)) q)) (getD ls v 0))
+            ∙ sym (L .step (mapCell s b (parentCell nums v) (mapCell s b (jumpCell nums (parentCell nums v)) q))
+            (getD ls v 0))
             ∙ ap₂ (B .step) y (sym (lent-label B t ls nums st s k n L v))
             ∙ sym (branchMap-far B t v q lent-inside (λ z. e (here-is ∙ z ∙ sym parent-is))))
       ]
@@ -115,7 +121,8 @@ row-in s n v m h room = omega (arith, stride (s + 1) v n h)
 
 module _ (ls nums st : List ℕ) (s k n m : ℕ) (A : BranchArgs ls nums st s k n m) where
   -- what a node's turn reads is inside, by any maps above it that are the automaton's
-  pub node-args : (v : ℕ) (b : List ℕ) → MapsAre (A .automaton) (A .tree) s n (v + 1) b → v + 1 < n → stateLength n s ≤ length b
+  pub node-args : (v : ℕ) (b : List ℕ) → MapsAre (A .automaton) (A .tree) s n (v + 1) b → v + 1 < n
+      → stateLength n s ≤ length b
       → NodeArgs ls nums st s k b v
   node-args v b M h room =
       let B : WordAutomaton = A .automaton in

@@ -1,6 +1,8 @@
--- The comparisons of lent tables with a branch table's build, one after the other: the links, the state bytes, the maps.
+-- The comparisons of lent tables with a branch table's build, one after the other: the links, the state bytes, the
+-- maps.
 --     told-cells      where the links say yes, they are the tree's
---     links-fail, steps-fail, maps-tell   the test of both tables, where the links or the state bytes say no, and where the maps decide
+--     links-fail, steps-fail, maps-tell   the test of both tables, where the links or the state bytes say no, and
+--         where the maps decide
 -- Assumes nothing.
 use Prim.Native.Nat.{ℕ, _+_, _*_, _≤_}
 use mathlib.Core.Path.{_≡_, refl, sym, ap, ap₂, _∙_}
@@ -30,7 +32,8 @@ use Rattle.branches.proofs.FillLaws.{AllCells, kinds-size, lent}
 abbrev pub LinksTold : List ℕ → List ℕ → Bool → Type 0
 LinksTold ks nums r = (t : Tree) → kindsOf t ≡ ks → r ≡ sameList (take (linkLength (length ks)) nums) (linkTable t)
 
-module _ (ls ks st : List ℕ) (s k l m : ℕ) (A : FillArgs ls ks st s k (length ls) l m) (nums b : List ℕ) (room : m ≤ length b) where
+module _ (ls ks st : List ℕ) (s k l m : ℕ) (A : FillArgs ls ks st s k (length ls) l m) (nums b : List ℕ)
+    (room : m ≤ length b) where
   pub told-cells : LinksTold ks nums true → AllCells ks nums
   told-cells told t e =
       link-cells t (length ks) nums (kinds-size ls ks st s k l m A t e)
@@ -53,7 +56,8 @@ module _ (ls ks st : List ℕ) (s k l m : ℕ) (A : FillArgs ls ks st s k (lengt
     unfolding branchTable
     states-are =
         rw (length-branchTable (wordAutomaton s k st mk) t, size-is)
-        (sym (table-test s (length ls) (branchState (wordAutomaton s k st mk) t) (branchMap (wordAutomaton s k st mk) t) b
+        (sym (table-test s (length ls) (branchState (wordAutomaton s k st mk) t)
+        (branchMap (wordAutomaton s k st mk) t) b
         (omega (arith, A .room))))
 
     -- the test of both tables, by links, states and maps
@@ -67,9 +71,11 @@ module _ (ls ks st : List ℕ) (s k l m : ℕ) (A : FillArgs ls ks st s k (lengt
   pub links-fail : LinksTold ks nums false → TablesTold ls ks st s k nums b false
   links-fail L mk t e d = whole mk t e d false _ _ L refl refl
 
-  pub steps-fail : LinksTold ks nums true → StepsTold ls nums st s k (length ls) b false → TablesTold ls ks st s k nums b false
+  pub steps-fail : LinksTold ks nums true → StepsTold ls nums st s k (length ls) b false
+      → TablesTold ls ks st s k nums b false
   steps-fail L S mk t e d =
-      whole mk t e d true false _ L (S (wordAutomaton s k st mk) t (lent ls ks st s k l m A nums (told-cells L) mk t e d)) refl
+      whole mk t e d true false _ L
+      (S (wordAutomaton s k st mk) t (lent ls ks st s k l m A nums (told-cells L) mk t e d)) refl
 
   pub maps-tell : (r : Bool) → LinksTold ks nums true → StepsTold ls nums st s k (length ls) b true
       → MapsTold ls nums st s k (length ls) b r → TablesTold ls ks st s k nums b r

@@ -23,7 +23,8 @@ module _ (s v p j k a i : ℕ) (st b₀ b : List ℕ) (r : RowTo s (stepCell s b
   near-is : mapCell s b p (mapCell s b j i) ≡ mapCell s b₀ p (mapCell s b₀ j i)
   near-is =
       ap (mapCell s b p) far-is
-      ∙ row-other s (stepCell s b₀ p j st k a) v i b₀ b r p (mapCell s b₀ j i) (args .near-other) (omega arith) (args .far-below i h)
+      ∙ row-other s (stepCell s b₀ p j st k a) v i b₀ b r p (mapCell s b₀ j i) (args .near-other) (omega arith)
+      (args .far-below i h)
 
   pub step-inside : mapCell s b p (mapCell s b j i) * k + a < length st
   step-inside = rw near-is (args .inside (mapCell s b₀ j i) (args .far-below i h))

@@ -1,7 +1,9 @@
 -- The turns of the loop that writes the state bytes of a branch table, from the root down.
 --     lent-parent, lent-root, lent-label   the cells and labels that the loops read, of a tree so lent
---     states-start, states-turn            no state byte written, and one more, for any states f; states-kept: it was there already
---     step-fits, step-is, step-turn        a node's turn: its reads are inside their lists, and its state is the automaton's
+--     states-start, states-turn            no state byte written, and one more, for any states f; states-kept: it was
+--         there already
+--     step-fits, step-is, step-turn        a node's turn: its reads are inside their lists, and its state is the
+--         automaton's
 --     root-inside, root-is, root-turn      the root's turn
 -- Assumes nothing.
 use Prim.Native.Nat.{ℕ, _+_, _*_, _≤_, _<_}
@@ -90,12 +92,15 @@ module _ (ls nums st : List ℕ) (s k n m : ℕ) (A : BranchArgs ls nums st s k 
 
   pub args-parent : (v : ℕ) → v + 1 < n → (v < parentCell nums v) × (parentCell nums v < n)
   args-parent v h =
-      let L : BranchLent (A .automaton) (A .tree) ls nums st s k n = A .lent in
-      rw (lent-parent (A .automaton) (A .tree) ls nums st s k n L v (omega arith))
-      (up (A .tree) v (omega (arith, L .count)) .above, omega (arith, L .count, up (A .tree) v (omega (arith, L .count)) .below))
+      let t : Tree = A .tree in
+      let L : BranchLent (A .automaton) t ls nums st s k n = A .lent in
+      let g : v + 1 < size t = omega (arith, L .count) in
+      rw (lent-parent (A .automaton) t ls nums st s k n L v (omega arith))
+      (up t v g .above, omega (arith, L .count, up t v g .below))
 
   -- what a node's turn reads and writes is inside
-  pub step-fits : (v : ℕ) (b₀ b : List ℕ) → Stepped ls nums st s k n (v + 1) b₀ b → v + 1 < n → stateLength n s ≤ length b
+  pub step-fits : (v : ℕ) (b₀ b : List ℕ) → Stepped ls nums st s k n (v + 1) b₀ b → v + 1 < n
+      → stateLength n s ≤ length b
       → StepFits ls nums st s k v b
   step-fits v b₀ b S h room =
       let B : WordAutomaton = A .automaton in
@@ -113,9 +118,9 @@ module _ (ls nums st : List ℕ) (s k n m : ℕ) (A : BranchArgs ls nums st s k 
         here = state-in s n v (length b) (omega arith) room;
       }
 
-  pub root-inside : (v : ℕ) → getD ls v 0 < length st
-  root-inside v =
-      omega (arith, step-at s k (length st) 0 (getD ls v 0) (omega (arith, A .steps-below 0)) (A .labels-below v) (A .steps-room))
+  pub root-inside : (v : ℕ) → 0 * k + getD ls v 0 < length st
+  root-inside v = step-at s k (length st) 0 (getD ls v 0) (omega (arith, A .steps-below 0)) (A .labels-below v)
+      (A .steps-room)
 
   -- the state that a node's turn reads, and the root's
   pub step-is : (v : ℕ) (b₀ b : List ℕ) → Stepped ls nums st s k n (v + 1) b₀ b → v + 1 < n
@@ -130,10 +135,9 @@ module _ (ls nums st : List ℕ) (s k n m : ℕ) (A : BranchArgs ls nums st s k 
       ∙ rw (e, ← lent-label B t ls nums st s k n L v) (sym (branchState-down B t v (omega (arith, L .count))))
 
   pub root-is : (v : ℕ) → v + 1 ≡ n → (B : WordAutomaton) (t : Tree) → BranchLent B t ls nums st s k n
-      → getD st (getD ls v 0) 0 ≡ branchState B t v
+      → getD st (0 * k + getD ls v 0) 0 ≡ branchState B t v
   root-is v e B t L =
-      let z : 0 * k + getD ls v 0 ≡ getD ls v 0 = omega arith in
-      ap (λ (j : ℕ). getD st j 0) (sym z) ∙ sym (L .step 0 (getD ls v 0))
+      sym (L .step 0 (getD ls v 0))
       ∙ ap (B .step 0) (sym (lent-label B t ls nums st s k n L v))
       ∙ sym (branchState-root B t v (e ∙ sym (L .count)))
 
@@ -144,6 +148,7 @@ module _ (ls nums st : List ℕ) (s k n m : ℕ) (A : BranchArgs ls nums st s k 
       states-turn s (branchState B t) n v b₀ b _ (S B t L) (omega arith) room (step-is v b₀ b S h B t L)
 
   pub root-turn : (v : ℕ) (b : List ℕ) → v + 1 ≡ n → v * (s + 1) < length b
-      → Stepped ls nums st s k n v b (set b (v * (s + 1)) (getD st (getD ls v 0) 0))
+      → Stepped ls nums st s k n v b (set b (v * (s + 1)) (getD st (0 * k + getD ls v 0) 0))
   root-turn v b e room B t L =
-      states-turn s (branchState B t) n v b b _ (rw e (states-start s (branchState B t) n b)) (omega arith) room (root-is v e B t L)
+      states-turn s (branchState B t) n v b b _ (rw e (states-start s (branchState B t) n b)) (omega arith) room
+      (root-is v e B t L)

@@ -29,19 +29,22 @@ module _ (ls nums st : List ℕ) (s k n m : ℕ) (A : BranchArgs ls nums st s k 
   -- ---- state bytes
 
   module _ (v : ℕ) (e : v + 1 ≡ n) where
-    pub root-state-same : stateCell s b v ≡ getD st (getD ls v 0) 0 → Stepped ls nums st s k n v b b
+    pub root-state-same : stateCell s b v ≡ getD st (0 * k + getD ls v 0) 0 → Stepped ls nums st s k n v b b
     root-state-same z B t L =
         states-kept s (branchState B t) n v b b (rw e (states-start s (branchState B t) n b))
         (z ∙ root-is ls nums st s k n m A v e B t L)
 
-    pub root-state-differs : (stateCell s b v ≡ getD st (getD ls v 0) 0 → ⊥) → StepsTold ls nums st s k n b false
+    pub root-state-differs : (stateCell s b v ≡ getD st (0 * k + getD ls v 0) 0 → ⊥)
+        → StepsTold ls nums st s k n b false
     root-state-differs z B t L =
-        sym (states-same-no s n (branchState B t) b v (omega arith) (λ y. z (y ∙ sym (root-is ls nums st s k n m A v e B t L))))
+        sym (states-same-no s n (branchState B t) b v (omega arith)
+        (λ y. z (y ∙ sym (root-is ls nums st s k n m A v e B t L))))
 
   module _ (v : ℕ) (h : v + 1 < n) (S : Stepped ls nums st s k n (v + 1) b b) where
     pub state-same : stateCell s b v ≡ getD st (stateCell s b (parentCell nums v) * k + getD ls v 0) 0
         → Stepped ls nums st s k n v b b
-    state-same z B t L = states-kept s (branchState B t) n v b b (S B t L) (z ∙ step-is ls nums st s k n m A v b b S h B t L)
+    state-same z B t L = states-kept s (branchState B t) n v b b (S B t L)
+        (z ∙ step-is ls nums st s k n m A v b b S h B t L)
 
     pub state-differs : (stateCell s b v ≡ getD st (stateCell s b (parentCell nums v) * k + getD ls v 0) 0 → ⊥)
         → StepsTold ls nums st s k n b false

@@ -1,11 +1,15 @@
 -- What the writers of a plan's tables for a branch table need, once all checks have passed, and what they leave.
 --
--- FillArgs ls ks st s k n l m == labels and kinds of a tree of n nodes, steps of s states and k labels, within the limits; room
+-- FillArgs ls ks st s k n l m == labels and kinds of a tree of n nodes, steps of s states and k labels, within the
+--   limits; room
 --   for the tables in buffers of l numbers and m bytes
--- BranchFilled .. == the two tables and the excess as it was, for the tree of these kinds and labels, whatever the marks are
--- PartArgs p r n s k l m == plan and branch table pass 2 to 11 for buffers of l numbers and m bytes; n, s and k are their N, S and
+-- BranchFilled .. == the two tables and the excess as it was, for the tree of these kinds and labels, whatever the
+--   marks are
+-- PartArgs p r n s k l m == plan and branch table pass 2 to 11 for buffers of l numbers and m bytes; n, s and k are
+--   their N, S and
 --   K, with the lengths that follow, for the parts handed on
--- BranchWritten p r nums bytes nums′ bytes′ == both buffers begin with the tables built from p and r, and their excess is as it was
+-- BranchWritten p r nums bytes nums′ bytes′ == both buffers begin with the tables built from p and r, and their
+--   excess is as it was
 --
 -- Assumes nothing.
 use Prim.Native.Nat.{ℕ, _*_, _≤_, _<_}
@@ -32,7 +36,8 @@ pub record FillArgs (ls ks st : List ℕ) (s k n l m : ℕ) : Type 0 where
   pub steps-below : (j : ℕ) → getD st j 0 < s
   pub labels-below : (j : ℕ) → getD ls j 0 < k
 
-pub record TablesFilled (st : List ℕ) (s k : ℕ) (mk : List ℕ) (t : Tree) (nums bytes nums′ bytes′ : List ℕ) : Type 0 where
+pub record TablesFilled (st : List ℕ) (s k : ℕ) (mk : List ℕ) (t : Tree)
+    (nums bytes nums′ bytes′ : List ℕ) : Type 0 where
   pub links : nums′ ≡ linkTable t ++ drop (linkLength (size t)) nums
   pub states : bytes′ ≡ branchTable (wordAutomaton s k st mk) t ++ drop (stateLength (size t) s) bytes
 

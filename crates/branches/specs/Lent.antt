@@ -1,9 +1,12 @@
 -- What the loops over a branch table's bytes are lent, and what they leave.
 --
--- BranchLent B t ls nums st s k n == the tree t of n nodes has the labels ls and the links nums; the automaton B of s states
+-- BranchLent B t ls nums st s k n == the tree t of n nodes has the labels ls and the links nums; the automaton B of s
+--   states
 --   and k labels has the steps st
--- BranchArgs .. m == some tree and automaton are so lent, within the limits, with labels below k, states below s and m bytes of room
--- StatesFrom s f n i before after == the state bytes of the nodes i, .. n - 1 are f's, and no byte but the n state bytes is changed
+-- BranchArgs .. m == some tree and automaton are so lent, within the limits, with labels below k, states below s and
+--   m bytes of room
+-- StatesFrom s f n i before after == the state bytes of the nodes i, .. n - 1 are f's, and no byte but the n state
+--   bytes is changed
 -- Stepped .. == those of the automaton on the words from the root, for every tree and automaton so lent
 --
 -- Assumes nothing.

@@ -1,7 +1,8 @@
 -- One node's map in a branch table: how it follows from the maps above it, and what reading it needs.
 --
 -- stepCell s b p j st k a q == the state after the maps of j and then p, and then label a
--- nodeMap .. v q == node v's map at q: a step by its own label where its jump is its parent; else the map of the parent's jump, the
+-- nodeMap .. v q == node v's map at q: a step by its own label where its jump is its parent; else the map of the
+--   parent's jump, the
 --   parent's map, and then that step, since a word is read from above
 -- StepRowArgs, NodeArgs == what writing or comparing one map needs
 -- Mapped .. == the maps of the nodes i, .. n - 1 are the automaton's, for every tree and automaton so lent

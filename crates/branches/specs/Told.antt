@@ -2,7 +2,8 @@
 --
 -- StepsTold .. r == r tells whether the state bytes are the automaton's, for every tree and automaton so lent
 -- MapsTold .. r == the same of the maps
--- TablesTold .. r == r tells whether both buffers begin with the tables of the tree of these labels and kinds, whatever the marks are
+-- TablesTold .. r == r tells whether both buffers begin with the tables of the tree of these labels and kinds,
+--   whatever the marks are
 --
 -- Assumes nothing.
 use Prim.Native.Nat.{ℕ}

@@ -21,8 +21,10 @@ fn fill_branch(
     nums: &mut [u16],
     bytes: &mut [u8],
 )
-    requires { ⌜ FillArgs (now labels) (now kinds) (now steps) s k (length (now labels)) (length (now nums)) (length (now bytes)) ⌝ }
-    ensures { λ _. ⌜ BranchFilled (now (labels .entry)) (now (kinds .entry)) (now (steps .entry)) s k (now (nums .entry)) (now (bytes .entry)) (now (nums .exit)) (now (bytes .exit)) ⌝ }
+    requires { ⌜ FillArgs (now labels) (now kinds) (now steps) s k (length (now labels)) (length (now nums))
+        (length (now bytes)) ⌝ }
+    ensures { λ _. ⌜ BranchFilled (now (labels .entry)) (now (kinds .entry)) (now (steps .entry)) s k
+        (now (nums .entry)) (now (bytes .entry)) (now (nums .exit)) (now (bytes .exit)) ⌝ }
 {
     let n = labels.len();
     build_links(kinds, nums);
@@ -30,7 +32,8 @@ fn fill_branch(
     fill_maps(labels, nums, steps, s, k, n, bytes);
 }
 
-// The same from a plan of n nodes and a branch table of s states and k labels: labels, kinds and steps are handed on as parts.
+// The same from a plan of n nodes and a branch table of s states and k labels: labels, kinds and steps are handed on
+// as parts.
 fn write_branch(
     plan: &[u8],
     branch: &[u8],
@@ -41,7 +44,8 @@ fn write_branch(
     bytes: &mut [u8],
 )
     requires { ⌜ PartArgs (now plan) (now branch) n s k (length (now nums)) (length (now bytes)) ⌝ }
-    ensures { λ _. ⌜ BranchWritten (now (plan .entry)) (now (branch .entry)) (now (nums .entry)) (now (bytes .entry)) (now (nums .exit)) (now (bytes .exit)) ⌝ }
+    ensures { λ _. ⌜ BranchWritten (now (plan .entry)) (now (branch .entry)) (now (nums .entry))
+        (now (bytes .entry)) (now (nums .exit)) (now (bytes .exit)) ⌝ }
 {
     fill_branch(
         &plan[12..12 + n],
@@ -56,7 +60,11 @@ fn write_branch(
 
 // Writes the tables of a plan and a branch table, or tells the first check of 2 to 11 that fails and alters nothing.
 pub fn build_branch(plan: &[u8], branch: &[u8], nums: &mut [u16], bytes: &mut [u8]) -> Building
-    ensures { λ r. ⌜ BuildDone (firstNo (branchBuildChecks (now (plan .entry)) (now (branch .entry)) (length (now (nums .entry))) (length (now (bytes .entry))))) (builtLinks (now (plan .entry))) (builtSteps (now (plan .entry)) (now (branch .entry))) (now (nums .entry)) (now (bytes .entry)) r (now (nums .exit)) (now (bytes .exit)) ⌝ }
+    ensures { λ r. ⌜ BuildDone
+        (firstNo (branchBuildChecks (now (plan .entry)) (now (branch .entry)) (length (now (nums .entry)))
+        (length (now (bytes .entry)))))
+        (builtLinks (now (plan .entry))) (builtSteps (now (plan .entry)) (now (branch .entry)))
+        (now (nums .entry)) (now (bytes .entry)) r (now (nums .exit)) (now (bytes .exit)) ⌝ }
 {
     let no = check_branch_build(plan, branch, nums.len(), bytes.len());
     if no != 0 {

@@ -13,8 +13,8 @@ ghost use Rattle.tables.specs.Answers.{sameTables, CheckDone};
 ghost use Rattle.branches.specs.Filled.{FillArgs, PartArgs};
 ghost use Rattle.branches.specs.Told.{TablesTold};
 
-// Whether both buffers begin with the tables of the tree with these labels and kinds: the links first, since the rest is read by
-// them.
+// Whether both buffers begin with the tables of the tree with these labels and kinds: the links first, since the rest
+// is read by them.
 fn tables_match(
     labels: &[u8],
     kinds: &[u8],
@@ -24,9 +24,10 @@ fn tables_match(
     nums: &[u16],
     bytes: &[u8],
 ) -> bool
-    requires { ⌜ FillArgs (now labels) (now kinds) (now steps) s k (length (now labels)) (length (now nums)) (length (now bytes)) ⌝ }
-    ensures { λ r. ⌜ TablesTold (now (labels .entry)) (now (kinds .entry)) (now (steps .entry)) s k (now (nums .entry))
-        (now (bytes .entry)) r ⌝ }
+    requires { ⌜ FillArgs (now labels) (now kinds) (now steps) s k (length (now labels)) (length (now nums))
+        (length (now bytes)) ⌝ }
+    ensures { λ r. ⌜ TablesTold (now (labels .entry)) (now (kinds .entry)) (now (steps .entry)) s k
+        (now (nums .entry)) (now (bytes .entry)) r ⌝ }
 {
     if !check_links(kinds, nums) {
         return false;
@@ -38,7 +39,8 @@ fn tables_match(
     check_maps(labels, nums, steps, s, k, n, bytes)
 }
 
-// The same from a plan of n nodes and a branch table of s states and k labels: labels, kinds and steps are handed on as parts.
+// The same from a plan of n nodes and a branch table of s states and k labels: labels, kinds and steps are handed on
+// as parts.
 fn branch_matches(
     plan: &[u8],
     branch: &[u8],
@@ -49,8 +51,8 @@ fn branch_matches(
     bytes: &[u8],
 ) -> bool
     requires { ⌜ PartArgs (now plan) (now branch) n s k (length (now nums)) (length (now bytes)) ⌝ }
-    ensures { λ r. ⌜ r ≡ sameTables (builtLinks (now (plan .entry))) (builtSteps (now (plan .entry)) (now (branch .entry)))
-        (now (nums .entry)) (now (bytes .entry)) ⌝ }
+    ensures { λ r. ⌜ r ≡ sameTables (builtLinks (now (plan .entry)))
+        (builtSteps (now (plan .entry)) (now (branch .entry))) (now (nums .entry)) (now (bytes .entry)) ⌝ }
 {
     tables_match(
         &plan[12..12 + n],
@@ -66,8 +68,10 @@ fn branch_matches(
 // Whether the lent tables are what the build writes, or the first check of 2 to 11 that fails.
 pub fn check_branch_tables(plan: &[u8], branch: &[u8], nums: &[u16], bytes: &[u8]) -> Checking
     ensures { λ r. ⌜ CheckDone
-        (firstNo (branchBuildChecks (now (plan .entry)) (now (branch .entry)) (length (now (nums .entry))) (length (now (bytes .entry)))))
-        (builtLinks (now (plan .entry))) (builtSteps (now (plan .entry)) (now (branch .entry))) (now (nums .entry)) (now (bytes .entry)) r ⌝ }
+        (firstNo (branchBuildChecks (now (plan .entry)) (now (branch .entry)) (length (now (nums .entry)))
+        (length (now (bytes .entry)))))
+        (builtLinks (now (plan .entry))) (builtSteps (now (plan .entry)) (now (branch .entry)))
+        (now (nums .entry)) (now (bytes .entry)) r ⌝ }
 {
     let no = check_branch_build(plan, branch, nums.len(), bytes.len());
     if no != 0 {

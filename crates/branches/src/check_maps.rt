@@ -20,7 +20,8 @@ fn step_row_is(
     a: usize,
 ) -> bool
     requires { ⌜ StepRowArgs (now bytes) s v p j (length (now steps)) k a ⌝ }
-    ensures { λ r. ⌜ r ≡ rowIs s (now (bytes .entry)) v (stepCell s (now (bytes .entry)) p j (now (steps .entry)) k a) ⌝ }
+    ensures { λ r. ⌜ r ≡ rowIs s (now (bytes .entry)) v
+        (stepCell s (now (bytes .entry)) p j (now (steps .entry)) k a) ⌝ }
 {
     let at = v * (s + 1);
     let near = p * (s + 1);
@@ -51,7 +52,8 @@ fn node_map_is(
     bytes: &[u8],
 ) -> bool
     requires { ⌜ NodeArgs (now labels) (now nums) (now steps) s k (now bytes) v ⌝ }
-    ensures { λ r. ⌜ r ≡ rowIs s (now (bytes .entry)) v (nodeMap (now (labels .entry)) (now (nums .entry)) (now (steps .entry)) s k (now (bytes .entry)) v) ⌝ }
+    ensures { λ r. ⌜ r ≡ rowIs s (now (bytes .entry)) v
+        (nodeMap (now (labels .entry)) (now (nums .entry)) (now (steps .entry)) s k (now (bytes .entry)) v) ⌝ }
 {
     let a = labels[v] as usize;
     let p = nums[v * 4] as usize;
@@ -63,8 +65,8 @@ fn node_map_is(
     step_row_is(bytes, s, v, p, far, steps, k, a)
 }
 
-// Whether each of the n nodes has the map of the build. Where one has not, those below it are not looked at: they would be read
-// from it.
+// Whether each of the n nodes has the map of the build. Where one has not, those below it are not looked at: they
+// would be read from it.
 pub fn check_maps(
     labels: &[u8],
     nums: &[u16],
@@ -75,7 +77,8 @@ pub fn check_maps(
     bytes: &[u8],
 ) -> bool
     requires { ⌜ BranchArgs (now labels) (now nums) (now steps) s k n (length (now bytes)) ⌝ }
-    ensures { λ r. ⌜ MapsTold (now (labels .entry)) (now (nums .entry)) (now (steps .entry)) s k n (now (bytes .entry)) r ⌝ }
+    ensures { λ r. ⌜ MapsTold (now (labels .entry)) (now (nums .entry)) (now (steps .entry)) s k n
+        (now (bytes .entry)) r ⌝ }
 {
     let root = n - 1;
     if !root_row_is(bytes, s, root) {

@@ -1,11 +1,12 @@
 // The state bytes of a lent table compared with those of a branch table's build, from the root down.
+use crate::steps::START;
 ghost use mathlib.Core.Path.{_≡_};
 ghost use lib.ListN.{length};
 ghost use Rattle.branches.specs.Lent.{BranchArgs};
 ghost use Rattle.branches.specs.Told.{StepsTold};
 
-// Whether each of the n nodes has the state of the build. Where one has not, those below it are not looked at: they would be read
-// from it.
+// Whether each of the n nodes has the state of the build. Where one has not, those below it are not looked at: they
+// would be read from it.
 pub fn check_steps(
     labels: &[u8],
     nums: &[u16],
@@ -16,12 +17,15 @@ pub fn check_steps(
     bytes: &[u8],
 ) -> bool
     requires { ⌜ BranchArgs (now labels) (now nums) (now steps) s k n (length (now bytes)) ⌝ }
-    ensures { λ r. ⌜ StepsTold (now (labels .entry)) (now (nums .entry)) (now (steps .entry)) s k n (now (bytes .entry)) r ⌝ }
+    ensures { λ r. ⌜ StepsTold (now (labels .entry)) (now (nums .entry)) (now (steps .entry)) s k n
+        (now (bytes .entry)) r ⌝ }
 {
     let w = s + 1;
     let root = n - 1;
-    let first = steps[labels[root] as usize];
-    if bytes[root * w] != first {
+    let first = labels[root] as usize;
+    let x = steps[START * k + first];
+    let y = bytes[root * w];
+    if y != x {
         return false;
     }
     let mut v = root;

@@ -19,7 +19,8 @@ fn step_row(
     a: usize,
 )
     requires { ⌜ StepRowArgs (now bytes) s v p j (length (now steps)) k a ⌝ }
-    ensures { λ _. ⌜ Rowed s (stepCell s (now (bytes .entry)) p j (now (steps .entry)) k a) v (now (bytes .entry)) (now (bytes .exit)) ⌝ }
+    ensures { λ _. ⌜ Rowed s (stepCell s (now (bytes .entry)) p j (now (steps .entry)) k a) v (now (bytes .entry))
+        (now (bytes .exit)) ⌝ }
 {
     let at = v * (s + 1);
     let near = p * (s + 1);
@@ -44,7 +45,9 @@ fn node_map(
     bytes: &mut [u8],
 )
     requires { ⌜ NodeArgs (now labels) (now nums) (now steps) s k (now bytes) v ⌝ }
-    ensures { λ _. ⌜ Rowed s (nodeMap (now (labels .entry)) (now (nums .entry)) (now (steps .entry)) s k (now (bytes .entry)) v) v (now (bytes .entry)) (now (bytes .exit)) ⌝ }
+    ensures { λ _. ⌜ Rowed s
+        (nodeMap (now (labels .entry)) (now (nums .entry)) (now (steps .entry)) s k (now (bytes .entry)) v) v
+        (now (bytes .entry)) (now (bytes .exit)) ⌝ }
 {
     let a = labels[v] as usize;
     let p = nums[v * 4] as usize;
@@ -68,7 +71,8 @@ pub fn fill_maps(
     bytes: &mut [u8],
 )
     requires { ⌜ BranchArgs (now labels) (now nums) (now steps) s k n (length (now bytes)) ⌝ }
-    ensures { λ _. ⌜ Mapped (now (labels .entry)) (now (nums .entry)) (now (steps .entry)) s k n 0 (now (bytes .entry)) (now (bytes .exit)) ⌝ }
+    ensures { λ _. ⌜ Mapped (now (labels .entry)) (now (nums .entry)) (now (steps .entry)) s k n 0
+        (now (bytes .entry)) (now (bytes .exit)) ⌝ }
 {
     let root = n - 1;
     same_row(bytes, s, root);

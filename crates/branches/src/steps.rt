@@ -2,6 +2,9 @@
 ghost use lib.ListN.{length};
 ghost use Rattle.branches.specs.Lent.{BranchArgs, Stepped};
 
+// "State 0 is the start."
+pub const START: usize = 0;
+
 // Writes the state of each of the n nodes, the root's first.
 pub fn fill_steps(
     labels: &[u8],
@@ -13,12 +16,13 @@ pub fn fill_steps(
     bytes: &mut [u8],
 )
     requires { ⌜ BranchArgs (now labels) (now nums) (now steps) s k n (length (now bytes)) ⌝ }
-    ensures { λ _. ⌜ Stepped (now (labels .entry)) (now (nums .entry)) (now (steps .entry)) s k n 0 (now (bytes .entry)) (now (bytes .exit)) ⌝ }
+    ensures { λ _. ⌜ Stepped (now (labels .entry)) (now (nums .entry)) (now (steps .entry)) s k n 0
+        (now (bytes .entry)) (now (bytes .exit)) ⌝ }
 {
     let w = s + 1;
     let root = n - 1;
     let first = labels[root] as usize;
-    bytes[root * w] = steps[first];
+    bytes[root * w] = steps[START * k + first];
     let mut v = root;
     while 0 < v {
         v -= 1;

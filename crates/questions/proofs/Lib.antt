@@ -1,6 +1,14 @@
 pub mod InsertLaws
 pub mod SearchLaws
 pub mod MeetWays
+pub mod ShiftLaws
+pub mod PlaceLaws
+pub mod InsertTurns
+pub mod RootsLaws
+pub mod FitLaws
+pub mod GrowLaws
+pub mod ForkTurns
+pub mod FillTurns
 pub mod MeetBuilt
 pub mod ForksBuilt
 pub mod RootsBuilt

@@ -4,22 +4,22 @@
 --     jump-outside, parent-taken, jump-taken   next_unless, by what the code has read: j the jump, p the parent
 --     Searching, searching-turn, ..     the loop of meet: node x has still what is looked for from node v on
 -- Assumes nothing.
-use Prim.Native.Nat.{ℕ, _+_, _-_, _*_, _≤_, _<_}
+use Prim.Native.Nat.{ℕ, _+_, _-_, _≤_, _<_}
 use mathlib.Core.Path.{_≡_, refl, sym, ap, _∙_}
 use mathlib.Core.Bool.{Bool, true, false, cond, _&&_}
 use mathlib.Core.List.{List}
 use mathlib.Core.Option.{Option, none, some}
 use native.Mathlib.Omega.{arith}
-use lib.Dec.{leb, ltb}
-use borrow.Author.Tests.{ltb-true, ltb-false, lt-ltb, le-ltb, le-leb, lt-leb}
+use lib.Dec.{ltb}
+use borrow.Author.Tests.{lt-ltb, le-ltb, le-leb, lt-leb}
 use Rattle.trees.specs.Climb.{Forest, Move, byJump, toParent, target, rising}
 use Rattle.trees.proofs.Choice.{le-or}
 use Rattle.links.specs.Cells.{sizeCell, depthCell, cellForest}
-use Rattle.questions.specs.declared.search.Meeting.{Meeting}
 use Rattle.questions.specs.declared.search.Meeting.the-variants.{At, Outside}
 use Rattle.questions.specs.Search.{isBelow, nextUnless, meetOn}
 use Rattle.questions.specs.SearchTold.{toldMeeting, toldTarget, toldRising}
-use Rattle.questions.proofs.SearchLaws.{unless, Taken, taken, search-here, search-move, search-stuck, search-inside}
+use Rattle.questions.proofs.SearchLaws.{unless, Taken, taken, search-here, search-move, search-stuck}
+use Rattle.questions.proofs.SearchLaws.{search-inside}
 
 -- ---- is_below
 
@@ -69,10 +69,12 @@ module _ (F : Forest) (stop : ℕ → Bool) (v j : ℕ) (ej : j ≡ F .jump v) w
     pub parent-taken : (p : ℕ) → p ≡ F .parent v → stop j ≡ true
         → toldRising F v p ≡ toldTarget F (nextUnless F stop v)
     parent-taken p ep s =
-        ap (toldRising F v) ep ∙ told-rising F v (toParent v) ∙ ap (toldTarget F) (sym (is-move (toParent v) (rw (← ej, s))))
+        ap (toldRising F v) ep ∙ told-rising F v (toParent v)
+        ∙ ap (toldTarget F) (sym (is-move (toParent v) (rw (← ej, s))))
 
     pub jump-taken : stop j ≡ false → toldRising F v j ≡ toldTarget F (nextUnless F stop v)
-    jump-taken s = ap (toldRising F v) ej ∙ told-rising F v (byJump v) ∙ ap (toldTarget F) (sym (is-move (byJump v) (rw (← ej, s))))
+    jump-taken s = ap (toldRising F v) ej ∙ told-rising F v (byJump v)
+        ∙ ap (toldTarget F) (sym (is-move (byJump v) (rw (← ej, s))))
 
 -- ---- meet
 

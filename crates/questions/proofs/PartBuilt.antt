@@ -1,5 +1,4 @@
 -- On numbers as built and bytes below S a part is what the rule of "Parts of a question" gives on those bytes.
---     statesOf              the states of a list of parts
 --     found-built           the root found below a child is the highest member below it
 --     part-built            partOn gives the rule's state and links, and never 18
 -- Assumes nothing.
@@ -23,21 +22,17 @@ use Rattle.trees.proofs.IntervalLaws.{interval-ancestor, above-at}
 use Rattle.links.specs.Cells.{depthCell, sizeCell}
 use Rattle.ready.specs.Ready.{Under, leftChild, rightChild}
 use Rattle.ready.specs.Members.{Rising}
-use Rattle.ready.specs.Parts.{Given, isUnder, anyBelow, lastBelow, highestBelow, moveStates, climbMoves, climbedLinks, innerLinks, partLinks, Part, stateOf, climbedState, innerState, partState}
+use Rattle.ready.specs.Parts.{Given, isUnder, anyBelow, lastBelow, highestBelow, moveStates, climbMoves, climbedLinks, innerLinks, partLinks, Part, nodesOf, statesOf, stateOf, climbedState, innerState, partState}
 use Rattle.ready.proofs.BelowLaws.{none-below, some-below, under-no, true-false, rising-above}
 use Rattle.ready.proofs.ClosedForm.{kind-one}
 use Rattle.ready.proofs.HighestLaws.{Highest, is-false}
-use Rattle.ready.proofs.PartsRun.{nodesOf, Members}
+use Rattle.ready.proofs.PartsRun.{Members}
 use Rattle.ready.proofs.UnderLaws.{under-self, left-in, right-in, left-parent, right-parent}
 use Rattle.questions.specs.Search.{isBelow}
 use Rattle.questions.specs.Climbs.{View, below, runOn, ruleOn, Reached, reached, climbOn}
 use Rattle.questions.specs.Part.{Found, found, lastFound, foundBelow, labelOn, climbFrom, runReached, ownReached, joinOn, innerOn, leafOn, forkOn, partOn}
 use Rattle.questions.proofs.MeetBuilt.{below-is}
 use Rattle.questions.proofs.ClimbBuilt.{Reads, is-below, rule-built, run-built, climb-built}
-
-unfoldable pub statesOf : List Part → List ℕ
-statesOf [] = []
-statesOf (p ∷ ps) = p .state ∷ statesOf ps
 
 -- ---- the root found below a node
 
@@ -90,7 +85,7 @@ module _ (t : Tree) (c : ℕ) where
 
   module _ (nums : List ℕ) (same : (v : ℕ) → isBelow nums c v ≡ isUnder t c v) where
     finds : (ps : List Part) (lo : ℕ) (f : Option Found) → Rising lo (nodesOf ps) → Finding ps f (lastFound nums c (nodesOf ps) (statesOf ps) f)
-    unfolding nodesOf statesOf lastFound anyBelow lastBelow
+    unfolding lastFound anyBelow lastBelow
     finds [] lo f r = inl (refl, refl)
     finds (p ∷ ps) lo f r =
         rw (same (p .node))

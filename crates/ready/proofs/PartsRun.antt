@@ -29,7 +29,7 @@ use Rattle.trees.proofs.RunLaws.{state-leaf, state-inner, state-below}
 use Rattle.trees.proofs.IntervalLaws.{interval-ancestor, above-at}
 use Rattle.ready.specs.Ready.{Under, leftChild, rightChild, Closed, Fork}
 use Rattle.ready.specs.Members.{Rising}
-use Rattle.ready.specs.Parts.{Given, isUnder, anyBelow, highestBelow, moveState, moveStates, movesOf, climbMoves, Part, part, stateOf, climbedState, innerState, partState, partOf, partsFrom, partsOf, partLinks}
+use Rattle.ready.specs.Parts.{Given, isUnder, anyBelow, highestBelow, moveState, moveStates, movesOf, climbMoves, Part, part, nodesOf, stateOf, climbedState, innerState, partState, partOf, partsFrom, partsOf, partLinks}
 use Rattle.ready.proofs.UnderLaws.{left-in, right-in}
 use Rattle.ready.proofs.HighestLaws.{Highest}
 use Rattle.ready.proofs.ClosedForm.{kind-one}
@@ -55,17 +55,12 @@ pub record RunGiven (G : Given) (u : Tree) : Type 0 where
 
 -- ---- lists of parts
 
-unfoldable pub nodesOf : List Part → List ℕ
-nodesOf [] = []
-nodesOf (p ∷ ps) = p .node ∷ nodesOf ps
-
 nodes-more : (ps : List Part) (p : Part) → nodesOf (ps ++ (p ∷ [])) ≡ nodesOf ps ++ (p .node ∷ [])
-unfolding nodesOf
 nodes-more [] p = refl
 nodes-more (q ∷ ps) p = ap (λ (l : List ℕ). q .node ∷ l) (nodes-more ps p)
 
 state-kept : (ps : List Part) (p : Part) (x : ℕ) → List·Memᴰ x (nodesOf ps) → stateOf (ps ++ (p ∷ [])) x ≡ stateOf ps x
-unfolding stateOf nodesOf
+unfolding stateOf
 state-kept [] p x m = absurd (List·Memᴰ·not-nil m)
 state-kept (q ∷ ps) p x m = elim (ℕ-discrete (q .node) x) [
   | yes e ↦ rw (eq-eqb (q .node) x e)
@@ -73,7 +68,7 @@ state-kept (q ∷ ps) p x m = elim (ℕ-discrete (q .node) x) [
 ]
 
 state-new : (ps : List Part) (p : Part) (x : ℕ) → p .node ≡ x → (List·Memᴰ x (nodesOf ps) → ⊥) → stateOf (ps ++ (p ∷ [])) x ≡ p .state
-unfolding stateOf nodesOf
+unfolding stateOf
 state-new [] p x e n = rw (eq-eqb (p .node) x e)
 state-new (q ∷ ps) p x e n =
     rw (ne-eqb (q .node) x (λ z. n (List·Memᴰ·head (sym z)))) (state-new ps p x e (λ m. n (List·Memᴰ·tail m)))
@@ -257,5 +252,5 @@ module _ (G : Given) (u : Tree) (R : RunGiven G u) (S : Sound (G .automaton)) wh
             ∙ right-v)
 
     pub parts-right : (x : ℕ) → List·Memᴰ x ms → stateOf (partsOf G ms) x ≡ state (G .automaton) (sub u x)
-    unfolding partsOf nodesOf
+    unfolding partsOf
     parts-right x m = all-right [] ms [] refl refl (λ y k. absurd (List·Memᴰ·not-nil k)) x m

@@ -10,6 +10,7 @@
 -- Part == a root, its state and the links of its climb; stateOf ps v == the state of the part of root v among ps; 0 where there is none
 -- partState G ms ps v, partOf G ms ps v == the state of the part of root v, and the part, where ms are the roots and ps the parts before
 -- partsOf G ms == all parts, in rising node number
+-- nodesOf ps, statesOf ps == the roots and the states of parts
 -- lastState ps q, allLinks ps == the state of the last part, which is the plan's root (q where there is none); the links of all
 --
 -- Assumes nothing.
@@ -92,6 +93,14 @@ pub record Part : Type 0 where
 
 abbrev pub part : ℕ → ℕ → ℕ → Part
 part v q n = record { node = v; state = q; links = n }
+
+abbrev pub nodesOf : List Part → List ℕ
+nodesOf [] = []
+nodesOf (p ∷ ps) = p .node ∷ nodesOf ps
+
+abbrev pub statesOf : List Part → List ℕ
+statesOf [] = []
+statesOf (p ∷ ps) = p .state ∷ statesOf ps
 
 unfoldable pub stateOf : List Part → ℕ → ℕ
 stateOf [] v = 0

@@ -4,6 +4,7 @@
 --     both-written             what both leave
 --     build-args .. both-written-of  the same of the parts that are handed on
 --     build-refused, build-done  a build's two answers
+--     built-lists              what an accepted build leaves
 --     written-as-built, built-as-built  the buffers afterwards are as built, whatever their excess is
 -- Assumes nothing.
 use Prim.Native.Nat.{ℕ, zero, suc, _+_, _-_, _*_, _≤_}
@@ -203,6 +204,14 @@ unfolding written
 written-zero zero h table entry = refl
 written-zero (suc n) h table entry = absurd (omega arith)
 
+-- what an accepted build leaves, for rule tables and branch tables
+pub built-lists : (n : ℕ) (links states nums bytes : List ℕ) (answer : Building) (nums′ bytes′ : List ℕ)
+    → BuildDone n links states nums bytes answer nums′ bytes′ → numberOf answer ≡ 0
+    → (n ≡ 0) × (nums′ ≡ links ++ drop (length links) nums) × (bytes′ ≡ states ++ drop (length states) bytes)
+built-lists n links states nums bytes answer nums′ bytes′ D e =
+    let z : n ≡ 0 = sym (D .number) ∙ e in
+    (z, D .links-written ∙ written-zero n z links nums, D .states-written ∙ written-zero n z states bytes)
+
 module _ (p r : List ℕ) where
   pub written-as-built : firstNo (ruleTableChecks p r) ≡ 0 → (x y : List ℕ) → AsBuilt p r (builtLinks p ++ x)
       (builtStates p r ++ y)
@@ -220,10 +229,6 @@ module _ (p r : List ℕ) where
       answer nums′ bytes′
       → numberOf answer ≡ 0 → AsBuilt p r nums′ bytes′
   built-as-built nums bytes nums′ bytes′ answer D e =
-      let z : firstNo (buildChecks p r (length nums) (length bytes)) ≡ 0 = sym (D .number) ∙ e in
-      let l : nums′ ≡ builtLinks p ++ drop (length (builtLinks p)) nums = D .links-written ∙ written-zero _ z
-      (builtLinks p) nums in
-      let s : bytes′ ≡ builtStates p r ++ drop (length (builtStates p r)) bytes = D .states-written ∙ written-zero _ z
-      (builtStates p r) bytes in
-      rw (l, s) (written-as-built (build-table p r (length nums) (length bytes) z) (drop (length (builtLinks p)) nums)
+      let q = built-lists _ (builtLinks p) (builtStates p r) nums bytes answer nums′ bytes′ D e in
+      rw (q .1, q .2) (written-as-built (build-table p r (length nums) (length bytes) (q .0)) (drop (length (builtLinks p)) nums)
       (drop (length (builtStates p r)) bytes))

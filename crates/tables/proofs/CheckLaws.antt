@@ -17,7 +17,8 @@ use Rattle.formats.specs.Bytes.{sameList}
 use Rattle.tables.specs.StateCells.{stateCell}
 use Rattle.tables.specs.Compare.{rowIs}
 use Rattle.tables.specs.LocalTables.{statesAre, mapsAre}
-use Rattle.tables.proofs.TableTestLaws.{states-same-yes, states-same-no, states-same-told, maps-same-yes, maps-same-no, maps-same-told, table-test}
+use Rattle.tables.proofs.TableTestLaws.{states-same-yes, states-same-no, states-same-told, maps-same-yes}
+use Rattle.tables.proofs.TableTestLaws.{maps-same-no, maps-same-told, table-test}
 use Rattle.tables.proofs.LocalLaws.{StatesTo, MapsFrom}
 
 module _ (A : Automaton) (t : Tree) (b : List ℕ) where

@@ -1,4 +1,5 @@
--- Maps of a whole table, for any maps f: the turns of a loop that writes them node by node, and the table that is written.
+-- Maps of a whole table, for any maps f: the turns of a loop that writes them node by node, and the table that is
+-- written.
 --     written-start, written-turn  no map written, and one more
 --     row-ext                  a written map, by equal entries; kept-row: one that was there already
 --     state-no-map             a state byte is in no map; excess-no-map: nor is the excess
@@ -57,7 +58,8 @@ module _ (s n : ℕ) (f : ℕ → ℕ → ℕ) where
       → ((j : ℕ) → n * (s + 1) ≤ j → getD after j 0 ≡ getD before j 0)
       → after ≡ rows n (λ v. g v ∷ tabulate s (f v)) ++ drop (n * (s + 1)) before
   table-written g before after e room states maps kept =
-      rows-over n (s + 1) (λ v. g v ∷ tabulate s (f v)) (λ v h. omega (arith, length-tabulate s (f v))) before after e room
+      rows-over n (s + 1) (λ v. g v ∷ tabulate s (f v))
+      (λ v h. omega (arith, length-tabulate s (f v))) before after e room
       (λ v k h l. mapRow-cells s (g v) (f v) v after (states v h) (λ q m. place v q ∙ maps v q h m) k l) kept
     where
       place : (v q : ℕ) → getD after (v * (s + 1) + 1 + q) 0 ≡ mapCell s after v q

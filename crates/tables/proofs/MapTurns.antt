@@ -91,7 +91,8 @@ module _ (s k : ℕ) (lv inn mk : List ℕ) (t : Tree) (ls b e : List ℕ) (P : 
           written-turn s (size t) (stateMap (treeAutomaton s k lv inn mk) t) v e st after (omega arith) M
           (row-ext s (mapValue ls b inn s k st v) (stateMap (treeAutomaton s k lv inn mk) t v) v s st after r map-is)
 
-  pub map-start : (st : List ℕ) (v : ℕ) → v + 1 ≡ size t → Rowed s (λ q. q) v e st → Mapped (treeAutomaton s k lv inn mk) t v e st
+  pub map-start : (st : List ℕ) (v : ℕ) → v + 1 ≡ size t → Rowed s (λ q. q) v e st → Mapped
+      (treeAutomaton s k lv inn mk) t v e st
   map-start st v h r =
       let f : ℕ → ℕ → ℕ = stateMap (treeAutomaton s k lv inn mk) t in
       written-turn s (size t) f v e e st (omega arith) (rw h (written-start s (size t) f e))

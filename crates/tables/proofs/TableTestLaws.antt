@@ -72,7 +72,8 @@ module _ (s n : ℕ) (g : ℕ → ℕ) (f : ℕ → ℕ → ℕ) (b : List ℕ) 
 
     pub table-maps : (v : ℕ) → v < n → (q : ℕ) → q < s → mapCell s b v q ≡ f v q
     table-maps v h q l =
-        cell v (1 + q) h (omega arith) ∙ ap (λ (k : ℕ). getD (g v ∷ tabulate s (f v)) k 0) (one-add q) ∙ getD-tabulate s (f v) q l
+        cell v (1 + q) h (omega arith) ∙ ap (λ (k : ℕ). getD (g v ∷ tabulate s (f v)) k 0) (one-add q)
+        ∙ getD-tabulate s (f v) q l
 
   pub table-test : n * (s + 1) ≤ length b
       → sameList (take (n * (s + 1)) b) (tableOf s n g f) ≡ (statesSame s n g b && mapsSame s n f b)

@@ -61,5 +61,6 @@ module _ (ks ls b lv inn : List ℕ) (s k : ℕ) (e st : List ℕ) (args : Table
       let A : Automaton = treeAutomaton s k lv inn mk in
       let z : length ks ≡ size t = size-of t ks x in
       let ran : Ran A t (length ks) e st = R mk t x y in
-      rw z (passes-written s (size t) (stateMap A t) (λ v. state A (sub t v)) e st after same (rw (← z) (args .run .room))
+      rw z (passes-written s (size t) (stateMap A t) (λ v. state A (sub t v)) e st after same
+      (rw (← z) (args .run .room))
       (λ v h. ran .states v (omega arith)) (ran .kept) (M lv mk t (prepared mk t x y)))

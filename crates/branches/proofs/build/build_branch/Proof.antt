@@ -28,7 +28,8 @@ returns : tie.Need-returns
 returns c =
     let g = c .before .before .before .before .before .before .args in
     let r = c .before .check-branch-build in
-    build-refused (builtLinks (g .plan .now)) (builtSteps (g .plan .now) (g .branch .now)) (g .nums .now) (g .bytes .now) _
+    build-refused (builtLinks (g .plan .now)) (builtSteps (g .plan .now) (g .branch .now)) (g .nums .now)
+    (g .bytes .now) _
     (r .result) (r .ensures) (c .if1 .taken)
 
 read32-requires : tie.Need-read32-requires
@@ -45,7 +46,8 @@ write-branch-requires c κs =
     let i = c .before .before .before .before .before in
     let g = i .before .before .before .before .before .before .args in
     part-args (g .plan .now) (g .branch .now) (length (g .nums .now)) (length (g .bytes .now)) (passed i) _ _ _
-    (c .before .before .before .before .read32 .ensures) (c .before .before .before .read322 .ensures) (c .before .before .read323 .ensures)
+    (c .before .before .before .before .read32 .ensures) (c .before .before .before .read322 .ensures)
+    (c .before .before .read323 .ensures)
 
 same-length : tie.Need-same-length
 same-length c = search needs

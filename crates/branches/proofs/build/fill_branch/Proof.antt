@@ -18,9 +18,11 @@ fill-steps-requires c κs =
 
 fill-maps-requires : tie.Need-fill-maps-requires
 fill-maps-requires c κs =
-    let b = c .before .before .before .before .before .before .before .before .before .build-links in
-    let f = c .before .before .before .before .fill-steps in
-    let a = c .before .before .before .before .before .before .before .before .before .before .before .before .before .before .before .before in
+    let d = c .before .before .before .before in
+    let e = d .before .before .before .before .before in
+    let a = e .before .before .before .before .before .before .before in
+    let f = d .fill-steps in
+    let b = e .build-links in
     rw (f .kept .1 .1 .1 .1 .1 .1 .0)
     (fill-branch-args _ _ _ _ _ _ _ (a .pre) (a .args .nums .now) (b .last .1 .0) (b .ensures) (b .kept .1 .0))
 
@@ -32,12 +34,15 @@ same-length-2 c = search needs
 
 returns : tie.Need-returns
 returns c =
-    let b = c .before .before .before .before .before .before .before .before .before .before .before .before .build-links in
-    let f = c .before .before .before .before .before .before .before .fill-steps in
     let m = c .before .before .fill-maps in
-    let a = c .before .before .before .before .before .before .before .before .before .before .before .before .before .before .before .before .before .before .before in
+    let d = c .before .before .before .before .before .before .before in
+    let e = d .before .before .before .before .before in
+    let a = e .before .before .before .before .before .before .before in
+    let f = d .fill-steps in
+    let b = e .build-links in
     filled _ _ _ _ _ _ _ (a .pre) (a .args .nums .now) (b .last .1 .0) (b .ensures) (a .args .bytes .now)
-    (f .last .1 .1 .1 .1 .1 .1 .0) (m .last .1 .1 .1 .1 .1 .1 .0) refl (m .kept .1 .1 .1 .1 .1 .1 .0 ∙ f .kept .1 .1 .1 .1 .1 .1 .0)
+    (f .last .1 .1 .1 .1 .1 .1 .0) (m .last .1 .1 .1 .1 .1 .1 .0) refl
+    (m .kept .1 .1 .1 .1 .1 .1 .0 ∙ f .kept .1 .1 .1 .1 .1 .1 .0)
     (f .ensures) (m .ensures)
 
 pub fill-branch-spec : {M : Type 1} → statement M

@@ -49,7 +49,8 @@ part-fill-branch-end-3 c = search needs
 fill-branch-requires : tie.Need-fill-branch-requires
 fill-branch-requires c κs =
     let s = c .before .before .before .before .before .before .before .before .before in
-    parts-filled (s .args .plan .now) (s .args .branch .now) (s .args .n) (s .args .s) (s .args .k) (length (s .args .nums .now))
+    parts-filled (s .args .plan .now) (s .args .branch .now) (s .args .n) (s .args .s) (s .args .k)
+    (length (s .args .nums .now))
     (length (s .args .bytes .now)) (s .pre)
 
 same-length : tie.Need-same-length
@@ -62,9 +63,11 @@ returns : tie.Need-returns
 returns c =
     let f = c .before .before .before .before in
     let s = f .before .before .before .before .before .before .before .before .before .before in
-    parts-written (s .args .plan .now) (s .args .branch .now) (s .args .n) (s .args .s) (s .args .k) (length (s .args .nums .now))
+    parts-written (s .args .plan .now) (s .args .branch .now) (s .args .n) (s .args .s) (s .args .k)
+    (length (s .args .nums .now))
     (length (s .args .bytes .now)) (s .pre)
-    (s .args .nums .now) (s .args .bytes .now) (f .fill-branch .last .1 .1 .1 .1 .1 .0) (f .fill-branch .last .1 .1 .1 .1 .1 .1 .0)
+    (s .args .nums .now) (s .args .bytes .now) (f .fill-branch .last .1 .1 .1 .1 .1 .0)
+    (f .fill-branch .last .1 .1 .1 .1 .1 .1 .0)
     (f .fill-branch .ensures)
 
 pub write-branch-spec : {M : Type 1} → statement M

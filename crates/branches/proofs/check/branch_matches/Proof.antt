@@ -49,13 +49,15 @@ part-tables-match-end-3 c = search needs
 tables-match-requires : tie.Need-tables-match-requires
 tables-match-requires c κs =
     let s = c .before .before .before .before .before .before .before in
-    parts-filled (s .args .plan .now) (s .args .branch .now) (s .args .n) (s .args .s) (s .args .k) (length (s .args .nums .now))
+    parts-filled (s .args .plan .now) (s .args .branch .now) (s .args .n) (s .args .s) (s .args .k)
+    (length (s .args .nums .now))
     (length (s .args .bytes .now)) (s .pre)
 
 returns : tie.Need-returns
 returns c =
     let s = c .before .before .before .before .before .before .before .before in
-    parts-told (s .args .plan .now) (s .args .branch .now) (s .args .n) (s .args .s) (s .args .k) (length (s .args .nums .now))
+    parts-told (s .args .plan .now) (s .args .branch .now) (s .args .n) (s .args .s) (s .args .k)
+    (length (s .args .nums .now))
     (length (s .args .bytes .now)) (s .pre)
     (s .args .nums .now) (s .args .bytes .now) (c .tables-match .result) (c .tables-match .ensures)
 

@@ -28,8 +28,10 @@ returns : tie.Need-returns
 returns c =
     let g = c .before .before .before .before .before .before .args in
     let r = c .before .check-branch-build in
-    check-refused (firstNo (branchBuildChecks (g .plan .now) (g .branch .now) (length (g .nums .now)) (length (g .bytes .now))))
-    (builtLinks (g .plan .now)) (builtSteps (g .plan .now) (g .branch .now)) (g .nums .now) (g .bytes .now) (r .result) (r .ensures) (c .if1 .taken)
+    check-refused
+    (firstNo (branchBuildChecks (g .plan .now) (g .branch .now) (length (g .nums .now)) (length (g .bytes .now))))
+    (builtLinks (g .plan .now)) (builtSteps (g .plan .now) (g .branch .now)) (g .nums .now) (g .bytes .now)
+    (r .result) (r .ensures) (c .if1 .taken)
 
 read32-requires : tie.Need-read32-requires
 read32-requires c κs = omega (arith, accepts c .0 .long)
@@ -52,16 +54,20 @@ returns-2 c =
     let m = c .before in
     let i = m .before .before .before .before in
     let g = i .before .before .before .before .before .before .args in
-    check-matches (firstNo (branchBuildChecks (g .plan .now) (g .branch .now) (length (g .nums .now)) (length (g .bytes .now))))
-    (builtLinks (g .plan .now)) (builtSteps (g .plan .now) (g .branch .now)) (g .nums .now) (g .bytes .now) (passed i) (m .branch-matches .result) (m .branch-matches .ensures) (c .if2 .taken)
+    check-matches
+    (firstNo (branchBuildChecks (g .plan .now) (g .branch .now) (length (g .nums .now)) (length (g .bytes .now))))
+    (builtLinks (g .plan .now)) (builtSteps (g .plan .now) (g .branch .now)) (g .nums .now) (g .bytes .now) (passed i)
+    (m .branch-matches .result) (m .branch-matches .ensures) (c .if2 .taken)
 
 returns-3 : tie.Need-returns-3
 returns-3 c =
     let m = c .before in
     let i = m .before .before .before .before in
     let g = i .before .before .before .before .before .before .args in
-    check-differs (firstNo (branchBuildChecks (g .plan .now) (g .branch .now) (length (g .nums .now)) (length (g .bytes .now))))
-    (builtLinks (g .plan .now)) (builtSteps (g .plan .now) (g .branch .now)) (g .nums .now) (g .bytes .now) (passed i) (m .branch-matches .result) (m .branch-matches .ensures) (c .if2 .left)
+    check-differs
+    (firstNo (branchBuildChecks (g .plan .now) (g .branch .now) (length (g .nums .now)) (length (g .bytes .now))))
+    (builtLinks (g .plan .now)) (builtSteps (g .plan .now) (g .branch .now)) (g .nums .now) (g .bytes .now) (passed i)
+    (m .branch-matches .result) (m .branch-matches .ensures) (c .if2 .left)
 
 pub check-branch-tables-spec : {M : Type 1} → statement M
 check-branch-tables-spec =

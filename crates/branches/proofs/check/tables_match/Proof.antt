@@ -13,16 +13,19 @@ use borrow.Author.Needs.{needs}
 use Rattle.branches.proofs.check.tables_match.Statement.{statement}
 use Rattle.branches.proofs.check.tables_match.Tie as tie
 
-entered : (s : tie.Start) → FillArgs (s .args .labels .now) (s .args .kinds .now) (s .args .steps .now) (s .args .s) (s .args .k)
+entered : (s : tie.Start) → FillArgs (s .args .labels .now) (s .args .kinds .now) (s .args .steps .now) (s .args .s)
+    (s .args .k)
     (length (s .args .labels .now)) (length (s .args .nums .now)) (length (s .args .bytes .now))
 entered s = s .pre
 
 -- the links are the tree's
-links-told : (c : tie.Else1) → let g = c .before .before .before .before .before .before .before .args in LinksTold (g .kinds .now) (g .nums .now) true
+links-told : (c : tie.Else1) → let g = c .before .before .before .before .before .before .before .args in LinksTold
+    (g .kinds .now) (g .nums .now) true
 links-told c t e = sym (not-false (c .before .check-links .result) (c .if1 .left)) ∙ c .before .check-links .ensures t e
 
 lent-args : (c : tie.Else1) → let g = c .before .before .before .before .before .before .before .args in
-    BranchArgs (g .labels .now) (g .nums .now) (g .steps .now) (g .s) (g .k) (length (g .labels .now)) (length (g .bytes .now))
+    BranchArgs (g .labels .now) (g .nums .now) (g .steps .now) (g .s) (g .k) (length (g .labels .now))
+    (length (g .bytes .now))
 lent-args c =
     let s = c .before .before .before .before .before .before .before in
     branch-args _ _ _ _ _ _ _ (entered s) (s .args .nums .now)
@@ -55,7 +58,8 @@ returns-3 c =
     let d = c .before in
     let i = d .before .before in
     let s = i .before .before .before .before .before .before .before in
-    maps-tell _ _ _ _ _ _ _ (entered s) (s .args .nums .now) (s .args .bytes .now) (omega arith) (c .check-maps .result) (links-told i)
+    maps-tell _ _ _ _ _ _ _ (entered s) (s .args .nums .now) (s .args .bytes .now) (omega arith)
+    (c .check-maps .result) (links-told i)
     (λ B t L. sym (not-false (d .before .check-steps .result) (d .if2 .left)) ∙ d .before .check-steps .ensures B t L)
     (c .check-maps .ensures)
 

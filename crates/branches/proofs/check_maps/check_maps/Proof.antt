@@ -1,4 +1,5 @@
--- `check_maps::check_maps` meets its contract. The loop's invariant: the maps of the nodes from v on are the automaton's.
+-- `check_maps::check_maps` meets its contract. The loop's invariant: the maps of the nodes from v on are the
+-- automaton's.
 -- Assumes nothing.
 use Prim.Native.Nat.{ℕ, _+_, _-_, _<_}
 use mathlib.Core.Path.{_≡_, sym, _∙_}
@@ -29,11 +30,14 @@ pos : (s : tie.Start Inv-loop μ-loop) → 0 < s .args .n
 pos s = args-pos _ _ _ _ _ _ _ (entered s)
 
 -- the maps above the node that a turn looks at
-above : (c : tie.In-loop Inv-loop μ-loop) → let g = c .before .before .before .before .before .before .before .before .args in
-    Mapped (g .labels .now) (g .nums .now) (g .steps .now) (g .s) (g .k) (g .n) (c .before .loop .v - 1 + 1) (g .bytes .now)
+above : (c : tie.In-loop Inv-loop μ-loop)
+    → let g = c .before .before .before .before .before .before .before .before .args in
+    Mapped (g .labels .now) (g .nums .now) (g .steps .now) (g .s) (g .k) (g .n) (c .before .loop .v - 1 + 1)
+    (g .bytes .now)
     (g .bytes .now)
 above c =
-    let e : c .before .loop .v - 1 + 1 ≡ c .before .loop .v = omega (arith, c .loop-test .taken) in rw e (c .before .loop .inv .1)
+    let e : c .before .loop .v - 1 + 1 ≡ c .before .loop .v = omega (arith, c .loop-test .taken) in rw e
+    (c .before .loop .inv .1)
 
 sub-root : tie.Need-sub-root Inv-loop μ-loop
 sub-root c = pos (c .before .before .before .before)
@@ -41,7 +45,8 @@ sub-root c = pos (c .before .before .before .before)
 root-row-is-requires : tie.Need-root-row-is-requires Inv-loop μ-loop
 root-row-is-requires c κs =
     let s = c .before .before .before .before in
-    row-in (s .args .s) (s .args .n) (s .args .n - 1) (length (s .args .bytes .now)) (omega (arith, pos s)) (s .pre .room)
+    row-in (s .args .s) (s .args .n) (s .args .n - 1) (length (s .args .bytes .now)) (omega (arith, pos s))
+    (s .pre .room)
 
 returns : tie.Need-returns Inv-loop μ-loop
 returns c =

@@ -44,7 +44,8 @@ shared-slice-read-j : tie.Need-shared-slice-read-j
 shared-slice-read-j c = search needs
 
 cast-j : tie.Need-cast-j
-cast-j c = omega (arith, c .shared-slice-known7 .given (c .before .before .before .before .before .before .before .args .v * 4 + 1))
+cast-j c = omega
+    (arith, c .shared-slice-known7 .given (c .before .before .before .before .before .before .before .args .v * 4 + 1))
 
 near-row-is-requires : tie.Need-near-row-is-requires
 near-row-is-requires c κs = search needs
@@ -82,7 +83,8 @@ returns-2 c =
     let p = parentCell (g .nums .now) (g .v) in
     c .step-row-is .ensures
     ∙ rowIs-ext (g .s) (g .bytes .now) (g .v)
-    (stepCell (g .s) (g .bytes .now) p (jumpCell (g .nums .now) p) (g .steps .now) (g .k) (getD (g .labels .now) (g .v) 0))
+    (stepCell (g .s) (g .bytes .now) p (jumpCell (g .nums .now) p) (g .steps .now) (g .k)
+    (getD (g .labels .now) (g .v) 0))
     (nodeMap (g .labels .now) (g .nums .now) (g .steps .now) (g .s) (g .k) (g .bytes .now) (g .v))
     (λ q l. sym (nodeMap-far (g .labels .now) (g .nums .now) (g .steps .now) (g .s) (g .k) (g .bytes .now) (g .v) q
     (c .before .before .if1 .left)))

@@ -82,13 +82,18 @@ add-z-2 : tie.Need-add-z-2 Inv-loop μ-loop
 add-z-2 c = omega (arith, far-below (c .before .before), c .before .before .before .before .pre .near-room)
 
 shared-slice-read-z : tie.Need-shared-slice-read-z Inv-loop μ-loop
-shared-slice-read-z c = omega (arith, far-below (c .before .before .before), c .before .before .before .before .before .pre .near-room)
+shared-slice-read-z c = omega
+    (arith, far-below (c .before .before .before), c .before .before .before .before .before .pre .near-room)
 
 cast-z : tie.Need-cast-z Inv-loop μ-loop
 cast-z c =
     let i = c .before .before .before in
     let g = i .before .before .args in
-    omega (arith, c .shared-slice-known3 .given (g .p * (g .s + 1) + (1 + mapCell (g .s) (g .bytes .now) (g .j) (i .before .loop .q))))
+    omega (
+      arith,
+      c .shared-slice-known3 .given
+          (g .p * (g .s + 1) + (1 + mapCell (g .s) (g .bytes .now) (g .j) (i .before .loop .q))),
+    )
 
 mul-next : tie.Need-mul-next Inv-loop μ-loop
 mul-next c = omega (arith, inside (c .before .before .before))

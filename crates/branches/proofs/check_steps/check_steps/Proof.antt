@@ -13,11 +13,11 @@ use Rattle.branches.proofs.check_steps.check_steps.Statement.{statement
 use Rattle.branches.proofs.check_steps.check_steps.Tie as tie
 
 abbrev Inv-loop : tie.InvT-loop
-Inv-loop labels nums steps s k n bytes w root first v₀ v =
+Inv-loop labels nums steps s k n bytes w root first x y v₀ v =
     (v < n) × Stepped labels nums steps s k n v bytes bytes
 
 abbrev μ-loop : tie.MeasureT-loop
-μ-loop labels nums steps s k n bytes w root first v₀ v = v
+μ-loop labels nums steps s k n bytes w root first x y v₀ v = v
 
 entered : (s : tie.Start Inv-loop μ-loop) → BranchArgs (s .args .labels .now) (s .args .nums .now) (s .args .steps .now)
     (s .args .s) (s .args .k) (s .args .n) (length (s .args .bytes .now))
@@ -30,14 +30,17 @@ labels-in : (s : tie.Start Inv-loop μ-loop) → length (s .args .labels .now) �
 labels-in s = args-labels _ _ _ _ _ _ _ (entered s)
 
 root-in : (s : tie.Start Inv-loop μ-loop) → (s .args .n - 1) * (s .args .s + 1) < length (s .args .bytes .now)
-root-in s = state-in (s .args .s) (s .args .n) (s .args .n - 1) (length (s .args .bytes .now)) (omega (arith, pos s)) (s .pre .room)
+root-in s = state-in (s .args .s) (s .args .n) (s .args .n - 1) (length (s .args .bytes .now)) (omega (arith, pos s))
+    (s .pre .room)
 
 -- the state bytes above the node that a turn looks at
 above : (c : tie.In-loop Inv-loop μ-loop) → let g = c .before .before .before .before .before .before .args in
-    Stepped (g .labels .now) (g .nums .now) (g .steps .now) (g .s) (g .k) (g .n) (c .before .loop .v - 1 + 1) (g .bytes .now)
+    Stepped (g .labels .now) (g .nums .now) (g .steps .now) (g .s) (g .k) (g .n) (c .before .loop .v - 1 + 1)
+    (g .bytes .now)
     (g .bytes .now)
 above c =
-    let e : c .before .loop .v - 1 + 1 ≡ c .before .loop .v = omega (arith, c .loop-test .taken) in rw e (c .before .loop .inv .1)
+    let e : c .before .loop .v - 1 + 1 ≡ c .before .loop .v = omega (arith, c .loop-test .taken) in rw e
+    (c .before .loop .inv .1)
 
 fits : (c : tie.In-loop Inv-loop μ-loop) → let g = c .before .before .before .before .before .before .args in
     StepFits (g .labels .now) (g .nums .now) (g .steps .now) (g .s) (g .k) (c .before .loop .v - 1) (g .bytes .now)
@@ -58,25 +61,33 @@ shared-slice-read-first c = omega (arith, labels-in (c .before), pos (c .before)
 cast-first : tie.Need-cast-first Inv-loop μ-loop
 cast-first c = omega (arith, c .shared-slice-known .given (c .before .args .n - 1))
 
-shared-slice-read-first-2 : tie.Need-shared-slice-read-first-2 Inv-loop μ-loop
-shared-slice-read-first-2 c = root-inside _ _ _ _ _ _ _ (entered (c .before .before)) (c .before .before .args .n - 1)
+mul-x : tie.Need-mul-x Inv-loop μ-loop
+mul-x c = omega arith
 
-mul-if1 : tie.Need-mul-if1 Inv-loop μ-loop
-mul-if1 c = omega (arith, root-in (c .before .before))
+add-x : tie.Need-add-x Inv-loop μ-loop
+add-x c = omega (arith, root-inside _ _ _ _ _ _ _ (entered (c .before)) (c .before .args .n - 1))
 
-shared-slice-read-if1 : tie.Need-shared-slice-read-if1 Inv-loop μ-loop
-shared-slice-read-if1 c = root-in (c .before .before .before)
+shared-slice-read-x : tie.Need-shared-slice-read-x Inv-loop μ-loop
+shared-slice-read-x c = root-inside _ _ _ _ _ _ _ (entered (c .before .before)) (c .before .before .args .n - 1)
+
+mul-y : tie.Need-mul-y Inv-loop μ-loop
+mul-y c = omega (arith, root-in (c .before .before))
+
+shared-slice-read-y : tie.Need-shared-slice-read-y Inv-loop μ-loop
+shared-slice-read-y c = root-in (c .before .before .before)
 
 returns : tie.Need-returns Inv-loop μ-loop
 returns c =
     let s = c .before .before .before .before in
-    root-state-differs _ _ _ _ _ _ _ (entered s) (s .args .bytes .now) (s .args .n - 1) (omega (arith, pos s)) (c .if1 .taken)
+    root-state-differs _ _ _ _ _ _ _ (entered s) (s .args .bytes .now) (s .args .n - 1) (omega (arith, pos s))
+    (c .if1 .taken)
 
 loop-holds : tie.Need-loop-holds Inv-loop μ-loop
 loop-holds c =
     let s = c .before .before .before .before in (
       omega (arith, pos s),
-      root-state-same _ _ _ _ _ _ _ (entered s) (s .args .bytes .now) (s .args .n - 1) (omega (arith, pos s)) (c .if1 .left),
+      root-state-same _ _ _ _ _ _ _ (entered s) (s .args .bytes .now) (s .args .n - 1) (omega (arith, pos s))
+          (c .if1 .left),
     )
 
 sub-v : tie.Need-sub-v Inv-loop μ-loop
@@ -114,20 +125,20 @@ shared-slice-read-a c =
 cast-a : tie.Need-cast-a Inv-loop μ-loop
 cast-a c = omega (arith, c .shared-slice-known6 .given (c .before .before .before .before .loop .v - 1))
 
-mul-x : tie.Need-mul-x Inv-loop μ-loop
-mul-x c = omega (arith, fits (c .before .before .before) .inside)
+mul-x-2 : tie.Need-mul-x-2 Inv-loop μ-loop
+mul-x-2 c = omega (arith, fits (c .before .before .before) .inside)
 
-add-x : tie.Need-add-x Inv-loop μ-loop
-add-x c = omega (arith, fits (c .before .before .before) .inside)
+add-x-2 : tie.Need-add-x-2 Inv-loop μ-loop
+add-x-2 c = omega (arith, fits (c .before .before .before) .inside)
 
-shared-slice-read-x : tie.Need-shared-slice-read-x Inv-loop μ-loop
-shared-slice-read-x c = fits (c .before .before .before .before) .inside
+shared-slice-read-x-2 : tie.Need-shared-slice-read-x-2 Inv-loop μ-loop
+shared-slice-read-x-2 c = fits (c .before .before .before .before) .inside
 
-mul-y : tie.Need-mul-y Inv-loop μ-loop
-mul-y c = omega (arith, fits (c .before .before .before .before) .here)
+mul-y-2 : tie.Need-mul-y-2 Inv-loop μ-loop
+mul-y-2 c = omega (arith, fits (c .before .before .before .before) .here)
 
-shared-slice-read-y : tie.Need-shared-slice-read-y Inv-loop μ-loop
-shared-slice-read-y c = fits (c .before .before .before .before .before) .here
+shared-slice-read-y-2 : tie.Need-shared-slice-read-y-2 Inv-loop μ-loop
+shared-slice-read-y-2 c = fits (c .before .before .before .before .before) .here
 
 returns-2 : tie.Need-returns-2 Inv-loop μ-loop
 returns-2 c =
@@ -165,9 +176,11 @@ check-steps-spec =
     sub-root
     shared-slice-read-first
     cast-first
-    shared-slice-read-first-2
-    mul-if1
-    shared-slice-read-if1
+    mul-x
+    add-x
+    shared-slice-read-x
+    mul-y
+    shared-slice-read-y
     returns
     loop-holds
     sub-v
@@ -180,11 +193,11 @@ check-steps-spec =
     cast-q
     shared-slice-read-a
     cast-a
-    mul-x
-    add-x
-    shared-slice-read-x
-    mul-y
-    shared-slice-read-y
+    mul-x-2
+    add-x-2
+    shared-slice-read-x-2
+    mul-y-2
+    shared-slice-read-y-2
     returns-2
     loop-less
     loop-again

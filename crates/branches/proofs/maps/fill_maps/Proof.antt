@@ -1,4 +1,5 @@
--- `maps::fill_maps` meets its contract. The loop's invariant: the maps from v on are the automaton's, and no other byte is changed,
+-- `maps::fill_maps` meets its contract. The loop's invariant: the maps from v on are the automaton's, and no other
+-- byte is changed,
 -- counted from any buffer of which that holds where the loop begins.
 -- Assumes nothing.
 use Prim.Native.Nat.{ℕ, _+_, _-_, _*_, _≤_, _<_}
@@ -30,17 +31,21 @@ pos : (s : tie.Start Inv-loop μ-loop) → 0 < s .args .n
 pos s = args-pos _ _ _ _ _ _ _ (entered s)
 
 -- the buffer at the function's entry and after the root's map
-kept-length : (a : tie.At-loop Inv-loop μ-loop) → length (a .loop .bytes) ≡ length (a .before .before .before .before .before .before .before .before .before .args .bytes .now)
+kept-length : (a : tie.At-loop Inv-loop μ-loop) → length (a .loop .bytes) ≡ length
+    (a .before .before .before .before .before .before .before .before .before .args .bytes .now)
 kept-length a = a .loop .inv .1 ∙ a .before .before .before .same-row .kept .0
 
 -- the maps from v on, since the function's entry
-mapped : (a : tie.At-loop Inv-loop μ-loop) → let g = a .before .before .before .before .before .before .before .before .before .args in
-    Mapped (g .labels .now) (g .nums .now) (g .steps .now) (g .s) (g .k) (g .n) (a .loop .v) (g .bytes .now) (a .loop .bytes)
+mapped : (a : tie.At-loop Inv-loop μ-loop)
+    → let g = a .before .before .before .before .before .before .before .before .before .args in
+    Mapped (g .labels .now) (g .nums .now) (g .steps .now) (g .s) (g .k) (g .n) (a .loop .v) (g .bytes .now)
+    (a .loop .bytes)
 mapped a =
     let s = a .before .before .before .before .before .before .before .before .before in
     let r = a .before .before .before .same-row in
     a .loop .inv .2 (s .args .bytes .now)
-    (map-root _ _ _ _ _ _ _ (entered s) (s .args .n - 1) (s .args .bytes .now) (r .last .0) (omega (arith, pos s)) (r .ensures))
+    (map-root _ _ _ _ _ _ _ (entered s) (s .args .n - 1) (s .args .bytes .now) (r .last .0) (omega (arith, pos s))
+    (r .ensures))
 
 sub-root : tie.Need-sub-root Inv-loop μ-loop
 sub-root c = pos (c .before .before .before .before)
@@ -49,7 +54,8 @@ same-row-requires : tie.Need-same-row-requires Inv-loop μ-loop
 same-row-requires c κs =
     let s = c .before .before .before .before .before in
     record {
-      room = row-in (s .args .s) (s .args .n) (s .args .n - 1) (length (s .args .bytes .now)) (omega (arith, pos s)) (s .pre .room);
+      room = row-in (s .args .s) (s .args .n) (s .args .n - 1) (length (s .args .bytes .now)) (omega (arith, pos s))
+          (s .pre .room);
       few = omega (arith, s .pre .few);
     }
 
@@ -80,7 +86,8 @@ loop-again c =
     let e : a .loop .v - 1 + 1 ≡ a .loop .v = omega (arith, i .loop-test .taken) in (
       omega (arith, a .loop .inv .0),
       n .node-map .kept .1 .1 .1 .1 .1 .1 .0 ∙ a .loop .inv .1,
-      λ b d. map-turn _ _ _ _ _ _ _ (entered s) (a .loop .v - 1) b (a .loop .bytes) (n .node-map .last .1 .1 .1 .1 .1 .1 .0)
+      λ b d. map-turn _ _ _ _ _ _ _ (entered s) (a .loop .v - 1) b (a .loop .bytes)
+          (n .node-map .last .1 .1 .1 .1 .1 .1 .0)
           (rw e (a .loop .inv .2 b d)) (omega (arith, a .loop .inv .0, i .loop-test .taken)) (n .node-map .ensures),
     )
 

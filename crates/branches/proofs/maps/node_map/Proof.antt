@@ -43,7 +43,8 @@ shared-slice-read-j : tie.Need-shared-slice-read-j
 shared-slice-read-j c = search needs
 
 cast-j : tie.Need-cast-j
-cast-j c = omega (arith, c .shared-slice-known6 .given (c .before .before .before .before .before .before .before .args .v * 4 + 1))
+cast-j c = omega
+    (arith, c .shared-slice-known6 .given (c .before .before .before .before .before .before .before .args .v * 4 + 1))
 
 near-row-requires : tie.Need-near-row-requires
 near-row-requires c κs = search needs
@@ -75,7 +76,8 @@ returns c =
     let i = n .before .before in
     let g = i .before .before .before .before .before .before .before .before .args in
     row-ext (g .s) (λ q. getD (g .steps .now) (getD (g .labels .now) (g .v) 0 + q * g .k) 0)
-    (nodeMap (g .labels .now) (g .nums .now) (g .steps .now) (g .s) (g .k) (g .bytes .now) (g .v)) (g .v) (g .s) (g .bytes .now)
+    (nodeMap (g .labels .now) (g .nums .now) (g .steps .now) (g .s) (g .k) (g .bytes .now) (g .v)) (g .v) (g .s)
+    (g .bytes .now)
     (n .near-row .last .0) (n .near-row .ensures)
     (λ q l. sym (nodeMap-near (g .labels .now) (g .nums .now) (g .steps .now) (g .s) (g .k) (g .bytes .now) (g .v) q
     (i .if1 .taken)))
@@ -89,8 +91,11 @@ returns-2 c =
     let i = n .before .before .before in
     let g = i .before .before .before .before .before .before .before .before .args in
     let p = parentCell (g .nums .now) (g .v) in
-    row-ext (g .s) (stepCell (g .s) (g .bytes .now) p (jumpCell (g .nums .now) p) (g .steps .now) (g .k) (getD (g .labels .now) (g .v) 0))
-    (nodeMap (g .labels .now) (g .nums .now) (g .steps .now) (g .s) (g .k) (g .bytes .now) (g .v)) (g .v) (g .s) (g .bytes .now)
+    row-ext (g .s)
+    (stepCell (g .s) (g .bytes .now) p (jumpCell (g .nums .now) p) (g .steps .now) (g .k)
+    (getD (g .labels .now) (g .v) 0))
+    (nodeMap (g .labels .now) (g .nums .now) (g .steps .now) (g .s) (g .k) (g .bytes .now) (g .v)) (g .v) (g .s)
+    (g .bytes .now)
     (n .step-row .last .0) (n .step-row .ensures)
     (λ q l. sym (nodeMap-far (g .labels .now) (g .nums .now) (g .steps .now) (g .s) (g .k) (g .bytes .now) (g .v) q
     (i .if1 .left)))

@@ -1,4 +1,5 @@
--- `maps::step_row` meets its contract. The loop's invariant: the first q bytes of the map are composed, no other byte is changed.
+-- `maps::step_row` meets its contract. The loop's invariant: the first q bytes of the map are composed, no other byte
+-- is changed.
 -- Assumes nothing.
 use Prim.Native.Nat.{ℕ, _+_, _-_, _*_, _≤_, _<_}
 use mathlib.Core.Path.{_≡_, refl, subst}
@@ -26,11 +27,13 @@ far-below : (c : tie.In-loop Inv-loop μ-loop) → let g = c .before .before .ar
 far-below c =
     let a = c .before in
     let g = a .before .args in
-    step-far-below (g .s) (g .v) (g .p) (g .j) (g .k) (g .a) (a .loop .q) (g .steps .now) (g .bytes .now) (a .loop .bytes)
+    step-far-below (g .s) (g .v) (g .p) (g .j) (g .k) (g .a) (a .loop .q) (g .steps .now) (g .bytes .now)
+    (a .loop .bytes)
     (a .loop .inv .2) (a .before .pre) (c .loop-test .taken)
 
 inside : (c : tie.In-loop Inv-loop μ-loop) → let g = c .before .before .args in
-    mapCell (g .s) (c .before .loop .bytes) (g .p) (mapCell (g .s) (c .before .loop .bytes) (g .j) (c .before .loop .q)) * g .k
+    mapCell (g .s)
+    (c .before .loop .bytes) (g .p) (mapCell (g .s) (c .before .loop .bytes) (g .j) (c .before .loop .q)) * g .k
     + g .a < length (g .steps .now)
 inside c =
     let a = c .before in
@@ -86,7 +89,11 @@ cast-y : tie.Need-cast-y Inv-loop μ-loop
 cast-y c =
     let a = c .before .before .before in
     let g = a .before .args in
-    omega (arith, c .slice-known2 .given (g .p * (g .s + 1) + (1 + mapCell (g .s) (a .loop .bytes) (g .j) (a .loop .q))))
+    omega (
+      arith,
+      c .slice-known2 .given
+          (g .p * (g .s + 1) + (1 + mapCell (g .s) (a .loop .bytes) (g .j) (a .loop .q))),
+    )
 
 mul-bytes : tie.Need-mul-bytes Inv-loop μ-loop
 mul-bytes c = omega (arith, inside (c .before .before))
@@ -120,10 +127,12 @@ loop-again c =
     let g = s .args in (
       omega arith,
       simp length-set (a .loop .inv .1),
-      row-turn (g .s) (stepCell (g .s) (g .bytes .now) (g .p) (g .j) (g .steps .now) (g .k) (g .a)) (g .v) (a .loop .q) (g .bytes .now)
+      row-turn (g .s) (stepCell (g .s) (g .bytes .now) (g .p) (g .j) (g .steps .now) (g .k) (g .a)) (g .v)
+          (a .loop .q) (g .bytes .now)
           (a .loop .bytes) (a .loop .inv .2) (g .v * (g .s + 1) + (1 + a .loop .q)) _ refl
           (omega (arith, i .loop-test .taken, s .pre .room, a .loop .inv .1))
-          (step-is (g .s) (g .v) (g .p) (g .j) (g .k) (g .a) (a .loop .q) (g .steps .now) (g .bytes .now) (a .loop .bytes)
+          (step-is (g .s) (g .v) (g .p) (g .j) (g .k) (g .a) (a .loop .q) (g .steps .now) (g .bytes .now)
+          (a .loop .bytes)
           (a .loop .inv .2) (s .pre) (i .loop-test .taken)),
     )
 
@@ -135,7 +144,8 @@ returns c =
     let a = c .before in
     let g = a .before .args in
     let e : a .loop .q ≡ g .s = omega (arith, a .loop .inv .0, c .loop-test .left) in
-    subst (λ (i : ℕ). RowTo (g .s) (stepCell (g .s) (g .bytes .now) (g .p) (g .j) (g .steps .now) (g .k) (g .a)) (g .v) i
+    subst (λ (i : ℕ). RowTo (g .s) (stepCell (g .s) (g .bytes .now) (g .p) (g .j) (g .steps .now) (g .k) (g .a))
+    (g .v) i
     (g .bytes .now) (a .loop .bytes)) e (a .loop .inv .2)
 
 pub step-row-spec : {M : Type 1} → statement M

@@ -1,4 +1,5 @@
--- `steps::fill_steps` meets its contract. The loop's invariant: the state bytes from v on are the automaton's, and no other byte is
+-- `steps::fill_steps` meets its contract. The loop's invariant: the state bytes from v on are the automaton's, and no
+-- other byte is
 -- changed, counted from any buffer of which that holds where the loop begins.
 -- Assumes nothing.
 use Prim.Native.Nat.{ℕ, _+_, _-_, _*_, _≤_, _<_}
@@ -9,7 +10,8 @@ use Rattle.trees.proofs.RowLaws.{cell-in}
 use Rattle.links.specs.Cells.{parentCell}
 use Rattle.tables.specs.StateCells.{stateCell}
 use Rattle.branches.specs.Lent.{BranchArgs, Stepped}
-use Rattle.branches.proofs.StepTurns.{args-pos, args-labels, state-in, StepFits, step-fits, step-turn, root-inside, root-turn}
+use Rattle.branches.proofs.StepTurns.{args-pos, args-labels, state-in, StepFits, step-fits, step-turn}
+use Rattle.branches.proofs.StepTurns.{root-inside, root-turn}
 use native.Mathlib.Omega.{arith}
 use borrow.Author.Needs.{needs}
 use Rattle.branches.proofs.steps.fill_steps.Statement.{statement}
@@ -35,27 +37,32 @@ labels-in : (s : tie.Start Inv-loop μ-loop) → length (s .args .labels .now) �
 labels-in s = args-labels _ _ _ _ _ _ _ (entered s)
 
 root-in : (s : tie.Start Inv-loop μ-loop) → (s .args .n - 1) * (s .args .s + 1) < length (s .args .bytes .now)
-root-in s = state-in (s .args .s) (s .args .n) (s .args .n - 1) (length (s .args .bytes .now)) (omega (arith, pos s)) (s .pre .room)
+root-in s = state-in (s .args .s) (s .args .n) (s .args .n - 1) (length (s .args .bytes .now)) (omega (arith, pos s))
+    (s .pre .room)
 
 kept-length : (a : tie.At-loop Inv-loop μ-loop)
     → length (a .loop .bytes) ≡ length (a .before .before .before .args .bytes .now)
 kept-length a = a .loop .inv .1 ∙ simp length-set
 
 stepped : (a : tie.At-loop Inv-loop μ-loop) → let g = a .before .before .before .args in
-    Stepped (g .labels .now) (g .nums .now) (g .steps .now) (g .s) (g .k) (g .n) (a .loop .v) (g .bytes .now) (a .loop .bytes)
+    Stepped (g .labels .now) (g .nums .now) (g .steps .now) (g .s) (g .k) (g .n) (a .loop .v) (g .bytes .now)
+    (a .loop .bytes)
 stepped a =
     let s = a .before .before .before in
     a .loop .inv .2 (s .args .bytes .now)
     (root-turn _ _ _ _ _ _ _ (entered s) (s .args .n - 1) (s .args .bytes .now) (omega (arith, pos s)) (root-in s))
 
 turn : (c : tie.In-loop Inv-loop μ-loop) → let g = c .before .before .before .before .args in
-    Stepped (g .labels .now) (g .nums .now) (g .steps .now) (g .s) (g .k) (g .n) (c .before .loop .v - 1 + 1) (g .bytes .now)
+    Stepped (g .labels .now) (g .nums .now) (g .steps .now) (g .s) (g .k) (g .n) (c .before .loop .v - 1 + 1)
+    (g .bytes .now)
     (c .before .loop .bytes)
 turn c =
-    let e : c .before .loop .v - 1 + 1 ≡ c .before .loop .v = omega (arith, c .loop-test .taken) in rw e (stepped (c .before))
+    let e : c .before .loop .v - 1 + 1 ≡ c .before .loop .v = omega (arith, c .loop-test .taken) in rw e
+    (stepped (c .before))
 
 fits : (c : tie.In-loop Inv-loop μ-loop) → let g = c .before .before .before .before .args in
-    StepFits (g .labels .now) (g .nums .now) (g .steps .now) (g .s) (g .k) (c .before .loop .v - 1) (c .before .loop .bytes)
+    StepFits (g .labels .now) (g .nums .now) (g .steps .now) (g .s) (g .k) (c .before .loop .v - 1)
+    (c .before .loop .bytes)
 fits c =
     let s = c .before .before .before .before in
     step-fits _ _ _ _ _ _ _ (entered s) (c .before .loop .v - 1) (s .args .bytes .now) (c .before .loop .bytes) (turn c)
@@ -73,11 +80,17 @@ shared-slice-read-first c = omega (arith, labels-in (c .before), pos (c .before)
 cast-first : tie.Need-cast-first Inv-loop μ-loop
 cast-first c = omega (arith, c .shared-slice-known .given (c .before .args .n - 1))
 
+mul-bytes : tie.Need-mul-bytes Inv-loop μ-loop
+mul-bytes c = omega arith
+
+add-bytes : tie.Need-add-bytes Inv-loop μ-loop
+add-bytes c = omega (arith, root-inside _ _ _ _ _ _ _ (entered (c .before)) (c .before .args .n - 1))
+
 shared-slice-read-bytes : tie.Need-shared-slice-read-bytes Inv-loop μ-loop
 shared-slice-read-bytes c = root-inside _ _ _ _ _ _ _ (entered (c .before .before)) (c .before .before .args .n - 1)
 
-mul-bytes : tie.Need-mul-bytes Inv-loop μ-loop
-mul-bytes c = omega (arith, root-in (c .before .before))
+mul-bytes-2 : tie.Need-mul-bytes-2 Inv-loop μ-loop
+mul-bytes-2 c = omega (arith, root-in (c .before .before))
 
 slice-write-bytes : tie.Need-slice-write-bytes Inv-loop μ-loop
 slice-write-bytes c = omega (arith, root-in (c .before .before))
@@ -120,17 +133,17 @@ shared-slice-read-a c =
 cast-a : tie.Need-cast-a Inv-loop μ-loop
 cast-a c = omega (arith, c .shared-slice-known4 .given (c .before .before .before .before .loop .v - 1))
 
-mul-bytes-2 : tie.Need-mul-bytes-2 Inv-loop μ-loop
-mul-bytes-2 c = omega (arith, fits (c .before .before .before) .inside)
+mul-bytes-3 : tie.Need-mul-bytes-3 Inv-loop μ-loop
+mul-bytes-3 c = omega (arith, fits (c .before .before .before) .inside)
 
-add-bytes : tie.Need-add-bytes Inv-loop μ-loop
-add-bytes c = omega (arith, fits (c .before .before .before) .inside)
+add-bytes-2 : tie.Need-add-bytes-2 Inv-loop μ-loop
+add-bytes-2 c = omega (arith, fits (c .before .before .before) .inside)
 
 shared-slice-read-bytes-2 : tie.Need-shared-slice-read-bytes-2 Inv-loop μ-loop
 shared-slice-read-bytes-2 c = fits (c .before .before .before .before) .inside
 
-mul-bytes-3 : tie.Need-mul-bytes-3 Inv-loop μ-loop
-mul-bytes-3 c =
+mul-bytes-4 : tie.Need-mul-bytes-4 Inv-loop μ-loop
+mul-bytes-4 c =
     let i = c .before .before .before .before in
     omega (arith, fits i .here, kept-length (i .before))
 
@@ -172,8 +185,10 @@ fill-steps-spec =
     sub-root
     shared-slice-read-first
     cast-first
-    shared-slice-read-bytes
     mul-bytes
+    add-bytes
+    shared-slice-read-bytes
+    mul-bytes-2
     slice-write-bytes
     loop-holds
     sub-v
@@ -186,10 +201,10 @@ fill-steps-spec =
     cast-q
     shared-slice-read-a
     cast-a
-    mul-bytes-2
-    add-bytes
-    shared-slice-read-bytes-2
     mul-bytes-3
+    add-bytes-2
+    shared-slice-read-bytes-2
+    mul-bytes-4
     slice-write-bytes-2
     loop-less
     loop-again

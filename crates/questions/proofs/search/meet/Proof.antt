@@ -1,5 +1,5 @@
--- `meet` meets its contract. The invariant: from node x on the search finds what it finds from node v on. The measure is the
--- depth, which falls at each move. Assumes nothing.
+-- `meet` meets its contract. The invariant: from node x on the search finds what it finds from node v on. The measure
+-- is the depth, which falls at each move. Assumes nothing.
 use mathlib.Core.Path.{refl, sym, _∙_}
 use Rattle.links.specs.Cells.{depthCell}
 use Rattle.questions.proofs.MeetWays.{Searching, Turned, searching-turn, searching-stuck, searching-done}

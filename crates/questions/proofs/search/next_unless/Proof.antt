@@ -14,7 +14,8 @@ jump-at-requires c κs = search needs
 returns : tie.Need-returns
 returns c =
     let a = c .before .before .before .args in
-    jump-outside (cellForest (a .n) (a .nums .now)) (λ (x : ℕ). isBelow (a .nums .now) x (a .u)) (a .v) (c .before .jump-at .result)
+    jump-outside (cellForest (a .n) (a .nums .now)) (λ (x : ℕ). isBelow (a .nums .now) x (a .u)) (a .v)
+    (c .before .jump-at .result)
     (c .before .jump-at .ensures) (c .if1 .taken)
 
 is-below-requires : tie.Need-is-below-requires
@@ -33,7 +34,8 @@ returns-2 c =
     let j = b .before .before in
     let a = j .before .before .args in
     c .if-rising .ensures
-    ∙ parent-taken (cellForest (a .n) (a .nums .now)) (λ (x : ℕ). isBelow (a .nums .now) x (a .u)) (a .v) (j .jump-at .result)
+    ∙ parent-taken (cellForest (a .n) (a .nums .now)) (λ (x : ℕ). isBelow (a .nums .now) x (a .u)) (a .v)
+    (j .jump-at .result)
     (j .jump-at .ensures) (b .before .if1 .left) (p .parent-at .result) (p .parent-at .ensures)
     (sym (b .is-below .ensures) ∙ p .before .if2 .taken)
 
@@ -46,7 +48,8 @@ returns-3 c =
     let j = b .before .before in
     let a = j .before .before .args in
     c .if-rising2 .ensures
-    ∙ jump-taken (cellForest (a .n) (a .nums .now)) (λ (x : ℕ). isBelow (a .nums .now) x (a .u)) (a .v) (j .jump-at .result)
+    ∙ jump-taken (cellForest (a .n) (a .nums .now)) (λ (x : ℕ). isBelow (a .nums .now) x (a .u)) (a .v)
+    (j .jump-at .result)
     (j .jump-at .ensures) (b .before .if1 .left) (sym (b .is-below .ensures) ∙ c .before .if2 .left)
 
 pub next-unless-spec : {M : Type 1} → statement M

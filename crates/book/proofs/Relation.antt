@@ -1,0 +1,73 @@
+-- What ties the session's record to the book.
+--     Parted r z q ps    the record has the question's list and the ready set, and the states of the parts ps, all below S
+--     Counted r q        its states and links are the book's trail, one for each count
+--     Cleanly z q        the bytes of Start are as built, and the trail was worked out on them
+--     Stands r z q k     what a question of standing k keeps
+--     Unended, Ended     a running question has a part left; an answered one the yes or no of its last state
+--     Rel r b            record and book agree
+-- In a loose question only the list, the ready set and states below S are kept, and these only where the numbers of Start were as built:
+-- enough for "never 18" on other bytes.
+-- Assumes nothing.
+use Prim.Native.Nat.{ℕ, _<_}
+use mathlib.Core.Path.{_≡_}
+use mathlib.Core.Bool.{Bool, true}
+use mathlib.Core.List.{List, []}
+use lib.ListN.{length, take}
+use Rattle.formats.specs.Rules.{ruleAutomaton}
+use Rattle.formats.specs.Checks.{firstNo, listChecks}
+use Rattle.ready.specs.Parts.{Part, partsFrom, lastState, allLinks}
+use Rattle.book.specs.Lends.{Sizes, linksBuilt, bytesBuilt}
+use Rattle.book.specs.Book.{Standing, clean, firm, loose, Question, State, Book, phase, rootsOf, partCount, givenBy}
+use Rattle.book.specs.Model.{Record}
+use Rattle.ready.specs.Parts.{statesOf}
+use Rattle.book.proofs.Facts.{Handled}
+
+pub record Parted (r : Record) (z : Sizes) (q : Question) (ps : List Part) : Type 0 where
+  pub nodes : r .nodes ≡ q .nodes
+  pub labels : r .labels ≡ q .labels
+  pub roots : r .roots ≡ rootsOf q
+  pub states : r .states ≡ statesOf ps
+  pub listed : firstNo (listChecks (z .n) (z .k) (q .nodes) (q .labels)) ≡ 0
+  pub handled : Handled z q ps
+
+pub record Counted (r : Record) (z : Sizes) (q : Question) : Type 0 where
+  pub built : linksBuilt z (q .lent) ≡ true
+  pub parted : Parted r z q (q .trail)
+  pub links : r .links ≡ allLinks (q .trail)
+  pub count : q .count ≡ length (q .trail)
+
+pub record Cleanly (z : Sizes) (q : Question) : Type 0 where
+  pub bytes : bytesBuilt z (q .lent) ≡ true
+  pub replayed : q .trail ≡ partsFrom (givenBy z q (q .lent)) (rootsOf q) [] (take (length (q .trail)) (rootsOf q))
+
+-- some parts were handled, whatever their states
+abbrev pub SomeParted : Record → Sizes → Question → Type 0
+SomeParted r z q = linksBuilt z (q .lent) ≡ true → (ps : List Part) × Parted r z q ps
+
+abbrev pub Stands : Record → Sizes → Question → Standing → Type 0
+Stands r z q clean = Counted r z q × Cleanly z q
+Stands r z q firm = Counted r z q
+Stands r z q loose = SomeParted r z q
+
+abbrev pub Unended : Record → Sizes → Question → Type 0
+Unended r z q = linksBuilt z (q .lent) ≡ true → length (r .states) < partCount q
+
+-- the yes or no of the last state
+abbrev pub Marked : Record → Question → Type 0
+Marked r q = r .yes ≡ ruleAutomaton (q .lent .rules) .accepting (lastState (q .trail) 0)
+
+abbrev pub Ended : Record → Question → Standing → Type 0
+Ended r q clean = Marked r q × (q .count ≡ partCount q)
+Ended r q firm = Marked r q
+Ended r q loose = Unit {0}
+
+abbrev pub Holds : Record → Sizes → State → Type 0
+Holds r z State.empty = Unit {0}
+Holds r z State.loaded = Unit {0}
+Holds r z (State.running q) = Stands r z q (q .standing) × Unended r z q
+Holds r z (State.answered q) = Stands r z q (q .standing) × Ended r q (q .standing)
+
+pub record Rel (r : Record) (b : Book) : Type 0 where
+  pub phases : r .phase ≡ phase (b .state)
+  pub sizes : r .sizes ≡ b .sizes
+  pub holds : Holds r (b .sizes) (b .state)

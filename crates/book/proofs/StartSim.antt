@@ -1,0 +1,131 @@
+-- Start on record and book.
+--     start-list       a Start that no check refuses has a list that passes 12 to 15
+--     on-start         what Start tells conforms, and record and book stay related
+-- Assumes nothing.
+use Prim.Native.Nat.{ℕ, _+_, _-_, _<_}
+use mathlib.Core.Path.{_≡_, refl, sym, ap, _∙_, subst}
+use mathlib.Core.Bool.{Bool, true, false, cond, _&&_}
+use mathlib.Core.List.{List, [], _∷_, _++_}
+use mathlib.Core.Option.{Option, none, some, Option·some-injective}
+use native.Mathlib.Omega.{arith}
+use lib.ListN.{length}
+use Rattle.trees.specs.Tree.{size}
+use Rattle.trees.proofs.NodeLaws.{size-pos}
+use Rattle.formats.specs.Bytes.{holds, allBelow}
+use Rattle.formats.specs.Plan.{planTree}
+use Rattle.formats.specs.Checks.{check, firstNo, listChecks}
+use Rattle.formats.proofs.CheckLaws.{true-false, and-left, and-right, firstNo-tail}
+use Rattle.formats.proofs.InputLaws.{list-passes}
+use Rattle.ready.specs.Members.{roots}
+use Rattle.ready.specs.Parts.{partsFrom, allLinks}
+use Rattle.ready.proofs.ListLaws.{list-last}
+use Rattle.questions.specs.Roots.{rootsOn}
+use Rattle.book.specs.Lends.{Lent, Sizes, fits, usedNums, linksBuilt, bytesBuilt, sound}
+use Rattle.book.specs.Calls.{Call, start, Answer, refused, parts, Phase, mayStart}
+use Rattle.book.specs.Refusals.{refusal}
+use Rattle.book.specs.Book.{Standing, clean, firm, loose, Question, State, Book, phase, inState, rootsOf, partCount, proceed}
+use Rattle.book.specs.Book.{standingOf, asked, starting, mayStartWith, unlessRefused}
+use Rattle.book.specs.Model.{Record, acted, proceeds, started, startWith}
+use Rattle.book.proofs.Facts.{Layers}
+use Rattle.book.proofs.TrailLaws.{length-more}
+use Rattle.book.proofs.PartStates.{none-some}
+use Rattle.book.proofs.Relation.{Parted, Counted, Cleanly, Rel}
+use Rattle.book.proofs.Simulation.{Sim, book, Simulates, by-refusal, does}
+
+-- there is always a part: the plan's root
+pub some-part : (q : Question) → 0 < partCount q
+unfolding roots
+some-part q =
+    let t = planTree (q .lent .plan) in
+    let top : size t - 1 + 1 ≡ size t = omega (arith, size-pos t) in
+    let L = list-last (λ v. holds v (q .nodes)) t (size t - 1) top in
+    rw (L .1) (omega (arith, length-more (L .0) (size t - 1)))
+
+pub start-list : (p : Phase) (z : Sizes) (x : Lent) (vs bs : List ℕ) → refusal p z (start x vs bs) ≡ 0
+    → firstNo (listChecks (z .n) (z .k) vs bs) ≡ 0
+unfolding refusal
+start-list p z x vs bs e =
+    firstNo-tail 17 (fits z x) (listChecks (z .n) (z .k) vs bs) (omega arith)
+    (firstNo-tail 1 (mayStart p) (check 17 (fits z x) ∷ listChecks (z .n) (z .k) vs bs) (omega arith) e)
+
+-- what a standing at Start says of the lends
+abbrev Begins : Sizes → Lent → Standing → Type 0
+Begins z x clean = (linksBuilt z x ≡ true) × (bytesBuilt z x ≡ true)
+Begins z x firm = linksBuilt z x ≡ true
+Begins z x loose = linksBuilt z x ≡ false
+
+begins : (z : Sizes) (x : Lent) → Begins z x (standingOf z x)
+unfolding standingOf sound
+begins z x = go (linksBuilt z x) (bytesBuilt z x) refl refl
+  where
+    go : (l b : Bool) → linksBuilt z x ≡ l → bytesBuilt z x ≡ b → Begins z x (cond (l && b) clean (cond l firm loose))
+    go true true h i = (h, i)
+    go true false h i = h
+    go false b h i = h
+
+module _ (L : Layers) (r : Record) (s : State) (z : Sizes) (x : Lent) (vs bs : List ℕ) (listed : firstNo (listChecks (z .n) (z .k) vs bs) ≡ 0)
+    (i : Rel r (book s z)) where
+  abbrev opened : Standing → Question
+  opened k = record { nodes = vs; labels = bs; lent = x; count = 0; standing = k; trail = [] }
+
+  abbrev begun : List ℕ → Record
+  begun rs = started (r .sizes) vs bs rs
+
+  abbrev found : Option (List ℕ)
+  found = rootsOn (z .n) (usedNums z x) vs
+
+  ready : linksBuilt z x ≡ true → found ≡ some (roots (planTree (x .plan)) vs)
+  ready h = L .roots-built z x vs h (list-passes (z .n) (z .k) vs bs listed .nodes-below)
+
+  parted-first : (k : Standing) → Parted (begun (rootsOf (opened k))) z (opened k) []
+  unfolding started allBelow
+  parted-first k = record {
+    nodes = refl;
+    labels = refl;
+    roots = refl;
+    states = refl;
+    listed = listed;
+    handled = record { nodes = refl; states = refl };
+  }
+
+  counted-first : (k : Standing) → linksBuilt z x ≡ true → Counted (begun (rootsOf (opened k))) z (opened k)
+  unfolding started allLinks
+  counted-first k h = record { built = h; parted = parted-first k; links = refl; count = refl }
+
+  -- a question that Start settles
+  start-built : (k : Standing) → linksBuilt z x ≡ true → Rel (begun (rootsOf (opened k))) (book (State.running (opened k)) z)
+      → Sim (starting (book s z) (opened k) firm) (startWith r vs bs found)
+  unfolding starting startWith inState
+  start-built k h n = rw (ready h) (refl, n)
+
+  start-as : (k : Standing) → Begins z x k → Sim (starting (book s z) (opened k) k) (startWith r vs bs found)
+  unfolding starting startWith inState mayStartWith unlessRefused phase started partsFrom
+  start-as clean f =
+      start-built clean (f .0)
+      (record {
+        phases = refl;
+        sizes = i .sizes;
+        holds = ((counted-first clean (f .0), record { bytes = f .1; replayed = refl }), λ h. some-part (opened clean));
+      })
+  start-as firm f =
+      start-built firm f (record { phases = refl; sizes = i .sizes; holds = (counted-first firm f, λ h. some-part (opened firm)) })
+  start-as loose f = go found
+    where
+      go : (o : Option (List ℕ)) → Sim (starting (book s z) (opened loose) loose) (startWith r vs bs o)
+      go none = (refl, i)
+      go (some rs) = (
+        refl,
+        record { phases = refl; sizes = i .sizes; holds = (λ h. absurd (true-false (sym h ∙ f)), λ h. absurd (true-false (sym h ∙ f))) },
+      )
+
+start-at : (L : Layers) (r : Record) (s : State) (z : Sizes) (x : Lent) (vs bs : List ℕ) → Rel r (book s z)
+    → refusal (phase s) z (start x vs bs) ≡ 0 → Sim (proceed (book s z) s (start x vs bs)) (proceeds r (start x vs bs))
+unfolding proceed proceeds asked
+start-at L r s z x vs bs i h =
+    subst (λ (y : Sizes). Sim (proceed (book s z) s (start x vs bs)) (startWith r vs bs (rootsOn (y .n) (usedNums y x) vs))) (sym (i .sizes))
+    (start-as L r s z x vs bs (start-list (phase s) z x vs bs h) i (standingOf z x) (begins z x))
+
+pub on-start : Layers → (x : Lent) (vs bs : List ℕ) → Simulates (start x vs bs)
+on-start L x vs bs r r′ b a i d =
+    does r r′ b (start x vs bs) a d
+    (by-refusal r (b .state) (b .sizes) (start x vs bs) i (start-at L r (b .state) (b .sizes) x vs bs i))

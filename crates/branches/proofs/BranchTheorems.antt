@@ -1,0 +1,111 @@
+-- What the answers of the build and of the full check for a branch table mean.
+--     written-branch-built, built-branch-built   an accepted build leaves both buffers as built, whatever their
+--         excess is
+--     check-yes, yes-check   the check's answer is yes exactly where plan and branch table pass and the tables are as
+--         built
+--     check-no, no-check     it is no exactly where 2 to 11 pass and the tables are not as built
+--     build-then-check       what an accepted build leaves is answered with yes
+-- Assumes nothing.
+use Prim.Native.Nat.{ℕ}
+use mathlib.Core.Path.{_≡_, sym, ap, _∙_}
+use mathlib.Core.List.{List, _++_}
+use lib.ListN.{length, take, drop}
+use lib.Seq.{take-at}
+use Rattle.formats.specs.Plan.{nodeCount}
+use Rattle.formats.specs.Rules.{stateCount}
+use Rattle.formats.specs.Checks.{firstNo, branchTableChecks, branchBuildChecks, linkLength, stateLength}
+use Rattle.formats.specs.Built.{builtLinks, builtSteps, BranchBuilt}
+use Rattle.formats.proofs.PlanLaws.{PlanPasses}
+use Rattle.formats.proofs.InputLaws.{branch-table-passes, branch-build-table, passes-branch-build}
+use Rattle.tables.specs.declared.answers.Building.{Building}
+use Rattle.tables.specs.declared.answers.Checking.{Checking}
+use Rattle.tables.specs.declared.answers.Checking.the-variants.{Yes, No}
+use Rattle.tables.specs.Answers.{numberOf, BuildDone, CheckDone}
+use Rattle.tables.proofs.BuildLaws.{length-builtLinks, built-lists}
+use Rattle.tables.proofs.CheckAnswers.{Begins, begins-room, done-yes, yes-done, done-no, no-done}
+use Rattle.branches.proofs.BranchInputs.{length-builtSteps}
+
+-- the number of the first check of 2 to 11 that fails
+abbrev pub branchBuildNumber : List ℕ → List ℕ → List ℕ → List ℕ → ℕ
+branchBuildNumber p r nums bytes = firstNo (branchBuildChecks p r (length nums) (length bytes))
+
+module _ (p r : List ℕ) (pass : firstNo (branchTableChecks p r) ≡ 0) where
+  links-length : length (builtLinks p) ≡ linkLength (nodeCount p)
+  links-length = length-builtLinks p (branch-table-passes p r pass .0)
+
+  steps-length : length (builtSteps p r) ≡ stateLength (nodeCount p) (stateCount r)
+  steps-length = length-builtSteps p r (branch-table-passes p r pass .0)
+
+  -- any excess
+  pub written-branch-built : (x y : List ℕ) → BranchBuilt p r (builtLinks p ++ x) (builtSteps p r ++ y)
+  written-branch-built x y = record {
+    accepted = pass;
+    links = take-at (builtLinks p) x (linkLength (nodeCount p)) links-length;
+    states = take-at (builtSteps p r) y (stateLength (nodeCount p) (stateCount r)) steps-length;
+  }
+
+-- whatever the buffers were, an accepted build leaves them as built
+pub built-branch-built : (p r nums bytes nums′ bytes′ : List ℕ) (answer : Building)
+    → BuildDone (branchBuildNumber p r nums bytes) (builtLinks p) (builtSteps p r) nums bytes answer nums′ bytes′
+    → numberOf answer ≡ 0 → BranchBuilt p r nums′ bytes′
+built-branch-built p r nums bytes nums′ bytes′ answer D e =
+    let q = built-lists _ (builtLinks p) (builtSteps p r) nums bytes answer nums′ bytes′ D e in
+    rw (q .1, q .2) (written-branch-built p r (branch-build-table p r (length nums) (length bytes) (q .0))
+    (drop (length (builtLinks p)) nums) (drop (length (builtSteps p r)) bytes))
+
+-- ---- yes and no
+
+module _ (p r nums bytes : List ℕ) where
+  begins-built : firstNo (branchTableChecks p r) ≡ 0 → Begins (builtLinks p) (builtSteps p r) nums bytes
+      → BranchBuilt p r nums bytes
+  begins-built pass b = record {
+    accepted = pass;
+    links = ap (λ (n : ℕ). take n nums) (sym (links-length p r pass)) ∙ b .0;
+    states = ap (λ (n : ℕ). take n bytes) (sym (steps-length p r pass)) ∙ b .1;
+  }
+
+  built-begins : BranchBuilt p r nums bytes → Begins (builtLinks p) (builtSteps p r) nums bytes
+  built-begins B = (
+    ap (λ (n : ℕ). take n nums) (links-length p r (B .accepted)) ∙ B .links,
+    ap (λ (n : ℕ). take n bytes) (steps-length p r (B .accepted)) ∙ B .states,
+  )
+
+  -- tables as built have room
+  pub branch-built-passes : BranchBuilt p r nums bytes → branchBuildNumber p r nums bytes ≡ 0
+  branch-built-passes B =
+      passes-branch-build p r (length nums) (length bytes) (B .accepted)
+      (begins-room (linkLength (nodeCount p)) nums (builtLinks p) (B .links) (links-length p r (B .accepted)))
+      (begins-room (stateLength (nodeCount p) (stateCount r)) bytes (builtSteps p r) (B .states)
+      (steps-length p r (B .accepted)))
+
+  module _ (answer : Checking)
+      (done : CheckDone (branchBuildNumber p r nums bytes) (builtLinks p) (builtSteps p r) nums bytes answer) where
+    pub check-yes : answer ≡ Yes → BranchBuilt p r nums bytes
+    check-yes e =
+        let q = done-yes (branchBuildNumber p r nums bytes) (builtLinks p) (builtSteps p r) nums bytes answer done e in
+        begins-built (branch-build-table p r (length nums) (length bytes) (q .0)) (q .1)
+
+    pub yes-check : BranchBuilt p r nums bytes → answer ≡ Yes
+    yes-check B =
+        yes-done (branchBuildNumber p r nums bytes) (builtLinks p) (builtSteps p r) nums bytes answer done
+        (branch-built-passes B)
+        (built-begins B)
+
+    pub check-no : answer ≡ No → (branchBuildNumber p r nums bytes ≡ 0) × (BranchBuilt p r nums bytes → ⊥)
+    check-no e =
+        let q = done-no (branchBuildNumber p r nums bytes) (builtLinks p) (builtSteps p r) nums bytes answer done e in
+        (q .0, λ B. q .1 (built-begins B))
+
+    pub no-check : branchBuildNumber p r nums bytes ≡ 0 → (BranchBuilt p r nums bytes → ⊥) → answer ≡ No
+    no-check pass not-built =
+        no-done (branchBuildNumber p r nums bytes) (builtLinks p) (builtSteps p r) nums bytes answer done pass
+        (λ b. not-built (begins-built (branch-build-table p r (length nums) (length bytes) pass) b))
+
+-- nums and bytes before an accepted build, nums′ and bytes′ after it
+pub build-then-check : (p r nums bytes nums′ bytes′ : List ℕ) (built : Building) (checked : Checking)
+    → BuildDone (branchBuildNumber p r nums bytes) (builtLinks p) (builtSteps p r) nums bytes built nums′ bytes′
+    → numberOf built ≡ 0
+    → CheckDone (branchBuildNumber p r nums′ bytes′) (builtLinks p) (builtSteps p r) nums′ bytes′ checked
+    → checked ≡ Yes
+build-then-check p r nums bytes nums′ bytes′ built checked B e C =
+    yes-check p r nums′ bytes′ checked C (built-branch-built p r nums bytes nums′ bytes′ built B e)
