@@ -1,3 +1,14 @@
+pub mod LookupLaws
+pub mod StepLaws
+pub mod ClimbTurns
+pub mod ScanLaws
+pub mod PartLaws
+pub mod ClimbBounds
+pub mod PartBounds
+pub mod PartViews
+pub mod PartTurns
+pub mod PartFits
+pub mod PartHanded
 pub mod InsertLaws
 pub mod SearchLaws
 pub mod MeetWays

@@ -5,3 +5,8 @@ pub mod Rising
 pub mod RootsTold
 pub mod Climbs
 pub mod Part
+pub mod PathViews
+pub mod PartTold
+pub mod Steps
+pub mod Scans
+pub mod PartArgs

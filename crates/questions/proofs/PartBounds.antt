@@ -1,0 +1,173 @@
+-- What a part gives: a state, and no more links than there are nodes.
+--     side-bounded, join-bounded        at a child, and by the rule
+--     inner-sides                       an inner node joins what its two children come to
+--     part-bounded                      of every part
+--     partGiven-below                   "every state below S": of the part that a caller asks for
+--     part-links                        its links fit: it makes one climb at most
+-- Assumes nothing.
+use Prim.Native.Nat.{ℕ, _+_, _-_, _≤_, _<_}
+use mathlib.Core.Path.{_≡_, refl, ap, subst}
+use mathlib.Core.Bool.{Bool, true, false, cond, _&&_}
+use mathlib.Core.List.{List}
+use mathlib.Core.Option.{Option, none, some, Option·some-injective}
+use native.Mathlib.Omega.{arith}
+use lib.Dec.{leb, ltb, eqb}
+use lib.ListN.{length, getD, take}
+use borrow.Author.Tests.{leb-true}
+use Rattle.trees.specs.Climb.{andThen}
+use Rattle.trees.proofs.MoveLaws.{none-some}
+use Rattle.formats.specs.Limits.{nodeLimit, within}
+use Rattle.links.specs.Cells.{sizeCell}
+use Rattle.questions.specs.Climbs.{View, below, runOn, ruleOn, Reached, reached, climbOn}
+use Rattle.questions.specs.Part.{Found, climbFrom, runReached, ownReached, joinOn, innerOn, leafOn, forkOn, partOn}
+use Rattle.questions.specs.Part.{labelOn}
+use Rattle.questions.specs.Scans.{sideOn}
+use Rattle.questions.specs.PartArgs.{unmoved}
+use Rattle.questions.specs.PartTold.{limitsFit, partFits, lentView, partGiven}
+use Rattle.questions.proofs.LookupLaws.{below-state}
+use Rattle.questions.proofs.ClimbBounds.{rule-state, Bounded, climb-bounded}
+
+cond-some : {A : Type 0} {x : A} (b : Bool) (o : Option A) → cond b o none ≡ some x → (b ≡ true) × (o ≡ some x)
+cond-some true o h = (refl, h)
+cond-some false o h = absurd (none-some h)
+
+and-left : (a b : Bool) → (a && b) ≡ true → a ≡ true
+and-left true b h = refl
+and-left false b h = h
+
+and-right : (a b : Bool) → (a && b) ≡ true → b ≡ true
+and-right true b h = h
+and-right false b h = let z : _≡_ {A = ℕ} 0 1 = cc in absurd (omega arith)
+
+module _ (X : View) where
+  -- ---- at a child
+
+  pub record Still (x : Reached) : Type 0 where
+    pub state : x .state < X .s
+    pub links : x .links ≡ 0
+
+  unmoved-still : (q : ℕ) (x : Reached) → unmoved (below (X .s) q) ≡ some x → Still x
+  unmoved-still q x e = go (below (X .s) q) refl e
+    where
+      go : (o : Option ℕ) → below (X .s) q ≡ o → unmoved o ≡ some x → Still x
+      go none b i = absurd (none-some i)
+      go (some y) b i =
+          let s = below-state (X .s) q y b in
+          subst Still (Option·some-injective (reached y 0) x i) (record { state = omega (arith, s .0, s .1); links = refl })
+
+  run-still : (c : ℕ) (x : Reached) → runReached X c ≡ some x → Still x
+  unfolding runReached runOn
+  run-still c x e = unmoved-still _ x e
+
+  own-still : (f : Found) (x : Reached) → ownReached X f ≡ some x → Still x
+  unfolding ownReached
+  own-still f x e = unmoved-still (f .state) x e
+
+  from-bounded : (t : ℕ) (f : Found) (x : Reached) → climbFrom X t f ≡ some x → Bounded X x
+  unfolding climbFrom
+  from-bounded t f x e = go (below (X .s) (f .state)) refl e
+    where
+      go : (o : Option ℕ) → below (X .s) (f .state) ≡ o → andThen o (λ q. climbOn X (f .node) t q) ≡ some x → Bounded X x
+      go none b i = absurd (none-some i)
+      go (some q) b i =
+          let s = below-state (X .s) (f .state) q b in
+          climb-bounded X (f .node) t q x (omega (arith, s .0, s .1)) i
+
+  still-bounded : (x : Reached) → Still x → Bounded X x
+  still-bounded x S = record { state = S .state; links = omega (arith, S .links) }
+
+  pub side-bounded : (t c : ℕ) (f g : Option Found) (x : Reached) → sideOn X t c f g ≡ some x → Bounded X x
+  unfolding sideOn
+  side-bounded t c none g x e = still-bounded x (run-still c x e)
+  side-bounded t c (some f) none x e = from-bounded t f x e
+  side-bounded t c (some f) (some g) x e = still-bounded x (own-still f x e)
+
+  -- ---- by the rule
+
+  -- z comes of x and y: its state is a state, its links are theirs
+  pub join-bounded : (a i j : ℕ) (x y : Option Reached) (z : Reached) → joinOn X a x y ≡ some z
+      → ((l : Reached) → x ≡ some l → l .links ≤ i) → ((r : Reached) → y ≡ some r → r .links ≤ j)
+      → (z .state < X .s) × (z .links ≤ i + j)
+  unfolding joinOn
+  join-bounded a i j none y z e f g = absurd (none-some e)
+  join-bounded a i j (some l) none z e f g = absurd (none-some e)
+  join-bounded a i j (some l) (some r) z e f g = go (ruleOn X (l .state) a (r .state)) refl e
+    where
+      go : (o : Option ℕ) → ruleOn X (l .state) a (r .state) ≡ o
+          → andThen o (λ q. some (reached q (l .links + r .links))) ≡ some z → (z .state < X .s) × (z .links ≤ i + j)
+      go none b h = absurd (none-some h)
+      go (some q) b h =
+          let s : reached q (l .links + r .links) ≡ z = Option·some-injective (reached q (l .links + r .links)) z h in
+          let n : l .links + r .links ≡ z .links = ap (λ (w : Reached). w .links) s in
+          let m : q ≡ z .state = ap (λ (w : Reached). w .state) s in
+          (omega (arith, rule-state X (l .state) a (r .state) q b), omega (arith, f l refl, g r refl))
+
+  pub inner-sides : (t l r a : ℕ) (f g : Option Found)
+      → innerOn X t l r a f g ≡ joinOn X a (sideOn X t l f g) (sideOn X t r g f)
+  unfolding innerOn sideOn
+  inner-sides t l r a none none = refl
+  inner-sides t l r a none (some g) = refl
+  inner-sides t l r a (some f) none = refl
+  inner-sides t l r a (some f) (some g) = refl
+
+  inner-bounded : (t l r a : ℕ) (f g : Option Found) (x : Reached) → innerOn X t l r a f g ≡ some x → Bounded X x
+  unfolding innerOn
+  inner-bounded t l r a none none x e =
+      let b = join-bounded a 0 0 _ _ x e (λ y i. omega (arith, run-still l y i .links)) (λ y i. omega (arith, run-still r y i .links)) in
+      record { state = b .0; links = omega (arith, b .1) }
+  inner-bounded t l r a none (some g) x e =
+      let b = join-bounded a 0 (X .n) _ _ x e (λ y i. omega (arith, run-still l y i .links)) (λ y i. from-bounded t g y i .links) in
+      record { state = b .0; links = omega (arith, b .1) }
+  inner-bounded t l r a (some f) none x e =
+      let b = join-bounded a (X .n) 0 _ _ x e (λ y i. from-bounded t f y i .links) (λ y i. omega (arith, run-still r y i .links)) in
+      record { state = b .0; links = omega (arith, b .1) }
+  inner-bounded t l r a (some f) (some g) x e =
+      let b = join-bounded a 0 0 _ _ x e (λ y i. omega (arith, own-still f y i .links)) (λ y i. omega (arith, own-still g y i .links)) in
+      record { state = b .0; links = omega (arith, b .1) }
+
+  -- ---- of every part
+
+  leaf-bounded : (a : ℕ) (x : Reached) → leafOn X a ≡ some x → Bounded X x
+  unfolding leafOn
+  leaf-bounded a x e =
+      still-bounded x (unmoved-still (getD (X .leaves) a 0) x
+      (cond-some (ltb a (X .k)) (unmoved (below (X .s) (getD (X .leaves) a 0))) e .1))
+
+  pub part-bounded : (es qs vs bs : List ℕ) (v : ℕ) (x : Reached) → partOn X es qs vs bs v ≡ some x → Bounded X x
+  unfolding partOn forkOn
+  part-bounded es qs vs bs v x e = go (eqb (getD (X .kinds) v 0) 0) e
+    where
+      fork : (b : Bool) → cond b (forkOn X es qs v (v - 1 - sizeCell (X .nums) (v - 1)) (labelOn X vs bs v)) none ≡ some x
+          → Bounded X x
+      fork b i = inner-bounded _ _ _ _ _ _ x (cond-some b (forkOn X es qs v (v - 1 - sizeCell (X .nums) (v - 1)) (labelOn X vs bs v)) i .1)
+
+      go : (b : Bool) → cond b (leafOn X (labelOn X vs bs v))
+          (cond (ltb 0 v && leb (sizeCell (X .nums) (v - 1)) (v - 1))
+          (forkOn X es qs v (v - 1 - sizeCell (X .nums) (v - 1)) (labelOn X vs bs v)) none) ≡ some x → Bounded X x
+      go true i = leaf-bounded (labelOn X vs bs v) x i
+      go false i = fork (ltb 0 v && leb (sizeCell (X .nums) (v - 1)) (v - 1)) i
+
+-- ---- the part that a caller asks for
+
+module _ (n s k : ℕ) (plan rules nums bytes roots states vs bs : List ℕ) (x : Reached)
+    (e : partGiven n s k plan rules nums bytes roots states vs bs ≡ some x) where
+  given : (partFits n s k plan rules nums bytes roots states vs bs ≡ true) × Bounded (lentView n s k plan rules nums bytes) x
+  unfolding partGiven
+  given =
+      let c =
+      cond-some (partFits n s k plan rules nums bytes roots states vs bs)
+      (partOn (lentView n s k plan rules nums bytes) (take (length states) roots) states vs bs (getD roots (length states) 0)) e in (
+        c .0,
+        part-bounded (lentView n s k plan rules nums bytes) (take (length states) roots) states vs bs
+            (getD roots (length states) 0) x (c .1),
+      )
+
+  pub partGiven-below : x .state < s
+  partGiven-below = given .1 .state
+
+  nodes-most : n ≤ 65535
+  unfolding partFits limitsFit
+  nodes-most = leb-true n nodeLimit (and-right (leb 1 n) (leb n nodeLimit) (and-left (within 1 nodeLimit n) _ (and-left _ _ (given .0))))
+
+  pub part-links : x .links ≤ 65535
+  part-links = omega (arith, given .1 .links, nodes-most)

@@ -1,0 +1,104 @@
+-- A part by the tests of the code.
+--     side-args, join-few, fork-told              an inner node: its searches, its two sides, its rule
+--     part-leaf, part-first, part-outside, part-fork   by the root's kind and children
+-- Assumes nothing.
+use Prim.Native.Nat.{ℕ, _+_, _-_, _≤_, _<_}
+use mathlib.Core.Path.{_≡_, sym, ap, ap₂, _∙_}
+use mathlib.Core.List.{List}
+use mathlib.Core.Option.{Option, some}
+use native.Mathlib.Omega.{arith}
+use lib.ListN.{length, getD}
+use borrow.Author.Tests.{lt-ltb, le-ltb, le-leb, lt-leb, eq-eqb, ne-eqb}
+use Rattle.trees.specs.Changes.{changed}
+use Rattle.links.specs.Cells.{depthCell, sizeCell}
+use Rattle.questions.specs.declared.climb.Climbed.{Climbed}
+use Rattle.questions.specs.declared.climb.Climbed.the-variants.{Outside}
+use Rattle.questions.specs.Climbs.{View, ruleOn, Reached}
+use Rattle.questions.specs.Part.{Found, joinOn, leafOn, forkOn, partOn, foundBelow, labelOn}
+use Rattle.questions.specs.PathViews.{rulesView, PathArgs}
+use Rattle.questions.specs.Scans.{lastIn, foundOf, sideOn}
+use Rattle.questions.specs.PartArgs.{pathOf, leavesView, heard, Few, SideArgs}
+use Rattle.questions.specs.PartTold.{toldReached}
+use Rattle.questions.proofs.ScanLaws.{last-bound, last-covers, found-scan}
+use Rattle.questions.proofs.ClimbBounds.{Bounded}
+use Rattle.questions.proofs.PartBounds.{side-bounded, inner-sides}
+use Rattle.questions.proofs.PartLaws.{heard-told}
+use Rattle.questions.proofs.PartViews.{fork-same}
+
+-- ---- an inner node
+
+-- the place found for child c serves its side
+pub side-args : (n s k : ℕ) (ls inn nums bytes es qs : List ℕ) (c own : ℕ) → PathArgs n s k ls inn nums bytes → c < n
+    → length es ≡ length qs → own ≡ lastIn c (sizeCell nums c) es → SideArgs n s k ls inn nums bytes es qs c own
+side-args n s k ls inn nums bytes es qs c own P h e f = record {
+  path = P;
+  at = h;
+  same = e;
+  place = omega (arith, last-bound c (sizeCell nums c) es);
+  inside = λ i z. omega (arith, last-covers c (sizeCell nums c) es i (sym f ∙ z));
+}
+
+-- what a side tells is a state with few links
+pub side-few : (X : View) (t c : ℕ) (f g : Option Found) (r : Climbed) → X .n ≤ 65535 → r ≡ toldReached (sideOn X t c f g)
+    → (x : Reached) → heard r ≡ some x → Few (X .s) x
+side-few X t c f g r m e x h =
+    let b : Bounded X x = side-bounded X t c f g x (sym (ap heard e ∙ heard-told (sideOn X t c f g)) ∙ h) in
+    record { state = b .state; links = omega (arith, b .links) }
+
+module _ (X : View) (es qs : List ℕ) (v l a i j to : ℕ) (same : length es ≡ length qs)
+    (is-to : to ≡ depthCell (X .nums) v + 1)
+    (is-i : i ≡ lastIn l (sizeCell (X .nums) l) es) (is-j : j ≡ lastIn (v - 1) (sizeCell (X .nums) (v - 1)) es) where
+  abbrev f : Option Found
+  f = foundOf es qs i
+
+  abbrev g : Option Found
+  g = foundOf es qs j
+
+  fork-by : forkOn X es qs v l a ≡ joinOn X a (sideOn X to l f g) (sideOn X to (v - 1) g f)
+  unfolding forkOn
+  fork-by =
+      let p : foundBelow (X .nums) l es qs ≡ f = found-scan (X .nums) l es qs same ∙ ap (foundOf es qs) (sym is-i) in
+      let q : foundBelow (X .nums) (v - 1) es qs ≡ g = found-scan (X .nums) (v - 1) es qs same ∙ ap (foundOf es qs) (sym is-j) in
+      rw (p, q, sym is-to) (inner-sides X to l (v - 1) a f g)
+
+  pub fork-told : (left right r : Climbed) → left ≡ toldReached (sideOn X to l f g) → right ≡ toldReached (sideOn X to (v - 1) g f)
+      → r ≡ toldReached (joinOn (rulesView (X .s) (X .k) (X .inner)) a (heard left) (heard right))
+      → r ≡ toldReached (forkOn X es qs v l a)
+  unfolding joinOn ruleOn
+  fork-told left right r p q e =
+      e
+      ∙ ap₂ (λ (x y : Option Reached). toldReached (joinOn X a x y))
+      (ap heard p ∙ heard-told (sideOn X to l f g)) (ap heard q ∙ heard-told (sideOn X to (v - 1) g f))
+      ∙ ap toldReached (sym fork-by)
+
+-- ---- by the root's kind and children
+
+module _ (X : View) (es qs vs bs : List ℕ) (v a : ℕ) (is-a : a ≡ getD (changed (X .labels) vs bs) v 0) where
+  pub part-leaf : (r : Climbed) → getD (X .kinds) v 0 ≡ 0 → r ≡ toldReached (leafOn (leavesView (X .s) (X .k) (X .leaves)) a)
+      → r ≡ toldReached (partOn X es qs vs bs v)
+  unfolding partOn leafOn labelOn
+  part-leaf r h e = rw (eq-eqb (getD (X .kinds) v 0) 0 h, sym is-a) e
+
+  module _ (h : ¬ (getD (X .kinds) v 0 ≡ 0)) where
+    pub part-first : v ≡ 0 → Outside ≡ toldReached (partOn X es qs vs bs v)
+    unfolding partOn toldReached
+    part-first z = rw (ne-eqb (getD (X .kinds) v 0) 0 h, le-ltb 0 v (omega arith))
+
+    module _ (i : ¬ (v ≡ 0)) where
+      pub part-outside : v - 1 < sizeCell (X .nums) (v - 1) → Outside ≡ toldReached (partOn X es qs vs bs v)
+      unfolding partOn toldReached
+      part-outside l =
+          rw (ne-eqb (getD (X .kinds) v 0) 0 h, lt-ltb 0 v (omega arith), lt-leb (sizeCell (X .nums) (v - 1)) (v - 1) l)
+
+      pub part-fork : (z : ℕ) (r : Climbed) → z ≡ sizeCell (X .nums) (v - 1) → z ≤ v - 1
+          → r ≡ toldReached (forkOn (pathOf X) es qs v (v - 1 - z) a) → r ≡ toldReached (partOn X es qs vs bs v)
+      unfolding partOn labelOn
+      part-fork z r e l w =
+          rw (
+            ne-eqb (getD (X .kinds) v 0) 0 h,
+            lt-ltb 0 v (omega arith),
+            le-leb (sizeCell (X .nums) (v - 1)) (v - 1) (omega arith),
+            sym is-a,
+            sym e,
+          )
+          (w ∙ ap toldReached (sym (fork-same X es qs v (v - 1 - z) a)))

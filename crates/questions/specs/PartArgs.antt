@@ -1,0 +1,102 @@
+-- What the functions of a part are lent, as runs, and what they need of it.
+--
+-- partView n s k ls ks lv inn nums bytes == the view of all runs; pathOf X == of these what a climb reads
+-- unmoved o == a state reached by no link
+-- heard x == the state and links that were told; none for Outside
+-- LastArgs, LabelArgs, LeafArgs, JoinArgs, SideArgs, ForkArgs, PartArgs == every read is inside its run
+-- LimitArgs n s k == n, s and k are not above their limits
+--
+-- Assumes nothing.
+use Prim.Native.Nat.{ℕ, _+_, _*_, _≤_, _<_}
+use mathlib.Core.Path.{_≡_}
+use mathlib.Core.List.{List, []}
+use mathlib.Core.Option.{Option, none, some}
+use lib.ListN.{length, getD}
+use Rattle.trees.specs.Climb.{andThen}
+use Rattle.questions.specs.declared.climb.Climbed.{Climbed}
+use Rattle.questions.specs.declared.climb.Climbed.the-variants.{Reached as Told, Outside}
+use Rattle.questions.specs.Climbs.{View, Reached, reached}
+use Rattle.questions.specs.PathViews.{pathView, PathArgs}
+
+abbrev pub partView : ℕ → ℕ → ℕ → List ℕ → List ℕ → List ℕ → List ℕ → List ℕ → List ℕ → View
+partView n s k ls ks lv inn nums bytes = record {
+  n = n;
+  s = s;
+  k = k;
+  labels = ls;
+  kinds = ks;
+  leaves = lv;
+  inner = inn;
+  nums = nums;
+  bytes = bytes;
+}
+
+abbrev pub leavesView : ℕ → ℕ → List ℕ → View
+leavesView s k lv = partView 0 s k [] [] lv [] [] []
+
+abbrev pub pathOf : View → View
+pathOf X = pathView (X .n) (X .s) (X .k) (X .labels) (X .inner) (X .nums) (X .bytes)
+
+abbrev pub unmoved : Option ℕ → Option Reached
+unmoved o = andThen o (λ q. some (reached q 0))
+
+abbrev pub heard : Climbed → Option Reached
+heard (Told q c) = some (reached q c)
+heard Outside = none
+
+pub record LastArgs (nums es : List ℕ) (c : ℕ) : Type 0 where
+  pub node : c ≤ 65535
+  pub room : c * 4 + 4 ≤ length nums
+  pub many : length es ≤ 65535
+
+pub record LabelArgs (ls vs bs : List ℕ) (v : ℕ) : Type 0 where
+  pub node : v ≤ 65535
+  pub at : v < length ls
+  pub same : length vs ≡ length bs
+  pub many : length vs ≤ 65535
+
+pub record LeafArgs (s k : ℕ) (lv : List ℕ) : Type 0 where
+  pub few : s ≤ 16
+  pub room : k ≤ length lv
+
+-- a state that was told, and few links
+pub record Few (s : ℕ) (x : Reached) : Type 0 where
+  pub state : x .state < s
+  pub links : x .links ≤ 65535
+
+pub record JoinArgs (s k : ℕ) (inn : List ℕ) (left right : Climbed) : Type 0 where
+  pub few : s ≤ 16
+  pub labels : k ≤ 64
+  pub room : s * k * s ≤ length inn
+  pub left-few : (x : Reached) → heard left ≡ some x → Few s x
+  pub right-few : (x : Reached) → heard right ≡ some x → Few s x
+
+-- the entry at place `own`, if it is one, is a root among the nodes
+pub record SideArgs (n s k : ℕ) (ls inn nums bytes es qs : List ℕ) (c own : ℕ) : Type 0 where
+  pub path : PathArgs n s k ls inn nums bytes
+  pub at : c < n
+  pub same : length es ≡ length qs
+  pub place : own ≤ length es
+  pub inside : (i : ℕ) → own ≡ i + 1 → getD es i 0 < n
+
+pub record ForkArgs (n s k : ℕ) (ls inn nums bytes es qs : List ℕ) (v l : ℕ) : Type 0 where
+  pub path : PathArgs n s k ls inn nums bytes
+  pub at : v < n
+  pub left : l < v
+  pub same : length es ≡ length qs
+  pub many : length es ≤ 65535
+
+pub record PartArgs (n s k : ℕ) (ls ks lv inn nums bytes es qs vs bs : List ℕ) (v : ℕ) : Type 0 where
+  pub path : PathArgs n s k ls inn nums bytes
+  pub at : v < n
+  pub kinds-room : n ≤ length ks
+  pub leaves-room : k ≤ length lv
+  pub same : length es ≡ length qs
+  pub many : length es ≤ 65535
+  pub same-list : length vs ≡ length bs
+  pub many-list : length vs ≤ 65535
+
+pub record LimitArgs (n s k : ℕ) : Type 0 where
+  pub most : n ≤ 65535
+  pub few : s ≤ 16
+  pub labels : k ≤ 64

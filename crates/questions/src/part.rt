@@ -1,0 +1,287 @@
+// One part of a question: the state of its root, from the parts before it, and the links of its climb, on whatever is
+// lent.
+use crate::climb::Climbed;
+use crate::climb::climb_state;
+use crate::fits::asked_fits;
+use crate::fits::lengths_fit;
+use crate::fits::limits_fit;
+use crate::rules::rule_on;
+use crate::rules::run_on;
+use crate::scan::last_in;
+use links::moves::depth_at;
+use links::moves::size_at;
+ghost use mathlib.Core.Path.{_≡_};
+ghost use Prim.Native.Nat.{ℕ, _≤_};
+ghost use lib.ListN.{getD};
+ghost use Rattle.trees.specs.Changes.{changed};
+ghost use Rattle.links.specs.Cells.{sizeCell};
+ghost use Rattle.questions.specs.Climbs.{below};
+ghost use Rattle.questions.specs.Part.{joinOn, leafOn, forkOn, partOn};
+ghost use Rattle.questions.specs.PathViews.{pathView, rulesView};
+ghost use Rattle.questions.specs.Scans.{lastIn, foundOf, sideOn};
+ghost use Rattle.questions.specs.PartArgs.{partView, leavesView, unmoved, heard, LastArgs, LabelArgs, LeafArgs};
+ghost use Rattle.questions.specs.PartArgs.{JoinArgs, SideArgs, ForkArgs, PartArgs};
+ghost use Rattle.questions.specs.PartTold.{toldReached, partGiven};
+
+// The place, from 1, of the last of the earlier roots that is c or below it; 0 where there is none.
+fn last_below(nums: &[u16], earlier: &[u16], c: usize) -> usize
+    requires { ⌜ LastArgs (now nums) (now earlier) c ⌝ }
+    ensures { λ r. ⌜ r ≡ lastIn c (sizeCell (now (nums .entry)) c) (now (earlier .entry)) ⌝ }
+{
+    last_in(earlier, c as u16, nums[c * 4 + 3]) as usize
+}
+
+// The label of node v as changed: the last entry of v in the list, else the plan's label.
+fn label_on(labels: &[u8], nodes: &[u16], changes: &[u8], v: usize) -> usize
+    requires { ⌜ LabelArgs (now labels) (now nodes) (now changes) v ⌝ }
+    ensures { λ r. ⌜ r
+        ≡ getD (changed (now (labels .entry)) (now (nodes .entry)) (now (changes .entry))) v 0 ⌝ }
+{
+    let at = last_in(nodes, v as u16, 1) as usize;
+    if at == 0 {
+        return labels[v] as usize;
+    }
+    changes[at - 1] as usize
+}
+
+// A number read as a state, reached by no link.
+fn told_state(q: usize, s: usize) -> Climbed
+    requires { ⌜ s ≤ 16 ⌝ }
+    ensures { λ r. ⌜ r ≡ toldReached (unmoved (below s q)) ⌝ }
+{
+    if s <= q {
+        return Climbed::Outside;
+    }
+    Climbed::Reached(q as u8, 0)
+}
+
+// The part of a leaf with label a.
+fn leaf_on(leaves: &[u8], s: usize, k: usize, a: usize) -> Climbed
+    requires { ⌜ LeafArgs s k (now leaves) ⌝ }
+    ensures { λ r. ⌜ r ≡ toldReached (leafOn (leavesView s k (now (leaves .entry))) a) ⌝ }
+{
+    if k <= a {
+        return Climbed::Outside;
+    }
+    told_state(leaves[a] as usize, s)
+}
+
+// The rule for the states of both children and the label a, with the links of both.
+fn join_on(inner: &[u8], s: usize, k: usize, a: usize, left: Climbed, right: Climbed) -> Climbed
+    requires { ⌜ JoinArgs s k (now inner) left right ⌝ }
+    ensures { λ r. ⌜ r
+        ≡ toldReached (joinOn (rulesView s k (now (inner .entry))) a (heard left) (heard right)) ⌝ }
+{
+    match left {
+        Climbed::Reached(p, x) => match right {
+            Climbed::Reached(q, y) => {
+                let r = rule_on(inner, s, k, p as usize, a, q as usize);
+                if s <= r {
+                    return Climbed::Outside;
+                }
+                Climbed::Reached(r as u8, x + y)
+            }
+            Climbed::Outside => Climbed::Outside,
+        },
+        Climbed::Outside => Climbed::Outside,
+    }
+}
+
+// The state at child c, at depth `to`, where `own` is the place of the last earlier root below c and `other` that of
+// the last below its sibling: the run's without a root below, the root's own with roots below both, else what the
+// climb from the root gives.
+fn side_on(
+    labels: &[u8],
+    inner: &[u8],
+    nums: &[u16],
+    bytes: &[u8],
+    n: usize,
+    s: usize,
+    k: usize,
+    earlier: &[u16],
+    states: &[u8],
+    to: usize,
+    c: usize,
+    own: usize,
+    other: usize,
+) -> Climbed
+    requires { ⌜ SideArgs n s k (now labels) (now inner) (now nums) (now bytes) (now earlier) (now states) c own ⌝ }
+    ensures { λ r. ⌜ r ≡ toldReached (sideOn (pathView n s k (now (labels .entry)) (now (inner .entry))
+        (now (nums .entry)) (now (bytes .entry))) to c (foundOf (now (earlier .entry)) (now (states .entry)) own)
+        (foundOf (now (earlier .entry)) (now (states .entry)) other)) ⌝ }
+{
+    if own == 0 {
+        return told_state(run_on(bytes, s, c), s);
+    }
+    let q = states[own - 1] as usize;
+    if other != 0 {
+        return told_state(q, s);
+    }
+    if s <= q {
+        return Climbed::Outside;
+    }
+    climb_state(
+        labels,
+        inner,
+        nums,
+        bytes,
+        n,
+        s,
+        k,
+        earlier[own - 1] as usize,
+        to,
+        q,
+    )
+}
+
+// The part of inner node v with left child l, whose right child is the node before it, and with label a.
+fn fork_on(
+    labels: &[u8],
+    inner: &[u8],
+    nums: &[u16],
+    bytes: &[u8],
+    n: usize,
+    s: usize,
+    k: usize,
+    earlier: &[u16],
+    states: &[u8],
+    v: usize,
+    l: usize,
+    a: usize,
+) -> Climbed
+    requires { ⌜ ForkArgs n s k (now labels) (now inner) (now nums) (now bytes) (now earlier) (now states) v l ⌝ }
+    ensures { λ r. ⌜ r ≡ toldReached (forkOn (pathView n s k (now (labels .entry)) (now (inner .entry))
+        (now (nums .entry)) (now (bytes .entry))) (now (earlier .entry)) (now (states .entry)) v l a) ⌝ }
+{
+    let to = depth_at(nums, v) + 1;
+    let i = last_below(nums, earlier, l);
+    let j = last_below(nums, earlier, v - 1);
+    let left = side_on(
+        labels,
+        inner,
+        nums,
+        bytes,
+        n,
+        s,
+        k,
+        earlier,
+        states,
+        to,
+        l,
+        i,
+        j,
+    );
+    let right = side_on(
+        labels,
+        inner,
+        nums,
+        bytes,
+        n,
+        s,
+        k,
+        earlier,
+        states,
+        to,
+        v - 1,
+        j,
+        i,
+    );
+    join_on(inner, s, k, a, left, right)
+}
+
+// The part of root v, after the earlier roots and their states.
+fn part_on(
+    labels: &[u8],
+    kinds: &[u8],
+    leaves: &[u8],
+    inner: &[u8],
+    nums: &[u16],
+    bytes: &[u8],
+    n: usize,
+    s: usize,
+    k: usize,
+    earlier: &[u16],
+    states: &[u8],
+    nodes: &[u16],
+    changes: &[u8],
+    v: usize,
+) -> Climbed
+    requires { ⌜ PartArgs n s k (now labels) (now kinds) (now leaves) (now inner) (now nums) (now bytes)
+        (now earlier) (now states) (now nodes) (now changes) v ⌝ }
+    ensures { λ r. ⌜ r ≡ toldReached (partOn (partView n s k (now (labels .entry)) (now (kinds .entry))
+        (now (leaves .entry)) (now (inner .entry)) (now (nums .entry)) (now (bytes .entry)))
+        (now (earlier .entry)) (now (states .entry)) (now (nodes .entry)) (now (changes .entry)) v) ⌝ }
+{
+    let a = label_on(labels, nodes, changes, v);
+    if kinds[v] == 0 {
+        return leaf_on(leaves, s, k, a);
+    }
+    if v == 0 {
+        return Climbed::Outside;
+    }
+    let z = size_at(nums, v - 1);
+    if v - 1 < z {
+        return Climbed::Outside;
+    }
+    fork_on(
+        labels,
+        inner,
+        nums,
+        bytes,
+        n,
+        s,
+        k,
+        earlier,
+        states,
+        v,
+        v - 1 - z,
+        a,
+    )
+}
+
+// The part of the root that comes next after those whose states are given, with N, S and K as given, on whatever is
+// lent and with the listed nodes' labels changed. Outside also where what is lent or asked for does not fit.
+pub fn part(
+    n: usize,
+    s: usize,
+    k: usize,
+    plan: &[u8],
+    rules: &[u8],
+    nums: &[u16],
+    bytes: &[u8],
+    roots: &[u16],
+    states: &[u8],
+    nodes: &[u16],
+    labels: &[u8],
+) -> Climbed
+    ensures { λ r. ⌜ r ≡ toldReached (partGiven n s k (now (plan .entry)) (now (rules .entry)) (now (nums .entry))
+        (now (bytes .entry)) (now (roots .entry)) (now (states .entry)) (now (nodes .entry))
+        (now (labels .entry))) ⌝ }
+{
+    if !limits_fit(n, s, k) {
+        return Climbed::Outside;
+    }
+    if !lengths_fit(n, s, k, plan.len(), rules.len(), nums.len(), bytes.len()) {
+        return Climbed::Outside;
+    }
+    if !asked_fits(n, roots, states, nodes, labels) {
+        return Climbed::Outside;
+    }
+    let i = states.len();
+    part_on(
+        &plan[12..12 + n],
+        &plan[12 + n..],
+        &rules[20..20 + k],
+        &rules[20 + k..20 + k + s * k * s],
+        &nums[..n * 4],
+        &bytes[..n * (s + 1)],
+        n,
+        s,
+        k,
+        &roots[..i],
+        states,
+        nodes,
+        labels,
+        roots[i] as usize,
+    )
+}
