@@ -15,8 +15,7 @@ use Rattle.formats.proofs.CheckLaws.{and-left, and-right, and-no-right}
 use Rattle.session.specs.declared.state.Phase.{Phase}
 use Rattle.session.specs.declared.state.Phase.the-variants.{Empty, Loaded, Running, Answered}
 use Rattle.session.specs.Records.{sizesFit, noQuestion, listFits, partsFit, zeroFrom, risesTo, validIn, valid}
-use Rattle.session.specs.Tests.{Parted}
-use Rattle.session.proofs.Shapes.{Shaped}
+use Rattle.session.specs.Tests.{Parted, Shaped}
 use Rattle.session.proofs.RunLaws.{and-assoc}
 
 and-yes : (a : Bool) → (a && true) ≡ a

@@ -1,4 +1,5 @@
-use Rattle.session.proofs.Shapes.{Shaped, shaped}
+use Rattle.session.specs.Tests.{Shaped}
+use Rattle.session.proofs.Shapes.{shaped}
 use mathlib.Core.Path.{sym}
 use lib.Seq.{length-take-le}
 use Rattle.session.proofs.ValidLaws.{list-long, list-test}

@@ -1,5 +1,6 @@
 use mathlib.Core.Path.{sym}
-use Rattle.session.proofs.Shapes.{Shaped, shaped}
+use Rattle.session.specs.Tests.{Shaped}
+use Rattle.session.proofs.Shapes.{shaped}
 use Rattle.session.proofs.ValidLaws.{question-test}
 use native.Mathlib.Omega.{arith}
 use borrow.Author.Needs.{needs}
