@@ -70,17 +70,17 @@ module _ (r : Record) where
   unfolding listFits sessionOf
   list-yes A =
       and-both _ _ (le-leb (length (r .nodes)) 64 (A .few))
-      (and-both _ _ (rw (take-padded 64 (r .nodes)) (A .nodes-below))
-      (and-both _ _ (rw (take-padded-by 64 (r .labels) (length (r .nodes)) (A .same)) (A .labels-below))
+      (and-both _ _ (ap (allBelow (r .sizes .n)) (take-padded 64 (r .nodes)) ∙ A .nodes-below)
+      (and-both _ _ (ap (allBelow (r .sizes .k)) (take-padded-by 64 (r .labels) (length (r .nodes)) (A .same)) ∙ A .labels-below)
       (and-both _ _ (zero-padded 64 (r .nodes)) (zero-padded-by 64 (r .labels) (length (r .nodes)) (A .same)))))
 
   parts-yes : Asked r → partsFit (sessionOf r) ≡ true
   unfolding partsFit sessionOf
   parts-yes A =
       and-both _ _ (within-both 1 254 (length (r .roots)) (A .some-part) (A .few-parts))
-      (and-both _ _ (rw (take-padded 254 (r .roots)) (A .rises))
+      (and-both _ _ (ap (risesTo (r .sizes .n - 1)) (take-padded 254 (r .roots)) ∙ A .rises)
       (and-both _ _ (zero-padded 254 (r .roots))
-      (and-both _ _ (rw (take-padded 254 (r .states)) (A .states-below))
+      (and-both _ _ (ap (allBelow (r .sizes .s)) (take-padded 254 (r .states)) ∙ A .states-below)
       (and-both _ _ (zero-padded 254 (r .states)) (le-leb (r .links) (65535 * length (r .states)) (A .few-links))))))
 
 none-yes : (p : calls.Phase) (z : Sizes) → noQuestion (sessionOf (idle p z)) ≡ true
@@ -92,7 +92,7 @@ none-yes p z =
 
 module _ (r : Record) where
   valid-in : (p : calls.Phase) → HoldsIn p r → validIn (phaseTo p) (sessionOf r) ≡ true
-  unfolding phaseTo validIn freshRecord
+  unfolding phaseTo validIn freshRecord sessionOf idle
   valid-in calls.Phase.empty e = subst (λ (t : Record). validIn Empty (sessionOf t) ≡ true) (sym e)
       (none-yes calls.Phase.empty (record { n = 0; s = 0; k = 0 }))
   valid-in calls.Phase.loaded e =
@@ -119,17 +119,22 @@ rises-is e [] t = absurd t
 rises-is e (x ∷ []) t = eq-eqb x e t
 rises-is e (x ∷ y ∷ l) t = and-both (ltb x y) (risesTo e (y ∷ l)) (lt-ltb x y (t .0)) (rises-is e (y ∷ l) (t .1))
 
+nil-below : (n : ℕ) → allBelow n [] ≡ true
+unfolding allBelow
+nil-below n = refl
+
 -- one state more
 below-more : (n : ℕ) (l : List ℕ) (x : ℕ) → allBelow n l ≡ true → x < n → allBelow n (l ++ (x ∷ [])) ≡ true
 unfolding allBelow
 below-more n [] x e h = and-both (ltb x n) true (lt-ltb x n h) refl
-below-more n (y ∷ l) x e h = go (ltb y n) e
+below-more n (y ∷ l) x e h = go (ltb y n) e (λ f. below-more n l x f h)
   where
-    go : (b : Bool) → (b && allBelow n l) ≡ true → (b && allBelow n (l ++ (x ∷ []))) ≡ true
-    go true f = below-more n l x f h
-    go false f = f
+    go : (b : Bool) → (b && allBelow n l) ≡ true → (allBelow n l ≡ true → allBelow n (l ++ (x ∷ [])) ≡ true)
+        → (b && allBelow n (l ++ (x ∷ []))) ≡ true
+    go true f ih = ih f
+    go false f ih = f
 
-start-sized : (p : calls.Phase) (r : Record) → mayStart p ≡ true → HoldsIn p r → Sized (r .sizes)
+pub start-sized : (p : calls.Phase) (r : Record) → mayStart p ≡ true → HoldsIn p r → Sized (r .sizes)
 unfolding mayStart
 start-sized calls.Phase.empty r e H = absurd (true-false (sym e))
 start-sized calls.Phase.loaded r e H = H .0
@@ -193,11 +198,6 @@ module _ (r : Record) (H : Holds r) where
           handled = omega (arith, rootsOn-some n u vs rs h (list-is .nodes-below) q);
           no-yes = refl;
         }
-      where
-        nil-below : (n : ℕ) → allBelow n [] ≡ true
-        unfolding allBelow
-        nil-below n = refl
-
   module _ (x : Lent) (e : refusal (r .phase) (r .sizes) (advance x) ≡ 0) where
     going : Going r
     unfolding refusal
@@ -250,16 +250,16 @@ module _ (r : Record) (H : Holds r) where
     part-holds (some y) q =
         advance-holds y q (eqb (suc (length (r .states))) (length (r .roots))) refl (eqb (getD (marksBy (r .sizes) x) (y .state) 0) 1)
 
+  cancel-holds : refusal (r .phase) (r .sizes) cancel ≡ 0 → Holds (loadedRecord (r .sizes))
+  unfolding refusal idle
+  cancel-holds f = (running-is (r .phase) r (firstNo-head 1 (isRunning (r .phase)) _ (omega arith) f) H .sizes, refl)
+
   proceeds-holds : (c : Call) → refusal (r .phase) (r .sizes) c ≡ 0 → Holds (proceeds r c .record′)
   unfolding proceeds
   proceeds-holds (load x) e = load-holds x e
   proceeds-holds (start x vs bs) e = start-holds x vs bs e (rootsOn (r .sizes .n) (usedNums (r .sizes) x) vs) refl
   proceeds-holds (advance x) e = part-holds x e (partNext r x) refl
-  proceeds-holds cancel e = cancelled e
-    where
-      cancelled : refusal (r .phase) (r .sizes) cancel ≡ 0 → Holds (loadedRecord (r .sizes))
-      unfolding refusal idle
-      cancelled f = (running-is (r .phase) r (firstNo-head 1 (isRunning (r .phase)) _ (omega arith) f) H .sizes, refl)
+  proceeds-holds cancel e = cancel-holds e
   proceeds-holds read e = H
 
   pub act-holds : (c : Call) → Holds (act r c .record′)

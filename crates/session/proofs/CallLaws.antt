@@ -9,9 +9,11 @@ use mathlib.Core.List.{List, [], _∷_}
 use native.Mathlib.Omega.{arith}
 use Rattle.formats.specs.Checks.{Check, check, firstNo}
 use Rattle.formats.proofs.CheckLaws.{firstNo-no}
+use Rattle.book.specs.Calls as calls
 use Rattle.book.specs.Calls.{Call, Answer, refused}
 use Rattle.book.specs.Refusals.{refusal}
 use Rattle.book.specs.Model.{Record, proceeds, unless, act}
+use Rattle.session.specs.declared.state.Phase.{Phase}
 use Rattle.session.specs.declared.state.Session.{Session}
 use Rattle.session.specs.Records.{phaseOf, sizesOf, recordOf, sessionOf, valid}
 use Rattle.session.specs.Promises.{CallDone, answerOn, recordOn}
@@ -51,3 +53,20 @@ module _ (s : Session) (c : Call) where
       go : (a : Bool) → valid s ≡ a → (a && b) ≡ false → CallDone s c (refused 1) s
       go true v g = refused-done v h 0 (e ∙ firstNo-no 1 b cs g)
       go false v g = invalid-done v
+
+-- ---- check 1, state by state
+
+and-yes : (a : Bool) → (a && true) ≡ a
+and-yes true = refl
+and-yes false = refl
+
+and-no : (a : Bool) → (a && false) ≡ false
+and-no true = refl
+and-no false = refl
+
+module _ (f : calls.Phase → Bool) (s : Session) (p : Phase) (e : s .phase ≡ p) where
+  pub state-yes : f (phaseOf p) ≡ true → (b : Bool) → b ≡ valid s → b ≡ (valid s && f (phaseOf (s .phase)))
+  state-yes g b h = h ∙ sym (and-yes (valid s)) ∙ sym (ap (λ (x : Bool). valid s && x) (ap (λ (q : Phase). f (phaseOf q)) e ∙ g))
+
+  pub state-no : f (phaseOf p) ≡ false → false ≡ (valid s && f (phaseOf (s .phase)))
+  state-no g = sym (and-no (valid s)) ∙ sym (ap (λ (x : Bool). valid s && x) (ap (λ (q : Phase). f (phaseOf q)) e ∙ g))

@@ -186,53 +186,83 @@ module _ (s : Session) where
   handled-of h p c =
       (length-take-le (s .handled) (s .states) (omega arith), length-take-le (s .parts) (s .roots) (omega arith))
 
-  holds-in : Shaped s → (p : Phase) → s .phase ≡ p → validIn p s ≡ true → HoldsIn (phaseOf p) (recordOf s)
-  unfolding validIn phaseOf recordOf freshRecord idle
-  holds-in h Empty q e =
+  -- ---- by state
+
+  record Empties : Type 0 where
+    n-is : s .n ≡ 0
+    s-is : s .s ≡ 0
+    k-is : s .k ≡ 0
+    none : Nothing s
+
+  record Questions : Type 0 where
+    sizes : Sized (sizesOf s)
+    list : ListFits s
+    parts : PartsFit s
+
+  empties-of : validIn Empty s ≡ true → Empties
+  unfolding validIn
+  empties-of e =
       let a = and-parts _ _ e in
       let b = and-parts _ _ (a .1) in
       let c = and-parts _ _ (b .1) in
-      let N = nothing-of (c .1) in
-      rw (
-        q,
-        eqb-true (s .n) 0 (a .0),
-        eqb-true (s .s) 0 (b .0),
-        eqb-true (s .k) 0 (c .0),
-        N .no-yes,
-        N .m-is,
-        N .parts-is,
-        N .handled-is,
-        N .links-is
-      )
-  holds-in h Loaded q e =
-      let a = and-parts _ _ e in
-      let N = nothing-of (a .1) in
-      (sized-of (a .0), rw (q, N .no-yes, N .m-is, N .parts-is, N .handled-is, N .links-is))
-  holds-in h Running q e =
+      record {
+        n-is = eqb-true (s .n) 0 (a .0);
+        s-is = eqb-true (s .s) 0 (b .0);
+        k-is = eqb-true (s .k) 0 (c .0);
+        none = nothing-of (c .1);
+      }
+
+  loaded-of : validIn Loaded s ≡ true → Sized (sizesOf s) × Nothing s
+  unfolding validIn
+  loaded-of e = let a = and-parts _ _ e in (sized-of (a .0), nothing-of (a .1))
+
+  running-of : validIn Running s ≡ true → Questions × (s .handled < s .parts) × (s .yes ≡ false)
+  unfolding validIn
+  running-of e =
       let a = and-parts _ _ e in
       let b = and-parts _ _ (a .1) in
       let c = and-parts _ _ (b .1) in
       let d = and-parts _ _ (c .1) in
-      let P = parts-of (c .0) in
-      let l = ltb-true (s .handled) (s .parts) (d .0) in
-      let t = handled-of h P (omega arith) in
-      record {
-        sizes = sized-of (a .0);
-        asked = asked-of h (list-of (b .0)) P (omega arith);
-        handled = omega (arith, t .0, t .1);
-        no-yes = not-true (s .yes) (d .1);
-      }
-  holds-in h Answered q e =
+      (
+        record { sizes = sized-of (a .0); list = list-of (b .0); parts = parts-of (c .0) },
+        ltb-true (s .handled) (s .parts) (d .0),
+        not-true (s .yes) (d .1),
+      )
+
+  answered-of : validIn Answered s ≡ true → Questions × (s .handled ≡ s .parts)
+  unfolding validIn
+  answered-of e =
       let a = and-parts _ _ e in
       let b = and-parts _ _ (a .1) in
       let c = and-parts _ _ (b .1) in
-      let P = parts-of (c .0) in
-      let l = eqb-true (s .handled) (s .parts) (c .1) in
-      let t = handled-of h P (omega arith) in
+      (record { sizes = sized-of (a .0); list = list-of (b .0); parts = parts-of (c .0) }, eqb-true (s .handled) (s .parts) (c .1))
+
+  holds-in : Shaped s → (p : Phase) → s .phase ≡ p → validIn p s ≡ true → HoldsIn (phaseOf p) (recordOf s)
+  unfolding phaseOf recordOf freshRecord idle
+  holds-in h Empty q e =
+      let E = empties-of e in
+      let N = E .none in
+      rw (q, E .n-is, E .s-is, E .k-is, N .no-yes, N .m-is, N .parts-is, N .handled-is, N .links-is)
+  holds-in h Loaded q e =
+      let a = loaded-of e in
+      let N = a .1 in
+      (a .0, rw (q, N .no-yes, N .m-is, N .parts-is, N .handled-is, N .links-is))
+  holds-in h Running q e =
+      let a = running-of e in
+      let t = handled-of h (a .0 .parts) (omega (arith, a .1)) in
       record {
-        sizes = sized-of (a .0);
-        asked = asked-of h (list-of (b .0)) P (omega arith);
-        handled = omega (arith, t .0, t .1);
+        sizes = a .0 .sizes;
+        asked = asked-of h (a .0 .list) (a .0 .parts) (omega (arith, a .1));
+        handled = omega (arith, a .1, t .0, t .1);
+        no-yes = a .2;
+      }
+  holds-in h Answered q e =
+      let a = answered-of e in
+      let t = handled-of h (a .0 .parts) (omega (arith, a .1)) in
+      record {
+        sizes = a .0 .sizes;
+        asked = asked-of h (a .0 .list) (a .0 .parts) (omega (arith, a .1));
+        handled = omega (arith, a .1, t .0, t .1);
       }
 
   pub holds-of : Shaped s → valid s ≡ true → Holds (recordOf s)
@@ -264,19 +294,10 @@ module _ (s : Session) where
   }
 
   tails-in : (p : Phase) → validIn p s ≡ true → Tails s
-  unfolding validIn
-  tails-in Empty e = tails-none (nothing-of (and-parts _ _ (and-parts _ _ (and-parts _ _ e .1) .1) .1))
-  tails-in Loaded e = tails-none (nothing-of (and-parts _ _ e .1))
-  tails-in Running e =
-      let b = and-parts _ _ (and-parts _ _ e .1) in
-      let c = and-parts _ _ (b .1) in
-      let l = ltb-true (s .handled) (s .parts) (and-parts _ _ (c .1) .0) in
-      tails-some (list-of (b .0)) (parts-of (c .0)) (omega arith)
-  tails-in Answered e =
-      let b = and-parts _ _ (and-parts _ _ e .1) in
-      let c = and-parts _ _ (b .1) in
-      let l = eqb-true (s .handled) (s .parts) (c .1) in
-      tails-some (list-of (b .0)) (parts-of (c .0)) (omega arith)
+  tails-in Empty e = tails-none (empties-of e .none)
+  tails-in Loaded e = tails-none (loaded-of e .1)
+  tails-in Running e = let a = running-of e in tails-some (a .0 .list) (a .0 .parts) (omega (arith, a .1))
+  tails-in Answered e = let a = answered-of e in tails-some (a .0 .list) (a .0 .parts) (omega (arith, a .1))
 
   pub tails-of : valid s ≡ true → Tails s
   unfolding valid

@@ -1,8 +1,10 @@
 pub mod ActLaws
 pub mod CallLaws
+pub mod CancelLaws
 pub mod Holds
 pub mod PadLaws
 pub mod RecordLaws
 pub mod RunLaws
 pub mod Shapes
+pub mod StartLaws
 pub mod ValidLaws

@@ -3,15 +3,18 @@
 --     length-padded, take-padded, take-padded-by, zero-padded
 --                                a list of at most w entries in an array of w
 --     padded-take                an array whose rest is zero is the list in its first entries
+--     copy-turn, copy-end        a list copied into an array of zeros, entry by entry
+--     padded-more                one entry more
 -- Assumes nothing.
 use Prim.Native.Nat.{ℕ, zero, suc, _+_, _-_, _≤_, _<_}
 use mathlib.Core.Path.{_≡_, refl, sym, ap, _∙_}
 use mathlib.Core.Bool.{Bool, true, false, _&&_}
-use mathlib.Core.List.{List, [], _∷_, _++_}
+use mathlib.Core.List.{List, [], _∷_, _++_, append-assoc}
 use native.Mathlib.Omega.{arith}
+use native.Mathlib.Numerals.{add-one}
 use lib.Dec.{ltb}
-use lib.ListN.{length, take, drop, replicate, length-append, length-replicate, length-drop, take-append-drop}
-use lib.Seq.{take-append-seam, drop-append-seam, take-at}
+use lib.ListN.{length, getD, set, take, drop, replicate, length-append, length-replicate, length-drop, take-append-drop}
+use lib.Seq.{take-append-seam, drop-append-seam, take-at, drop-cons, set-at, take-suc, length-take-le, take-length}
 use borrow.Author.Tests.{ltb-true}
 use Rattle.formats.specs.Bytes.{allBelow}
 use Rattle.formats.proofs.CheckLaws.{and-left, and-right}
@@ -58,3 +61,28 @@ module _ (w m : ℕ) (l : List ℕ) (e : length l ≡ w) (z : zeroFrom m l ≡ t
 
   pub padded-take : take m l ++ replicate (w - m) 0 ≡ l
   padded-take = ap (λ (t : List ℕ). take m l ++ t) (sym tail-zeros) ∙ take-append-drop m l
+
+-- ---- a list copied into an array of zeros
+
+drop-zeros : (m w : ℕ) → _≡_ {A = List ℕ} (drop m (replicate w 0)) (replicate (w - m) 0)
+drop-zeros zero w = let e : w - 0 ≡ w = omega arith in rw e
+drop-zeros (suc m) zero = let e : 0 - suc m ≡ 0 = omega arith in rw e
+drop-zeros (suc m) (suc w) = let e : suc w - suc m ≡ w - m = omega arith in rw e (drop-zeros m w)
+
+pub copy-turn : (s d₀ d : List ℕ) (i : ℕ) → i < length s → i < length d₀ → d ≡ take i s ++ drop i d₀
+    → set d i (getD s i 0) ≡ take (i + 1) s ++ drop (i + 1) d₀
+copy-turn s d₀ d i h k o =
+    rw (
+      o,
+      drop-cons d₀ i 0 k,
+      set-at (take i s) (getD d₀ i 0) (drop (suc i) d₀) (getD s i 0) i (length-take-le i s (omega arith)),
+      add-one i,
+      take-suc s i 0 h,
+      append-assoc
+    )
+
+pub copy-end : (s d : List ℕ) (w i : ℕ) → i ≤ length s → length s ≤ i → d ≡ take i s ++ drop i (replicate w 0) → d ≡ padded w s
+copy-end s d w i h k o =
+    let e : i ≡ length s = omega arith in
+    let o′ : d ≡ take (length s) s ++ drop (length s) (replicate w 0) = rw e at o in
+    o′ ∙ rw (take-length s, drop-zeros (length s) w)

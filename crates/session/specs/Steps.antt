@@ -5,17 +5,21 @@
 -- steppedOf s p q l y == session s in state p with one more part handled, of state q and l links, and the yes or no y
 -- NextArgs s == the counts are within the arrays
 -- StepArgs s l == there is room for one more state, and the links fit
--- MarkArgs rules s k q == the rules' length is exact, and q is a state
+-- marksIn s k rules == the accept marks by S and K; MarkArgs rules s k q == the rules' length is exact, and q is a state
+-- handledBy s rules q l == what an advance leaves and tells where the part's state is q and its links are l; HandleArgs what it asks
 --
 -- Assumes nothing.
 use Prim.Native.Nat.{ℕ, _+_, _*_, _≤_, _<_}
 use mathlib.Core.Path.{_≡_}
-use mathlib.Core.Bool.{Bool, false}
+use mathlib.Core.Bool.{Bool, false, cond}
 use mathlib.Core.List.{List}
-use lib.ListN.{length, replicate, set}
+use lib.Dec.{eqb}
+use lib.ListN.{length, getD, take, drop, replicate, set}
 use Rattle.formats.specs.Rules.{ruleLength}
 use Rattle.session.specs.declared.state.Phase.{Phase}
-use Rattle.session.specs.declared.state.Phase.the-variants.{Running}
+use Rattle.session.specs.declared.state.Phase.the-variants.{Running, Answered}
+use Rattle.session.specs.declared.answers.Advancing.the-variants.{More, Finished}
+use Rattle.session.specs.declared.answers.Advanced.{Advanced}
 use Rattle.session.specs.declared.state.Session.{Session}
 use Rattle.session.specs.Records.{padded}
 
@@ -71,3 +75,16 @@ pub record MarkArgs (rules : List ℕ) (s k q : ℕ) : Type 0 where
   pub states-most : s ≤ 16
   pub labels-most : k ≤ 64
   pub state : q < s
+
+abbrev pub marksIn : ℕ → ℕ → List ℕ → List ℕ
+marksIn s k rules = take s (drop (20 + k + s * k * s) rules)
+
+pub record HandleArgs (s : Session) (rules : List ℕ) (q l : ℕ) : Type 0 where
+  pub marks : MarkArgs rules (s .s) (s .k) q
+  pub step : StepArgs s l
+
+unfoldable pub handledBy : Session → List ℕ → ℕ → ℕ → Advanced
+handledBy s rules q l =
+    cond (eqb (s .handled + 1) (s .parts))
+    (record { told = Finished; rec = steppedOf s Answered q l (eqb (getD (marksIn (s .s) (s .k) rules) q 0) 1) })
+    (record { told = More; rec = steppedOf s Running q l false })

@@ -94,7 +94,8 @@ impl Session {
             };
         }
         let count = found.count as u8;
-        let rec = started(self.n, self.s, self.k, nodes, labels, count, found.nodes);
+        let parts = found.nodes;
+        let rec = started(self.n, self.s, self.k, nodes, labels, count, parts);
         Started {
             told: Starting::Parts(count),
             rec,

@@ -9,7 +9,7 @@ use Rattle.session.proofs.state.Session.no_question.Tie as tie
 use Rattle.session.proofs.state.Session.no_question.Reads as reads
 use Rattle.session.proofs.state.Session.no_question.Lts as lts
 use Rattle.formats.proofs.rules.all_below.Reads as all-below-reads
-use Rattle.session.proofs.runs.below.Reads as below-reads
+use Rattle.session.proofs.lists.below.Reads as below-reads
 
 shape : (c : tie.Start) → Shaped (c .args .self)
 shape c = shaped (c .args .self) (c .good .0)

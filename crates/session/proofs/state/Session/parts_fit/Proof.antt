@@ -10,8 +10,8 @@ use Rattle.session.proofs.state.Session.parts_fit.Tie as tie
 use Rattle.session.proofs.state.Session.parts_fit.Reads as reads
 use Rattle.session.proofs.state.Session.parts_fit.Lts as lts
 use Rattle.formats.proofs.rules.all_below.Reads as all-below-reads
-use Rattle.session.proofs.runs.below.Reads as below-reads
-use Rattle.session.proofs.runs.rises_to.Reads as rises-to-reads
+use Rattle.session.proofs.lists.below.Reads as below-reads
+use Rattle.session.proofs.lists.rises_to.Reads as rises-to-reads
 
 shape : (c : tie.Start) → Shaped (c .args .self)
 shape c = shaped (c .args .self) (c .good .0)

@@ -6,10 +6,10 @@ use Rattle.session.specs.Records.{risesTo}
 use Rattle.session.proofs.RunLaws.{rises-turn, rises-end, rises-none}
 use native.Mathlib.Omega.{arith}
 use borrow.Author.Needs.{needs}
-use Rattle.session.proofs.runs.rises_to.Statement.{statement}
-use Rattle.session.proofs.runs.rises_to.Tie as tie
-use Rattle.session.proofs.runs.rises_to.Reads as reads
-use Rattle.session.proofs.runs.rises_to.Lts as lts
+use Rattle.session.proofs.lists.rises_to.Statement.{statement}
+use Rattle.session.proofs.lists.rises_to.Tie as tie
+use Rattle.session.proofs.lists.rises_to.Reads as reads
+use Rattle.session.proofs.lists.rises_to.Lts as lts
 
 abbrev Inv-loop : tie.InvT-loop
 Inv-loop last xs ok₀ i₀ ok i =
