@@ -198,6 +198,7 @@ module _ (r : Record) (H : Holds r) where
           handled = omega (arith, rootsOn-some n u vs rs h (list-is .nodes-below) q);
           no-yes = refl;
         }
+
   module _ (x : Lent) (e : refusal (r .phase) (r .sizes) (advance x) ≡ 0) where
     going : Going r
     unfolding refusal

@@ -222,8 +222,7 @@ module _ (s : Session) where
       let a = and-parts _ _ e in
       let b = and-parts _ _ (a .1) in
       let c = and-parts _ _ (b .1) in
-      let d = and-parts _ _ (c .1) in
-      (
+      let d = and-parts _ _ (c .1) in (
         record { sizes = sized-of (a .0); list = list-of (b .0); parts = parts-of (c .0) },
         ltb-true (s .handled) (s .parts) (d .0),
         not-true (s .yes) (d .1),

@@ -1,7 +1,9 @@
 pub mod ActLaws
+pub mod AdvanceLaws
 pub mod CallLaws
 pub mod CancelLaws
 pub mod Holds
+pub mod LoadLaws
 pub mod PadLaws
 pub mod RecordLaws
 pub mod RunLaws

@@ -14,7 +14,7 @@ use native.Mathlib.Omega.{arith}
 use native.Mathlib.Numerals.{add-one}
 use lib.Dec.{ltb}
 use lib.ListN.{length, getD, set, take, drop, replicate, length-append, length-replicate, length-drop, take-append-drop}
-use lib.Seq.{take-append-seam, drop-append-seam, take-at, drop-cons, set-at, take-suc, length-take-le, take-length}
+use lib.Seq.{set-split, drop-drop, take-append-seam, drop-append-seam, take-at, drop-cons, set-at, take-suc, length-take-le, take-length}
 use borrow.Author.Tests.{ltb-true}
 use Rattle.formats.specs.Bytes.{allBelow}
 use Rattle.formats.proofs.CheckLaws.{and-left, and-right}
@@ -78,7 +78,7 @@ copy-turn s d₀ d i h k o =
       set-at (take i s) (getD d₀ i 0) (drop (suc i) d₀) (getD s i 0) i (length-take-le i s (omega arith)),
       add-one i,
       take-suc s i 0 h,
-      append-assoc
+      append-assoc,
     )
 
 pub copy-end : (s d : List ℕ) (w i : ℕ) → i ≤ length s → length s ≤ i → d ≡ take i s ++ drop i (replicate w 0) → d ≡ padded w s
@@ -86,3 +86,23 @@ copy-end s d w i h k o =
     let e : i ≡ length s = omega arith in
     let o′ : d ≡ take (length s) s ++ drop (length s) (replicate w 0) = rw e at o in
     o′ ∙ rw (take-length s, drop-zeros (length s) w)
+
+-- one entry more, where the array is zero from there on: the length, and the array
+module _ (w m : ℕ) (l : List ℕ) (q : ℕ) (e : length l ≡ w) (h : m < w) (z : zeroFrom m l ≡ true) where
+  more-length : length (take m l ++ (q ∷ [])) ≡ m + 1
+  more-length = length-append (take m l) (q ∷ []) ∙ ap (λ (i : ℕ). i + 1) (length-take-le m l (omega arith))
+
+  more-zeros : drop (suc m) l ≡ replicate (w - (m + 1)) 0
+  more-zeros =
+      let a : w - m ≡ suc (w - (m + 1)) = omega arith in
+      let b : drop (suc m) l ≡ drop 1 (drop m l) = rw (drop-drop 1 m l, add-one m) in
+      b ∙ ap (drop 1) (tail-zeros w m l e z ∙ ap (λ (i : ℕ). replicate i 0) a)
+
+  pub padded-more : (length (take m l ++ (q ∷ [])) ≡ m + 1) × (padded w (take m l ++ (q ∷ [])) ≡ set l m q)
+  padded-more = (
+    more-length,
+    append-assoc (take m l) (q ∷ []) (replicate (w - length (take m l ++ (q ∷ []))) 0)
+        ∙ ap (λ (i : ℕ). take m l ++ (q ∷ replicate (w - i) 0)) more-length
+        ∙ ap (λ (t : List ℕ). take m l ++ (q ∷ t)) (sym more-zeros)
+        ∙ sym (set-split l m q (omega arith)),
+  )

@@ -60,7 +60,7 @@ struct-of-record s h t =
       padded-take 64 (s .m) (s .nodes) (h .nodes) (t .nodes-end),
       padded-take 64 (s .m) (s .labels) (h .labels) (t .labels-end),
       padded-take 254 (s .parts) (s .roots) (h .roots) (t .roots-end),
-      padded-take 254 (s .handled) (s .states) (h .states) (t .states-end)
+      padded-take 254 (s .handled) (s .states) (h .states) (t .states-end),
     )
 
 pub record Listed (r : Record) : Type 0 where
@@ -78,7 +78,7 @@ module _ (r : Record) (L : Listed r) where
         take-padded 64 (r .nodes),
         take-padded-by 64 (r .labels) (length (r .nodes)) (L .same),
         take-padded 254 (r .roots),
-        take-padded 254 (r .states)
+        take-padded 254 (r .states),
       )
 
   pub struct-shaped : Shaped (sessionOf r)

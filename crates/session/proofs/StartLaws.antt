@@ -139,7 +139,7 @@ module _ (s : Session) (h : Shaped s) (x : Lent) (vs bs : List ℕ) (b : Bool) (
                   go none e i = acts none e (calls.Answer.refused 18) s refl (sym (struct-is s h v))
                   go (some rs) e i =
                       let k : R .ok ≡ true = ap (λ (z : Rooted). z .ok) (i ∙ ap rootedOf e) in
-                      absurd (true-false (sym (ap not k ∙ refl) ∙ g))
+                      absurd (true-false (sym g ∙ ap not k))
 
               module _ (ok : not (R .ok) ≡ false) where
                 -- the roots

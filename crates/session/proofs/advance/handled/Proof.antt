@@ -1,3 +1,4 @@
+use Rattle.session.proofs.AdvanceLaws.{handled-last, handled-more}
 use native.Mathlib.Omega.{arith}
 use borrow.Author.Needs.{needs}
 use Rattle.session.proofs.advance.handled.Statement.{statement}
@@ -23,13 +24,17 @@ stepped-requires : tie.Need-stepped-requires
 stepped-requires c κs = search needs
 
 returns : tie.Need-returns
-returns c = search needs
+returns c =
+    let a = c .before .before .before .before .before .before .before .before .args in
+    handled-last (a .s) (a .rules .now) (a .q) (a .links) _ (c .before .before .before .before .if1 .taken) _ (c .stepped .ensures) (c .before .is-marked .ensures)
 
 stepped-requires-2 : tie.Need-stepped-requires-2
 stepped-requires-2 c κs = search needs
 
 returns-2 : tie.Need-returns-2
-returns-2 c = search needs
+returns-2 c =
+    let a = c .before .before .before .before .before .args in
+    handled-more (a .s) (a .rules .now) (a .q) (a .links) _ (c .before .if1 .left) (c .stepped2 .ensures)
 
 pub handled-spec : {M : Type 1} → statement M
 handled-spec =

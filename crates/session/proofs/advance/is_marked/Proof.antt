@@ -1,3 +1,4 @@
+use Rattle.session.proofs.AdvanceLaws.{mark-at}
 use native.Mathlib.Omega.{arith}
 use borrow.Author.Needs.{needs}
 use Rattle.session.proofs.advance.is_marked.Statement.{statement}
@@ -22,7 +23,9 @@ shared-slice-read-result : tie.Need-shared-slice-read-result
 shared-slice-read-result c = search needs
 
 returns : tie.Need-returns
-returns c = search needs
+returns c =
+    let a = c .before .before .before .args in
+    mark-at (a .rules .now) (a .s) (a .k) _ (a .q) (c .before .inner-count .ensures .value) (c .before .before .before .pre .state)
 
 pub is-marked-spec : {M : Type 1} → statement M
 is-marked-spec =

@@ -1,3 +1,7 @@
+use mathlib.Core.Path.{sym}
+use lib.Seq.{length-take-le}
+use Rattle.session.specs.Tests.{Shaped}
+use Rattle.session.proofs.Shapes.{shaped}
 use native.Mathlib.Omega.{arith}
 use borrow.Author.Needs.{needs}
 use Rattle.session.proofs.advance.next_part.Statement.{statement}
@@ -5,6 +9,9 @@ use Rattle.session.proofs.advance.next_part.Tie as tie
 use Rattle.session.proofs.advance.next_part.Reads as reads
 use Rattle.session.proofs.advance.next_part.Lts as lts
 use Rattle.questions.proofs.part.part.Reads as part-reads
+
+shape : (c : tie.Start) → Shaped (c .args .s)
+shape c = shaped (c .args .s) (c .good .0)
 
 cast-p : tie.Need-cast-p
 cast-p c = search needs
@@ -25,28 +32,36 @@ cast-part-3 : tie.Need-cast-part-3
 cast-part-3 c = search needs
 
 array-share-prefix-roots : tie.Need-array-share-prefix-roots
-array-share-prefix-roots c = search needs
+array-share-prefix-roots c = omega (arith, shape (c .before .before .before .before .before .before .before .before .before .before .before .before .before .before) .roots, c .before .before .before .before .before .before .before .before .before .before .before .before .before .before .pre .few-parts)
 
 slice-aggregate-part : tie.Need-slice-aggregate-part
-slice-aggregate-part c = search needs
+slice-aggregate-part c =
+    let h = shape (c .before .before .before .before .before .before .before .before .before .before .before .before .before .before .before) .roots in
+    sym (length-take-le (c .before .before .before .before .before .before .before .before .before .before .before .before .before .before .before .args .s .parts) (c .before .before .before .before .before .before .before .before .before .before .before .before .before .before .before .args .s .roots) (omega (arith, h, c .before .before .before .before .before .before .before .before .before .before .before .before .before .before .before .pre .few-parts)))
 
 array-share-prefix-states : tie.Need-array-share-prefix-states
-array-share-prefix-states c = search needs
+array-share-prefix-states c = omega (arith, shape (c .before .before .before .before .before .before .before .before .before .before .before .before .before .before .before) .states, c .before .before .before .before .before .before .before .before .before .before .before .before .before .before .before .pre .few-handled)
 
 slice-aggregate-part-2 : tie.Need-slice-aggregate-part-2
-slice-aggregate-part-2 c = search needs
+slice-aggregate-part-2 c =
+    let h = shape (c .before .before .before .before .before .before .before .before .before .before .before .before .before .before .before .before) .states in
+    sym (length-take-le (c .before .before .before .before .before .before .before .before .before .before .before .before .before .before .before .before .args .s .handled) (c .before .before .before .before .before .before .before .before .before .before .before .before .before .before .before .before .args .s .states) (omega (arith, h, c .before .before .before .before .before .before .before .before .before .before .before .before .before .before .before .before .pre .few-handled)))
 
 array-share-prefix-nodes : tie.Need-array-share-prefix-nodes
-array-share-prefix-nodes c = search needs
+array-share-prefix-nodes c = omega (arith, shape (c .before .before .before .before .before .before .before .before .before .before .before .before .before .before .before .before) .nodes, c .before .before .before .before .before .before .before .before .before .before .before .before .before .before .before .before .pre .few)
 
 slice-aggregate-part-3 : tie.Need-slice-aggregate-part-3
-slice-aggregate-part-3 c = search needs
+slice-aggregate-part-3 c =
+    let h = shape (c .before .before .before .before .before .before .before .before .before .before .before .before .before .before .before .before .before) .nodes in
+    sym (length-take-le (c .before .before .before .before .before .before .before .before .before .before .before .before .before .before .before .before .before .args .s .m) (c .before .before .before .before .before .before .before .before .before .before .before .before .before .before .before .before .before .args .s .nodes) (omega (arith, h, c .before .before .before .before .before .before .before .before .before .before .before .before .before .before .before .before .before .pre .few)))
 
 array-share-prefix-labels : tie.Need-array-share-prefix-labels
-array-share-prefix-labels c = search needs
+array-share-prefix-labels c = omega (arith, shape (c .before .before .before .before .before .before .before .before .before .before .before .before .before .before .before .before .before) .labels, c .before .before .before .before .before .before .before .before .before .before .before .before .before .before .before .before .before .pre .few)
 
 slice-aggregate-part-4 : tie.Need-slice-aggregate-part-4
-slice-aggregate-part-4 c = search needs
+slice-aggregate-part-4 c =
+    let h = shape (c .before .before .before .before .before .before .before .before .before .before .before .before .before .before .before .before .before .before) .labels in
+    sym (length-take-le (c .before .before .before .before .before .before .before .before .before .before .before .before .before .before .before .before .before .before .args .s .m) (c .before .before .before .before .before .before .before .before .before .before .before .before .before .before .before .before .before .before .args .s .labels) (omega (arith, h, c .before .before .before .before .before .before .before .before .before .before .before .before .before .before .before .before .before .before .pre .few)))
 
 part-requires : tie.Need-part-requires
 part-requires c κs = search needs

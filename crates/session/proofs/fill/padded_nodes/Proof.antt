@@ -40,14 +40,18 @@ loop-less c = search needs
 loop-again : tie.Need-loop-again Inv-loop μ-loop
 loop-again c =
     let l = c .before .before .loop in
-    let a = c .before .before .before .args in
-    (omega arith, (simp length-set (l .inv .1),
-    copy-turn (a .nodes .now) (replicate 64 0) (l .out) (l .i) (c .before .loop-test .taken) (omega arith) (l .inv .2)))
+    let a = c .before .before .before .args in (
+      omega arith,
+      (
+        simp length-set (l .inv .1 .0),
+        copy-turn (a .nodes .now) (replicate 64 0) (l .out) (l .i) (c .before .loop-test .taken) (omega arith) (l .inv .1 .1),
+      ),
+    )
 
 returns : tie.Need-returns Inv-loop μ-loop
 returns c =
     let l = c .before .loop in
-    copy-end (c .before .before .args .nodes .now) (l .out) 64 (l .i) (l .inv .0) (c .loop-test .left) (l .inv .2)
+    copy-end (c .before .before .args .nodes .now) (l .out) 64 (l .i) (l .inv .0) (c .loop-test .left) (l .inv .1 .1)
 
 pub padded-nodes-spec : {M : Type 1} → statement M
 padded-nodes-spec =

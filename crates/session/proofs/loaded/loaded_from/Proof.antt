@@ -1,3 +1,4 @@
+use Rattle.session.proofs.LoadLaws.{loaded-same}
 use native.Mathlib.Omega.{arith}
 use borrow.Author.Needs.{needs}
 use Rattle.session.proofs.loaded.loaded_from.Statement.{statement}
@@ -29,7 +30,10 @@ loaded-requires : tie.Need-loaded-requires
 loaded-requires c κs = search needs
 
 returns : tie.Need-returns
-returns c = ?
+returns c =
+    let a = c .before in
+    loaded-same (a .before .before .before .before .before .args .plan .now) (a .before .before .before .before .before .args .rules .now) _ _ _ _
+    (c .loaded .ensures) (a .before .before .read32 .ensures) (a .before .read322 .ensures) (a .read323 .ensures)
 
 pub loaded-from-spec : {M : Type 1} → statement M
 loaded-from-spec =

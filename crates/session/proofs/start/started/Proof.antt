@@ -17,7 +17,7 @@ cast-t12 : tie.Need-cast-t12
 cast-t12 c = search needs
 
 returns : tie.Need-returns
-returns c = search needs
+returns c = rw (c .before .padded-nodes .ensures, c .padded-labels .ensures)
 
 pub started-spec : {M : Type 1} → statement M
 started-spec = tie.close (tie.spec padded-nodes-requires padded-labels-requires cast-t12 returns)

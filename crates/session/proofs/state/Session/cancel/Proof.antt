@@ -23,7 +23,7 @@ loaded-requires : tie.Need-loaded-requires
 loaded-requires c κs = search needs
 
 returns-2 : tie.Need-returns-2
-returns-2 c = 
+returns-2 c =
     cancel-yes (c .before .before .before .args .self) (shape (c .before .before .before)) _ (c .before .before .is-running .ensures) (c .before .if1 .left) _ (c .loaded .ensures)
 
 pub cancel-spec : {M : Type 1} → statement M

@@ -25,7 +25,7 @@ sub-last : tie.Need-sub-last
 sub-last c = counted (c .before .before .before .before .args .self) (shape (c .before .before .before .before)) _ (c .before .before .before .is-answered .ensures) (c .before .before .if1 .left) .0
 
 array-read-t9 : tie.Need-array-read-t9
-array-read-t9 c = 
+array-read-t9 c =
     let k = counted (c .before .before .before .before .args .self) (shape (c .before .before .before .before)) _ (c .before .before .before .is-answered .ensures) (c .before .before .if1 .left) in omega (arith, k .0, k .1)
 
 returns-2 : tie.Need-returns-2
