@@ -6,7 +6,9 @@ pub mod Holds
 pub mod LoadLaws
 pub mod PadLaws
 pub mod RecordLaws
+pub mod Refine
 pub mod RunLaws
+pub mod SessionTheorem
 pub mod Shapes
 pub mod StartLaws
 pub mod ValidLaws
