@@ -1,0 +1,50 @@
+use Rattle.session.proofs.AdvanceLaws.{handled-last, handled-more}
+use native.Mathlib.Omega.{arith}
+use borrow.Author.Needs.{needs}
+use Rattle.session.proofs.advance.handled.Statement.{statement}
+use Rattle.session.proofs.advance.handled.Tie as tie
+use Rattle.session.proofs.advance.handled.Reads as reads
+use Rattle.session.proofs.advance.handled.Lts as lts
+use Rattle.session.proofs.advance.is_marked.Reads as is-marked-reads
+use Rattle.session.proofs.advance.stepped.Reads as stepped-reads
+
+add-if1 : tie.Need-add-if1
+add-if1 c = search needs
+
+cast-is-marked : tie.Need-cast-is-marked
+cast-is-marked c = search needs
+
+cast-is-marked-2 : tie.Need-cast-is-marked-2
+cast-is-marked-2 c = search needs
+
+is-marked-requires : tie.Need-is-marked-requires
+is-marked-requires c κs = search needs
+
+stepped-requires : tie.Need-stepped-requires
+stepped-requires c κs = search needs
+
+returns : tie.Need-returns
+returns c =
+    let a = c .before .before .before .before .before .before .before .before .args in
+    handled-last (a .s) (a .rules .now) (a .q) (a .links) _ (c .before .before .before .before .if1 .taken) _ (c .stepped .ensures) (c .before .is-marked .ensures)
+
+stepped-requires-2 : tie.Need-stepped-requires-2
+stepped-requires-2 c κs = search needs
+
+returns-2 : tie.Need-returns-2
+returns-2 c =
+    let a = c .before .before .before .before .before .args in
+    handled-more (a .s) (a .rules .now) (a .q) (a .links) _ (c .before .if1 .left) (c .stepped2 .ensures)
+
+pub handled-spec : {M : Type 1} → statement M
+handled-spec =
+    tie.close
+    (tie.spec
+    add-if1
+    cast-is-marked
+    cast-is-marked-2
+    is-marked-requires
+    stepped-requires
+    returns
+    stepped-requires-2
+    returns-2)

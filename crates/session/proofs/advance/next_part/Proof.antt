@@ -1,0 +1,91 @@
+use mathlib.Core.Path.{sym}
+use lib.Seq.{length-take-le}
+use Rattle.session.specs.Tests.{Shaped}
+use Rattle.session.proofs.Shapes.{shaped}
+use native.Mathlib.Omega.{arith}
+use borrow.Author.Needs.{needs}
+use Rattle.session.proofs.advance.next_part.Statement.{statement}
+use Rattle.session.proofs.advance.next_part.Tie as tie
+use Rattle.session.proofs.advance.next_part.Reads as reads
+use Rattle.session.proofs.advance.next_part.Lts as lts
+use Rattle.questions.proofs.part.part.Reads as part-reads
+
+shape : (c : tie.Start) → Shaped (c .args .s)
+shape c = shaped (c .args .s) (c .good .0)
+
+cast-p : tie.Need-cast-p
+cast-p c = search needs
+
+cast-h : tie.Need-cast-h
+cast-h c = search needs
+
+cast-m : tie.Need-cast-m
+cast-m c = search needs
+
+cast-part : tie.Need-cast-part
+cast-part c = search needs
+
+cast-part-2 : tie.Need-cast-part-2
+cast-part-2 c = search needs
+
+cast-part-3 : tie.Need-cast-part-3
+cast-part-3 c = search needs
+
+array-share-prefix-roots : tie.Need-array-share-prefix-roots
+array-share-prefix-roots c = omega (arith, shape (c .before .before .before .before .before .before .before .before .before .before .before .before .before .before) .roots, c .before .before .before .before .before .before .before .before .before .before .before .before .before .before .pre .few-parts)
+
+slice-aggregate-part : tie.Need-slice-aggregate-part
+slice-aggregate-part c =
+    let h = shape (c .before .before .before .before .before .before .before .before .before .before .before .before .before .before .before) .roots in
+    sym (length-take-le (c .before .before .before .before .before .before .before .before .before .before .before .before .before .before .before .args .s .parts) (c .before .before .before .before .before .before .before .before .before .before .before .before .before .before .before .args .s .roots) (omega (arith, h, c .before .before .before .before .before .before .before .before .before .before .before .before .before .before .before .pre .few-parts)))
+
+array-share-prefix-states : tie.Need-array-share-prefix-states
+array-share-prefix-states c = omega (arith, shape (c .before .before .before .before .before .before .before .before .before .before .before .before .before .before .before) .states, c .before .before .before .before .before .before .before .before .before .before .before .before .before .before .before .pre .few-handled)
+
+slice-aggregate-part-2 : tie.Need-slice-aggregate-part-2
+slice-aggregate-part-2 c =
+    let h = shape (c .before .before .before .before .before .before .before .before .before .before .before .before .before .before .before .before) .states in
+    sym (length-take-le (c .before .before .before .before .before .before .before .before .before .before .before .before .before .before .before .before .args .s .handled) (c .before .before .before .before .before .before .before .before .before .before .before .before .before .before .before .before .args .s .states) (omega (arith, h, c .before .before .before .before .before .before .before .before .before .before .before .before .before .before .before .before .pre .few-handled)))
+
+array-share-prefix-nodes : tie.Need-array-share-prefix-nodes
+array-share-prefix-nodes c = omega (arith, shape (c .before .before .before .before .before .before .before .before .before .before .before .before .before .before .before .before) .nodes, c .before .before .before .before .before .before .before .before .before .before .before .before .before .before .before .before .pre .few)
+
+slice-aggregate-part-3 : tie.Need-slice-aggregate-part-3
+slice-aggregate-part-3 c =
+    let h = shape (c .before .before .before .before .before .before .before .before .before .before .before .before .before .before .before .before .before) .nodes in
+    sym (length-take-le (c .before .before .before .before .before .before .before .before .before .before .before .before .before .before .before .before .before .args .s .m) (c .before .before .before .before .before .before .before .before .before .before .before .before .before .before .before .before .before .args .s .nodes) (omega (arith, h, c .before .before .before .before .before .before .before .before .before .before .before .before .before .before .before .before .before .pre .few)))
+
+array-share-prefix-labels : tie.Need-array-share-prefix-labels
+array-share-prefix-labels c = omega (arith, shape (c .before .before .before .before .before .before .before .before .before .before .before .before .before .before .before .before .before) .labels, c .before .before .before .before .before .before .before .before .before .before .before .before .before .before .before .before .before .pre .few)
+
+slice-aggregate-part-4 : tie.Need-slice-aggregate-part-4
+slice-aggregate-part-4 c =
+    let h = shape (c .before .before .before .before .before .before .before .before .before .before .before .before .before .before .before .before .before .before) .labels in
+    sym (length-take-le (c .before .before .before .before .before .before .before .before .before .before .before .before .before .before .before .before .before .before .args .s .m) (c .before .before .before .before .before .before .before .before .before .before .before .before .before .before .before .before .before .before .args .s .labels) (omega (arith, h, c .before .before .before .before .before .before .before .before .before .before .before .before .before .before .before .before .before .before .pre .few)))
+
+part-requires : tie.Need-part-requires
+part-requires c κs = search needs
+
+returns : tie.Need-returns
+returns c = search needs
+
+pub next-part-spec : {M : Type 1} → statement M
+next-part-spec =
+    tie.close
+    (tie.spec
+    cast-p
+    cast-h
+    cast-m
+    cast-part
+    cast-part-2
+    cast-part-3
+    array-share-prefix-roots
+    slice-aggregate-part
+    array-share-prefix-states
+    slice-aggregate-part-2
+    array-share-prefix-nodes
+    slice-aggregate-part-3
+    array-share-prefix-labels
+    slice-aggregate-part-4
+    part-requires
+    returns)
