@@ -1,0 +1,88 @@
+use Rattle.session.proofs.Shapes.{Shaped, shaped}
+use mathlib.Core.Path.{sym}
+use lib.Seq.{length-take-le}
+use Rattle.session.proofs.ValidLaws.{list-long, list-test}
+use native.Mathlib.Omega.{arith}
+use borrow.Author.Needs.{needs}
+use Rattle.session.proofs.state.Session.list_fits.Statement.{statement}
+use Rattle.session.proofs.state.Session.list_fits.Tie as tie
+use Rattle.session.proofs.state.Session.list_fits.Reads as reads
+use Rattle.session.proofs.state.Session.list_fits.Lts as lts
+use Rattle.formats.proofs.rules.all_below.Reads as all-below-reads
+use Rattle.session.proofs.runs.below.Reads as below-reads
+
+shape : (c : tie.Start) → Shaped (c .args .self)
+shape c = shaped (c .args .self) (c .good .0)
+
+cast-m : tie.Need-cast-m
+cast-m c = search needs
+
+returns : tie.Need-returns
+returns c = list-long (c .before .before .before .before .args .self) (c .if1 .taken)
+
+array-share-prefix-nodes : tie.Need-array-share-prefix-nodes
+array-share-prefix-nodes c = omega (arith, shape (c .before .before .before .before) .nodes)
+
+slice-aggregate-below : tie.Need-slice-aggregate-below
+slice-aggregate-below c = let h = shape (c .before .before .before .before .before) .nodes in
+    sym (length-take-le (c .before .before .before .before .before .args .self .m) (c .before .before .before .before .before .args .self .nodes) (omega arith))
+
+below-requires : tie.Need-below-requires
+below-requires c κs = search needs
+
+array-share-prefix-labels : tie.Need-array-share-prefix-labels
+array-share-prefix-labels c = omega (arith, shape (c .before .before .before .before .before .before) .labels)
+
+slice-aggregate-all-below : tie.Need-slice-aggregate-all-below
+slice-aggregate-all-below c = let h = shape (c .before .before .before .before .before .before .before) .labels in
+    sym (length-take-le (c .before .before .before .before .before .before .before .args .self .m) (c .before .before .before .before .before .before .before .args .self .labels) (omega arith))
+
+all-below-requires : tie.Need-all-below-requires
+all-below-requires c κs = search needs
+
+mul-below : tie.Need-mul-below
+mul-below c = search needs
+
+part-below-start : tie.Need-part-below-start
+part-below-start c = search needs
+
+part-below-end : tie.Need-part-below-end
+part-below-end c = omega (arith, shape (c .before .before .before .before .before .before .before .before .before) .nodes)
+
+below-requires-2 : tie.Need-below-requires-2
+below-requires-2 c κs = search needs
+
+part-all-below-start : tie.Need-part-all-below-start
+part-all-below-start c = search needs
+
+part-all-below-end : tie.Need-part-all-below-end
+part-all-below-end c = omega (arith, shape (c .before .before .before .before .before .before .before .before .before .before .before .before) .labels)
+
+all-below-requires-2 : tie.Need-all-below-requires-2
+all-below-requires-2 c κs = search needs
+
+returns-2 : tie.Need-returns-2
+returns-2 c =
+    list-test (c .before .before .before .before .before .before .before .before .before .before .before .before .before .before .args .self) (shape (c .before .before .before .before .before .before .before .before .before .before .before .before .before .before)) (omega arith) _ _ _ _ (c .before .before .before .before .before .before .before .before .below .ensures) (c .before .before .before .before .before .before .all-below .ensures)
+    (c .before .before .before .below2 .ensures) (c .all-below2 .ensures)
+
+pub list-fits-spec : {M : Type 1} → statement M
+list-fits-spec =
+    tie.close
+    (tie.spec
+    cast-m
+    returns
+    array-share-prefix-nodes
+    slice-aggregate-below
+    below-requires
+    array-share-prefix-labels
+    slice-aggregate-all-below
+    all-below-requires
+    mul-below
+    part-below-start
+    part-below-end
+    below-requires-2
+    part-all-below-start
+    part-all-below-end
+    all-below-requires-2
+    returns-2)

@@ -1,0 +1,35 @@
+use Rattle.session.proofs.ValidLaws.{parted, running-sizes, running-counts, running-test}
+use native.Mathlib.Omega.{arith}
+use borrow.Author.Needs.{needs}
+use Rattle.session.proofs.state.Session.running_fits.Statement.{statement}
+use Rattle.session.proofs.state.Session.running_fits.Tie as tie
+use Rattle.session.proofs.state.Session.running_fits.Reads as reads
+use Rattle.session.proofs.state.Session.running_fits.Lts as lts
+use Rattle.session.proofs.state.Session.list_fits.Reads as list-fits-reads
+use Rattle.session.proofs.state.Session.parts_fit.Reads as parts-fit-reads
+use Rattle.session.proofs.state.Session.sizes_fit.Reads as sizes-fit-reads
+
+sizes-fit-requires : tie.Need-sizes-fit-requires
+sizes-fit-requires c κs = search needs
+
+returns : tie.Need-returns
+returns c = running-sizes (c .before .before .args .self) _ (c .before .sizes-fit .ensures) (c .if1 .taken)
+
+returns-2 : tie.Need-returns-2
+returns-2 c = running-counts (c .before .before .before .before .args .self) (c .if2 .taken)
+
+list-fits-requires : tie.Need-list-fits-requires
+list-fits-requires c κs = search needs
+
+parts-fit-requires : tie.Need-parts-fit-requires
+parts-fit-requires c κs = parted (c .before .before .before .before .before .args .self) _ (c .before .before .before .before .sizes-fit .ensures) (c .before .before .before .if1 .left) (omega arith)
+
+returns-3 : tie.Need-returns-3
+returns-3 c =
+    running-test (c .before .before .before .before .before .before .before .args .self) _ (c .before .before .before .before .before .before .sizes-fit .ensures) (c .before .before .before .before .before .if1 .left) _ _ (c .before .before .list-fits .ensures)
+    (c .before .parts-fit .ensures) (omega arith)
+
+pub running-fits-spec : {M : Type 1} → statement M
+running-fits-spec =
+    tie.close
+    (tie.spec sizes-fit-requires returns returns-2 list-fits-requires parts-fit-requires returns-3)

@@ -1,0 +1,19 @@
+use Rattle.session.proofs.ValidLaws.{sizes-test}
+use native.Mathlib.Omega.{arith}
+use borrow.Author.Needs.{needs}
+use Rattle.session.proofs.state.Session.sizes_fit.Statement.{statement}
+use Rattle.session.proofs.state.Session.sizes_fit.Tie as tie
+use Rattle.session.proofs.state.Session.sizes_fit.Reads as reads
+use Rattle.session.proofs.state.Session.sizes_fit.Lts as lts
+
+cast-result : tie.Need-cast-result
+cast-result c = search needs
+
+cast-result-2 : tie.Need-cast-result-2
+cast-result-2 c = search needs
+
+returns : tie.Need-returns
+returns c = sizes-test (c .before .before .before .before .before .args .self) (omega arith)
+
+pub sizes-fit-spec : {M : Type 1} → statement M
+sizes-fit-spec = tie.close (tie.spec cast-result cast-result-2 returns)
