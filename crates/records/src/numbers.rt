@@ -1,14 +1,32 @@
 // Runs of bytes and of numbers of two bytes. There is no early exit: the loops can be done many numbers at a time.
+use formats::bytes::read32;
 ghost use mathlib.Core.Path.{_≡_};
-ghost use Prim.Native.Nat.{ℕ, _*_, _/_, _%_, _<_};
+ghost use Prim.Native.Nat.{ℕ, _+_, _*_, _/_, _%_, _≤_, _<_};
 ghost use lib.ListN.{length};
-ghost use Rattle.records.specs.Layout.{numbers16, bytes16};
+ghost use Rattle.records.specs.Layout.{le16, numbers16, bytes16};
+ghost use Rattle.formats.specs.Bytes.{le32};
 
 // A byte as a wider number.
 fn wide(x: u8) -> u16
     ensures { λ r. ⌜ (r ≡ x) × (r < 256) ⌝ }
 {
     x as u16
+}
+
+// The 16-bit number that starts at byte `at`.
+pub fn number16(bytes: &[u8], at: usize) -> u16
+    requires { ⌜ at + 2 ≤ length (now bytes) ⌝ }
+    ensures { λ r. ⌜ r ≡ le16 (now (bytes .entry)) at ⌝ }
+{
+    wide(bytes[at]) + 256 * wide(bytes[at + 1])
+}
+
+// The 32-bit number that starts at byte `at`.
+pub fn number32(bytes: &[u8], at: usize) -> u32
+    requires { ⌜ at + 4 ≤ length (now bytes) ⌝ }
+    ensures { λ r. ⌜ r ≡ le32 (now (bytes .entry)) at ⌝ }
+{
+    read32(bytes, at) as u32
 }
 
 // The bytes as they are.
@@ -43,7 +61,7 @@ pub fn get_numbers(bytes: &[u8], out: &mut [u16])
 {
     let mut i = 0;
     while i < out.len() {
-        out[i] = wide(bytes[2 * i]) + 256 * wide(bytes[2 * i + 1]);
+        out[i] = number16(bytes, 2 * i);
         i += 1;
     }
 }

@@ -10,7 +10,7 @@ use Rattle.records.proofs.numbers.get_numbers.Statement.{statement}
 use Rattle.records.proofs.numbers.get_numbers.Tie as tie
 use Rattle.records.proofs.numbers.get_numbers.Reads as reads
 use Rattle.records.proofs.numbers.get_numbers.Lts as lts
-use Rattle.records.proofs.numbers.wide.Reads as wide-reads
+use Rattle.records.proofs.numbers.number16.Reads as number16-reads
 
 abbrev Inv-loop : tie.InvT-loop
 Inv-loop bytes out₀ i₀ out i =
@@ -23,35 +23,14 @@ loop-holds : tie.Need-loop-holds Inv-loop μ-loop
 unfolding numbers16
 loop-holds c = (search needs, refl, refl)
 
-mul-wide : tie.Need-mul-wide Inv-loop μ-loop
-mul-wide c = search needs
+mul-number16 : tie.Need-mul-number16 Inv-loop μ-loop
+mul-number16 c = search needs
 
-shared-slice-read-wide : tie.Need-shared-slice-read-wide Inv-loop μ-loop
-shared-slice-read-wide c = search needs
-
-wide-requires : tie.Need-wide-requires Inv-loop μ-loop
-wide-requires c κs = search needs
-
-mul-wide-2 : tie.Need-mul-wide-2 Inv-loop μ-loop
-mul-wide-2 c = search needs
-
-add-wide : tie.Need-add-wide Inv-loop μ-loop
-add-wide c = search needs
-
-shared-slice-read-wide-2 : tie.Need-shared-slice-read-wide-2 Inv-loop μ-loop
-shared-slice-read-wide-2 c = search needs
-
-wide-requires-2 : tie.Need-wide-requires-2 Inv-loop μ-loop
-wide-requires-2 c κs = search needs
+number16-requires : tie.Need-number16-requires Inv-loop μ-loop
+number16-requires c κs = search needs
 
 mul-out : tie.Need-mul-out Inv-loop μ-loop
 mul-out c = search needs
-
-add-out : tie.Need-add-out Inv-loop μ-loop
-add-out c = search needs
-
-mul-out-2 : tie.Need-mul-out-2 Inv-loop μ-loop
-mul-out-2 c = search needs
 
 slice-write-out : tie.Need-slice-write-out Inv-loop μ-loop
 slice-write-out c = search needs
@@ -64,12 +43,11 @@ loop-less c = search needs
 
 loop-again : tie.Need-loop-again Inv-loop μ-loop
 loop-again c =
-    let l = c .before .before .before .before .before .loop in
-    let a = c .before .before .before .before .before .before .before .before .args in (
+    let l = c .before .before .loop in
+    let a = c .before .before .before .before .before .args in (
       search needs,
       simp length-set (omega arith),
-      get-turn (a .bytes .now) (a .out .now) (l .out) (l .i) (c .before .before .wide .result + 256 * c .wide2 .result) (omega arith) (omega arith)
-          (omega arith) (l .inv .2),
+      get-turn (a .bytes .now) (a .out .now) (l .out) (l .i) (c .number16 .result) (omega arith) (omega arith) (c .number16 .ensures) (l .inv .2),
     )
 
 same-length : tie.Need-same-length Inv-loop μ-loop
@@ -88,16 +66,9 @@ get-numbers-spec =
     Inv-loop
     μ-loop
     loop-holds
-    mul-wide
-    shared-slice-read-wide
-    wide-requires
-    mul-wide-2
-    add-wide
-    shared-slice-read-wide-2
-    wide-requires-2
+    mul-number16
+    number16-requires
     mul-out
-    add-out
-    mul-out-2
     slice-write-out
     add-i
     loop-less
