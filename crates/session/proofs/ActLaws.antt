@@ -10,10 +10,9 @@ use mathlib.Core.List.{List, [], _∷_, _++_}
 use mathlib.Core.Option.{Option, none, some}
 use native.Mathlib.Omega.{arith}
 use lib.Dec.{leb, ltb, eqb}
-use lib.ListN.{length, getD, take, length-append}
-use borrow.Author.Tests.{le-leb, lt-ltb, eq-eqb, eqb-true, eqb-false, leb-true}
+use lib.ListN.{length, getD, length-append}
+use borrow.Author.Tests.{le-leb, lt-ltb, eq-eqb, eqb-true, eqb-false}
 use Rattle.formats.specs.Bytes.{allBelow}
-use Rattle.formats.specs.Checks.{Check, check, firstNo, listChecks, buildChecks}
 use Rattle.formats.proofs.CheckLaws.{and-both, firstNo-head, firstNo-tail, true-false}
 use Rattle.formats.proofs.InputLaws.{ListPasses, list-passes, build-passes}
 use Rattle.questions.specs.Climbs.{Reached}
@@ -24,18 +23,18 @@ use Rattle.questions.proofs.PartBounds.{part-bounded}
 use Rattle.questions.proofs.RootsLaws.{rootsOn-some, rootsOn-fits, rootsOn-rises-to}
 use Rattle.book.specs.Lends.{Lent, Sizes, sizesIn, fits, usedNums}
 use Rattle.book.specs.Calls as calls
-use Rattle.book.specs.Calls.{Call, load, start, advance, cancel, read, mayLoad, mayStart, isRunning, isAnswered}
+use Rattle.book.specs.Calls.{Call, load, start, advance, cancel, read, mayLoad, mayStart, isRunning}
 use Rattle.book.specs.Refusals.{refusal}
 use Rattle.book.specs.Model.{Record, idle, freshRecord, loadedRecord, viewBy, marksBy, started, startWith, stepped, advanceWith}
 use Rattle.book.specs.Model.{partNext, acted, proceeds, unless, act}
-use Rattle.session.specs.declared.state.Phase.the-variants.{Empty, Loaded, Running, Answered}
+use Rattle.session.specs.declared.state.Phase.the-variants.{Empty}
 use Rattle.session.specs.declared.state.Session.{Session}
 use Rattle.session.specs.Records.{phaseTo, recordOf, sessionOf, padded, zeroFrom, risesTo}
 use Rattle.session.specs.Records.{sizesFit, noQuestion, listFits, partsFit, validIn, valid}
 use Rattle.session.specs.Tests.{Shaped}
 use Rattle.session.proofs.PadLaws.{take-padded, take-padded-by, zero-padded, zero-padded-by, zero-replicate}
 use Rattle.session.proofs.RecordLaws.{Listed, record-of-struct, struct-shaped}
-use Rattle.session.proofs.Holds.{Sized, Asked, Going, Ended, HoldsIn, Holds, holds-of}
+use Rattle.session.proofs.Holds.{Sized, Asked, Going, HoldsIn, Holds, holds-of}
 
 -- ---- the struct of a record that holds
 

@@ -3,19 +3,18 @@
 --     advance-limits, next-args, handle-args       what the calls below ask
 -- Assumes nothing.
 use Prim.Native.Nat.{ℕ, zero, suc, _+_, _-_, _*_, _≤_, _<_}
-use mathlib.Core.Path.{_≡_, refl, sym, ap, _∙_, subst}
+use mathlib.Core.Path.{_≡_, refl, sym, ap, _∙_}
 use mathlib.Core.Bool.{Bool, true, false, not, cond, _&&_}
-use mathlib.Core.List.{List, [], _∷_, _++_}
+use mathlib.Core.List.{List, [], _∷_}
 use mathlib.Core.Option.{Option, none, some}
 use native.Mathlib.Omega.{arith}
 use native.Mathlib.Numerals.{add-one}
-use lib.Dec.{leb, ltb, eqb}
-use lib.ListN.{length, getD, take, drop, set}
+use lib.Dec.{ltb, eqb}
+use lib.ListN.{length, getD, take, drop}
 use lib.Seq.{length-take-le, getD-take, getD-drop}
 use borrow.Author.Tests.{not-true, not-false, le-leb, lt-ltb, eq-eqb, ne-eqb, eqb-true, ltb-true}
-use Rattle.formats.specs.Rules.{ruleLength}
-use Rattle.formats.specs.Checks.{Check, check, firstNo, linkLength, stateLength}
-use Rattle.formats.proofs.CheckLaws.{and-both, and-left, and-right, firstNo-yes, firstNo-no, true-false}
+use Rattle.formats.specs.Checks.{check, firstNo}
+use Rattle.formats.proofs.CheckLaws.{and-both, and-left, and-right, firstNo-yes, firstNo-no}
 use Rattle.questions.specs.declared.climb.Climbed.{Climbed}
 use Rattle.questions.specs.declared.climb.Climbed.the-variants.{Reached as Told, Outside}
 use Rattle.questions.specs.Climbs.{Reached}
@@ -28,19 +27,19 @@ use Rattle.book.specs.Lends.{Lent, fits}
 use Rattle.book.specs.Calls as calls
 use Rattle.book.specs.Calls.{Call, advance, isRunning}
 use Rattle.book.specs.Refusals.{refusal}
-use Rattle.book.specs.Model.{Record, Acted, acted, viewBy, marksBy, stepped, advanceWith, partNext, proceeds}
+use Rattle.book.specs.Model.{Acted, acted, viewBy, stepped, advanceWith, partNext, proceeds}
 use Rattle.session.specs.declared.state.Phase.{Phase}
 use Rattle.session.specs.declared.state.Phase.the-variants.{Running, Answered}
 use Rattle.session.specs.declared.state.Session.{Session}
 use Rattle.session.specs.declared.answers.Advancing.the-variants.{More, Finished, Refused as NotAdvanced}
 use Rattle.session.specs.declared.answers.Advanced.{Advanced}
-use Rattle.session.specs.Records.{phaseOf, phaseTo, sizesOf, recordOf, sessionOf, padded, risesTo, valid}
+use Rattle.session.specs.Records.{phaseOf, phaseTo, sizesOf, recordOf, sessionOf, risesTo, valid}
 use Rattle.session.specs.Promises.{CallDone, advancingAnswer}
 use Rattle.session.specs.Tests.{Shaped}
-use Rattle.session.specs.Steps.{NextArgs, StepArgs, MarkArgs, HandleArgs, marksIn, steppedOf, handledBy}
+use Rattle.session.specs.Steps.{NextArgs, HandleArgs, marksIn, steppedOf, handledBy}
 use Rattle.session.proofs.PadLaws.{padded-take, padded-more}
 use Rattle.session.proofs.RecordLaws.{Tails}
-use Rattle.session.proofs.Holds.{Sized, Asked, Going, holds-of, tails-of, struct-is}
+use Rattle.session.proofs.Holds.{Sized, Going, holds-of, tails-of, struct-is}
 use Rattle.session.proofs.ActLaws.{running-is}
 use Rattle.session.proofs.CallLaws.{unless-done, refused-done, proceeds-done}
 

@@ -2,17 +2,16 @@
 --     invalid-done, refused-done, unless-done     a refusal: by the struct, by a number, by check 1
 --     proceeds-done                               no check fails
 -- Assumes nothing.
-use Prim.Native.Nat.{ℕ, zero, suc, _+_, _-_, _≤_, _<_}
+use Prim.Native.Nat.{ℕ, suc}
 use mathlib.Core.Path.{_≡_, refl, sym, ap, _∙_}
-use mathlib.Core.Bool.{Bool, true, false, cond, _&&_}
-use mathlib.Core.List.{List, [], _∷_}
-use native.Mathlib.Omega.{arith}
+use mathlib.Core.Bool.{Bool, true, false, _&&_}
+use mathlib.Core.List.{List, _∷_}
 use Rattle.formats.specs.Checks.{Check, check, firstNo}
 use Rattle.formats.proofs.CheckLaws.{firstNo-no}
 use Rattle.book.specs.Calls as calls
 use Rattle.book.specs.Calls.{Call, Answer, refused}
 use Rattle.book.specs.Refusals.{refusal}
-use Rattle.book.specs.Model.{Record, proceeds, unless, act}
+use Rattle.book.specs.Model.{proceeds, unless, act}
 use Rattle.session.specs.declared.state.Phase.{Phase}
 use Rattle.session.specs.declared.state.Session.{Session}
 use Rattle.session.specs.Records.{phaseOf, sizesOf, recordOf, sessionOf, valid}

@@ -1,27 +1,27 @@
 -- Cancel and Read, by what the code has found.
 -- Assumes nothing.
-use Prim.Native.Nat.{ℕ, zero, suc, _+_, _-_, _≤_, _<_}
-use mathlib.Core.Path.{_≡_, refl, sym, ap, _∙_}
+use Prim.Native.Nat.{ℕ, zero, suc, _+_, _-_, _≤_}
+use mathlib.Core.Path.{_≡_, refl, sym, _∙_}
 use mathlib.Core.Bool.{Bool, true, false, not, _&&_}
 use mathlib.Core.List.{List, [], _∷_}
 use native.Mathlib.Omega.{arith}
 use lib.ListN.{length, getD, take}
 use lib.Seq.{length-take-le, getD-take}
 use borrow.Author.Tests.{not-true, not-false}
-use Rattle.formats.specs.Checks.{check, firstNo}
+use Rattle.formats.specs.Checks.{firstNo}
 use Rattle.formats.proofs.CheckLaws.{and-left, and-right, true-false}
 use Rattle.book.specs.Calls as calls
-use Rattle.book.specs.Calls.{Call, cancel, read, refused, isRunning, isAnswered}
+use Rattle.book.specs.Calls.{cancel, read, isRunning, isAnswered}
 use Rattle.book.specs.Refusals.{refusal}
 use Rattle.book.specs.Model.{Record, proceeds, unless, act, lastOf}
 use Rattle.session.specs.declared.state.Session.{Session}
 use Rattle.session.specs.declared.answers.Doing.the-variants.{Done as Made, Refused as NotDone}
 use Rattle.session.specs.declared.answers.Reading.the-variants.{Told, Refused as NotRead}
-use Rattle.session.specs.Records.{phaseOf, sizesOf, recordOf, sessionOf, valid}
+use Rattle.session.specs.Records.{phaseOf, recordOf, sessionOf, valid}
 use Rattle.session.specs.Promises.{CallDone, doingAnswer, readingAnswer, answerOn}
 use Rattle.session.specs.Tests.{Shaped, loadedBy}
-use Rattle.session.proofs.Holds.{Asked, Ended, HoldsIn, holds-of, tails-of}
-use Rattle.session.proofs.CallLaws.{unless-done, proceeds-done, invalid-done, refused-done}
+use Rattle.session.proofs.Holds.{Ended, HoldsIn, holds-of, tails-of}
+use Rattle.session.proofs.CallLaws.{unless-done, proceeds-done}
 
 module _ (s : Session) (h : Shaped s) (b : Bool) (e : b ≡ (valid s && isRunning (phaseOf (s .phase)))) where
   pub cancel-no : not b ≡ true → CallDone s cancel (doingAnswer (NotDone 1)) s

@@ -3,10 +3,10 @@
 --     load-built       the tables were built; load-headers: then both headers are whole
 --     load-refused     the build refused
 -- Assumes nothing.
-use Prim.Native.Nat.{ℕ, zero, suc, _≤_, _<_}
+use Prim.Native.Nat.{ℕ, zero, suc}
 use mathlib.Core.Path.{_≡_, refl, sym, ap, _∙_}
 use mathlib.Core.Bool.{Bool, true, false, not, cond, _&&_}
-use mathlib.Core.List.{List, [], _∷_}
+use mathlib.Core.List.{List, _∷_}
 use native.Mathlib.Omega.{arith}
 use lib.ListN.{length}
 use borrow.Author.Tests.{not-true, not-false}
@@ -19,9 +19,9 @@ use Rattle.formats.proofs.InputLaws.{build-passes}
 use Rattle.tables.specs.declared.answers.Building.{Building}
 use Rattle.tables.specs.declared.answers.Building.the-variants.{Built, Refused}
 use Rattle.tables.specs.Answers.{numberOf, toldBuild, written, BuildDone}
-use Rattle.book.specs.Lends.{Lent, sizesIn}
+use Rattle.book.specs.Lends.{Lent}
 use Rattle.book.specs.Calls as calls
-use Rattle.book.specs.Calls.{Call, load, mayLoad}
+use Rattle.book.specs.Calls.{load, mayLoad}
 use Rattle.book.specs.Refusals.{refusal}
 use Rattle.book.specs.Model.{proceeds}
 use Rattle.session.specs.declared.state.Session.{Session}

@@ -2,29 +2,27 @@
 --     start-1, start-17, start-list, start-18, start-yes
 --     start-limits, start-room, start-listed, start-count     what the calls below ask
 -- Assumes nothing.
-use Prim.Native.Nat.{ℕ, zero, suc, _+_, _-_, _*_, _≤_, _<_}
+use Prim.Native.Nat.{ℕ, zero, suc, _*_, _≤_}
 use mathlib.Core.Path.{_≡_, refl, sym, ap, _∙_}
 use mathlib.Core.Bool.{Bool, true, false, not, _&&_}
-use mathlib.Core.List.{List, [], _∷_, _++_}
+use mathlib.Core.List.{List, _∷_}
 use mathlib.Core.Option.{Option, none, some}
 use native.Mathlib.Omega.{arith}
-use lib.Dec.{leb, eqb}
-use lib.ListN.{length, take, replicate}
+use lib.ListN.{length, take}
 use lib.Seq.{length-take-le}
-use borrow.Author.Tests.{not-true, not-false, le-leb}
-use Rattle.formats.specs.Bytes.{allBelow}
-use Rattle.formats.specs.Checks.{Check, check, firstNo, listChecks, linkLength}
+use borrow.Author.Tests.{not-true, not-false}
+use Rattle.formats.specs.Checks.{check, firstNo, listChecks}
 use Rattle.formats.proofs.CheckLaws.{and-left, and-right, firstNo-yes, firstNo-no, true-false}
 use Rattle.formats.proofs.InputLaws.{ListPasses, list-passes}
 use Rattle.questions.specs.declared.roots.Rooted.{Rooted}
 use Rattle.questions.specs.PartArgs.{LimitArgs}
 use Rattle.questions.specs.PartTold.{lengthsFit}
 use Rattle.questions.specs.Roots.{rootsOn}
-use Rattle.questions.specs.RootsTold.{rootsFit, rootsGiven, rootedOf}
-use Rattle.questions.proofs.PartFits.{Lengths, lengths-are}
+use Rattle.questions.specs.RootsTold.{rootsGiven, rootedOf}
+use Rattle.questions.proofs.PartFits.{lengths-are}
 use Rattle.questions.proofs.FitLaws.{fit-all, given-yes}
 use Rattle.questions.proofs.RootsLaws.{rootsOn-fits}
-use Rattle.book.specs.Lends.{Lent, fits, usedNums}
+use Rattle.book.specs.Lends.{Lent, fits}
 use Rattle.book.specs.Calls as calls
 use Rattle.book.specs.Calls.{Call, start, mayStart}
 use Rattle.book.specs.Refusals.{refusal}

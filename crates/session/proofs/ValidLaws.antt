@@ -1,9 +1,9 @@
 -- The tests of a struct as the code makes them, against their definitions.
 -- Assumes nothing.
-use Prim.Native.Nat.{ℕ, _+_, _-_, _*_, _≤_, _<_}
+use Prim.Native.Nat.{ℕ, _-_, _*_, _≤_, _<_}
 use mathlib.Core.Path.{_≡_, refl, sym, ap, _∙_}
 use mathlib.Core.Bool.{Bool, true, false, not, _&&_}
-use mathlib.Core.List.{List, [], _∷_}
+use mathlib.Core.List.{List}
 use native.Mathlib.Omega.{arith}
 use lib.Dec.{leb, ltb, eqb}
 use lib.ListN.{length, take, drop, length-drop}
@@ -11,7 +11,7 @@ use lib.Seq.{take-all}
 use borrow.Author.Tests.{le-leb, lt-leb, le-ltb, lt-ltb, eq-eqb, ne-eqb, leb-true, not-true, not-false}
 use Rattle.formats.specs.Bytes.{allBelow}
 use Rattle.session.specs.declared.state.Session.{Session}
-use Rattle.formats.proofs.CheckLaws.{and-left, and-right, and-no-right}
+use Rattle.formats.proofs.CheckLaws.{and-left, and-no-right}
 use Rattle.session.specs.declared.state.Phase.{Phase}
 use Rattle.session.specs.declared.state.Phase.the-variants.{Empty, Loaded, Running, Answered}
 use Rattle.session.specs.Records.{sizesFit, noQuestion, listFits, partsFit, zeroFrom, risesTo, validIn, valid}

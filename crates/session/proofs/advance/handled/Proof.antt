@@ -1,12 +1,9 @@
+-- `session::advance::handled` meets its contract. The last part, and any other.
+-- Assumes nothing.
 use Rattle.session.proofs.AdvanceLaws.{handled-last, handled-more}
-use native.Mathlib.Omega.{arith}
 use borrow.Author.Needs.{needs}
 use Rattle.session.proofs.advance.handled.Statement.{statement}
 use Rattle.session.proofs.advance.handled.Tie as tie
-use Rattle.session.proofs.advance.handled.Reads as reads
-use Rattle.session.proofs.advance.handled.Lts as lts
-use Rattle.session.proofs.advance.is_marked.Reads as is-marked-reads
-use Rattle.session.proofs.advance.stepped.Reads as stepped-reads
 
 add-if1 : tie.Need-add-if1
 add-if1 c = search needs

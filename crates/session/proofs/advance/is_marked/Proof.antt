@@ -1,11 +1,9 @@
+-- `session::advance::is_marked` meets its contract. The byte that is read is the mark.
+-- Assumes nothing.
 use Rattle.session.proofs.AdvanceLaws.{mark-at}
-use native.Mathlib.Omega.{arith}
 use borrow.Author.Needs.{needs}
 use Rattle.session.proofs.advance.is_marked.Statement.{statement}
 use Rattle.session.proofs.advance.is_marked.Tie as tie
-use Rattle.session.proofs.advance.is_marked.Reads as reads
-use Rattle.session.proofs.advance.is_marked.Lts as lts
-use Rattle.formats.proofs.rules.inner_count.Reads as inner-count-reads
 
 add-result : tie.Need-add-result
 add-result c = search needs

@@ -1,3 +1,5 @@
+-- `session::advance::next_part` meets its contract. The record's lists are the first entries of its arrays.
+-- Assumes nothing.
 use mathlib.Core.Path.{sym}
 use lib.Seq.{length-take-le}
 use Rattle.session.specs.Tests.{Shaped}
@@ -6,9 +8,6 @@ use native.Mathlib.Omega.{arith}
 use borrow.Author.Needs.{needs}
 use Rattle.session.proofs.advance.next_part.Statement.{statement}
 use Rattle.session.proofs.advance.next_part.Tie as tie
-use Rattle.session.proofs.advance.next_part.Reads as reads
-use Rattle.session.proofs.advance.next_part.Lts as lts
-use Rattle.questions.proofs.part.part.Reads as part-reads
 
 shape : (c : tie.Start) → Shaped (c .args .s)
 shape c = shaped (c .args .s) (c .good .0)

@@ -1,3 +1,5 @@
+-- `session::fill::padded_labels` meets its contract. The loop's invariant: the entries passed are copied, and zeros are behind them.
+-- Assumes nothing.
 use Prim.Native.Nat.{_-_, _≤_}
 use mathlib.Core.Path.{_≡_, refl}
 use mathlib.Core.List.{_++_}
@@ -7,8 +9,6 @@ use native.Mathlib.Omega.{arith}
 use borrow.Author.Needs.{needs}
 use Rattle.session.proofs.fill.padded_labels.Statement.{statement}
 use Rattle.session.proofs.fill.padded_labels.Tie as tie
-use Rattle.session.proofs.fill.padded_labels.Reads as reads
-use Rattle.session.proofs.fill.padded_labels.Lts as lts
 
 abbrev Inv-loop : tie.InvT-loop
 Inv-loop labels out₀ i₀ out i = (i ≤ length labels) × ((length out ≡ 64) × (out ≡ take i labels ++ drop i (replicate 64 0)))

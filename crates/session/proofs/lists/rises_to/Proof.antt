@@ -1,3 +1,5 @@
+-- `session::lists::rises_to` meets its contract. The loop's invariant: the running answer and that of the run from the number before make the answer for all.
+-- Assumes nothing.
 use Prim.Native.Nat.{_+_, _-_, _≤_}
 use mathlib.Core.Path.{_≡_, refl, sym, _∙_}
 use mathlib.Core.Bool.{_&&_}
@@ -8,8 +10,6 @@ use native.Mathlib.Omega.{arith}
 use borrow.Author.Needs.{needs}
 use Rattle.session.proofs.lists.rises_to.Statement.{statement}
 use Rattle.session.proofs.lists.rises_to.Tie as tie
-use Rattle.session.proofs.lists.rises_to.Reads as reads
-use Rattle.session.proofs.lists.rises_to.Lts as lts
 
 abbrev Inv-loop : tie.InvT-loop
 Inv-loop last xs ok₀ i₀ ok i =

@@ -1,12 +1,9 @@
+-- `session::loaded::loaded_from` meets its contract. N, S and K are those that the headers name.
+-- Assumes nothing.
 use Rattle.session.proofs.LoadLaws.{loaded-same}
-use native.Mathlib.Omega.{arith}
 use borrow.Author.Needs.{needs}
 use Rattle.session.proofs.loaded.loaded_from.Statement.{statement}
 use Rattle.session.proofs.loaded.loaded_from.Tie as tie
-use Rattle.session.proofs.loaded.loaded_from.Reads as reads
-use Rattle.session.proofs.loaded.loaded_from.Lts as lts
-use Rattle.formats.proofs.bytes.read32.Reads as read32-reads
-use Rattle.session.proofs.loaded.loaded.Reads as loaded-reads
 
 read32-requires : tie.Need-read32-requires
 read32-requires c κs = search needs

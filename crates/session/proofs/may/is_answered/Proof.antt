@@ -1,14 +1,12 @@
+-- `session::may::is_answered` meets its contract. Each state has its arm.
+-- Assumes nothing.
 use mathlib.Core.Path.{refl}
 use Rattle.book.specs.Calls.{isAnswered}
 use Rattle.session.specs.Records.{phaseOf}
 use Rattle.session.proofs.CallLaws.{state-yes, state-no}
-use native.Mathlib.Omega.{arith}
 use borrow.Author.Needs.{needs}
 use Rattle.session.proofs.may.is_answered.Statement.{statement}
 use Rattle.session.proofs.may.is_answered.Tie as tie
-use Rattle.session.proofs.may.is_answered.Reads as reads
-use Rattle.session.proofs.may.is_answered.Lts as lts
-use Rattle.session.proofs.state.Session.valid.Reads as valid-reads
 
 enum-told : tie.Need-enum-told
 enum-told c = search needs

@@ -1,14 +1,12 @@
+-- `session::may::is_running` meets its contract. Each state has its arm.
+-- Assumes nothing.
 use mathlib.Core.Path.{refl}
 use Rattle.book.specs.Calls.{isRunning}
 use Rattle.session.specs.Records.{phaseOf}
 use Rattle.session.proofs.CallLaws.{state-yes, state-no}
-use native.Mathlib.Omega.{arith}
 use borrow.Author.Needs.{needs}
 use Rattle.session.proofs.may.is_running.Statement.{statement}
 use Rattle.session.proofs.may.is_running.Tie as tie
-use Rattle.session.proofs.may.is_running.Reads as reads
-use Rattle.session.proofs.may.is_running.Lts as lts
-use Rattle.session.proofs.state.Session.valid.Reads as valid-reads
 
 enum-told : tie.Need-enum-told
 enum-told c = search needs

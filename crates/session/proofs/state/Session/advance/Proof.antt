@@ -1,17 +1,12 @@
+-- `session::state::Session::advance` meets its contract. Each return cites the law of its answer.
+-- Assumes nothing.
 use Rattle.book.specs.Lends.{Lent}
 use Rattle.session.specs.Tests.{Shaped, lentOf}
 use Rattle.session.proofs.Shapes.{shaped}
 use Rattle.session.proofs.AdvanceLaws.{advance-1, advance-limits, advance-17, next-args, handle-args, advance-18, advance-yes}
-use native.Mathlib.Omega.{arith}
 use borrow.Author.Needs.{needs}
 use Rattle.session.proofs.state.Session.advance.Statement.{statement}
 use Rattle.session.proofs.state.Session.advance.Tie as tie
-use Rattle.session.proofs.state.Session.advance.Reads as reads
-use Rattle.session.proofs.state.Session.advance.Lts as lts
-use Rattle.questions.proofs.fits.lengths_fit.Reads as lengths-fit-reads
-use Rattle.session.proofs.advance.handled.Reads as handled-reads
-use Rattle.session.proofs.advance.next_part.Reads as next-part-reads
-use Rattle.session.proofs.may.is_running.Reads as is-running-reads
 
 shape : (c : tie.Start) → Shaped (c .args .self)
 shape c = shaped (c .args .self) (c .good .0)

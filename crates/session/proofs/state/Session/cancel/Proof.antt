@@ -1,14 +1,11 @@
+-- `session::state::Session::cancel` meets its contract. Each return cites the law of its answer.
+-- Assumes nothing.
 use Rattle.session.specs.Tests.{Shaped}
 use Rattle.session.proofs.Shapes.{shaped}
 use Rattle.session.proofs.CancelLaws.{cancel-no, cancel-yes}
-use native.Mathlib.Omega.{arith}
 use borrow.Author.Needs.{needs}
 use Rattle.session.proofs.state.Session.cancel.Statement.{statement}
 use Rattle.session.proofs.state.Session.cancel.Tie as tie
-use Rattle.session.proofs.state.Session.cancel.Reads as reads
-use Rattle.session.proofs.state.Session.cancel.Lts as lts
-use Rattle.session.proofs.loaded.loaded.Reads as loaded-reads
-use Rattle.session.proofs.may.is_running.Reads as is-running-reads
 
 shape : (c : tie.Start) → Shaped (c .args .self)
 shape c = shaped (c .args .self) (c .good .0)

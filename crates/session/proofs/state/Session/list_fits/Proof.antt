@@ -1,3 +1,5 @@
+-- `session::state::Session::list_fits` meets its contract. Each test is one of the definition's.
+-- Assumes nothing.
 use Rattle.session.specs.Tests.{Shaped}
 use Rattle.session.proofs.Shapes.{shaped}
 use mathlib.Core.Path.{sym}
@@ -7,10 +9,6 @@ use native.Mathlib.Omega.{arith}
 use borrow.Author.Needs.{needs}
 use Rattle.session.proofs.state.Session.list_fits.Statement.{statement}
 use Rattle.session.proofs.state.Session.list_fits.Tie as tie
-use Rattle.session.proofs.state.Session.list_fits.Reads as reads
-use Rattle.session.proofs.state.Session.list_fits.Lts as lts
-use Rattle.formats.proofs.rules.all_below.Reads as all-below-reads
-use Rattle.session.proofs.lists.below.Reads as below-reads
 
 shape : (c : tie.Start) → Shaped (c .args .self)
 shape c = shaped (c .args .self) (c .good .0)

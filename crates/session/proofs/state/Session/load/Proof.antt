@@ -1,16 +1,12 @@
+-- `session::state::Session::load` meets its contract. Each return cites the law of its answer.
+-- Assumes nothing.
 use Rattle.book.specs.Lends.{Lent}
 use Rattle.session.specs.Tests.{Shaped, lentOf}
 use Rattle.session.proofs.Shapes.{shaped}
 use Rattle.session.proofs.LoadLaws.{load-1, load-headers, load-built, load-refused}
-use native.Mathlib.Omega.{arith}
 use borrow.Author.Needs.{needs}
 use Rattle.session.proofs.state.Session.load.Statement.{statement}
 use Rattle.session.proofs.state.Session.load.Tie as tie
-use Rattle.session.proofs.state.Session.load.Reads as reads
-use Rattle.session.proofs.state.Session.load.Lts as lts
-use Rattle.session.proofs.loaded.loaded_from.Reads as loaded-from-reads
-use Rattle.session.proofs.may.may_load.Reads as may-load-reads
-use Rattle.tables.proofs.build.build_rules.Reads as build-rules-reads
 
 shape : (c : tie.Start) → Shaped (c .args .self)
 shape c = shaped (c .args .self) (c .good .0)

@@ -1,15 +1,12 @@
+-- `session::state::Session::no_question` meets its contract. Each test is one of the definition's.
+-- Assumes nothing.
 use mathlib.Core.Path.{sym}
 use Rattle.session.specs.Tests.{Shaped}
 use Rattle.session.proofs.Shapes.{shaped}
 use Rattle.session.proofs.ValidLaws.{question-test}
-use native.Mathlib.Omega.{arith}
 use borrow.Author.Needs.{needs}
 use Rattle.session.proofs.state.Session.no_question.Statement.{statement}
 use Rattle.session.proofs.state.Session.no_question.Tie as tie
-use Rattle.session.proofs.state.Session.no_question.Reads as reads
-use Rattle.session.proofs.state.Session.no_question.Lts as lts
-use Rattle.formats.proofs.rules.all_below.Reads as all-below-reads
-use Rattle.session.proofs.lists.below.Reads as below-reads
 
 shape : (c : tie.Start) → Shaped (c .args .self)
 shape c = shaped (c .args .self) (c .good .0)

@@ -1,3 +1,5 @@
+-- `session::state::Session::parts_fit` meets its contract. Each test is one of the definition's.
+-- Assumes nothing.
 use Rattle.session.specs.Tests.{Shaped}
 use Rattle.session.proofs.Shapes.{shaped}
 use mathlib.Core.Path.{sym}
@@ -7,11 +9,6 @@ use native.Mathlib.Omega.{arith}
 use borrow.Author.Needs.{needs}
 use Rattle.session.proofs.state.Session.parts_fit.Statement.{statement}
 use Rattle.session.proofs.state.Session.parts_fit.Tie as tie
-use Rattle.session.proofs.state.Session.parts_fit.Reads as reads
-use Rattle.session.proofs.state.Session.parts_fit.Lts as lts
-use Rattle.formats.proofs.rules.all_below.Reads as all-below-reads
-use Rattle.session.proofs.lists.below.Reads as below-reads
-use Rattle.session.proofs.lists.rises_to.Reads as rises-to-reads
 
 shape : (c : tie.Start) → Shaped (c .args .self)
 shape c = shaped (c .args .self) (c .good .0)

@@ -1,3 +1,5 @@
+-- `session::state::Session::read` meets its contract. Each return cites the law of its answer.
+-- Assumes nothing.
 use Rattle.session.specs.Tests.{Shaped}
 use Rattle.session.proofs.Shapes.{shaped}
 use Rattle.session.proofs.CancelLaws.{read-no, counted, read-yes}
@@ -5,9 +7,6 @@ use native.Mathlib.Omega.{arith}
 use borrow.Author.Needs.{needs}
 use Rattle.session.proofs.state.Session.read.Statement.{statement}
 use Rattle.session.proofs.state.Session.read.Tie as tie
-use Rattle.session.proofs.state.Session.read.Reads as reads
-use Rattle.session.proofs.state.Session.read.Lts as lts
-use Rattle.session.proofs.may.is_answered.Reads as is-answered-reads
 
 shape : (c : tie.Start) → Shaped (c .args .self)
 shape c = shaped (c .args .self) (c .good .0)

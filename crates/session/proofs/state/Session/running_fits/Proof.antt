@@ -1,13 +1,10 @@
+-- `session::state::Session::running_fits` meets its contract. Each test is one of the definition's.
+-- Assumes nothing.
 use Rattle.session.proofs.ValidLaws.{parted, running-sizes, running-counts, running-test}
 use native.Mathlib.Omega.{arith}
 use borrow.Author.Needs.{needs}
 use Rattle.session.proofs.state.Session.running_fits.Statement.{statement}
 use Rattle.session.proofs.state.Session.running_fits.Tie as tie
-use Rattle.session.proofs.state.Session.running_fits.Reads as reads
-use Rattle.session.proofs.state.Session.running_fits.Lts as lts
-use Rattle.session.proofs.state.Session.list_fits.Reads as list-fits-reads
-use Rattle.session.proofs.state.Session.parts_fit.Reads as parts-fit-reads
-use Rattle.session.proofs.state.Session.sizes_fit.Reads as sizes-fit-reads
 
 sizes-fit-requires : tie.Need-sizes-fit-requires
 sizes-fit-requires c κs = search needs

@@ -1,3 +1,5 @@
+-- `session::state::Session::start` meets its contract. Each return cites the law of its answer.
+-- Assumes nothing.
 use Prim.Native.Nat.{_*_}
 use mathlib.Core.Path.{sym}
 use lib.Seq.{length-take-le}
@@ -9,13 +11,6 @@ use native.Mathlib.Omega.{arith}
 use borrow.Author.Needs.{needs}
 use Rattle.session.proofs.state.Session.start.Statement.{statement}
 use Rattle.session.proofs.state.Session.start.Tie as tie
-use Rattle.session.proofs.state.Session.start.Reads as reads
-use Rattle.session.proofs.state.Session.start.Lts as lts
-use Rattle.formats.proofs.lists.check_list.Reads as check-list-reads
-use Rattle.questions.proofs.fits.lengths_fit.Reads as lengths-fit-reads
-use Rattle.questions.proofs.roots.roots.Reads as roots-reads
-use Rattle.session.proofs.may.may_start.Reads as may-start-reads
-use Rattle.session.proofs.start.started.Reads as started-reads
 
 shape : (c : tie.Start) → Shaped (c .args .self)
 shape c = shaped (c .args .self) (c .good .0)

@@ -1,14 +1,9 @@
+-- `session::state::Session::valid` meets its contract. Each state has its arm.
+-- Assumes nothing.
 use Rattle.session.proofs.ValidLaws.{empty-test, loaded-test, phase-test}
-use native.Mathlib.Omega.{arith}
 use borrow.Author.Needs.{needs}
 use Rattle.session.proofs.state.Session.valid.Statement.{statement}
 use Rattle.session.proofs.state.Session.valid.Tie as tie
-use Rattle.session.proofs.state.Session.valid.Reads as reads
-use Rattle.session.proofs.state.Session.valid.Lts as lts
-use Rattle.session.proofs.state.Session.answered_fits.Reads as answered-fits-reads
-use Rattle.session.proofs.state.Session.no_question.Reads as no-question-reads
-use Rattle.session.proofs.state.Session.running_fits.Reads as running-fits-reads
-use Rattle.session.proofs.state.Session.sizes_fit.Reads as sizes-fit-reads
 
 enum-told : tie.Need-enum-told
 enum-told c = search needs
