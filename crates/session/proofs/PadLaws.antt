@@ -3,6 +3,7 @@
 --     length-padded, take-padded, take-padded-by, zero-padded
 --                                a list of at most w entries in an array of w
 --     padded-take                an array whose rest is zero is the list in its first entries
+--     take-long                  the length of the first entries of an array
 --     copy-turn, copy-end        a list copied into an array of zeros, entry by entry
 --     padded-more                one entry more
 -- Assumes nothing.
@@ -61,6 +62,10 @@ module _ (w m : ℕ) (l : List ℕ) (e : length l ≡ w) (z : zeroFrom m l ≡ t
 
   pub padded-take : take m l ++ replicate (w - m) 0 ≡ l
   padded-take = ap (λ (t : List ℕ). take m l ++ t) (sym tail-zeros) ∙ take-append-drop m l
+
+-- what `&l[..m]` is, of an array of w entries
+pub take-long : (w m : ℕ) (l : List ℕ) → length l ≡ w → m ≤ w → m ≡ length (take m l)
+take-long w m l e h = sym (length-take-le m l (omega arith))
 
 -- ---- a list copied into an array of zeros
 

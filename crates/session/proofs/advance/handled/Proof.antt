@@ -22,8 +22,10 @@ stepped-requires c κs = search needs
 
 returns : tie.Need-returns
 returns c =
-    let a = c .before .before .before .before .before .before .before .before .args in
-    handled-last (a .s) (a .rules .now) (a .q) (a .links) _ (c .before .before .before .before .if1 .taken) _ (c .stepped .ensures) (c .before .is-marked .ensures)
+    let m = c .before in
+    let e = m .before .before .before in
+    let a = e .before .before .before .before .args in
+    handled-last (a .s) (a .rules .now) (a .q) (a .links) _ (e .if1 .taken) _ (c .stepped .ensures) (m .is-marked .ensures)
 
 stepped-requires-2 : tie.Need-stepped-requires-2
 stepped-requires-2 c κs = search needs

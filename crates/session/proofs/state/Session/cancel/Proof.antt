@@ -21,7 +21,9 @@ loaded-requires c κs = search needs
 
 returns-2 : tie.Need-returns-2
 returns-2 c =
-    cancel-yes (c .before .before .before .args .self) (shape (c .before .before .before)) _ (c .before .before .is-running .ensures) (c .before .if1 .left) _ (c .loaded .ensures)
+    let e = c .before in
+    let a = e .before .before in
+    cancel-yes (a .args .self) (shape a) _ (e .before .is-running .ensures) (e .if1 .left) _ (c .loaded .ensures)
 
 pub cancel-spec : {M : Type 1} → statement M
 cancel-spec = tie.close (tie.spec is-running-requires returns loaded-requires returns-2)

@@ -11,6 +11,9 @@ use Rattle.session.proofs.state.Session.read.Tie as tie
 shape : (c : tie.Start) → Shaped (c .args .self)
 shape c = shaped (c .args .self) (c .good .0)
 
+abbrev of : tie.Else1 → tie.Start
+of a = a .before .before
+
 is-answered-requires : tie.Need-is-answered-requires
 is-answered-requires c κs = search needs
 
@@ -21,14 +24,16 @@ cast-last : tie.Need-cast-last
 cast-last c = search needs
 
 sub-last : tie.Need-sub-last
-sub-last c = counted (c .before .before .before .before .args .self) (shape (c .before .before .before .before)) _ (c .before .before .before .is-answered .ensures) (c .before .before .if1 .left) .0
+sub-last c = let e = c .before .before in counted (of e .args .self) (shape (of e)) _ (e .before .is-answered .ensures) (e .if1 .left) .0
 
 array-read-t9 : tie.Need-array-read-t9
 array-read-t9 c =
-    let k = counted (c .before .before .before .before .args .self) (shape (c .before .before .before .before)) _ (c .before .before .before .is-answered .ensures) (c .before .before .if1 .left) in omega (arith, k .0, k .1)
+    let e = c .before .before in
+    let k = counted (of e .args .self) (shape (of e)) _ (e .before .is-answered .ensures) (e .if1 .left) in
+    omega (arith, k .0, k .1)
 
 returns-2 : tie.Need-returns-2
-returns-2 c = read-yes (c .before .before .before .before .args .self) (shape (c .before .before .before .before)) _ (c .before .before .before .is-answered .ensures) (c .before .before .if1 .left)
+returns-2 c = let e = c .before .before in read-yes (of e .args .self) (shape (of e)) _ (e .before .is-answered .ensures) (e .if1 .left)
 
 pub read-spec : {M : Type 1} → statement M
 read-spec =

@@ -34,13 +34,15 @@ answered-fits-requires c κs = search needs
 
 returns : tie.Need-returns
 returns c =
-    phase-test (c .before .before .before .before .before .before .args .self) _ _
-    (empty-test (c .before .before .before .before .before .before .args .self) _ (c .no-question .ensures)) (c .before .before .before .before .enum-told .given .1)
+    let e = c .before .before .before .before in
+    let s = e .before .before .args .self in
+    phase-test s _ _ (empty-test s _ (c .no-question .ensures)) (e .enum-told .given .1)
 
 returns-2 : tie.Need-returns-2
 returns-2 c =
-    phase-test (c .before .before .before .before .args .self) _ _
-    (loaded-test (c .before .before .before .before .args .self) _ _ (c .before .sizes-fit .ensures) (c .no-question2 .ensures)) (c .before .before .enum-told2 .given .1)
+    let e = c .before .before in
+    let s = e .before .before .args .self in
+    phase-test s _ _ (loaded-test s _ _ (c .before .sizes-fit .ensures) (c .no-question2 .ensures)) (e .enum-told2 .given .1)
 
 returns-3 : tie.Need-returns-3
 returns-3 c = phase-test (c .before .before .before .args .self) _ _ (c .running-fits .ensures) (c .before .enum-told3 .given .1)
