@@ -51,7 +51,8 @@ mark-at rules s k p q e h =
 
 -- the last part, and any other
 module _ (s : Session) (rules : List ℕ) (q l : ℕ) (t : Session) where
-  pub handled-last : s .handled + 1 ≡ s .parts → (y : Bool) → t ≡ steppedOf s Answered q l y → y ≡ eqb (getD (marksIn (s .s) (s .k) rules) q 0) 1
+  pub handled-last : s .handled + 1 ≡ s .parts → (y : Bool) → t ≡ steppedOf s Answered q l y
+      → y ≡ eqb (getD (marksIn (s .s) (s .k) rules) q 0) 1
       → _≡_ {A = Advanced} (record { told = Finished; rec = t }) (handledBy s rules q l)
   unfolding handledBy
   handled-last e y f g = rw (eq-eqb (s .handled + 1) (s .parts) e, f, g)
@@ -206,7 +207,8 @@ module _ (s : Session) (h : Shaped s) (x : Lent) (b : Bool) (may : b ≡ (valid 
         unfolding askedFits recordOf
         asked-yes =
             let A = G .asked in
-            let below = rises-below (s .n - 1) (take (s .parts) (s .roots)) (length (take (s .handled) (s .states))) (A .rises) (G .handled) in
+            let below = rises-below (s .n - 1) (take (s .parts) (s .roots)) (length (take (s .handled) (s .states)))
+            (A .rises) (G .handled) in
             and-both _ _ (lt-ltb (length (take (s .handled) (s .states))) (length (take (s .parts) (s .roots))) (G .handled))
             (and-both _ _ (le-leb (length (take (s .parts) (s .roots))) 65535 (omega (arith, A .few-parts)))
             (and-both _ _ (lt-ltb (getD (take (s .parts) (s .roots)) (length (take (s .handled) (s .states))) 0) (s .n) (omega (arith, below, Z .nodes-least)))
@@ -218,17 +220,22 @@ module _ (s : Session) (h : Shaped s) (x : Lent) (b : Bool) (may : b ≡ (valid 
         unfolding recordOf
         given =
             given-yes (s .n) (s .s) (s .k) (x .plan) (x .rules) (x .nums) (x .bytes) (take (s .parts) (s .roots))
-            (take (s .handled) (s .states)) (take (s .m) (s .nodes)) (take (s .m) (s .labels)) limits-yes (sym fit ∙ not-false f yes) asked-yes
+            (take (s .handled) (s .states)) (take (s .m) (s .nodes)) (take (s .m) (s .labels)) limits-yes
+            (sym fit ∙ not-false f yes) asked-yes
 
         acts : (o : Option Reached) → partNext (recordOf s) x ≡ o → (a : calls.Answer) (t : Session)
-            → a ≡ advanceWith (recordOf s) x o .answer → t ≡ sessionOf (advanceWith (recordOf s) x o .record′) → CallDone s C a t
+            → a ≡ advanceWith (recordOf s) x o .answer → t ≡ sessionOf (advanceWith (recordOf s) x o .record′)
+            → CallDone s C a t
         unfolding proceeds
         acts o e a t i j =
-            proceeds-done s C v no-refusal a t (i ∙ ap (λ (z : Option Reached). advanceWith (recordOf s) x z .answer) (sym e))
+            proceeds-done s C v no-refusal a t
+            (i ∙ ap (λ (z : Option Reached). advanceWith (recordOf s) x z .answer) (sym e))
             (j ∙ ap (λ (z : Option Reached). sessionOf (advanceWith (recordOf s) x z .record′)) (sym e))
 
-        module _ (K : Climbed) (found : K ≡ toldReached (partGiven (s .n) (s .s) (s .k) (x .plan) (x .rules) (x .nums) (x .bytes)
-            (take (s .parts) (s .roots)) (take (s .handled) (s .states)) (take (s .m) (s .nodes)) (take (s .m) (s .labels)))) where
+        module _ (K : Climbed)
+            (found : K ≡ toldReached (partGiven (s .n) (s .s) (s .k) (x .plan) (x .rules) (x .nums) (x .bytes)
+            (take (s .parts) (s .roots)) (take (s .handled) (s .states)) (take (s .m) (s .nodes))
+            (take (s .m) (s .labels)))) where
           pub advance-18 : K ≡ Outside → CallDone s C (advancingAnswer (NotAdvanced 18)) s
           unfolding advancingAnswer advanceWith toldReached
           advance-18 e = go (partNext (recordOf s) x) refl (found ∙ ap toldReached given)
@@ -277,7 +284,8 @@ module _ (s : Session) (h : Shaped s) (x : Lent) (b : Bool) (may : b ≡ (valid 
               };
             }
 
-            pub advance-yes : (t : Advanced) → t ≡ handledBy s (x .rules) q l → CallDone s C (advancingAnswer (t .told)) (t .rec)
+            pub advance-yes : (t : Advanced) → t ≡ handledBy s (x .rules) q l
+                → CallDone s C (advancingAnswer (t .told)) (t .rec)
             unfolding handledBy advanceWith recordOf
             advance-yes t e =
                 let y = one .0 in

@@ -30,7 +30,8 @@ module _ (s : Session) (c : Call) where
     unfolding act unless recordOf
     act-refused n e = (rw e, rw e)
 
-    pub refused-done : Shaped s → (n : ℕ) → refusal (phaseOf (s .phase)) (sizesOf s) c ≡ suc n → CallDone s c (refused (suc n)) s
+    pub refused-done : Shaped s → (n : ℕ) → refusal (phaseOf (s .phase)) (sizesOf s) c ≡ suc n
+        → CallDone s c (refused (suc n)) s
     unfolding answerOn recordOn
     refused-done h n e =
         let a = act-refused n e in
@@ -39,13 +40,15 @@ module _ (s : Session) (c : Call) where
           leaves = rw v (sym (struct-is s h v) ∙ ap sessionOf (a .1));
         }
 
-    pub proceeds-done : refusal (phaseOf (s .phase)) (sizesOf s) c ≡ 0 → (a : Answer) (t : Session) → a ≡ proceeds (recordOf s) c .answer
+    pub proceeds-done : refusal (phaseOf (s .phase)) (sizesOf s) c ≡ 0 → (a : Answer) (t : Session)
+        → a ≡ proceeds (recordOf s) c .answer
         → t ≡ sessionOf (proceeds (recordOf s) c .record′) → CallDone s c a t
     unfolding answerOn recordOn act unless recordOf
     proceeds-done e a t f g = record { tells = rw (v, e) f; leaves = rw (v, e) g }
 
   -- check 1 says no
-  pub unless-done : Shaped s → (b : Bool) (cs : List Check) → refusal (phaseOf (s .phase)) (sizesOf s) c ≡ firstNo (check 1 b ∷ cs)
+  pub unless-done : Shaped s → (b : Bool) (cs : List Check)
+      → refusal (phaseOf (s .phase)) (sizesOf s) c ≡ firstNo (check 1 b ∷ cs)
       → (valid s && b) ≡ false → CallDone s c (refused 1) s
   unless-done h b cs e f = go (valid s) refl f
     where
@@ -65,7 +68,8 @@ and-no false = refl
 
 module _ (f : calls.Phase → Bool) (s : Session) (p : Phase) (e : s .phase ≡ p) where
   pub state-yes : f (phaseOf p) ≡ true → (b : Bool) → b ≡ valid s → b ≡ (valid s && f (phaseOf (s .phase)))
-  state-yes g b h = h ∙ sym (and-yes (valid s)) ∙ sym (ap (λ (x : Bool). valid s && x) (ap (λ (q : Phase). f (phaseOf q)) e ∙ g))
+  state-yes g b h =
+      h ∙ sym (and-yes (valid s)) ∙ sym (ap (λ (x : Bool). valid s && x) (ap (λ (q : Phase). f (phaseOf q)) e ∙ g))
 
   pub state-no : f (phaseOf p) ≡ false → false ≡ (valid s && f (phaseOf (s .phase)))
   state-no g = sym (and-no (valid s)) ∙ sym (ap (λ (x : Bool). valid s && x) (ap (λ (q : Phase). f (phaseOf q)) e ∙ g))

@@ -28,7 +28,8 @@ module _ (s : Session) (h : Shaped s) (b : Bool) (e : b ≡ (valid s && isRunnin
   unfolding doingAnswer refusal
   cancel-no f = unless-done s cancel h (isRunning (phaseOf (s .phase))) [] refl (sym e ∙ not-true b f)
 
-  pub cancel-yes : not b ≡ false → (t : Session) → t ≡ sessionOf (loadedBy (s .n) (s .s) (s .k)) → CallDone s cancel (doingAnswer Made) t
+  pub cancel-yes : not b ≡ false → (t : Session) → t ≡ sessionOf (loadedBy (s .n) (s .s) (s .k))
+      → CallDone s cancel (doingAnswer Made) t
   unfolding doingAnswer refusal proceeds recordOf firstNo
   cancel-yes f t g =
       let y = sym e ∙ not-false b f in
@@ -74,16 +75,20 @@ module _ (s : Session) (h : Shaped s) (b : Bool) (e : b ≡ (valid s && isAnswer
     unfolding recordOf
     counted =
         let t = tails-of s v in
-        let p : length (take (s .parts) (s .roots)) ≡ s .parts = length-take-le (s .parts) (s .roots) (omega (arith, h .roots, t .few-parts)) in
-        let q : length (take (s .handled) (s .states)) ≡ s .handled = length-take-le (s .handled) (s .states) (omega (arith, h .states, t .few-handled)) in
+        let p : length (take (s .parts) (s .roots)) ≡ s .parts = length-take-le (s .parts) (s .roots)
+        (omega (arith, h .roots, t .few-parts)) in
+        let q : length (take (s .handled) (s .states)) ≡ s .handled = length-take-le (s .handled) (s .states)
+        (omega (arith, h .states, t .few-handled)) in
         (omega (arith, ended .handled, ended .asked .some-part), t .few-handled, omega (arith, ended .handled))
 
     pub read-yes : readingAnswer (Told (getD (s .states) (s .handled - 1) 0) (s .yes) (s .parts) (s .links)) ≡ answerOn s read
     unfolding readingAnswer answerOn act refusal unless proceeds recordOf firstNo
     read-yes =
         let t = tails-of s v in
-        let p : length (take (s .parts) (s .roots)) ≡ s .parts = length-take-le (s .parts) (s .roots) (omega (arith, h .roots, t .few-parts)) in
-        let q : length (take (s .handled) (s .states)) ≡ s .handled = length-take-le (s .handled) (s .states) (omega (arith, h .states, t .few-handled)) in
+        let p : length (take (s .parts) (s .roots)) ≡ s .parts = length-take-le (s .parts) (s .roots)
+        (omega (arith, h .roots, t .few-parts)) in
+        let q : length (take (s .handled) (s .states)) ≡ s .handled = length-take-le (s .handled) (s .states)
+        (omega (arith, h .states, t .few-handled)) in
         let l : lastOf (take (s .handled) (s .states)) 0 ≡ getD (take (s .handled) (s .states)) (s .handled - 1) 0 =
         last-is (take (s .handled) (s .states)) 0 (s .handled - 1) (omega (arith, counted .0, q)) in
         rw (v, a, p, l, getD-take (s .handled) (s .states) (s .handled - 1) 0 (omega (arith, counted .0)))

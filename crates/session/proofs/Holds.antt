@@ -1,6 +1,6 @@
 -- What is true of every record that a session can have, in each state.
 --     Sized z              N, S and K in their limits
---     Asked r              a question's lists: as Start checks them, its roots as they are found, the states and links so far
+-- Asked r a question's lists: as Start checks them, its roots as they are found, the states and links so far
 --     Holds r              in empty the fresh record, in loaded that after a first Load, in running and answered a question
 --     holds-of             a struct that passes its conditions has such a record
 --     tails-of, struct-is  and is the struct of that record

@@ -15,7 +15,8 @@ use native.Mathlib.Omega.{arith}
 use native.Mathlib.Numerals.{add-one}
 use lib.Dec.{ltb}
 use lib.ListN.{length, getD, set, take, drop, replicate, length-append, length-replicate, length-drop, take-append-drop}
-use lib.Seq.{set-split, drop-drop, take-append-seam, drop-append-seam, take-at, drop-cons, set-at, take-suc, length-take-le, take-length}
+use lib.Seq.{set-split, drop-drop, take-append-seam, drop-append-seam, take-at, drop-cons, set-at, take-suc, length-take-le}
+use lib.Seq.{take-length}
 use borrow.Author.Tests.{ltb-true}
 use Rattle.formats.specs.Bytes.{allBelow}
 use Rattle.formats.proofs.CheckLaws.{and-left, and-right}
@@ -86,7 +87,8 @@ copy-turn s d₀ d i h k o =
       append-assoc,
     )
 
-pub copy-end : (s d : List ℕ) (w i : ℕ) → i ≤ length s → length s ≤ i → d ≡ take i s ++ drop i (replicate w 0) → d ≡ padded w s
+pub copy-end : (s d : List ℕ) (w i : ℕ) → i ≤ length s → length s ≤ i → d ≡ take i s ++ drop i (replicate w 0)
+    → d ≡ padded w s
 copy-end s d w i h k o =
     let e : i ≡ length s = omega arith in
     let o′ : d ≡ take (length s) s ++ drop (length s) (replicate w 0) = rw e at o in

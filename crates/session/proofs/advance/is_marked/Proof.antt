@@ -23,7 +23,8 @@ shared-slice-read-result c = search needs
 returns : tie.Need-returns
 returns c =
     let a = c .before .before .before .args in
-    mark-at (a .rules .now) (a .s) (a .k) _ (a .q) (c .before .inner-count .ensures .value) (c .before .before .before .pre .state)
+    mark-at (a .rules .now) (a .s) (a .k) _ (a .q) (c .before .inner-count .ensures .value)
+    (c .before .before .before .pre .state)
 
 pub is-marked-spec : {M : Type 1} → statement M
 is-marked-spec =

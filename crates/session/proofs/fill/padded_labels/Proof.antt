@@ -1,4 +1,5 @@
--- `session::fill::padded_labels` meets its contract. The loop's invariant: the entries passed are copied, and zeros are behind them.
+-- `session::fill::padded_labels` meets its contract. The loop's invariant: the entries passed are copied, and zeros are
+-- behind them.
 -- Assumes nothing.
 use Prim.Native.Nat.{_-_, _≤_}
 use mathlib.Core.Path.{_≡_, refl}
@@ -38,7 +39,8 @@ loop-again c =
       omega arith,
       (
         simp length-set (l .inv .1 .0),
-        copy-turn (a .labels .now) (replicate 64 0) (l .out) (l .i) (c .before .loop-test .taken) (omega arith) (l .inv .1 .1),
+        copy-turn (a .labels .now) (replicate 64 0) (l .out) (l .i) (c .before .loop-test .taken) (omega arith)
+            (l .inv .1 .1),
       ),
     )
 

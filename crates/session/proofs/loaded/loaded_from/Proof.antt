@@ -29,7 +29,8 @@ loaded-requires c κs = search needs
 returns : tie.Need-returns
 returns c =
     let a = c .before in
-    loaded-same (a .before .before .before .before .before .args .plan .now) (a .before .before .before .before .before .args .rules .now) _ _ _ _
+    loaded-same (a .before .before .before .before .before .args .plan .now)
+    (a .before .before .before .before .before .args .rules .now) _ _ _ _
     (c .loaded .ensures) (a .before .before .read32 .ensures) (a .before .read322 .ensures) (a .read323 .ensures)
 
 pub loaded-from-spec : {M : Type 1} → statement M

@@ -37,7 +37,8 @@ returns-3 c = state-no isAnswered (c .before .before .args .s) _ (c .enum-told3 
 
 returns-4 : tie.Need-returns-4
 unfolding phaseOf isAnswered
-returns-4 c = state-yes isAnswered (c .before .before .before .args .s) _ (c .before .enum-told4 .given .1) refl _ (c .valid .ensures)
+returns-4 c =
+    state-yes isAnswered (c .before .before .before .args .s) _ (c .before .enum-told4 .given .1) refl _ (c .valid .ensures)
 
 pub is-answered-spec : {M : Type 1} → statement M
 is-answered-spec =

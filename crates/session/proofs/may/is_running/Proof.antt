@@ -33,7 +33,8 @@ returns-2 c = state-no isRunning (c .before .before .args .s) _ (c .enum-told2 .
 
 returns-3 : tie.Need-returns-3
 unfolding phaseOf isRunning
-returns-3 c = state-yes isRunning (c .before .before .before .args .s) _ (c .before .enum-told3 .given .1) refl _ (c .valid .ensures)
+returns-3 c =
+    state-yes isRunning (c .before .before .before .args .s) _ (c .before .enum-told3 .given .1) refl _ (c .valid .ensures)
 
 returns-4 : tie.Need-returns-4
 unfolding phaseOf isRunning

@@ -22,13 +22,16 @@ list-fits-requires : tie.Need-list-fits-requires
 list-fits-requires c κs = search needs
 
 parts-fit-requires : tie.Need-parts-fit-requires
-parts-fit-requires c κs = let e = c .before .before .before in parted (of e .args .self) _ (e .before .sizes-fit .ensures) (e .if1 .left) (omega arith)
+parts-fit-requires c κs =
+    let e = c .before .before .before in
+    parted (of e .args .self) _ (e .before .sizes-fit .ensures) (e .if1 .left) (omega arith)
 
 returns-3 : tie.Need-returns-3
 returns-3 c =
     let l = c .before in
     let e = l .before .before .before in
-    answered-test (of e .args .self) _ (e .before .sizes-fit .ensures) (e .if1 .left) _ _ (l .list-fits .ensures) (c .parts-fit .ensures)
+    answered-test (of e .args .self) _ (e .before .sizes-fit .ensures) (e .if1 .left) _ _ (l .list-fits .ensures)
+    (c .parts-fit .ensures)
     (omega arith)
 
 pub answered-fits-spec : {M : Type 1} → statement M

@@ -14,7 +14,8 @@ is-running-requires : tie.Need-is-running-requires
 is-running-requires c κs = search needs
 
 returns : tie.Need-returns
-returns c = cancel-no (c .before .before .args .self) (shape (c .before .before)) _ (c .before .is-running .ensures) (c .if1 .taken)
+returns c =
+    cancel-no (c .before .before .args .self) (shape (c .before .before)) _ (c .before .is-running .ensures) (c .if1 .taken)
 
 loaded-requires : tie.Need-loaded-requires
 loaded-requires c κs = search needs

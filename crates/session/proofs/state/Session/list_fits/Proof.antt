@@ -25,7 +25,8 @@ array-share-prefix-nodes : tie.Need-array-share-prefix-nodes
 array-share-prefix-nodes c = omega (arith, shape (of c) .nodes)
 
 slice-aggregate-below : tie.Need-slice-aggregate-below
-slice-aggregate-below c = let e = c .before in take-long 64 (of e .args .self .m) (of e .args .self .nodes) (shape (of e) .nodes) (omega arith)
+slice-aggregate-below c =
+    let e = c .before in take-long 64 (of e .args .self .m) (of e .args .self .nodes) (shape (of e) .nodes) (omega arith)
 
 below-requires : tie.Need-below-requires
 below-requires c κs = search needs
@@ -34,7 +35,9 @@ array-share-prefix-labels : tie.Need-array-share-prefix-labels
 array-share-prefix-labels c = omega (arith, shape (of (c .before .before)) .labels)
 
 slice-aggregate-all-below : tie.Need-slice-aggregate-all-below
-slice-aggregate-all-below c = let e = c .before .before .before in take-long 64 (of e .args .self .m) (of e .args .self .labels) (shape (of e) .labels) (omega arith)
+slice-aggregate-all-below c =
+    let e = c .before .before .before in
+    take-long 64 (of e .args .self .m) (of e .args .self .labels) (shape (of e) .labels) (omega arith)
 
 all-below-requires : tie.Need-all-below-requires
 all-below-requires c κs = search needs
@@ -66,7 +69,8 @@ returns-2 c =
     let a = b .before .before .before in
     let l = a .before .before in
     let e = l .before .before in
-    list-test (of e .args .self) (shape (of e)) (omega arith) _ _ _ _ (l .below .ensures) (a .all-below .ensures) (b .below2 .ensures)
+    list-test (of e .args .self) (shape (of e)) (omega arith) _ _ _ _ (l .below .ensures) (a .all-below .ensures)
+    (b .below2 .ensures)
     (c .all-below2 .ensures)
 
 pub list-fits-spec : {M : Type 1} → statement M

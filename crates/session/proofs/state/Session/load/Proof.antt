@@ -36,7 +36,8 @@ loaded-from-requires c κs =
     let b = c .before .before .before .before .before .before in
     let e = b .before .before .before in
     let m = e .before in
-    load-headers (of m .args .self) (shape (of m)) (lent (of m)) _ (m .may-load .ensures) (e .if1 .left) _ _ _ (b .build-rules .ensures) (c .enum-told .given .1)
+    load-headers (of m .args .self) (shape (of m)) (lent (of m)) _ (m .may-load .ensures) (e .if1 .left) _ _ _
+    (b .build-rules .ensures) (c .enum-told .given .1)
 
 same-length : tie.Need-same-length
 same-length c = search needs
@@ -50,7 +51,8 @@ returns-2 c =
     let b = d .before .before .before .before .before .before in
     let e = b .before .before .before in
     let m = e .before in
-    load-built (of m .args .self) (shape (of m)) (lent (of m)) _ (m .may-load .ensures) (e .if1 .left) _ _ _ (b .build-rules .ensures) (d .enum-told .given .1) _ (c .loaded-from .ensures)
+    load-built (of m .args .self) (shape (of m)) (lent (of m)) _ (m .may-load .ensures) (e .if1 .left) _ _ _
+    (b .build-rules .ensures) (d .enum-told .given .1) _ (c .loaded-from .ensures)
 
 enum-known-n : tie.Need-enum-known-n
 enum-known-n c = search needs
@@ -67,7 +69,8 @@ returns-3 c =
     let b = d .before .before .before .before .before .before in
     let e = b .before .before .before in
     let m = e .before in
-    load-refused (of m .args .self) (shape (of m)) (lent (of m)) _ (m .may-load .ensures) (e .if1 .left) _ _ _ (b .build-rules .ensures) _ (d .n .given .1)
+    load-refused (of m .args .self) (shape (of m)) (lent (of m)) _ (m .may-load .ensures) (e .if1 .left) _ _ _
+    (b .build-rules .ensures) _ (d .n .given .1)
 
 pub load-spec : {M : Type 1} → statement M
 load-spec =

@@ -43,7 +43,8 @@ returns c =
     let d = c .before .before in
     let b = d .before .before in
     let a = b .before .before in
-    question-test (of (a .before .before) .args .self) _ _ _ _ (a .below .ensures) (b .all-below .ensures) (d .below2 .ensures)
+    question-test (of (a .before .before) .args .self) _ _ _ _ (a .below .ensures) (b .all-below .ensures)
+    (d .below2 .ensures)
     (c .all-below2 .ensures)
 
 pub no-question-spec : {M : Type 1} → statement M

@@ -34,7 +34,9 @@ array-share-prefix-roots : tie.Need-array-share-prefix-roots
 array-share-prefix-roots c = omega (arith, shape (of (c .before)) .roots)
 
 slice-aggregate-rises-to : tie.Need-slice-aggregate-rises-to
-slice-aggregate-rises-to c = let e = c .before .before in take-long 254 (of e .args .self .parts) (of e .args .self .roots) (shape (of e) .roots) (omega arith)
+slice-aggregate-rises-to c =
+    let e = c .before .before in
+    take-long 254 (of e .args .self .parts) (of e .args .self .roots) (shape (of e) .roots) (omega arith)
 
 rises-to-requires : tie.Need-rises-to-requires
 rises-to-requires c κs = search needs
@@ -55,7 +57,9 @@ array-share-prefix-states : tie.Need-array-share-prefix-states
 array-share-prefix-states c = omega (arith, shape (of (c .before .before .before .before .before .before)) .states)
 
 slice-aggregate-all-below : tie.Need-slice-aggregate-all-below
-slice-aggregate-all-below c = let e = c .before .before .before .before .before .before .before in take-long 254 (of e .args .self .handled) (of e .args .self .states) (shape (of e) .states) (omega arith)
+slice-aggregate-all-below c =
+    let e = c .before .before .before .before .before .before .before in
+    take-long 254 (of e .args .self .handled) (of e .args .self .states) (shape (of e) .states) (omega arith)
 
 all-below-requires : tie.Need-all-below-requires
 all-below-requires c κs = search needs
@@ -67,7 +71,8 @@ part-all-below-start : tie.Need-part-all-below-start
 part-all-below-start c = search needs
 
 part-all-below-end : tie.Need-part-all-below-end
-part-all-below-end c = omega (arith, shape (of (c .before .before .before .before .before .before .before .before .before)) .states)
+part-all-below-end c =
+    omega (arith, shape (of (c .before .before .before .before .before .before .before .before .before)) .states)
 
 all-below-requires-2 : tie.Need-all-below-requires-2
 all-below-requires-2 c κs = search needs
@@ -85,7 +90,8 @@ returns-3 c =
     let b = a .before .before in
     let r = b .before .before .before in
     let e = r .before .before .before in
-    parts-test (of e .args .self) (shape (of e)) (omega arith) (omega arith) _ _ _ _ (r .rises-to .ensures) (b .below .ensures)
+    parts-test (of e .args .self) (shape (of e)) (omega arith) (omega arith) _ _ _ _ (r .rises-to .ensures)
+    (b .below .ensures)
     (a .all-below .ensures) (d .all-below2 .ensures)
 
 pub parts-fit-spec : {M : Type 1} → statement M

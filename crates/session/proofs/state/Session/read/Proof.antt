@@ -18,13 +18,16 @@ is-answered-requires : tie.Need-is-answered-requires
 is-answered-requires c κs = search needs
 
 returns : tie.Need-returns
-returns c = read-no (c .before .before .args .self) (shape (c .before .before)) _ (c .before .is-answered .ensures) (c .if1 .taken)
+returns c =
+    read-no (c .before .before .args .self) (shape (c .before .before)) _ (c .before .is-answered .ensures) (c .if1 .taken)
 
 cast-last : tie.Need-cast-last
 cast-last c = search needs
 
 sub-last : tie.Need-sub-last
-sub-last c = let e = c .before .before in counted (of e .args .self) (shape (of e)) _ (e .before .is-answered .ensures) (e .if1 .left) .0
+sub-last c =
+    let e = c .before .before in
+    counted (of e .args .self) (shape (of e)) _ (e .before .is-answered .ensures) (e .if1 .left) .0
 
 array-read-t9 : tie.Need-array-read-t9
 array-read-t9 c =
@@ -33,7 +36,9 @@ array-read-t9 c =
     omega (arith, k .0, k .1)
 
 returns-2 : tie.Need-returns-2
-returns-2 c = let e = c .before .before in read-yes (of e .args .self) (shape (of e)) _ (e .before .is-answered .ensures) (e .if1 .left)
+returns-2 c =
+    let e = c .before .before in
+    read-yes (of e .args .self) (shape (of e)) _ (e .before .is-answered .ensures) (e .if1 .left)
 
 pub read-spec : {M : Type 1} → statement M
 read-spec =

@@ -45,10 +45,12 @@ returns-2 c =
     phase-test s _ _ (loaded-test s _ _ (c .before .sizes-fit .ensures) (c .no-question2 .ensures)) (e .enum-told2 .given .1)
 
 returns-3 : tie.Need-returns-3
-returns-3 c = phase-test (c .before .before .before .args .self) _ _ (c .running-fits .ensures) (c .before .enum-told3 .given .1)
+returns-3 c =
+    phase-test (c .before .before .before .args .self) _ _ (c .running-fits .ensures) (c .before .enum-told3 .given .1)
 
 returns-4 : tie.Need-returns-4
-returns-4 c = phase-test (c .before .before .before .args .self) _ _ (c .answered-fits .ensures) (c .before .enum-told4 .given .1)
+returns-4 c =
+    phase-test (c .before .before .before .args .self) _ _ (c .answered-fits .ensures) (c .before .enum-told4 .given .1)
 
 pub valid-spec : {M : Type 1} → statement M
 valid-spec =
