@@ -10,10 +10,9 @@ use mathlib.Core.List.{List, [], _∷_, _++_}
 use mathlib.Core.Option.{Option, none, some}
 use native.Mathlib.Omega.{arith}
 use lib.Dec.{leb, ltb, eqb}
-use lib.ListN.{length, getD, take, length-append}
-use borrow.Author.Tests.{le-leb, lt-ltb, eq-eqb, eqb-true, eqb-false, leb-true}
+use lib.ListN.{length, getD, length-append}
+use borrow.Author.Tests.{le-leb, lt-ltb, eq-eqb, eqb-true, eqb-false}
 use Rattle.formats.specs.Bytes.{allBelow}
-use Rattle.formats.specs.Checks.{Check, check, firstNo, listChecks, buildChecks}
 use Rattle.formats.proofs.CheckLaws.{and-both, firstNo-head, firstNo-tail, true-false}
 use Rattle.formats.proofs.InputLaws.{ListPasses, list-passes, build-passes}
 use Rattle.questions.specs.Climbs.{Reached}
@@ -24,29 +23,32 @@ use Rattle.questions.proofs.PartBounds.{part-bounded}
 use Rattle.questions.proofs.RootsLaws.{rootsOn-some, rootsOn-fits, rootsOn-rises-to}
 use Rattle.book.specs.Lends.{Lent, Sizes, sizesIn, fits, usedNums}
 use Rattle.book.specs.Calls as calls
-use Rattle.book.specs.Calls.{Call, load, start, advance, cancel, read, mayLoad, mayStart, isRunning, isAnswered}
+use Rattle.book.specs.Calls.{Call, load, start, advance, cancel, read, mayLoad, mayStart, isRunning}
 use Rattle.book.specs.Refusals.{refusal}
-use Rattle.book.specs.Model.{Record, idle, freshRecord, loadedRecord, viewBy, marksBy, started, startWith, stepped, advanceWith}
+use Rattle.book.specs.Model.{Record, idle, freshRecord, loadedRecord, viewBy, marksBy, started, startWith, stepped}
+use Rattle.book.specs.Model.{advanceWith}
 use Rattle.book.specs.Model.{partNext, acted, proceeds, unless, act}
-use Rattle.session.specs.declared.state.Phase.the-variants.{Empty, Loaded, Running, Answered}
+use Rattle.session.specs.declared.state.Phase.the-variants.{Empty}
 use Rattle.session.specs.declared.state.Session.{Session}
 use Rattle.session.specs.Records.{phaseTo, recordOf, sessionOf, padded, zeroFrom, risesTo}
 use Rattle.session.specs.Records.{sizesFit, noQuestion, listFits, partsFit, validIn, valid}
 use Rattle.session.specs.Tests.{Shaped}
 use Rattle.session.proofs.PadLaws.{take-padded, take-padded-by, zero-padded, zero-padded-by, zero-replicate}
 use Rattle.session.proofs.RecordLaws.{Listed, record-of-struct, struct-shaped}
-use Rattle.session.proofs.Holds.{Sized, Asked, Going, Ended, HoldsIn, Holds, holds-of}
+use Rattle.session.proofs.Holds.{Sized, Asked, Going, HoldsIn, Holds, holds-of}
 
 -- ---- the struct of a record that holds
 
 module _ (r : Record) where
   listed-some : Asked r → length (r .states) ≤ length (r .roots) → Listed r
-  listed-some A h = record { few = A .few; same = A .same; few-parts = A .few-parts; few-handled = omega (arith, A .few-parts) }
+  listed-some A h =
+      record { few = A .few; same = A .same; few-parts = A .few-parts; few-handled = omega (arith, A .few-parts) }
 
   listed-in : (p : calls.Phase) → HoldsIn p r → Listed r
   unfolding freshRecord idle
   listed-in calls.Phase.empty e =
-      subst (λ (t : Record). Listed t) (sym e) (record { few = omega arith; same = refl; few-parts = omega arith; few-handled = omega arith })
+      subst (λ (t : Record). Listed t) (sym e)
+      (record { few = omega arith; same = refl; few-parts = omega arith; few-handled = omega arith })
   listed-in calls.Phase.loaded e =
       subst (λ (t : Record). Listed t) (sym (e .1))
       (record { few = omega arith; same = refl; few-parts = omega arith; few-handled = omega arith })
@@ -152,7 +154,8 @@ module _ (r : Record) (H : Holds r) where
   load-holds : (x : Lent) → refusal (r .phase) (r .sizes) (load x) ≡ 0 → Holds (loadedRecord (sizesIn x))
   unfolding refusal idle
   load-holds x e =
-      let b = build-passes (x .plan) (x .rules) (length (x .nums)) (length (x .bytes)) (firstNo-tail 1 (mayLoad (r .phase)) _ (omega arith) e) in (
+      let b = build-passes (x .plan) (x .rules) (length (x .nums)) (length (x .bytes))
+      (firstNo-tail 1 (mayLoad (r .phase)) _ (omega arith) e) in (
         record {
           nodes-least = b .0 .least;
           nodes-most = b .0 .most;
@@ -175,7 +178,8 @@ module _ (r : Record) (H : Holds r) where
     unfolding refusal
     sized-is = start-sized (r .phase) r (firstNo-head 1 (mayStart (r .phase)) _ (omega arith) e) H
 
-    start-holds : (o : Option (List ℕ)) → rootsOn (r .sizes .n) (usedNums (r .sizes) x) vs ≡ o → Holds (startWith r vs bs o .record′)
+    start-holds : (o : Option (List ℕ)) → rootsOn (r .sizes .n) (usedNums (r .sizes) x) vs ≡ o
+        → Holds (startWith r vs bs o .record′)
     unfolding startWith started
     start-holds none q = H
     start-holds (some rs) q =
@@ -212,7 +216,8 @@ module _ (r : Record) (H : Holds r) where
       unfolding stepped
       stepped-asked p b =
           let A = going .asked in
-          let l : length (r .states ++ (y .state ∷ [])) ≡ length (r .states) + 1 = length-append (r .states) (y .state ∷ []) in
+          let l : length (r .states ++ (y .state ∷ [])) ≡ length (r .states) + 1 = length-append (r .states)
+          (y .state ∷ []) in
           record {
             few = A .few;
             same = A .same;
@@ -229,15 +234,18 @@ module _ (r : Record) (H : Holds r) where
           → Holds (cond b (acted calls.Answer.finished (stepped r calls.Phase.answered y w)) (acted calls.Answer.more (stepped r calls.Phase.running y false)) .record′)
       unfolding stepped
       advance-holds true t w =
-          let l : length (r .states ++ (y .state ∷ [])) ≡ length (r .states) + 1 = length-append (r .states) (y .state ∷ []) in
+          let l : length (r .states ++ (y .state ∷ [])) ≡ length (r .states) + 1 = length-append (r .states)
+          (y .state ∷ []) in
           record {
             sizes = going .sizes;
             asked = stepped-asked calls.Phase.answered w;
             handled = omega (arith, l, eqb-true (suc (length (r .states))) (length (r .roots)) t);
           }
       advance-holds false t w =
-          let l : length (r .states ++ (y .state ∷ [])) ≡ length (r .states) + 1 = length-append (r .states) (y .state ∷ []) in
-          let n : (suc (length (r .states)) ≡ length (r .roots)) → ⊥ = eqb-false (suc (length (r .states))) (length (r .roots)) t in
+          let l : length (r .states ++ (y .state ∷ [])) ≡ length (r .states) + 1 = length-append (r .states)
+          (y .state ∷ []) in
+          let n : (suc (length (r .states)) ≡ length (r .roots)) → ⊥ = eqb-false (suc (length (r .states)))
+          (length (r .roots)) t in
           record {
             sizes = going .sizes;
             asked = stepped-asked calls.Phase.running false;
@@ -249,7 +257,8 @@ module _ (r : Record) (H : Holds r) where
     unfolding advanceWith
     part-holds none q = H
     part-holds (some y) q =
-        advance-holds y q (eqb (suc (length (r .states))) (length (r .roots))) refl (eqb (getD (marksBy (r .sizes) x) (y .state) 0) 1)
+        advance-holds y q (eqb (suc (length (r .states))) (length (r .roots))) refl
+        (eqb (getD (marksBy (r .sizes) x) (y .state) 0) 1)
 
   cancel-holds : refusal (r .phase) (r .sizes) cancel ≡ 0 → Holds (loadedRecord (r .sizes))
   unfolding refusal idle

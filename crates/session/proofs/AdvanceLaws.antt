@@ -3,19 +3,18 @@
 --     advance-limits, next-args, handle-args       what the calls below ask
 -- Assumes nothing.
 use Prim.Native.Nat.{ℕ, zero, suc, _+_, _-_, _*_, _≤_, _<_}
-use mathlib.Core.Path.{_≡_, refl, sym, ap, _∙_, subst}
+use mathlib.Core.Path.{_≡_, refl, sym, ap, _∙_}
 use mathlib.Core.Bool.{Bool, true, false, not, cond, _&&_}
-use mathlib.Core.List.{List, [], _∷_, _++_}
+use mathlib.Core.List.{List, [], _∷_}
 use mathlib.Core.Option.{Option, none, some}
 use native.Mathlib.Omega.{arith}
 use native.Mathlib.Numerals.{add-one}
-use lib.Dec.{leb, ltb, eqb}
-use lib.ListN.{length, getD, take, drop, set}
+use lib.Dec.{ltb, eqb}
+use lib.ListN.{length, getD, take, drop}
 use lib.Seq.{length-take-le, getD-take, getD-drop}
 use borrow.Author.Tests.{not-true, not-false, le-leb, lt-ltb, eq-eqb, ne-eqb, eqb-true, ltb-true}
-use Rattle.formats.specs.Rules.{ruleLength}
-use Rattle.formats.specs.Checks.{Check, check, firstNo, linkLength, stateLength}
-use Rattle.formats.proofs.CheckLaws.{and-both, and-left, and-right, firstNo-yes, firstNo-no, true-false}
+use Rattle.formats.specs.Checks.{check, firstNo}
+use Rattle.formats.proofs.CheckLaws.{and-both, and-left, and-right, firstNo-yes, firstNo-no}
 use Rattle.questions.specs.declared.climb.Climbed.{Climbed}
 use Rattle.questions.specs.declared.climb.Climbed.the-variants.{Reached as Told, Outside}
 use Rattle.questions.specs.Climbs.{Reached}
@@ -28,19 +27,19 @@ use Rattle.book.specs.Lends.{Lent, fits}
 use Rattle.book.specs.Calls as calls
 use Rattle.book.specs.Calls.{Call, advance, isRunning}
 use Rattle.book.specs.Refusals.{refusal}
-use Rattle.book.specs.Model.{Record, Acted, acted, viewBy, marksBy, stepped, advanceWith, partNext, proceeds}
+use Rattle.book.specs.Model.{Acted, acted, viewBy, stepped, advanceWith, partNext, proceeds}
 use Rattle.session.specs.declared.state.Phase.{Phase}
 use Rattle.session.specs.declared.state.Phase.the-variants.{Running, Answered}
 use Rattle.session.specs.declared.state.Session.{Session}
 use Rattle.session.specs.declared.answers.Advancing.the-variants.{More, Finished, Refused as NotAdvanced}
 use Rattle.session.specs.declared.answers.Advanced.{Advanced}
-use Rattle.session.specs.Records.{phaseOf, phaseTo, sizesOf, recordOf, sessionOf, padded, risesTo, valid}
+use Rattle.session.specs.Records.{phaseOf, phaseTo, sizesOf, recordOf, sessionOf, risesTo, valid}
 use Rattle.session.specs.Promises.{CallDone, advancingAnswer}
 use Rattle.session.specs.Tests.{Shaped}
-use Rattle.session.specs.Steps.{NextArgs, StepArgs, MarkArgs, HandleArgs, marksIn, steppedOf, handledBy}
+use Rattle.session.specs.Steps.{NextArgs, HandleArgs, marksIn, steppedOf, handledBy}
 use Rattle.session.proofs.PadLaws.{padded-take, padded-more}
 use Rattle.session.proofs.RecordLaws.{Tails}
-use Rattle.session.proofs.Holds.{Sized, Asked, Going, holds-of, tails-of, struct-is}
+use Rattle.session.proofs.Holds.{Sized, Going, holds-of, tails-of, struct-is}
 use Rattle.session.proofs.ActLaws.{running-is}
 use Rattle.session.proofs.CallLaws.{unless-done, refused-done, proceeds-done}
 
@@ -52,7 +51,8 @@ mark-at rules s k p q e h =
 
 -- the last part, and any other
 module _ (s : Session) (rules : List ℕ) (q l : ℕ) (t : Session) where
-  pub handled-last : s .handled + 1 ≡ s .parts → (y : Bool) → t ≡ steppedOf s Answered q l y → y ≡ eqb (getD (marksIn (s .s) (s .k) rules) q 0) 1
+  pub handled-last : s .handled + 1 ≡ s .parts → (y : Bool) → t ≡ steppedOf s Answered q l y
+      → y ≡ eqb (getD (marksIn (s .s) (s .k) rules) q 0) 1
       → _≡_ {A = Advanced} (record { told = Finished; rec = t }) (handledBy s rules q l)
   unfolding handledBy
   handled-last e y f g = rw (eq-eqb (s .handled + 1) (s .parts) e, f, g)
@@ -207,7 +207,8 @@ module _ (s : Session) (h : Shaped s) (x : Lent) (b : Bool) (may : b ≡ (valid 
         unfolding askedFits recordOf
         asked-yes =
             let A = G .asked in
-            let below = rises-below (s .n - 1) (take (s .parts) (s .roots)) (length (take (s .handled) (s .states))) (A .rises) (G .handled) in
+            let below = rises-below (s .n - 1) (take (s .parts) (s .roots)) (length (take (s .handled) (s .states)))
+            (A .rises) (G .handled) in
             and-both _ _ (lt-ltb (length (take (s .handled) (s .states))) (length (take (s .parts) (s .roots))) (G .handled))
             (and-both _ _ (le-leb (length (take (s .parts) (s .roots))) 65535 (omega (arith, A .few-parts)))
             (and-both _ _ (lt-ltb (getD (take (s .parts) (s .roots)) (length (take (s .handled) (s .states))) 0) (s .n) (omega (arith, below, Z .nodes-least)))
@@ -219,17 +220,22 @@ module _ (s : Session) (h : Shaped s) (x : Lent) (b : Bool) (may : b ≡ (valid 
         unfolding recordOf
         given =
             given-yes (s .n) (s .s) (s .k) (x .plan) (x .rules) (x .nums) (x .bytes) (take (s .parts) (s .roots))
-            (take (s .handled) (s .states)) (take (s .m) (s .nodes)) (take (s .m) (s .labels)) limits-yes (sym fit ∙ not-false f yes) asked-yes
+            (take (s .handled) (s .states)) (take (s .m) (s .nodes)) (take (s .m) (s .labels)) limits-yes
+            (sym fit ∙ not-false f yes) asked-yes
 
         acts : (o : Option Reached) → partNext (recordOf s) x ≡ o → (a : calls.Answer) (t : Session)
-            → a ≡ advanceWith (recordOf s) x o .answer → t ≡ sessionOf (advanceWith (recordOf s) x o .record′) → CallDone s C a t
+            → a ≡ advanceWith (recordOf s) x o .answer → t ≡ sessionOf (advanceWith (recordOf s) x o .record′)
+            → CallDone s C a t
         unfolding proceeds
         acts o e a t i j =
-            proceeds-done s C v no-refusal a t (i ∙ ap (λ (z : Option Reached). advanceWith (recordOf s) x z .answer) (sym e))
+            proceeds-done s C v no-refusal a t
+            (i ∙ ap (λ (z : Option Reached). advanceWith (recordOf s) x z .answer) (sym e))
             (j ∙ ap (λ (z : Option Reached). sessionOf (advanceWith (recordOf s) x z .record′)) (sym e))
 
-        module _ (K : Climbed) (found : K ≡ toldReached (partGiven (s .n) (s .s) (s .k) (x .plan) (x .rules) (x .nums) (x .bytes)
-            (take (s .parts) (s .roots)) (take (s .handled) (s .states)) (take (s .m) (s .nodes)) (take (s .m) (s .labels)))) where
+        module _ (K : Climbed)
+            (found : K ≡ toldReached (partGiven (s .n) (s .s) (s .k) (x .plan) (x .rules) (x .nums) (x .bytes)
+            (take (s .parts) (s .roots)) (take (s .handled) (s .states)) (take (s .m) (s .nodes))
+            (take (s .m) (s .labels)))) where
           pub advance-18 : K ≡ Outside → CallDone s C (advancingAnswer (NotAdvanced 18)) s
           unfolding advancingAnswer advanceWith toldReached
           advance-18 e = go (partNext (recordOf s) x) refl (found ∙ ap toldReached given)
@@ -278,7 +284,8 @@ module _ (s : Session) (h : Shaped s) (x : Lent) (b : Bool) (may : b ≡ (valid 
               };
             }
 
-            pub advance-yes : (t : Advanced) → t ≡ handledBy s (x .rules) q l → CallDone s C (advancingAnswer (t .told)) (t .rec)
+            pub advance-yes : (t : Advanced) → t ≡ handledBy s (x .rules) q l
+                → CallDone s C (advancingAnswer (t .told)) (t .rec)
             unfolding handledBy advanceWith recordOf
             advance-yes t e =
                 let y = one .0 in

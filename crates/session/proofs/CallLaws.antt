@@ -2,17 +2,16 @@
 --     invalid-done, refused-done, unless-done     a refusal: by the struct, by a number, by check 1
 --     proceeds-done                               no check fails
 -- Assumes nothing.
-use Prim.Native.Nat.{ℕ, zero, suc, _+_, _-_, _≤_, _<_}
+use Prim.Native.Nat.{ℕ, suc}
 use mathlib.Core.Path.{_≡_, refl, sym, ap, _∙_}
-use mathlib.Core.Bool.{Bool, true, false, cond, _&&_}
-use mathlib.Core.List.{List, [], _∷_}
-use native.Mathlib.Omega.{arith}
+use mathlib.Core.Bool.{Bool, true, false, _&&_}
+use mathlib.Core.List.{List, _∷_}
 use Rattle.formats.specs.Checks.{Check, check, firstNo}
 use Rattle.formats.proofs.CheckLaws.{firstNo-no}
 use Rattle.book.specs.Calls as calls
 use Rattle.book.specs.Calls.{Call, Answer, refused}
 use Rattle.book.specs.Refusals.{refusal}
-use Rattle.book.specs.Model.{Record, proceeds, unless, act}
+use Rattle.book.specs.Model.{proceeds, unless, act}
 use Rattle.session.specs.declared.state.Phase.{Phase}
 use Rattle.session.specs.declared.state.Session.{Session}
 use Rattle.session.specs.Records.{phaseOf, sizesOf, recordOf, sessionOf, valid}
@@ -31,7 +30,8 @@ module _ (s : Session) (c : Call) where
     unfolding act unless recordOf
     act-refused n e = (rw e, rw e)
 
-    pub refused-done : Shaped s → (n : ℕ) → refusal (phaseOf (s .phase)) (sizesOf s) c ≡ suc n → CallDone s c (refused (suc n)) s
+    pub refused-done : Shaped s → (n : ℕ) → refusal (phaseOf (s .phase)) (sizesOf s) c ≡ suc n
+        → CallDone s c (refused (suc n)) s
     unfolding answerOn recordOn
     refused-done h n e =
         let a = act-refused n e in
@@ -40,13 +40,15 @@ module _ (s : Session) (c : Call) where
           leaves = rw v (sym (struct-is s h v) ∙ ap sessionOf (a .1));
         }
 
-    pub proceeds-done : refusal (phaseOf (s .phase)) (sizesOf s) c ≡ 0 → (a : Answer) (t : Session) → a ≡ proceeds (recordOf s) c .answer
+    pub proceeds-done : refusal (phaseOf (s .phase)) (sizesOf s) c ≡ 0 → (a : Answer) (t : Session)
+        → a ≡ proceeds (recordOf s) c .answer
         → t ≡ sessionOf (proceeds (recordOf s) c .record′) → CallDone s c a t
     unfolding answerOn recordOn act unless recordOf
     proceeds-done e a t f g = record { tells = rw (v, e) f; leaves = rw (v, e) g }
 
   -- check 1 says no
-  pub unless-done : Shaped s → (b : Bool) (cs : List Check) → refusal (phaseOf (s .phase)) (sizesOf s) c ≡ firstNo (check 1 b ∷ cs)
+  pub unless-done : Shaped s → (b : Bool) (cs : List Check)
+      → refusal (phaseOf (s .phase)) (sizesOf s) c ≡ firstNo (check 1 b ∷ cs)
       → (valid s && b) ≡ false → CallDone s c (refused 1) s
   unless-done h b cs e f = go (valid s) refl f
     where
@@ -66,7 +68,8 @@ and-no false = refl
 
 module _ (f : calls.Phase → Bool) (s : Session) (p : Phase) (e : s .phase ≡ p) where
   pub state-yes : f (phaseOf p) ≡ true → (b : Bool) → b ≡ valid s → b ≡ (valid s && f (phaseOf (s .phase)))
-  state-yes g b h = h ∙ sym (and-yes (valid s)) ∙ sym (ap (λ (x : Bool). valid s && x) (ap (λ (q : Phase). f (phaseOf q)) e ∙ g))
+  state-yes g b h =
+      h ∙ sym (and-yes (valid s)) ∙ sym (ap (λ (x : Bool). valid s && x) (ap (λ (q : Phase). f (phaseOf q)) e ∙ g))
 
   pub state-no : f (phaseOf p) ≡ false → false ≡ (valid s && f (phaseOf (s .phase)))
   state-no g = sym (and-no (valid s)) ∙ sym (ap (λ (x : Bool). valid s && x) (ap (λ (q : Phase). f (phaseOf q)) e ∙ g))

@@ -1,17 +1,16 @@
 -- What is true of every record that a session can have, in each state.
 --     Sized z              N, S and K in their limits
---     Asked r              a question's lists: as Start checks them, its roots as they are found, the states and links so far
+-- Asked r a question's lists: as Start checks them, its roots as they are found, the states and links so far
 --     Holds r              in empty the fresh record, in loaded that after a first Load, in running and answered a question
 --     holds-of             a struct that passes its conditions has such a record
 --     tails-of, struct-is  and is the struct of that record
 -- Assumes nothing.
-use Prim.Native.Nat.{ℕ, _+_, _-_, _*_, _≤_, _<_}
-use mathlib.Core.Path.{_≡_, refl, sym, ap, _∙_}
-use mathlib.Core.Bool.{Bool, true, false, not, _&&_}
-use mathlib.Core.List.{List, [], _∷_, _++_}
+use Prim.Native.Nat.{ℕ, _-_, _*_, _≤_, _<_}
+use mathlib.Core.Path.{_≡_, refl}
+use mathlib.Core.Bool.{true, false, _&&_}
 use native.Mathlib.Omega.{arith}
-use lib.Dec.{leb, ltb, eqb}
-use lib.ListN.{length, take, drop}
+use lib.Dec.{leb}
+use lib.ListN.{length, take}
 use lib.Seq.{length-take-le}
 use borrow.Author.Tests.{leb-true, ltb-true, eqb-true, not-true}
 use Rattle.formats.specs.Bytes.{allBelow}

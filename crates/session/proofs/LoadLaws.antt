@@ -3,10 +3,10 @@
 --     load-built       the tables were built; load-headers: then both headers are whole
 --     load-refused     the build refused
 -- Assumes nothing.
-use Prim.Native.Nat.{ℕ, zero, suc, _≤_, _<_}
+use Prim.Native.Nat.{ℕ, zero, suc}
 use mathlib.Core.Path.{_≡_, refl, sym, ap, _∙_}
 use mathlib.Core.Bool.{Bool, true, false, not, cond, _&&_}
-use mathlib.Core.List.{List, [], _∷_}
+use mathlib.Core.List.{List, _∷_}
 use native.Mathlib.Omega.{arith}
 use lib.ListN.{length}
 use borrow.Author.Tests.{not-true, not-false}
@@ -19,9 +19,9 @@ use Rattle.formats.proofs.InputLaws.{build-passes}
 use Rattle.tables.specs.declared.answers.Building.{Building}
 use Rattle.tables.specs.declared.answers.Building.the-variants.{Built, Refused}
 use Rattle.tables.specs.Answers.{numberOf, toldBuild, written, BuildDone}
-use Rattle.book.specs.Lends.{Lent, sizesIn}
+use Rattle.book.specs.Lends.{Lent}
 use Rattle.book.specs.Calls as calls
-use Rattle.book.specs.Calls.{Call, load, mayLoad}
+use Rattle.book.specs.Calls.{load, mayLoad}
 use Rattle.book.specs.Refusals.{refusal}
 use Rattle.book.specs.Model.{proceeds}
 use Rattle.session.specs.declared.state.Session.{Session}
@@ -32,7 +32,8 @@ use Rattle.session.specs.Tests.{Shaped, Headers, loadedBy, loadedFrom}
 use Rattle.session.proofs.CallLaws.{unless-done, refused-done, proceeds-done}
 
 -- N, S and K as they were read
-pub loaded-same : (plan rules : List ℕ) (n s k : ℕ) (t : Session) → t ≡ sessionOf (loadedBy n s k) → n ≡ nodeCount plan → s ≡ stateCount rules
+pub loaded-same : (plan rules : List ℕ) (n s k : ℕ) (t : Session) → t ≡ sessionOf (loadedBy n s k) → n ≡ nodeCount plan
+    → s ≡ stateCount rules
     → k ≡ labelCount rules → t ≡ sessionOf (loadedFrom plan rules)
 loaded-same plan rules n s k t e a b c = rw (← a, ← b, ← c) e
 
@@ -81,7 +82,8 @@ module _ (s : Session) (h : Shaped s) (x : Lent) (b : Bool) (may : b ≡ (valid 
       done k t c = record {
         call = c;
         links-written = D .links-written ∙ ap (λ (i : ℕ). written i (builtLinks (x .plan)) (x .nums)) (sym number);
-        states-written = D .states-written ∙ ap (λ (i : ℕ). written i (builtStates (x .plan) (x .rules)) (x .bytes)) (sym number);
+        states-written = D .states-written ∙ ap (λ (i : ℕ). written i (builtStates (x .plan) (x .rules)) (x .bytes))
+            (sym number);
       }
 
       module _ (e : a ≡ Built) where
@@ -100,9 +102,11 @@ module _ (s : Session) (h : Shaped s) (x : Lent) (b : Bool) (may : b ≡ (valid 
               labels-most = p .1 .labels-most;
             }
 
-        pub load-built : (t : Session) → t ≡ sessionOf (loadedFrom (x .plan) (x .rules)) → LoadDone s x (doingAnswer Made) t nums′ bytes′
+        pub load-built : (t : Session) → t ≡ sessionOf (loadedFrom (x .plan) (x .rules))
+            → LoadDone s x (doingAnswer Made) t nums′ bytes′
         unfolding doingAnswer proceeds
-        load-built t f = done calls.Answer.accepted t (proceeds-done s (load x) v (on ∙ none-fails) calls.Answer.accepted t refl f)
+        load-built t f =
+            done calls.Answer.accepted t (proceeds-done s (load x) v (on ∙ none-fails) calls.Answer.accepted t refl f)
 
       pub load-refused : (k : ℕ) → a ≡ Refused k → LoadDone s x (doingAnswer (NotDone k)) s nums′ bytes′
       unfolding doingAnswer toldBuild

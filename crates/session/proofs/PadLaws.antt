@@ -3,18 +3,20 @@
 --     length-padded, take-padded, take-padded-by, zero-padded
 --                                a list of at most w entries in an array of w
 --     padded-take                an array whose rest is zero is the list in its first entries
+--     take-long                  the length of the first entries of an array
 --     copy-turn, copy-end        a list copied into an array of zeros, entry by entry
 --     padded-more                one entry more
 -- Assumes nothing.
 use Prim.Native.Nat.{ℕ, zero, suc, _+_, _-_, _≤_, _<_}
 use mathlib.Core.Path.{_≡_, refl, sym, ap, _∙_}
-use mathlib.Core.Bool.{Bool, true, false, _&&_}
+use mathlib.Core.Bool.{true}
 use mathlib.Core.List.{List, [], _∷_, _++_, append-assoc}
 use native.Mathlib.Omega.{arith}
 use native.Mathlib.Numerals.{add-one}
 use lib.Dec.{ltb}
 use lib.ListN.{length, getD, set, take, drop, replicate, length-append, length-replicate, length-drop, take-append-drop}
-use lib.Seq.{set-split, drop-drop, take-append-seam, drop-append-seam, take-at, drop-cons, set-at, take-suc, length-take-le, take-length}
+use lib.Seq.{set-split, drop-drop, take-append-seam, drop-append-seam, take-at, drop-cons, set-at, take-suc, length-take-le}
+use lib.Seq.{take-length}
 use borrow.Author.Tests.{ltb-true}
 use Rattle.formats.specs.Bytes.{allBelow}
 use Rattle.formats.proofs.CheckLaws.{and-left, and-right}
@@ -62,6 +64,10 @@ module _ (w m : ℕ) (l : List ℕ) (e : length l ≡ w) (z : zeroFrom m l ≡ t
   pub padded-take : take m l ++ replicate (w - m) 0 ≡ l
   padded-take = ap (λ (t : List ℕ). take m l ++ t) (sym tail-zeros) ∙ take-append-drop m l
 
+-- what `&l[..m]` is, of an array of w entries
+pub take-long : (w m : ℕ) (l : List ℕ) → length l ≡ w → m ≤ w → m ≡ length (take m l)
+take-long w m l e h = sym (length-take-le m l (omega arith))
+
 -- ---- a list copied into an array of zeros
 
 drop-zeros : (m w : ℕ) → _≡_ {A = List ℕ} (drop m (replicate w 0)) (replicate (w - m) 0)
@@ -81,7 +87,8 @@ copy-turn s d₀ d i h k o =
       append-assoc,
     )
 
-pub copy-end : (s d : List ℕ) (w i : ℕ) → i ≤ length s → length s ≤ i → d ≡ take i s ++ drop i (replicate w 0) → d ≡ padded w s
+pub copy-end : (s d : List ℕ) (w i : ℕ) → i ≤ length s → length s ≤ i → d ≡ take i s ++ drop i (replicate w 0)
+    → d ≡ padded w s
 copy-end s d w i h k o =
     let e : i ≡ length s = omega arith in
     let o′ : d ≡ take (length s) s ++ drop (length s) (replicate w 0) = rw e at o in

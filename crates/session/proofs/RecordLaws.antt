@@ -5,19 +5,18 @@
 --     record-of-struct     the record of the struct of a record with such lists is that record
 --     struct-shaped        and that struct has the layout's lengths
 -- Assumes nothing.
-use Prim.Native.Nat.{ℕ, _+_, _-_, _≤_, _<_}
-use mathlib.Core.Path.{_≡_, refl, sym, ap, _∙_}
-use mathlib.Core.Bool.{Bool, true, false}
-use mathlib.Core.List.{List, [], _∷_, _++_}
+use Prim.Native.Nat.{_≤_}
+use mathlib.Core.Path.{_≡_, refl}
+use mathlib.Core.Bool.{true}
 use native.Mathlib.Omega.{arith}
-use lib.ListN.{length, take, drop, replicate}
+use lib.ListN.{length, take}
 use lib.Seq.{length-take-le}
 use Rattle.book.specs.Calls as calls
 use Rattle.book.specs.Model.{Record}
 use Rattle.session.specs.declared.state.Phase.{Phase}
 use Rattle.session.specs.declared.state.Phase.the-variants.{Empty, Loaded, Running, Answered}
 use Rattle.session.specs.declared.state.Session.{Session}
-use Rattle.session.specs.Records.{phaseOf, phaseTo, recordOf, sessionOf, padded, zeroFrom}
+use Rattle.session.specs.Records.{phaseOf, phaseTo, recordOf, sessionOf, zeroFrom}
 use Rattle.session.specs.Tests.{Shaped}
 use Rattle.session.proofs.PadLaws.{length-padded, take-padded, take-padded-by, padded-take}
 

@@ -6,15 +6,13 @@
 -- Assumes nothing.
 use Prim.Native.Nat.{ℕ, zero, suc}
 use mathlib.Core.Path.{_≡_, refl, sym, ap, _∙_, subst}
-use mathlib.Core.Bool.{Bool, true, false, cond}
-use mathlib.Core.List.{List, [], _∷_}
-use Rattle.book.specs.Calls as calls
+use mathlib.Core.Bool.{true}
 use Rattle.book.specs.Calls.{Call, read, Answer}
 use Rattle.book.specs.Refusals.{refusal}
 use Rattle.book.specs.Model.{Record, freshRecord, idle, proceeds, unless, act, Does}
 use Rattle.book.proofs.Demand3Theorem.{Refines}
 use Rattle.session.specs.declared.state.Session.{Session}
-use Rattle.session.specs.Records.{phaseOf, phaseTo, recordOf, sessionOf, freshSession, valid}
+use Rattle.session.specs.Records.{phaseTo, recordOf, sessionOf, freshSession, valid}
 use Rattle.session.specs.Promises.{CallDone, answerOn, recordOn}
 use Rattle.session.specs.Tests.{Shaped}
 use Rattle.session.specs.CallSteps.{Step, loads, starts, advances, cancels, reads}

@@ -1,4 +1,5 @@
--- Demand 3 for the session's calls: every list of calls, from the fresh session, whatever is lent, is answered as the panel book says.
+-- Demand 3 for the session's calls: every list of calls, from the fresh session, whatever is lent, is answered as the panel
+-- book says.
 --     session-demand-3     the theorem, over the very promises of load, start, advance, cancel and read
 --     session-history      a history of these calls is one of the model's, so what is proved of those holds of it
 -- Assumes nothing.

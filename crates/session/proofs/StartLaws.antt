@@ -2,29 +2,27 @@
 --     start-1, start-17, start-list, start-18, start-yes
 --     start-limits, start-room, start-listed, start-count     what the calls below ask
 -- Assumes nothing.
-use Prim.Native.Nat.{ℕ, zero, suc, _+_, _-_, _*_, _≤_, _<_}
+use Prim.Native.Nat.{ℕ, zero, suc, _*_, _≤_}
 use mathlib.Core.Path.{_≡_, refl, sym, ap, _∙_}
 use mathlib.Core.Bool.{Bool, true, false, not, _&&_}
-use mathlib.Core.List.{List, [], _∷_, _++_}
+use mathlib.Core.List.{List, _∷_}
 use mathlib.Core.Option.{Option, none, some}
 use native.Mathlib.Omega.{arith}
-use lib.Dec.{leb, eqb}
-use lib.ListN.{length, take, replicate}
+use lib.ListN.{length, take}
 use lib.Seq.{length-take-le}
-use borrow.Author.Tests.{not-true, not-false, le-leb}
-use Rattle.formats.specs.Bytes.{allBelow}
-use Rattle.formats.specs.Checks.{Check, check, firstNo, listChecks, linkLength}
+use borrow.Author.Tests.{not-true, not-false}
+use Rattle.formats.specs.Checks.{check, firstNo, listChecks}
 use Rattle.formats.proofs.CheckLaws.{and-left, and-right, firstNo-yes, firstNo-no, true-false}
 use Rattle.formats.proofs.InputLaws.{ListPasses, list-passes}
 use Rattle.questions.specs.declared.roots.Rooted.{Rooted}
 use Rattle.questions.specs.PartArgs.{LimitArgs}
 use Rattle.questions.specs.PartTold.{lengthsFit}
 use Rattle.questions.specs.Roots.{rootsOn}
-use Rattle.questions.specs.RootsTold.{rootsFit, rootsGiven, rootedOf}
-use Rattle.questions.proofs.PartFits.{Lengths, lengths-are}
+use Rattle.questions.specs.RootsTold.{rootsGiven, rootedOf}
+use Rattle.questions.proofs.PartFits.{lengths-are}
 use Rattle.questions.proofs.FitLaws.{fit-all, given-yes}
 use Rattle.questions.proofs.RootsLaws.{rootsOn-fits}
-use Rattle.book.specs.Lends.{Lent, fits, usedNums}
+use Rattle.book.specs.Lends.{Lent, fits}
 use Rattle.book.specs.Calls as calls
 use Rattle.book.specs.Calls.{Call, start, mayStart}
 use Rattle.book.specs.Refusals.{refusal}
@@ -39,7 +37,8 @@ use Rattle.session.proofs.Holds.{Sized, holds-of, struct-is}
 use Rattle.session.proofs.ActLaws.{start-sized}
 use Rattle.session.proofs.CallLaws.{unless-done, refused-done, proceeds-done}
 
-module _ (s : Session) (h : Shaped s) (x : Lent) (vs bs : List ℕ) (b : Bool) (may : b ≡ (valid s && mayStart (phaseOf (s .phase)))) where
+module _ (s : Session) (h : Shaped s) (x : Lent) (vs bs : List ℕ) (b : Bool)
+    (may : b ≡ (valid s && mayStart (phaseOf (s .phase)))) where
   abbrev C : Call
   C = start x vs bs
 
@@ -80,7 +79,8 @@ module _ (s : Session) (h : Shaped s) (x : Lent) (vs bs : List ℕ) (b : Bool) (
       pub start-17 : not f ≡ true → CallDone s C (startingAnswer (NotStarted 17)) s
       unfolding startingAnswer
       start-17 g =
-          refused-done s C v h 16 (on ∙ firstNo-no 17 (fits (sizesOf s) x) (listChecks (s .n) (s .k) vs bs) (fits-is ∙ not-true f g))
+          refused-done s C v h 16
+          (on ∙ firstNo-no 17 (fits (sizesOf s) x) (listChecks (s .n) (s .k) vs bs) (fits-is ∙ not-true f g))
 
       module _ (yes : not f ≡ false) where
         pub start-room : s .n * 4 ≤ length (x .nums)
@@ -96,7 +96,8 @@ module _ (s : Session) (h : Shaped s) (x : Lent) (vs bs : List ℕ) (b : Bool) (
           unfolding startingAnswer
           start-list g = go q (onward ∙ sym list) g
             where
-              go : (n : ℕ) → refusal (phaseOf (s .phase)) (sizesOf s) C ≡ n → (n ≡ 0 → ⊥) → CallDone s C (calls.Answer.refused n) s
+              go : (n : ℕ) → refusal (phaseOf (s .phase)) (sizesOf s) C ≡ n → (n ≡ 0 → ⊥)
+                  → CallDone s C (calls.Answer.refused n) s
               go zero e i = absurd (i refl)
               go (suc n) e i = refused-done s C v h n e
 
@@ -126,7 +127,8 @@ module _ (s : Session) (h : Shaped s) (x : Lent) (vs bs : List ℕ) (b : Bool) (
                 → t ≡ sessionOf (startWith (recordOf s) vs bs o .record′) → CallDone s C a t
             unfolding proceeds recordOf
             acts o e a t i j =
-                proceeds-done s C v no-refusal a t (i ∙ ap (λ (z : Option (List ℕ)). startWith (recordOf s) vs bs z .answer) (sym e))
+                proceeds-done s C v no-refusal a t
+                (i ∙ ap (λ (z : Option (List ℕ)). startWith (recordOf s) vs bs z .answer) (sym e))
                 (j ∙ ap (λ (z : Option (List ℕ)). sessionOf (startWith (recordOf s) vs bs z .record′)) (sym e))
 
             module _ (R : Rooted) (found : R ≡ rootedOf (rootsGiven (s .n) (take (s .n * 4) (x .nums)) vs)) where
@@ -135,7 +137,8 @@ module _ (s : Session) (h : Shaped s) (x : Lent) (vs bs : List ℕ) (b : Bool) (
               start-18 g = go (rootsOn (s .n) (take (s .n * 4) (x .nums)) vs) refl (found ∙ ap rootedOf given)
                 where
                   go : (o : Option (List ℕ)) → rootsOn (s .n) (take (s .n * 4) (x .nums)) vs ≡ o
-                      → R ≡ rootedOf (rootsOn (s .n) (take (s .n * 4) (x .nums)) vs) → CallDone s C (calls.Answer.refused 18) s
+                      → R ≡ rootedOf (rootsOn (s .n) (take (s .n * 4) (x .nums)) vs)
+                      → CallDone s C (calls.Answer.refused 18) s
                   go none e i = acts none e (calls.Answer.refused 18) s refl (sym (struct-is s h v))
                   go (some rs) e i =
                       let k : R .ok ≡ true = ap (λ (z : Rooted). z .ok) (i ∙ ap rootedOf e) in
@@ -158,7 +161,8 @@ module _ (s : Session) (h : Shaped s) (x : Lent) (vs bs : List ℕ) (b : Bool) (
                     let k : R .count ≡ length (one .0) = ap (λ (z : Rooted). z .count) (one .2) in
                     omega (
                       arith,
-                      rootsOn-fits (s .n) (take (s .n * 4) (x .nums)) vs (one .0) (omega (arith, sized .nodes-least)) (list-is .nodes-below)
+                      rootsOn-fits (s .n) (take (s .n * 4) (x .nums)) vs (one .0) (omega (arith, sized .nodes-least))
+                          (list-is .nodes-below)
                           (one .1) (list-is .most),
                     )
 

@@ -1,12 +1,9 @@
+-- `session::advance::handled` meets its contract. The last part, and any other.
+-- Assumes nothing.
 use Rattle.session.proofs.AdvanceLaws.{handled-last, handled-more}
-use native.Mathlib.Omega.{arith}
 use borrow.Author.Needs.{needs}
 use Rattle.session.proofs.advance.handled.Statement.{statement}
 use Rattle.session.proofs.advance.handled.Tie as tie
-use Rattle.session.proofs.advance.handled.Reads as reads
-use Rattle.session.proofs.advance.handled.Lts as lts
-use Rattle.session.proofs.advance.is_marked.Reads as is-marked-reads
-use Rattle.session.proofs.advance.stepped.Reads as stepped-reads
 
 add-if1 : tie.Need-add-if1
 add-if1 c = search needs
@@ -25,8 +22,10 @@ stepped-requires c κs = search needs
 
 returns : tie.Need-returns
 returns c =
-    let a = c .before .before .before .before .before .before .before .before .args in
-    handled-last (a .s) (a .rules .now) (a .q) (a .links) _ (c .before .before .before .before .if1 .taken) _ (c .stepped .ensures) (c .before .is-marked .ensures)
+    let m = c .before in
+    let e = m .before .before .before in
+    let a = e .before .before .before .before .args in
+    handled-last (a .s) (a .rules .now) (a .q) (a .links) _ (e .if1 .taken) _ (c .stepped .ensures) (m .is-marked .ensures)
 
 stepped-requires-2 : tie.Need-stepped-requires-2
 stepped-requires-2 c κs = search needs

@@ -1,11 +1,9 @@
+-- `session::advance::is_marked` meets its contract. The byte that is read is the mark.
+-- Assumes nothing.
 use Rattle.session.proofs.AdvanceLaws.{mark-at}
-use native.Mathlib.Omega.{arith}
 use borrow.Author.Needs.{needs}
 use Rattle.session.proofs.advance.is_marked.Statement.{statement}
 use Rattle.session.proofs.advance.is_marked.Tie as tie
-use Rattle.session.proofs.advance.is_marked.Reads as reads
-use Rattle.session.proofs.advance.is_marked.Lts as lts
-use Rattle.formats.proofs.rules.inner_count.Reads as inner-count-reads
 
 add-result : tie.Need-add-result
 add-result c = search needs
@@ -25,7 +23,8 @@ shared-slice-read-result c = search needs
 returns : tie.Need-returns
 returns c =
     let a = c .before .before .before .args in
-    mark-at (a .rules .now) (a .s) (a .k) _ (a .q) (c .before .inner-count .ensures .value) (c .before .before .before .pre .state)
+    mark-at (a .rules .now) (a .s) (a .k) _ (a .q) (c .before .inner-count .ensures .value)
+    (c .before .before .before .pre .state)
 
 pub is-marked-spec : {M : Type 1} → statement M
 is-marked-spec =

@@ -1,17 +1,18 @@
-use mathlib.Core.Path.{sym}
-use lib.Seq.{length-take-le}
+-- `session::advance::next_part` meets its contract. The record's lists are the first entries of its arrays.
+-- Assumes nothing.
+use Rattle.session.proofs.PadLaws.{take-long}
 use Rattle.session.specs.Tests.{Shaped}
 use Rattle.session.proofs.Shapes.{shaped}
 use native.Mathlib.Omega.{arith}
 use borrow.Author.Needs.{needs}
 use Rattle.session.proofs.advance.next_part.Statement.{statement}
 use Rattle.session.proofs.advance.next_part.Tie as tie
-use Rattle.session.proofs.advance.next_part.Reads as reads
-use Rattle.session.proofs.advance.next_part.Lts as lts
-use Rattle.questions.proofs.part.part.Reads as part-reads
 
 shape : (c : tie.Start) → Shaped (c .args .s)
 shape c = shaped (c .args .s) (c .good .0)
+
+abbrev of : tie.After-struct-known6 → tie.Start
+of a = a .before .before .before .before .before .before .before .before .before .before .before .before .before .before
 
 cast-p : tie.Need-cast-p
 cast-p c = search needs
@@ -32,36 +33,36 @@ cast-part-3 : tie.Need-cast-part-3
 cast-part-3 c = search needs
 
 array-share-prefix-roots : tie.Need-array-share-prefix-roots
-array-share-prefix-roots c = omega (arith, shape (c .before .before .before .before .before .before .before .before .before .before .before .before .before .before) .roots, c .before .before .before .before .before .before .before .before .before .before .before .before .before .before .pre .few-parts)
+array-share-prefix-roots c = let a = of (c) in omega (arith, shape a .roots, a .pre .few-parts)
 
 slice-aggregate-part : tie.Need-slice-aggregate-part
 slice-aggregate-part c =
-    let h = shape (c .before .before .before .before .before .before .before .before .before .before .before .before .before .before .before) .roots in
-    sym (length-take-le (c .before .before .before .before .before .before .before .before .before .before .before .before .before .before .before .args .s .parts) (c .before .before .before .before .before .before .before .before .before .before .before .before .before .before .before .args .s .roots) (omega (arith, h, c .before .before .before .before .before .before .before .before .before .before .before .before .before .before .before .pre .few-parts)))
+    let a = of (c .before) in
+    take-long 254 (a .args .s .parts) (a .args .s .roots) (shape a .roots) (omega (arith, a .pre .few-parts))
 
 array-share-prefix-states : tie.Need-array-share-prefix-states
-array-share-prefix-states c = omega (arith, shape (c .before .before .before .before .before .before .before .before .before .before .before .before .before .before .before) .states, c .before .before .before .before .before .before .before .before .before .before .before .before .before .before .before .pre .few-handled)
+array-share-prefix-states c = let a = of (c .before) in omega (arith, shape a .states, a .pre .few-handled)
 
 slice-aggregate-part-2 : tie.Need-slice-aggregate-part-2
 slice-aggregate-part-2 c =
-    let h = shape (c .before .before .before .before .before .before .before .before .before .before .before .before .before .before .before .before) .states in
-    sym (length-take-le (c .before .before .before .before .before .before .before .before .before .before .before .before .before .before .before .before .args .s .handled) (c .before .before .before .before .before .before .before .before .before .before .before .before .before .before .before .before .args .s .states) (omega (arith, h, c .before .before .before .before .before .before .before .before .before .before .before .before .before .before .before .before .pre .few-handled)))
+    let a = of (c .before .before) in
+    take-long 254 (a .args .s .handled) (a .args .s .states) (shape a .states) (omega (arith, a .pre .few-handled))
 
 array-share-prefix-nodes : tie.Need-array-share-prefix-nodes
-array-share-prefix-nodes c = omega (arith, shape (c .before .before .before .before .before .before .before .before .before .before .before .before .before .before .before .before) .nodes, c .before .before .before .before .before .before .before .before .before .before .before .before .before .before .before .before .pre .few)
+array-share-prefix-nodes c = let a = of (c .before .before) in omega (arith, shape a .nodes, a .pre .few)
 
 slice-aggregate-part-3 : tie.Need-slice-aggregate-part-3
 slice-aggregate-part-3 c =
-    let h = shape (c .before .before .before .before .before .before .before .before .before .before .before .before .before .before .before .before .before) .nodes in
-    sym (length-take-le (c .before .before .before .before .before .before .before .before .before .before .before .before .before .before .before .before .before .args .s .m) (c .before .before .before .before .before .before .before .before .before .before .before .before .before .before .before .before .before .args .s .nodes) (omega (arith, h, c .before .before .before .before .before .before .before .before .before .before .before .before .before .before .before .before .before .pre .few)))
+    let a = of (c .before .before .before) in
+    take-long 64 (a .args .s .m) (a .args .s .nodes) (shape a .nodes) (omega (arith, a .pre .few))
 
 array-share-prefix-labels : tie.Need-array-share-prefix-labels
-array-share-prefix-labels c = omega (arith, shape (c .before .before .before .before .before .before .before .before .before .before .before .before .before .before .before .before .before) .labels, c .before .before .before .before .before .before .before .before .before .before .before .before .before .before .before .before .before .pre .few)
+array-share-prefix-labels c = let a = of (c .before .before .before) in omega (arith, shape a .labels, a .pre .few)
 
 slice-aggregate-part-4 : tie.Need-slice-aggregate-part-4
 slice-aggregate-part-4 c =
-    let h = shape (c .before .before .before .before .before .before .before .before .before .before .before .before .before .before .before .before .before .before) .labels in
-    sym (length-take-le (c .before .before .before .before .before .before .before .before .before .before .before .before .before .before .before .before .before .before .args .s .m) (c .before .before .before .before .before .before .before .before .before .before .before .before .before .before .before .before .before .before .args .s .labels) (omega (arith, h, c .before .before .before .before .before .before .before .before .before .before .before .before .before .before .before .before .before .before .pre .few)))
+    let a = of (c .before .before .before .before) in
+    take-long 64 (a .args .s .m) (a .args .s .labels) (shape a .labels) (omega (arith, a .pre .few))
 
 part-requires : tie.Need-part-requires
 part-requires c κs = search needs

@@ -1,3 +1,6 @@
+-- `session::fill::padded_labels` meets its contract. The loop's invariant: the entries passed are copied, and zeros are
+-- behind them.
+-- Assumes nothing.
 use Prim.Native.Nat.{_-_, _≤_}
 use mathlib.Core.Path.{_≡_, refl}
 use mathlib.Core.List.{_++_}
@@ -7,8 +10,6 @@ use native.Mathlib.Omega.{arith}
 use borrow.Author.Needs.{needs}
 use Rattle.session.proofs.fill.padded_labels.Statement.{statement}
 use Rattle.session.proofs.fill.padded_labels.Tie as tie
-use Rattle.session.proofs.fill.padded_labels.Reads as reads
-use Rattle.session.proofs.fill.padded_labels.Lts as lts
 
 abbrev Inv-loop : tie.InvT-loop
 Inv-loop labels out₀ i₀ out i = (i ≤ length labels) × ((length out ≡ 64) × (out ≡ take i labels ++ drop i (replicate 64 0)))
@@ -38,7 +39,8 @@ loop-again c =
       omega arith,
       (
         simp length-set (l .inv .1 .0),
-        copy-turn (a .labels .now) (replicate 64 0) (l .out) (l .i) (c .before .loop-test .taken) (omega arith) (l .inv .1 .1),
+        copy-turn (a .labels .now) (replicate 64 0) (l .out) (l .i) (c .before .loop-test .taken) (omega arith)
+            (l .inv .1 .1),
       ),
     )
 

@@ -1,3 +1,6 @@
+-- `session::fill::padded_nodes` meets its contract. The loop's invariant: the entries passed are copied, and zeros are
+-- behind them.
+-- Assumes nothing.
 use Prim.Native.Nat.{_-_, _≤_}
 use mathlib.Core.Path.{_≡_, refl}
 use mathlib.Core.List.{_++_}
@@ -7,8 +10,6 @@ use native.Mathlib.Omega.{arith}
 use borrow.Author.Needs.{needs}
 use Rattle.session.proofs.fill.padded_nodes.Statement.{statement}
 use Rattle.session.proofs.fill.padded_nodes.Tie as tie
-use Rattle.session.proofs.fill.padded_nodes.Reads as reads
-use Rattle.session.proofs.fill.padded_nodes.Lts as lts
 
 abbrev Inv-loop : tie.InvT-loop
 Inv-loop nodes out₀ i₀ out i = (i ≤ length nodes) × ((length out ≡ 64) × (out ≡ take i nodes ++ drop i (replicate 64 0)))
@@ -44,7 +45,8 @@ loop-again c =
       omega arith,
       (
         simp length-set (l .inv .1 .0),
-        copy-turn (a .nodes .now) (replicate 64 0) (l .out) (l .i) (c .before .loop-test .taken) (omega arith) (l .inv .1 .1),
+        copy-turn (a .nodes .now) (replicate 64 0) (l .out) (l .i) (c .before .loop-test .taken) (omega arith)
+            (l .inv .1 .1),
       ),
     )
 

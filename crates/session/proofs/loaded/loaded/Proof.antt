@@ -1,12 +1,10 @@
+-- `session::loaded::loaded` meets its contract. Its record is the definition's, field by field.
+-- Assumes nothing.
 use mathlib.Core.Path.{refl}
 use Rattle.book.specs.Model.{idle}
 use Rattle.session.specs.Records.{sessionOf, phaseTo}
-use native.Mathlib.Omega.{arith}
-use borrow.Author.Needs.{needs}
 use Rattle.session.proofs.loaded.loaded.Statement.{statement}
 use Rattle.session.proofs.loaded.loaded.Tie as tie
-use Rattle.session.proofs.loaded.loaded.Reads as reads
-use Rattle.session.proofs.loaded.loaded.Lts as lts
 
 returns : tie.Need-returns
 unfolding sessionOf phaseTo idle

@@ -1,14 +1,12 @@
+-- `session::may::is_answered` meets its contract. Each state has its arm.
+-- Assumes nothing.
 use mathlib.Core.Path.{refl}
 use Rattle.book.specs.Calls.{isAnswered}
 use Rattle.session.specs.Records.{phaseOf}
 use Rattle.session.proofs.CallLaws.{state-yes, state-no}
-use native.Mathlib.Omega.{arith}
 use borrow.Author.Needs.{needs}
 use Rattle.session.proofs.may.is_answered.Statement.{statement}
 use Rattle.session.proofs.may.is_answered.Tie as tie
-use Rattle.session.proofs.may.is_answered.Reads as reads
-use Rattle.session.proofs.may.is_answered.Lts as lts
-use Rattle.session.proofs.state.Session.valid.Reads as valid-reads
 
 enum-told : tie.Need-enum-told
 enum-told c = search needs
@@ -39,7 +37,8 @@ returns-3 c = state-no isAnswered (c .before .before .args .s) _ (c .enum-told3 
 
 returns-4 : tie.Need-returns-4
 unfolding phaseOf isAnswered
-returns-4 c = state-yes isAnswered (c .before .before .before .args .s) _ (c .before .enum-told4 .given .1) refl _ (c .valid .ensures)
+returns-4 c =
+    state-yes isAnswered (c .before .before .before .args .s) _ (c .before .enum-told4 .given .1) refl _ (c .valid .ensures)
 
 pub is-answered-spec : {M : Type 1} → statement M
 is-answered-spec =

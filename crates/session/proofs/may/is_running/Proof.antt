@@ -1,14 +1,12 @@
+-- `session::may::is_running` meets its contract. Each state has its arm.
+-- Assumes nothing.
 use mathlib.Core.Path.{refl}
 use Rattle.book.specs.Calls.{isRunning}
 use Rattle.session.specs.Records.{phaseOf}
 use Rattle.session.proofs.CallLaws.{state-yes, state-no}
-use native.Mathlib.Omega.{arith}
 use borrow.Author.Needs.{needs}
 use Rattle.session.proofs.may.is_running.Statement.{statement}
 use Rattle.session.proofs.may.is_running.Tie as tie
-use Rattle.session.proofs.may.is_running.Reads as reads
-use Rattle.session.proofs.may.is_running.Lts as lts
-use Rattle.session.proofs.state.Session.valid.Reads as valid-reads
 
 enum-told : tie.Need-enum-told
 enum-told c = search needs
@@ -35,7 +33,8 @@ returns-2 c = state-no isRunning (c .before .before .args .s) _ (c .enum-told2 .
 
 returns-3 : tie.Need-returns-3
 unfolding phaseOf isRunning
-returns-3 c = state-yes isRunning (c .before .before .before .args .s) _ (c .before .enum-told3 .given .1) refl _ (c .valid .ensures)
+returns-3 c =
+    state-yes isRunning (c .before .before .before .args .s) _ (c .before .enum-told3 .given .1) refl _ (c .valid .ensures)
 
 returns-4 : tie.Need-returns-4
 unfolding phaseOf isRunning

@@ -1,14 +1,12 @@
+-- `session::may::may_load` meets its contract. Each state has its arm.
+-- Assumes nothing.
 use mathlib.Core.Path.{refl}
 use Rattle.book.specs.Calls.{mayLoad}
 use Rattle.session.specs.Records.{phaseOf}
 use Rattle.session.proofs.CallLaws.{state-yes, state-no}
-use native.Mathlib.Omega.{arith}
 use borrow.Author.Needs.{needs}
 use Rattle.session.proofs.may.may_load.Statement.{statement}
 use Rattle.session.proofs.may.may_load.Tie as tie
-use Rattle.session.proofs.may.may_load.Reads as reads
-use Rattle.session.proofs.may.may_load.Lts as lts
-use Rattle.session.proofs.state.Session.valid.Reads as valid-reads
 
 enum-told : tie.Need-enum-told
 enum-told c = search needs
@@ -33,11 +31,13 @@ valid-requires-3 c κs = search needs
 
 returns : tie.Need-returns
 unfolding phaseOf mayLoad
-returns c = state-yes mayLoad (c .before .before .before .args .s) _ (c .before .enum-told .given .1) refl _ (c .valid .ensures)
+returns c =
+    state-yes mayLoad (c .before .before .before .args .s) _ (c .before .enum-told .given .1) refl _ (c .valid .ensures)
 
 returns-2 : tie.Need-returns-2
 unfolding phaseOf mayLoad
-returns-2 c = state-yes mayLoad (c .before .before .before .args .s) _ (c .before .enum-told2 .given .1) refl _ (c .valid2 .ensures)
+returns-2 c =
+    state-yes mayLoad (c .before .before .before .args .s) _ (c .before .enum-told2 .given .1) refl _ (c .valid2 .ensures)
 
 returns-3 : tie.Need-returns-3
 unfolding phaseOf mayLoad
@@ -45,7 +45,8 @@ returns-3 c = state-no mayLoad (c .before .before .args .s) _ (c .enum-told3 .gi
 
 returns-4 : tie.Need-returns-4
 unfolding phaseOf mayLoad
-returns-4 c = state-yes mayLoad (c .before .before .before .args .s) _ (c .before .enum-told4 .given .1) refl _ (c .valid3 .ensures)
+returns-4 c =
+    state-yes mayLoad (c .before .before .before .args .s) _ (c .before .enum-told4 .given .1) refl _ (c .valid3 .ensures)
 
 pub may-load-spec : {M : Type 1} → statement M
 may-load-spec =

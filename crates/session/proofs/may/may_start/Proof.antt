@@ -1,14 +1,12 @@
+-- `session::may::may_start` meets its contract. Each state has its arm.
+-- Assumes nothing.
 use mathlib.Core.Path.{refl}
 use Rattle.book.specs.Calls.{mayStart}
 use Rattle.session.specs.Records.{phaseOf}
 use Rattle.session.proofs.CallLaws.{state-yes, state-no}
-use native.Mathlib.Omega.{arith}
 use borrow.Author.Needs.{needs}
 use Rattle.session.proofs.may.may_start.Statement.{statement}
 use Rattle.session.proofs.may.may_start.Tie as tie
-use Rattle.session.proofs.may.may_start.Reads as reads
-use Rattle.session.proofs.may.may_start.Lts as lts
-use Rattle.session.proofs.state.Session.valid.Reads as valid-reads
 
 enum-told : tie.Need-enum-told
 enum-told c = search needs
@@ -34,7 +32,8 @@ returns c = state-no mayStart (c .before .before .args .s) _ (c .enum-told .give
 
 returns-2 : tie.Need-returns-2
 unfolding phaseOf mayStart
-returns-2 c = state-yes mayStart (c .before .before .before .args .s) _ (c .before .enum-told2 .given .1) refl _ (c .valid .ensures)
+returns-2 c =
+    state-yes mayStart (c .before .before .before .args .s) _ (c .before .enum-told2 .given .1) refl _ (c .valid .ensures)
 
 returns-3 : tie.Need-returns-3
 unfolding phaseOf mayStart
@@ -42,7 +41,8 @@ returns-3 c = state-no mayStart (c .before .before .args .s) _ (c .enum-told3 .g
 
 returns-4 : tie.Need-returns-4
 unfolding phaseOf mayStart
-returns-4 c = state-yes mayStart (c .before .before .before .args .s) _ (c .before .enum-told4 .given .1) refl _ (c .valid2 .ensures)
+returns-4 c =
+    state-yes mayStart (c .before .before .before .args .s) _ (c .before .enum-told4 .given .1) refl _ (c .valid2 .ensures)
 
 pub may-start-spec : {M : Type 1} → statement M
 may-start-spec =

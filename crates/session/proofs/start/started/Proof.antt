@@ -1,11 +1,8 @@
-use native.Mathlib.Omega.{arith}
+-- `session::start::started` meets its contract. Its record is the definition's, field by field.
+-- Assumes nothing.
 use borrow.Author.Needs.{needs}
 use Rattle.session.proofs.start.started.Statement.{statement}
 use Rattle.session.proofs.start.started.Tie as tie
-use Rattle.session.proofs.start.started.Reads as reads
-use Rattle.session.proofs.start.started.Lts as lts
-use Rattle.session.proofs.fill.padded_labels.Reads as padded-labels-reads
-use Rattle.session.proofs.fill.padded_nodes.Reads as padded-nodes-reads
 
 padded-nodes-requires : tie.Need-padded-nodes-requires
 padded-nodes-requires c κs = search needs

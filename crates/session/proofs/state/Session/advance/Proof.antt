@@ -1,17 +1,13 @@
+-- `session::state::Session::advance` meets its contract. Each return cites the law of its answer.
+-- Assumes nothing.
 use Rattle.book.specs.Lends.{Lent}
 use Rattle.session.specs.Tests.{Shaped, lentOf}
 use Rattle.session.proofs.Shapes.{shaped}
-use Rattle.session.proofs.AdvanceLaws.{advance-1, advance-limits, advance-17, next-args, handle-args, advance-18, advance-yes}
-use native.Mathlib.Omega.{arith}
+use Rattle.session.proofs.AdvanceLaws.{advance-1, advance-limits, advance-17, next-args, handle-args, advance-18}
+use Rattle.session.proofs.AdvanceLaws.{advance-yes}
 use borrow.Author.Needs.{needs}
 use Rattle.session.proofs.state.Session.advance.Statement.{statement}
 use Rattle.session.proofs.state.Session.advance.Tie as tie
-use Rattle.session.proofs.state.Session.advance.Reads as reads
-use Rattle.session.proofs.state.Session.advance.Lts as lts
-use Rattle.questions.proofs.fits.lengths_fit.Reads as lengths-fit-reads
-use Rattle.session.proofs.advance.handled.Reads as handled-reads
-use Rattle.session.proofs.advance.next_part.Reads as next-part-reads
-use Rattle.session.proofs.may.is_running.Reads as is-running-reads
 
 shape : (c : tie.Start) → Shaped (c .args .self)
 shape c = shaped (c .args .self) (c .good .0)
@@ -50,7 +46,8 @@ returns-2 c =
     let k = c .before in
     let e = k .before .before .before .before in
     let m = e .before in
-    advance-17 (of m .args .self) (shape (of m)) (lent (of m)) _ (m .is-running .ensures) (e .if1 .left) _ (k .lengths-fit .ensures) (c .if2 .taken)
+    advance-17 (of m .args .self) (shape (of m)) (lent (of m)) _ (m .is-running .ensures) (e .if1 .left) _
+    (k .lengths-fit .ensures) (c .if2 .taken)
 
 next-part-requires : tie.Need-next-part-requires
 next-part-requires c κs =
@@ -69,7 +66,8 @@ handled-requires c κs =
     let k = t .before in
     let e = k .before .before .before .before in
     let m = e .before in
-    handle-args (of m .args .self) (shape (of m)) (lent (of m)) _ (m .is-running .ensures) (e .if1 .left) _ (k .lengths-fit .ensures) (t .if2 .left)
+    handle-args (of m .args .self) (shape (of m)) (lent (of m)) _ (m .is-running .ensures) (e .if1 .left) _
+    (k .lengths-fit .ensures) (t .if2 .left)
     _ (p .next-part .ensures) _ _ (c .before .q .given .1)
 
 returns-3 : tie.Need-returns-3
@@ -80,7 +78,8 @@ returns-3 c =
     let k = t .before in
     let e = k .before .before .before .before in
     let m = e .before in
-    advance-yes (of m .args .self) (shape (of m)) (lent (of m)) _ (m .is-running .ensures) (e .if1 .left) _ (k .lengths-fit .ensures) (t .if2 .left)
+    advance-yes (of m .args .self) (shape (of m)) (lent (of m)) _ (m .is-running .ensures) (e .if1 .left) _
+    (k .lengths-fit .ensures) (t .if2 .left)
     _ (p .next-part .ensures) _ _ (d .before .q .given .1) _ (c .handled .ensures)
 
 enum-told : tie.Need-enum-told
@@ -93,7 +92,8 @@ returns-4 c =
     let k = t .before in
     let e = k .before .before .before .before in
     let m = e .before in
-    advance-18 (of m .args .self) (shape (of m)) (lent (of m)) _ (m .is-running .ensures) (e .if1 .left) _ (k .lengths-fit .ensures) (t .if2 .left)
+    advance-18 (of m .args .self) (shape (of m)) (lent (of m)) _ (m .is-running .ensures) (e .if1 .left) _
+    (k .lengths-fit .ensures) (t .if2 .left)
     _ (p .next-part .ensures) (c .enum-told .given .1)
 
 pub advance-spec : {M : Type 1} → statement M

@@ -1,16 +1,12 @@
+-- `session::state::Session::load` meets its contract. Each return cites the law of its answer.
+-- Assumes nothing.
 use Rattle.book.specs.Lends.{Lent}
 use Rattle.session.specs.Tests.{Shaped, lentOf}
 use Rattle.session.proofs.Shapes.{shaped}
 use Rattle.session.proofs.LoadLaws.{load-1, load-headers, load-built, load-refused}
-use native.Mathlib.Omega.{arith}
 use borrow.Author.Needs.{needs}
 use Rattle.session.proofs.state.Session.load.Statement.{statement}
 use Rattle.session.proofs.state.Session.load.Tie as tie
-use Rattle.session.proofs.state.Session.load.Reads as reads
-use Rattle.session.proofs.state.Session.load.Lts as lts
-use Rattle.session.proofs.loaded.loaded_from.Reads as loaded-from-reads
-use Rattle.session.proofs.may.may_load.Reads as may-load-reads
-use Rattle.tables.proofs.build.build_rules.Reads as build-rules-reads
 
 shape : (c : tie.Start) → Shaped (c .args .self)
 shape c = shaped (c .args .self) (c .good .0)
@@ -40,7 +36,8 @@ loaded-from-requires c κs =
     let b = c .before .before .before .before .before .before in
     let e = b .before .before .before in
     let m = e .before in
-    load-headers (of m .args .self) (shape (of m)) (lent (of m)) _ (m .may-load .ensures) (e .if1 .left) _ _ _ (b .build-rules .ensures) (c .enum-told .given .1)
+    load-headers (of m .args .self) (shape (of m)) (lent (of m)) _ (m .may-load .ensures) (e .if1 .left) _ _ _
+    (b .build-rules .ensures) (c .enum-told .given .1)
 
 same-length : tie.Need-same-length
 same-length c = search needs
@@ -54,7 +51,8 @@ returns-2 c =
     let b = d .before .before .before .before .before .before in
     let e = b .before .before .before in
     let m = e .before in
-    load-built (of m .args .self) (shape (of m)) (lent (of m)) _ (m .may-load .ensures) (e .if1 .left) _ _ _ (b .build-rules .ensures) (d .enum-told .given .1) _ (c .loaded-from .ensures)
+    load-built (of m .args .self) (shape (of m)) (lent (of m)) _ (m .may-load .ensures) (e .if1 .left) _ _ _
+    (b .build-rules .ensures) (d .enum-told .given .1) _ (c .loaded-from .ensures)
 
 enum-known-n : tie.Need-enum-known-n
 enum-known-n c = search needs
@@ -71,7 +69,8 @@ returns-3 c =
     let b = d .before .before .before .before .before .before in
     let e = b .before .before .before in
     let m = e .before in
-    load-refused (of m .args .self) (shape (of m)) (lent (of m)) _ (m .may-load .ensures) (e .if1 .left) _ _ _ (b .build-rules .ensures) _ (d .n .given .1)
+    load-refused (of m .args .self) (shape (of m)) (lent (of m)) _ (m .may-load .ensures) (e .if1 .left) _ _ _
+    (b .build-rules .ensures) _ (d .n .given .1)
 
 pub load-spec : {M : Type 1} → statement M
 load-spec =

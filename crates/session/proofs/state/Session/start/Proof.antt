@@ -1,21 +1,17 @@
+-- `session::state::Session::start` meets its contract. Each return cites the law of its answer.
+-- Assumes nothing.
 use Prim.Native.Nat.{_*_}
 use mathlib.Core.Path.{sym}
 use lib.Seq.{length-take-le}
 use Rattle.book.specs.Lends.{Lent}
 use Rattle.session.specs.Tests.{Shaped, lentOf}
 use Rattle.session.proofs.Shapes.{shaped}
-use Rattle.session.proofs.StartLaws.{start-1, start-limits, start-17, start-room, start-list, start-listed, start-18, start-count, start-yes}
+use Rattle.session.proofs.StartLaws.{start-1, start-limits, start-17, start-room, start-list, start-listed, start-18}
+use Rattle.session.proofs.StartLaws.{start-count, start-yes}
 use native.Mathlib.Omega.{arith}
 use borrow.Author.Needs.{needs}
 use Rattle.session.proofs.state.Session.start.Statement.{statement}
 use Rattle.session.proofs.state.Session.start.Tie as tie
-use Rattle.session.proofs.state.Session.start.Reads as reads
-use Rattle.session.proofs.state.Session.start.Lts as lts
-use Rattle.formats.proofs.lists.check_list.Reads as check-list-reads
-use Rattle.questions.proofs.fits.lengths_fit.Reads as lengths-fit-reads
-use Rattle.questions.proofs.roots.roots.Reads as roots-reads
-use Rattle.session.proofs.may.may_start.Reads as may-start-reads
-use Rattle.session.proofs.start.started.Reads as started-reads
 
 shape : (c : tie.Start) → Shaped (c .args .self)
 shape c = shaped (c .args .self) (c .good .0)
@@ -32,7 +28,8 @@ may-start-requires c κs = search needs
 returns : tie.Need-returns
 returns c =
     let m = c .before in
-    start-1 (of m .args .self) (shape (of m)) (lent (of m)) (of m .args .nodes .now) (of m .args .labels .now) _ (m .may-start .ensures) (c .if1 .taken)
+    start-1 (of m .args .self) (shape (of m)) (lent (of m)) (of m .args .nodes .now) (of m .args .labels .now) _
+    (m .may-start .ensures) (c .if1 .taken)
 
 cast-n : tie.Need-cast-n
 cast-n c = search needs
@@ -47,14 +44,16 @@ lengths-fit-requires : tie.Need-lengths-fit-requires
 lengths-fit-requires c κs =
     let e = c .before .before .before in
     let m = e .before in
-    start-limits (of m .args .self) (shape (of m)) (lent (of m)) (of m .args .nodes .now) (of m .args .labels .now) _ (m .may-start .ensures) (e .if1 .left)
+    start-limits (of m .args .self) (shape (of m)) (lent (of m)) (of m .args .nodes .now) (of m .args .labels .now) _
+    (m .may-start .ensures) (e .if1 .left)
 
 returns-2 : tie.Need-returns-2
 returns-2 c =
     let k = c .before in
     let e = k .before .before .before .before in
     let m = e .before in
-    start-17 (of m .args .self) (shape (of m)) (lent (of m)) (of m .args .nodes .now) (of m .args .labels .now) _ (m .may-start .ensures)
+    start-17 (of m .args .self) (shape (of m)) (lent (of m)) (of m .args .nodes .now) (of m .args .labels .now) _
+    (m .may-start .ensures)
     (e .if1 .left) _ (k .lengths-fit .ensures) (c .if2 .taken)
 
 check-list-requires : tie.Need-check-list-requires
@@ -67,7 +66,8 @@ returns-3 c =
     let k = t .before in
     let e = k .before .before .before .before in
     let m = e .before in
-    start-list (of m .args .self) (shape (of m)) (lent (of m)) (of m .args .nodes .now) (of m .args .labels .now) _ (m .may-start .ensures)
+    start-list (of m .args .self) (shape (of m)) (lent (of m)) (of m .args .nodes .now) (of m .args .labels .now) _
+    (m .may-start .ensures)
     (e .if1 .left) _ (k .lengths-fit .ensures) (t .if2 .left) _ (l .check-list .ensures) (c .if3 .taken)
 
 mul-roots : tie.Need-mul-roots
@@ -94,8 +94,10 @@ returns-4 c =
     let k = t .before in
     let e = k .before .before .before .before in
     let m = e .before in
-    start-18 (of m .args .self) (shape (of m)) (lent (of m)) (of m .args .nodes .now) (of m .args .labels .now) _ (m .may-start .ensures)
-    (e .if1 .left) _ (k .lengths-fit .ensures) (t .if2 .left) _ (l .check-list .ensures) (u .if3 .left) _ (r .roots .ensures) (c .if4 .taken)
+    start-18 (of m .args .self) (shape (of m)) (lent (of m)) (of m .args .nodes .now) (of m .args .labels .now) _
+    (m .may-start .ensures)
+    (e .if1 .left) _ (k .lengths-fit .ensures) (t .if2 .left) _ (l .check-list .ensures) (u .if3 .left) _ (r .roots .ensures)
+    (c .if4 .taken)
 
 cast-count : tie.Need-cast-count
 cast-count c =
@@ -109,8 +111,10 @@ cast-count c =
     let m = e .before in
     omega (
       arith,
-      start-count (of m .args .self) (shape (of m)) (lent (of m)) (of m .args .nodes .now) (of m .args .labels .now) _ (m .may-start .ensures)
-          (e .if1 .left) _ (k .lengths-fit .ensures) (t .if2 .left) _ (l .check-list .ensures) (u .if3 .left) _ (r .roots .ensures) (w .if4 .left),
+      start-count (of m .args .self) (shape (of m)) (lent (of m)) (of m .args .nodes .now) (of m .args .labels .now) _
+          (m .may-start .ensures)
+          (e .if1 .left) _ (k .lengths-fit .ensures) (t .if2 .left) _ (l .check-list .ensures) (u .if3 .left) _
+          (r .roots .ensures) (w .if4 .left),
     )
 
 started-requires : tie.Need-started-requires
@@ -123,7 +127,8 @@ started-requires c κs =
     let k = t .before in
     let e = k .before .before .before .before in
     let m = e .before in
-    start-listed (of m .args .self) (shape (of m)) (lent (of m)) (of m .args .nodes .now) (of m .args .labels .now) _ (m .may-start .ensures)
+    start-listed (of m .args .self) (shape (of m)) (lent (of m)) (of m .args .nodes .now) (of m .args .labels .now) _
+    (m .may-start .ensures)
     (e .if1 .left) _ (k .lengths-fit .ensures) (t .if2 .left) _ (l .check-list .ensures) (u .if3 .left)
 
 returns-5 : tie.Need-returns-5
@@ -136,8 +141,10 @@ returns-5 c =
     let k = t .before in
     let e = k .before .before .before .before in
     let m = e .before in
-    start-yes (of m .args .self) (shape (of m)) (lent (of m)) (of m .args .nodes .now) (of m .args .labels .now) _ (m .may-start .ensures)
-    (e .if1 .left) _ (k .lengths-fit .ensures) (t .if2 .left) _ (l .check-list .ensures) (u .if3 .left) _ (r .roots .ensures) (w .if4 .left)
+    start-yes (of m .args .self) (shape (of m)) (lent (of m)) (of m .args .nodes .now) (of m .args .labels .now) _
+    (m .may-start .ensures)
+    (e .if1 .left) _ (k .lengths-fit .ensures) (t .if2 .left) _ (l .check-list .ensures) (u .if3 .left) _ (r .roots .ensures)
+    (w .if4 .left)
     _ (c .started .ensures)
 
 pub start-spec : {M : Type 1} → statement M
