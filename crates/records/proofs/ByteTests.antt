@@ -21,9 +21,8 @@ use Rattle.formats.specs.Bytes.{le32}
 use Rattle.session.specs.declared.state.Phase.{Phase}
 use Rattle.session.specs.declared.state.Session.{Session}
 use Rattle.session.specs.Records.{valid}
-use Rattle.session.proofs.Shapes.{Shaped}
 use Rattle.records.proofs.NumberLaws.{bytes16-length}
-use Rattle.records.specs.Layout.{le16, numbers16, bytes16, phaseByte, phaseAt, yesByte, headBytes, run, encoded, decoded, laidOut, validBytes}
+use Rattle.records.specs.Layout.{le16, numbers16, bytes16, phaseByte, phaseAt, yesByte, headBytes, run, encoded, decoded, laidOut, validBytes, InTypes}
 
 module _ (b : List ℕ) where
   pub laid-short : (length b ≡ 967 → ⊥) → false ≡ laidOut b
@@ -82,15 +81,15 @@ joined p q a b e f = rw (length-append, e, f)
 regrouped : (h n l r t : List ℕ) → (((h ++ n) ++ l) ++ r) ++ t ≡ h ++ (n ++ (l ++ (r ++ t)))
 regrouped h n l r t = simp append-assoc
 
-pub record-written : (o : List ℕ) (s : Session) (h n l r t : List ℕ) → length o ≡ 967 → Shaped s → h ≡ headBytes s
+pub record-written : (o : List ℕ) (s : Session) (h n l r t : List ℕ) → length o ≡ 967 → InTypes s → h ≡ headBytes s
     → n ≡ bytes16 (s .nodes) → l ≡ s .labels → r ≡ bytes16 (s .roots) → t ≡ s .states
     → put 713 254 (put 205 508 (put 141 64 (put 13 128 (h ++ drop 13 o) n) l) r) t ≡ encoded s
 unfolding encoded
 record-written o s h n l r t e z eh en el er et =
     let lh : length h ≡ 13 = ap length eh in
-    let ln : length n ≡ 128 = ap length en ∙ (bytes16-length (s .nodes) ∙ ap (λ (k : ℕ). 2 * k) (z .nodes)) in
-    let ll : length l ≡ 64 = ap length el ∙ z .labels in
-    let lr : length r ≡ 508 = ap length er ∙ (bytes16-length (s .roots) ∙ ap (λ (k : ℕ). 2 * k) (z .roots)) in
+    let ln : length n ≡ 128 = ap length en ∙ (bytes16-length (s .nodes) ∙ ap (λ (k : ℕ). 2 * k) (z .nodes-length)) in
+    let ll : length l ≡ 64 = ap length el ∙ z .labels-length in
+    let lr : length r ≡ 508 = ap length er ∙ (bytes16-length (s .roots) ∙ ap (λ (k : ℕ). 2 * k) (z .roots-length)) in
     let x₁ = part-written (h ++ drop 13 o) h o n 13 128 refl lh in
     let x₂ = part-written (put 13 128 (h ++ drop 13 o) n) (h ++ n) o l 141 64 x₁ (joined h n 13 128 lh ln) in
     let l₂ = joined (h ++ n) l 141 64 (joined h n 13 128 lh ln) ll in

@@ -18,7 +18,7 @@
 -- le16 b at, le16Bytes n == a 16-bit number in bytes, as le32 and le32Bytes (crate formats)
 -- numbers16 b == the 16-bit numbers that b holds, two bytes each; an odd byte at the end is left out
 -- bytes16 l == the bytes of the numbers l, two each
--- encoded s == the bytes of a struct
+-- encoded s == the bytes of a struct: headBytes s, the first 13, and restBytes s
 -- decoded b == the struct of bytes, each field read at its offset; a byte past the end counts 0, a state above 3 as answered, and
 --   only 1 as yes
 -- laidOut b == whether there are 967 bytes, the state is at most 3 and the yes or no at most 1
@@ -83,8 +83,11 @@ headBytes s =
     phaseByte (s .phase) ∷ yesByte (s .yes) ∷ s .s ∷ s .k
     ∷ (le16Bytes (s .n) ++ (s .m ∷ s .parts ∷ s .handled ∷ le32Bytes (s .links)))
 
+abbrev pub restBytes : Session → List ℕ
+restBytes s = bytes16 (s .nodes) ++ (s .labels ++ (bytes16 (s .roots) ++ s .states))
+
 unfoldable pub encoded : Session → List ℕ
-encoded s = headBytes s ++ (bytes16 (s .nodes) ++ (s .labels ++ (bytes16 (s .roots) ++ s .states)))
+encoded s = headBytes s ++ restBytes s
 
 -- ---- the bytes' struct
 

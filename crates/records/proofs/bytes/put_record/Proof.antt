@@ -1,7 +1,7 @@
 use native.Mathlib.Omega.{arith}
 use mathlib.Core.Path.{sym}
 use lib.Seq.{length-take-le}
-use Rattle.session.proofs.Shapes.{shaped}
+use Rattle.records.proofs.Types.{in-types}
 use Rattle.records.proofs.ByteTests.{record-written}
 use borrow.Author.Needs.{needs}
 use Rattle.records.proofs.bytes.put_record.Statement.{statement}
@@ -76,7 +76,7 @@ returns : tie.Need-returns
 returns c =
     let a = c .before .before .before .before .before .before .before .before .before .before .before .before .before .before .before .before .before .before .before .before .before .before .before .before .before .before .before .before .before .before .before .before .before in
     let h = c .before .before .before .before .before .before .before .before .before .before .before .before .before .before .before .before .before .before .before .before .before .before .before .before .before .before .before .before .before .before in
-    record-written (a .args .out .now) (a .args .t1) _ _ _ _ _ (a .pre) (shaped (a .args .t1) (a .good .0)) (h .put-head .ensures)
+    record-written (a .args .out .now) (a .args .t1) _ _ _ _ _ (a .pre) (in-types (a .args .t1) (a .good .0)) (h .put-head .ensures)
     (c .before .before .before .before .before .before .before .before .before .before .before .before .before .before .before .before .before .before .before .before .before .before .before .put-numbers .ensures) (c .before .before .before .before .before .before .before .before .before .before .before .before .before .before .before .before .copy-bytes .ensures) (c .before .before .before .before .before .before .before .before .before .put-numbers2 .ensures) (c .before .before .copy-bytes2 .ensures)
 
 pub put-record-spec : {M : Type 1} → statement M
