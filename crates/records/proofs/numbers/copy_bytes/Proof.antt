@@ -35,7 +35,8 @@ loop-again : tie.Need-loop-again Inv-loop μ-loop
 loop-again c =
     let l = c .before .before .loop in
     let a = c .before .before .before .args in
-    (search needs, simp length-set (omega arith), copy-turn (a .bytes .now) (a .out .now) (l .out) (l .i) (omega arith) (omega arith) (l .inv .2))
+    let e = copy-turn (a .bytes .now) (a .out .now) (l .out) (l .i) (omega arith) (omega arith) (l .inv .2) in
+    (search needs, simp length-set (omega arith), e)
 
 same-length : tie.Need-same-length Inv-loop μ-loop
 same-length c = search needs

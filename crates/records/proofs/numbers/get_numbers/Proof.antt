@@ -47,7 +47,8 @@ loop-again c =
     let a = c .before .before .before .before .before .args in (
       search needs,
       simp length-set (omega arith),
-      get-turn (a .bytes .now) (a .out .now) (l .out) (l .i) (c .number16 .result) (omega arith) (omega arith) (c .number16 .ensures) (l .inv .2),
+      get-turn (a .bytes .now) (a .out .now) (l .out) (l .i) (c .number16 .result) (omega arith) (omega arith)
+          (c .number16 .ensures) (l .inv .2),
     )
 
 same-length : tie.Need-same-length Inv-loop μ-loop
