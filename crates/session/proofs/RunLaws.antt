@@ -1,6 +1,6 @@
 -- One turn, and the end, of the test of a rising run.
 -- Assumes nothing.
-use Prim.Native.Nat.{ℕ, _+_, _-_, _≤_, _<_}
+use Prim.Native.Nat.{ℕ, _+_, _≤_, _<_}
 use mathlib.Core.Path.{_≡_, refl, sym, ap, _∙_}
 use mathlib.Core.Bool.{Bool, true, false, _&&_}
 use mathlib.Core.List.{List, [], _∷_}
@@ -31,7 +31,8 @@ module _ (last : ℕ) (l : List ℕ) (i j : ℕ) (e : i ≡ j + 1) where
   pub rises-end : (b : Bool) → i ≤ length l → length l ≤ i → (b && risesTo last (drop j l)) ≡ (b && eqb (getD l j 0) last)
   unfolding risesTo
   rises-end b g h =
-      ap (λ (t : List ℕ). b && risesTo last t) (from l j i e (omega arith) ∙ ap (λ (t : List ℕ). getD l j 0 ∷ t) (drop-of-length-le l h))
+      ap (λ (t : List ℕ). b && risesTo last t)
+      (from l j i e (omega arith) ∙ ap (λ (t : List ℕ). getD l j 0 ∷ t) (drop-of-length-le l h))
 
 pub rises-none : (last : ℕ) (l : List ℕ) → length l ≡ 0 → risesTo last l ≡ false
 unfolding risesTo

@@ -1,9 +1,9 @@
 -- The tests of a struct as the code makes them, against their definitions.
 -- Assumes nothing.
-use Prim.Native.Nat.{ℕ, _+_, _-_, _*_, _≤_, _<_}
+use Prim.Native.Nat.{ℕ, _-_, _*_, _≤_, _<_}
 use mathlib.Core.Path.{_≡_, refl, sym, ap, _∙_}
 use mathlib.Core.Bool.{Bool, true, false, not, _&&_}
-use mathlib.Core.List.{List, [], _∷_}
+use mathlib.Core.List.{List}
 use native.Mathlib.Omega.{arith}
 use lib.Dec.{leb, ltb, eqb}
 use lib.ListN.{length, take, drop, length-drop}
@@ -11,12 +11,11 @@ use lib.Seq.{take-all}
 use borrow.Author.Tests.{le-leb, lt-leb, le-ltb, lt-ltb, eq-eqb, ne-eqb, leb-true, not-true, not-false}
 use Rattle.formats.specs.Bytes.{allBelow}
 use Rattle.session.specs.declared.state.Session.{Session}
-use Rattle.formats.proofs.CheckLaws.{and-left, and-right, and-no-right}
+use Rattle.formats.proofs.CheckLaws.{and-left, and-no-right}
 use Rattle.session.specs.declared.state.Phase.{Phase}
 use Rattle.session.specs.declared.state.Phase.the-variants.{Empty, Loaded, Running, Answered}
 use Rattle.session.specs.Records.{sizesFit, noQuestion, listFits, partsFit, zeroFrom, risesTo, validIn, valid}
-use Rattle.session.specs.Tests.{Parted}
-use Rattle.session.proofs.Shapes.{Shaped}
+use Rattle.session.specs.Tests.{Parted, Shaped}
 use Rattle.session.proofs.RunLaws.{and-assoc}
 
 and-yes : (a : Bool) → (a && true) ≡ a
@@ -35,7 +34,8 @@ unfolding sizesFit
 sizes-test s h =
     rw (le-leb (s .n) 65535 h) (five (ltb 0 (s .n)) (ltb 0 (s .s)) (leb (s .s) 16) (ltb 0 (s .k)) (leb (s .k) 64))
 
-pub question-test : (s : Session) (a b c d : Bool) → a ≡ allBelow 1 (s .nodes) → b ≡ allBelow 1 (s .labels) → c ≡ allBelow 1 (s .roots)
+pub question-test : (s : Session) (a b c d : Bool) → a ≡ allBelow 1 (s .nodes) → b ≡ allBelow 1 (s .labels)
+    → c ≡ allBelow 1 (s .roots)
     → d ≡ allBelow 1 (s .states)
     → (not (s .yes) && eqb (s .m) 0 && eqb (s .parts) 0 && eqb (s .handled) 0 && eqb (s .links) 0 && a && b && c && d) ≡ noQuestion s
 unfolding noQuestion zeroFrom
@@ -55,7 +55,8 @@ module _ (s : Session) where
       → d ≡ allBelow 1 (take (64 - s .m) (drop (s .m) (s .labels))) → (a && b && c && d) ≡ listFits s
   unfolding listFits zeroFrom
   list-test z h a b c d e f g i =
-      rw (le-leb (s .m) 64 h, e, f, g, i, rest (s .nodes) 64 (s .m) (z .nodes), rest (s .labels) 64 (s .m) (z .labels)) (simp and-assoc)
+      rw (le-leb (s .m) 64 h, e, f, g, i, rest (s .nodes) 64 (s .m) (z .nodes), rest (s .labels) 64 (s .m) (z .labels))
+      (simp and-assoc)
 
   pub parts-none : s .parts < 1 → false ≡ partsFit s
   unfolding partsFit
@@ -66,8 +67,10 @@ module _ (s : Session) where
   parts-many h = rw (lt-leb (s .parts) 254 h, le-leb 1 (s .parts) (omega arith))
 
   pub parts-test : Shaped s → 1 ≤ s .parts → s .parts ≤ 254 → (a b c d : Bool)
-      → a ≡ risesTo (s .n - 1) (take (s .parts) (s .roots)) → b ≡ allBelow 1 (take (254 - s .parts) (drop (s .parts) (s .roots)))
-      → c ≡ allBelow (s .s) (take (s .handled) (s .states)) → d ≡ allBelow 1 (take (254 - s .handled) (drop (s .handled) (s .states)))
+      → a ≡ risesTo (s .n - 1) (take (s .parts) (s .roots))
+      → b ≡ allBelow 1 (take (254 - s .parts) (drop (s .parts) (s .roots)))
+      → c ≡ allBelow (s .s) (take (s .handled) (s .states))
+      → d ≡ allBelow 1 (take (254 - s .handled) (drop (s .handled) (s .states)))
       → (a && b && (c && d) && leb (s .links) (65535 * s .handled)) ≡ partsFit s
   unfolding partsFit zeroFrom
   parts-test z g h a b c d e f i j =
@@ -103,11 +106,13 @@ module _ (s : Session) where
   answered-counts h =
       sym (and-no-right (sizesFit s) _ (and-no-right (listFits s) _ (and-no-right (partsFit s) _ (ne-eqb (s .handled) (s .parts) h))))
 
-  module _ (b : Bool) (sizes : b ≡ sizesFit s) (yes : not b ≡ false) (c d : Bool) (list : c ≡ listFits s) (parts : d ≡ partsFit s) where
+  module _ (b : Bool) (sizes : b ≡ sizesFit s) (yes : not b ≡ false) (c d : Bool) (list : c ≡ listFits s)
+      (parts : d ≡ partsFit s) where
     pub running-test : s .handled < s .parts → (c && d && not (s .yes)) ≡ validIn Running s
     unfolding validIn
     running-test h =
-        rw (← sizes, not-false b yes, list, parts, lt-ltb (s .handled) (s .parts) h) (and-assoc (listFits s) (partsFit s) (not (s .yes)))
+        rw (← sizes, not-false b yes, list, parts, lt-ltb (s .handled) (s .parts) h)
+        (and-assoc (listFits s) (partsFit s) (not (s .yes)))
 
     pub answered-test : s .handled ≡ s .parts → (c && d) ≡ validIn Answered s
     unfolding validIn

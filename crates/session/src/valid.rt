@@ -1,6 +1,6 @@
 // Whether a struct can be a session's: the conditions of docs/LAYOUT.md, by the state that it is in.
-use crate::runs::below;
-use crate::runs::rises_to;
+use crate::lists::below;
+use crate::lists::rises_to;
 use crate::state::Phase;
 use crate::state::Session;
 use formats::limits::CHANGE_LIMIT;

@@ -1,13 +1,13 @@
+-- `session::state::Session::answered_fits` meets its contract. Each test is one of the definition's.
+-- Assumes nothing.
 use Rattle.session.proofs.ValidLaws.{parted, answered-sizes, answered-counts, answered-test}
 use native.Mathlib.Omega.{arith}
 use borrow.Author.Needs.{needs}
 use Rattle.session.proofs.state.Session.answered_fits.Statement.{statement}
 use Rattle.session.proofs.state.Session.answered_fits.Tie as tie
-use Rattle.session.proofs.state.Session.answered_fits.Reads as reads
-use Rattle.session.proofs.state.Session.answered_fits.Lts as lts
-use Rattle.session.proofs.state.Session.list_fits.Reads as list-fits-reads
-use Rattle.session.proofs.state.Session.parts_fit.Reads as parts-fit-reads
-use Rattle.session.proofs.state.Session.sizes_fit.Reads as sizes-fit-reads
+
+abbrev of : tie.Else1 → tie.Start
+of a = a .before .before
 
 sizes-fit-requires : tie.Need-sizes-fit-requires
 sizes-fit-requires c κs = search needs
@@ -22,12 +22,17 @@ list-fits-requires : tie.Need-list-fits-requires
 list-fits-requires c κs = search needs
 
 parts-fit-requires : tie.Need-parts-fit-requires
-parts-fit-requires c κs = parted (c .before .before .before .before .before .args .self) _ (c .before .before .before .before .sizes-fit .ensures) (c .before .before .before .if1 .left) (omega arith)
+parts-fit-requires c κs =
+    let e = c .before .before .before in
+    parted (of e .args .self) _ (e .before .sizes-fit .ensures) (e .if1 .left) (omega arith)
 
 returns-3 : tie.Need-returns-3
 returns-3 c =
-    answered-test (c .before .before .before .before .before .before .args .self) _ (c .before .before .before .before .before .sizes-fit .ensures) (c .before .before .before .before .if1 .left) _ _ (c .before .list-fits .ensures)
-    (c .parts-fit .ensures) (omega arith)
+    let l = c .before in
+    let e = l .before .before .before in
+    answered-test (of e .args .self) _ (e .before .sizes-fit .ensures) (e .if1 .left) _ _ (l .list-fits .ensures)
+    (c .parts-fit .ensures)
+    (omega arith)
 
 pub answered-fits-spec : {M : Type 1} → statement M
 answered-fits-spec =

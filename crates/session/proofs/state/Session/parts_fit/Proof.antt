@@ -1,19 +1,19 @@
-use Rattle.session.proofs.Shapes.{Shaped, shaped}
-use mathlib.Core.Path.{sym}
-use lib.Seq.{length-take-le}
+-- `session::state::Session::parts_fit` meets its contract. Each test is one of the definition's.
+-- Assumes nothing.
+use Rattle.session.proofs.PadLaws.{take-long}
+use Rattle.session.specs.Tests.{Shaped}
+use Rattle.session.proofs.Shapes.{shaped}
 use Rattle.session.proofs.ValidLaws.{parts-none, parts-many, parts-test}
 use native.Mathlib.Omega.{arith}
 use borrow.Author.Needs.{needs}
 use Rattle.session.proofs.state.Session.parts_fit.Statement.{statement}
 use Rattle.session.proofs.state.Session.parts_fit.Tie as tie
-use Rattle.session.proofs.state.Session.parts_fit.Reads as reads
-use Rattle.session.proofs.state.Session.parts_fit.Lts as lts
-use Rattle.formats.proofs.rules.all_below.Reads as all-below-reads
-use Rattle.session.proofs.runs.below.Reads as below-reads
-use Rattle.session.proofs.runs.rises_to.Reads as rises-to-reads
 
 shape : (c : tie.Start) → Shaped (c .args .self)
 shape c = shaped (c .args .self) (c .good .0)
+
+abbrev of : tie.Else2 → tie.Start
+of a = a .before .before .before .before .before .before
 
 cast-p : tie.Need-cast-p
 cast-p c = search needs
@@ -31,11 +31,12 @@ sub-rises-to : tie.Need-sub-rises-to
 sub-rises-to c = search needs
 
 array-share-prefix-roots : tie.Need-array-share-prefix-roots
-array-share-prefix-roots c = omega (arith, shape (c .before .before .before .before .before .before .before) .roots)
+array-share-prefix-roots c = omega (arith, shape (of (c .before)) .roots)
 
 slice-aggregate-rises-to : tie.Need-slice-aggregate-rises-to
-slice-aggregate-rises-to c = let h = shape (c .before .before .before .before .before .before .before .before) .roots in
-    sym (length-take-le (c .before .before .before .before .before .before .before .before .args .self .parts) (c .before .before .before .before .before .before .before .before .args .self .roots) (omega arith))
+slice-aggregate-rises-to c =
+    let e = c .before .before in
+    take-long 254 (of e .args .self .parts) (of e .args .self .roots) (shape (of e) .roots) (omega arith)
 
 rises-to-requires : tie.Need-rises-to-requires
 rises-to-requires c κs = search needs
@@ -47,17 +48,18 @@ part-below-start : tie.Need-part-below-start
 part-below-start c = search needs
 
 part-below-end : tie.Need-part-below-end
-part-below-end c = omega (arith, shape (c .before .before .before .before .before .before .before .before .before .before) .roots)
+part-below-end c = omega (arith, shape (of (c .before .before .before .before)) .roots)
 
 below-requires : tie.Need-below-requires
 below-requires c κs = search needs
 
 array-share-prefix-states : tie.Need-array-share-prefix-states
-array-share-prefix-states c = omega (arith, shape (c .before .before .before .before .before .before .before .before .before .before .before .before) .states)
+array-share-prefix-states c = omega (arith, shape (of (c .before .before .before .before .before .before)) .states)
 
 slice-aggregate-all-below : tie.Need-slice-aggregate-all-below
-slice-aggregate-all-below c = let h = shape (c .before .before .before .before .before .before .before .before .before .before .before .before .before) .states in
-    sym (length-take-le (c .before .before .before .before .before .before .before .before .before .before .before .before .before .args .self .handled) (c .before .before .before .before .before .before .before .before .before .before .before .before .before .args .self .states) (omega arith))
+slice-aggregate-all-below c =
+    let e = c .before .before .before .before .before .before .before in
+    take-long 254 (of e .args .self .handled) (of e .args .self .states) (shape (of e) .states) (omega arith)
 
 all-below-requires : tie.Need-all-below-requires
 all-below-requires c κs = search needs
@@ -69,7 +71,8 @@ part-all-below-start : tie.Need-part-all-below-start
 part-all-below-start c = search needs
 
 part-all-below-end : tie.Need-part-all-below-end
-part-all-below-end c = omega (arith, shape (c .before .before .before .before .before .before .before .before .before .before .before .before .before .before .before) .states)
+part-all-below-end c =
+    omega (arith, shape (of (c .before .before .before .before .before .before .before .before .before)) .states)
 
 all-below-requires-2 : tie.Need-all-below-requires-2
 all-below-requires-2 c κs = search needs
@@ -82,8 +85,14 @@ mul-result c = search needs
 
 returns-3 : tie.Need-returns-3
 returns-3 c =
-    parts-test (c .before .before .before .before .before .before .before .before .before .before .before .before .before .before .before .before .before .before .before .args .self) (shape (c .before .before .before .before .before .before .before .before .before .before .before .before .before .before .before .before .before .before .before)) (omega arith) (omega arith) _ _ _ _ (c .before .before .before .before .before .before .before .before .before .before .rises-to .ensures) (c .before .before .before .before .before .before .before .below .ensures)
-    (c .before .before .before .before .before .all-below .ensures) (c .before .before .all-below2 .ensures)
+    let d = c .before .before in
+    let a = d .before .before .before in
+    let b = a .before .before in
+    let r = b .before .before .before in
+    let e = r .before .before .before in
+    parts-test (of e .args .self) (shape (of e)) (omega arith) (omega arith) _ _ _ _ (r .rises-to .ensures)
+    (b .below .ensures)
+    (a .all-below .ensures) (d .all-below2 .ensures)
 
 pub parts-fit-spec : {M : Type 1} → statement M
 parts-fit-spec =

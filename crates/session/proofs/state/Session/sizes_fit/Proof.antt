@@ -1,10 +1,10 @@
+-- `session::state::Session::sizes_fit` meets its contract. A 16-bit N is at most its limit.
+-- Assumes nothing.
 use Rattle.session.proofs.ValidLaws.{sizes-test}
 use native.Mathlib.Omega.{arith}
 use borrow.Author.Needs.{needs}
 use Rattle.session.proofs.state.Session.sizes_fit.Statement.{statement}
 use Rattle.session.proofs.state.Session.sizes_fit.Tie as tie
-use Rattle.session.proofs.state.Session.sizes_fit.Reads as reads
-use Rattle.session.proofs.state.Session.sizes_fit.Lts as lts
 
 cast-result : tie.Need-cast-result
 cast-result c = search needs

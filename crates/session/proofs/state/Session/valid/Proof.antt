@@ -1,14 +1,9 @@
+-- `session::state::Session::valid` meets its contract. Each state has its arm.
+-- Assumes nothing.
 use Rattle.session.proofs.ValidLaws.{empty-test, loaded-test, phase-test}
-use native.Mathlib.Omega.{arith}
 use borrow.Author.Needs.{needs}
 use Rattle.session.proofs.state.Session.valid.Statement.{statement}
 use Rattle.session.proofs.state.Session.valid.Tie as tie
-use Rattle.session.proofs.state.Session.valid.Reads as reads
-use Rattle.session.proofs.state.Session.valid.Lts as lts
-use Rattle.session.proofs.state.Session.answered_fits.Reads as answered-fits-reads
-use Rattle.session.proofs.state.Session.no_question.Reads as no-question-reads
-use Rattle.session.proofs.state.Session.running_fits.Reads as running-fits-reads
-use Rattle.session.proofs.state.Session.sizes_fit.Reads as sizes-fit-reads
 
 enum-told : tie.Need-enum-told
 enum-told c = search needs
@@ -39,19 +34,23 @@ answered-fits-requires c κs = search needs
 
 returns : tie.Need-returns
 returns c =
-    phase-test (c .before .before .before .before .before .before .args .self) _ _
-    (empty-test (c .before .before .before .before .before .before .args .self) _ (c .no-question .ensures)) (c .before .before .before .before .enum-told .given .1)
+    let e = c .before .before .before .before in
+    let s = e .before .before .args .self in
+    phase-test s _ _ (empty-test s _ (c .no-question .ensures)) (e .enum-told .given .1)
 
 returns-2 : tie.Need-returns-2
 returns-2 c =
-    phase-test (c .before .before .before .before .args .self) _ _
-    (loaded-test (c .before .before .before .before .args .self) _ _ (c .before .sizes-fit .ensures) (c .no-question2 .ensures)) (c .before .before .enum-told2 .given .1)
+    let e = c .before .before in
+    let s = e .before .before .args .self in
+    phase-test s _ _ (loaded-test s _ _ (c .before .sizes-fit .ensures) (c .no-question2 .ensures)) (e .enum-told2 .given .1)
 
 returns-3 : tie.Need-returns-3
-returns-3 c = phase-test (c .before .before .before .args .self) _ _ (c .running-fits .ensures) (c .before .enum-told3 .given .1)
+returns-3 c =
+    phase-test (c .before .before .before .args .self) _ _ (c .running-fits .ensures) (c .before .enum-told3 .given .1)
 
 returns-4 : tie.Need-returns-4
-returns-4 c = phase-test (c .before .before .before .args .self) _ _ (c .answered-fits .ensures) (c .before .enum-told4 .given .1)
+returns-4 c =
+    phase-test (c .before .before .before .args .self) _ _ (c .answered-fits .ensures) (c .before .enum-told4 .given .1)
 
 pub valid-spec : {M : Type 1} → statement M
 valid-spec =

@@ -1,4 +1,4 @@
-// Tests of runs of numbers. There is no early exit: the loops can be done many numbers at a time.
+// Tests of lists of numbers. There is no early exit: the loops can be done many numbers at a time.
 ghost use mathlib.Core.Path.{_≡_};
 ghost use Rattle.formats.specs.Bytes.{allBelow};
 ghost use Rattle.session.specs.Records.{risesTo};

@@ -1,3 +1,6 @@
+-- `session::lists::rises_to` meets its contract. The loop's invariant: the running answer and that of the run from the
+-- number before make the answer for all.
+-- Assumes nothing.
 use Prim.Native.Nat.{_+_, _-_, _≤_}
 use mathlib.Core.Path.{_≡_, refl, sym, _∙_}
 use mathlib.Core.Bool.{_&&_}
@@ -6,10 +9,8 @@ use Rattle.session.specs.Records.{risesTo}
 use Rattle.session.proofs.RunLaws.{rises-turn, rises-end, rises-none}
 use native.Mathlib.Omega.{arith}
 use borrow.Author.Needs.{needs}
-use Rattle.session.proofs.runs.rises_to.Statement.{statement}
-use Rattle.session.proofs.runs.rises_to.Tie as tie
-use Rattle.session.proofs.runs.rises_to.Reads as reads
-use Rattle.session.proofs.runs.rises_to.Lts as lts
+use Rattle.session.proofs.lists.rises_to.Statement.{statement}
+use Rattle.session.proofs.lists.rises_to.Tie as tie
 
 abbrev Inv-loop : tie.InvT-loop
 Inv-loop last xs ok₀ i₀ ok i =
@@ -70,7 +71,8 @@ returns-2 : tie.Need-returns-2 Inv-loop μ-loop
 returns-2 c =
     let l = c .before .before .loop in
     let a = c .before .before .before .before .args in
-    sym (rises-end (a .last) (a .xs .now) (l .i) (l .i - 1) (omega arith) (l .ok) (omega arith) (c .before .loop-test .left)) ∙ l .inv .1 .1
+    sym (rises-end (a .last) (a .xs .now) (l .i) (l .i - 1) (omega arith) (l .ok) (omega arith) (c .before .loop-test .left))
+    ∙ l .inv .1 .1
 
 pub rises-to-spec : {M : Type 1} → statement M
 rises-to-spec =

@@ -1,3 +1,6 @@
+-- `session::lists::below` meets its contract. The loop's invariant: the running answer and that of the numbers to come make
+-- the answer for all.
+-- Assumes nothing.
 use Prim.Native.Nat.{_-_, _≤_}
 use mathlib.Core.Path.{_≡_, refl, sym, _∙_}
 use mathlib.Core.Bool.{_&&_}
@@ -6,10 +9,8 @@ use Rattle.formats.specs.Bytes.{allBelow}
 use Rattle.formats.proofs.TurnLaws.{below-turn, below-end}
 use native.Mathlib.Omega.{arith}
 use borrow.Author.Needs.{needs}
-use Rattle.session.proofs.runs.below.Statement.{statement}
-use Rattle.session.proofs.runs.below.Tie as tie
-use Rattle.session.proofs.runs.below.Reads as reads
-use Rattle.session.proofs.runs.below.Lts as lts
+use Rattle.session.proofs.lists.below.Statement.{statement}
+use Rattle.session.proofs.lists.below.Tie as tie
 
 abbrev Inv-loop : tie.InvT-loop
 Inv-loop xs bound ok₀ i₀ ok i = (i ≤ length xs) × ((ok && allBelow bound (drop i xs)) ≡ allBelow bound xs)
