@@ -1,6 +1,6 @@
 -- The record's bytes and the bytes' record are each other's.
 --     decode-encode       the struct of a struct's bytes is the struct, whatever its types allow
---     encode-decode       the bytes of a record's struct are the record
+--     encode-decode       the bytes of the struct of a record are the record; encode-laid: of any bytes that are laid out
 --     encoded-length      967 bytes, each below 256 (encoded-bytes)
 --     fresh-bytes         a fresh session's bytes are 967 zeros, and fresh-valid: they are a record
 --     encoded-valid       the bytes of a valid struct are a record
@@ -164,7 +164,7 @@ module _ (b : List ℕ) where
         )
         (run-then b 13 128)
 
-    encode-laid : laidOut b ≡ true → encoded (decoded b) ≡ b
+    pub encode-laid : laidOut b ≡ true → encoded (decoded b) ≡ b
     unfolding laidOut encoded
     encode-laid e =
         let q = and-right (eqb (length b) 967) (leb (getD b 0 0) 3 && leb (getD b 1 0) 1) e in

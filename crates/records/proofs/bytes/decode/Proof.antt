@@ -1,4 +1,3 @@
-use native.Mathlib.Omega.{arith}
 use Rattle.records.proofs.ByteTests.{record-read}
 use borrow.Author.Needs.{needs}
 use Rattle.records.proofs.bytes.decode.Statement.{statement}

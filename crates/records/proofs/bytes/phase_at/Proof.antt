@@ -1,6 +1,4 @@
 use borrow.Author.Tests.{eq-eqb, ne-eqb}
-use native.Mathlib.Omega.{arith}
-use borrow.Author.Needs.{needs}
 use Rattle.records.proofs.bytes.phase_at.Statement.{statement}
 use Rattle.records.proofs.bytes.phase_at.Tie as tie
 use Rattle.records.proofs.bytes.phase_at.Reads as reads

@@ -1,4 +1,3 @@
-use native.Mathlib.Omega.{arith}
 use Rattle.records.proofs.ByteTests.{valid-not, valid-laid, valid-test}
 use borrow.Author.Needs.{needs}
 use Rattle.records.proofs.bytes.valid_bytes.Statement.{statement}

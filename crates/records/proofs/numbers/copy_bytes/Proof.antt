@@ -1,8 +1,8 @@
-use Prim.Native.Nat.{_+_, _-_, _*_, _≤_, _<_}
-use mathlib.Core.Path.{_≡_, refl, sym, _∙_}
+use Prim.Native.Nat.{_+_, _-_, _≤_}
+use mathlib.Core.Path.{_≡_, refl}
 use mathlib.Core.List.{_++_}
 use native.Mathlib.Omega.{arith}
-use lib.ListN.{length, getD, take, drop, length-set}
+use lib.ListN.{length, take, drop, length-set}
 use Rattle.records.proofs.NumberTurns.{copy-turn, copy-end}
 use borrow.Author.Needs.{needs}
 use Rattle.records.proofs.numbers.copy_bytes.Statement.{statement}
