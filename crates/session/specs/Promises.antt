@@ -1,9 +1,10 @@
 -- What the five calls promise, on every record and whatever is lent.
 --
--- Lent x == plan, rules, numbers and bytes as the call was lent them
--- answerOf.. == document 01's answer (crate book, Calls) of each case of a call's enum: its number and values
--- LoadDone, StartDone, AdvanceDone, CancelDone, ReadDone == the promises. A struct that breaks the layout's conditions gets 1;
---   on any other the answer and the whole record after are those of `act` (crate book, Model)
+-- doingAnswer, startingAnswer, advancingAnswer, readingAnswer == document 01's answer (crate book, Calls) of each case of a call's enum:
+--   its number and values
+-- answerOn s c, recordOn s c, refusalOn s c == the answer of call c on struct s, the struct after it, and its refusal's number, 18 apart.
+--   A struct that breaks the layout's conditions gets 1; on any other the answer and the whole record are those of `act` (crate book, Model)
+-- CallDone, LoadDone == the promises
 --
 -- Assumes nothing.
 use Prim.Native.Nat.{ℕ}
