@@ -19,9 +19,6 @@ const SIDES: &[(&str, Side)] = &[
     ("the library", library::call),
 ];
 
-/// Is the library among the sides?
-pub const HAS_LIBRARY: bool = SIDES.len() > 1;
-
 const MARGIN: usize = 9;
 /// Lends above this many bytes are not copied to see whether they stay.
 const COPIED: usize = 50_000;

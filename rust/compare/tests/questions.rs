@@ -54,19 +54,16 @@ impl Asked {
 }
 
 #[test]
-fn every_list_of_two_changes_on_small_trees() {
+fn every_set_of_nodes_of_small_trees() {
     let random = &mut Random::new(1201);
     for leaves in 1..=4 {
         for kinds in shapes::all(leaves) {
             let mut asked = Asked::new(Case::of_kinds(&kinds, 3, 3, random), random);
-            asked.ask(&[], &[], random);
-            let n = asked.case.n as u16;
-            for u in 0..n {
-                let labels = random.bytes_below(2, 3);
-                asked.ask(&[u], &labels[..1], random);
-                for v in (0..n).filter(|&v| v != u) {
-                    asked.ask(&[u, v], &labels, random);
-                }
+            for set in 0..1 << asked.case.n {
+                let mut nodes: Vec<u16> = (0..asked.case.n as u16).filter(|v| set >> v & 1 == 1).collect();
+                random.shuffle(&mut nodes);
+                let labels = random.bytes_below(nodes.len(), 3);
+                asked.ask(&nodes, &labels, random);
             }
         }
     }
