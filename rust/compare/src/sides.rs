@@ -47,13 +47,14 @@ fn compare(name: &str, side: Side, record: &[u8], call: &Call, done: &Done, rand
     let before = lent.map(copies);
     let number = side(call, own.lent(), numbers.lent(), bytes.lent(), &mut out);
     assert_eq!(answer(call, number, &out, &unset), done.answer, "{}: the answer", name);
-    own.is("record", &done.record);
+    let what = |written: &str| format!("{}: the {}", name, written);
+    own.is(&what("record"), &done.record);
     if let (Call::Load(_), Some(Tables { numbers: n, bytes: b })) = (call, &done.tables) {
-        numbers.starts("node table", n);
-        bytes.starts("state table", b);
+        numbers.starts(&what("node table"), n);
+        bytes.starts(&what("state table"), b);
     } else if let Call::Load(lends) = call {
-        numbers.is("node table", lends.numbers);
-        bytes.is("state table", lends.bytes);
+        numbers.is(&what("node table"), lends.numbers);
+        bytes.is(&what("state table"), lends.bytes);
     }
     assert!(lent.map(copies) == before, "{}: something lent was written", name);
 }
