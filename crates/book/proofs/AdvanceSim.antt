@@ -3,7 +3,7 @@
 --     parted-more      one more part, whatever its state below S
 --     on-advance       what advance tells conforms, and record and book stay related
 -- Assumes nothing.
-use Prim.Native.Nat.{ℕ, suc, _+_, _≤_, _<_}
+use Prim.Native.Nat.{ℕ, suc, _+_, _<_}
 use mathlib.Core.Path.{_≡_, refl, sym, ap, ap₂, _∙_, subst}
 use mathlib.Core.Bool.{Bool, true, false, cond, not, _&&_}
 use mathlib.Core.List.{List, [], _∷_, _++_}
@@ -14,21 +14,24 @@ use lib.ListN.{length, getD, take}
 use lib.Seq.{take-suc}
 use borrow.Author.Tests.{eqb-true, eqb-false}
 use Rattle.formats.specs.Bytes.{allBelow}
-use Rattle.formats.specs.Rules.{ruleAutomaton, ruleMarks}
+use Rattle.formats.specs.Rules.{ruleAutomaton}
 use Rattle.formats.specs.Checks.{check, firstNo}
 use Rattle.formats.proofs.CheckLaws.{true-false, and-both, and-left, and-right, firstNo-head, firstNo-tail}
-use Rattle.ready.specs.Parts.{Given, Part, part, partOf, partsFrom, lastState, allLinks}
+use Rattle.ready.specs.Parts.{Given, Part, part, partOf, partsFrom, statesOf}
 use Rattle.questions.specs.Climbs.{Reached}
 use Rattle.questions.specs.Part.{partOn}
-use Rattle.book.specs.Lends.{Lent, Sizes, fits, usedBytes, sameLinks, sameLent, linksBuilt, bytesBuilt, bytesBelow}
-use Rattle.book.specs.Calls.{Call, advance, Answer, refused, more, finished, Phase, isRunning}
+use Rattle.book.specs.Lends.{Lent, Sizes, fits, sameLinks, sameLent, linksBuilt}
+use Rattle.book.specs.Lends.{bytesBelow}
+use Rattle.book.specs.Calls.{advance, more, finished, Phase, isRunning}
 use Rattle.book.specs.Refusals.{refusal}
-use Rattle.book.specs.Book.{Standing, clean, firm, loose, Question, State, Book, Next, settled, phase, inState, rootsOf, partCount}
-use Rattle.book.specs.Book.{givenBy, longer, advanced, goesOn, otherBytes, mayAdvanceWith, byAnswer, loosely, firmly, advancing, proceed}
-use Rattle.book.specs.Model.{Record, Acted, acted, viewBy, marksBy, stepped, advanceWith, partNext, proceeds}
-use Rattle.ready.specs.Parts.{nodesOf, statesOf}
-use Rattle.book.proofs.Facts.{reachedBy, Firmly, Handled, nextRoot, Layers}
-use Rattle.book.proofs.TrailLaws.{length-states, nodes-more, states-more, length-more, last-more, links-more, below-more, from-more}
+use Rattle.book.specs.Book.{Standing, clean, firm, loose, Question, State, settled, phase, inState}
+use Rattle.book.specs.Book.{rootsOf, partCount}
+use Rattle.book.specs.Book.{givenBy, longer, advanced, goesOn, otherBytes, mayAdvanceWith, byAnswer, loosely}
+use Rattle.book.specs.Book.{firmly, advancing, proceed}
+use Rattle.book.specs.Model.{Record, acted, viewBy, marksBy, stepped, advanceWith, partNext, proceeds}
+use Rattle.book.proofs.Facts.{reachedBy, nextRoot, Layers}
+use Rattle.book.proofs.TrailLaws.{length-states, nodes-more, states-more, length-more, last-more, links-more}
+use Rattle.book.proofs.TrailLaws.{below-more, from-more}
 use Rattle.book.proofs.LendLaws.{Built, Same, links-built, same-links, lent-links, same-bytes, marks-built}
 use Rattle.book.proofs.FreshLaws.{part-state, given-same, sound-below}
 use Rattle.book.proofs.PartStates.{none-some, part-on-below}
@@ -38,7 +41,8 @@ use Rattle.book.proofs.Simulation.{Sim, book, Simulates, some-number, b
 pub advance-fits : (p : Phase) (z : Sizes) (x : Lent) → refusal p z (advance x) ≡ 0 → fits z x ≡ true
 unfolding refusal
 advance-fits p z x e =
-    firstNo-head 17 (fits z x) [] (omega arith) (firstNo-tail 1 (isRunning p) (check 17 (fits z x) ∷ []) (omega arith) e)
+    firstNo-head 17 (fits z x) [] (omega arith)
+    (firstNo-tail 1 (isRunning p) (check 17 (fits z x) ∷ []) (omega arith) e)
 
 -- ---- other bytes
 
@@ -49,16 +53,20 @@ module _ (z : Sizes) (q : Question) (x : Lent) where
 
   pub other-same : otherBytes z q x ≡ true → sameLinks z (q .lent) x ≡ true
   unfolding otherBytes
-  other-same e = and-left (sameLinks z (q .lent) x) (bytesBelow z x) (and-right (linksBuilt z (q .lent)) (sameLinks z (q .lent) x && bytesBelow z x) e)
+  other-same e = and-left (sameLinks z (q .lent) x) (bytesBelow z x)
+      (and-right (linksBuilt z (q .lent)) (sameLinks z (q .lent) x && bytesBelow z x) e)
 
   pub other-below : otherBytes z q x ≡ true → bytesBelow z x ≡ true
   unfolding otherBytes
-  other-below e = and-right (sameLinks z (q .lent) x) (bytesBelow z x) (and-right (linksBuilt z (q .lent)) (sameLinks z (q .lent) x && bytesBelow z x) e)
+  other-below e = and-right (sameLinks z (q .lent) x) (bytesBelow z x)
+      (and-right (linksBuilt z (q .lent)) (sameLinks z (q .lent) x && bytesBelow z x) e)
 
-  pub is-other : linksBuilt z (q .lent) ≡ true → sameLinks z (q .lent) x ≡ true → bytesBelow z x ≡ true → otherBytes z q x ≡ true
+  pub is-other : linksBuilt z (q .lent) ≡ true → sameLinks z (q .lent) x ≡ true → bytesBelow z x ≡ true
+      → otherBytes z q x ≡ true
   unfolding otherBytes
   is-other a b c =
-      and-both (linksBuilt z (q .lent)) (sameLinks z (q .lent) x && bytesBelow z x) a (and-both (sameLinks z (q .lent) x) (bytesBelow z x) b c)
+      and-both (linksBuilt z (q .lent)) (sameLinks z (q .lent) x && bytesBelow z x) a
+      (and-both (sameLinks z (q .lent) x) (bytesBelow z x) b c)
 
 -- ---- the next part
 
@@ -66,8 +74,8 @@ module _ (z : Sizes) (q : Question) (x : Lent) where
 abbrev partAt : Sizes → Lent → List ℕ → List ℕ → List ℕ → List ℕ → Option Reached
 partAt z x rs ss vs bs = partOn (viewBy z x) (take (length ss) rs) ss vs bs (getD rs (length ss) 0)
 
-part-same : (y z : Sizes) (x : Lent) (rs rs′ ss ss′ vs vs′ bs bs′ : List ℕ) → y ≡ z → rs ≡ rs′ → ss ≡ ss′ → vs ≡ vs′ → bs ≡ bs′
-    → partAt y x rs ss vs bs ≡ partAt z x rs′ ss′ vs′ bs′
+part-same : (y z : Sizes) (x : Lent) (rs rs′ ss ss′ vs vs′ bs bs′ : List ℕ) → y ≡ z → rs ≡ rs′ → ss ≡ ss′
+    → vs ≡ vs′ → bs ≡ bs′ → partAt y x rs ss vs bs ≡ partAt z x rs′ ss′ vs′ bs′
 part-same y z x rs rs′ ss ss′ vs vs′ bs bs′ e f g h i = rw (e, f, g, h, i)
 
 module _ (r : Record) (z : Sizes) (q : Question) (x : Lent) (sizes : r .sizes ≡ z) where
@@ -75,14 +83,21 @@ module _ (r : Record) (z : Sizes) (q : Question) (x : Lent) (sizes : r .sizes �
   abbrev ruled : List Part → Part
   ruled ps = partOf (givenBy z q x) (rootsOf q) ps (nextRoot q ps)
 
-  part-next : Layers → (ps : List Part) → Parted r z q ps → length ps < partCount q → otherBytes z q x ≡ true → fits z x ≡ true
-      → partNext r x ≡ some (reachedBy (ruled ps))
+  part-next : Layers → (ps : List Part) → Parted r z q ps → length ps < partCount q → otherBytes z q x ≡ true
+      → fits z x ≡ true → partNext r x ≡ some (reachedBy (ruled ps))
   part-next L ps p l o f =
-      part-same (r .sizes) z x (r .roots) (rootsOf q) (r .states) (statesOf ps) (r .nodes) (q .nodes) (r .labels) (q .labels)
-      sizes (p .roots) (p .states) (p .nodes) (p .labels)
-      ∙ ap (λ (n : ℕ). partOn (viewBy z x) (take n (rootsOf q)) (statesOf ps) (q .nodes) (q .labels) (getD (rootsOf q) n 0)) (length-states ps)
+      part-same (r .sizes) z x (r .roots) (rootsOf q) (r .states) (statesOf ps) (r .nodes) (q .nodes)
+      (r .labels) (q .labels) sizes (p .roots) (p .states) (p .nodes) (p .labels)
+      ∙ ap (λ (n : ℕ). partOn (viewBy z x) (take n (rootsOf q)) (statesOf ps) (q .nodes) (q .labels)
+      (getD (rootsOf q) n 0)) (length-states ps)
       ∙ L .part-built z q x ps
-      (record { built = other-built z q x o; same = other-same z q x o; below = other-below z q x o; room = f; listed = p .listed })
+      (record {
+        built = other-built z q x o;
+        same = other-same z q x o;
+        below = other-below z q x o;
+        room = f;
+        listed = p .listed;
+      })
       (p .handled) l
 
   part-low : (y : Reached) → partNext r x ≡ some y → y .state < z .s
@@ -118,7 +133,8 @@ parted-more r z q ps p l y b f m k tr = record {
 
 -- ---- one advance
 
-module _ (L : Layers) (r : Record) (z : Sizes) (q : Question) (x : Lent) (i : Rel r (book (State.running q) z)) (room : fits z x ≡ true) where
+module _ (L : Layers) (r : Record) (z : Sizes) (q : Question) (x : Lent) (i : Rel r (book (State.running q) z))
+    (room : fits z x ≡ true) where
   abbrev rule : Part
   rule = ruled r z q x (i .sizes) (q .trail)
 
@@ -132,23 +148,28 @@ module _ (L : Layers) (r : Record) (z : Sizes) (q : Question) (x : Lent) (i : Re
   counted-next c l f m k = record {
     built = c .built;
     parted =
-        parted-more r z q (q .trail) (c .parted) l (reachedBy rule) (part-state z q (links-built z (q .lent) (c .built)) x (q .trail) (nextRoot q (q .trail)))
+        parted-more r z q (q .trail) (c .parted) l (reachedBy rule)
+        (part-state z q (links-built z (q .lent) (c .built)) x (q .trail) (nextRoot q (q .trail)))
         f m k (longer z q x);
     links = ap (λ (n : ℕ). n + rule .links) (c .links) ∙ sym (links-more (q .trail) rule);
     count = ap suc (c .count) ∙ sym (length-more (q .trail) rule);
   }
 
   -- a part is left unless this was the last
-  unended-next : (y : Reached) (f : Phase) (m : Bool) (k : Standing) (tr : List Part) → eqb (suc (length (r .states))) (length (r .roots)) ≡ false
+  unended-next : (y : Reached) (f : Phase) (m : Bool) (k : Standing) (tr : List Part)
+      → eqb (suc (length (r .states))) (length (r .roots)) ≡ false
       → (linksBuilt z (q .lent) ≡ true → r .roots ≡ rootsOf q) → Unended (stepped r f y m) z (advanced q k tr)
   unfolding stepped advanced
   unended-next y f m k tr e roots h =
-      let n : suc (length (r .states)) ≡ length (r .roots) → ⊥ = eqb-false (suc (length (r .states))) (length (r .roots)) e in
+      let n : suc (length (r .states)) ≡ length (r .roots)
+      → ⊥ = eqb-false (suc (length (r .states))) (length (r .roots)) e in
       let d : length (r .roots) ≡ partCount q = ap length (roots h) in
-      rw (length-more (r .states) (y .state)) (let b : length (r .states) < partCount q = i .holds .1 h in omega (arith, n, d, b))
+      rw (length-more (r .states) (y .state)) (let b : length (r .states) < partCount q = i .holds .1 h in
+      omega (arith, n, d, b))
 
   -- an advance that goes on as always, to standing k
-  goes-on : (k : Standing) → Counted r z q → otherBytes z q x ≡ true → ((s : Record) → Counted s z (onward k) → Stands s z (onward k) k)
+  goes-on : (k : Standing) → Counted r z q → otherBytes z q x ≡ true
+      → ((s : Record) → Counted s z (onward k) → Stands s z (onward k) k)
       → ((s : Record) → Marked s (onward k) → suc (q .count) ≡ partCount q → Ended s (onward k) k)
       → Sim (goesOn (book (State.running q) z) (onward k)) (advanceWith r x (partNext r x))
   unfolding goesOn advanceWith inState phase advanced stepped longer
@@ -156,7 +177,8 @@ module _ (L : Layers) (r : Record) (z : Sizes) (q : Question) (x : Lent) (i : Re
       subst (λ (y : Option Reached). Sim (goesOn (book (State.running q) z) (onward k)) (advanceWith r x y))
       (sym (part-next r z q x (i .sizes) L (q .trail) (c .parted) left-over o room))
       (go (eqb (suc (q .count)) (partCount q)) (eqb (suc (length (r .states))) (length (r .roots)))
-      (ap₂ (λ (m n : ℕ). eqb (suc m) n) (ap length (c .parted .states) ∙ length-states (q .trail) ∙ sym (c .count)) (ap length (c .parted .roots))) refl refl)
+      (ap₂ (λ (m n : ℕ). eqb (suc m) n) (ap length (c .parted .states) ∙ length-states (q .trail)
+      ∙ sym (c .count)) (ap length (c .parted .roots))) refl refl)
     where
       left-over : length (q .trail) < partCount q
       left-over =
@@ -175,15 +197,22 @@ module _ (L : Layers) (r : Record) (z : Sizes) (q : Question) (x : Lent) (i : Re
           (ap (λ (y : Sizes). marksBy y x) (i .sizes) ∙ marks-built z (q .lent) x B (same .rules))
           ∙ ap (ruleAutomaton (q .lent .rules) .accepting) (sym (last-more (q .trail) rule 0))
 
-      go : (b d : Bool) → d ≡ b → eqb (suc (q .count)) (partCount q) ≡ b → eqb (suc (length (r .states))) (length (r .roots)) ≡ d
-          → Sim (cond b (settled finished (book (State.answered (onward k)) z)) (settled more (book (State.running (onward k)) z)))
-          (cond d (acted finished (stepped r Phase.answered (reachedBy rule) yes)) (acted more (stepped r Phase.running (reachedBy rule) false)))
+      go : (b d : Bool) → d ≡ b → eqb (suc (q .count)) (partCount q) ≡ b
+          → eqb (suc (length (r .states))) (length (r .roots)) ≡ d
+          → Sim (cond b (settled finished (book (State.answered (onward k)) z))
+          (settled more (book (State.running (onward k)) z)))
+          (cond d (acted finished (stepped r Phase.answered (reachedBy rule) yes))
+          (acted more (stepped r Phase.running (reachedBy rule) false)))
       go true true e g h = (
         refl,
         record {
           phases = refl;
           sizes = i .sizes;
-          holds = (stands _ (counted-next c left-over Phase.answered yes k), ends _ marked (eqb-true (suc (q .count)) (partCount q) g));
+          holds = (
+            stands _ (counted-next c left-over Phase.answered yes k),
+            ends _ marked
+                (eqb-true (suc (q .count)) (partCount q) g),
+          );
         },
       )
       go false false e g h = (
@@ -214,10 +243,12 @@ module _ (L : Layers) (r : Record) (z : Sizes) (q : Question) (x : Lent) (i : Re
       not-other : partNext r x ≡ none → (b : Bool) → otherBytes z q x ≡ b → not b ≡ true
       not-other e true o =
           let s = some-parted (other-built z q x o) in
-          absurd (none-some (sym e ∙ part-next r z q x (i .sizes) L (s .0) (s .1) (unended (s .0) (s .1) (other-built z q x o)) o room))
+          absurd (none-some (sym e ∙ part-next r z q x (i .sizes) L (s .0) (s .1)
+          (unended (s .0) (s .1) (other-built z q x o)) o room))
       not-other e false o = refl
 
-      parted : (y : Reached) (f : Phase) (m : Bool) → partNext r x ≡ some y → SomeParted (stepped r f y m) z (advanced q loose [])
+      parted : (y : Reached) (f : Phase) (m : Bool) → partNext r x ≡ some y
+          → SomeParted (stepped r f y m) z (advanced q loose [])
       parted y f m e h =
           let s = some-parted h in (
             s .0 ++ (part (nextRoot q (s .0)) (y .state) (y .links) ∷ []),
@@ -228,7 +259,8 @@ module _ (L : Layers) (r : Record) (z : Sizes) (q : Question) (x : Lent) (i : Re
       go none e = (not-other e (otherBytes z q x) refl, i)
       go (some y) e = then (eqb (suc (length (r .states))) (length (r .roots))) refl
         where
-          then : (b : Bool) → eqb (suc (length (r .states))) (length (r .roots)) ≡ b → Sim (loosely (book (State.running q) z) x q)
+          then : (b : Bool) → eqb (suc (length (r .states))) (length (r .roots)) ≡ b
+              → Sim (loosely (book (State.running q) z) x q)
               (cond b (acted finished (stepped r Phase.answered y (eqb (getD (marksBy (r .sizes) x) (y .state) 0) 1)))
               (acted more (stepped r Phase.running y false)))
           then true g = (refl, record { phases = refl; sizes = i .sizes; holds = (parted y Phase.answered _ e, tt) })
@@ -237,7 +269,11 @@ module _ (L : Layers) (r : Record) (z : Sizes) (q : Question) (x : Lent) (i : Re
             record {
               phases = refl;
               sizes = i .sizes;
-              holds = (parted y Phase.running false e, unended-next y Phase.running false loose [] g (λ h. some-parted h .1 .roots));
+              holds = (
+                parted y Phase.running false e,
+                unended-next y Phase.running false loose [] g
+                    (λ h. some-parted h .1 .roots),
+              );
             },
           )
 
@@ -249,12 +285,14 @@ module _ (L : Layers) (r : Record) (z : Sizes) (q : Question) (x : Lent) (i : Re
   advance-firm c = go (otherBytes z q x) refl
     where
       go : (b : Bool) → otherBytes z q x ≡ b
-          → Sim (cond b (goesOn (book (State.running q) z) (onward firm)) (loosely (book (State.running q) z) x q)) (advanceWith r x (partNext r x))
+          → Sim (cond b (goesOn (book (State.running q) z) (onward firm)) (loosely (book (State.running q) z) x q))
+          (advanceWith r x (partNext r x))
       go true o = goes-on firm c o (λ s d. d) (λ s m e. m)
       go false o = advance-loose (counted-some c)
 
   -- lent as at Start: the trail goes on with the same bytes
-  cleanly-next : Counted r z q → Cleanly z q → sameLent z (q .lent) x ≡ true → length (q .trail) < partCount q → Cleanly z (onward clean)
+  cleanly-next : Counted r z q → Cleanly z q → sameLent z (q .lent) x ≡ true → length (q .trail) < partCount q
+      → Cleanly z (onward clean)
   unfolding advanced longer givenBy
   cleanly-next c k e l = record {
     bytes = k .bytes;
@@ -264,41 +302,49 @@ module _ (L : Layers) (r : Record) (z : Sizes) (q : Question) (x : Lent) (i : Re
         ∙ ap (λ (ps : List Part). ps ++ (partOf (givenBy z q (q .lent)) (rootsOf q) ps v ∷ [])) (k .replayed)
         ∙ sym (from-more (givenBy z q (q .lent)) (rootsOf q) [] (take (length (q .trail)) (rootsOf q)) v)
         ∙ ap (partsFrom (givenBy z q (q .lent)) (rootsOf q) [])
-        (sym (take-suc (rootsOf q) (length (q .trail)) 0 l) ∙ ap (λ (n : ℕ). take n (rootsOf q)) (sym (length-more (q .trail) rule)));
+        (sym (take-suc (rootsOf q) (length (q .trail)) 0 l)
+        ∙ ap (λ (n : ℕ). take n (rootsOf q)) (sym (length-more (q .trail) rule)));
   }
     where
       v : ℕ
       v = nextRoot q (q .trail)
 
-  advance-as : (k : Standing) → Stands r z q k → Sim (advancing (book (State.running q) z) x q k) (advanceWith r x (partNext r x))
+  advance-as : (k : Standing) → Stands r z q k
+      → Sim (advancing (book (State.running q) z) x q k) (advanceWith r x (partNext r x))
   unfolding advancing bytesBelow advanced
   advance-as clean s = go (sameLent z (q .lent) x) refl
     where
       left-over : length (q .trail) < partCount q
       left-over =
           let b : length (r .states) < partCount q = i .holds .1 (s .0 .built) in
-          let n : length (r .states) ≡ length (q .trail) = ap length (s .0 .parted .states) ∙ length-states (q .trail) in
+          let n : length (r .states) ≡ length (q .trail) = ap length (s .0 .parted .states)
+          ∙ length-states (q .trail) in
           omega (arith, b, n)
 
       go : (b : Bool) → sameLent z (q .lent) x ≡ b
-          → Sim (cond b (goesOn (book (State.running q) z) (onward clean)) (firmly (book (State.running q) z) x q)) (advanceWith r x (partNext r x))
+          → Sim (cond b (goesOn (book (State.running q) z) (onward clean)) (firmly (book (State.running q) z) x q))
+          (advanceWith r x (partNext r x))
       go true e =
           let low : bytesBelow z x ≡ true =
-          ap (allBelow (z .s)) (sym (same-bytes z (q .lent) x e)) ∙ sound-below z q (links-built z (q .lent) (s .0 .built)) (s .1 .bytes) in
+          ap (allBelow (z .s)) (sym (same-bytes z (q .lent) x e))
+          ∙ sound-below z q (links-built z (q .lent) (s .0 .built)) (s .1 .bytes) in
           goes-on clean (s .0) (is-other z q x (s .0 .built) (lent-links z (q .lent) x e) low)
           (λ y d. (d, cleanly-next (s .0) (s .1) e left-over)) (λ y m n. (m, n))
       go false e = advance-firm (s .0)
   advance-as firm s = advance-firm s
   advance-as loose s = advance-loose s
 
-advance-at : (L : Layers) (r : Record) (s : State) (z : Sizes) (x : Lent) → Rel r (book s z) → refusal (phase s) z (advance x) ≡ 0
+advance-at : (L : Layers) (r : Record) (s : State) (z : Sizes) (x : Lent) → Rel r (book s z)
+    → refusal (phase s) z (advance x) ≡ 0
     → Sim (proceed (book s z) s (advance x)) (proceeds r (advance x))
 unfolding refusal phase firstNo isRunning proceed proceeds
 advance-at L r State.empty z x i h = absurd (some-number h)
 advance-at L r State.loaded z x i h = absurd (some-number h)
-advance-at L r (State.running q) z x i h = advance-as L r z q x i (advance-fits Phase.running z x h) (q .standing) (i .holds .0)
+advance-at L r (State.running q) z x i h =
+    advance-as L r z q x i (advance-fits Phase.running z x h) (q .standing) (i .holds .0)
 advance-at L r (State.answered q) z x i h = absurd (some-number h)
 
 pub on-advance : Layers → (x : Lent) → Simulates (advance x)
 on-advance L x r r′ b a i d =
-    does r r′ b (advance x) a d (by-refusal r (b .state) (b .sizes) (advance x) i (advance-at L r (b .state) (b .sizes) x i))
+    does r r′ b (advance x) a d (by-refusal r (b .state) (b .sizes) (advance x) i
+    (advance-at L r (b .state) (b .sizes) x i))

@@ -1,6 +1,6 @@
 -- A clean question that is left alone, call by call and for whole lists.
 --     at q c tr            question q, clean, with c accepted advances counted
---     Turn, turn           one call while it runs: refused, or an advance that tells finished exactly at the number of parts
+--     Turn, turn           one call while it runs: refused, or an advance; finished exactly at the number of parts
 --     Rest, rest           one call once it is answered: refused, or a Read that tells the fresh run's answer
 --     agrees-split         a list of calls in two parts
 --     Alone, left-alone    a whole list: the advances it takes to finish, and what Reads tell
@@ -18,11 +18,14 @@ use Rattle.formats.specs.Checks.{firstNo}
 use Rattle.formats.proofs.CheckLaws.{true-false}
 use Rattle.ready.specs.Parts.{Part}
 use Rattle.book.specs.Lends.{Lent, Sizes, sameLent}
-use Rattle.book.specs.Calls.{Call, load, start, advance, cancel, read, Answer, refused, parts, more, finished, told, Phase}
+use Rattle.book.specs.Calls.{Call, load, start, advance, cancel, read, Answer, refused, parts, more, finished}
+use Rattle.book.specs.Calls.{told, Phase}
 use Rattle.book.specs.Calls.{mayLoad, mayStart, isRunning, isAnswered}
 use Rattle.book.specs.Refusals.{refusal}
-use Rattle.book.specs.Book.{Standing, clean, firm, loose, Question, State, Book, Next, settled, phase, inState, step, decided, proceed}
-use Rattle.book.specs.Book.{partCount, freshAnswer, standingOf, asked, starting, unlessRefused, longer, advanced, goesOn, otherBytes}
+use Rattle.book.specs.Book.{Standing, clean, firm, loose, Question, State, Book, settled, phase, inState}
+use Rattle.book.specs.Book.{step, decided, proceed}
+use Rattle.book.specs.Book.{partCount, freshAnswer, standingOf, asked, starting, unlessRefused, longer}
+use Rattle.book.specs.Book.{advanced, goesOn, otherBytes}
 use Rattle.book.specs.Book.{byAnswer, loosely, firmly, advancing, reading}
 use Rattle.book.specs.Demand3.{Conforms, after, Agrees}
 use Rattle.book.specs.Alone.{isRefused, advances, oneMore, finishedAfter, bookAt, AloneBy, LeftAlone, OnlyTold}
@@ -41,7 +44,8 @@ module _ (z : Sizes) (q : Question) (c : ℕ) (tr : List Part) where
   pub data Turn (a : Answer) (b : Book) : Type 0 where
     waits : (n : ℕ) → a ≡ refused n → b ≡ going → Turn a b
     goes : (ps : List Part) → a ≡ more → suc c < partCount q → b ≡ book (State.running (at q (suc c) ps)) z → Turn a b
-    ends : (ps : List Part) → a ≡ finished → suc c ≡ partCount q → b ≡ book (State.answered (at q (suc c) ps)) z → Turn a b
+    ends : (ps : List Part) → a ≡ finished → suc c ≡ partCount q → b ≡ book (State.answered (at q (suc c) ps)) z
+        → Turn a b
 
   abbrev Turned : Call → Answer → Type 0
   Turned k a = Conforms (step going k) a → AloneBy z (q .lent) k a → Turn a (after (step going k) a)
@@ -52,21 +56,26 @@ module _ (z : Sizes) (q : Question) (c : ℕ) (tr : List Part) where
   turn-goes-on l ps a e = go (eqb (suc c) (partCount q)) refl e
     where
       go : (b : Bool) → eqb (suc c) (partCount q) ≡ b
-          → Conforms (cond b (settled finished (book (State.answered (at q (suc c) ps)) z)) (settled more (book (State.running (at q (suc c) ps)) z))) a
-          → Turn a (after (cond b (settled finished (book (State.answered (at q (suc c) ps)) z)) (settled more (book (State.running (at q (suc c) ps)) z))) a)
+          → Conforms (cond b (settled finished (book (State.answered (at q (suc c) ps)) z))
+          (settled more (book (State.running (at q (suc c) ps)) z))) a
+          → Turn a (after (cond b (settled finished (book (State.answered (at q (suc c) ps)) z))
+          (settled more (book (State.running (at q (suc c) ps)) z))) a)
       go true h e = ends ps e (eqb-true (suc c) (partCount q) h) refl
-      go false h e = goes ps e (let n : suc c ≡ partCount q → ⊥ = eqb-false (suc c) (partCount q) h in omega (arith, n, l)) refl
+      go false h e = goes ps e (let n : suc c ≡ partCount q → ⊥ = eqb-false (suc c) (partCount q) h in
+          omega (arith, n, l)) refl
 
   -- an answer more or finished is no refusal
   not-on : (k : Question) (n : ℕ) → Conforms (goesOn going k) (refused n) → ⊥
   unfolding goesOn inState
   not-on k n e = go (eqb (k .count) (partCount k)) e
     where
-      go : (b : Bool) → Conforms (cond b (settled finished (book (State.answered k) z)) (settled more (book (State.running k) z))) (refused n) → ⊥
+      go : (b : Bool) → Conforms (cond b (settled finished (book (State.answered k) z))
+          (settled more (book (State.running k) z))) (refused n) → ⊥
       go true e = true-false (ap isRefused e)
       go false e = true-false (ap isRefused e)
 
-  other-waits : (x : Lent) (n : ℕ) → Conforms (firmly going x (at q c tr)) (refused n) → after (firmly going x (at q c tr)) (refused n) ≡ going
+  other-waits : (x : Lent) (n : ℕ) → Conforms (firmly going x (at q c tr)) (refused n)
+      → after (firmly going x (at q c tr)) (refused n) ≡ going
   unfolding firmly loosely byAnswer
   other-waits x n e = go (otherBytes z (at q c tr) x) e
     where
@@ -93,7 +102,8 @@ module _ (z : Sizes) (q : Question) (c : ℕ) (tr : List Part) where
     where
       both : (b : Bool) → sameLent z (q .lent) x ≡ b
           → Conforms (cond b (goesOn going (at q (suc c) (longer z (at q c tr) x))) (firmly going x (at q c tr))) a
-          → Turn a (after (cond b (goesOn going (at q (suc c) (longer z (at q c tr) x))) (firmly going x (at q c tr))) a)
+          → Turn a (after (cond b (goesOn going (at q (suc c) (longer z (at q c tr) x)))
+          (firmly going x (at q c tr))) a)
       both true h e = turn-goes-on l (longer z (at q c tr) x) a e
       both false h e = turn-other x a h e f
 
@@ -123,7 +133,8 @@ module _ (z : Sizes) (q : Question) (c : ℕ) (tr : List Part) where
   abbrev Rested : Call → Answer → Type 0
   Rested k a = Conforms (step over k) a → AloneBy z (q .lent) k a → Rest a (after (step over k) a)
 
-  rest-start : (k : Question) (s : Standing) (a : Answer) → Conforms (starting over k s) a → isRefused a ≡ true → Rest a (after (starting over k s) a)
+  rest-start : (k : Question) (s : Standing) (a : Answer) → Conforms (starting over k s) a → isRefused a ≡ true
+      → Rest a (after (starting over k s) a)
   unfolding starting unlessRefused
   rest-start k clean a e f = absurd (true-false (sym f ∙ ap isRefused e))
   rest-start k firm a e f = absurd (true-false (sym f ∙ ap isRefused e))
@@ -152,7 +163,8 @@ module _ (z : Sizes) (q : Question) (c : ℕ) (tr : List Part) where
 
 -- ---- whole lists
 
-pub agrees-split : (b : Book) (cs ds : List Call) (xs ys : List Answer) → length cs ≡ length xs → Agrees b (cs ++ ds) (xs ++ ys)
+pub agrees-split : (b : Book) (cs ds : List Call) (xs ys : List Answer) → length cs ≡ length xs
+    → Agrees b (cs ++ ds) (xs ++ ys)
     → Agrees (bookAt b cs xs) ds ys
 agrees-split b [] ds [] ys e h = h
 agrees-split b [] ds (a ∷ xs) ys e h = absurd (omega arith)
@@ -175,7 +187,8 @@ more-none none e = refl
 more-none (some n) e = absurd (none-some (sym e))
 
 -- no accepted advance once it is answered
-pub resting : (z : Sizes) (q : Question) (c : ℕ) (tr : List Part) (cs : List Call) (xs : List Answer) → Agrees (over z q c tr) cs xs
+pub resting : (z : Sizes) (q : Question) (c : ℕ) (tr : List Part) (cs : List Call) (xs : List Answer)
+    → Agrees (over z q c tr) cs xs
     → LeftAlone z (q .lent) cs xs → (advances xs ≡ 0) × OnlyTold (freshAnswer q) xs
 unfolding freshAnswer
 resting z q c tr [] [] h f = (refl, tt)
@@ -185,13 +198,15 @@ resting z q c tr (k ∷ cs) (a ∷ xs) h f =
     go (λ g. resting z q c tr cs xs g (f .1)) (rest z q c tr k a (h .0) (f .0))
   where
     go : (Agrees (over z q c tr) cs xs → (advances xs ≡ 0) × OnlyTold (freshAnswer q) xs)
-        → Rest z q c tr a (after (step (over z q c tr) k) a) → (advances (a ∷ xs) ≡ 0) × OnlyTold (freshAnswer q) (a ∷ xs)
+        → Rest z q c tr a (after (step (over z q c tr) k) a)
+        → (advances (a ∷ xs) ≡ 0) × OnlyTold (freshAnswer q) (a ∷ xs)
     go later (rests n e d) = rw e (later (subst (λ (b : Book). Agrees b cs xs) d (h .1)))
     go later (reads e d) =
         let r = later (subst (λ (b : Book). Agrees b cs xs) d (h .1)) in
         subst (λ (x : Answer). (advances (x ∷ xs) ≡ 0) × OnlyTold (freshAnswer q) (x ∷ xs)) (sym e) (r .0, (refl, r .1))
 
-pub left-alone : (z : Sizes) (q : Question) (c : ℕ) (tr : List Part) → c < partCount q → (cs : List Call) (xs : List Answer)
+pub left-alone : (z : Sizes) (q : Question) (c : ℕ) (tr : List Part) → c < partCount q
+    → (cs : List Call) (xs : List Answer)
     → Agrees (going z q c tr) cs xs → LeftAlone z (q .lent) cs xs → Alone q c xs
 left-alone z q c tr l [] [] h f =
     record { exact = λ m e. absurd (none-some e); unfinished = λ e. omega arith; most = omega arith; only = tt }

@@ -3,34 +3,31 @@
 --     question-links    those of a question, for each of its parts
 --     ready-count       at most 4 m - 2 parts for m listed nodes, and 1 where none is listed
 -- Assumes nothing.
-use Prim.Native.Nat.{ℕ, zero, suc, _+_, _-_, _*_, _≤_, _<_}
-use mathlib.Core.Path.{_≡_, refl, sym, ap, _∙_}
+use Prim.Native.Nat.{ℕ, _-_, _*_, _≤_, _<_}
+use mathlib.Core.Path.{_≡_, refl}
 use mathlib.Core.Bool.{Bool, true, false, cond}
 use mathlib.Core.List.{List, [], _∷_, List·Memᴰ, List·Memᴰ·head, List·Memᴰ·tail}
-use mathlib.Core.Option.{some}
 use native.Mathlib.Decide.{ℕ-discrete}
 use native.Mathlib.Omega.{arith}
-use lib.Dec.{eqb}
 use lib.ListN.{length}
 use borrow.Author.Tests.{eq-eqb, ne-eqb}
 use Rattle.trees.specs.Tree.{Tree, size, height, kindAt}
 use Rattle.trees.specs.Numbering.{depth}
-use Rattle.trees.specs.Climb.{forestOf, climb, digits}
+use Rattle.trees.specs.Climb.{digits}
 use Rattle.trees.proofs.IntervalLaws.{interval-ancestor, above-at}
 use Rattle.trees.proofs.TreeClimbs.{climb-tree, climb-bound}
 use Rattle.formats.specs.Bytes.{allBelow, holds}
 use Rattle.formats.specs.Plan.{planTree}
-use Rattle.formats.proofs.PlanLaws.{PlanPasses}
 use Rattle.ready.specs.Ready.{leftChild, rightChild}
-use Rattle.ready.specs.Members.{Rising, readyList, roots}
-use Rattle.ready.specs.Parts.{anyBelow, highestBelow, climbMoves, movesOf, climbedLinks, innerLinks, partLinks, sumOf, questionLinks}
+use Rattle.ready.specs.Members.{readyList, roots}
+use Rattle.ready.specs.Parts.{anyBelow, highestBelow, climbMoves, climbedLinks, innerLinks, partLinks, sumOf}
+use Rattle.ready.specs.Parts.{questionLinks}
 use Rattle.ready.proofs.UnderLaws.{left-in, right-in}
 use Rattle.ready.proofs.HighestLaws.{Highest}
 use Rattle.ready.proofs.ClosedForm.{kind-one}
 use Rattle.ready.proofs.BelowLaws.{some-below}
 use Rattle.ready.proofs.PartsRun.{Members}
 use Rattle.ready.proofs.ListLaws.{list-members}
-use Rattle.questions.specs.Roots.{rootsOn}
 use Rattle.questions.proofs.RootsLaws.{RootsAre, rootsOn-are}
 use Rattle.book.specs.Lends.{Lent, Sizes, usedNums, linksBuilt}
 use Rattle.book.proofs.Facts.{Layers}
@@ -69,14 +66,16 @@ module _ (w : ℕ → Bool) (t : Tree) (ms : List ℕ) (M : Members w t ms) wher
         (inner-links (leftChild t v) (rightChild v) (omega (arith, left-in t v h k)) (omega (arith, right-in t v h k))))
   ]
 
-  sum-links : (vs : List ℕ) → ((v : ℕ) → List·Memᴰ v vs → v < size t) → sumOf (partLinks t ms) vs ≤ length vs * (3 * digits (height t))
+  sum-links : (vs : List ℕ) → ((v : ℕ) → List·Memᴰ v vs → v < size t)
+      → sumOf (partLinks t ms) vs ≤ length vs * (3 * digits (height t))
   unfolding sumOf
   sum-links [] f = omega arith
   sum-links (v ∷ vs) f =
       omega (arith, part-links v (f v (List·Memᴰ·head refl)), sum-links vs (λ u m. f u (List·Memᴰ·tail m)))
 
 -- "Only those climbs count as links": at most three for each binary digit of the plan's height, for each part
-pub question-links : (t : Tree) (vs : List ℕ) → questionLinks t (roots t vs) ≤ length (roots t vs) * (3 * digits (height t))
+pub question-links : (t : Tree) (vs : List ℕ)
+    → questionLinks t (roots t vs) ≤ length (roots t vs) * (3 * digits (height t))
 unfolding questionLinks roots
 question-links t vs =
     let w : ℕ → Bool = λ v. holds v vs in

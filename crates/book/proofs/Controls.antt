@@ -1,6 +1,6 @@
--- Controls of demand 3 on plan A, computed: where the book must settle an answer, where it must leave it to the program, and wrong
--- answers that it turns down. A premise that is too strong (excess compared, the plan tied to Load's) shows here: an answer that should
--- be settled is left.
+-- Controls of demand 3 on plan A, computed: where the book must settle an answer, where it must leave it to the
+-- program, and wrong answers that it turns down. A premise that is too strong (excess compared, the plan tied to
+-- Load's) shows here: an answer that should be settled is left.
 -- The answers are the model's (act): so that rootsOn and partOn are run too.
 -- Assumes nothing.
 use Prim.Native.Nat.{ℕ}
@@ -11,9 +11,10 @@ use mathlib.Core.Option.{Option, none, some}
 use lib.ListN.{set, replicate}
 use Rattle.formats.specs.Built.{builtLinks, builtStates}
 use Rattle.book.specs.Lends.{Lent}
-use Rattle.book.specs.Calls.{Call, load, start, advance, cancel, read, Answer, refused, parts, more, finished, told}
+use Rattle.book.specs.Calls.{Call, load, start, advance, cancel, read, Answer, refused, parts, more, finished}
+use Rattle.book.specs.Calls.{told}
 use Rattle.book.specs.Book.{newBook}
-use Rattle.book.specs.Judge.{agreed, foretold}
+use Rattle.book.specs.Judge.{agreed}
 use Rattle.book.proofs.Sample.{computing, tableA, loadA, lentA, Seen, seen, asking}
 
 -- what the book settles of a list of calls, all of whose answers agree
@@ -28,15 +29,20 @@ unfoldable pub lentB : Lent
 unfolding planB tableA computing
 lentB = record { plan = planB; rules = tableA; nums = builtLinks planB; bytes = builtStates planB tableA }
 
--- the tables of plan A with an excess
-unfoldable pub longerBy : List ℕ → Lent
-unfolding lentA
-longerBy xs = record { plan = lentA .plan; rules = lentA .rules; nums = lentA .nums ++ xs; bytes = lentA .bytes ++ xs }
+-- tables with an excess
+abbrev pub longerBy : Lent → List ℕ → Lent
+longerBy x l = record { plan = x .plan; rules = x .rules; nums = x .nums ++ l; bytes = x .bytes ++ l }
 
 -- one number, or one byte, of plan A's tables set to another; one label of the plan
 unfoldable pub otherNumber : ℕ → ℕ → Lent
 unfolding lentA
-otherNumber i n = record { plan = lentA .plan; rules = lentA .rules; nums = set (lentA .nums) i n; bytes = lentA .bytes }
+otherNumber i n = record {
+  plan = lentA .plan;
+  rules = lentA .rules;
+  nums = set (lentA .nums) i n;
+  bytes =
+      lentA .bytes;
+}
 
 unfoldable pub otherByte : ℕ → ℕ → Lent
 unfolding lentA
@@ -56,26 +62,31 @@ onNode0 x y w = load loadA ∷ start x (0 ∷ []) (0 ∷ []) ∷ advance y ∷ a
 
 -- ---- settled
 
-pub clean-list : seen (asking [] [] 1) ≡ all (some Answer.accepted ∷ some (parts 1) ∷ some finished ∷ some (told 1 true 1 0) ∷ [])
+pub clean-list : seen (asking [] [] 1)
+    ≡ all (some Answer.accepted ∷ some (parts 1) ∷ some finished ∷ some (told 1 true 1 0) ∷ [])
 unfolding seen asking
 clean-list = refl
 
--- "Plan, rules and tables are the panel's to alter or exchange": plan A was loaded, plan B asked
-pub exchanged-plan : seen (onNode0 lentB lentB lentB)
+-- "Plan, rules and tables are the panel's to alter or exchange": plan A was loaded and plan B is
+-- asked, with a changing excess
+pub exchanged-plan : seen (onNode0 (longerBy lentB (5 ∷ [])) (longerBy lentB (7 ∷ 8 ∷ 9 ∷ [])) lentB)
     ≡ all (some Answer.accepted ∷ some (parts 2) ∷ some more ∷ some finished ∷ some (told 1 true 2 2) ∷ [])
 unfolding seen onNode0 lentA lentB
 exchanged-plan = refl
 
 -- "lent the same, excess aside"
-pub changed-excess : seen (onNode0 (longerBy (5 ∷ [])) (longerBy (7 ∷ 8 ∷ 9 ∷ [])) lentA)
+pub changed-excess : seen (onNode0 (longerBy lentA (5 ∷ [])) (longerBy lentA (7 ∷ 8 ∷ 9 ∷ [])) lentA)
     ≡ all (some Answer.accepted ∷ some (parts 2) ∷ some more ∷ some finished ∷ some (told 0 false 2 1) ∷ [])
-unfolding seen onNode0 lentA longerBy
+unfolding seen onNode0 lentA
 changed-excess = refl
 
--- 17 and 18 on other lends, then the tables restored: "18 leaves the book as it is", and so does every refusal. Number 1 is node 0's jump
-pub restored : seen (load loadA ∷ start lentA (0 ∷ []) (0 ∷ []) ∷ advance lentA ∷ advance (otherNumber 1 60000) ∷ advance nothing
+-- 17 and 18 on other lends, then the tables restored: "18 leaves the book as it is", and so does every refusal.
+-- Number 1 is node 0's jump
+pub restored : seen (load loadA ∷ start lentA (0 ∷ []) (0 ∷ []) ∷ advance lentA ∷ advance (otherNumber 1 60000)
+    ∷ advance nothing
     ∷ advance lentA ∷ read ∷ [])
-    ≡ all (some Answer.accepted ∷ some (parts 2) ∷ some more ∷ none ∷ some (refused 17) ∷ some finished ∷ some (told 0 false 2 1) ∷ [])
+    ≡ all (some Answer.accepted ∷ some (parts 2) ∷ some more ∷ none ∷ some (refused 17) ∷ some finished
+    ∷ some (told 0 false 2 1) ∷ [])
 unfolding seen otherNumber loadA lentA
 restored = refl
 
@@ -95,16 +106,20 @@ unfolding seen onNode0 lentA otherByte
 other-at-start = (refl, refl)
 
 -- a call in the wrong state, a Cancel, and a Start from answered
-pub wrong-state : seen (read ∷ cancel ∷ load loadA ∷ advance lentA ∷ start lentA [] [] ∷ load loadA ∷ start lentA [] [] ∷ cancel
+pub wrong-state : seen (read ∷ cancel ∷ load loadA ∷ advance lentA ∷ start lentA [] [] ∷ load loadA
+    ∷ start lentA [] [] ∷ cancel
     ∷ start lentA [] [] ∷ advance lentA ∷ read ∷ start lentA (6 ∷ []) (0 ∷ []) ∷ read ∷ [])
-    ≡ all (some (refused 1) ∷ some (refused 1) ∷ some Answer.accepted ∷ some (refused 1) ∷ some (parts 1) ∷ some (refused 1)
-    ∷ some (refused 1) ∷ some Answer.accepted ∷ some (parts 1) ∷ some finished ∷ some (told 1 true 1 0) ∷ some (parts 1) ∷ some (refused 1) ∷ [])
+    ≡ all (some (refused 1) ∷ some (refused 1) ∷ some Answer.accepted ∷ some (refused 1) ∷ some (parts 1)
+    ∷ some (refused 1)
+    ∷ some (refused 1) ∷ some Answer.accepted ∷ some (parts 1) ∷ some finished ∷ some (told 1 true 1 0)
+    ∷ some (parts 1) ∷ some (refused 1) ∷ [])
 unfolding seen loadA lentA
 wrong-state = refl
 
 -- two faults at once: the first no in the text's order, 17 before 12, all of 13 before 14
 pub first-no : seen (load loadA ∷ start loadA (7 ∷ []) (2 ∷ []) ∷ start nothing (7 ∷ []) [] ∷ start lentA (7 ∷ []) []
-    ∷ start lentA (0 ∷ 7 ∷ []) (2 ∷ 0 ∷ []) ∷ start lentA (0 ∷ 0 ∷ []) (0 ∷ 2 ∷ []) ∷ start lentA (replicate 65 0) (replicate 65 0) ∷ [])
+    ∷ start lentA (0 ∷ 7 ∷ []) (2 ∷ 0 ∷ []) ∷ start lentA (0 ∷ 0 ∷ []) (0 ∷ 2 ∷ []) ∷ start lentA (replicate 65 0)
+    (replicate 65 0) ∷ [])
     ≡ all (some Answer.accepted ∷ some (refused 13) ∷ some (refused 17) ∷ some (refused 12)
     ∷ some (refused 13) ∷ some (refused 14) ∷ some (refused 12) ∷ [])
 unfolding seen loadA lentA
@@ -112,26 +127,31 @@ first-no = refl
 
 -- a Start refused with 18 leaves the old question, still clean. Number 13 is node 3's jump
 pub refused-start : seen (asking [] [] 1 ++ (start (otherNumber 13 60000) (0 ∷ 3 ∷ []) (0 ∷ 0 ∷ []) ∷ read ∷ []))
-    ≡ all (some Answer.accepted ∷ some (parts 1) ∷ some finished ∷ some (told 1 true 1 0) ∷ none ∷ some (told 1 true 1 0) ∷ [])
+    ≡ all (some Answer.accepted ∷ some (parts 1) ∷ some finished ∷ some (told 1 true 1 0) ∷ none
+    ∷ some (told 1 true 1 0) ∷ [])
 unfolding seen asking otherNumber loadA lentA
 refused-start = refl
 
 -- ---- left to the program, and agreed
 
 -- Start on other numbers: its acceptance and the whole question
-pub loose-start : seen (onNode0 (otherNumber 1 6) lentA lentA) ≡ all (some Answer.accepted ∷ none ∷ none ∷ none ∷ none ∷ [])
+pub loose-start : seen (onNode0 (otherNumber 1 6) lentA lentA)
+    ≡ all (some Answer.accepted ∷ none ∷ none ∷ none ∷ none ∷ [])
 unfolding seen onNode0 lentA otherNumber
 loose-start = refl
 
 -- an accepted advance on other numbers, or on another plan: unclean from then on, its Read too
 pub loose-advance :
-    (seen (onNode0 lentA (otherNumber 1 6) lentA) ≡ all (some Answer.accepted ∷ some (parts 2) ∷ none ∷ none ∷ none ∷ []))
-    × (seen (onNode0 lentA lentA otherLabel) ≡ all (some Answer.accepted ∷ some (parts 2) ∷ some more ∷ none ∷ none ∷ []))
+    (seen (onNode0 lentA (otherNumber 1 6) lentA)
+    ≡ all (some Answer.accepted ∷ some (parts 2) ∷ none ∷ none ∷ none ∷ []))
+    × (seen (onNode0 lentA lentA otherLabel)
+    ≡ all (some Answer.accepted ∷ some (parts 2) ∷ some more ∷ none ∷ none ∷ []))
 unfolding seen onNode0 lentA otherNumber otherLabel
 loose-advance = (refl, refl)
 
 -- a byte of S or above in an advance
-pub loose-byte : seen (onNode0 lentA lentA (otherByte 1 2)) ≡ all (some Answer.accepted ∷ some (parts 2) ∷ some more ∷ none ∷ some (refused 1) ∷ [])
+pub loose-byte : seen (onNode0 lentA lentA (otherByte 1 2))
+    ≡ all (some Answer.accepted ∷ some (parts 2) ∷ some more ∷ none ∷ some (refused 1) ∷ [])
 unfolding seen onNode0 lentA otherByte
 loose-byte = refl
 
@@ -141,7 +161,8 @@ unfoldable pub judged : List Answer → Bool
 unfolding computing onNode0 lentA
 judged xs = agreed newBook (onNode0 lentA lentA lentA) xs
 
--- the answers; a state, links, parts that are not so; finished told early; 18 on sound lends; a Load turned down; an answer missing
+-- the answers; a state, links, parts that are not so; finished told early; 18 on sound lends; a Load turned
+-- down; an answer missing
 pub turned-down :
     judged (Answer.accepted ∷ parts 2 ∷ more ∷ finished ∷ told 0 false 2 1 ∷ [])
     ∷ judged (Answer.accepted ∷ parts 2 ∷ more ∷ finished ∷ told 1 true 2 1 ∷ [])
@@ -168,13 +189,15 @@ pub turned-down-bytes :
 unfolding judgedBytes
 turned-down-bytes = refl
 
--- in a question that an accepted advance on another plan made unclean, the tables lent as at Start again: more or finished, never 18
+-- in a question that an accepted advance on another plan made unclean, the tables lent as at Start again: more
+-- or finished, never 18
 unfoldable pub judgedLoose : List Answer → Bool
 unfolding computing onNode0 lentA otherLabel
 judgedLoose xs = agreed newBook (onNode0 lentA otherLabel lentA) (Answer.accepted ∷ parts 2 ∷ more ∷ xs)
 
 pub turned-down-loose :
-    judgedLoose (finished ∷ told 1 true 9 9 ∷ []) ∷ judgedLoose (more ∷ refused 1 ∷ []) ∷ judgedLoose (refused 18 ∷ refused 1 ∷ [])
+    judgedLoose (finished ∷ told 1 true 9 9 ∷ []) ∷ judgedLoose (more ∷ refused 1 ∷ []) ∷ judgedLoose
+    (refused 18 ∷ refused 1 ∷ [])
     ∷ judgedLoose (refused 17 ∷ refused 1 ∷ []) ∷ []
     ≡ true ∷ true ∷ false ∷ false ∷ []
 unfolding judgedLoose

@@ -1,10 +1,10 @@
 -- What demand 3 takes from the questions layer: two facts about calls on numbers as built.
---     Firmly z q x         what is lent to an advance: plan, rules and 16-bit numbers as built and as at Start, bytes below S
+--     Firmly z q x         what an advance is lent: plan, rules and numbers as built and as at Start, bytes below S
 --     Handled z q ps       parts of the first roots, with any states below S
 --     reachedBy p          what an advance finds for part p
 --     Layers               the facts
--- They are stated with what the questions layer defines (rootsOn, partOn) and what document 01 means (roots, partOf), and ask no more
--- than the calls' checks and the book give: the states before may be any below S, the bytes too.
+-- They are stated with what the questions layer defines (rootsOn, partOn) and what document 01 means (roots, partOf),
+-- and ask no more than the calls' checks and the book give: the states before may be any below S, the bytes too.
 -- Assumes nothing.
 use Prim.Native.Nat.{ℕ, _<_}
 use mathlib.Core.Path.{_≡_}
@@ -27,8 +27,8 @@ use Rattle.book.specs.Model.{viewBy}
 abbrev pub reachedBy : Part → Reached
 reachedBy p = reached (p .state) (p .links)
 
--- "Where plan and rules name the record's N, S and K and, like the 16-bit numbers, are as at Start and as built, but run states and
--- maps are any bytes below S"
+-- "Where plan and rules name the record's N, S and K and, like the 16-bit numbers, are as at Start and as built, but
+-- run states and maps are any bytes below S"
 pub record Firmly (z : Sizes) (q : Question) (x : Lent) : Type 0 where
   pub built : linksBuilt z (q .lent) ≡ true
   pub same : sameLinks z (q .lent) x ≡ true
@@ -49,6 +49,7 @@ pub record Layers : Type 0 where
   pub roots-built : (z : Sizes) (x : Lent) (vs : List ℕ) → linksBuilt z x ≡ true → allBelow (z .n) vs ≡ true
       → rootsOn (z .n) (usedNums z x) vs ≡ some (roots (planTree (x .plan)) vs)
   -- "an advance goes on as always and stores and counts what this rule gives on those bytes"
-  pub part-built : (z : Sizes) (q : Question) (x : Lent) (ps : List Part) → Firmly z q x → Handled z q ps → length ps < partCount q
+  pub part-built : (z : Sizes) (q : Question) (x : Lent) (ps : List Part) → Firmly z q x → Handled z q ps
+      → length ps < partCount q
       → partOn (viewBy z x) (take (length ps) (rootsOf q)) (statesOf ps) (q .nodes) (q .labels) (nextRoot q ps)
       ≡ some (reachedBy (partOf (givenBy z q x) (rootsOf q) ps (nextRoot q ps)))

@@ -6,10 +6,11 @@
 --     whole-state      the last part has the root state of a fresh run on Start's plan with the listed labels changed
 --     whole-links      the links in all are the moves of the parts' climbs
 -- Assumes nothing.
-use Prim.Native.Nat.{ℕ, zero, suc, _+_, _-_, _*_, _≤_, _<_}
-use mathlib.Core.Path.{_≡_, refl, sym, ap, ap₂, _∙_, subst}
-use mathlib.Core.Bool.{Bool, true, false, cond, _&&_}
-use mathlib.Core.List.{List, [], _∷_, _++_, List·Memᴰ, List·Memᴰ·head, List·Memᴰ·tail, List·Memᴰ·cases-cons, List·Memᴰ·not-nil, Memᴰ·append-right}
+use Prim.Native.Nat.{ℕ, zero, suc, _+_, _-_, _*_, _<_}
+use mathlib.Core.Path.{_≡_, refl, sym, ap, _∙_, subst}
+use mathlib.Core.Bool.{Bool, true, false, cond}
+use mathlib.Core.List.{List, [], _∷_, _++_, List·Memᴰ, List·Memᴰ·head, List·Memᴰ·tail, List·Memᴰ·cases-cons}
+use mathlib.Core.List.{List·Memᴰ·not-nil, Memᴰ·append-right}
 use mathlib.Core.Logic.{inl, inr}
 use native.Mathlib.Decide.{decLt}
 use native.Mathlib.Omega.{arith}
@@ -20,26 +21,27 @@ use borrow.Author.Tests.{eq-eqb, ne-eqb}
 use Rattle.trees.specs.Tree.{Tree, size, kindsOf, kindAt, labelsOf, labelAt}
 use Rattle.trees.specs.Automaton.{Automaton, state}
 use Rattle.trees.specs.Numbering.{sub}
-use Rattle.trees.specs.Postorder.{treeOf}
 use Rattle.trees.specs.Changes.{changed}
-use Rattle.trees.specs.Tables.{tabulate, rows, stateMap, stateRow, stateTable}
+use Rattle.trees.specs.Tables.{rows, stateMap, stateRow, stateTable}
 use Rattle.trees.proofs.NodeLaws.{size-pos, sub-root}
 use Rattle.trees.proofs.PostorderLaws.{treeOf-kinds, treeOf-labels}
-use Rattle.trees.proofs.RowLaws.{Cell, cell-split, getD-tabulate, length-rows, getD-rows, length-stateRow, stateTable-state, stateTable-map}
+use Rattle.trees.proofs.RowLaws.{Cell, cell-split, getD-tabulate, length-rows, getD-rows, length-stateRow}
+use Rattle.trees.proofs.RowLaws.{stateTable-state, stateTable-map}
 use Rattle.trees.proofs.MapLaws.{stateMap-below}
 use Rattle.trees.proofs.RunLaws.{state-below}
 use Rattle.formats.specs.Bytes.{allBelow, holds}
 use Rattle.formats.specs.Plan.{planTree, labelsIn, kindsIn}
 use Rattle.formats.specs.Rules.{ruleAutomaton}
 use Rattle.formats.proofs.ListLaws.{at-allBelow, sameList-true}
-use Rattle.formats.proofs.PlanLaws.{length-labelsIn, labels-as-kinds, kinds-planTree, labels-planTree, size-planTree}
+use Rattle.formats.proofs.PlanLaws.{labels-as-kinds, kinds-planTree, labels-planTree}
 use Rattle.formats.proofs.RuleLaws.{RulesPass, leaf-state-below, inner-state-below}
 use Rattle.runs.proofs.ListedLaws.{label-changed, label-unlisted, length-changed}
 use Rattle.ready.specs.Ready.{leftChild, rightChild}
-use Rattle.ready.specs.Members.{readyList, roots, Rising}
-use Rattle.ready.specs.Parts.{Given, Part, anyBelow, stateOf, climbedState, innerState, partState, partOf, partsFrom, partsOf, lastState, allLinks, questionLinks}
+use Rattle.ready.specs.Members.{roots, Rising}
+use Rattle.ready.specs.Parts.{Given, Part, anyBelow, stateOf, climbedState, innerState, partState, partOf, partsFrom}
+use Rattle.ready.specs.Parts.{partsOf, lastState, allLinks, questionLinks}
 use Rattle.ready.proofs.ChangedRun.{Changes}
-use Rattle.ready.proofs.PartsRun.{Members, Sound, RunGiven, parts-right}
+use Rattle.ready.proofs.PartsRun.{Sound, RunGiven, parts-right}
 use Rattle.ready.proofs.SameTrees.{same-count}
 use Rattle.ready.proofs.BelowLaws.{rising-above}
 use Rattle.ready.proofs.ListLaws.{list-members, list-last, list-rising}
@@ -64,13 +66,15 @@ module _ (A : Automaton) (S : Sound A) (t : Tree) where
 
   pub table-below : allBelow (A .states) (stateTable A t) ≡ true
   unfolding stateTable
-  table-below = at-allBelow (A .states) (rows (size t) (stateRow A t)) (λ j h. each j (omega (arith, length-stateTable)))
+  table-below = at-allBelow (A .states) (rows (size t) (stateRow A t))
+      (λ j h. each j (omega (arith, length-stateTable)))
     where
       each : (j : ℕ) → j < size t * (A .states + 1) → getD (rows (size t) (stateRow A t)) j 0 < A .states
       each j h =
           let c : Cell (A .states + 1) (size t) j = cell-split (A .states + 1) (size t) j h in
           rw (c .is)
-          (rw (getD-rows (size t) (A .states + 1) (stateRow A t) (λ v l. length-stateRow A t v) (c .row) (c .column) (c .row-in) (c .column-in))
+          (rw (getD-rows (size t) (A .states + 1) (stateRow A t) (λ v l. length-stateRow A t v) (c .row) (c .column)
+          (c .row-in) (c .column-in))
           (row-below (c .row) (c .column) (c .column-in)))
 
 -- ---- the state of a part
@@ -92,8 +96,10 @@ module _ (G : Given) (ms : List ℕ) (ps : List Part) (v : ℕ) (S : Sound (G .a
       a = getD (G .labels) v 0
 
       go : (b c : Bool) → cond b
-          (cond c (G .automaton .δ (stateOf ps l) a (stateOf ps r)) (G .automaton .δ (climbedState G ms ps l) a (G .runState r)))
-          (cond c (G .automaton .δ (G .runState l) a (climbedState G ms ps r)) (G .automaton .δ (G .runState l) a (G .runState r)))
+          (cond c (G .automaton .δ (stateOf ps l) a (stateOf ps r))
+          (G .automaton .δ (climbedState G ms ps l) a (G .runState r)))
+          (cond c (G .automaton .δ (G .runState l) a (climbedState G ms ps r))
+          (G .automaton .δ (G .runState l) a (G .runState r)))
           < G .automaton .states
       go true true = S .next _ _ _
       go true false = S .next _ _ _
@@ -104,7 +110,8 @@ module _ (G : Given) (ms : List ℕ) (ps : List Part) (v : ℕ) (S : Sound (G .a
   unfolding partOf partState
   part-below =
       choice (G .automaton .states) (eqb (kindAt (G .tree) v) 0) (G .automaton .ι (getD (G .labels) v 0))
-      (innerState G ms ps v (leftChild (G .tree) v) (rightChild v)) (S .init _) (inner-below (leftChild (G .tree) v) (rightChild v))
+      (innerState G ms ps v (leftChild (G .tree) v) (rightChild v)) (S .init _)
+      (inner-below (leftChild (G .tree) v) (rightChild v))
 
 -- the rule reads the bytes in use alone
 pub given-same : (z : Sizes) (q : Question) (x y : Lent) → usedBytes z x ≡ usedBytes z y → givenBy z q x ≡ givenBy z q y
@@ -120,7 +127,8 @@ rising-end (d ∷ l) v lo r m = elim (List·Memᴰ·cases-cons m) [
   | inr k ↦ rising-end l v (suc d) (r .1) k
 ]
 
-state-last : (ps : List Part) (p : Part) → (List·Memᴰ (p .node) (nodesOf ps) → ⊥) → stateOf (ps ++ (p ∷ [])) (p .node) ≡ p .state
+state-last : (ps : List Part) (p : Part) → (List·Memᴰ (p .node) (nodesOf ps) → ⊥)
+    → stateOf (ps ++ (p ∷ [])) (p .node) ≡ p .state
 unfolding stateOf
 state-last [] p n = rw (eq-eqb (p .node) (p .node) refl)
 state-last (x ∷ ps) p n =
@@ -154,7 +162,8 @@ module _ (z : Sizes) (q : Question) (B : Built z (q .lent)) where
 
   labels-length : length (changed (labelsIn (q .lent .plan)) (q .nodes) (q .labels)) ≡ length (kindsIn (q .lent .plan))
   labels-length =
-      length-changed (labelsIn (q .lent .plan)) (q .nodes) (q .labels) ∙ labels-as-kinds (q .lent .plan) (plan-of z (q .lent) B)
+      length-changed (labelsIn (q .lent .plan)) (q .nodes) (q .labels)
+      ∙ labels-as-kinds (q .lent .plan) (plan-of z (q .lent) B)
 
   u-kinds : kindsOf u ≡ kindsIn (q .lent .plan)
   u-kinds = treeOf-kinds (kindsIn (q .lent .plan)) _ labels-length (plan-of z (q .lent) B .postorder)
@@ -186,7 +195,8 @@ module _ (z : Sizes) (q : Question) (B : Built z (q .lent)) where
     bytes = sameList-true (usedBytes z (q .lent)) (stateTable A t) e
 
     table : take (size t * (A .states + 1)) (usedBytes z (q .lent)) ≡ stateTable A t
-    table = rw bytes (take-all (size t * (A .states + 1)) (stateTable A t) (omega (arith, length-stateTable A sound-rules t)))
+    table = rw bytes (take-all (size t * (A .states + 1)) (stateTable A t)
+        (omega (arith, length-stateTable A sound-rules t)))
 
     pub sound-below : bytesBelow z (q .lent) ≡ true
     unfolding bytesBelow
@@ -197,9 +207,11 @@ module _ (z : Sizes) (q : Question) (B : Built z (q .lent)) where
     given-run = record {
       labels = sym u-labels;
       states = λ v h.
-          ap (λ (s : ℕ). getD (usedBytes z (q .lent)) (v * (s + 1)) 0) (sym (B .s-is)) ∙ stateTable-state A t (usedBytes z (q .lent)) table v h;
+          ap (λ (s : ℕ). getD (usedBytes z (q .lent)) (v * (s + 1)) 0) (sym (B .s-is))
+          ∙ stateTable-state A t (usedBytes z (q .lent)) table v h;
       maps = λ v x h l.
-          let i : v * (z .s + 1) + (1 + x) ≡ v * (A .states + 1) + 1 + x = omega (arith, ap (λ (s : ℕ). v * (s + 1)) (B .s-is)) in
+          let i : v * (z .s + 1) + (1 + x) ≡ v * (A .states + 1) + 1 + x =
+          omega (arith, ap (λ (s : ℕ). v * (s + 1)) (B .s-is)) in
           ap (λ (j : ℕ). getD (usedBytes z (q .lent)) j 0) i ∙ stateTable-map A t (usedBytes z (q .lent)) table v h x l;
     }
 
@@ -225,7 +237,8 @@ module _ (z : Sizes) (q : Question) (B : Built z (q .lent)) where
         let away : List·Memᴰ v (nodesOf ps) → ⊥ = λ m.
         rising-end (L .0) v 0 (subst (λ (k : List ℕ). Rising 0 k) (L .1) (list-rising w t))
         (subst (λ (k : List ℕ). List·Memᴰ v k) (from-nodes G ms [] (L .0)) m) in
-        let member : List·Memᴰ v ms = subst (λ (k : List ℕ). List·Memᴰ v k) (sym (L .1)) (Memᴰ·append-right (L .0) (List·Memᴰ·head refl)) in
+        let member : List·Memᴰ v ms = subst (λ (k : List ℕ). List·Memᴰ v k) (sym (L .1))
+        (Memᴰ·append-right (L .0) (List·Memᴰ·head refl)) in
         let end : v + 1 ≡ size u = top ∙ same-count t u (changes .kinds) in
         ap (λ (k : List Part). lastState k 0) split
         ∙ last-more ps p 0

@@ -1,13 +1,12 @@
 -- Laws of lends: what the tests of specs/Lends say.
---     Built z x            plan and rules pass 2 to 10, name N, S and K, and the numbers are as built; links-built, built-links: exactly
---                          where linksBuilt says so
+--     Built z x            plan and rules pass 2 to 10 and name N, S and K, and the numbers are as built
+--     links-built, built-links    exactly where linksBuilt says so
 --     Same z x y           plan, rules and numbers are the same; same-links, links-same
---     built-same           lends that are the same are built alike
 --     same-bytes           lent the same: the bytes too
 --     marks-built          the accept marks by the record's S and K are the rule table's
 -- Assumes nothing.
 use Prim.Native.Nat.{ℕ, _+_, _*_}
-use mathlib.Core.Path.{_≡_, refl, sym, ap, ap₂, _∙_}
+use mathlib.Core.Path.{_≡_, sym, ap, ap₂, _∙_}
 use mathlib.Core.Bool.{Bool, true, _&&_}
 use mathlib.Core.List.{List}
 use lib.Dec.{eqb}
@@ -50,20 +49,25 @@ module _ (z : Sizes) (x : Lent) where
       let c : namesSizes z x ≡ true = and-left (namesSizes z x) numsBuilt b in
       let d : sk ≡ true = and-right (eqb (nodeCount (x .plan)) (z .n)) sk c in
       record {
-        passed = eqb-true (firstNo (ruleTableChecks (x .plan) (x .rules))) 0 (and-left passes (namesSizes z x && numsBuilt) e);
+        passed = eqb-true (firstNo (ruleTableChecks (x .plan) (x .rules))) 0
+            (and-left passes (namesSizes z x && numsBuilt) e);
         n-is = eqb-true (nodeCount (x .plan)) (z .n) (and-left (eqb (nodeCount (x .plan)) (z .n)) sk c);
-        s-is = eqb-true (stateCount (x .rules)) (z .s) (and-left (eqb (stateCount (x .rules)) (z .s)) (eqb (labelCount (x .rules)) (z .k)) d);
-        k-is = eqb-true (labelCount (x .rules)) (z .k) (and-right (eqb (stateCount (x .rules)) (z .s)) (eqb (labelCount (x .rules)) (z .k)) d);
+        s-is = eqb-true (stateCount (x .rules)) (z .s)
+            (and-left (eqb (stateCount (x .rules)) (z .s)) (eqb (labelCount (x .rules)) (z .k)) d);
+        k-is = eqb-true (labelCount (x .rules)) (z .k)
+            (and-right (eqb (stateCount (x .rules)) (z .s)) (eqb (labelCount (x .rules)) (z .k)) d);
         nums = sameList-true (usedNums z x) (builtLinks (x .plan)) (and-right (namesSizes z x) numsBuilt b);
       }
 
   pub built-links : Built z x → linksBuilt z x ≡ true
   unfolding linksBuilt namesSizes
   built-links B =
-      and-both passes (namesSizes z x && numsBuilt) (eq-eqb (firstNo (ruleTableChecks (x .plan) (x .rules))) 0 (B .passed))
+      and-both passes (namesSizes z x && numsBuilt)
+      (eq-eqb (firstNo (ruleTableChecks (x .plan) (x .rules))) 0 (B .passed))
       (and-both (namesSizes z x) numsBuilt
       (and-both (eqb (nodeCount (x .plan)) (z .n)) sk (eq-eqb (nodeCount (x .plan)) (z .n) (B .n-is))
-      (and-both (eqb (stateCount (x .rules)) (z .s)) (eqb (labelCount (x .rules)) (z .k)) (eq-eqb (stateCount (x .rules)) (z .s) (B .s-is))
+      (and-both (eqb (stateCount (x .rules)) (z .s)) (eqb (labelCount (x .rules)) (z .k))
+      (eq-eqb (stateCount (x .rules)) (z .s) (B .s-is))
       (eq-eqb (labelCount (x .rules)) (z .k) (B .k-is))))
       (sameList-is (usedNums z x) (builtLinks (x .plan)) (B .nums)))
 
@@ -94,15 +98,18 @@ module _ (z : Sizes) (x y : Lent) where
       let b : sameEnd ≡ true = and-right (sameList (x .plan) (y .plan)) sameEnd e in
       record {
         plan = sameList-true (x .plan) (y .plan) (and-left (sameList (x .plan) (y .plan)) sameEnd e);
-        rules = sameList-true (x .rules) (y .rules) (and-left (sameList (x .rules) (y .rules)) (sameList (usedNums z x) (usedNums z y)) b);
-        nums = sameList-true (usedNums z x) (usedNums z y) (and-right (sameList (x .rules) (y .rules)) (sameList (usedNums z x) (usedNums z y)) b);
+        rules = sameList-true (x .rules) (y .rules)
+            (and-left (sameList (x .rules) (y .rules)) (sameList (usedNums z x) (usedNums z y)) b);
+        nums = sameList-true (usedNums z x) (usedNums z y)
+            (and-right (sameList (x .rules) (y .rules)) (sameList (usedNums z x) (usedNums z y)) b);
       }
 
   pub links-same : Same z x y → sameLinks z x y ≡ true
   unfolding sameLinks
   links-same S =
       and-both (sameList (x .plan) (y .plan)) sameEnd (sameList-is (x .plan) (y .plan) (S .plan))
-      (and-both (sameList (x .rules) (y .rules)) (sameList (usedNums z x) (usedNums z y)) (sameList-is (x .rules) (y .rules) (S .rules))
+      (and-both (sameList (x .rules) (y .rules)) (sameList (usedNums z x) (usedNums z y))
+      (sameList-is (x .rules) (y .rules) (S .rules))
       (sameList-is (usedNums z x) (usedNums z y) (S .nums)))
 
   pub lent-links : sameLent z x y ≡ true → sameLinks z x y ≡ true
@@ -112,7 +119,8 @@ module _ (z : Sizes) (x y : Lent) where
   pub same-bytes : sameLent z x y ≡ true → usedBytes z x ≡ usedBytes z y
   unfolding sameLent
   same-bytes e =
-      sameList-true (usedBytes z x) (usedBytes z y) (and-right (sameLinks z x y) (sameList (usedBytes z x) (usedBytes z y)) e)
+      sameList-true (usedBytes z x) (usedBytes z y)
+      (and-right (sameLinks z x y) (sameList (usedBytes z x) (usedBytes z y)) e)
 
 -- ---- the accept marks
 

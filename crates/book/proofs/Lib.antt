@@ -15,5 +15,6 @@ pub mod OrderLaws
 pub mod QuestionTheorem
 pub mod WrittenSound
 pub mod JudgeLaws
+pub mod Theorems
 pub mod Sample
 pub mod Controls

@@ -5,9 +5,9 @@
 -- A permutation is mathlib's `List·Permᴰ`, of the list of entries (node, label).
 -- Assumes nothing.
 use Prim.Native.Nat.{ℕ}
-use mathlib.Core.Path.{_≡_, refl, sym, ap, ap₂, _∙_, fun-ext}
+use mathlib.Core.Path.{_≡_, sym, ap, ap₂, _∙_, fun-ext}
 use mathlib.Core.Bool.{Bool, true, cond}
-use mathlib.Core.List.{List, _∷_, zip, List·Permᴰ}
+use mathlib.Core.List.{List, zip, List·Permᴰ}
 use lib.ListN.{length}
 use Rattle.trees.specs.Tree.{Tree}
 use Rattle.trees.specs.Changes.{changed}
@@ -16,16 +16,17 @@ use Rattle.trees.specs.Automaton.{state, accepts}
 use Rattle.formats.specs.Bytes.{holds, distinct}
 use Rattle.formats.specs.Plan.{planTree, labelsIn, kindsIn}
 use Rattle.formats.specs.Rules.{ruleAutomaton}
-use Rattle.formats.specs.Checks.{firstNo, listChecks}
+use Rattle.formats.specs.Checks.{firstNo}
 use Rattle.runs.proofs.OrderLaws.{keys-zip, keys-perm, length-perm, holds-perm, changed-order, list-order}
 use Rattle.ready.specs.Members.{readyList, roots}
 use Rattle.ready.specs.Parts.{questionLinks}
 use Rattle.book.specs.Lends.{Lent, Sizes, fits}
-use Rattle.book.specs.Calls.{Answer, told, start, Phase, mayStart}
+use Rattle.book.specs.Calls.{told, start, Phase, mayStart}
 use Rattle.book.specs.Refusals.{refusal}
 use Rattle.book.specs.Book.{Question, rootsOf, partCount, changedTree, freshAnswer}
 
-module _ (vs bs ws cs : List ℕ) (g : length vs ≡ length bs) (h : length ws ≡ length cs) (d : List·Permᴰ (zip vs bs) (zip ws cs)) where
+module _ (vs bs ws cs : List ℕ) (g : length vs ≡ length bs) (h : length ws ≡ length cs)
+    (d : List·Permᴰ (zip vs bs) (zip ws cs)) where
   same-nodes : (v : ℕ) → holds v vs ≡ holds v ws
   same-nodes v = sym (ap (holds v) (keys-zip vs bs g)) ∙ holds-perm v (keys-perm d) ∙ ap (holds v) (keys-zip ws cs h)
 
@@ -42,7 +43,8 @@ module _ (vs bs ws cs : List ℕ) (g : length vs ≡ length bs) (h : length ws �
       ap (λ (n : ℕ). cond (mayStart p) (cond (fits z x) n 17) 1) (list-order vs bs ws cs g h d (z .n) (z .k))
 
   -- two questions on the same lends
-  module _ (q k : Question) (same : q .lent ≡ k .lent) (qv : q .nodes ≡ vs) (qb : q .labels ≡ bs) (kv : k .nodes ≡ ws) (kb : k .labels ≡ cs) where
+  module _ (q k : Question) (same : q .lent ≡ k .lent) (qv : q .nodes ≡ vs) (qb : q .labels ≡ bs) (kv : k .nodes ≡ ws)
+      (kb : k .labels ≡ cs) where
     roots-same : rootsOf q ≡ rootsOf k
     roots-same =
         ap₂ (λ (x : Lent) (l : List ℕ). roots (planTree (x .plan)) l) same qv
@@ -52,7 +54,9 @@ module _ (vs bs ws cs : List ℕ) (g : length vs ≡ length bs) (h : length ws �
     pub parts-order : partCount q ≡ partCount k
     parts-order = ap length roots-same
 
-    labels-same : distinct vs ≡ true → changed (labelsIn (q .lent .plan)) (q .nodes) (q .labels) ≡ changed (labelsIn (k .lent .plan)) (k .nodes) (k .labels)
+    labels-same : distinct vs ≡ true
+        → changed (labelsIn (q .lent .plan)) (q .nodes) (q .labels) ≡ changed (labelsIn (k .lent .plan)) (k .nodes)
+        (k .labels)
     labels-same u =
         ap₂ (λ (l m : List ℕ). changed (labelsIn (q .lent .plan)) l m) qv qb
         ∙ changed-order vs bs ws cs g h d u (labelsIn (q .lent .plan))
@@ -67,5 +71,6 @@ module _ (vs bs ws cs : List ℕ) (g : length vs ≡ length bs) (h : length ws �
     fresh-order u =
         ap₂ (λ (x : Lent) (t : Tree). told (state (ruleAutomaton (x .rules)) t) (accepts (ruleAutomaton (x .rules)) t)
         (partCount q) (questionLinks (planTree (q .lent .plan)) (rootsOf q))) same (tree-same u)
-        ∙ ap₂ (λ (x : Lent) (ms : List ℕ). told (state (ruleAutomaton (k .lent .rules)) (changedTree k)) (accepts (ruleAutomaton (k .lent .rules)) (changedTree k))
+        ∙ ap₂ (λ (x : Lent) (ms : List ℕ). told (state (ruleAutomaton (k .lent .rules)) (changedTree k))
+        (accepts (ruleAutomaton (k .lent .rules)) (changedTree k))
         (length ms) (questionLinks (planTree (x .plan)) ms)) same roots-same

@@ -13,7 +13,8 @@ use borrow.Author.Tests.{ltb-true}
 use Rattle.trees.specs.Climb.{andThen}
 use Rattle.links.specs.Cells.{depthCell, sizeCell}
 use Rattle.questions.specs.Climbs.{View, below, ruleOn, Reached, reached}
-use Rattle.questions.specs.Part.{Found, foundBelow, labelOn, climbFrom, runReached, ownReached, joinOn, innerOn, leafOn, forkOn, partOn}
+use Rattle.questions.specs.Part.{Found, foundBelow, labelOn, climbFrom, runReached, ownReached, joinOn, innerOn}
+use Rattle.questions.specs.Part.{leafOn, forkOn, partOn}
 
 pub none-some : {X : Type 0} {x : X} → none ≡ some x → ⊥
 none-some e = let z : _≡_ {A = ℕ} 0 1 = cc in omega arith

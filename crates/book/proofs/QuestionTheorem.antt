@@ -1,14 +1,14 @@
 -- The further statements of demand 3, about what the calls tell of one question.
 --     question x vs bs    the question that a Start on sound lends x puts
---     CleanlyTold         of a question that Start accepted on sound lends and that was left alone: how many parts Start told, after
---                         how many accepted advances finished is told, what Reads tell, and the ceilings on parts and links
+--     CleanlyTold         of a question that Start accepted on sound lends and that was left alone: the parts that
+--                         Start told, after how many accepted advances finished is told, what Reads tell, ceilings
 --     question-told       it holds in every history from a fresh record
 --     told-order          and does not depend on the order of the list
 -- Refused calls may come between; a Cancel may not.
 -- Assumes nothing.
 use Prim.Native.Nat.{ℕ, zero, suc, _+_, _*_, _≤_, _<_}
 use mathlib.Core.Path.{_≡_, refl, sym, ap, _∙_, subst}
-use mathlib.Core.Bool.{Bool, true, false, cond}
+use mathlib.Core.Bool.{true}
 use mathlib.Core.List.{List, [], _∷_, _++_, zip, List·Permᴰ}
 use mathlib.Core.Option.{none, some}
 use native.Mathlib.Omega.{arith}
@@ -19,13 +19,13 @@ use Rattle.formats.specs.Bytes.{distinct}
 use Rattle.formats.specs.Plan.{planTree}
 use Rattle.formats.specs.Checks.{firstNo, listChecks}
 use Rattle.formats.proofs.CheckLaws.{true-false, and-left}
-use Rattle.formats.proofs.InputLaws.{ListPasses, list-passes}
-use Rattle.ready.specs.Parts.{questionLinks}
+use Rattle.formats.proofs.InputLaws.{list-passes}
 use Rattle.book.specs.Lends.{Lent, Sizes, linksBuilt, bytesBuilt, sound}
 use Rattle.book.specs.Calls.{Call, start, Answer, refused, parts, more, finished, told}
 use Rattle.book.specs.Refusals.{refusal}
-use Rattle.book.specs.Book.{Standing, clean, firm, loose, Question, State, Book, Next, phase, inState, newBook, step, decided, proceed}
-use Rattle.book.specs.Book.{rootsOf, partCount, freshAnswer, standingOf, asked, starting}
+use Rattle.book.specs.Book.{Standing, clean, Question, State, Book, Next, phase, inState, newBook}
+use Rattle.book.specs.Book.{step, decided, proceed}
+use Rattle.book.specs.Book.{partCount, freshAnswer, standingOf, asked, starting}
 use Rattle.book.specs.Demand3.{Conforms, after, Agrees, History}
 use Rattle.book.specs.Model.{freshRecord, Does}
 use Rattle.book.specs.Alone.{isRefused, advances, finishedAfter, bookAt, LeftAlone, EveryTold, OnlyTold}
@@ -72,12 +72,14 @@ module _ (z : Sizes) (s : State) (x : Lent) (vs bs : List ℕ) (n : ℕ) (sounds
 
   -- n is the number of parts, and the question runs
   abbrev Begins : Next → Type 0
-  Begins r = Conforms r (parts n) → (n ≡ partCount (question x vs bs)) × (after r (parts n) ≡ going z (question x vs bs) 0 [])
+  Begins r = Conforms r (parts n)
+      → (n ≡ partCount (question x vs bs)) × (after r (parts n) ≡ going z (question x vs bs) 0 [])
 
   begins-at : Begins (starting b (opened (standingOf z x)) (standingOf z x))
   unfolding starting inState
   begins-at =
-      subst (λ (k : Standing). Begins (starting b (opened k) k)) (sym begins-clean) (λ e. (parts-told (partCount (question x vs bs)) e, refl))
+      subst (λ (k : Standing). Begins (starting b (opened k) k)) (sym begins-clean)
+      (λ e. (parts-told (partCount (question x vs bs)) e, refl))
 
   begun : Begins (step b (start x vs bs))
   unfolding step decided proceed asked
@@ -113,7 +115,8 @@ partsIn (parts p) = 0
 partsIn more = 0
 partsIn finished = 0
 
-few-links : (d : ℕ) (a : Answer) → linksIn a ≤ partsIn a * d → (ys : List Answer) → OnlyTold a ys → EveryTold (λ s y p l. l ≤ p * d) ys
+few-links : (d : ℕ) (a : Answer) → linksIn a ≤ partsIn a * d → (ys : List Answer) → OnlyTold a ys
+    → EveryTold (λ s y p l. l ≤ p * d) ys
 unfolding linksIn partsIn
 few-links d a h [] o = tt
 few-links d a h (refused n ∷ ys) o = few-links d a h ys o
@@ -124,43 +127,51 @@ few-links d a h (finished ∷ ys) o = few-links d a h ys o
 few-links d a h (told s y p l ∷ ys) o =
     (subst (λ (c : Answer). linksIn c ≤ partsIn c * d) (sym (o .0)) h, few-links d a h ys (o .1))
 
-fresh-few : (q : Question) → linksIn (freshAnswer q) ≤ partsIn (freshAnswer q) * (3 * digits (height (planTree (q .lent .plan))))
+fresh-few : (q : Question) → linksIn (freshAnswer q) ≤ partsIn
+    (freshAnswer q) * (3 * digits (height (planTree (q .lent .plan))))
 unfolding linksIn partsIn freshAnswer
 fresh-few q = question-links (planTree (q .lent .plan)) (q .nodes)
 
 -- ---- the statements
 
-module _ (L : Layers) (cs : List Call) (xs : List Answer) (x : Lent) (vs bs : List ℕ) (n : ℕ) (ds : List Call) (ys : List Answer) where
+module _ (L : Layers) (cs : List Call) (xs : List Answer) (x : Lent) (vs bs : List ℕ) (n : ℕ) (ds : List Call)
+    (ys : List Answer) where
   -- the N, S and K of the last accepted Load before this Start
   abbrev pub sizesBefore : Sizes
   sizesBefore = bookAt newBook cs xs .sizes
 
-  pub question-told : length cs ≡ length xs → History Does freshRecord (cs ++ (start x vs bs ∷ ds)) (xs ++ (parts n ∷ ys))
+  pub question-told : length cs ≡ length xs
+      → History Does freshRecord (cs ++ (start x vs bs ∷ ds)) (xs ++ (parts n ∷ ys))
       → sound sizesBefore x ≡ true → LeftAlone sizesBefore x ds ys → CleanlyTold x vs bs n ys
   unfolding sound
   question-told same h sounds alone =
       let A = agrees-split newBook cs (start x vs bs ∷ ds) xs (parts n ∷ ys) same (demand-3 L _ _ h) in
       let B = begun sizesBefore (bookAt newBook cs xs .state) x vs bs n sounds (A .0) in
       let l = listed sizesBefore (bookAt newBook cs xs .state) x vs bs n sounds (A .0) in
-      let built : linksBuilt sizesBefore x ≡ true = and-left (linksBuilt sizesBefore x) (bytesBuilt sizesBefore x) sounds in
+      let built : linksBuilt sizesBefore x ≡ true =
+      and-left (linksBuilt sizesBefore x) (bytesBuilt sizesBefore x) sounds in
       let K : Alone (question x vs bs) 0 ys =
       left-alone sizesBefore (question x vs bs) 0 [] (some-part (question x vs bs)) ds ys
       (subst (λ (b : Book). Agrees b ds ys) (B .1) (A .1)) alone in
       record {
         parts-are = B .0;
-        few = subst (Few (length vs)) (sym (B .0)) (ready-count L sizesBefore x vs built (list-passes _ _ vs bs l .nodes-below));
+        few = subst (Few (length vs)) (sym (B .0))
+            (ready-count L sizesBefore x vs built (list-passes _ _ vs bs l .nodes-below));
         exact = λ m e. omega (arith, K .exact m e, B .0);
         unfinished = λ e. omega (arith, K .unfinished e, B .0);
         most = omega (arith, K .most, B .0);
         only = K .only;
-        links = few-links (3 * digits (height (planTree (x .plan)))) (freshAnswer (question x vs bs)) (fresh-few (question x vs bs)) ys (K .only);
+        links = few-links (3 * digits (height (planTree (x .plan)))) (freshAnswer (question x vs bs))
+            (fresh-few (question x vs bs)) ys (K .only);
       }
 
 -- "whatever the order of the list": where no node is listed twice, what is told of one order is what is told of another
-pub told-order : (x : Lent) (vs bs ws cs : List ℕ) → length vs ≡ length bs → length ws ≡ length cs → List·Permᴰ (zip vs bs) (zip ws cs)
+pub told-order : (x : Lent) (vs bs ws cs : List ℕ) → length vs ≡ length bs → length ws ≡ length cs
+    → List·Permᴰ (zip vs bs) (zip ws cs)
     → distinct vs ≡ true → (n : ℕ) (ys : List Answer) → CleanlyTold x vs bs n ys → CleanlyTold x ws cs n ys
 told-order x vs bs ws cs g h d u n ys T = record {
-  parts-are = T .parts-are ∙ parts-order vs bs ws cs g h d (question x vs bs) (question x ws cs) refl refl refl refl refl;
+  parts-are = T .parts-are ∙ parts-order vs bs ws cs g h d (question x vs bs) (question x ws cs) refl refl refl refl
+      refl;
   few = subst (λ (m : ℕ). Few m n) (length-order vs bs ws cs g h d) (T .few);
   exact = T .exact;
   unfinished = T .unfinished;

@@ -1,23 +1,24 @@
 -- What ties the session's record to the book.
---     Parted r z q ps    the record has the question's list and the ready set, and the states of the parts ps, all below S
+--     Parted r z q ps    the record has the question's list and the ready set, and the states of parts ps, all below S
 --     Counted r q        its states and links are the book's trail, one for each count
 --     Cleanly z q        the bytes of Start are as built, and the trail was worked out on them
 --     Stands r z q k     what a question of standing k keeps
 --     Unended, Ended     a running question has a part left; an answered one the yes or no of its last state
 --     Rel r b            record and book agree
--- In a loose question only the list, the ready set and states below S are kept, and these only where the numbers of Start were as built:
--- enough for "never 18" on other bytes.
+-- In a loose question only the list, the ready set and states below S are kept, and these only where the numbers of
+-- Start were as built: enough for "never 18" on other bytes.
 -- Assumes nothing.
-use Prim.Native.Nat.{ℕ, _<_}
+use Prim.Native.Nat.{_<_}
 use mathlib.Core.Path.{_≡_}
-use mathlib.Core.Bool.{Bool, true}
+use mathlib.Core.Bool.{true}
 use mathlib.Core.List.{List, []}
 use lib.ListN.{length, take}
 use Rattle.formats.specs.Rules.{ruleAutomaton}
 use Rattle.formats.specs.Checks.{firstNo, listChecks}
 use Rattle.ready.specs.Parts.{Part, partsFrom, lastState, allLinks}
 use Rattle.book.specs.Lends.{Sizes, linksBuilt, bytesBuilt}
-use Rattle.book.specs.Book.{Standing, clean, firm, loose, Question, State, Book, phase, rootsOf, partCount, givenBy}
+use Rattle.book.specs.Book.{Standing, clean, firm, loose, Question, State, Book, phase, rootsOf, partCount}
+use Rattle.book.specs.Book.{givenBy}
 use Rattle.book.specs.Model.{Record}
 use Rattle.ready.specs.Parts.{statesOf}
 use Rattle.book.proofs.Facts.{Handled}

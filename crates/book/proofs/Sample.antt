@@ -20,34 +20,44 @@ use Rattle.formats.specs.Bytes.{allBelow, holds, distinct, sameList}
 use Rattle.formats.specs.Checks.{firstNo, planChecks, ruleChecks, listChecks, ruleTableChecks, buildChecks}
 use Rattle.formats.specs.Built.{builtLinks, builtStates}
 use Rattle.ready.specs.Members.{someIn, someBelow, forksAt, isMember, keep, readyList, roots}
-use Rattle.ready.specs.Parts.{isUnder, anyBelow, lastBelow, moveState, climbMoves, climbedLinks, innerLinks, partLinks, sumOf, questionLinks}
-use Rattle.ready.specs.Parts.{stateOf, climbedState, innerState, partState, partOf, partsFrom, partsOf, lastState, allLinks}
-use Rattle.questions.specs.Search.{isBelow, nextUnless, searchIn, search, meetOn}
+use Rattle.ready.specs.Parts.{isUnder, anyBelow, lastBelow, moveState, climbMoves, climbedLinks, innerLinks}
+use Rattle.ready.specs.Parts.{partLinks, sumOf, questionLinks}
+use Rattle.ready.specs.Parts.{stateOf, climbedState, innerState, partState, partOf, partsFrom, partsOf, lastState}
+use Rattle.ready.specs.Parts.{allLinks}
+use Rattle.questions.specs.Search.{nextUnless, searchIn, search, meetOn}
+use Rattle.links.specs.Cells.{isBelow}
 use Rattle.questions.specs.Roots.{insertRising, risingOf, wanted, withFork, withMeet, forksOn, rootsOn}
 use Rattle.questions.specs.Climbs.{below, runOn, ruleOn, siblingOn, parentOn, moveOn, climbOn}
-use Rattle.questions.specs.Part.{lastFound, labelOn, climbFrom, runReached, ownReached, joinOn, innerOn, leafOn, forkOn, partOn}
-use Rattle.book.specs.Lends.{Lent, Sizes, fits, sameLinks, sameLent, namesSizes, linksBuilt, bytesBuilt, sound, bytesBelow}
-use Rattle.book.specs.Calls.{Call, load, start, advance, cancel, read, Answer, refused, parts, more, finished, told}
+use Rattle.questions.specs.Part.{lastFound, labelOn, climbFrom, runReached, ownReached, joinOn, innerOn, leafOn}
+use Rattle.questions.specs.Part.{forkOn, partOn}
+use Rattle.book.specs.Lends.{Lent, fits, sameLinks, sameLent, namesSizes, linksBuilt, bytesBuilt, sound}
+use Rattle.book.specs.Lends.{bytesBelow}
+use Rattle.book.specs.Calls.{Call, load, start, advance, read, Answer, refused}
+use Rattle.book.specs.Calls.{told}
 use Rattle.book.specs.Calls.{mayLoad, mayStart, isRunning, isAnswered}
 use Rattle.book.specs.Refusals.{refusal}
-use Rattle.book.specs.Book.{phase, newBook, inState, givenBy, longer, freshAnswer, ruleAnswer, standingOf, asked, mayStartWith}
-use Rattle.book.specs.Book.{unlessRefused, starting, advanced, goesOn, otherBytes, mayAdvanceWith, byAnswer, loosely, firmly, advancing}
+use Rattle.book.specs.Book.{phase, newBook, inState, givenBy, longer, freshAnswer, ruleAnswer, standingOf}
+use Rattle.book.specs.Book.{asked, mayStartWith}
+use Rattle.book.specs.Book.{unlessRefused, starting, advanced, goesOn, otherBytes, mayAdvanceWith, byAnswer}
+use Rattle.book.specs.Book.{loosely, firmly, advancing}
 use Rattle.book.specs.Book.{isTold, reading, proceed, decided, step}
-use Rattle.book.specs.Model.{idle, freshRecord, started, startWith, stepped, advanceWith, lastOf, proceeds, unless, act}
+use Rattle.book.specs.Model.{idle, freshRecord, started, startWith, stepped, advanceWith, lastOf, proceeds}
+use Rattle.book.specs.Model.{unless, act}
 use Rattle.book.specs.Judge.{answersOf, flag, code, sameAnswer, conforms, agreed, settledIn, foretold}
 
 unfoldable pub computing : ℕ
-unfolding split sub parent depth isPostorder treeOf changed jumpIn jump nextMove climbIn climb walk tabulate rows linkTable stepUp
-    stateMap stateTable allBelow holds distinct sameList firstNo planChecks ruleChecks listChecks ruleTableChecks buildChecks
-    someIn someBelow forksAt isMember keep readyList roots isUnder anyBelow lastBelow moveState climbMoves climbedLinks innerLinks partLinks
-    sumOf questionLinks stateOf climbedState innerState partState partOf partsFrom partsOf lastState allLinks
-    isBelow nextUnless searchIn search meetOn insertRising risingOf wanted withFork withMeet forksOn rootsOn
-    below runOn ruleOn siblingOn parentOn moveOn climbOn lastFound labelOn climbFrom runReached ownReached joinOn innerOn leafOn forkOn partOn
-    fits sameLinks sameLent namesSizes linksBuilt bytesBuilt sound bytesBelow mayLoad mayStart isRunning isAnswered refusal
-    phase newBook inState givenBy longer freshAnswer ruleAnswer standingOf asked mayStartWith unlessRefused starting advanced goesOn otherBytes
-    mayAdvanceWith byAnswer loosely firmly advancing isTold reading proceed decided step
-    idle freshRecord started startWith stepped advanceWith lastOf proceeds unless act
-    answersOf flag code sameAnswer conforms agreed settledIn foretold
+unfolding split sub parent depth isPostorder treeOf changed jumpIn jump nextMove climbIn climb walk tabulate
+    rows linkTable stepUp stateMap stateTable allBelow holds distinct sameList firstNo planChecks ruleChecks
+    listChecks ruleTableChecks buildChecks someIn someBelow forksAt isMember keep readyList roots isUnder anyBelow
+    lastBelow moveState climbMoves climbedLinks innerLinks partLinks sumOf questionLinks stateOf climbedState
+    innerState partState partOf partsFrom partsOf lastState allLinks isBelow nextUnless searchIn search meetOn
+    insertRising risingOf wanted withFork withMeet forksOn rootsOn below runOn ruleOn siblingOn parentOn moveOn
+    climbOn lastFound labelOn climbFrom runReached ownReached joinOn innerOn leafOn forkOn partOn fits sameLinks
+    sameLent namesSizes linksBuilt bytesBuilt sound bytesBelow mayLoad mayStart isRunning isAnswered refusal phase
+    newBook inState givenBy longer freshAnswer ruleAnswer standingOf asked mayStartWith unlessRefused starting
+    advanced goesOn otherBytes mayAdvanceWith byAnswer loosely firmly advancing isTold reading proceed decided step
+    idle freshRecord started startWith stepped advanceWith lastOf proceeds unless act answersOf flag code sameAnswer
+    conforms agreed settledIn foretold
 computing = 0
 
 -- "Plan A: N 7, labels 1 1 1 0 1 0 1, kinds 0 0 1 0 0 1 1"
@@ -69,7 +79,8 @@ unfolding planA tableA computing
 lentA = record { plan = planA; rules = tableA; nums = builtLinks planA; bytes = builtStates planA tableA }
 
 pub tables-A :
-    (lentA .nums ≡ 2 ∷ 2 ∷ 2 ∷ 1 ∷ 2 ∷ 2 ∷ 2 ∷ 1 ∷ 6 ∷ 6 ∷ 1 ∷ 3 ∷ 5 ∷ 5 ∷ 2 ∷ 1 ∷ 5 ∷ 5 ∷ 2 ∷ 1 ∷ 6 ∷ 6 ∷ 1 ∷ 3 ∷ 6 ∷ 6 ∷ 0 ∷ 7 ∷ [])
+    (lentA .nums ≡ 2 ∷ 2 ∷ 2 ∷ 1 ∷ 2 ∷ 2 ∷ 2 ∷ 1 ∷ 6 ∷ 6 ∷ 1 ∷ 3 ∷ 5 ∷ 5 ∷ 2 ∷ 1 ∷ 5 ∷ 5 ∷ 2 ∷ 1 ∷ 6 ∷ 6 ∷ 1 ∷ 3 ∷ 6
+    ∷ 6 ∷ 0 ∷ 7 ∷ [])
     × (sound (record { n = 7; s = 2; k = 2 }) lentA ≡ true)
 unfolding lentA
 tables-A = (refl, refl)
@@ -91,7 +102,11 @@ pub record Seen : Type 0 where
 
 unfoldable pub seen : List Call → Seen
 unfolding computing
-seen cs = record { says = foretold newBook cs (answersOf freshRecord cs); agrees = agreed newBook cs (answersOf freshRecord cs) }
+seen cs = record {
+  says = foretold newBook cs (answersOf freshRecord cs);
+  agrees =
+      agreed newBook cs (answersOf freshRecord cs);
+}
 
 -- the last answer that the book settles; for answers that all agree
 unfoldable pub closing : List (Option Answer) → Option Answer

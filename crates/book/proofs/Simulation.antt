@@ -6,28 +6,27 @@
 -- Assumes nothing.
 use Prim.Native.Nat.{ℕ, zero, suc}
 use mathlib.Core.Path.{_≡_, refl, sym, ap, ap₂, _∙_}
-use mathlib.Core.Bool.{Bool, true}
+use mathlib.Core.Bool.{Bool}
 use mathlib.Core.List.{List, []}
 use native.Mathlib.Omega.{arith}
-use lib.ListN.{length, take}
+use lib.ListN.{length}
 use lib.Seq.{take-all}
 use Rattle.trees.specs.Automaton.{state}
-use Rattle.formats.specs.Plan.{planTree}
 use Rattle.formats.specs.Rules.{ruleAutomaton}
 use Rattle.formats.specs.Checks.{firstNo}
-use Rattle.ready.specs.Parts.{Part, partsFrom, partsOf, lastState, allLinks, questionLinks}
+use Rattle.ready.specs.Parts.{Part, partsFrom, partsOf, lastState, allLinks}
 use Rattle.book.specs.Lends.{Lent, Sizes}
-use Rattle.book.specs.Calls.{Call, load, start, advance, cancel, read, Answer, refused, told, Phase, isAnswered}
+use Rattle.book.specs.Calls.{Call, load, cancel, read, Answer, refused, told, Phase, isAnswered}
 use Rattle.book.specs.Refusals.{refusal}
-use Rattle.book.specs.Book.{Standing, clean, firm, loose, Question, State, Book, Next, phase, inState, step, decided, proceed}
+use Rattle.book.specs.Book.{Standing, clean, firm, loose, Question, State, Book, Next, phase, inState, step}
+use Rattle.book.specs.Book.{decided, proceed}
 use Rattle.book.specs.Book.{rootsOf, partCount, changedTree, givenBy, freshAnswer, ruleAnswer, reading, isTold}
 use Rattle.book.specs.Demand3.{Conforms, after}
 use Rattle.book.specs.Model.{Record, Acted, acted, idle, act, unless, proceeds, Does, toldBy, lastOf}
-use Rattle.ready.specs.Parts.{statesOf}
 use Rattle.book.proofs.TrailLaws.{last-states}
-use Rattle.book.proofs.LendLaws.{Built, links-built}
+use Rattle.book.proofs.LendLaws.{links-built}
 use Rattle.book.proofs.FreshLaws.{whole-state, whole-links}
-use Rattle.book.proofs.Relation.{Parted, Counted, Cleanly, Stands, Marked, Ended, Rel}
+use Rattle.book.proofs.Relation.{Counted, Cleanly, Stands, Marked, Ended, Rel}
 
 abbrev pub Sim : Next → Acted → Type 0
 Sim n k = Conforms n (k .answer) × Rel (k .record′) (after n (k .answer))
@@ -37,7 +36,8 @@ book s z = record { state = s; sizes = z }
 
 -- a call conforms, and record and book stay related
 abbrev pub Simulates : Call → Type 0
-Simulates c = (r r′ : Record) (b : Book) (a : Answer) → Rel r b → Does r c a r′ → Conforms (step b c) a × Rel r′ (after (step b c) a)
+Simulates c = (r r′ : Record) (b : Book) (a : Answer) → Rel r b → Does r c a r′
+    → Conforms (step b c) a × Rel r′ (after (step b c) a)
 
 pub some-number : {n : ℕ} → suc n ≡ 0 → ⊥
 some-number e = omega arith
@@ -46,7 +46,8 @@ pub by-refusal : (r : Record) (s : State) (z : Sizes) (c : Call) → Rel r (book
     → (refusal (phase s) z c ≡ 0 → Sim (proceed (book s z) s c) (proceeds r c)) → Sim (step (book s z) c) (act r c)
 unfolding step act decided unless
 by-refusal r s z c i f =
-    go (refusal (r .phase) (r .sizes) c) (refusal (phase s) z c) (ap₂ (λ (p : Phase) (y : Sizes). refusal p y c) (i .phases) (i .sizes)) refl
+    go (refusal (r .phase) (r .sizes) c) (refusal (phase s) z c)
+    (ap₂ (λ (p : Phase) (y : Sizes). refusal p y c) (i .phases) (i .sizes)) refl
   where
     go : (m n : ℕ) → m ≡ n → refusal (phase s) z c ≡ n → Sim (decided n (book s z) c) (unless m r c)
     go zero zero e h = f h
@@ -76,7 +77,8 @@ on-cancel r r′ b a i d = does r r′ b cancel a d (by-refusal r (b .state) (b 
 
 -- ---- Read
 
-told-same : (q q′ : ℕ) (y y′ : Bool) (p p′ l l′ : ℕ) → q ≡ q′ → y ≡ y′ → p ≡ p′ → l ≡ l′ → told q y p l ≡ told q′ y′ p′ l′
+told-same : (q q′ : ℕ) (y y′ : Bool) (p p′ l l′ : ℕ) → q ≡ q′ → y ≡ y′ → p ≡ p′ → l ≡ l′
+    → told q y p l ≡ told q′ y′ p′ l′
 told-same q q′ y y′ p p′ l l′ e f g h = cc
 
 -- a question that is counted: what the rule gave
@@ -84,10 +86,12 @@ tells-rule : (r : Record) (z : Sizes) (q : Question) → Counted r z q → Marke
 unfolding ruleAnswer
 tells-rule r z q c m =
     told-same _ _ _ _ _ _ _ _
-    (ap (λ (l : List ℕ). lastOf l 0) (c .parted .states) ∙ last-states (q .trail) 0) m (ap length (c .parted .roots)) (c .links)
+    (ap (λ (l : List ℕ). lastOf l 0) (c .parted .states) ∙ last-states (q .trail) 0) m (ap length (c .parted .roots))
+    (c .links)
 
 -- a clean one: all parts on the bytes that Load writes
-rule-fresh : (r : Record) (z : Sizes) (q : Question) → Counted r z q → Cleanly z q → q .count ≡ partCount q → ruleAnswer q ≡ freshAnswer q
+rule-fresh : (r : Record) (z : Sizes) (q : Question) → Counted r z q → Cleanly z q → q .count ≡ partCount q
+    → ruleAnswer q ≡ freshAnswer q
 unfolding ruleAnswer freshAnswer partsOf
 rule-fresh r z q c k e =
     told-same _ _ _ _ _ _ _ _ s (ap (ruleAutomaton (q .lent .rules) .accepting) s) refl
@@ -96,12 +100,14 @@ rule-fresh r z q c k e =
     whole : q .trail ≡ partsOf (givenBy z q (q .lent)) (rootsOf q)
     whole =
         k .replayed
-        ∙ ap (partsFrom (givenBy z q (q .lent)) (rootsOf q) []) (take-all (length (q .trail)) (rootsOf q) (omega (arith, e, c .count)))
+        ∙ ap (partsFrom (givenBy z q (q .lent)) (rootsOf q) [])
+        (take-all (length (q .trail)) (rootsOf q) (omega (arith, e, c .count)))
 
     s : lastState (q .trail) 0 ≡ state (ruleAutomaton (q .lent .rules)) (changedTree q)
     s = ap (λ (l : List Part). lastState l 0) whole ∙ whole-state z q (links-built z (q .lent) (c .built)) (k .bytes)
 
-read-as : (r : Record) (z : Sizes) (q : Question) (k : Standing) → Stands r z q k → Ended r q k → Rel r (book (State.answered q) z)
+read-as : (r : Record) (z : Sizes) (q : Question) (k : Standing) → Stands r z q k → Ended r q k
+    → Rel r (book (State.answered q) z)
     → Sim (reading (book (State.answered q) z) q k) (acted (toldBy r) r)
 unfolding reading isTold
 read-as r z q clean s e i = (tells-rule r z q (s .0) (e .0) ∙ rule-fresh r z q (s .0) (s .1) (e .1), i)
@@ -117,4 +123,5 @@ read-at r (State.running q) z i h = absurd (some-number h)
 read-at r (State.answered q) z i h = read-as r z q (q .standing) (i .holds .0) (i .holds .1) i
 
 pub on-read : Simulates read
-on-read r r′ b a i d = does r r′ b read a d (by-refusal r (b .state) (b .sizes) read i (read-at r (b .state) (b .sizes) i))
+on-read r r′ b a i d = does r r′ b read a d
+    (by-refusal r (b .state) (b .sizes) read i (read-at r (b .state) (b .sizes) i))

@@ -3,33 +3,32 @@
 --     on-start         what Start tells conforms, and record and book stay related
 -- Assumes nothing.
 use Prim.Native.Nat.{ℕ, _+_, _-_, _<_}
-use mathlib.Core.Path.{_≡_, refl, sym, ap, _∙_, subst}
+use mathlib.Core.Path.{_≡_, refl, sym, _∙_, subst}
 use mathlib.Core.Bool.{Bool, true, false, cond, _&&_}
-use mathlib.Core.List.{List, [], _∷_, _++_}
-use mathlib.Core.Option.{Option, none, some, Option·some-injective}
+use mathlib.Core.List.{List, [], _∷_}
+use mathlib.Core.Option.{Option, none, some}
 use native.Mathlib.Omega.{arith}
-use lib.ListN.{length}
 use Rattle.trees.specs.Tree.{size}
 use Rattle.trees.proofs.NodeLaws.{size-pos}
 use Rattle.formats.specs.Bytes.{holds, allBelow}
 use Rattle.formats.specs.Plan.{planTree}
 use Rattle.formats.specs.Checks.{check, firstNo, listChecks}
-use Rattle.formats.proofs.CheckLaws.{true-false, and-left, and-right, firstNo-tail}
+use Rattle.formats.proofs.CheckLaws.{true-false, firstNo-tail}
 use Rattle.formats.proofs.InputLaws.{list-passes}
 use Rattle.ready.specs.Members.{roots}
 use Rattle.ready.specs.Parts.{partsFrom, allLinks}
 use Rattle.ready.proofs.ListLaws.{list-last}
 use Rattle.questions.specs.Roots.{rootsOn}
 use Rattle.book.specs.Lends.{Lent, Sizes, fits, usedNums, linksBuilt, bytesBuilt, sound}
-use Rattle.book.specs.Calls.{Call, start, Answer, refused, parts, Phase, mayStart}
+use Rattle.book.specs.Calls.{start, Phase, mayStart}
 use Rattle.book.specs.Refusals.{refusal}
-use Rattle.book.specs.Book.{Standing, clean, firm, loose, Question, State, Book, phase, inState, rootsOf, partCount, proceed}
+use Rattle.book.specs.Book.{Standing, clean, firm, loose, Question, State, phase, inState, rootsOf}
+use Rattle.book.specs.Book.{partCount, proceed}
 use Rattle.book.specs.Book.{standingOf, asked, starting, mayStartWith, unlessRefused}
-use Rattle.book.specs.Model.{Record, acted, proceeds, started, startWith}
+use Rattle.book.specs.Model.{Record, proceeds, started, startWith}
 use Rattle.book.proofs.Facts.{Layers}
 use Rattle.book.proofs.TrailLaws.{length-more}
-use Rattle.book.proofs.PartStates.{none-some}
-use Rattle.book.proofs.Relation.{Parted, Counted, Cleanly, Rel}
+use Rattle.book.proofs.Relation.{Parted, Counted, Rel}
 use Rattle.book.proofs.Simulation.{Sim, book, Simulates, by-refusal, does}
 
 -- there is always a part: the plan's root
@@ -63,7 +62,8 @@ begins z x = go (linksBuilt z x) (bytesBuilt z x) refl refl
     go true false h i = h
     go false b h i = h
 
-module _ (L : Layers) (r : Record) (s : State) (z : Sizes) (x : Lent) (vs bs : List ℕ) (listed : firstNo (listChecks (z .n) (z .k) vs bs) ≡ 0)
+module _ (L : Layers) (r : Record) (s : State) (z : Sizes) (x : Lent) (vs bs : List ℕ)
+    (listed : firstNo (listChecks (z .n) (z .k) vs bs) ≡ 0)
     (i : Rel r (book s z)) where
   abbrev opened : Standing → Question
   opened k = record { nodes = vs; labels = bs; lent = x; count = 0; standing = k; trail = [] }
@@ -93,7 +93,8 @@ module _ (L : Layers) (r : Record) (s : State) (z : Sizes) (x : Lent) (vs bs : L
   counted-first k h = record { built = h; parted = parted-first k; links = refl; count = refl }
 
   -- a question that Start settles
-  start-built : (k : Standing) → linksBuilt z x ≡ true → Rel (begun (rootsOf (opened k))) (book (State.running (opened k)) z)
+  start-built : (k : Standing) → linksBuilt z x ≡ true
+      → Rel (begun (rootsOf (opened k))) (book (State.running (opened k)) z)
       → Sim (starting (book s z) (opened k) firm) (startWith r vs bs found)
   unfolding starting startWith inState
   start-built k h n = rw (ready h) (refl, n)
@@ -108,21 +109,32 @@ module _ (L : Layers) (r : Record) (s : State) (z : Sizes) (x : Lent) (vs bs : L
         holds = ((counted-first clean (f .0), record { bytes = f .1; replayed = refl }), λ h. some-part (opened clean));
       })
   start-as firm f =
-      start-built firm f (record { phases = refl; sizes = i .sizes; holds = (counted-first firm f, λ h. some-part (opened firm)) })
+      start-built firm f (record {
+        phases = refl;
+        sizes = i .sizes;
+        holds =
+            (counted-first firm f, λ h. some-part (opened firm));
+      })
   start-as loose f = go found
     where
       go : (o : Option (List ℕ)) → Sim (starting (book s z) (opened loose) loose) (startWith r vs bs o)
       go none = (refl, i)
       go (some rs) = (
         refl,
-        record { phases = refl; sizes = i .sizes; holds = (λ h. absurd (true-false (sym h ∙ f)), λ h. absurd (true-false (sym h ∙ f))) },
+        record {
+          phases = refl;
+          sizes = i .sizes;
+          holds =
+              (λ h. absurd (true-false (sym h ∙ f)), λ h. absurd (true-false (sym h ∙ f)));
+        },
       )
 
 start-at : (L : Layers) (r : Record) (s : State) (z : Sizes) (x : Lent) (vs bs : List ℕ) → Rel r (book s z)
     → refusal (phase s) z (start x vs bs) ≡ 0 → Sim (proceed (book s z) s (start x vs bs)) (proceeds r (start x vs bs))
 unfolding proceed proceeds asked
 start-at L r s z x vs bs i h =
-    subst (λ (y : Sizes). Sim (proceed (book s z) s (start x vs bs)) (startWith r vs bs (rootsOn (y .n) (usedNums y x) vs))) (sym (i .sizes))
+    subst (λ (y : Sizes). Sim (proceed (book s z) s (start x vs bs))
+    (startWith r vs bs (rootsOn (y .n) (usedNums y x) vs))) (sym (i .sizes))
     (start-as L r s z x vs bs (start-list (phase s) z x vs bs h) i (standingOf z x) (begins z x))
 
 pub on-start : Layers → (x : Lent) (vs bs : List ℕ) → Simulates (start x vs bs)

@@ -1,33 +1,40 @@
--- "It may lend what Load wrote": whatever Load accepts, what it leaves in the buffers is sound for that plan's N, S and K, longer
--- buffers and their excess included. So every plan and rule table can meet the premise of the book's clean lines.
+-- "It may lend what Load wrote": whatever Load accepts, what it leaves in the buffers is sound for that plan's N, S
+-- and K, longer buffers and their excess included. So every plan and rule table can meet the premise of the book's
+-- clean lines.
 --     loaded x          the lends after an accepted Load
---     written-sound     they are sound
+--     written-sound, written-fits     they are sound, and long enough
+--     start-written     so a Start on them is accepted with any list that passes 12 to 15
 -- Assumes nothing.
-use Prim.Native.Nat.{ℕ, _+_, _*_}
-use mathlib.Core.Path.{_≡_, refl, sym, ap, ap₂, _∙_}
-use mathlib.Core.Bool.{Bool, true, _&&_}
-use mathlib.Core.List.{List, _++_}
+use Prim.Native.Nat.{ℕ, _+_, _≤_}
+use mathlib.Core.Path.{_≡_, refl, ap, _∙_}
+use mathlib.Core.Bool.{Bool, true, cond, _&&_}
+use mathlib.Core.List.{List, [], _∷_, _++_}
 use native.Mathlib.Omega.{arith}
-use lib.ListN.{length, take, drop}
+use lib.Dec.{leb, eqb}
+use lib.ListN.{length, drop, length-append}
 use lib.Seq.{take-at}
+use borrow.Author.Tests.{eq-eqb, le-leb}
 use Rattle.trees.specs.Tree.{size}
-use Rattle.trees.specs.Tables.{linkTable, stateTable}
-use Rattle.formats.specs.Bytes.{sameList}
-use Rattle.formats.specs.Plan.{nodeCount, planTree}
-use Rattle.formats.specs.Rules.{stateCount, ruleAutomaton}
-use Rattle.formats.specs.Checks.{firstNo, ruleTableChecks, buildChecks, linkLength, stateLength}
+use Rattle.formats.specs.Plan.{nodeCount, planLength, planTree}
+use Rattle.formats.specs.Rules.{stateCount, labelCount, ruleLength, ruleAutomaton}
+use Rattle.formats.specs.Checks.{check, firstNo, ruleTableChecks, buildChecks, listChecks, linkLength, stateLength}
 use Rattle.formats.specs.Built.{builtLinks, builtStates}
-use Rattle.formats.proofs.CheckLaws.{and-both, firstNo-tail}
+use Rattle.formats.proofs.CheckLaws.{and-both, firstNo-yes, firstNo-tail}
 use Rattle.formats.proofs.ListLaws.{sameList-is}
 use Rattle.formats.proofs.PlanLaws.{size-planTree}
 use Rattle.formats.proofs.InputLaws.{rule-table-passes, build-table}
 use Rattle.tables.specs.Answers.{written}
 use Rattle.links.proofs.CellLaws.{length-linkTable}
-use Rattle.book.specs.Lends.{Lent, Sizes, sizesIn, usedNums, usedBytes, linksBuilt, bytesBuilt, sound}
-use Rattle.book.specs.Calls.{Phase, load, mayLoad}
+use Rattle.book.specs.Lends.{Lent, Sizes, sizesIn, fits, usedNums, usedBytes, linksBuilt, bytesBuilt, sound}
+use Rattle.book.specs.Calls.{Phase, load, start, parts, mayLoad, mayStart}
 use Rattle.book.specs.Refusals.{refusal}
-use Rattle.book.proofs.LendLaws.{Built, built-links, rules-of}
+use Rattle.book.specs.Book.{clean, firm, loose, Question, State, settled, phase, inState, step}
+use Rattle.book.specs.Book.{decided, proceed}
+use Rattle.book.specs.Book.{partCount, standingOf, asked, starting}
+use Rattle.book.proofs.LendLaws.{built-links}
 use Rattle.book.proofs.FreshLaws.{rules-sound, length-stateTable}
+use Rattle.book.proofs.Simulation.{book}
+use Rattle.book.proofs.QuestionTheorem.{question}
 
 -- plan and rules as they were, and what Load leaves in the two buffers
 unfoldable pub loaded : Lent → Lent
@@ -38,15 +45,29 @@ loaded x = record {
   bytes = written 0 (builtStates (x .plan) (x .rules)) (x .bytes);
 }
 
-load-passes : (p : Phase) (z : Sizes) (x : Lent) → refusal p z (load x) ≡ 0 → firstNo (ruleTableChecks (x .plan) (x .rules)) ≡ 0
+load-passes : (p : Phase) (z : Sizes) (x : Lent) → refusal p z (load x) ≡ 0
+    → firstNo (ruleTableChecks (x .plan) (x .rules)) ≡ 0
 unfolding refusal
 load-passes p z x e =
     build-table (x .plan) (x .rules) (length (x .nums)) (length (x .bytes))
-    (firstNo-tail 1 (mayLoad p) (buildChecks (x .plan) (x .rules) (length (x .nums)) (length (x .bytes))) (omega arith) e)
+    (firstNo-tail 1 (mayLoad p) (buildChecks (x .plan) (x .rules) (length (x .nums)) (length (x .bytes)))
+    (omega arith) e)
+
+fits-all : (a b c d e f g h : ℕ) → a ≡ b → c ≡ d → e ≤ f → g ≤ h → (eqb a b && (eqb c d && (leb e f && leb g h))) ≡ true
+fits-all a b c d e f g h i j k l =
+    and-both (eqb a b) (eqb c d && (leb e f && leb g h)) (eq-eqb a b i)
+    (and-both (eqb c d) (leb e f && leb g h) (eq-eqb c d j)
+    (and-both (leb e f) (leb g h) (le-leb e f k) (le-leb g h l)))
 
 module _ (x : Lent) (passed : firstNo (ruleTableChecks (x .plan) (x .rules)) ≡ 0) where
   count : size (planTree (x .plan)) ≡ nodeCount (x .plan)
   count = size-planTree (x .plan) (rule-table-passes (x .plan) (x .rules) passed .0)
+
+  bytes-length : length (builtStates (x .plan) (x .rules)) ≡ stateLength (nodeCount (x .plan)) (stateCount (x .rules))
+  bytes-length =
+      length-stateTable (ruleAutomaton (x .rules))
+      (rules-sound (x .rules) (rule-table-passes (x .plan) (x .rules) passed .1)) (planTree (x .plan))
+      ∙ ap (λ (n : ℕ). stateLength n (stateCount (x .rules))) count
 
   nums-written : usedNums (sizesIn x) (loaded x) ≡ builtLinks (x .plan)
   unfolding loaded written
@@ -59,13 +80,13 @@ module _ (x : Lent) (passed : firstNo (ruleTableChecks (x .plan) (x .rules)) ≡
   bytes-written =
       take-at (builtStates (x .plan) (x .rules)) (drop (length (builtStates (x .plan) (x .rules))) (x .bytes))
       (stateLength (nodeCount (x .plan)) (stateCount (x .rules)))
-      (length-stateTable (ruleAutomaton (x .rules)) (rules-sound (x .rules) (rule-table-passes (x .plan) (x .rules) passed .1)) (planTree (x .plan))
-      ∙ ap (λ (n : ℕ). stateLength n (stateCount (x .rules))) count)
+      bytes-length
 
   pub written-links : linksBuilt (sizesIn x) (loaded x) ≡ true
   unfolding loaded
   written-links =
-      built-links (sizesIn x) (loaded x) (record { passed = passed; n-is = refl; s-is = refl; k-is = refl; nums = nums-written })
+      built-links (sizesIn x) (loaded x)
+      (record { passed = passed; n-is = refl; s-is = refl; k-is = refl; nums = nums-written })
 
   written-bytes : bytesBuilt (sizesIn x) (loaded x) ≡ true
   unfolding bytesBuilt loaded
@@ -73,8 +94,69 @@ module _ (x : Lent) (passed : firstNo (ruleTableChecks (x .plan) (x .rules)) ≡
 
   pub passed-sound : sound (sizesIn x) (loaded x) ≡ true
   unfolding sound
-  passed-sound = and-both (linksBuilt (sizesIn x) (loaded x)) (bytesBuilt (sizesIn x) (loaded x)) written-links written-bytes
+  passed-sound = and-both (linksBuilt (sizesIn x) (loaded x)) (bytesBuilt (sizesIn x) (loaded x)) written-links
+      written-bytes
+
+  -- and they are long enough: check 17
+  pub passed-fits : fits (sizesIn x) (loaded x) ≡ true
+  unfolding fits loaded written
+  passed-fits =
+      fits-all (length (x .plan)) (planLength (nodeCount (x .plan))) (length (x .rules))
+      (ruleLength (stateCount (x .rules)) (labelCount (x .rules)))
+      (linkLength (nodeCount (x .plan))) (length nums′) (stateLength (nodeCount (x .plan)) (stateCount (x .rules)))
+      (length bytes′)
+      (rule-table-passes (x .plan) (x .rules) passed .0 .exact)
+      (rule-table-passes (x .plan) (x .rules) passed .1 .exact)
+      (omega (
+        arith,
+        length-linkTable (planTree (x .plan)),
+        ap linkLength count,
+        length-append (builtLinks (x .plan))
+            (drop (length (builtLinks (x .plan))) (x .nums)),
+      ))
+      (omega (
+        arith,
+        bytes-length,
+        length-append (builtStates (x .plan) (x .rules))
+            (drop (length (builtStates (x .plan) (x .rules))) (x .bytes)),
+      ))
+    where
+      nums′ : List ℕ
+      nums′ = builtLinks (x .plan) ++ drop (length (builtLinks (x .plan))) (x .nums)
+
+      bytes′ : List ℕ
+      bytes′ = builtStates (x .plan) (x .rules) ++ drop (length (builtStates (x .plan) (x .rules))) (x .bytes)
 
 -- whatever the buffers held, and however long they are
 pub written-sound : (p : Phase) (z : Sizes) (x : Lent) → refusal p z (load x) ≡ 0 → sound (sizesIn x) (loaded x) ≡ true
 written-sound p z x e = passed-sound x (load-passes p z x e)
+
+pub written-fits : (p : Phase) (z : Sizes) (x : Lent) → refusal p z (load x) ≡ 0 → fits (sizesIn x) (loaded x) ≡ true
+written-fits p z x e = passed-fits x (load-passes p z x e)
+
+-- so a Start on what an accepted Load left is accepted with any list that passes 12 to 15, and tells its parts
+pub start-written : (p : Phase) (z : Sizes) (x : Lent) (s : State) (vs bs : List ℕ) → refusal p z (load x) ≡ 0
+    → mayStart (phase s) ≡ true
+    → firstNo (listChecks (sizesIn x .n) (sizesIn x .k) vs bs) ≡ 0
+    → step (book s (sizesIn x)) (start (loaded x) vs bs)
+    ≡ settled (parts (partCount (question (loaded x) vs bs)))
+    (book (State.running (question (loaded x) vs bs)) (sizesIn x))
+unfolding step decided refusal proceed asked starting inState standingOf
+start-written p z x s vs bs e m l =
+    ap (λ (n : ℕ). decided n (book s (sizesIn x)) (start (loaded x) vs bs))
+    (firstNo-yes 1 (mayStart (phase s))
+    (check 17 (fits (sizesIn x) (loaded x)) ∷ listChecks (sizesIn x .n) (sizesIn x .k) vs bs) m
+    ∙ firstNo-yes 17 (fits (sizesIn x) (loaded x)) (listChecks (sizesIn x .n) (sizesIn x .k) vs bs)
+    (written-fits p z x e) ∙ l)
+    ∙ ap (λ (b : Bool). starting (book s (sizesIn x)) (opened b)
+    (cond b clean (cond (linksBuilt (sizesIn x) (loaded x)) firm loose))) (written-sound p z x e)
+  where
+    opened : Bool → Question
+    opened b = record {
+      nodes = vs;
+      labels = bs;
+      lent = loaded x;
+      count = 0;
+      standing = cond b clean (cond (linksBuilt (sizesIn x) (loaded x)) firm loose);
+      trail = [];
+    }

@@ -14,7 +14,8 @@ use mathlib.Core.Bool.{Bool, true, false}
 use mathlib.Core.List.{List, [], _∷_}
 use mathlib.Core.Option.{Option, none, some}
 use Rattle.book.specs.Lends.{Lent, Sizes, sameLent}
-use Rattle.book.specs.Calls.{Call, load, start, advance, cancel, read, Answer, refused, parts, more, finished, told}
+use Rattle.book.specs.Calls.{Call, load, start, advance, cancel, read, Answer, refused, parts, more, finished}
+use Rattle.book.specs.Calls.{told}
 use Rattle.book.specs.Book.{Book, step}
 use Rattle.book.specs.Demand3.{after}
 

@@ -3,14 +3,14 @@
 -- answersOf r cs == what the model answers to the calls cs, from record r on
 -- sameAnswer a b == whether two answers are the same
 -- agreed b cs xs == whether the answers xs agree with the book; that it says what Agrees says is proofs/JudgeLaws
--- foretold b cs xs == what the book settles of each call; none where it is left to the program. The answers xs are looked at only there
+-- foretold b cs xs == what the book settles of each call; none where it is left to the program: only there are the
+--   answers xs looked at
 --
 -- Assumes nothing.
 use Prim.Native.Nat.{ℕ}
-use mathlib.Core.Bool.{Bool, true, false, not, _&&_}
+use mathlib.Core.Bool.{Bool, true, false, _&&_}
 use mathlib.Core.List.{List, [], _∷_}
 use mathlib.Core.Option.{Option, none, some}
-use lib.Dec.{eqb}
 use Rattle.formats.specs.Bytes.{sameList}
 use Rattle.book.specs.Calls.{Call, Answer, refused, parts, more, finished, told}
 use Rattle.book.specs.Book.{Book, Next, settled, left, step}

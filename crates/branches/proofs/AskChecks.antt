@@ -15,7 +15,8 @@ use Rattle.formats.specs.Checks.{firstNo}
 use Rattle.formats.proofs.CheckLaws.{and-both, and-no-left, and-no-right}
 use Rattle.formats.proofs.PartLaws.{four, four-1, four-2, four-3}
 use Rattle.branches.specs.declared.answers.Branching.the-variants.{Refused}
-use Rattle.branches.specs.Question.{lentFits, isBelow, Branched, branchOn, isSome, askChecks}
+use Rattle.branches.specs.Question.{lentFits, Branched, branchOn, isSome, askChecks}
+use Rattle.links.specs.Cells.{isBelow}
 use Rattle.branches.specs.Question.{askNumber, branchNumber, toldBranch, askAnswer}
 
 -- four checks, the last of which asks whether there is an answer

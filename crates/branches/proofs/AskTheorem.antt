@@ -29,7 +29,8 @@ use Rattle.formats.specs.Built.{BranchBuilt}
 use Rattle.links.specs.Cells.{depthCell, cellForest}
 use Rattle.branches.specs.declared.answers.Branching.{Branching}
 use Rattle.branches.specs.declared.answers.Branching.the-variants.{Refused}
-use Rattle.branches.specs.Question.{isBelow, moveMap, firstState, Branched, branched, branchOn}
+use Rattle.branches.specs.Question.{moveMap, firstState, Branched, branched, branchOn}
+use Rattle.links.specs.Cells.{isBelow}
 use Rattle.branches.specs.Question.{toldBranch, askAnswer, branchNumber}
 use Rattle.branches.specs.Promise.{AtOrBelow, wordAnswer, AskDone}
 use Rattle.branches.proofs.FinishLaws.{isBelow-true, true-isBelow}

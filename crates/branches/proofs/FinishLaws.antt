@@ -20,7 +20,8 @@ use Rattle.formats.specs.Rules.{wordAutomaton}
 use Rattle.formats.proofs.CheckLaws.{and-both, and-left, and-right, and-no-left, and-no-right}
 use Rattle.links.specs.Cells.{sizeCell}
 use Rattle.branches.specs.declared.answers.Branching.the-variants.{Told, Refused}
-use Rattle.branches.specs.Question.{isBelow, branched, toldBranch}
+use Rattle.branches.specs.Question.{branched, toldBranch}
+use Rattle.links.specs.Cells.{isBelow}
 use Rattle.branches.specs.Compose.{padded}
 use Rattle.branches.specs.Finish.{firstOf, finish}
 use Rattle.branches.proofs.MapArrays.{getD-padded}

@@ -1,7 +1,7 @@
 -- The branch question, on whatever is lent.
 --
 -- lentFits p r nums bytes == check 17: headers whole and within limits, plan and branch table exactly as long, tables long enough
--- isBelow nums u l == check 16, by the lent size of the upper node u: whether the lower node l is u or below it
+-- check 16 goes by the lent size of the upper node u: isBelow nums u l (crate links, Cells)
 -- follow s m f == the map m after the map f of s states; none where f leads outside the states
 -- moveMap .. == what one move of the climb makes of the map from the node reached so far down to the lower node
 -- firstState .. == the state after the upper node's label
@@ -27,7 +27,7 @@ use Rattle.formats.specs.Limits.{nodeLimit, stateLimit, labelLimit, within}
 use Rattle.formats.specs.Plan.{nodeCount, planLength, labelsIn}
 use Rattle.formats.specs.Rules.{stateCount, labelCount, branchLength, branchAutomaton}
 use Rattle.formats.specs.Checks.{Check, check, firstNo, linkLength, stateLength}
-use Rattle.links.specs.Cells.{depthCell, sizeCell, cellForest}
+use Rattle.links.specs.Cells.{depthCell, cellForest, isBelow}
 use Rattle.tables.specs.StateCells.{mapCell}
 use Rattle.branches.specs.declared.answers.Branching.{Branching}
 use Rattle.branches.specs.declared.answers.Branching.the-variants.{Told, Refused}
@@ -45,10 +45,6 @@ lentFits p r nums bytes =
     && (eqb (length r) (branchLength (stateCount r) (labelCount r))
     && (leb (linkLength (nodeCount p)) (length nums)
     && leb (stateLength (nodeCount p) (stateCount r)) (length bytes))))))))
-
--- "lower node at or below upper? 16": in post-order the subtree of u is the run of its size that ends at u
-unfoldable pub isBelow : List ℕ → ℕ → ℕ → Bool
-isBelow nums u l = leb l u && ltb u (l + sizeCell nums u)
 
 unfoldable pub follow : ℕ → List ℕ → (ℕ → ℕ) → Option (List ℕ)
 follow s m f = cond (allBelow s (tabulate s f)) (some (tabulate s (λ q. getD m (f q) 0))) none
@@ -89,6 +85,7 @@ unfoldable pub askChecks : List ℕ → List ℕ → List ℕ → List ℕ → �
 askChecks p r nums bytes u l =
     check 17 (lentFits p r nums bytes)
     ∷ check 13 (ltb u (nodeCount p) && ltb l (nodeCount p))
+    -- "lower node at or below upper? 16"
     ∷ check 16 (isBelow nums u l)
     ∷ check 18 (isSome (branchOn p r nums bytes u l))
     ∷ []

@@ -9,7 +9,8 @@ use links::moves::size_at;
 ghost use mathlib.Core.Path.{_≡_};
 ghost use Prim.Native.Nat.{_+_, _*_, _≤_};
 ghost use lib.ListN.{length};
-ghost use Rattle.branches.specs.Question.{isBelow, branchOn, toldBranch};
+ghost use Rattle.branches.specs.Question.{branchOn, toldBranch};
+ghost use Rattle.links.specs.Cells.{isBelow};
 ghost use Rattle.branches.specs.Promise.{AskDone};
 ghost use Rattle.branches.specs.Finish.{finish, FinishArgs, AnswerArgs};
 

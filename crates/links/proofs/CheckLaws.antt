@@ -11,18 +11,18 @@ use Rattle.trees.specs.Tree.{Tree, kindsOf}
 use Rattle.trees.specs.Tables.{linkTable}
 use Rattle.formats.specs.Bytes.{sameList}
 use Rattle.formats.specs.Checks.{linkLength}
+use Rattle.formats.proofs.ListLaws.{sameList-is, sameList-not}
 use Rattle.links.specs.Cells.{LinkArgs}
 use Rattle.links.specs.LinkCells.{LinkCells, UpCells}
 use Rattle.links.specs.DownPass.{DownArgs}
 use Rattle.links.proofs.UpTurns.{size-of}
 use Rattle.links.proofs.CellLaws.{link-cells, cells-link, both-passes, up-parents, down-args}
-use Rattle.links.proofs.SameList.{sameList-eq, sameList-no}
 use Rattle.links.proofs.CheckTurns.{UpTells, DownTells}
 
 module _ (ks b : List ℕ) where
   denied : (t : Tree) → kindsOf t ≡ ks → (LinkCells t b → ⊥)
       → false ≡ sameList (take (linkLength (length ks)) b) (linkTable t)
-  denied t e n = sym (sameList-no _ _ (λ q. n (link-cells t (length ks) b (size-of t ks e) q)))
+  denied t e n = sym (sameList-not _ _ (λ q. n (link-cells t (length ks) b (size-of t ks e) q)))
 
   pub told-no : UpTells false ks b → (t : Tree) → kindsOf t ≡ ks
       → false ≡ sameList (take (linkLength (length ks)) b) (linkTable t)
@@ -36,6 +36,6 @@ module _ (ks b : List ℕ) where
       → (t : Tree) → kindsOf t ≡ ks → r ≡ sameList (take (linkLength (length ks)) b) (linkTable t)
   told-both room up true down t e =
       let u : UpCells t b = up t e .yes refl in
-      sym (sameList-eq _ _
+      sym (sameList-is _ _
       (cells-link t (length ks) b (size-of t ks e) room (both-passes t b u (down t (up-parents t ks b e u) .yes refl))))
   told-both room up false down t e = denied t e (down t (up-parents t ks b e (up t e .yes refl)) .no refl)

@@ -1,7 +1,6 @@
 pub mod UpTurns
 pub mod DownTurns
 pub mod CellLaws
-pub mod SameList
 pub mod CheckTurns
 pub mod CheckLaws
 pub mod MoveWays

@@ -1,6 +1,6 @@
 -- How far a climb goes, in any forest, and what state it carries.
 --     count, count-most, count-less     how many nodes below n have a property; fewer have a stronger one
---     climb-few                         a climb has no more moves than the forest has nodes: the depth falls, so it meets none twice
+--     climb-few                         a climb has no more moves than the forest has nodes: it meets none twice
 --     rule-state, move-state            what a rule or a move gives is a state
 --     Bounded, climb-bounded            the climb of a part gives a state, by no more links than there are nodes
 -- Assumes nothing.
@@ -20,7 +20,8 @@ use Rattle.trees.proofs.Choice.{by-test}
 use Rattle.trees.proofs.MoveLaws.{none-some, next-inside, next-rises}
 use Rattle.trees.proofs.ClimbLaws.{climb-cons}
 use Rattle.links.specs.Cells.{parentCell, cellForest}
-use Rattle.questions.specs.Climbs.{View, below, runOn, ruleOn, siblingOn, parentOn, moveOn, Reached, reached, climbOn}
+use Rattle.questions.specs.Climbs.{View, below, runOn, ruleOn, siblingOn}
+use Rattle.questions.specs.Climbs.{parentOn, moveOn, Reached, reached, climbOn}
 use Rattle.questions.proofs.LookupLaws.{below-state}
 
 -- ---- how many nodes have a property
@@ -94,7 +95,9 @@ module _ (X : View) where
   rule-state p a q y e =
       by-test (λ (o : Option ℕ). o ≡ some y → y < X .s)
       {x = below (X .s) (getD (X .inner) ((p * X .k + a) * X .s + q) 0)} {y = none} (ltb a (X .k))
-      (λ _ i. let b = below-state (X .s) (getD (X .inner) ((p * X .k + a) * X .s + q) 0) y i in omega (arith, b .0, b .1))
+      (λ _ i.
+      let b = below-state (X .s) (getD (X .inner) ((p * X .k + a) * X .s + q) 0) y i in
+      omega (arith, b .0, b .1))
       (λ _ i. absurd (none-some i))
       e
 

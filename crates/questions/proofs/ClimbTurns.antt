@@ -1,7 +1,7 @@
 -- The turns of the loop that climbs with a state.
 --     countedMove                        a move on a state that counts its links
 --     climb-carried                      the climb is what its counted moves make of the state
---     Climbing                           the loop's state: the state and links of the moves so far, and the same answer from here
+--     Climbing                           the loop's state: that of the moves so far, and the same answer from here
 --     climbing-start, climbing-turn      before the first move, and after one more
 --     climbing-done, climbing-lost       the answer where the climb has arrived, and where a move was not made
 -- Assumes nothing.
@@ -100,7 +100,8 @@ module _ (X : View) (from to q₀ : ℕ) where
             state = h;
             few = omega (arith, C .few, climbing-rises h);
             same = ap (λ (u : ℕ). onward u (x .state) (c + 1)) (w .node)
-                ∙ sym (carried-move forest act v to (reached q c) (w .move) deeper (w .next) (reached (x .state) (c + 1)) step)
+                ∙ sym (carried-move forest act v to (reached q c) (w .move) deeper (w .next)
+                (reached (x .state) (c + 1)) step)
                 ∙ C .same;
           }
 

@@ -25,3 +25,4 @@ pub mod ForksBuilt
 pub mod RootsBuilt
 pub mod ClimbBuilt
 pub mod PartBuilt
+pub mod Theorems

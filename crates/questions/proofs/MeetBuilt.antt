@@ -31,7 +31,8 @@ use Rattle.ready.specs.Parts.{isUnder}
 use Rattle.ready.proofs.UnderLaws.{under-trans, under-root, meet-here, meet-up}
 use Rattle.ready.proofs.ClosedForm.{comparable}
 use Rattle.ready.proofs.BelowLaws.{under-yes, under-no}
-use Rattle.questions.specs.Search.{isBelow, nextUnless, search, meetOn}
+use Rattle.questions.specs.Search.{nextUnless, search, meetOn}
+use Rattle.links.specs.Cells.{isBelow}
 use Rattle.questions.proofs.SearchLaws.{search-here, search-move}
 
 -- ---- one move of the search, in any forest

@@ -16,7 +16,8 @@ use Rattle.trees.specs.Climb.{Forest, Move, byJump, toParent, target, rising}
 use Rattle.trees.proofs.Choice.{le-or}
 use Rattle.links.specs.Cells.{sizeCell, depthCell, cellForest}
 use Rattle.questions.specs.declared.search.Meeting.the-variants.{At, Outside}
-use Rattle.questions.specs.Search.{isBelow, nextUnless, meetOn}
+use Rattle.questions.specs.Search.{nextUnless, meetOn}
+use Rattle.links.specs.Cells.{isBelow}
 use Rattle.questions.specs.SearchTold.{toldMeeting, toldTarget, toldRising}
 use Rattle.questions.proofs.SearchLaws.{unless, Taken, taken, search-here, search-move, search-stuck}
 use Rattle.questions.proofs.SearchLaws.{search-inside}

@@ -19,7 +19,8 @@ use Rattle.trees.proofs.MoveLaws.{none-some}
 use Rattle.formats.specs.Limits.{nodeLimit, within}
 use Rattle.links.specs.Cells.{sizeCell}
 use Rattle.questions.specs.Climbs.{View, below, runOn, ruleOn, Reached, reached, climbOn}
-use Rattle.questions.specs.Part.{Found, climbFrom, runReached, ownReached, joinOn, innerOn, leafOn, forkOn, partOn}
+use Rattle.questions.specs.Part.{Found, climbFrom, runReached, ownReached, joinOn}
+use Rattle.questions.specs.Part.{innerOn, leafOn, forkOn, partOn}
 use Rattle.questions.specs.Part.{labelOn}
 use Rattle.questions.specs.Scans.{sideOn}
 use Rattle.questions.specs.PartArgs.{unmoved}
@@ -53,7 +54,8 @@ module _ (X : View) where
       go none b i = absurd (none-some i)
       go (some y) b i =
           let s = below-state (X .s) q y b in
-          subst Still (Option·some-injective (reached y 0) x i) (record { state = omega (arith, s .0, s .1); links = refl })
+          subst Still (Option·some-injective (reached y 0) x i)
+          (record { state = omega (arith, s .0, s .1); links = refl })
 
   run-still : (c : ℕ) (x : Reached) → runReached X c ≡ some x → Still x
   unfolding runReached runOn
@@ -67,7 +69,8 @@ module _ (X : View) where
   unfolding climbFrom
   from-bounded t f x e = go (below (X .s) (f .state)) refl e
     where
-      go : (o : Option ℕ) → below (X .s) (f .state) ≡ o → andThen o (λ q. climbOn X (f .node) t q) ≡ some x → Bounded X x
+      go : (o : Option ℕ) → below (X .s) (f .state) ≡ o → andThen o (λ q. climbOn X (f .node) t q) ≡ some x
+          → Bounded X x
       go none b i = absurd (none-some i)
       go (some q) b i =
           let s = below-state (X .s) (f .state) q b in
@@ -113,16 +116,20 @@ module _ (X : View) where
   inner-bounded : (t l r a : ℕ) (f g : Option Found) (x : Reached) → innerOn X t l r a f g ≡ some x → Bounded X x
   unfolding innerOn
   inner-bounded t l r a none none x e =
-      let b = join-bounded a 0 0 _ _ x e (λ y i. omega (arith, run-still l y i .links)) (λ y i. omega (arith, run-still r y i .links)) in
+      let b = join-bounded a 0 0 _ _ x e (λ y i. omega (arith, run-still l y i .links))
+      (λ y i. omega (arith, run-still r y i .links)) in
       record { state = b .0; links = omega (arith, b .1) }
   inner-bounded t l r a none (some g) x e =
-      let b = join-bounded a 0 (X .n) _ _ x e (λ y i. omega (arith, run-still l y i .links)) (λ y i. from-bounded t g y i .links) in
+      let b = join-bounded a 0 (X .n) _ _ x e (λ y i. omega (arith, run-still l y i .links))
+      (λ y i. from-bounded t g y i .links) in
       record { state = b .0; links = omega (arith, b .1) }
   inner-bounded t l r a (some f) none x e =
-      let b = join-bounded a (X .n) 0 _ _ x e (λ y i. from-bounded t f y i .links) (λ y i. omega (arith, run-still r y i .links)) in
+      let b = join-bounded a (X .n) 0 _ _ x e (λ y i. from-bounded t f y i .links)
+      (λ y i. omega (arith, run-still r y i .links)) in
       record { state = b .0; links = omega (arith, b .1) }
   inner-bounded t l r a (some f) (some g) x e =
-      let b = join-bounded a 0 0 _ _ x e (λ y i. omega (arith, own-still f y i .links)) (λ y i. omega (arith, own-still g y i .links)) in
+      let b = join-bounded a 0 0 _ _ x e (λ y i. omega (arith, own-still f y i .links))
+      (λ y i. omega (arith, own-still g y i .links)) in
       record { state = b .0; links = omega (arith, b .1) }
 
   -- ---- of every part
@@ -137,9 +144,11 @@ module _ (X : View) where
   unfolding partOn forkOn
   part-bounded es qs vs bs v x e = go (eqb (getD (X .kinds) v 0) 0) e
     where
-      fork : (b : Bool) → cond b (forkOn X es qs v (v - 1 - sizeCell (X .nums) (v - 1)) (labelOn X vs bs v)) none ≡ some x
+      fork : (b : Bool) → cond b (forkOn X es qs v (v - 1 - sizeCell (X .nums) (v - 1)) (labelOn X vs bs v)) none
+          ≡ some x
           → Bounded X x
-      fork b i = inner-bounded _ _ _ _ _ _ x (cond-some b (forkOn X es qs v (v - 1 - sizeCell (X .nums) (v - 1)) (labelOn X vs bs v)) i .1)
+      fork b i = inner-bounded _ _ _ _ _ _ x
+          (cond-some b (forkOn X es qs v (v - 1 - sizeCell (X .nums) (v - 1)) (labelOn X vs bs v)) i .1)
 
       go : (b : Bool) → cond b (leafOn X (labelOn X vs bs v))
           (cond (ltb 0 v && leb (sizeCell (X .nums) (v - 1)) (v - 1))
@@ -151,12 +160,14 @@ module _ (X : View) where
 
 module _ (n s k : ℕ) (plan rules nums bytes roots states vs bs : List ℕ) (x : Reached)
     (e : partGiven n s k plan rules nums bytes roots states vs bs ≡ some x) where
-  given : (partFits n s k plan rules nums bytes roots states vs bs ≡ true) × Bounded (lentView n s k plan rules nums bytes) x
+  given : (partFits n s k plan rules nums bytes roots states vs bs ≡ true)
+      × Bounded (lentView n s k plan rules nums bytes) x
   unfolding partGiven
   given =
       let c =
       cond-some (partFits n s k plan rules nums bytes roots states vs bs)
-      (partOn (lentView n s k plan rules nums bytes) (take (length states) roots) states vs bs (getD roots (length states) 0)) e in (
+      (partOn (lentView n s k plan rules nums bytes) (take (length states) roots) states vs bs
+      (getD roots (length states) 0)) e in (
         c .0,
         part-bounded (lentView n s k plan rules nums bytes) (take (length states) roots) states vs bs
             (getD roots (length states) 0) x (c .1),
@@ -167,7 +178,8 @@ module _ (n s k : ℕ) (plan rules nums bytes roots states vs bs : List ℕ) (x 
 
   nodes-most : n ≤ 65535
   unfolding partFits limitsFit
-  nodes-most = leb-true n nodeLimit (and-right (leb 1 n) (leb n nodeLimit) (and-left (within 1 nodeLimit n) _ (and-left _ _ (given .0))))
+  nodes-most = leb-true n nodeLimit
+      (and-right (leb 1 n) (leb n nodeLimit) (and-left (within 1 nodeLimit n) _ (and-left _ _ (given .0))))
 
   pub part-links : x .links ≤ 65535
   part-links = omega (arith, given .1 .links, nodes-most)

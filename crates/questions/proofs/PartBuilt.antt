@@ -28,7 +28,7 @@ use Rattle.ready.proofs.ClosedForm.{kind-one}
 use Rattle.ready.proofs.HighestLaws.{Highest, is-false}
 use Rattle.ready.proofs.PartsRun.{Members}
 use Rattle.ready.proofs.UnderLaws.{under-self, left-in, right-in, left-parent, right-parent}
-use Rattle.questions.specs.Search.{isBelow}
+use Rattle.links.specs.Cells.{isBelow}
 use Rattle.questions.specs.Climbs.{View, below, runOn, ruleOn, Reached, reached, climbOn}
 use Rattle.questions.specs.Part.{Found, found, lastFound, foundBelow, labelOn, climbFrom, runReached, ownReached, joinOn, innerOn, leafOn, forkOn, partOn}
 use Rattle.questions.proofs.MeetBuilt.{below-is}

@@ -3,7 +3,8 @@
 --     limits-first, limits-second, limits-end          limitsFit by its tests; the last decides where the others pass
 --     plan-no, rules-no, nums-no, lengths-end          the same for lengthsFit
 --     roots-short .. asked-end                         the same for askedFits
---     Limits, Lengths, Asked                           what each says, by name; limits-are, lengths-are, asked-are: where it says yes
+--     Limits, Lengths, Asked                           what each says, by name
+--     limits-are, lengths-are, asked-are               .. where it says yes
 --     given-limits, given-lengths, given-asked, given-yes   partGiven by the three
 -- Assumes nothing.
 use Prim.Native.Nat.{ℕ, _*_, _≤_, _<_}
@@ -219,12 +220,14 @@ module _ (n s k : ℕ) (plan rules nums bytes roots states vs bs : List ℕ) whe
   unfolding partGiven toldReached
   unfit h = rw h
 
-  pub given-limits : limitsFit n s k ≡ false → Outside ≡ toldReached (partGiven n s k plan rules nums bytes roots states vs bs)
+  pub given-limits : limitsFit n s k ≡ false
+      → Outside ≡ toldReached (partGiven n s k plan rules nums bytes roots states vs bs)
   unfolding partFits
   given-limits h = unfit (and-no (limitsFit n s k) (lengths && asked) h)
 
   module _ (l : limitsFit n s k ≡ true) where
-    pub given-lengths : lengths ≡ false → Outside ≡ toldReached (partGiven n s k plan rules nums bytes roots states vs bs)
+    pub given-lengths : lengths ≡ false
+        → Outside ≡ toldReached (partGiven n s k plan rules nums bytes roots states vs bs)
     unfolding partFits
     given-lengths h = unfit (and-yes (limitsFit n s k) (lengths && asked) l ∙ and-no lengths asked h)
 
@@ -235,6 +238,7 @@ module _ (n s k : ℕ) (plan rules nums bytes roots states vs bs : List ℕ) whe
 
       pub given-yes : asked ≡ true
           → partGiven n s k plan rules nums bytes roots states vs bs
-          ≡ partOn (lentView n s k plan rules nums bytes) (take (length states) roots) states vs bs (getD roots (length states) 0)
+          ≡ partOn (lentView n s k plan rules nums bytes) (take (length states) roots) states vs bs
+          (getD roots (length states) 0)
       unfolding partGiven partFits
       given-yes h = rw (and-yes (limitsFit n s k) (lengths && asked) l ∙ and-yes lengths asked m ∙ h)

@@ -13,7 +13,8 @@ use Rattle.questions.specs.declared.climb.Climbed.{Climbed}
 use Rattle.questions.specs.Part.{partOn}
 use Rattle.questions.specs.PartArgs.{partView, PartArgs}
 use Rattle.questions.specs.PartTold.{toldReached, limitsFit, lengthsFit, askedFits, partGiven}
-use Rattle.questions.proofs.PartFits.{product-most, Limits, limits-are, Lengths, lengths-are, Asked, asked-are, given-yes}
+use Rattle.questions.proofs.PartFits.{product-most, Limits, limits-are, Lengths}
+use Rattle.questions.proofs.PartFits.{lengths-are, Asked, asked-are, given-yes}
 
 module _ (n s k : ℕ) (plan rules nums bytes roots states vs bs : List ℕ) where
   pub record Fit : Type 0 where
@@ -41,9 +42,11 @@ module _ (n s k : ℕ) (plan rules nums bytes roots states vs bs : List ℕ) whe
         }
 
     pub part-told : (r : Climbed)
-        → r ≡ toldReached (partOn (partView n s k (take (12 + n - 12) (drop 12 plan)) (take (length plan - (12 + n)) (drop (12 + n) plan))
+        → r ≡ toldReached (partOn (partView n s k (take (12 + n - 12) (drop 12 plan))
+        (take (length plan - (12 + n)) (drop (12 + n) plan))
         (take (20 + k - 20) (drop 20 rules)) (take (20 + k + s * k * s - (20 + k)) (drop (20 + k) rules))
-        (take (n * 4) nums) (take (n * (s + 1)) bytes)) (take (length states) roots) states vs bs (getD roots (length states) 0))
+        (take (n * 4) nums) (take (n * (s + 1)) bytes)) (take (length states) roots) states vs bs
+        (getD roots (length states) 0))
         → r ≡ toldReached (partGiven n s k plan rules nums bytes roots states vs bs)
     part-told r e =
         let F = fit-by in
@@ -64,7 +67,8 @@ module _ (n s k : ℕ) (plan rules nums bytes roots states vs bs : List ℕ) whe
   pub part-args : Fit
       → PartArgs n s k (take (12 + n - 12) (drop 12 plan)) (take (length plan - (12 + n)) (drop (12 + n) plan))
       (take (20 + k - 20) (drop 20 rules)) (take (20 + k + s * k * s - (20 + k)) (drop (20 + k) rules))
-      (take (n * 4) nums) (take (n * (s + 1)) bytes) (take (length states) roots) states vs bs (getD roots (length states) 0)
+      (take (n * 4) nums) (take (n * (s + 1)) bytes) (take (length states) roots) states vs bs
+      (getD roots (length states) 0)
   part-args F =
       let p = F .lengths .plan-is in
       let r = F .lengths .rules-is in

@@ -6,6 +6,7 @@
 --     label-none, label-found            and for labels
 --     side-run, side-own, side-lost, side-climb   the state at a child
 --     heard-told                         what is told is heard
+--     told-reached, told-outside         what was meant, from what is told
 -- Assumes nothing.
 use Prim.Native.Nat.{ℕ, _+_, _-_, _≤_, _<_}
 use mathlib.Core.Path.{_≡_, refl, sym, ap, _∙_}
@@ -29,6 +30,13 @@ pub heard-told : (o : Option Reached) → heard (toldReached o) ≡ o
 unfolding toldReached
 heard-told none = refl
 heard-told (some x) = refl
+
+-- for a caller who has matched the answer r
+pub told-reached : (o : Option Reached) (q c : ℕ) → Told q c ≡ toldReached o → o ≡ some (reached q c)
+told-reached o q c e = sym (heard-told o) ∙ ap heard (sym e)
+
+pub told-outside : (o : Option Reached) → Outside ≡ toldReached o → o ≡ none
+told-outside o e = sym (heard-told o) ∙ ap heard (sym e)
 
 -- ---- a number read as a state
 
@@ -78,7 +86,8 @@ module _ (i : ℕ) where
   unfolding foundOf
   place-none es qs e = rw e
 
-  pub place-found : (es qs : List ℕ) → ¬ (i ≡ 0) → foundOf es qs i ≡ some (found (getD es (i - 1) 0) (getD qs (i - 1) 0))
+  pub place-found : (es qs : List ℕ) → ¬ (i ≡ 0)
+      → foundOf es qs i ≡ some (found (getD es (i - 1) 0) (getD qs (i - 1) 0))
   unfolding foundOf
   place-found es qs e =
       let h : i ≡ i - 1 + 1 = omega arith in
@@ -124,7 +133,8 @@ module _ (X : View) (t c : ℕ) (es qs : List ℕ) (own other : ℕ) where
         ∙ ap toldReached (side-alone i)
 
     pub side-climb : other ≡ 0 → getD qs (own - 1) 0 < X .s
-        → climbOn X (getD es (own - 1) 0) t (getD qs (own - 1) 0) ≡ sideOn X t c (foundOf es qs own) (foundOf es qs other)
+        → climbOn X (getD es (own - 1) 0) t (getD qs (own - 1) 0)
+        ≡ sideOn X t c (foundOf es qs own) (foundOf es qs other)
     unfolding climbFrom
     side-climb i l =
         ap (λ (o : Option ℕ). andThen o (λ q. climbOn X (getD es (own - 1) 0) t q))

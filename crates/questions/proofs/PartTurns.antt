@@ -39,7 +39,8 @@ side-args n s k ls inn nums bytes es qs c own P h e f = record {
 }
 
 -- what a side tells is a state with few links
-pub side-few : (X : View) (t c : ℕ) (f g : Option Found) (r : Climbed) → X .n ≤ 65535 → r ≡ toldReached (sideOn X t c f g)
+pub side-few : (X : View) (t c : ℕ) (f g : Option Found) (r : Climbed) → X .n ≤ 65535
+    → r ≡ toldReached (sideOn X t c f g)
     → (x : Reached) → heard r ≡ some x → Few (X .s) x
 side-few X t c f g r m e x h =
     let b : Bounded X x = side-bounded X t c f g x (sym (ap heard e ∙ heard-told (sideOn X t c f g)) ∙ h) in
@@ -58,10 +59,12 @@ module _ (X : View) (es qs : List ℕ) (v l a i j to : ℕ) (same : length es �
   unfolding forkOn
   fork-by =
       let p : foundBelow (X .nums) l es qs ≡ f = found-scan (X .nums) l es qs same ∙ ap (foundOf es qs) (sym is-i) in
-      let q : foundBelow (X .nums) (v - 1) es qs ≡ g = found-scan (X .nums) (v - 1) es qs same ∙ ap (foundOf es qs) (sym is-j) in
+      let q : foundBelow (X .nums) (v - 1) es qs ≡ g = found-scan (X .nums) (v - 1) es qs same
+      ∙ ap (foundOf es qs) (sym is-j) in
       rw (p, q, sym is-to) (inner-sides X to l (v - 1) a f g)
 
-  pub fork-told : (left right r : Climbed) → left ≡ toldReached (sideOn X to l f g) → right ≡ toldReached (sideOn X to (v - 1) g f)
+  pub fork-told : (left right r : Climbed) → left ≡ toldReached (sideOn X to l f g)
+      → right ≡ toldReached (sideOn X to (v - 1) g f)
       → r ≡ toldReached (joinOn (rulesView (X .s) (X .k) (X .inner)) a (heard left) (heard right))
       → r ≡ toldReached (forkOn X es qs v l a)
   unfolding joinOn ruleOn
@@ -74,7 +77,8 @@ module _ (X : View) (es qs : List ℕ) (v l a i j to : ℕ) (same : length es �
 -- ---- by the root's kind and children
 
 module _ (X : View) (es qs vs bs : List ℕ) (v a : ℕ) (is-a : a ≡ getD (changed (X .labels) vs bs) v 0) where
-  pub part-leaf : (r : Climbed) → getD (X .kinds) v 0 ≡ 0 → r ≡ toldReached (leafOn (leavesView (X .s) (X .k) (X .leaves)) a)
+  pub part-leaf : (r : Climbed) → getD (X .kinds) v 0 ≡ 0
+      → r ≡ toldReached (leafOn (leavesView (X .s) (X .k) (X .leaves)) a)
       → r ≡ toldReached (partOn X es qs vs bs v)
   unfolding partOn leafOn labelOn
   part-leaf r h e = rw (eq-eqb (getD (X .kinds) v 0) 0 h, sym is-a) e

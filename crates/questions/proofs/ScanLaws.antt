@@ -1,7 +1,7 @@
 -- Searches in a list, by its entries.
 --     covers-yes, covers-above, covers-under    whether a run covers a number, by the two tests of the code
 --     last-step, last-more, last-same, last-end one entry more: it is covered, or the place found stays; none is left
---     last-ind, last-bound, last-covers         what holds of the place found: it is inside the list, its entry is not above c
+--     last-ind, last-bound, last-covers         the place found is inside the list, and its entry not above c
 --     found-scan                                the last root below c is the one at the place found
 --     label-scan                                the label as changed is the one at the place found
 -- Assumes nothing.
@@ -19,7 +19,7 @@ use borrow.Author.Tests.{lt-ltb, le-ltb, le-leb, lt-leb, leb-true, ltb-true}
 use Rattle.trees.specs.Changes.{changed}
 use Rattle.trees.proofs.Choice.{by-test}
 use Rattle.links.specs.Cells.{sizeCell}
-use Rattle.questions.specs.Search.{isBelow}
+use Rattle.links.specs.Cells.{isBelow}
 use Rattle.questions.specs.Part.{found, lastFound, foundBelow}
 use Rattle.questions.specs.Scans.{covers, lastFrom, lastIn, foundOf, labelOf}
 
@@ -64,7 +64,8 @@ module _ (c z e : ℕ) where
 
 module _ (c z : ℕ) where
   pub last-step : (es : List ℕ) (i at : ℕ) → i < length es
-      → lastFrom c z (drop i es) i at ≡ lastFrom c z (drop (i + 1) es) (i + 1) (cond (covers c z (getD es i 0)) (i + 1) at)
+      → lastFrom c z (drop i es) i at
+      ≡ lastFrom c z (drop (i + 1) es) (i + 1) (cond (covers c z (getD es i 0)) (i + 1) at)
   unfolding lastFrom
   last-step es i at h =
       ap (λ (l : List ℕ). lastFrom c z l i at) (drop-cons es i 0 h)
@@ -81,7 +82,8 @@ module _ (c z : ℕ) where
       go true q s = (q, ap (lastFrom c z (drop (i + 1) es) (i + 1)) q ∙ sym s)
       go false q s = absurd (omega arith)
 
-  pub last-same : (es : List ℕ) (i at m : ℕ) → i < length es → m ≡ cond (covers c z (getD es i 0)) (i + 1) 0 → at ≤ i → m ≤ at
+  pub last-same : (es : List ℕ) (i at m : ℕ) → i < length es → m ≡ cond (covers c z (getD es i 0)) (i + 1) 0 → at ≤ i
+      → m ≤ at
       → lastFrom c z (drop (i + 1) es) (i + 1) at ≡ lastFrom c z (drop i es) i at
   last-same es i at m h e k l = go (covers c z (getD es i 0)) e (last-step es i at h)
     where
@@ -131,8 +133,10 @@ module _ (nums : List ℕ) (c : ℕ) (E Q : List ℕ) where
   found-from [] qs i at a b l = refl
   found-from (e ∷ es) [] i at a b l = absurd (omega arith)
   found-from (e ∷ es) (q ∷ qs) i at a b l =
-      ap (lastFound nums c es qs) (found-pick (covers c (sizeCell nums c) e) e q i at (at-head e i es E a) (at-head q i qs Q b))
-      ∙ found-from es qs (i + 1) (cond (covers c (sizeCell nums c) e) (i + 1) at) (at-tail e i es E a) (at-tail q i qs Q b)
+      ap (lastFound nums c es qs) (found-pick (covers c (sizeCell nums c) e) e q i at (at-head e i es E a)
+      (at-head q i qs Q b))
+      ∙ found-from es qs (i + 1) (cond (covers c (sizeCell nums c) e) (i + 1) at) (at-tail e i es E a)
+      (at-tail q i qs Q b)
       (omega arith)
 
 pub found-scan : (nums : List ℕ) (c : ℕ) (es qs : List ℕ) → length es ≡ length qs
@@ -153,7 +157,8 @@ module _ (v : ℕ) (L B : List ℕ) where
       rw (w, add-one i) (getD-set-same ls v x 0 h ∙ f))
       (λ t. getD-set-other ls u v x 0 (λ w. true-false (sym (covers-yes v 1 u (omega arith) (omega arith)) ∙ t)) ∙ e)
 
-  label-from : (ls vs bs : List ℕ) (i at : ℕ) → v < length ls → getD ls v 0 ≡ labelOf L B v at → bs ≡ drop i B → length vs ≡ length bs
+  label-from : (ls vs bs : List ℕ) (i at : ℕ) → v < length ls → getD ls v 0 ≡ labelOf L B v at → bs ≡ drop i B
+      → length vs ≡ length bs
       → getD (changed ls vs bs) v 0 ≡ labelOf L B v (lastFrom v 1 vs i at)
   unfolding changed lastFrom
   label-from ls [] bs i at h e b l = e

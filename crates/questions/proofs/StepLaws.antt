@@ -63,7 +63,8 @@ node (Parent p) = p
 node Stuck = 0
 
 module _ (F : Forest) (v to : ℕ) where
-  pub told-jump : (j : ℕ) → Jump j ≡ toldMove F (nextMove F v to) → (nextMove F v to ≡ some (byJump v)) × (j ≡ F .jump v)
+  pub told-jump : (j : ℕ) → Jump j ≡ toldMove F (nextMove F v to)
+      → (nextMove F v to ≡ some (byJump v)) × (j ≡ F .jump v)
   unfolding toldMove
   told-jump j e = go (nextMove F v to) refl e
     where
@@ -165,7 +166,8 @@ module _ (X : View) (v to q : ℕ) where
             node = ap (λ (w : Landed). w .node) i;
           }
 
-      go : (o : Option Move) → nextMove forest v to ≡ o → cond (ltb (x .state) (X .s)) (some x) none ≡ andThen o (landOn X q)
+      go : (o : Option Move) → nextMove forest v to ≡ o
+          → cond (ltb (x .state) (X .s)) (some x) none ≡ andThen o (landOn X q)
           → Went x
       go none n z = absurd (none-some (sym (rw (lt-ltb (x .state) (X .s) h) at z)))
       go (some m) n z = made-of m n (moveOn X m q) refl (rw (lt-ltb (x .state) (X .s) h) at z)

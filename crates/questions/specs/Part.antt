@@ -18,7 +18,7 @@ use lib.ListN.{getD}
 use Rattle.trees.specs.Changes.{changed}
 use Rattle.trees.specs.Climb.{andThen}
 use Rattle.links.specs.Cells.{depthCell, sizeCell}
-use Rattle.questions.specs.Search.{isBelow}
+use Rattle.links.specs.Cells.{isBelow}
 use Rattle.questions.specs.Climbs.{View, below, runOn, ruleOn, Reached, reached, climbOn}
 
 pub record Found : Type 0 where

@@ -2,12 +2,13 @@
 --
 -- toldReached x == a state reached and the links that led to it, as they are told; Outside (18) where there is none
 -- limitsFit n s k == n, s and k are within their limits
--- lengthsFit n s k .. == of the lengths lent, those of plan and rules are exactly what n, s and k need, and those of both tables at
---   least
--- askedFits n roots states vs bs == there is a root after as many as have states, it is one of n nodes, the lists of nodes and labels
---   have one length, and neither list of nodes is longer than a plan can be
+-- lengthsFit n s k .. == of the lengths lent, those of plan and rules are exactly what n, s and k need, and those of
+--   both tables at least
+-- askedFits n roots states vs bs == there is a root after as many as have states, it is one of n nodes, the lists of
+--   nodes and labels have one length, and neither list of nodes is longer than a plan can be
 -- partFits .. == all three
--- partGiven .. == the part of the root that comes next after those whose states are given; none (18) where it does not fit, too
+-- partGiven .. == the part of the root that comes next after those whose states are given; none (18) also where it does
+--   not fit
 --
 -- Of the earlier roots nothing is asked: one that is found below a child is a node.
 -- Assumes nothing.
@@ -53,8 +54,10 @@ partFits n s k plan rules nums bytes roots states vs bs =
 abbrev pub lentView : ℕ → ℕ → ℕ → List ℕ → List ℕ → List ℕ → List ℕ → View
 lentView n s k plan rules nums bytes = viewOf n s k plan rules (take (linkLength n) nums) (take (stateLength n s) bytes)
 
-unfoldable pub partGiven : ℕ → ℕ → ℕ → List ℕ → List ℕ → List ℕ → List ℕ → List ℕ → List ℕ → List ℕ → List ℕ → Option Reached
+unfoldable pub partGiven : ℕ → ℕ → ℕ → List ℕ → List ℕ → List ℕ → List ℕ → List ℕ → List ℕ → List ℕ → List ℕ
+    → Option Reached
 partGiven n s k plan rules nums bytes roots states vs bs =
     cond (partFits n s k plan rules nums bytes roots states vs bs)
-    (partOn (lentView n s k plan rules nums bytes) (take (length states) roots) states vs bs (getD roots (length states) 0))
+    (partOn (lentView n s k plan rules nums bytes) (take (length states) roots) states vs bs
+    (getD roots (length states) 0))
     none

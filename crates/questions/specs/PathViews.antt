@@ -1,6 +1,7 @@
--- What the functions of a climb and of a part are lent: runs of plan and rules, with the limits that keep every read inside.
+-- What the functions of a climb are lent: runs of plan and rules, with the limits that keep every read inside.
 --
--- pathView n s k ls inn nums bytes == what a climb reads: labels, inner states and the two tables, no kinds and no leaf states
+-- pathView n s k ls inn nums bytes == what a climb reads: labels, inner states and the two tables, no kinds and no leaf
+--   states
 -- rulesView s k inn, statesView s bytes, linksView n nums == what a rule, a run state and a sibling read
 -- RuleArgs s k inn p q == p and q are states and the rules have their S×K×S bytes
 -- StateArgs s bytes v == the bytes have node v's state

@@ -4,9 +4,11 @@
 -- lastIn c z es == the place, from 1, of the last entry of es that the run covers; 0 where there is none
 -- foundOf es qs i == the root and the state at place i; none at place 0
 -- labelOf ls bs v i == the label at place i of the changes bs; the plan's label of node v at place 0
--- sideOn X t c f g == the state at child c, at depth t, where f is the root found below it and g the one below its sibling
+-- sideOn X t c f g == the state at child c, at depth t, where f is the root found below it and g the one below its
+--   sibling
 --
--- With z the size of node c, the run is c's subtree, so that the place is that of the last root below c; with z = 1 it is c alone.
+-- With z the size of node c, the run is c's subtree, so that the place is that of the last root below c; with z = 1 the
+-- run is c alone.
 -- Assumes nothing.
 use Prim.Native.Nat.{ℕ, zero, suc, _+_}
 use mathlib.Core.Bool.{Bool, cond, _&&_}
@@ -36,8 +38,8 @@ unfoldable pub labelOf : List ℕ → List ℕ → ℕ → ℕ → ℕ
 labelOf ls bs v zero = getD ls v 0
 labelOf ls bs v (suc i) = getD bs i 0
 
--- "A member with no member below takes its children's states from the run. With members below both children it takes theirs. With
--- members below one child only, .. climb": the three ways in which a child comes to its state
+-- "A member with no member below takes its children's states from the run. With members below both children it takes
+-- theirs. With members below one child only, .. climb": the three ways in which a child comes to its state
 unfoldable pub sideOn : View → ℕ → ℕ → Option Found → Option Found → Option Reached
 sideOn X t c none g = runReached X c
 sideOn X t c (some f) none = climbFrom X t f

@@ -1,6 +1,5 @@
 -- A climb that looks for the lowest common ancestor, on whatever numbers are lent.
 --
--- isBelow nums c v == by the lent size of node c: whether node v is c or below it
 -- nextUnless F stop v == a move from v that does not pass the goal: the jump unless `stop` holds there, else the parent; none where it
 --   leads outside the forest or does not rise
 -- search F stop v == the first node reached from v, v included, where `stop` holds; none where a move fails
@@ -8,16 +7,13 @@
 --
 -- Counts down the depth, which falls at each move. Looking for an ancestor counts no link.
 -- Assumes nothing.
-use Prim.Native.Nat.{ℕ, zero, suc, _+_}
-use mathlib.Core.Bool.{Bool, cond, _&&_}
+use Prim.Native.Nat.{ℕ, zero, suc}
+use mathlib.Core.Bool.{Bool, cond}
 use mathlib.Core.List.{List}
 use mathlib.Core.Option.{Option, none, some}
-use lib.Dec.{leb, ltb}
+use lib.Dec.{ltb}
 use Rattle.trees.specs.Climb.{Forest, Move, byJump, toParent, target, rising, andThen}
-use Rattle.links.specs.Cells.{sizeCell, cellForest}
-
-unfoldable pub isBelow : List ℕ → ℕ → ℕ → Bool
-isBelow nums c v = leb v c && ltb c (v + sizeCell nums c)
+use Rattle.links.specs.Cells.{cellForest, isBelow}
 
 unfoldable pub nextUnless : Forest → (ℕ → Bool) → ℕ → Option Move
 nextUnless F stop v = cond (ltb (F .jump v) (F .nodes)) (rising F v (cond (stop (F .jump v)) (toParent v) (byJump v))) none

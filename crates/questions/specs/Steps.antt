@@ -1,7 +1,7 @@
 -- One move of a climb, as its function has it.
 --
--- stepOn X v to q == the node that the next move from v to depth `to` leads to, with what it makes of state q; none where there
---   is no move, or a value read leads outside the states or the labels
+-- stepOn X v to q == the node that the next move from v to depth `to` leads to, with what it makes of state q; none
+--   where there is no move, or a value read leads outside the states or the labels
 -- landed s x == a node and its state as they are told: none where the number told is not below s
 -- StepArgs .. == v is one of the nodes and q a state; ParentArgs .. == so is p one of the nodes
 --

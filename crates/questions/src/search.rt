@@ -8,7 +8,8 @@ ghost use Prim.Native.Nat.{ℕ, _+_, _*_, _≤_};
 ghost use lib.ListN.{length};
 ghost use Rattle.links.specs.Cells.{cellForest};
 ghost use Rattle.links.specs.ToldMove.{MoveArgs};
-ghost use Rattle.questions.specs.Search.{isBelow, nextUnless, meetOn};
+ghost use Rattle.questions.specs.Search.{nextUnless, meetOn};
+ghost use Rattle.links.specs.Cells.{isBelow};
 ghost use Rattle.questions.specs.SearchTold.{toldMeeting, toldTarget, toldRising};
 
 // A node, or that a value read leads outside the plan or a move does not rise.

@@ -1,2 +1,5 @@
 pub mod Records
 pub mod Promises
+pub mod Tests
+pub mod Steps
+pub mod CallSteps

@@ -8,14 +8,14 @@
 -- Assumes nothing.
 use Prim.Native.Nat.{ℕ}
 use mathlib.Core.Path.{_≡_}
-use mathlib.Core.Bool.{Bool, true, false, cond}
+use mathlib.Core.Bool.{cond}
 use mathlib.Core.List.{List}
 use Rattle.formats.specs.Built.{builtLinks, builtStates}
 use Rattle.tables.specs.Answers.{written}
 use Rattle.book.specs.Lends.{Lent}
-use Rattle.book.specs.Calls.{Call, load, start, advance, cancel, read, Answer, refused, accepted, parts, more, finished, told}
+use Rattle.book.specs.Calls.{Call, load, Answer, refused, accepted, parts, more, finished, told}
 use Rattle.book.specs.Refusals.{refusal}
-use Rattle.book.specs.Model.{Record, act}
+use Rattle.book.specs.Model.{act}
 use Rattle.session.specs.declared.state.Session.{Session}
 use Rattle.session.specs.declared.answers.Doing.{Doing}
 use Rattle.session.specs.declared.answers.Doing.the-variants.{Done as Made, Refused as NotDone}

@@ -1,3 +1,23 @@
 // The panel session by value: the record, and load, start, advance, cancel and read.
+//     state    the record, its limits and the fresh one
+//     answers  what the calls answer
+//     lists    tests of lists of numbers
+//     valid    whether a struct can be a session's
+//     may      which calls may be made
+//     loaded   the record after a first Load
+//     fill     lists in the record's arrays
+//     load     Load
+//     start    Start
+//     advance  advance
+//     cancel   Cancel and Read
+mod advance;
 pub mod answers;
+mod cancel;
+mod fill;
+mod lists;
+mod load;
+mod loaded;
+mod may;
+mod start;
 pub mod state;
+mod valid;

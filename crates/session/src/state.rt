@@ -1,3 +1,7 @@
+use formats::limits;
+ghost use mathlib.Core.Path.{_≡_};
+ghost use Rattle.session.specs.Records.{freshSession};
+
 // Which of the four states a session is in.
 pub enum Phase {
     Empty,
@@ -22,4 +26,36 @@ pub struct Session {
     pub labels: [u8; 64],
     pub roots: [u16; 254],
     pub states: [u8; 254],
+}
+
+// The limits of document 01, and a fresh session.
+impl Session {
+    pub const NODE_LIMIT: usize = limits::NODE_LIMIT;
+
+    pub const STATE_LIMIT: usize = limits::STATE_LIMIT;
+
+    pub const LABEL_LIMIT: usize = limits::LABEL_LIMIT;
+
+    pub const CHANGE_LIMIT: usize = limits::CHANGE_LIMIT;
+
+    // A session with nothing loaded.
+    pub fn fresh() -> Session
+        ensures { λ r. ⌜ r ≡ freshSession ⌝ }
+    {
+        Session {
+            phase: Phase::Empty,
+            yes: false,
+            n: 0,
+            s: 0,
+            k: 0,
+            m: 0,
+            parts: 0,
+            handled: 0,
+            links: 0,
+            nodes: [0u16; 64],
+            labels: [0u8; 64],
+            roots: [0u16; 254],
+            states: [0u8; 254],
+        }
+    }
 }

@@ -5,7 +5,8 @@ use native.Mathlib.Omega.{arith}
 use Rattle.links.specs.Cells.{depthCell}
 use Rattle.questions.specs.Climbs.{View}
 use Rattle.questions.specs.PathViews.{pathView}
-use Rattle.questions.proofs.ClimbTurns.{Climbing, climbing-start, climbing-turn, climbing-rises, climbing-done, climbing-lost}
+use Rattle.questions.proofs.ClimbTurns.{Climbing, climbing-start, climbing-turn}
+use Rattle.questions.proofs.ClimbTurns.{climbing-rises, climbing-done, climbing-lost}
 use Rattle.questions.proofs.climb.climb_state.Statement.{statement}
 use Rattle.questions.proofs.climb.climb_state.Tie as tie
 
@@ -37,7 +38,11 @@ depth-at-requires c κs =
 step-on-requires : tie.Need-step-on-requires Inv-loop μ-loop
 step-on-requires c κs =
     let a = c .before .before in
-    record { path = a .before .before .before .before .before .pre .path; at = a .loop .inv .inside; state = a .loop .inv .state }
+    record {
+      path = a .before .before .before .before .before .pre .path;
+      at = a .loop .inv .inside;
+      state = a .loop .inv .state;
+    }
 
 returns : tie.Need-returns Inv-loop μ-loop
 returns c =

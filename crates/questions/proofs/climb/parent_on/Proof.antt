@@ -71,7 +71,8 @@ returns-3 c =
     let g = s .args in
     c .rule-on .ensures
     ∙ sym (parent-right (view s) (g .v) (g .p) (g .q) (u .sibling-on .result) (u .sibling-on .ensures)
-    (x .before .if1 .left) (x .run-on .result) (x .run-on .ensures) (c .before .before .before .if2 .left) (c .before .if3 .taken))
+    (x .before .if1 .left) (x .run-on .result) (x .run-on .ensures) (c .before .before .before .if2 .left)
+    (c .before .if3 .taken))
 
 rule-on-requires-2 : tie.Need-rule-on-requires-2
 rule-on-requires-2 c κs = search needs
@@ -84,7 +85,8 @@ returns-4 c =
     let g = s .args in
     c .rule-on2 .ensures
     ∙ sym (parent-left (view s) (g .v) (g .p) (g .q) (u .sibling-on .result) (u .sibling-on .ensures)
-    (x .before .if1 .left) (x .run-on .result) (x .run-on .ensures) (c .before .before .before .if2 .left) (c .before .if3 .left))
+    (x .before .if1 .left) (x .run-on .result) (x .run-on .ensures) (c .before .before .before .if2 .left)
+    (c .before .if3 .left))
 
 pub parent-on-spec : {M : Type 1} → statement M
 parent-on-spec =

@@ -20,7 +20,8 @@ view s =
 map-at : (s : tie.Start) → let g = s .args in g .v * (g .s + 1) + (1 + g .q) < length (g .bytes .now)
 map-at s =
     let g = s .args in
-    map-place (g .n) (g .s) (g .v) (g .q) (length (g .bytes .now)) (s .pre .at) (s .pre .state) (s .pre .path .bytes-room)
+    map-place (g .n) (g .s) (g .v) (g .q) (length (g .bytes .now)) (s .pre .at) (s .pre .state)
+    (s .pre .path .bytes-room)
 
 next-move-requires : tie.Need-next-move-requires
 next-move-requires c κs = search needs

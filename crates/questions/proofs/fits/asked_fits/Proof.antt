@@ -15,7 +15,8 @@ returns c =
 returns-2 : tie.Need-returns-2
 returns-2 c =
     let g = c .before .before .args in
-    sym (roots-many (g .n) (g .roots .now) (g .states .now) (g .nodes .now) (g .labels .now) (c .before .if1 .left) (c .if2 .taken))
+    sym (roots-many (g .n) (g .roots .now) (g .states .now) (g .nodes .now) (g .labels .now) (c .before .if1 .left)
+    (c .if2 .taken))
 
 mul-if3 : tie.Need-mul-if3
 mul-if3 c = search needs
@@ -30,21 +31,24 @@ returns-3 : tie.Need-returns-3
 returns-3 c =
     let b = c .before .before in
     let g = b .before .before .args in
-    sym (root-outside (g .n) (g .roots .now) (g .states .now) (g .nodes .now) (g .labels .now) (b .before .if1 .left) (b .if2 .left)
+    sym (root-outside (g .n) (g .roots .now) (g .states .now) (g .nodes .now) (g .labels .now) (b .before .if1 .left)
+    (b .if2 .left)
     (c .if3 .taken))
 
 returns-4 : tie.Need-returns-4
 returns-4 c =
     let b = c .before .before .before in
     let g = b .before .before .args in
-    sym (lists-apart (g .n) (g .roots .now) (g .states .now) (g .nodes .now) (g .labels .now) (b .before .if1 .left) (b .if2 .left)
+    sym (lists-apart (g .n) (g .roots .now) (g .states .now) (g .nodes .now) (g .labels .now) (b .before .if1 .left)
+    (b .if2 .left)
     (c .before .if3 .left) (c .if4 .taken))
 
 returns-5 : tie.Need-returns-5
 returns-5 c =
     let b = c .before .before .before in
     let g = b .before .before .args in
-    sym (asked-end (g .n) (g .roots .now) (g .states .now) (g .nodes .now) (g .labels .now) (b .before .if1 .left) (b .if2 .left)
+    sym (asked-end (g .n) (g .roots .now) (g .states .now) (g .nodes .now) (g .labels .now) (b .before .if1 .left)
+    (b .if2 .left)
     (c .before .if3 .left) (c .if4 .left))
 
 pub asked-fits-spec : {M : Type 1} → statement M

@@ -50,7 +50,8 @@ mul-if3 c = search needs
 returns-3 : tie.Need-returns-3
 returns-3 c =
     let g = c .before .before .before .args in
-    sym (nums-no (g .n) (g .s) (g .k) (g .plan) (g .rules) (g .nums) (g .bytes) (c .before .before .if1 .left) (c .before .if2 .left)
+    sym (nums-no (g .n) (g .s) (g .k) (g .plan) (g .rules) (g .nums) (g .bytes) (c .before .before .if1 .left)
+    (c .before .if2 .left)
     (c .if3 .taken))
 
 add-result : tie.Need-add-result
@@ -64,7 +65,8 @@ mul-result c =
 returns-4 : tie.Need-returns-4
 returns-4 c =
     let g = c .before .before .before .args in
-    sym (lengths-end (g .n) (g .s) (g .k) (g .plan) (g .rules) (g .nums) (g .bytes) (c .before .before .if1 .left) (c .before .if2 .left)
+    sym (lengths-end (g .n) (g .s) (g .k) (g .plan) (g .rules) (g .nums) (g .bytes) (c .before .before .if1 .left)
+    (c .before .if2 .left)
     (c .if3 .left))
 
 pub lengths-fit-spec : {M : Type 1} → statement M

@@ -34,7 +34,8 @@ last-below-requires-2 c κs = search needs
 side-on-requires : tie.Need-side-on-requires
 side-on-requires c κs =
     let s = c .before .before .before .before .before .before .before .before .before in
-    side-args _ _ _ _ _ _ _ _ _ _ (c .before .last-below .result) (s .pre .path) (omega (arith, s .pre .left, s .pre .at)) (s .pre .same)
+    side-args _ _ _ _ _ _ _ _ _ _ (c .before .last-below .result) (s .pre .path)
+    (omega (arith, s .pre .left, s .pre .at)) (s .pre .same)
     (c .before .last-below .ensures)
 
 sub-side-on : tie.Need-sub-side-on
@@ -67,7 +68,8 @@ returns c =
     let i = j .before in
     let s = i .before .before .before .before .before .before .before .before in
     let g = s .args in
-    fork-told (view s) (g .earlier .now) (g .states .now) (g .v) (g .l) (g .a) (i .last-below .result) (j .last-below2 .result)
+    fork-told (view s) (g .earlier .now) (g .states .now) (g .v) (g .l) (g .a) (i .last-below .result)
+    (j .last-below2 .result)
     (i .before .depth-at .result + 1) (s .pre .same) (ap (λ (d : ℕ). d + 1) (i .before .depth-at .ensures))
     (i .last-below .ensures) (j .last-below2 .ensures) (l .side-on .result) (r .side-on2 .result) (c .join-on .result)
     (l .side-on .ensures) (r .side-on2 .ensures) (c .join-on .ensures)

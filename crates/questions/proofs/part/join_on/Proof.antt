@@ -16,20 +16,25 @@ use Rattle.questions.proofs.part.join_on.Tie as tie
 abbrev view : tie.Start → View
 view s = rulesView (s .args .s) (s .args .k) (s .args .inner .now)
 
-same-join : (X : View) (a : ℕ) (x y l r : Option Reached) → l ≡ x → r ≡ y → toldReached (joinOn X a x y) ≡ toldReached (joinOn X a l r)
+same-join : (X : View) (a : ℕ) (x y l r : Option Reached) → l ≡ x → r ≡ y
+    → toldReached (joinOn X a x y) ≡ toldReached (joinOn X a l r)
 same-join X a x y l r e f = ap₂ (λ (i j : Option Reached). toldReached (joinOn X a i j)) (sym e) (sym f)
 
-left-is : (l : tie.After-left) → heard (l .before .before .before .args .left) ≡ some (reached (l .left .given .0 .0) (l .left .given .0 .1 .0))
+left-is : (l : tie.After-left) → heard (l .before .before .before .args .left)
+    ≡ some (reached (l .left .given .0 .0) (l .left .given .0 .1 .0))
 left-is l = ap heard (l .left .given .1)
 
 right-is : (r : tie.After-right) → heard (r .before .before .before .before .before .before .args .right)
     ≡ some (reached (r .right .given .0 .0) (r .right .given .0 .1 .0))
 right-is r = ap heard (r .right .given .1)
 
-left-few : (l : tie.After-left) → Few (l .before .before .before .args .s) (reached (l .left .given .0 .0) (l .left .given .0 .1 .0))
+left-few : (l : tie.After-left)
+    → Few (l .before .before .before .args .s) (reached (l .left .given .0 .0) (l .left .given .0 .1 .0))
 left-few l = l .before .before .before .pre .left-few _ (left-is l)
 
-right-few : (r : tie.After-right) → Few (r .before .before .before .before .before .before .args .s) (reached (r .right .given .0 .0) (r .right .given .0 .1 .0))
+right-few : (r : tie.After-right)
+    → Few (r .before .before .before .before .before .before .args .s)
+    (reached (r .right .given .0 .0) (r .right .given .0 .1 .0))
 right-few r = r .before .before .before .before .before .before .pre .right-few _ (right-is r)
 
 enum-known-left : tie.Need-enum-known-left
@@ -69,7 +74,8 @@ cast-t17 c = search needs
 
 add-t18 : tie.Need-add-t18
 add-t18 c =
-    omega (arith, left-few (c .before .before .before .before .before .before) .links, right-few (c .before .before .before) .links)
+    let r = c .before .before .before in
+    omega (arith, left-few (r .before .before .before) .links, right-few r .links)
 
 enum-told : tie.Need-enum-told
 enum-told c = search needs
@@ -90,7 +96,8 @@ returns-3 : tie.Need-returns-3
 returns-3 c =
     let l = c .before .before .before in
     let s = l .before .before .before in
-    join-right (view s) (s .args .a) _ ∙ same-join (view s) (s .args .a) _ _ _ _ (left-is l) (ap heard (c .enum-told .given .1))
+    join-right (view s) (s .args .a) _
+    ∙ same-join (view s) (s .args .a) _ _ _ _ (left-is l) (ap heard (c .enum-told .given .1))
 
 returns-4 : tie.Need-returns-4
 returns-4 c =

@@ -51,7 +51,8 @@ shared-slice-read-result-2 c =
     let l = c .before .before in
     let g = l .before .before .before .before .args in
     let e : ¬ (l .last-in .result ≡ 0) = c .before .if1 .left in
-    omega (arith, l .last-in .ensures, last-bound (g .v) 1 (g .nodes .now), l .before .before .before .before .pre .same)
+    let p = l .before .before .before .before .pre in
+    omega (arith, l .last-in .ensures, last-bound (g .v) 1 (g .nodes .now), p .same)
 
 cast-result-2 : tie.Need-cast-result-2
 cast-result-2 c =

@@ -20,7 +20,8 @@ limits : (c : tie.Else1) → let g = start (c .before) .args in limitsFit (g .n)
 limits c = sym (c .before .limits-fit .ensures) ∙ not-false _ (c .if1 .left)
 
 lengths : (c : tie.Else2) → let g = start (c .before .before .before) .args in
-    lengthsFit (g .n) (g .s) (g .k) (length (g .plan .now)) (length (g .rules .now)) (length (g .nums .now)) (length (g .bytes .now)) ≡ true
+    lengthsFit (g .n) (g .s) (g .k) (length (g .plan .now)) (length (g .rules .now)) (length (g .nums .now))
+    (length (g .bytes .now)) ≡ true
 lengths c = sym (c .before .lengths-fit .ensures) ∙ not-false _ (c .if2 .left)
 
 asked : (c : tie.Else3) → let g = start (c .before .before .before .before .before) .args in
@@ -28,9 +29,11 @@ asked : (c : tie.Else3) → let g = start (c .before .before .before .before .be
 asked c = sym (c .before .asked-fits .ensures) ∙ not-false _ (c .if3 .left)
 
 fit : (c : tie.Else3) → let g = start (c .before .before .before .before .before) .args in
-    Fit (g .n) (g .s) (g .k) (g .plan .now) (g .rules .now) (g .nums .now) (g .bytes .now) (g .roots .now) (g .states .now)
+    Fit (g .n) (g .s) (g .k) (g .plan .now) (g .rules .now) (g .nums .now) (g .bytes .now) (g .roots .now)
+    (g .states .now)
     (g .nodes .now) (g .labels .now)
-fit c = fit-by _ _ _ _ _ _ _ _ _ _ _ (limits (c .before .before .before .before)) (lengths (c .before .before)) (asked c)
+fit c = fit-by _ _ _ _ _ _ _ _ _ _ _ (limits (c .before .before .before .before)) (lengths (c .before .before))
+    (asked c)
 
 limits-fit-requires : tie.Need-limits-fit-requires
 limits-fit-requires c κs = search needs
@@ -136,7 +139,8 @@ slice-aggregate-part-on-2 c =
 
 slice-aggregate-part-on-3 : tie.Need-slice-aggregate-part-on-3
 slice-aggregate-part-on-3 c =
-    sym (length-take-le _ _ (omega (arith, fit (c .before .before .before .before .before .before .before) .asked .root)))
+    let F = fit (c .before .before .before .before .before .before .before) in
+    sym (length-take-le _ _ (omega (arith, F .asked .root)))
 
 mul-part-on-5 : tie.Need-mul-part-on-5
 mul-part-on-5 c = omega (arith, fit (c .before .before .before .before .before .before .before))
@@ -146,7 +150,8 @@ shared-slice-read-part-on c = omega (arith, fit (c .before .before .before .befo
 
 cast-part-on : tie.Need-cast-part-on
 cast-part-on c =
-    let g = start (c .before .before .before .before .before .before .before .before .before .before .before .before .before) .args in
+    let e = c .before .before .before .before .before .before .before .before in
+    let g = start (e .before .before .before .before .before) .args in
     omega (arith, c .shared-slice-known9 .given (length (g .states .now)))
 
 part-on-requires : tie.Need-part-on-requires

@@ -11,7 +11,8 @@ use Rattle.questions.proofs.part.part_on.Tie as tie
 abbrev view : tie.Start → View
 view s =
     let g = s .args in
-    partView (g .n) (g .s) (g .k) (g .labels .now) (g .kinds .now) (g .leaves .now) (g .inner .now) (g .nums .now) (g .bytes .now)
+    partView (g .n) (g .s) (g .k) (g .labels .now) (g .kinds .now) (g .leaves .now) (g .inner .now) (g .nums .now)
+    (g .bytes .now)
 
 abbrev start : tie.After-label-on → tie.Start
 start a = a .before .before .before .before .before .before .before .before .before .before .before
@@ -30,7 +31,8 @@ returns c =
     let a = c .before .before .before in
     let s = start a in
     let g = s .args in
-    part-leaf (view s) (g .earlier .now) (g .states .now) (g .nodes .now) (g .changes .now) (g .v) (a .label-on .result) (a .label-on .ensures)
+    part-leaf (view s) (g .earlier .now) (g .states .now) (g .nodes .now) (g .changes .now) (g .v)
+    (a .label-on .result) (a .label-on .ensures)
     (c .leaf-on .result) (c .before .if1 .taken) (c .leaf-on .ensures)
 
 returns-2 : tie.Need-returns-2
@@ -38,7 +40,8 @@ returns-2 c =
     let a = c .before .before .before in
     let s = start a in
     let g = s .args in
-    part-first (view s) (g .earlier .now) (g .states .now) (g .nodes .now) (g .changes .now) (g .v) (a .label-on .result) (a .label-on .ensures)
+    part-first (view s) (g .earlier .now) (g .states .now) (g .nodes .now) (g .changes .now) (g .v)
+    (a .label-on .result) (a .label-on .ensures)
     (c .before .if1 .left) (c .if2 .taken)
 
 sub-size-at : tie.Need-sub-size-at
@@ -55,7 +58,8 @@ returns-3 c =
     let a = c .before .before .before .before .before in
     let s = start a in
     let g = s .args in
-    part-outside (view s) (g .earlier .now) (g .states .now) (g .nodes .now) (g .changes .now) (g .v) (a .label-on .result) (a .label-on .ensures)
+    part-outside (view s) (g .earlier .now) (g .states .now) (g .nodes .now) (g .changes .now) (g .v)
+    (a .label-on .result) (a .label-on .ensures)
     (c .before .before .before .if1 .left) (c .before .before .if2 .left)
     (omega (arith, c .if3 .taken, c .before .size-at .ensures))
 
@@ -73,9 +77,11 @@ returns-4 c =
     let a = c .before .before .before .before .before .before in
     let s = start a in
     let g = s .args in
-    part-fork (view s) (g .earlier .now) (g .states .now) (g .nodes .now) (g .changes .now) (g .v) (a .label-on .result) (a .label-on .ensures)
+    part-fork (view s) (g .earlier .now) (g .states .now) (g .nodes .now) (g .changes .now) (g .v)
+    (a .label-on .result) (a .label-on .ensures)
     (c .before .before .before .before .if1 .left) (c .before .before .before .if2 .left)
-    (c .before .before .size-at .result) (c .fork-on .result) (c .before .before .size-at .ensures) (c .before .if3 .left)
+    (c .before .before .size-at .result) (c .fork-on .result) (c .before .before .size-at .ensures)
+    (c .before .if3 .left)
     (c .fork-on .ensures)
 
 pub part-on-spec : {M : Type 1} → statement M

@@ -6,7 +6,8 @@ use native.Mathlib.Omega.{arith}
 use native.Mathlib.Nat.{le-refl}
 use borrow.Author.Needs.{needs}
 use Rattle.questions.specs.PathViews.{linksView}
-use Rattle.questions.proofs.LookupLaws.{below-yes, below-no, sibling-left, sibling-outside, sibling-right, sibling-none}
+use Rattle.questions.proofs.LookupLaws.{below-yes, below-no, sibling-left}
+use Rattle.questions.proofs.LookupLaws.{sibling-outside, sibling-right, sibling-none}
 use Rattle.questions.proofs.rules.sibling_on.Statement.{statement}
 use Rattle.questions.proofs.rules.sibling_on.Tie as tie
 
@@ -47,7 +48,8 @@ returns-4 c =
     let s = c .before .before .before in
     let g = s .args in
     below-yes (g .n) (g .p - 1) (omega (arith, s .pre .up))
-    ∙ sym (sibling-right (linksView (g .n) (g .nums .now)) (g .v) (g .p) (c .before .if1 .left) (omega (arith, c .if3 .left)))
+    ∙ sym (sibling-right (linksView (g .n) (g .nums .now)) (g .v) (g .p) (c .before .if1 .left)
+    (omega (arith, c .if3 .left)))
 
 pub sibling-on-spec : {M : Type 1} → statement M
 sibling-on-spec =

@@ -56,10 +56,13 @@ loop-again-2 : tie.Need-loop-again-2 Inv-loop μ-loop
 loop-again-2 c =
     let a = c .before .before .before .before in
     let g = a .before .before .args in
+    let t = c .before .before .before .loop-test .taken in
     let m =
     last-same (g .c) (g .z) (g .list .now) (a .loop .i) (a .loop .at) (c .before .place-of .result)
-    (c .before .before .before .loop-test .taken) (c .before .place-of .ensures) (a .loop .inv .1 .0) (c .if1 .left) in
-    (omega (arith, c .before .before .before .loop-test .taken), (omega (arith, a .loop .inv .1 .0), m ∙ a .loop .inv .1 .1))
+    t (c .before .place-of .ensures) (a .loop .inv .1 .0) (c .if1 .left) in (
+      omega arith,
+      (omega (arith, a .loop .inv .1 .0), m ∙ a .loop .inv .1 .1),
+    )
 
 returns : tie.Need-returns Inv-loop μ-loop
 returns c =

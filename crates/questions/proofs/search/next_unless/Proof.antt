@@ -2,7 +2,7 @@
 use Prim.Native.Nat.{ℕ}
 use mathlib.Core.Path.{sym, _∙_}
 use Rattle.links.specs.Cells.{cellForest}
-use Rattle.questions.specs.Search.{isBelow}
+use Rattle.links.specs.Cells.{isBelow}
 use Rattle.questions.proofs.MeetWays.{jump-outside, parent-taken, jump-taken}
 use borrow.Author.Needs.{needs}
 use Rattle.questions.proofs.search.next_unless.Statement.{statement}

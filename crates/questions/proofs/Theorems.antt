@@ -1,0 +1,62 @@
+-- The questions layer's main theorems by name, each cited from where it is proved.
+--     ready-is-least      the ready set is the least set with document 01's three rules
+--     roots-are-ready     on numbers as built the computed roots are exactly the ready set: rising, each once, ending at the root
+--     roots-few           at most 4m - 2 roots for m listed nodes, one for none: on any numbers
+--     highest-is-one      all members below a child are under the greatest of them: the highest is unique
+--     part-is-the-rule    on numbers as built and any bytes below S a part is what the rule gives on those bytes, never 18
+--     part-is-the-run     on the run's own bytes every part has the changed run's state at its root
+-- That answer, parts and links do not depend on the list's order, and each part's links: crate book (OrderLaws, Ceilings).
+-- Assumes nothing.
+use Prim.Native.Nat.{ℕ, _+_, _-_, _*_, _≤_, _<_}
+use mathlib.Core.Path.{_≡_}
+use mathlib.Core.Bool.{Bool, true}
+use mathlib.Core.List.{List, _∷_, _++_, List·Memᴰ}
+use mathlib.Core.Option.{some}
+use lib.ListN.{length}
+use Rattle.trees.specs.Tree.{Tree, size, labelsOf}
+use Rattle.trees.specs.Automaton.{state}
+use Rattle.trees.specs.Changes.{changed}
+use Rattle.trees.specs.Numbering.{sub}
+use Rattle.formats.specs.Bytes.{allBelow}
+use Rattle.links.specs.LinkCells.{LinkCells}
+use Rattle.ready.specs.Ready.{Under, Ready, Closed}
+use Rattle.ready.specs.Members.{readyList, roots}
+use Rattle.ready.specs.Parts.{Given, Part, nodesOf, statesOf, stateOf, partState, partLinks, partsOf}
+use Rattle.ready.proofs.ClosedForm as closed-form
+use Rattle.ready.proofs.HighestLaws.{Highest, highest-holds}
+use Rattle.ready.proofs.ChangedRun.{Changes}
+use Rattle.ready.proofs.PartsRun.{Members, Sound, RunGiven, parts-right}
+use Rattle.questions.specs.Roots.{rootsOn}
+use Rattle.questions.specs.Climbs.{View, reached}
+use Rattle.questions.specs.Part.{partOn}
+use Rattle.questions.proofs.RootsLaws.{RootsAre, rootsOn-are}
+use Rattle.questions.proofs.RootsBuilt as built
+use Rattle.questions.proofs.ClimbBuilt.{Reads}
+use Rattle.questions.proofs.PartBuilt.{part-built}
+
+ready-is-closed : (w : ℕ → Bool) (t : Tree) → Closed w t (Ready w t)
+ready-is-closed = closed-form.ready-closed
+
+ready-is-least : (w : ℕ → Bool) (t : Tree) (C : ℕ → Type 0) → Closed w t C → {v : ℕ} → Ready w t v → C v
+ready-is-least = closed-form.ready-least
+
+roots-are-ready : (t : Tree) (nums : List ℕ) → LinkCells t nums → (vs : List ℕ) → ((v : ℕ) → List·Memᴰ v vs → v < size t)
+    → rootsOn (size t) nums vs ≡ some (roots t vs)
+roots-are-ready = built.roots-built
+
+roots-few : (n : ℕ) (nums vs l : List ℕ) → 0 < n → allBelow n vs ≡ true → rootsOn n nums vs ≡ some l → RootsAre n (length vs) l
+roots-few = rootsOn-are
+
+highest-is-one : (w : ℕ → Bool) (t : Tree) (C : ℕ → Type 0) → Closed w t C → ((v : ℕ) → C v → v < size t) → (c h : ℕ) → c < size t
+    → Highest t C c h → (u : ℕ) → C u → Under t c u → Under t h u
+highest-is-one = highest-holds
+
+part-is-the-rule : (X : View) (G : Given) → Reads X G → (w : ℕ → Bool) (ms : List ℕ) → Members w (G .tree) ms → (ps : List Part) (v : ℕ)
+    (rest : List ℕ) → nodesOf ps ++ (v ∷ rest) ≡ ms → ((x : ℕ) → stateOf ps x < X .s) → (vs bs : List ℕ)
+    → G .labels ≡ changed (labelsOf (G .tree)) vs bs
+    → partOn X (nodesOf ps) (statesOf ps) vs bs v ≡ some (reached (partState G ms ps v) (partLinks (G .tree) ms v))
+part-is-the-rule = part-built
+
+part-is-the-run : (G : Given) (u : Tree) → RunGiven G u → Sound (G .automaton) → (w : ℕ → Bool) → Changes w (G .tree) u → (ms : List ℕ)
+    → Members w (G .tree) ms → (v : ℕ) → List·Memᴰ v ms → stateOf (partsOf G ms) v ≡ state (G .automaton) (sub u v)
+part-is-the-run = parts-right

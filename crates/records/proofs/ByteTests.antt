@@ -1,0 +1,122 @@
+-- The tests of bytes as the code makes them, and the struct's bytes as the code writes them, against their definitions.
+--     laid-short, laid-test       laidOut
+--     valid-not, valid-test       validBytes
+--     encode-other, encode-done   encode on a buffer of another length, and of 967 bytes
+--     head-written                13 stores in a row
+--     part-written                a part of a buffer that is written behind what is written
+--     record-written              the first 13 bytes and the four parts behind them
+--     record-read                 the fields as the code reads them
+-- Assumes nothing.
+use Prim.Native.Nat.{ℕ, _+_, _*_, _≤_}
+use mathlib.Core.Path.{_≡_, refl, sym, ap, _∙_}
+use mathlib.Core.Bool.{Bool, true, false, not, cond, _&&_}
+use mathlib.Core.List.{List, [], _∷_, _++_, append-assoc, append-nil}
+use native.Mathlib.Omega.{arith}
+use lib.Dec.{leb, eqb}
+use lib.ListN.{length, getD, take, drop, set, length-append, drop-of-length-le}
+use lib.Seq.{sets, sets-eq, take-at, drop-at, drop-drop}
+use borrow.Author.Tests.{eq-eqb, ne-eqb, eqb-true, not-true, not-false}
+use Rattle.formats.proofs.CheckLaws.{and-left}
+use Rattle.formats.specs.Bytes.{le32}
+use Rattle.session.specs.declared.state.Phase.{Phase}
+use Rattle.session.specs.declared.state.Session.{Session}
+use Rattle.session.specs.Records.{valid}
+use Rattle.records.proofs.NumberLaws.{bytes16-length}
+use Rattle.records.specs.Layout.{le16, numbers16, bytes16, phaseByte, phaseAt, yesByte, headBytes, run, encoded, decoded, laidOut, validBytes, InTypes}
+
+module _ (b : List ℕ) where
+  pub laid-short : (length b ≡ 967 → ⊥) → false ≡ laidOut b
+  unfolding laidOut
+  laid-short h = rw (ne-eqb (length b) 967 h)
+
+  pub laid-test : length b ≡ 967 → (leb (getD b 0 0) 3 && leb (getD b 1 0) 1) ≡ laidOut b
+  unfolding laidOut
+  laid-test h = rw (eq-eqb (length b) 967 h)
+
+  pub laid-length : laidOut b ≡ true → length b ≡ 967
+  unfolding laidOut
+  laid-length e = eqb-true (length b) 967 (and-left (eqb (length b) 967) (leb (getD b 0 0) 3 && leb (getD b 1 0) 1) e)
+
+  pub valid-not : (r : Bool) → r ≡ laidOut b → not r ≡ true → false ≡ validBytes b
+  unfolding validBytes
+  valid-not r e f = rw (← e, not-true r f)
+
+  pub valid-laid : (r : Bool) → r ≡ laidOut b → not r ≡ false → length b ≡ 967
+  valid-laid r e f = laid-length (sym e ∙ not-false r f)
+
+  pub valid-test : (r q : Bool) (s : Session) → r ≡ laidOut b → not r ≡ false → s ≡ decoded b → q ≡ valid s → q ≡ validBytes b
+  unfolding validBytes
+  valid-test r q s e f g h = rw (← e, not-false r f, ← g) h
+
+module _ (out : List ℕ) (s : Session) where
+  pub encode-other : (length out ≡ 967 → ⊥) → out ≡ cond (eqb (length out) 967) (encoded s) out
+  encode-other h = rw (ne-eqb (length out) 967 h)
+
+  pub encode-done : (after : List ℕ) → length out ≡ 967 → after ≡ encoded s → after ≡ cond (eqb (length out) 967) (encoded s) out
+  encode-done after h e = rw (eq-eqb (length out) 967 h) e
+
+sets-all : (out vs : List ℕ) → length out ≡ length vs → sets out 0 vs ≡ vs
+sets-all out vs e =
+    sets-eq vs out 0 (omega arith)
+    ∙ (ap (λ (t : List ℕ). vs ++ t) (drop-of-length-le out {i = 0 + length vs} (omega arith)) ∙ append-nil vs)
+
+-- the state and the yes or no as told by the functions that number them
+pub head-written : (out : List ℕ) (s : Session) (p y : ℕ) → length out ≡ 13 → p ≡ phaseByte (s .phase) → y ≡ yesByte (s .yes)
+    → sets out 0 (p ∷ y ∷ drop 2 (headBytes s)) ≡ headBytes s
+head-written out s p y e f g = rw (← f, ← g) (sets-all out (p ∷ y ∷ drop 2 (headBytes s)) e)
+
+-- p stands before place a; k bytes ys go behind it
+pub part-written : (x p o ys : List ℕ) (a k : ℕ) → x ≡ p ++ drop a o → length p ≡ a
+    → take a x ++ (ys ++ drop k (drop a x)) ≡ (p ++ ys) ++ drop (a + k) o
+part-written x p o ys a k e h =
+    rw (e, take-at p (drop a o) a h, drop-at p (drop a o) a h, drop-drop, append-assoc)
+
+-- what a buffer holds after a part of k bytes from place a on was lent and written
+abbrev pub put : ℕ → ℕ → List ℕ → List ℕ → List ℕ
+put a k x ys = take a x ++ (ys ++ drop k (drop a x))
+
+joined : (p q : List ℕ) (a b : ℕ) → length p ≡ a → length q ≡ b → length (p ++ q) ≡ a + b
+joined p q a b e f = rw (length-append, e, f)
+
+regrouped : (h n l r t : List ℕ) → (((h ++ n) ++ l) ++ r) ++ t ≡ h ++ (n ++ (l ++ (r ++ t)))
+regrouped h n l r t = simp append-assoc
+
+pub record-written : (o : List ℕ) (s : Session) (h n l r t : List ℕ) → length o ≡ 967 → InTypes s → h ≡ headBytes s
+    → n ≡ bytes16 (s .nodes) → l ≡ s .labels → r ≡ bytes16 (s .roots) → t ≡ s .states
+    → put 713 254 (put 205 508 (put 141 64 (put 13 128 (h ++ drop 13 o) n) l) r) t ≡ encoded s
+unfolding encoded
+record-written o s h n l r t e z eh en el er et =
+    let lh : length h ≡ 13 = ap length eh in
+    let ln : length n ≡ 128 = ap length en ∙ (bytes16-length (s .nodes) ∙ ap (λ (k : ℕ). 2 * k) (z .nodes-length)) in
+    let ll : length l ≡ 64 = ap length el ∙ z .labels-length in
+    let lr : length r ≡ 508 = ap length er ∙ (bytes16-length (s .roots) ∙ ap (λ (k : ℕ). 2 * k) (z .roots-length)) in
+    let x₁ = part-written (h ++ drop 13 o) h o n 13 128 refl lh in
+    let x₂ = part-written (put 13 128 (h ++ drop 13 o) n) (h ++ n) o l 141 64 x₁ (joined h n 13 128 lh ln) in
+    let l₂ = joined (h ++ n) l 141 64 (joined h n 13 128 lh ln) ll in
+    let x₃ = part-written (put 141 64 (put 13 128 (h ++ drop 13 o) n) l) ((h ++ n) ++ l) o r 205 508 x₂ l₂ in
+    let l₃ = joined ((h ++ n) ++ l) r 205 508 l₂ lr in
+    let x₄ = part-written (put 205 508 (put 141 64 (put 13 128 (h ++ drop 13 o) n) l) r) (((h ++ n) ++ l) ++ r) o t 713 254 x₃ l₃ in
+    x₄
+    ∙ (ap (λ (u : List ℕ). ((((h ++ n) ++ l) ++ r) ++ t) ++ u) (drop-of-length-le o {i = 967} (omega arith))
+    ∙ (append-nil ((((h ++ n) ++ l) ++ r) ++ t) ∙ (regrouped h n l r t ∙ rw (eh, en, el, er, et))))
+
+pub record-read : (b : List ℕ) (p : Phase) (n links : ℕ) (nodes labels roots states : List ℕ) → p ≡ phaseAt (getD b 0 0)
+    → n ≡ le16 b 4 → links ≡ le32 b 9 → nodes ≡ numbers16 (run 13 128 b) → labels ≡ run 141 64 b → roots ≡ numbers16 (run 205 508 b)
+    → states ≡ run 713 254 b
+    → _≡_ {A = Session} (record {
+      phase = p;
+      yes = eqb (getD b 1 0) 1;
+      n = n;
+      s = getD b 2 0;
+      k = getD b 3 0;
+      m = getD b 6 0;
+      parts = getD b 7 0;
+      handled = getD b 8 0;
+      links = links;
+      nodes = nodes;
+      labels = labels;
+      roots = roots;
+      states = states;
+    }) (decoded b)
+unfolding decoded
+record-read b p n links nodes labels roots states e f g h i j k = cc

@@ -1,0 +1,6 @@
+pub mod NumberLaws
+pub mod NumberTurns
+pub mod RunLaws
+pub mod ByteTests
+pub mod Theorems
+pub mod Types

@@ -1,0 +1,190 @@
+-- The record's bytes and the bytes' record are each other's.
+--     decode-encode       the struct of a struct's bytes is the struct, whatever its types allow
+--     encode-decode       the bytes of a record's struct are the record
+--     encoded-length      967 bytes, each below 256 (encoded-bytes)
+--     fresh-bytes         a fresh session's bytes are 967 zeros, and fresh-valid: they are a record
+--     encoded-valid       the bytes of a valid struct are a record
+--     decoded-valid       the struct of a record is valid
+--     decoded-types       what types say holds of the struct of bytes
+-- Assumes nothing.
+use Prim.Native.Nat.{ℕ, _*_, _/_, _%_, _≤_}
+use mathlib.Core.Path.{_≡_, refl, sym, ap, _∙_}
+use mathlib.Core.Bool.{true, _&&_}
+use mathlib.Core.List.{List, _++_}
+use native.Mathlib.Omega.{arith}
+use lib.Dec.{leb, eqb}
+use lib.ListN.{length, getD, drop, replicate, length-append, length-drop}
+use lib.Seq.{take-all}
+use borrow.Author.Tests.{leb-true, eq-eqb, le-leb}
+use Rattle.formats.specs.Bytes.{allBelow}
+use Rattle.formats.proofs.ByteLaws.{bytes-number, number-bytes}
+use Rattle.formats.proofs.PartLaws.{length-part}
+use Rattle.formats.proofs.CheckLaws.{and-left, and-right, and-both}
+use Rattle.session.specs.declared.state.Session.{Session}
+use Rattle.session.specs.Records.{zeroFrom, noQuestion, validIn, valid, freshSession}
+use Rattle.records.specs.Layout.{numbers16, bytes16, phaseByte, yesByte, headBytes, restBytes, encoded, run, decoded}
+use Rattle.records.specs.Layout.{laidOut, validBytes, InTypes, Bytes}
+use Rattle.records.proofs.NumberLaws.{bytes-two, two-bytes, bytes16-length, numbers16-length, numbers-bytes, bytes-numbers}
+use Rattle.records.proofs.NumberLaws.{bytes16-fit, numbers16-fit}
+use Rattle.records.proofs.RunLaws.{behind, first-run, run-then, firsts, firsts-then, head-same, cons-fits, append-fits, run-fits}
+use Rattle.records.proofs.RunLaws.{le32-fit, phase-again, yes-again, phase-most, yes-most, phase-number, yes-number}
+use Rattle.records.proofs.ByteTests.{laid-length, record-read}
+
+-- ---- the struct of a struct's bytes
+
+module _ (s : Session) (t : InTypes s) where
+  nodes-long : length (bytes16 (s .nodes)) ≡ 128
+  nodes-long = bytes16-length (s .nodes) ∙ ap (λ (k : ℕ). 2 * k) (t .nodes-length)
+
+  roots-long : length (bytes16 (s .roots)) ≡ 508
+  roots-long = bytes16-length (s .roots) ∙ ap (λ (k : ℕ). 2 * k) (t .roots-length)
+
+  pub encoded-length : length (encoded s) ≡ 967
+  unfolding encoded
+  encoded-length =
+      let e = nodes-long in
+      let f = roots-long in
+      simp length-append (omega arith)
+
+  encoded-nodes : run 13 128 (encoded s) ≡ bytes16 (s .nodes)
+  unfolding encoded
+  encoded-nodes =
+      behind (headBytes s) (restBytes s) 13 0 128 refl
+      ∙ first-run (bytes16 (s .nodes)) (s .labels ++ (bytes16 (s .roots) ++ s .states)) 128 nodes-long
+
+  encoded-labels : run 141 64 (encoded s) ≡ s .labels
+  unfolding encoded
+  encoded-labels =
+      behind (headBytes s) (restBytes s) 13 128 64 refl
+      ∙ behind (bytes16 (s .nodes)) (s .labels ++ (bytes16 (s .roots) ++ s .states)) 128 0 64 nodes-long
+      ∙ first-run (s .labels) (bytes16 (s .roots) ++ s .states) 64 (t .labels-length)
+
+  encoded-roots : run 205 508 (encoded s) ≡ bytes16 (s .roots)
+  unfolding encoded
+  encoded-roots =
+      behind (headBytes s) (restBytes s) 13 192 508 refl
+      ∙ behind (bytes16 (s .nodes)) (s .labels ++ (bytes16 (s .roots) ++ s .states)) 128 64 508 nodes-long
+      ∙ behind (s .labels) (bytes16 (s .roots) ++ s .states) 64 0 508 (t .labels-length)
+      ∙ first-run (bytes16 (s .roots)) (s .states) 508 roots-long
+
+  encoded-states : run 713 254 (encoded s) ≡ s .states
+  unfolding encoded
+  encoded-states =
+      behind (headBytes s) (restBytes s) 13 700 254 refl
+      ∙ behind (bytes16 (s .nodes)) (s .labels ++ (bytes16 (s .roots) ++ s .states)) 128 572 254 nodes-long
+      ∙ behind (s .labels) (bytes16 (s .roots) ++ s .states) 64 508 254 (t .labels-length)
+      ∙ behind (bytes16 (s .roots)) (s .states) 508 0 254 roots-long
+      ∙ take-all 254 (s .states) (omega (arith, t .states-length))
+
+  pub decode-encode : decoded (encoded s) ≡ s
+  unfolding encoded
+  decode-encode =
+      sym
+      (record-read (encoded s) (s .phase) (s .n) (s .links) (s .nodes) (s .labels) (s .roots) (s .states) (sym (phase-again (s .phase)))
+      (sym (bytes-two (s .n) (t .n-fits))) (sym (bytes-number (s .links) (t .links-fit)))
+      (sym (ap numbers16 encoded-nodes ∙ numbers-bytes (s .nodes) (t .nodes-fit)))
+      (sym encoded-labels)
+      (sym (ap numbers16 encoded-roots ∙ numbers-bytes (s .roots) (t .roots-fit)))
+      (sym encoded-states))
+      ∙ rw (yes-again (s .yes))
+
+  encoded-laid : laidOut (encoded s) ≡ true
+  unfolding laidOut encoded
+  encoded-laid =
+      rw (eq-eqb (length (encoded s)) 967 encoded-length, le-leb (phaseByte (s .phase)) 3 (phase-most (s .phase)))
+      (le-leb (yesByte (s .yes)) 1 (yes-most (s .yes)))
+
+  pub encoded-valid : valid s ≡ true → validBytes (encoded s) ≡ true
+  unfolding validBytes
+  encoded-valid v = and-both (laidOut (encoded s)) (valid (decoded (encoded s))) encoded-laid (ap valid decode-encode ∙ v)
+
+  head-fits : Bytes (headBytes s)
+  head-fits =
+      cons-fits (phaseByte (s .phase)) (drop 1 (headBytes s)) (omega (arith, phase-most (s .phase)))
+      (cons-fits (yesByte (s .yes)) (drop 2 (headBytes s)) (omega (arith, yes-most (s .yes)))
+      (cons-fits (s .s) (drop 3 (headBytes s)) (t .s-fits)
+      (cons-fits (s .k) (drop 4 (headBytes s)) (t .k-fits)
+      (cons-fits (s .n % 256) (drop 5 (headBytes s)) (omega arith)
+      (cons-fits (s .n / 256 % 256) (drop 6 (headBytes s)) (omega arith)
+      (cons-fits (s .m) (drop 7 (headBytes s)) (t .m-fits)
+      (cons-fits (s .parts) (drop 8 (headBytes s)) (t .parts-fit)
+      (cons-fits (s .handled) (drop 9 (headBytes s)) (t .handled-fits) (le32-fit (s .links))))))))))
+
+  pub encoded-bytes : Bytes (encoded s)
+  unfolding encoded
+  encoded-bytes =
+      append-fits (headBytes s) (restBytes s) head-fits
+      (append-fits (bytes16 (s .nodes)) (s .labels ++ (bytes16 (s .roots) ++ s .states)) (bytes16-fit (s .nodes))
+      (append-fits (s .labels) (bytes16 (s .roots) ++ s .states) (t .labels-fit)
+      (append-fits (bytes16 (s .roots)) (s .states) (bytes16-fit (s .roots)) (t .states-fit))))
+
+-- ---- the bytes of the struct of bytes
+
+module _ (b : List ℕ) where
+  module _ (long : length b ≡ 967) (fits : Bytes b) where
+    pub decoded-types : InTypes (decoded b)
+    unfolding decoded
+    decoded-types = record {
+      n-fits = omega (arith, fits 4, fits 5);
+      s-fits = fits 2;
+      k-fits = fits 3;
+      m-fits = fits 6;
+      parts-fit = fits 7;
+      handled-fits = fits 8;
+      links-fit = omega (arith, fits 9, fits 10, fits 11, fits 12);
+      nodes-length = numbers16-length (run 13 128 b) 64 (length-part b 13 128 (omega arith));
+      labels-length = length-part b 141 64 (omega arith);
+      roots-length = numbers16-length (run 205 508 b) 254 (length-part b 205 508 (omega arith));
+      states-length = length-part b 713 254 (omega arith);
+      nodes-fit = numbers16-fit (run 13 128 b) (run-fits b 13 128 fits);
+      labels-fit = run-fits b 141 64 fits;
+      roots-fit = numbers16-fit (run 205 508 b) (run-fits b 205 508 fits);
+      states-fit = run-fits b 713 254 fits;
+    }
+
+    head-again : getD b 0 0 ≤ 3 → getD b 1 0 ≤ 1 → headBytes (decoded b) ≡ firsts 13 0 b
+    unfolding decoded firsts
+    head-again p y =
+        head-same _ _ _ _ _ _ _ _ _ _ _ _ _ (phase-number (getD b 0 0) p) (yes-number (getD b 1 0) y) (two-bytes (getD b 4 0) (getD b 5 0) (fits 4) (fits 5))
+        (number-bytes (getD b 9 0) (getD b 10 0) (getD b 11 0) (getD b 12 0) (fits 9) (fits 10) (fits 11) (fits 12))
+
+    rest-again : restBytes (decoded b) ≡ drop 13 b
+    unfolding decoded
+    rest-again =
+        rw (
+          bytes-numbers (run 13 128 b) 64 (length-part b 13 128 (omega arith)) (run-fits b 13 128 fits),
+          bytes-numbers (run 205 508 b) 254 (length-part b 205 508 (omega arith)) (run-fits b 205 508 fits),
+          take-all 254 (drop 713 b) (simp length-drop (omega arith)),
+          run-then b 205 508,
+          run-then b 141 64,
+        )
+        (run-then b 13 128)
+
+    encode-laid : laidOut b ≡ true → encoded (decoded b) ≡ b
+    unfolding laidOut encoded
+    encode-laid e =
+        let q = and-right (eqb (length b) 967) (leb (getD b 0 0) 3 && leb (getD b 1 0) 1) e in
+        let p = leb-true (getD b 0 0) 3 (and-left (leb (getD b 0 0) 3) (leb (getD b 1 0) 1) q) in
+        let y = leb-true (getD b 1 0) 1 (and-right (leb (getD b 0 0) 3) (leb (getD b 1 0) 1) q) in
+        ap (λ (h : List ℕ). h ++ restBytes (decoded b)) (head-again p y) ∙ ap (λ (r : List ℕ). firsts 13 0 b ++ r) rest-again
+        ∙ sym (firsts-then b 13 0 (omega arith))
+
+  pub encode-decode : validBytes b ≡ true → Bytes b → encoded (decoded b) ≡ b
+  unfolding validBytes
+  encode-decode e fits =
+      let l = and-left (laidOut b) (valid (decoded b)) e in
+      encode-laid (laid-length b l) fits l
+
+  pub decoded-valid : validBytes b ≡ true → valid (decoded b) ≡ true
+  unfolding validBytes
+  decoded-valid e = and-right (laidOut b) (valid (decoded b)) e
+
+-- ---- a fresh record
+
+pub fresh-bytes : encoded freshSession ≡ replicate 967 0
+unfolding encoded bytes16
+fresh-bytes = refl
+
+pub fresh-valid : validBytes (replicate 967 0) ≡ true
+unfolding validBytes laidOut decoded numbers16 valid validIn noQuestion zeroFrom allBelow
+fresh-valid = refl

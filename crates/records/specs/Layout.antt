@@ -1,0 +1,143 @@
+-- The session's record as bytes, layout version 1. A fresh record is 967 zero bytes; later versions append.
+--
+--     offset  bytes   holds
+--          0      1   state: 0 empty, 1 loaded, 2 running, 3 answered
+--          1      1   yes or no: 1 or 0
+--          2      1   S
+--          3      1   K
+--          4      2   N
+--          6      1   m, how many changes are listed
+--          7      1   how many parts there are
+--          8      1   how many parts are handled
+--          9      4   links so far
+--         13    128   nodes as listed, 64 numbers of two bytes
+--        141     64   labels as listed, 64 bytes
+--        205    508   roots of the parts, 254 numbers of two bytes
+--        713    254   states of the parts, 254 bytes
+--
+-- le16 b at, le16Bytes n == a 16-bit number in bytes, as le32 and le32Bytes (crate formats)
+-- numbers16 b == the 16-bit numbers that b holds, two bytes each; an odd byte at the end is left out
+-- bytes16 l == the bytes of the numbers l, two each
+-- encoded s == the bytes of a struct: headBytes s, the first 13, and restBytes s
+-- decoded b == the struct of bytes, each field read at its offset; a byte past the end counts 0, a state above 3 as answered, and
+--   only 1 as yes
+-- laidOut b == whether there are 967 bytes, the state is at most 3 and the yes or no at most 1
+-- validBytes b == whether b is a record: laid out, and its struct is valid (crate session, Records)
+-- InTypes s == what the struct's types say of its fields; Bytes b == what the type of bytes says of theirs
+--
+-- "the record crosses as bytes, whose layout stands in docs/, and bytes that break it get 1": the table above is that of
+-- docs/LAYOUT.md, "The record".
+-- Order: numbers, states, the struct's bytes, the bytes' struct, tests. The laws stand in proofs/.
+-- Assumes nothing.
+use Prim.Native.Nat.{ℕ, _+_, _*_, _/_, _%_, _<_}
+use mathlib.Core.Path.{_≡_}
+use mathlib.Core.Bool.{Bool, true, false, cond, _&&_}
+use mathlib.Core.List.{List, [], _∷_, _++_}
+use lib.Dec.{leb, eqb}
+use lib.ListN.{length, getD, take, drop}
+use Rattle.formats.specs.Bytes.{le32, le32Bytes}
+use Rattle.session.specs.declared.state.Phase.{Phase}
+use Rattle.session.specs.declared.state.Phase.the-variants.{Empty, Loaded, Running, Answered}
+use Rattle.session.specs.declared.state.Session.{Session}
+use Rattle.session.specs.Records.{valid}
+
+abbrev pub recordLength : ℕ
+recordLength = 967
+
+-- ---- numbers of two bytes
+
+abbrev pub le16 : List ℕ → ℕ → ℕ
+le16 b at = getD b at 0 + 256 * getD b (at + 1) 0
+
+abbrev pub le16Bytes : ℕ → List ℕ
+le16Bytes n = n % 256 ∷ n / 256 % 256 ∷ []
+
+unfoldable pub numbers16 : List ℕ → List ℕ
+numbers16 [] = []
+numbers16 (a ∷ []) = []
+numbers16 (a ∷ b ∷ l) = (a + 256 * b) ∷ numbers16 l
+
+unfoldable pub bytes16 : List ℕ → List ℕ
+bytes16 [] = []
+bytes16 (n ∷ l) = n % 256 ∷ n / 256 % 256 ∷ bytes16 l
+
+-- ---- the state, and the yes or no
+
+abbrev pub phaseByte : Phase → ℕ
+phaseByte Empty = 0
+phaseByte Loaded = 1
+phaseByte Running = 2
+phaseByte Answered = 3
+
+abbrev pub phaseAt : ℕ → Phase
+phaseAt n = cond (eqb n 0) Empty (cond (eqb n 1) Loaded (cond (eqb n 2) Running Answered))
+
+abbrev pub yesByte : Bool → ℕ
+yesByte true = 1
+yesByte false = 0
+
+-- ---- the struct's bytes
+
+abbrev pub headBytes : Session → List ℕ
+headBytes s =
+    phaseByte (s .phase) ∷ yesByte (s .yes) ∷ s .s ∷ s .k
+    ∷ (le16Bytes (s .n) ++ (s .m ∷ s .parts ∷ s .handled ∷ le32Bytes (s .links)))
+
+abbrev pub restBytes : Session → List ℕ
+restBytes s = bytes16 (s .nodes) ++ (s .labels ++ (bytes16 (s .roots) ++ s .states))
+
+unfoldable pub encoded : Session → List ℕ
+encoded s = headBytes s ++ restBytes s
+
+-- ---- the bytes' struct
+
+-- n bytes from a place on
+abbrev pub run : ℕ → ℕ → List ℕ → List ℕ
+run at n b = take n (drop at b)
+
+unfoldable pub decoded : List ℕ → Session
+decoded b = record {
+  phase = phaseAt (getD b 0 0);
+  yes = eqb (getD b 1 0) 1;
+  n = le16 b 4;
+  s = getD b 2 0;
+  k = getD b 3 0;
+  m = getD b 6 0;
+  parts = getD b 7 0;
+  handled = getD b 8 0;
+  links = le32 b 9;
+  nodes = numbers16 (run 13 128 b);
+  labels = run 141 64 b;
+  roots = numbers16 (run 205 508 b);
+  states = run 713 254 b;
+}
+
+-- ---- tests
+
+unfoldable pub laidOut : List ℕ → Bool
+laidOut b = eqb (length b) recordLength && (leb (getD b 0 0) 3 && leb (getD b 1 0) 1)
+
+unfoldable pub validBytes : List ℕ → Bool
+validBytes b = laidOut b && valid (decoded b)
+
+-- ---- what types say
+
+pub record InTypes (s : Session) : Type 0 where
+  pub n-fits : s .n < 65536
+  pub s-fits : s .s < 256
+  pub k-fits : s .k < 256
+  pub m-fits : s .m < 256
+  pub parts-fit : s .parts < 256
+  pub handled-fits : s .handled < 256
+  pub links-fit : s .links < 4294967296
+  pub nodes-length : length (s .nodes) ≡ 64
+  pub labels-length : length (s .labels) ≡ 64
+  pub roots-length : length (s .roots) ≡ 254
+  pub states-length : length (s .states) ≡ 254
+  pub nodes-fit : (i : ℕ) → getD (s .nodes) i 0 < 65536
+  pub labels-fit : (i : ℕ) → getD (s .labels) i 0 < 256
+  pub roots-fit : (i : ℕ) → getD (s .roots) i 0 < 65536
+  pub states-fit : (i : ℕ) → getD (s .states) i 0 < 256
+
+abbrev pub Bytes : List ℕ → Type 0
+Bytes b = (i : ℕ) → getD b i 0 < 256

@@ -1,0 +1,296 @@
+-- Every record that a call leaves is a session's.
+--     listed-of, holds-valid     a record that holds has lists that fit the arrays, and its struct passes its conditions
+--     act-holds                  what holds of a record holds of the record after a call
+--     act-valid                  so the struct after a call passes, and has that record
+-- Assumes nothing.
+use Prim.Native.Nat.{ℕ, zero, suc, _+_, _-_, _*_, _≤_, _<_}
+use mathlib.Core.Path.{_≡_, refl, sym, ap, _∙_, subst}
+use mathlib.Core.Bool.{Bool, true, false, not, cond, _&&_}
+use mathlib.Core.List.{List, [], _∷_, _++_}
+use mathlib.Core.Option.{Option, none, some}
+use native.Mathlib.Omega.{arith}
+use lib.Dec.{leb, ltb, eqb}
+use lib.ListN.{length, getD, length-append}
+use borrow.Author.Tests.{le-leb, lt-ltb, eq-eqb, eqb-true, eqb-false}
+use Rattle.formats.specs.Bytes.{allBelow}
+use Rattle.formats.proofs.CheckLaws.{and-both, firstNo-head, firstNo-tail, true-false}
+use Rattle.formats.proofs.InputLaws.{ListPasses, list-passes, build-passes}
+use Rattle.questions.specs.Climbs.{Reached}
+use Rattle.questions.specs.Rising.{RisesTo}
+use Rattle.questions.specs.Roots.{rootsOn}
+use Rattle.questions.proofs.ClimbBounds.{Bounded}
+use Rattle.questions.proofs.PartBounds.{part-bounded}
+use Rattle.questions.proofs.RootsLaws.{rootsOn-some, rootsOn-fits, rootsOn-rises-to}
+use Rattle.book.specs.Lends.{Lent, Sizes, sizesIn, fits, usedNums}
+use Rattle.book.specs.Calls as calls
+use Rattle.book.specs.Calls.{Call, load, start, advance, cancel, read, mayLoad, mayStart, isRunning}
+use Rattle.book.specs.Refusals.{refusal}
+use Rattle.book.specs.Model.{Record, idle, freshRecord, loadedRecord, viewBy, marksBy, started, startWith, stepped}
+use Rattle.book.specs.Model.{advanceWith}
+use Rattle.book.specs.Model.{partNext, acted, proceeds, unless, act}
+use Rattle.session.specs.declared.state.Phase.the-variants.{Empty}
+use Rattle.session.specs.declared.state.Session.{Session}
+use Rattle.session.specs.Records.{phaseTo, recordOf, sessionOf, padded, zeroFrom, risesTo}
+use Rattle.session.specs.Records.{sizesFit, noQuestion, listFits, partsFit, validIn, valid}
+use Rattle.session.specs.Tests.{Shaped}
+use Rattle.session.proofs.PadLaws.{take-padded, take-padded-by, zero-padded, zero-padded-by, zero-replicate}
+use Rattle.session.proofs.RecordLaws.{Listed, record-of-struct, struct-shaped}
+use Rattle.session.proofs.Holds.{Sized, Asked, Going, HoldsIn, Holds, holds-of}
+
+-- ---- the struct of a record that holds
+
+module _ (r : Record) where
+  listed-some : Asked r → length (r .states) ≤ length (r .roots) → Listed r
+  listed-some A h =
+      record { few = A .few; same = A .same; few-parts = A .few-parts; few-handled = omega (arith, A .few-parts) }
+
+  listed-in : (p : calls.Phase) → HoldsIn p r → Listed r
+  unfolding freshRecord idle
+  listed-in calls.Phase.empty e =
+      subst (λ (t : Record). Listed t) (sym e)
+      (record { few = omega arith; same = refl; few-parts = omega arith; few-handled = omega arith })
+  listed-in calls.Phase.loaded e =
+      subst (λ (t : Record). Listed t) (sym (e .1))
+      (record { few = omega arith; same = refl; few-parts = omega arith; few-handled = omega arith })
+  listed-in calls.Phase.running G = listed-some (G .asked) (omega (arith, G .handled))
+  listed-in calls.Phase.answered E = listed-some (E .asked) (omega (arith, E .handled))
+
+  pub listed-of : Holds r → Listed r
+  listed-of H = listed-in (r .phase) H
+
+  within-both : (low high x : ℕ) → low ≤ x → x ≤ high → (leb low x && leb x high) ≡ true
+  within-both low high x h k = and-both (leb low x) (leb x high) (le-leb low x h) (le-leb x high k)
+
+  sizes-yes : Sized (r .sizes) → sizesFit (sessionOf r) ≡ true
+  unfolding sizesFit sessionOf
+  sizes-yes z =
+      and-both _ _ (within-both 1 65535 (r .sizes .n) (z .nodes-least) (z .nodes-most))
+      (and-both _ _ (within-both 1 16 (r .sizes .s) (z .states-least) (z .states-most))
+      (within-both 1 64 (r .sizes .k) (z .labels-least) (z .labels-most)))
+
+  list-yes : Asked r → listFits (sessionOf r) ≡ true
+  unfolding listFits sessionOf
+  list-yes A =
+      and-both _ _ (le-leb (length (r .nodes)) 64 (A .few))
+      (and-both _ _ (ap (allBelow (r .sizes .n)) (take-padded 64 (r .nodes)) ∙ A .nodes-below)
+      (and-both _ _ (ap (allBelow (r .sizes .k)) (take-padded-by 64 (r .labels) (length (r .nodes)) (A .same)) ∙ A .labels-below)
+      (and-both _ _ (zero-padded 64 (r .nodes)) (zero-padded-by 64 (r .labels) (length (r .nodes)) (A .same)))))
+
+  parts-yes : Asked r → partsFit (sessionOf r) ≡ true
+  unfolding partsFit sessionOf
+  parts-yes A =
+      and-both _ _ (within-both 1 254 (length (r .roots)) (A .some-part) (A .few-parts))
+      (and-both _ _ (ap (risesTo (r .sizes .n - 1)) (take-padded 254 (r .roots)) ∙ A .rises)
+      (and-both _ _ (zero-padded 254 (r .roots))
+      (and-both _ _ (ap (allBelow (r .sizes .s)) (take-padded 254 (r .states)) ∙ A .states-below)
+      (and-both _ _ (zero-padded 254 (r .states)) (le-leb (r .links) (65535 * length (r .states)) (A .few-links))))))
+
+none-yes : (p : calls.Phase) (z : Sizes) → noQuestion (sessionOf (idle p z)) ≡ true
+unfolding noQuestion sessionOf idle zeroFrom
+none-yes p z =
+    let a : allBelow 1 (padded 64 []) ≡ true = zero-replicate 64 in
+    let b : allBelow 1 (padded 254 []) ≡ true = zero-replicate 254 in
+    rw (a, b)
+
+module _ (r : Record) where
+  valid-in : (p : calls.Phase) → HoldsIn p r → validIn (phaseTo p) (sessionOf r) ≡ true
+  unfolding phaseTo validIn freshRecord sessionOf idle
+  valid-in calls.Phase.empty e = subst (λ (t : Record). validIn Empty (sessionOf t) ≡ true) (sym e)
+      (none-yes calls.Phase.empty (record { n = 0; s = 0; k = 0 }))
+  valid-in calls.Phase.loaded e =
+      and-both _ _ (sizes-yes r (e .0))
+      (subst (λ (t : Record). noQuestion (sessionOf t) ≡ true) (sym (e .1)) (none-yes calls.Phase.loaded (r .sizes)))
+  valid-in calls.Phase.running G =
+      and-both _ _ (sizes-yes r (G .sizes))
+      (and-both _ _ (list-yes r (G .asked))
+      (and-both _ _ (parts-yes r (G .asked)) (and-both _ _ (lt-ltb (length (r .states)) (length (r .roots)) (G .handled)) (ap not (G .no-yes)))))
+  valid-in calls.Phase.answered E =
+      and-both _ _ (sizes-yes r (E .sizes))
+      (and-both _ _ (list-yes r (E .asked))
+      (and-both _ _ (parts-yes r (E .asked)) (eq-eqb (length (r .states)) (length (r .roots)) (E .handled))))
+
+  pub holds-valid : Holds r → valid (sessionOf r) ≡ true
+  unfolding valid sessionOf
+  holds-valid H = valid-in (r .phase) H
+
+-- ---- the record after a call
+
+rises-is : (e : ℕ) (l : List ℕ) → RisesTo e l → risesTo e l ≡ true
+unfolding risesTo
+rises-is e [] t = absurd t
+rises-is e (x ∷ []) t = eq-eqb x e t
+rises-is e (x ∷ y ∷ l) t = and-both (ltb x y) (risesTo e (y ∷ l)) (lt-ltb x y (t .0)) (rises-is e (y ∷ l) (t .1))
+
+nil-below : (n : ℕ) → allBelow n [] ≡ true
+unfolding allBelow
+nil-below n = refl
+
+-- one state more
+below-more : (n : ℕ) (l : List ℕ) (x : ℕ) → allBelow n l ≡ true → x < n → allBelow n (l ++ (x ∷ [])) ≡ true
+unfolding allBelow
+below-more n [] x e h = and-both (ltb x n) true (lt-ltb x n h) refl
+below-more n (y ∷ l) x e h = go (ltb y n) e (λ f. below-more n l x f h)
+  where
+    go : (b : Bool) → (b && allBelow n l) ≡ true → (allBelow n l ≡ true → allBelow n (l ++ (x ∷ [])) ≡ true)
+        → (b && allBelow n (l ++ (x ∷ []))) ≡ true
+    go true f ih = ih f
+    go false f ih = f
+
+pub start-sized : (p : calls.Phase) (r : Record) → mayStart p ≡ true → HoldsIn p r → Sized (r .sizes)
+unfolding mayStart
+start-sized calls.Phase.empty r e H = absurd (true-false (sym e))
+start-sized calls.Phase.loaded r e H = H .0
+start-sized calls.Phase.running r e H = absurd (true-false (sym e))
+start-sized calls.Phase.answered r e H = H .sizes
+
+pub running-is : (p : calls.Phase) (r : Record) → isRunning p ≡ true → HoldsIn p r → Going r
+unfolding isRunning
+running-is calls.Phase.empty r e H = absurd (true-false (sym e))
+running-is calls.Phase.loaded r e H = absurd (true-false (sym e))
+running-is calls.Phase.running r e H = H
+running-is calls.Phase.answered r e H = absurd (true-false (sym e))
+
+module _ (r : Record) (H : Holds r) where
+  load-holds : (x : Lent) → refusal (r .phase) (r .sizes) (load x) ≡ 0 → Holds (loadedRecord (sizesIn x))
+  unfolding refusal idle
+  load-holds x e =
+      let b = build-passes (x .plan) (x .rules) (length (x .nums)) (length (x .bytes))
+      (firstNo-tail 1 (mayLoad (r .phase)) _ (omega arith) e) in (
+        record {
+          nodes-least = b .0 .least;
+          nodes-most = b .0 .most;
+          states-least = b .1 .states-least;
+          states-most = b .1 .states-most;
+          labels-least = b .1 .labels-least;
+          labels-most = b .1 .labels-most;
+        },
+        refl,
+      )
+
+  module _ (x : Lent) (vs bs : List ℕ) (e : refusal (r .phase) (r .sizes) (start x vs bs) ≡ 0) where
+    list-is : ListPasses (r .sizes .n) (r .sizes .k) vs bs
+    unfolding refusal
+    list-is =
+        list-passes (r .sizes .n) (r .sizes .k) vs bs
+        (firstNo-tail 17 (fits (r .sizes) x) _ (omega arith) (firstNo-tail 1 (mayStart (r .phase)) _ (omega arith) e))
+
+    sized-is : Sized (r .sizes)
+    unfolding refusal
+    sized-is = start-sized (r .phase) r (firstNo-head 1 (mayStart (r .phase)) _ (omega arith) e) H
+
+    start-holds : (o : Option (List ℕ)) → rootsOn (r .sizes .n) (usedNums (r .sizes) x) vs ≡ o
+        → Holds (startWith r vs bs o .record′)
+    unfolding startWith started
+    start-holds none q = H
+    start-holds (some rs) q =
+        let n = r .sizes .n in
+        let u = usedNums (r .sizes) x in
+        let h : 0 < n = omega (arith, sized-is .nodes-least) in
+        record {
+          sizes = sized-is;
+          asked = record {
+            few = list-is .most;
+            same = sym (list-is .lengths);
+            nodes-below = list-is .nodes-below;
+            labels-below = list-is .labels-below;
+            some-part = omega (arith, rootsOn-some n u vs rs h (list-is .nodes-below) q);
+            few-parts = rootsOn-fits n u vs rs h (list-is .nodes-below) q (list-is .most);
+            rises = rises-is (n - 1) rs (rootsOn-rises-to n u vs rs h (list-is .nodes-below) q);
+            states-below = nil-below (r .sizes .s);
+            few-links = omega arith;
+          };
+          handled = omega (arith, rootsOn-some n u vs rs h (list-is .nodes-below) q);
+          no-yes = refl;
+        }
+
+  module _ (x : Lent) (e : refusal (r .phase) (r .sizes) (advance x) ≡ 0) where
+    going : Going r
+    unfolding refusal
+    going = running-is (r .phase) r (firstNo-head 1 (isRunning (r .phase)) _ (omega arith) e) H
+
+    module _ (y : Reached) (q : partNext r x ≡ some y) where
+      bounded : Bounded (viewBy (r .sizes) x) y
+      bounded = part-bounded (viewBy (r .sizes) x) _ _ _ _ _ y q
+
+      stepped-asked : (p : calls.Phase) (b : Bool) → Asked (stepped r p y b)
+      unfolding stepped
+      stepped-asked p b =
+          let A = going .asked in
+          let l : length (r .states ++ (y .state ∷ [])) ≡ length (r .states) + 1 = length-append (r .states)
+          (y .state ∷ []) in
+          record {
+            few = A .few;
+            same = A .same;
+            nodes-below = A .nodes-below;
+            labels-below = A .labels-below;
+            some-part = A .some-part;
+            few-parts = A .few-parts;
+            rises = A .rises;
+            states-below = below-more (r .sizes .s) (r .states) (y .state) (A .states-below) (bounded .state);
+            few-links = rw l (omega (arith, A .few-links, bounded .links, going .sizes .nodes-most));
+          }
+
+      advance-holds : (b : Bool) → eqb (suc (length (r .states))) (length (r .roots)) ≡ b → (w : Bool)
+          → Holds (cond b (acted calls.Answer.finished (stepped r calls.Phase.answered y w)) (acted calls.Answer.more (stepped r calls.Phase.running y false)) .record′)
+      unfolding stepped
+      advance-holds true t w =
+          let l : length (r .states ++ (y .state ∷ [])) ≡ length (r .states) + 1 = length-append (r .states)
+          (y .state ∷ []) in
+          record {
+            sizes = going .sizes;
+            asked = stepped-asked calls.Phase.answered w;
+            handled = omega (arith, l, eqb-true (suc (length (r .states))) (length (r .roots)) t);
+          }
+      advance-holds false t w =
+          let l : length (r .states ++ (y .state ∷ [])) ≡ length (r .states) + 1 = length-append (r .states)
+          (y .state ∷ []) in
+          let n : (suc (length (r .states)) ≡ length (r .roots)) → ⊥ = eqb-false (suc (length (r .states)))
+          (length (r .roots)) t in
+          record {
+            sizes = going .sizes;
+            asked = stepped-asked calls.Phase.running false;
+            handled = omega (arith, l, n, going .handled);
+            no-yes = refl;
+          }
+
+    part-holds : (o : Option Reached) → partNext r x ≡ o → Holds (advanceWith r x o .record′)
+    unfolding advanceWith
+    part-holds none q = H
+    part-holds (some y) q =
+        advance-holds y q (eqb (suc (length (r .states))) (length (r .roots))) refl
+        (eqb (getD (marksBy (r .sizes) x) (y .state) 0) 1)
+
+  cancel-holds : refusal (r .phase) (r .sizes) cancel ≡ 0 → Holds (loadedRecord (r .sizes))
+  unfolding refusal idle
+  cancel-holds f = (running-is (r .phase) r (firstNo-head 1 (isRunning (r .phase)) _ (omega arith) f) H .sizes, refl)
+
+  proceeds-holds : (c : Call) → refusal (r .phase) (r .sizes) c ≡ 0 → Holds (proceeds r c .record′)
+  unfolding proceeds
+  proceeds-holds (load x) e = load-holds x e
+  proceeds-holds (start x vs bs) e = start-holds x vs bs e (rootsOn (r .sizes .n) (usedNums (r .sizes) x) vs) refl
+  proceeds-holds (advance x) e = part-holds x e (partNext r x) refl
+  proceeds-holds cancel e = cancel-holds e
+  proceeds-holds read e = H
+
+  pub act-holds : (c : Call) → Holds (act r c .record′)
+  unfolding act unless
+  act-holds c = go (refusal (r .phase) (r .sizes) c) refl
+    where
+      go : (n : ℕ) → refusal (r .phase) (r .sizes) c ≡ n → Holds (unless n r c .record′)
+      go zero e = proceeds-holds c e
+      go (suc n) e = H
+
+-- ---- the struct after a call
+
+module _ (s : Session) (h : Shaped s) (e : valid s ≡ true) (c : Call) where
+  after : Holds (act (recordOf s) c .record′)
+  after = act-holds (recordOf s) (holds-of s h e) c
+
+  pub act-valid : valid (sessionOf (act (recordOf s) c .record′)) ≡ true
+  act-valid = holds-valid (act (recordOf s) c .record′) after
+
+  pub act-shaped : Shaped (sessionOf (act (recordOf s) c .record′))
+  act-shaped = struct-shaped (act (recordOf s) c .record′) (listed-of (act (recordOf s) c .record′) after)
+
+  pub act-record : recordOf (sessionOf (act (recordOf s) c .record′)) ≡ act (recordOf s) c .record′
+  act-record = record-of-struct (act (recordOf s) c .record′) (listed-of (act (recordOf s) c .record′) after)

@@ -1,0 +1,297 @@
+-- Advance, by what the code has found: one law for each answer.
+--     advance-1, advance-17, advance-18, advance-yes
+--     advance-limits, next-args, handle-args       what the calls below ask
+-- Assumes nothing.
+use Prim.Native.Nat.{ℕ, zero, suc, _+_, _-_, _*_, _≤_, _<_}
+use mathlib.Core.Path.{_≡_, refl, sym, ap, _∙_}
+use mathlib.Core.Bool.{Bool, true, false, not, cond, _&&_}
+use mathlib.Core.List.{List, [], _∷_}
+use mathlib.Core.Option.{Option, none, some}
+use native.Mathlib.Omega.{arith}
+use native.Mathlib.Numerals.{add-one}
+use lib.Dec.{ltb, eqb}
+use lib.ListN.{length, getD, take, drop}
+use lib.Seq.{length-take-le, getD-take, getD-drop}
+use borrow.Author.Tests.{not-true, not-false, le-leb, lt-ltb, eq-eqb, ne-eqb, eqb-true, ltb-true}
+use Rattle.formats.specs.Checks.{check, firstNo}
+use Rattle.formats.proofs.CheckLaws.{and-both, and-left, and-right, firstNo-yes, firstNo-no}
+use Rattle.questions.specs.declared.climb.Climbed.{Climbed}
+use Rattle.questions.specs.declared.climb.Climbed.the-variants.{Reached as Told, Outside}
+use Rattle.questions.specs.Climbs.{Reached}
+use Rattle.questions.specs.PartArgs.{LimitArgs}
+use Rattle.questions.specs.PartTold.{toldReached, limitsFit, lengthsFit, askedFits, partGiven}
+use Rattle.questions.proofs.PartFits.{Lengths, lengths-are, given-yes}
+use Rattle.questions.proofs.ClimbBounds.{Bounded}
+use Rattle.questions.proofs.PartBounds.{part-bounded}
+use Rattle.book.specs.Lends.{Lent, fits}
+use Rattle.book.specs.Calls as calls
+use Rattle.book.specs.Calls.{Call, advance, isRunning}
+use Rattle.book.specs.Refusals.{refusal}
+use Rattle.book.specs.Model.{Acted, acted, viewBy, stepped, advanceWith, partNext, proceeds}
+use Rattle.session.specs.declared.state.Phase.{Phase}
+use Rattle.session.specs.declared.state.Phase.the-variants.{Running, Answered}
+use Rattle.session.specs.declared.state.Session.{Session}
+use Rattle.session.specs.declared.answers.Advancing.the-variants.{More, Finished, Refused as NotAdvanced}
+use Rattle.session.specs.declared.answers.Advanced.{Advanced}
+use Rattle.session.specs.Records.{phaseOf, phaseTo, sizesOf, recordOf, sessionOf, risesTo, valid}
+use Rattle.session.specs.Promises.{CallDone, advancingAnswer}
+use Rattle.session.specs.Tests.{Shaped}
+use Rattle.session.specs.Steps.{NextArgs, HandleArgs, marksIn, steppedOf, handledBy}
+use Rattle.session.proofs.PadLaws.{padded-take, padded-more}
+use Rattle.session.proofs.RecordLaws.{Tails}
+use Rattle.session.proofs.Holds.{Sized, Going, holds-of, tails-of, struct-is}
+use Rattle.session.proofs.ActLaws.{running-is}
+use Rattle.session.proofs.CallLaws.{unless-done, refused-done, proceeds-done}
+
+-- the mark of a state, where the code reads it
+pub mark-at : (rules : List ℕ) (s k p q : ℕ) → p ≡ s * k * s → q < s
+    → eqb (getD rules (20 + k + p + q) 0) 1 ≡ eqb (getD (marksIn s k rules) q 0) 1
+mark-at rules s k p q e h =
+    rw (e, getD-take s (drop (20 + k + s * k * s) rules) q 0 h, getD-drop (20 + k + s * k * s) rules q 0)
+
+-- the last part, and any other
+module _ (s : Session) (rules : List ℕ) (q l : ℕ) (t : Session) where
+  pub handled-last : s .handled + 1 ≡ s .parts → (y : Bool) → t ≡ steppedOf s Answered q l y
+      → y ≡ eqb (getD (marksIn (s .s) (s .k) rules) q 0) 1
+      → _≡_ {A = Advanced} (record { told = Finished; rec = t }) (handledBy s rules q l)
+  unfolding handledBy
+  handled-last e y f g = rw (eq-eqb (s .handled + 1) (s .parts) e, f, g)
+
+  pub handled-more : (s .handled + 1 ≡ s .parts → ⊥) → t ≡ steppedOf s Running q l false
+      → _≡_ {A = Advanced} (record { told = More; rec = t }) (handledBy s rules q l)
+  unfolding handledBy
+  handled-more e f = rw (ne-eqb (s .handled + 1) (s .parts) e, f)
+
+-- a list that rises to e is nowhere above it
+rises-below : (e : ℕ) (l : List ℕ) (i : ℕ) → risesTo e l ≡ true → i < length l → getD l i 0 ≤ e
+unfolding risesTo
+rises-below e [] i r h = absurd (omega arith)
+rises-below e (x ∷ []) zero r h = omega (arith, eqb-true x e r)
+rises-below e (x ∷ []) (suc i) r h = absurd (omega arith)
+rises-below e (x ∷ y ∷ l) zero r h =
+    let a : x < y = ltb-true x y (and-left (ltb x y) (risesTo e (y ∷ l)) r) in
+    omega (arith, rises-below e (y ∷ l) zero (and-right (ltb x y) (risesTo e (y ∷ l)) r) (omega arith))
+rises-below e (x ∷ y ∷ l) (suc i) r h = rises-below e (y ∷ l) i (and-right (ltb x y) (risesTo e (y ∷ l)) r) (omega arith)
+
+-- ---- the struct of a record with one more part
+
+module _ (s : Session) (h : Shaped s) (T : Tails s) where
+  lengths : (length (take (s .m) (s .nodes)) ≡ s .m) × (length (take (s .m) (s .labels)) ≡ s .m)
+      × (length (take (s .parts) (s .roots)) ≡ s .parts) × (length (take (s .handled) (s .states)) ≡ s .handled)
+  lengths = (
+    length-take-le (s .m) (s .nodes) (omega (arith, h .nodes, T .few)),
+    length-take-le (s .m) (s .labels) (omega (arith, h .labels, T .few)),
+    length-take-le (s .parts) (s .roots) (omega (arith, h .roots, T .few-parts)),
+    length-take-le (s .handled) (s .states) (omega (arith, h .states, T .few-handled)),
+  )
+
+  stepped-struct : s .handled < 254 → (p : calls.Phase) (y : Reached) (b : Bool)
+      → sessionOf (stepped (recordOf s) p y b) ≡ steppedOf s (phaseTo p) (y .state) (y .links) b
+  unfolding sessionOf stepped recordOf
+  stepped-struct k p y b =
+      let more = padded-more 254 (s .handled) (s .states) (y .state) (h .states) k (T .states-end) in
+      rw (
+        more .1,
+        more .0,
+        lengths .0,
+        lengths .1,
+        lengths .2,
+        padded-take 64 (s .m) (s .nodes) (h .nodes) (T .nodes-end),
+        padded-take 64 (s .m) (s .labels) (h .labels) (T .labels-end),
+        padded-take 254 (s .parts) (s .roots) (h .roots) (T .roots-end),
+      )
+
+module _ (s : Session) (h : Shaped s) (x : Lent) (b : Bool) (may : b ≡ (valid s && isRunning (phaseOf (s .phase)))) where
+  abbrev C : Call
+  C = advance x
+
+  pub advance-1 : not b ≡ true → CallDone s C (advancingAnswer (NotAdvanced 1)) s
+  unfolding advancingAnswer refusal
+  advance-1 f =
+      unless-done s C h (isRunning (phaseOf (s .phase))) (check 17 (fits (sizesOf s) x) ∷ []) refl (sym may ∙ not-true b f)
+
+  module _ (now : not b ≡ false) where
+    passes : (valid s && isRunning (phaseOf (s .phase))) ≡ true
+    passes = sym may ∙ not-false b now
+
+    v : valid s ≡ true
+    v = and-left (valid s) (isRunning (phaseOf (s .phase))) passes
+
+    r : isRunning (phaseOf (s .phase)) ≡ true
+    r = and-right (valid s) (isRunning (phaseOf (s .phase))) passes
+
+    G : Going (recordOf s)
+    unfolding recordOf
+    G = running-is (phaseOf (s .phase)) (recordOf s) r (holds-of s h v)
+
+    T : Tails s
+    T = tails-of s v
+
+    L : (length (take (s .m) (s .nodes)) ≡ s .m) × (length (take (s .m) (s .labels)) ≡ s .m)
+        × (length (take (s .parts) (s .roots)) ≡ s .parts) × (length (take (s .handled) (s .states)) ≡ s .handled)
+    L = lengths s h T
+
+    Z : Sized (sizesOf s)
+    unfolding recordOf
+    Z = G .sizes
+
+    pub advance-limits : LimitArgs (s .n) (s .s) (s .k)
+    advance-limits = record { most = Z .nodes-most; few = Z .states-most; labels = Z .labels-most }
+
+    pub next-args : NextArgs s
+    next-args = record { few = T .few; few-parts = T .few-parts; few-handled = T .few-handled }
+
+    few-handled : s .handled < 254
+    unfolding recordOf
+    few-handled = omega (arith, G .handled, L .2, L .3, T .few-parts)
+
+    -- what the code and the model do with a part, by whether it is the last
+    abbrev byCode : Reached → Bool → Advanced
+    byCode y d =
+        cond d
+        (record { told = Finished; rec = steppedOf s Answered (y .state) (y .links) (eqb (getD (marksIn (s .s) (s .k) (x .rules)) (y .state) 0) 1) })
+        (record { told = More; rec = steppedOf s Running (y .state) (y .links) false })
+
+    abbrev byModel : Reached → Bool → Acted
+    byModel y d =
+        cond d
+        (acted calls.Answer.finished (stepped (recordOf s) calls.Phase.answered y (eqb (getD (marksIn (s .s) (s .k) (x .rules)) (y .state) 0) 1)))
+        (acted calls.Answer.more (stepped (recordOf s) calls.Phase.running y false))
+
+    same-step : (y : Reached) (d : Bool) → (advancingAnswer (byCode y d .told) ≡ byModel y d .answer)
+        × (byCode y d .rec ≡ sessionOf (byModel y d .record′))
+    unfolding advancingAnswer phaseTo
+    same-step y true = (
+      refl,
+      sym (stepped-struct s h T few-handled calls.Phase.answered y (eqb (getD (marksIn (s .s) (s .k) (x .rules)) (y .state) 0) 1)),
+    )
+    same-step y false = (refl, sym (stepped-struct s h T few-handled calls.Phase.running y false))
+
+    last-same : eqb (suc (length (recordOf s .states))) (length (recordOf s .roots)) ≡ eqb (s .handled + 1) (s .parts)
+    unfolding recordOf
+    last-same = rw (L .2, L .3, add-one (s .handled))
+
+    on : refusal (phaseOf (s .phase)) (sizesOf s) C ≡ firstNo (check 17 (fits (sizesOf s) x) ∷ [])
+    unfolding refusal
+    on = firstNo-yes 1 (isRunning (phaseOf (s .phase))) (check 17 (fits (sizesOf s) x) ∷ []) r
+
+    module _ (f : Bool)
+        (fit : f ≡ lengthsFit (s .n) (s .s) (s .k) (length (x .plan)) (length (x .rules)) (length (x .nums)) (length (x .bytes))) where
+      fits-is : fits (sizesOf s) x ≡ f
+      unfolding fits lengthsFit
+      fits-is = sym fit
+
+      pub advance-17 : not f ≡ true → CallDone s C (advancingAnswer (NotAdvanced 17)) s
+      unfolding advancingAnswer
+      advance-17 g = refused-done s C v h 16 (on ∙ firstNo-no 17 (fits (sizesOf s) x) [] (fits-is ∙ not-true f g))
+
+      module _ (yes : not f ≡ false) where
+        no-refusal : refusal (phaseOf (s .phase)) (sizesOf s) C ≡ 0
+        unfolding firstNo
+        no-refusal = on ∙ firstNo-yes 17 (fits (sizesOf s) x) [] (fits-is ∙ not-false f yes)
+
+        long : Lengths (s .n) (s .s) (s .k) (length (x .plan)) (length (x .rules)) (length (x .nums)) (length (x .bytes))
+        long =
+            lengths-are (s .n) (s .s) (s .k) (length (x .plan)) (length (x .rules)) (length (x .nums)) (length (x .bytes))
+            (sym fit ∙ not-false f yes)
+
+        limits-yes : limitsFit (s .n) (s .s) (s .k) ≡ true
+        unfolding limitsFit
+        limits-yes =
+            and-both _ _ (and-both _ _ (le-leb 1 (s .n) (Z .nodes-least)) (le-leb (s .n) 65535 (Z .nodes-most)))
+            (and-both _ _ (and-both _ _ (le-leb 1 (s .s) (Z .states-least)) (le-leb (s .s) 16 (Z .states-most)))
+            (and-both _ _ (le-leb 1 (s .k) (Z .labels-least)) (le-leb (s .k) 64 (Z .labels-most))))
+
+        asked-yes : askedFits (s .n) (take (s .parts) (s .roots)) (take (s .handled) (s .states)) (take (s .m) (s .nodes)) (take (s .m) (s .labels))
+            ≡ true
+        unfolding askedFits recordOf
+        asked-yes =
+            let A = G .asked in
+            let below = rises-below (s .n - 1) (take (s .parts) (s .roots)) (length (take (s .handled) (s .states)))
+            (A .rises) (G .handled) in
+            and-both _ _ (lt-ltb (length (take (s .handled) (s .states))) (length (take (s .parts) (s .roots))) (G .handled))
+            (and-both _ _ (le-leb (length (take (s .parts) (s .roots))) 65535 (omega (arith, A .few-parts)))
+            (and-both _ _ (lt-ltb (getD (take (s .parts) (s .roots)) (length (take (s .handled) (s .states))) 0) (s .n) (omega (arith, below, Z .nodes-least)))
+            (and-both _ _ (eq-eqb (length (take (s .m) (s .nodes))) (length (take (s .m) (s .labels))) (sym (A .same)))
+            (le-leb (length (take (s .m) (s .nodes))) 65535 (omega (arith, A .few))))))
+
+        given : partGiven (s .n) (s .s) (s .k) (x .plan) (x .rules) (x .nums) (x .bytes) (take (s .parts) (s .roots))
+            (take (s .handled) (s .states)) (take (s .m) (s .nodes)) (take (s .m) (s .labels)) ≡ partNext (recordOf s) x
+        unfolding recordOf
+        given =
+            given-yes (s .n) (s .s) (s .k) (x .plan) (x .rules) (x .nums) (x .bytes) (take (s .parts) (s .roots))
+            (take (s .handled) (s .states)) (take (s .m) (s .nodes)) (take (s .m) (s .labels)) limits-yes
+            (sym fit ∙ not-false f yes) asked-yes
+
+        acts : (o : Option Reached) → partNext (recordOf s) x ≡ o → (a : calls.Answer) (t : Session)
+            → a ≡ advanceWith (recordOf s) x o .answer → t ≡ sessionOf (advanceWith (recordOf s) x o .record′)
+            → CallDone s C a t
+        unfolding proceeds
+        acts o e a t i j =
+            proceeds-done s C v no-refusal a t
+            (i ∙ ap (λ (z : Option Reached). advanceWith (recordOf s) x z .answer) (sym e))
+            (j ∙ ap (λ (z : Option Reached). sessionOf (advanceWith (recordOf s) x z .record′)) (sym e))
+
+        module _ (K : Climbed)
+            (found : K ≡ toldReached (partGiven (s .n) (s .s) (s .k) (x .plan) (x .rules) (x .nums) (x .bytes)
+            (take (s .parts) (s .roots)) (take (s .handled) (s .states)) (take (s .m) (s .nodes))
+            (take (s .m) (s .labels)))) where
+          pub advance-18 : K ≡ Outside → CallDone s C (advancingAnswer (NotAdvanced 18)) s
+          unfolding advancingAnswer advanceWith toldReached
+          advance-18 e = go (partNext (recordOf s) x) refl (found ∙ ap toldReached given)
+            where
+              go : (o : Option Reached) → partNext (recordOf s) x ≡ o → K ≡ toldReached (partNext (recordOf s) x)
+                  → CallDone s C (calls.Answer.refused 18) s
+              go none i j = acts none i (calls.Answer.refused 18) s refl (sym (struct-is s h v))
+              go (some y) i j =
+                  let k : K ≡ Told (y .state) (y .links) = j ∙ ap toldReached i in
+                  let z : _≡_ {A = ℕ} 0 1 = cc in
+                  absurd (omega arith)
+
+          module _ (q l : ℕ) (told : K ≡ Told q l) where
+            one : (y : Reached) × (partNext (recordOf s) x ≡ some y) × (y .state ≡ q) × (y .links ≡ l)
+            unfolding toldReached
+            one = go (partNext (recordOf s) x) refl (found ∙ ap toldReached given)
+              where
+                go : (o : Option Reached) → partNext (recordOf s) x ≡ o → K ≡ toldReached (partNext (recordOf s) x)
+                    → (y : Reached) × (partNext (recordOf s) x ≡ some y) × (y .state ≡ q) × (y .links ≡ l)
+                go none i j =
+                    let k : K ≡ Outside = j ∙ ap toldReached i in
+                    let z : _≡_ {A = ℕ} 0 1 = cc in
+                    absurd (omega arith)
+                go (some y) i j =
+                    let k : Told (y .state) (y .links) ≡ Told q l = sym (j ∙ ap toldReached i) ∙ told in
+                    let a : y .state ≡ q = cc in
+                    let c : y .links ≡ l = cc in
+                    (y, i, a, c)
+
+            bounded : Bounded (viewBy (sizesOf s) x) (one .0)
+            unfolding recordOf
+            bounded = part-bounded (viewBy (sizesOf s) x) _ _ _ _ _ (one .0) (one .1)
+
+            pub handle-args : HandleArgs s (x .rules) q l
+            unfolding recordOf
+            handle-args = record {
+              marks = record {
+                exact = long .rules-is;
+                states-most = Z .states-most;
+                labels-most = Z .labels-most;
+                state = omega (arith, bounded .state, one .2);
+              };
+              step = record {
+                room = few-handled;
+                links-fit = omega (arith, few-handled, G .asked .few-links, L .3, bounded .links, one .3, Z .nodes-most);
+              };
+            }
+
+            pub advance-yes : (t : Advanced) → t ≡ handledBy s (x .rules) q l
+                → CallDone s C (advancingAnswer (t .told)) (t .rec)
+            unfolding handledBy advanceWith recordOf
+            advance-yes t e =
+                let y = one .0 in
+                let d = eqb (s .handled + 1) (s .parts) in
+                let f : t ≡ byCode y d = rw (one .2, one .3) e in
+                let m : advanceWith (recordOf s) x (some y) ≡ byModel y d = ap (byModel y) last-same in
+                acts (some y) (one .1) (advancingAnswer (t .told)) (t .rec)
+                (ap (λ (w : Advanced). advancingAnswer (w .told)) f ∙ same-step y d .0 ∙ ap (λ (w : Acted). w .answer) (sym m))
+                (ap (λ (w : Advanced). w .rec) f ∙ same-step y d .1 ∙ ap (λ (w : Acted). sessionOf (w .record′)) (sym m))

@@ -1,0 +1,306 @@
+-- What is true of every record that a session can have, in each state.
+--     Sized z              N, S and K in their limits
+-- Asked r a question's lists: as Start checks them, its roots as they are found, the states and links so far
+--     Holds r              in empty the fresh record, in loaded that after a first Load, in running and answered a question
+--     holds-of             a struct that passes its conditions has such a record
+--     tails-of, struct-is  and is the struct of that record
+-- Assumes nothing.
+use Prim.Native.Nat.{ℕ, _-_, _*_, _≤_, _<_}
+use mathlib.Core.Path.{_≡_, refl}
+use mathlib.Core.Bool.{true, false, _&&_}
+use native.Mathlib.Omega.{arith}
+use lib.Dec.{leb}
+use lib.ListN.{length, take}
+use lib.Seq.{length-take-le}
+use borrow.Author.Tests.{leb-true, ltb-true, eqb-true, not-true}
+use Rattle.formats.specs.Bytes.{allBelow}
+use Rattle.book.specs.Lends.{Sizes}
+use Rattle.book.specs.Calls as calls
+use Rattle.book.specs.Model.{Record, idle, freshRecord, loadedRecord}
+use Rattle.questions.proofs.PartFits.{and-parts}
+use Rattle.session.specs.declared.state.Phase.{Phase}
+use Rattle.session.specs.declared.state.Phase.the-variants.{Empty, Loaded, Running, Answered}
+use Rattle.session.specs.declared.state.Session.{Session}
+use Rattle.session.specs.Records.{phaseOf, sizesOf, recordOf, sessionOf, zeroFrom, risesTo}
+use Rattle.session.specs.Records.{sizesFit, noQuestion, listFits, partsFit, validIn, valid}
+use Rattle.session.specs.Tests.{Shaped}
+use Rattle.session.proofs.RecordLaws.{Tails, struct-of-record}
+
+pub record Sized (z : Sizes) : Type 0 where
+  pub nodes-least : 1 ≤ z .n
+  pub nodes-most : z .n ≤ 65535
+  pub states-least : 1 ≤ z .s
+  pub states-most : z .s ≤ 16
+  pub labels-least : 1 ≤ z .k
+  pub labels-most : z .k ≤ 64
+
+pub record Asked (r : Record) : Type 0 where
+  pub few : length (r .nodes) ≤ 64
+  pub same : length (r .labels) ≡ length (r .nodes)
+  pub nodes-below : allBelow (r .sizes .n) (r .nodes) ≡ true
+  pub labels-below : allBelow (r .sizes .k) (r .labels) ≡ true
+  pub some-part : 1 ≤ length (r .roots)
+  pub few-parts : length (r .roots) ≤ 254
+  pub rises : risesTo (r .sizes .n - 1) (r .roots) ≡ true
+  pub states-below : allBelow (r .sizes .s) (r .states) ≡ true
+  pub few-links : r .links ≤ 65535 * length (r .states)
+
+pub record Going (r : Record) : Type 0 where
+  pub sizes : Sized (r .sizes)
+  pub asked : Asked r
+  pub handled : length (r .states) < length (r .roots)
+  pub no-yes : r .yes ≡ false
+
+pub record Ended (r : Record) : Type 0 where
+  pub sizes : Sized (r .sizes)
+  pub asked : Asked r
+  pub handled : length (r .states) ≡ length (r .roots)
+
+abbrev pub HoldsIn : calls.Phase → Record → Type 0
+HoldsIn calls.Phase.empty r = r ≡ freshRecord
+HoldsIn calls.Phase.loaded r = Sized (r .sizes) × (r ≡ loadedRecord (r .sizes))
+HoldsIn calls.Phase.running r = Going r
+HoldsIn calls.Phase.answered r = Ended r
+
+abbrev pub Holds : Record → Type 0
+Holds r = HoldsIn (r .phase) r
+
+-- ---- what the conditions say, by name
+
+record Nothing (s : Session) : Type 0 where
+  no-yes : s .yes ≡ false
+  m-is : s .m ≡ 0
+  parts-is : s .parts ≡ 0
+  handled-is : s .handled ≡ 0
+  links-is : s .links ≡ 0
+  nodes-end : zeroFrom 0 (s .nodes) ≡ true
+  labels-end : zeroFrom 0 (s .labels) ≡ true
+  roots-end : zeroFrom 0 (s .roots) ≡ true
+  states-end : zeroFrom 0 (s .states) ≡ true
+
+record ListFits (s : Session) : Type 0 where
+  few : s .m ≤ 64
+  nodes-below : allBelow (s .n) (take (s .m) (s .nodes)) ≡ true
+  labels-below : allBelow (s .k) (take (s .m) (s .labels)) ≡ true
+  nodes-end : zeroFrom (s .m) (s .nodes) ≡ true
+  labels-end : zeroFrom (s .m) (s .labels) ≡ true
+
+record PartsFit (s : Session) : Type 0 where
+  some-part : 1 ≤ s .parts
+  few-parts : s .parts ≤ 254
+  rises : risesTo (s .n - 1) (take (s .parts) (s .roots)) ≡ true
+  roots-end : zeroFrom (s .parts) (s .roots) ≡ true
+  states-below : allBelow (s .s) (take (s .handled) (s .states)) ≡ true
+  states-end : zeroFrom (s .handled) (s .states) ≡ true
+  few-links : s .links ≤ 65535 * s .handled
+
+module _ (s : Session) where
+  within-is : (low high x : ℕ) → (leb low x && leb x high) ≡ true → (low ≤ x) × (x ≤ high)
+  within-is low high x e = let p = and-parts (leb low x) (leb x high) e in (leb-true low x (p .0), leb-true x high (p .1))
+
+  pub sized-of : sizesFit s ≡ true → Sized (sizesOf s)
+  unfolding sizesFit
+  sized-of e =
+      let p = and-parts _ _ e in
+      let q = and-parts _ _ (p .1) in
+      let a = within-is 1 65535 (s .n) (p .0) in
+      let b = within-is 1 16 (s .s) (q .0) in
+      let c = within-is 1 64 (s .k) (q .1) in
+      record { nodes-least = a .0; nodes-most = a .1; states-least = b .0; states-most = b .1; labels-least = c .0; labels-most = c .1 }
+
+  nothing-of : noQuestion s ≡ true → Nothing s
+  unfolding noQuestion
+  nothing-of e =
+      let a = and-parts _ _ e in
+      let b = and-parts _ _ (a .1) in
+      let c = and-parts _ _ (b .1) in
+      let d = and-parts _ _ (c .1) in
+      let f = and-parts _ _ (d .1) in
+      let g = and-parts _ _ (f .1) in
+      let h = and-parts _ _ (g .1) in
+      let i = and-parts _ _ (h .1) in
+      record {
+        no-yes = not-true (s .yes) (a .0);
+        m-is = eqb-true (s .m) 0 (b .0);
+        parts-is = eqb-true (s .parts) 0 (c .0);
+        handled-is = eqb-true (s .handled) 0 (d .0);
+        links-is = eqb-true (s .links) 0 (f .0);
+        nodes-end = g .0;
+        labels-end = h .0;
+        roots-end = i .0;
+        states-end = i .1;
+      }
+
+  list-of : listFits s ≡ true → ListFits s
+  unfolding listFits
+  list-of e =
+      let a = and-parts _ _ e in
+      let b = and-parts _ _ (a .1) in
+      let c = and-parts _ _ (b .1) in
+      let d = and-parts _ _ (c .1) in
+      record { few = leb-true (s .m) 64 (a .0); nodes-below = b .0; labels-below = c .0; nodes-end = d .0; labels-end = d .1 }
+
+  parts-of : partsFit s ≡ true → PartsFit s
+  unfolding partsFit
+  parts-of e =
+      let a = and-parts _ _ e in
+      let b = and-parts _ _ (a .1) in
+      let c = and-parts _ _ (b .1) in
+      let d = and-parts _ _ (c .1) in
+      let f = and-parts _ _ (d .1) in
+      let w = within-is 1 254 (s .parts) (a .0) in
+      record {
+        some-part = w .0;
+        few-parts = w .1;
+        rises = b .0;
+        roots-end = c .0;
+        states-below = d .0;
+        states-end = f .0;
+        few-links = leb-true (s .links) (65535 * s .handled) (f .1);
+      }
+
+  -- ---- the record of a struct that passes
+
+  asked-of : Shaped s → ListFits s → PartsFit s → s .handled ≤ s .parts → Asked (recordOf s)
+  unfolding recordOf
+  asked-of h l p c =
+      let a : length (take (s .m) (s .nodes)) ≡ s .m = length-take-le (s .m) (s .nodes) (omega arith) in
+      let b : length (take (s .m) (s .labels)) ≡ s .m = length-take-le (s .m) (s .labels) (omega arith) in
+      let f : length (take (s .parts) (s .roots)) ≡ s .parts = length-take-le (s .parts) (s .roots) (omega arith) in
+      let d : length (take (s .handled) (s .states)) ≡ s .handled = length-take-le (s .handled) (s .states) (omega arith) in
+      record {
+        few = omega arith;
+        same = omega arith;
+        nodes-below = l .nodes-below;
+        labels-below = l .labels-below;
+        some-part = omega arith;
+        few-parts = omega arith;
+        rises = p .rises;
+        states-below = p .states-below;
+        few-links = rw d (p .few-links);
+      }
+
+  handled-of : Shaped s → PartsFit s → s .handled ≤ s .parts
+      → (length (take (s .handled) (s .states)) ≡ s .handled) × (length (take (s .parts) (s .roots)) ≡ s .parts)
+  handled-of h p c =
+      (length-take-le (s .handled) (s .states) (omega arith), length-take-le (s .parts) (s .roots) (omega arith))
+
+  -- ---- by state
+
+  record Empties : Type 0 where
+    n-is : s .n ≡ 0
+    s-is : s .s ≡ 0
+    k-is : s .k ≡ 0
+    none : Nothing s
+
+  record Questions : Type 0 where
+    sizes : Sized (sizesOf s)
+    list : ListFits s
+    parts : PartsFit s
+
+  empties-of : validIn Empty s ≡ true → Empties
+  unfolding validIn
+  empties-of e =
+      let a = and-parts _ _ e in
+      let b = and-parts _ _ (a .1) in
+      let c = and-parts _ _ (b .1) in
+      record {
+        n-is = eqb-true (s .n) 0 (a .0);
+        s-is = eqb-true (s .s) 0 (b .0);
+        k-is = eqb-true (s .k) 0 (c .0);
+        none = nothing-of (c .1);
+      }
+
+  loaded-of : validIn Loaded s ≡ true → Sized (sizesOf s) × Nothing s
+  unfolding validIn
+  loaded-of e = let a = and-parts _ _ e in (sized-of (a .0), nothing-of (a .1))
+
+  running-of : validIn Running s ≡ true → Questions × (s .handled < s .parts) × (s .yes ≡ false)
+  unfolding validIn
+  running-of e =
+      let a = and-parts _ _ e in
+      let b = and-parts _ _ (a .1) in
+      let c = and-parts _ _ (b .1) in
+      let d = and-parts _ _ (c .1) in (
+        record { sizes = sized-of (a .0); list = list-of (b .0); parts = parts-of (c .0) },
+        ltb-true (s .handled) (s .parts) (d .0),
+        not-true (s .yes) (d .1),
+      )
+
+  answered-of : validIn Answered s ≡ true → Questions × (s .handled ≡ s .parts)
+  unfolding validIn
+  answered-of e =
+      let a = and-parts _ _ e in
+      let b = and-parts _ _ (a .1) in
+      let c = and-parts _ _ (b .1) in
+      (record { sizes = sized-of (a .0); list = list-of (b .0); parts = parts-of (c .0) }, eqb-true (s .handled) (s .parts) (c .1))
+
+  holds-in : Shaped s → (p : Phase) → s .phase ≡ p → validIn p s ≡ true → HoldsIn (phaseOf p) (recordOf s)
+  unfolding phaseOf recordOf freshRecord idle
+  holds-in h Empty q e =
+      let E = empties-of e in
+      let N = E .none in
+      rw (q, E .n-is, E .s-is, E .k-is, N .no-yes, N .m-is, N .parts-is, N .handled-is, N .links-is)
+  holds-in h Loaded q e =
+      let a = loaded-of e in
+      let N = a .1 in
+      (a .0, rw (q, N .no-yes, N .m-is, N .parts-is, N .handled-is, N .links-is))
+  holds-in h Running q e =
+      let a = running-of e in
+      let t = handled-of h (a .0 .parts) (omega (arith, a .1)) in
+      record {
+        sizes = a .0 .sizes;
+        asked = asked-of h (a .0 .list) (a .0 .parts) (omega (arith, a .1));
+        handled = omega (arith, a .1, t .0, t .1);
+        no-yes = a .2;
+      }
+  holds-in h Answered q e =
+      let a = answered-of e in
+      let t = handled-of h (a .0 .parts) (omega (arith, a .1)) in
+      record {
+        sizes = a .0 .sizes;
+        asked = asked-of h (a .0 .list) (a .0 .parts) (omega (arith, a .1));
+        handled = omega (arith, a .1, t .0, t .1);
+      }
+
+  pub holds-of : Shaped s → valid s ≡ true → Holds (recordOf s)
+  unfolding valid recordOf
+  holds-of h e = holds-in h (s .phase) refl e
+
+  -- ---- and the struct again
+
+  tails-none : Nothing s → Tails s
+  tails-none N = record {
+    few = omega (arith, N .m-is);
+    few-parts = omega (arith, N .parts-is);
+    few-handled = omega (arith, N .handled-is);
+    nodes-end = rw (N .m-is) (N .nodes-end);
+    labels-end = rw (N .m-is) (N .labels-end);
+    roots-end = rw (N .parts-is) (N .roots-end);
+    states-end = rw (N .handled-is) (N .states-end);
+  }
+
+  tails-some : ListFits s → PartsFit s → s .handled ≤ s .parts → Tails s
+  tails-some l p c = record {
+    few = l .few;
+    few-parts = p .few-parts;
+    few-handled = omega (arith, p .few-parts);
+    nodes-end = l .nodes-end;
+    labels-end = l .labels-end;
+    roots-end = p .roots-end;
+    states-end = p .states-end;
+  }
+
+  tails-in : (p : Phase) → validIn p s ≡ true → Tails s
+  tails-in Empty e = tails-none (empties-of e .none)
+  tails-in Loaded e = tails-none (loaded-of e .1)
+  tails-in Running e = let a = running-of e in tails-some (a .0 .list) (a .0 .parts) (omega (arith, a .1))
+  tails-in Answered e = let a = answered-of e in tails-some (a .0 .list) (a .0 .parts) (omega (arith, a .1))
+
+  pub tails-of : valid s ≡ true → Tails s
+  unfolding valid
+  tails-of e = tails-in (s .phase) e
+
+  -- the struct of the record is the struct
+  pub struct-is : Shaped s → valid s ≡ true → sessionOf (recordOf s) ≡ s
+  struct-is h e = struct-of-record s h (tails-of e)

@@ -1,0 +1,14 @@
+pub mod ActLaws
+pub mod AdvanceLaws
+pub mod CallLaws
+pub mod CancelLaws
+pub mod Holds
+pub mod LoadLaws
+pub mod PadLaws
+pub mod RecordLaws
+pub mod Refine
+pub mod RunLaws
+pub mod SessionTheorem
+pub mod Shapes
+pub mod StartLaws
+pub mod ValidLaws

@@ -1,0 +1,90 @@
+-- Structs and records: the one from the other, and back.
+--     Tails s              the counts are within the arrays, and the arrays are zero from there on
+--     struct-of-record     the struct of the record of a struct with such arrays is that struct
+--     Listed r             lists that fit the arrays
+--     record-of-struct     the record of the struct of a record with such lists is that record
+--     struct-shaped        and that struct has the layout's lengths
+-- Assumes nothing.
+use Prim.Native.Nat.{_≤_}
+use mathlib.Core.Path.{_≡_, refl}
+use mathlib.Core.Bool.{true}
+use native.Mathlib.Omega.{arith}
+use lib.ListN.{length, take}
+use lib.Seq.{length-take-le}
+use Rattle.book.specs.Calls as calls
+use Rattle.book.specs.Model.{Record}
+use Rattle.session.specs.declared.state.Phase.{Phase}
+use Rattle.session.specs.declared.state.Phase.the-variants.{Empty, Loaded, Running, Answered}
+use Rattle.session.specs.declared.state.Session.{Session}
+use Rattle.session.specs.Records.{phaseOf, phaseTo, recordOf, sessionOf, zeroFrom}
+use Rattle.session.specs.Tests.{Shaped}
+use Rattle.session.proofs.PadLaws.{length-padded, take-padded, take-padded-by, padded-take}
+
+pub phase-to-of : (p : Phase) → phaseTo (phaseOf p) ≡ p
+unfolding phaseTo phaseOf
+phase-to-of Empty = refl
+phase-to-of Loaded = refl
+phase-to-of Running = refl
+phase-to-of Answered = refl
+
+pub phase-of-to : (p : calls.Phase) → phaseOf (phaseTo p) ≡ p
+unfolding phaseTo phaseOf
+phase-of-to calls.Phase.empty = refl
+phase-of-to calls.Phase.loaded = refl
+phase-of-to calls.Phase.running = refl
+phase-of-to calls.Phase.answered = refl
+
+pub record Tails (s : Session) : Type 0 where
+  pub few : s .m ≤ 64
+  pub few-parts : s .parts ≤ 254
+  pub few-handled : s .handled ≤ 254
+  pub nodes-end : zeroFrom (s .m) (s .nodes) ≡ true
+  pub labels-end : zeroFrom (s .m) (s .labels) ≡ true
+  pub roots-end : zeroFrom (s .parts) (s .roots) ≡ true
+  pub states-end : zeroFrom (s .handled) (s .states) ≡ true
+
+pub struct-of-record : (s : Session) → Shaped s → Tails s → sessionOf (recordOf s) ≡ s
+unfolding sessionOf recordOf
+struct-of-record s h t =
+    let a : length (take (s .m) (s .nodes)) ≡ s .m = length-take-le (s .m) (s .nodes) (omega arith) in
+    let b : length (take (s .m) (s .labels)) ≡ s .m = length-take-le (s .m) (s .labels) (omega arith) in
+    let c : length (take (s .parts) (s .roots)) ≡ s .parts = length-take-le (s .parts) (s .roots) (omega arith) in
+    let d : length (take (s .handled) (s .states)) ≡ s .handled = length-take-le (s .handled) (s .states) (omega arith) in
+    rw (
+      phase-to-of (s .phase),
+      a,
+      b,
+      c,
+      d,
+      padded-take 64 (s .m) (s .nodes) (h .nodes) (t .nodes-end),
+      padded-take 64 (s .m) (s .labels) (h .labels) (t .labels-end),
+      padded-take 254 (s .parts) (s .roots) (h .roots) (t .roots-end),
+      padded-take 254 (s .handled) (s .states) (h .states) (t .states-end),
+    )
+
+pub record Listed (r : Record) : Type 0 where
+  pub few : length (r .nodes) ≤ 64
+  pub same : length (r .labels) ≡ length (r .nodes)
+  pub few-parts : length (r .roots) ≤ 254
+  pub few-handled : length (r .states) ≤ 254
+
+module _ (r : Record) (L : Listed r) where
+  pub record-of-struct : recordOf (sessionOf r) ≡ r
+  unfolding sessionOf recordOf
+  record-of-struct =
+      rw (
+        phase-of-to (r .phase),
+        take-padded 64 (r .nodes),
+        take-padded-by 64 (r .labels) (length (r .nodes)) (L .same),
+        take-padded 254 (r .roots),
+        take-padded 254 (r .states),
+      )
+
+  pub struct-shaped : Shaped (sessionOf r)
+  unfolding sessionOf
+  struct-shaped = record {
+    nodes = length-padded 64 (r .nodes) (L .few);
+    labels = length-padded 64 (r .labels) (omega (arith, L .same, L .few));
+    roots = length-padded 254 (r .roots) (L .few-parts);
+    states = length-padded 254 (r .states) (L .few-handled);
+  }

@@ -1,0 +1,80 @@
+-- The calls' promises refine the model of the session (crate book, Model).
+--     Seen s r         struct s passes its conditions and holds record r
+--     fresh-seen       the fresh session holds the fresh record
+--     done-refines     a call's promise on such a struct: the model's step, and again such a struct
+--     step-refines     each of the five
+-- Assumes nothing.
+use Prim.Native.Nat.{ℕ, zero, suc}
+use mathlib.Core.Path.{_≡_, refl, sym, ap, _∙_, subst}
+use mathlib.Core.Bool.{true}
+use Rattle.book.specs.Calls.{Call, read, Answer}
+use Rattle.book.specs.Refusals.{refusal}
+use Rattle.book.specs.Model.{Record, freshRecord, idle, proceeds, unless, act, Does}
+use Rattle.book.proofs.Demand3Theorem.{Refines}
+use Rattle.session.specs.declared.state.Session.{Session}
+use Rattle.session.specs.Records.{phaseTo, recordOf, sessionOf, freshSession, valid}
+use Rattle.session.specs.Promises.{CallDone, answerOn, recordOn}
+use Rattle.session.specs.Tests.{Shaped}
+use Rattle.session.specs.CallSteps.{Step, loads, starts, advances, cancels, reads}
+use Rattle.session.proofs.RecordLaws.{record-of-struct, struct-shaped}
+use Rattle.session.proofs.ActLaws.{holds-valid, listed-of, act-valid, act-shaped, act-record}
+
+pub record Seen (s : Session) (r : Record) : Type 0 where
+  pub shaped : Shaped s
+  pub passes : valid s ≡ true
+  pub holds : recordOf s ≡ r
+
+-- the struct of the fresh record is the fresh session
+fresh-is : sessionOf freshRecord ≡ freshSession
+unfolding sessionOf freshRecord idle phaseTo
+fresh-is = refl
+
+pub fresh-seen : Seen freshSession freshRecord
+unfolding freshRecord idle
+fresh-seen =
+    subst (λ (s : Session). Seen s freshRecord) fresh-is
+    (record {
+      shaped = struct-shaped freshRecord (listed-of freshRecord refl);
+      passes = holds-valid freshRecord refl;
+      holds = record-of-struct freshRecord (listed-of freshRecord refl);
+    })
+
+module _ (s : Session) (r : Record) (i : Seen s r) (c : Call) where
+  answer-is : answerOn s c ≡ act r c .answer
+  unfolding answerOn
+  answer-is = rw (i .passes) (ap (λ (t : Record). act t c .answer) (i .holds))
+
+  record-is : recordOn s c ≡ sessionOf (act (recordOf s) c .record′)
+  unfolding recordOn
+  record-is = rw (i .passes)
+
+  after-seen : Seen (sessionOf (act (recordOf s) c .record′)) (act r c .record′)
+  after-seen = record {
+    shaped = act-shaped s (i .shaped) (i .passes) c;
+    passes = act-valid s (i .shaped) (i .passes) c;
+    holds = act-record s (i .shaped) (i .passes) c ∙ ap (λ (t : Record). act t c .record′) (i .holds);
+  }
+
+  pub done-refines : (a : Answer) (s′ : Session) → CallDone s c a s′ → (r′ : Record) × Does r c a r′ × Seen s′ r′
+  done-refines a s′ d = (
+    act r c .record′,
+    record { tells = d .tells ∙ answer-is; leaves = refl },
+    subst (λ (t : Session). Seen t (act r c .record′)) (sym (d .leaves ∙ record-is)) after-seen,
+  )
+
+-- Read alters nothing
+read-keeps : (r : Record) → act r read .record′ ≡ r
+unfolding act unless proceeds
+read-keeps r = go (refusal (r .phase) (r .sizes) read)
+  where
+    go : (n : ℕ) → unless n r read .record′ ≡ r
+    go zero = refl
+    go (suc n) = refl
+
+pub step-refines : Refines Step Does Seen
+step-refines s s′ r c a i (loads o nums bytes d) = done-refines s r i _ _ _ (d .call)
+step-refines s s′ r c a i (starts o d) = done-refines s r i _ _ _ d
+step-refines s s′ r c a i (advances o d) = done-refines s r i _ _ _ d
+step-refines s s′ r c a i (cancels o d) = done-refines s r i _ _ _ d
+step-refines s s′ r c a i (reads o d) =
+    (r, record { tells = d ∙ answer-is s r i read; leaves = sym (read-keeps r) }, i)

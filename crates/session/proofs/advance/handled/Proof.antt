@@ -1,0 +1,49 @@
+-- `session::advance::handled` meets its contract. The last part, and any other.
+-- Assumes nothing.
+use Rattle.session.proofs.AdvanceLaws.{handled-last, handled-more}
+use borrow.Author.Needs.{needs}
+use Rattle.session.proofs.advance.handled.Statement.{statement}
+use Rattle.session.proofs.advance.handled.Tie as tie
+
+add-if1 : tie.Need-add-if1
+add-if1 c = search needs
+
+cast-is-marked : tie.Need-cast-is-marked
+cast-is-marked c = search needs
+
+cast-is-marked-2 : tie.Need-cast-is-marked-2
+cast-is-marked-2 c = search needs
+
+is-marked-requires : tie.Need-is-marked-requires
+is-marked-requires c κs = search needs
+
+stepped-requires : tie.Need-stepped-requires
+stepped-requires c κs = search needs
+
+returns : tie.Need-returns
+returns c =
+    let m = c .before in
+    let e = m .before .before .before in
+    let a = e .before .before .before .before .args in
+    handled-last (a .s) (a .rules .now) (a .q) (a .links) _ (e .if1 .taken) _ (c .stepped .ensures) (m .is-marked .ensures)
+
+stepped-requires-2 : tie.Need-stepped-requires-2
+stepped-requires-2 c κs = search needs
+
+returns-2 : tie.Need-returns-2
+returns-2 c =
+    let a = c .before .before .before .before .before .args in
+    handled-more (a .s) (a .rules .now) (a .q) (a .links) _ (c .before .if1 .left) (c .stepped2 .ensures)
+
+pub handled-spec : {M : Type 1} → statement M
+handled-spec =
+    tie.close
+    (tie.spec
+    add-if1
+    cast-is-marked
+    cast-is-marked-2
+    is-marked-requires
+    stepped-requires
+    returns
+    stepped-requires-2
+    returns-2)

@@ -1,0 +1,14 @@
+-- `session::loaded::loaded` meets its contract. Its record is the definition's, field by field.
+-- Assumes nothing.
+use mathlib.Core.Path.{refl}
+use Rattle.book.specs.Model.{idle}
+use Rattle.session.specs.Records.{sessionOf, phaseTo}
+use Rattle.session.proofs.loaded.loaded.Statement.{statement}
+use Rattle.session.proofs.loaded.loaded.Tie as tie
+
+returns : tie.Need-returns
+unfolding sessionOf phaseTo idle
+returns c = refl
+
+pub loaded-spec : {M : Type 1} → statement M
+loaded-spec = tie.close (tie.spec returns)

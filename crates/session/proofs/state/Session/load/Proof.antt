@@ -1,0 +1,90 @@
+-- `session::state::Session::load` meets its contract. Each return cites the law of its answer.
+-- Assumes nothing.
+use Rattle.book.specs.Lends.{Lent}
+use Rattle.session.specs.Tests.{Shaped, lentOf}
+use Rattle.session.proofs.Shapes.{shaped}
+use Rattle.session.proofs.LoadLaws.{load-1, load-headers, load-built, load-refused}
+use borrow.Author.Needs.{needs}
+use Rattle.session.proofs.state.Session.load.Statement.{statement}
+use Rattle.session.proofs.state.Session.load.Tie as tie
+
+shape : (c : tie.Start) → Shaped (c .args .self)
+shape c = shaped (c .args .self) (c .good .0)
+
+abbrev lent : tie.Start → Lent
+lent c = lentOf (c .args .plan .now) (c .args .rules .now) (c .args .nums .now) (c .args .bytes .now)
+
+abbrev of : tie.After-may-load → tie.Start
+of a = a .before .before .before .before .before
+
+may-load-requires : tie.Need-may-load-requires
+may-load-requires c κs = search needs
+
+returns : tie.Need-returns
+returns c =
+    let m = c .before in
+    load-1 (of m .args .self) (shape (of m)) (lent (of m)) _ (m .may-load .ensures) (c .if1 .taken)
+
+build-rules-requires : tie.Need-build-rules-requires
+build-rules-requires c κs = search needs
+
+enum-told : tie.Need-enum-told
+enum-told c = search needs
+
+loaded-from-requires : tie.Need-loaded-from-requires
+loaded-from-requires c κs =
+    let b = c .before .before .before .before .before .before in
+    let e = b .before .before .before in
+    let m = e .before in
+    load-headers (of m .args .self) (shape (of m)) (lent (of m)) _ (m .may-load .ensures) (e .if1 .left) _ _ _
+    (b .build-rules .ensures) (c .enum-told .given .1)
+
+same-length : tie.Need-same-length
+same-length c = search needs
+
+same-length-2 : tie.Need-same-length-2
+same-length-2 c = search needs
+
+returns-2 : tie.Need-returns-2
+returns-2 c =
+    let d = c .before in
+    let b = d .before .before .before .before .before .before in
+    let e = b .before .before .before in
+    let m = e .before in
+    load-built (of m .args .self) (shape (of m)) (lent (of m)) _ (m .may-load .ensures) (e .if1 .left) _ _ _
+    (b .build-rules .ensures) (d .enum-told .given .1) _ (c .loaded-from .ensures)
+
+enum-known-n : tie.Need-enum-known-n
+enum-known-n c = search needs
+
+same-length-3 : tie.Need-same-length-3
+same-length-3 c = search needs
+
+same-length-4 : tie.Need-same-length-4
+same-length-4 c = search needs
+
+returns-3 : tie.Need-returns-3
+returns-3 c =
+    let d = c .before in
+    let b = d .before .before .before .before .before .before in
+    let e = b .before .before .before in
+    let m = e .before in
+    load-refused (of m .args .self) (shape (of m)) (lent (of m)) _ (m .may-load .ensures) (e .if1 .left) _ _ _
+    (b .build-rules .ensures) _ (d .n .given .1)
+
+pub load-spec : {M : Type 1} → statement M
+load-spec =
+    tie.close
+    (tie.spec
+    may-load-requires
+    returns
+    build-rules-requires
+    enum-told
+    loaded-from-requires
+    same-length
+    same-length-2
+    returns-2
+    enum-known-n
+    same-length-3
+    same-length-4
+    returns-3)

@@ -1,0 +1,169 @@
+-- `session::state::Session::start` meets its contract. Each return cites the law of its answer.
+-- Assumes nothing.
+use Prim.Native.Nat.{_*_}
+use mathlib.Core.Path.{sym}
+use lib.Seq.{length-take-le}
+use Rattle.book.specs.Lends.{Lent}
+use Rattle.session.specs.Tests.{Shaped, lentOf}
+use Rattle.session.proofs.Shapes.{shaped}
+use Rattle.session.proofs.StartLaws.{start-1, start-limits, start-17, start-room, start-list, start-listed, start-18}
+use Rattle.session.proofs.StartLaws.{start-count, start-yes}
+use native.Mathlib.Omega.{arith}
+use borrow.Author.Needs.{needs}
+use Rattle.session.proofs.state.Session.start.Statement.{statement}
+use Rattle.session.proofs.state.Session.start.Tie as tie
+
+shape : (c : tie.Start) → Shaped (c .args .self)
+shape c = shaped (c .args .self) (c .good .0)
+
+abbrev lent : tie.Start → Lent
+lent c = lentOf (c .args .plan .now) (c .args .rules .now) (c .args .nums .now) (c .args .bytes .now)
+
+abbrev of : tie.After-may-start → tie.Start
+of a = a .before .before .before .before .before .before .before
+
+may-start-requires : tie.Need-may-start-requires
+may-start-requires c κs = search needs
+
+returns : tie.Need-returns
+returns c =
+    let m = c .before in
+    start-1 (of m .args .self) (shape (of m)) (lent (of m)) (of m .args .nodes .now) (of m .args .labels .now) _
+    (m .may-start .ensures) (c .if1 .taken)
+
+cast-n : tie.Need-cast-n
+cast-n c = search needs
+
+cast-s : tie.Need-cast-s
+cast-s c = search needs
+
+cast-k : tie.Need-cast-k
+cast-k c = search needs
+
+lengths-fit-requires : tie.Need-lengths-fit-requires
+lengths-fit-requires c κs =
+    let e = c .before .before .before in
+    let m = e .before in
+    start-limits (of m .args .self) (shape (of m)) (lent (of m)) (of m .args .nodes .now) (of m .args .labels .now) _
+    (m .may-start .ensures) (e .if1 .left)
+
+returns-2 : tie.Need-returns-2
+returns-2 c =
+    let k = c .before in
+    let e = k .before .before .before .before in
+    let m = e .before in
+    start-17 (of m .args .self) (shape (of m)) (lent (of m)) (of m .args .nodes .now) (of m .args .labels .now) _
+    (m .may-start .ensures)
+    (e .if1 .left) _ (k .lengths-fit .ensures) (c .if2 .taken)
+
+check-list-requires : tie.Need-check-list-requires
+check-list-requires c κs = search needs
+
+returns-3 : tie.Need-returns-3
+returns-3 c =
+    let l = c .before in
+    let t = l .before in
+    let k = t .before in
+    let e = k .before .before .before .before in
+    let m = e .before in
+    start-list (of m .args .self) (shape (of m)) (lent (of m)) (of m .args .nodes .now) (of m .args .labels .now) _
+    (m .may-start .ensures)
+    (e .if1 .left) _ (k .lengths-fit .ensures) (t .if2 .left) _ (l .check-list .ensures) (c .if3 .taken)
+
+mul-roots : tie.Need-mul-roots
+mul-roots c = search needs
+
+slice-aggregate-roots : tie.Need-slice-aggregate-roots
+slice-aggregate-roots c =
+    let t = c .before .before .before in
+    let k = t .before in
+    let e = k .before .before .before .before in
+    let m = e .before in
+    sym (length-take-le (of m .args .self .n * 4) (of m .args .nums .now) (start-room (of m .args .self) (shape (of m)) (lent (of m)) (of m .args .nodes .now) (of m .args .labels .now) _ (m .may-start .ensures)
+    (e .if1 .left) _ (k .lengths-fit .ensures) (t .if2 .left)))
+
+roots-requires : tie.Need-roots-requires
+roots-requires c κs = search needs
+
+returns-4 : tie.Need-returns-4
+returns-4 c =
+    let r = c .before .before in
+    let u = r .before .before in
+    let l = u .before in
+    let t = l .before in
+    let k = t .before in
+    let e = k .before .before .before .before in
+    let m = e .before in
+    start-18 (of m .args .self) (shape (of m)) (lent (of m)) (of m .args .nodes .now) (of m .args .labels .now) _
+    (m .may-start .ensures)
+    (e .if1 .left) _ (k .lengths-fit .ensures) (t .if2 .left) _ (l .check-list .ensures) (u .if3 .left) _ (r .roots .ensures)
+    (c .if4 .taken)
+
+cast-count : tie.Need-cast-count
+cast-count c =
+    let w = c .before in
+    let r = w .before .before in
+    let u = r .before .before in
+    let l = u .before in
+    let t = l .before in
+    let k = t .before in
+    let e = k .before .before .before .before in
+    let m = e .before in
+    omega (
+      arith,
+      start-count (of m .args .self) (shape (of m)) (lent (of m)) (of m .args .nodes .now) (of m .args .labels .now) _
+          (m .may-start .ensures)
+          (e .if1 .left) _ (k .lengths-fit .ensures) (t .if2 .left) _ (l .check-list .ensures) (u .if3 .left) _
+          (r .roots .ensures) (w .if4 .left),
+    )
+
+started-requires : tie.Need-started-requires
+started-requires c κs =
+    let w = c .before .before in
+    let r = w .before .before in
+    let u = r .before .before in
+    let l = u .before in
+    let t = l .before in
+    let k = t .before in
+    let e = k .before .before .before .before in
+    let m = e .before in
+    start-listed (of m .args .self) (shape (of m)) (lent (of m)) (of m .args .nodes .now) (of m .args .labels .now) _
+    (m .may-start .ensures)
+    (e .if1 .left) _ (k .lengths-fit .ensures) (t .if2 .left) _ (l .check-list .ensures) (u .if3 .left)
+
+returns-5 : tie.Need-returns-5
+returns-5 c =
+    let w = c .before .before .before in
+    let r = w .before .before in
+    let u = r .before .before in
+    let l = u .before in
+    let t = l .before in
+    let k = t .before in
+    let e = k .before .before .before .before in
+    let m = e .before in
+    start-yes (of m .args .self) (shape (of m)) (lent (of m)) (of m .args .nodes .now) (of m .args .labels .now) _
+    (m .may-start .ensures)
+    (e .if1 .left) _ (k .lengths-fit .ensures) (t .if2 .left) _ (l .check-list .ensures) (u .if3 .left) _ (r .roots .ensures)
+    (w .if4 .left)
+    _ (c .started .ensures)
+
+pub start-spec : {M : Type 1} → statement M
+start-spec =
+    tie.close
+    (tie.spec
+    may-start-requires
+    returns
+    cast-n
+    cast-s
+    cast-k
+    lengths-fit-requires
+    returns-2
+    check-list-requires
+    returns-3
+    mul-roots
+    slice-aggregate-roots
+    roots-requires
+    returns-4
+    cast-count
+    started-requires
+    returns-5)

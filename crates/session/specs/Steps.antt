@@ -1,0 +1,90 @@
+-- The structs that Start and advance make, field by field.
+--
+-- ListArgs vs bs == two lists of one length that fit the record
+-- startedOf n s k vs bs parts roots == a running session with its question and no part handled
+-- steppedOf s p q l y == session s in state p with one more part handled, of state q and l links, and the yes or no y
+-- NextArgs s == the counts are within the arrays
+-- StepArgs s l == there is room for one more state, and the links fit
+-- marksIn s k rules == the accept marks by S and K; MarkArgs rules s k q == the rules' length is exact, and q is a state
+-- handledBy s rules q l == what an advance leaves and tells where the part's state is q and its links are l; HandleArgs what it asks
+--
+-- Assumes nothing.
+use Prim.Native.Nat.{ℕ, _+_, _*_, _≤_, _<_}
+use mathlib.Core.Path.{_≡_}
+use mathlib.Core.Bool.{Bool, false, cond}
+use mathlib.Core.List.{List}
+use lib.Dec.{eqb}
+use lib.ListN.{length, getD, take, drop, replicate, set}
+use Rattle.formats.specs.Rules.{ruleLength}
+use Rattle.session.specs.declared.state.Phase.{Phase}
+use Rattle.session.specs.declared.state.Phase.the-variants.{Running, Answered}
+use Rattle.session.specs.declared.answers.Advancing.the-variants.{More, Finished}
+use Rattle.session.specs.declared.answers.Advanced.{Advanced}
+use Rattle.session.specs.declared.state.Session.{Session}
+use Rattle.session.specs.Records.{padded}
+
+pub record ListArgs (vs bs : List ℕ) : Type 0 where
+  pub few : length vs ≤ 64
+  pub few-labels : length bs ≤ 64
+
+abbrev pub startedOf : ℕ → ℕ → ℕ → List ℕ → List ℕ → ℕ → List ℕ → Session
+startedOf n s k vs bs parts roots = record {
+  phase = Running;
+  yes = false;
+  n = n;
+  s = s;
+  k = k;
+  m = length vs;
+  parts = parts;
+  handled = 0;
+  links = 0;
+  nodes = padded 64 vs;
+  labels = padded 64 bs;
+  roots = roots;
+  states = replicate 254 0;
+}
+
+abbrev pub steppedOf : Session → Phase → ℕ → ℕ → Bool → Session
+steppedOf s p q l y = record {
+  phase = p;
+  yes = y;
+  n = s .n;
+  s = s .s;
+  k = s .k;
+  m = s .m;
+  parts = s .parts;
+  handled = s .handled + 1;
+  links = s .links + l;
+  nodes = s .nodes;
+  labels = s .labels;
+  roots = s .roots;
+  states = set (s .states) (s .handled) q;
+}
+
+pub record NextArgs (s : Session) : Type 0 where
+  pub few : s .m ≤ 64
+  pub few-parts : s .parts ≤ 254
+  pub few-handled : s .handled ≤ 254
+
+pub record StepArgs (s : Session) (l : ℕ) : Type 0 where
+  pub room : s .handled < 254
+  pub links-fit : s .links + l ≤ 16645890
+
+pub record MarkArgs (rules : List ℕ) (s k q : ℕ) : Type 0 where
+  pub exact : length rules ≡ ruleLength s k
+  pub states-most : s ≤ 16
+  pub labels-most : k ≤ 64
+  pub state : q < s
+
+abbrev pub marksIn : ℕ → ℕ → List ℕ → List ℕ
+marksIn s k rules = take s (drop (20 + k + s * k * s) rules)
+
+pub record HandleArgs (s : Session) (rules : List ℕ) (q l : ℕ) : Type 0 where
+  pub marks : MarkArgs rules (s .s) (s .k) q
+  pub step : StepArgs s l
+
+unfoldable pub handledBy : Session → List ℕ → ℕ → ℕ → Advanced
+handledBy s rules q l =
+    cond (eqb (s .handled + 1) (s .parts))
+    (record { told = Finished; rec = steppedOf s Answered q l (eqb (getD (marksIn (s .s) (s .k) rules) q 0) 1) })
+    (record { told = More; rec = steppedOf s Running q l false })

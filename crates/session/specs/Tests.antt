@@ -1,0 +1,46 @@
+-- What the type of a struct says of its arrays, and what the tests of a struct's parts ask.
+--
+-- Shaped s == the four arrays have the layout's lengths
+-- Parted s == the plan has a node, and no more parts are handled than there are
+-- lentOf plan rules nums bytes == what a call is lent, as one record
+-- loadedBy n s k, loadedFrom plan rules == the record after a first Load
+-- Headers plan rules == both headers are whole, and N, S and K are at most their limits
+--
+-- Assumes nothing.
+use Prim.Native.Nat.{ℕ, _≤_}
+use mathlib.Core.Path.{_≡_}
+use mathlib.Core.List.{List}
+use lib.ListN.{length}
+use Rattle.formats.specs.Plan.{nodeCount}
+use Rattle.formats.specs.Rules.{stateCount, labelCount}
+use Rattle.book.specs.Lends.{Lent}
+use Rattle.book.specs.Model.{Record, loadedRecord}
+use Rattle.session.specs.declared.state.Session.{Session}
+
+pub record Shaped (s : Session) : Type 0 where
+  pub nodes : length (s .nodes) ≡ 64
+  pub labels : length (s .labels) ≡ 64
+  pub roots : length (s .roots) ≡ 254
+  pub states : length (s .states) ≡ 254
+
+pub record Parted (s : Session) : Type 0 where
+  pub some-node : 1 ≤ s .n
+  pub counted : s .handled ≤ s .parts
+
+abbrev pub lentOf : List ℕ → List ℕ → List ℕ → List ℕ → Lent
+lentOf plan rules nums bytes = record { plan = plan; rules = rules; nums = nums; bytes = bytes }
+
+-- the record after a first Load of N, S and K, and of a plan and rules
+abbrev pub loadedBy : ℕ → ℕ → ℕ → Record
+loadedBy n s k = loadedRecord (record { n = n; s = s; k = k })
+
+abbrev pub loadedFrom : List ℕ → List ℕ → Record
+loadedFrom plan rules = loadedBy (nodeCount plan) (stateCount rules) (labelCount rules)
+
+-- both headers are whole, and N, S and K fit the record
+pub record Headers (plan rules : List ℕ) : Type 0 where
+  pub plan-head : 12 ≤ length plan
+  pub rules-head : 20 ≤ length rules
+  pub nodes-most : nodeCount plan ≤ 65535
+  pub states-most : stateCount rules ≤ 16
+  pub labels-most : labelCount rules ≤ 64
