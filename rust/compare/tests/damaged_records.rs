@@ -230,12 +230,14 @@ fn the_limits() {
 fn random_bytes() {
     let random = &mut Random::new(1606);
     let world = World::new(Case::new(Shape::Balanced, 32, 3, 3, random), 5, random);
+    let mut valid = 0;
     for _ in 0..2_000 {
         let mut record = random.bytes(RECORD_BYTES);
         if random.below(2) == 0 {
             record[0] %= 4;
             record.iter_mut().skip(1).for_each(|byte| *byte = byte.saturating_sub(253));
         }
-        assert!(!world.all_calls(&record, random));
+        valid += usize::from(world.all_calls(&record, random));
     }
+    assert!(valid < 5, "{} of 2,000 can be a session's", valid);
 }

