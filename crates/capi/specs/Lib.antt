@@ -1,3 +1,1 @@
 pub mod Exported
-pub mod Panel
-pub mod Stored

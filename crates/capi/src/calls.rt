@@ -117,7 +117,7 @@ pub extern "C" fn whatif_branch_check(
 }
 
 // 1 for yes, 0 for no.
-pub fn bit(b: bool) -> u32
+fn bit(b: bool) -> u32
     ensures { λ r. ⌜ r ≡ bitOf b ⌝ }
 {
     if b { 1 } else { 0 }

@@ -7,10 +7,10 @@
 --     record-written              the first 13 bytes and the four parts behind them
 --     record-read                 the fields as the code reads them
 -- Assumes nothing.
-use Prim.Native.Nat.{ℕ, _+_, _*_, _≤_}
+use Prim.Native.Nat.{ℕ, _+_, _*_}
 use mathlib.Core.Path.{_≡_, refl, sym, ap, _∙_}
 use mathlib.Core.Bool.{Bool, true, false, not, cond, _&&_}
-use mathlib.Core.List.{List, [], _∷_, _++_, append-assoc, append-nil}
+use mathlib.Core.List.{List, _∷_, _++_, append-assoc, append-nil}
 use native.Mathlib.Omega.{arith}
 use lib.Dec.{leb, eqb}
 use lib.ListN.{length, getD, take, drop, set, length-append, drop-of-length-le}
@@ -22,7 +22,8 @@ use Rattle.session.specs.declared.state.Phase.{Phase}
 use Rattle.session.specs.declared.state.Session.{Session}
 use Rattle.session.specs.Records.{valid}
 use Rattle.records.proofs.NumberLaws.{bytes16-length}
-use Rattle.records.specs.Layout.{le16, numbers16, bytes16, phaseByte, phaseAt, yesByte, headBytes, run, encoded, decoded, laidOut, validBytes, InTypes}
+use Rattle.records.specs.Layout.{le16, numbers16, bytes16, phaseByte, phaseAt, yesByte, headBytes, encoded}
+use Rattle.records.specs.Layout.{run, decoded, laidOut, validBytes, InTypes}
 
 module _ (b : List ℕ) where
   pub laid-short : (length b ≡ 967 → ⊥) → false ≡ laidOut b
@@ -44,7 +45,8 @@ module _ (b : List ℕ) where
   pub valid-laid : (r : Bool) → r ≡ laidOut b → not r ≡ false → length b ≡ 967
   valid-laid r e f = laid-length (sym e ∙ not-false r f)
 
-  pub valid-test : (r q : Bool) (s : Session) → r ≡ laidOut b → not r ≡ false → s ≡ decoded b → q ≡ valid s → q ≡ validBytes b
+  pub valid-test : (r q : Bool) (s : Session) → r ≡ laidOut b → not r ≡ false → s ≡ decoded b → q ≡ valid s
+      → q ≡ validBytes b
   unfolding validBytes
   valid-test r q s e f g h = rw (← e, not-false r f, ← g) h
 
@@ -52,7 +54,8 @@ module _ (out : List ℕ) (s : Session) where
   pub encode-other : (length out ≡ 967 → ⊥) → out ≡ cond (eqb (length out) 967) (encoded s) out
   encode-other h = rw (ne-eqb (length out) 967 h)
 
-  pub encode-done : (after : List ℕ) → length out ≡ 967 → after ≡ encoded s → after ≡ cond (eqb (length out) 967) (encoded s) out
+  pub encode-done : (after : List ℕ) → length out ≡ 967 → after ≡ encoded s
+      → after ≡ cond (eqb (length out) 967) (encoded s) out
   encode-done after h e = rw (eq-eqb (length out) 967 h) e
 
 sets-all : (out vs : List ℕ) → length out ≡ length vs → sets out 0 vs ≡ vs
@@ -61,8 +64,8 @@ sets-all out vs e =
     ∙ (ap (λ (t : List ℕ). vs ++ t) (drop-of-length-le out {i = 0 + length vs} (omega arith)) ∙ append-nil vs)
 
 -- the state and the yes or no as told by the functions that number them
-pub head-written : (out : List ℕ) (s : Session) (p y : ℕ) → length out ≡ 13 → p ≡ phaseByte (s .phase) → y ≡ yesByte (s .yes)
-    → sets out 0 (p ∷ y ∷ drop 2 (headBytes s)) ≡ headBytes s
+pub head-written : (out : List ℕ) (s : Session) (p y : ℕ) → length out ≡ 13 → p ≡ phaseByte (s .phase)
+    → y ≡ yesByte (s .yes) → sets out 0 (p ∷ y ∷ drop 2 (headBytes s)) ≡ headBytes s
 head-written out s p y e f g = rw (← f, ← g) (sets-all out (p ∷ y ∷ drop 2 (headBytes s)) e)
 
 -- p stands before place a; k bytes ys go behind it
@@ -95,14 +98,15 @@ record-written o s h n l r t e z eh en el er et =
     let l₂ = joined (h ++ n) l 141 64 (joined h n 13 128 lh ln) ll in
     let x₃ = part-written (put 141 64 (put 13 128 (h ++ drop 13 o) n) l) ((h ++ n) ++ l) o r 205 508 x₂ l₂ in
     let l₃ = joined ((h ++ n) ++ l) r 205 508 l₂ lr in
-    let x₄ = part-written (put 205 508 (put 141 64 (put 13 128 (h ++ drop 13 o) n) l) r) (((h ++ n) ++ l) ++ r) o t 713 254 x₃ l₃ in
+    let y = put 205 508 (put 141 64 (put 13 128 (h ++ drop 13 o) n) l) r in
+    let x₄ = part-written y (((h ++ n) ++ l) ++ r) o t 713 254 x₃ l₃ in
     x₄
     ∙ (ap (λ (u : List ℕ). ((((h ++ n) ++ l) ++ r) ++ t) ++ u) (drop-of-length-le o {i = 967} (omega arith))
     ∙ (append-nil ((((h ++ n) ++ l) ++ r) ++ t) ∙ (regrouped h n l r t ∙ rw (eh, en, el, er, et))))
 
 pub record-read : (b : List ℕ) (p : Phase) (n links : ℕ) (nodes labels roots states : List ℕ) → p ≡ phaseAt (getD b 0 0)
-    → n ≡ le16 b 4 → links ≡ le32 b 9 → nodes ≡ numbers16 (run 13 128 b) → labels ≡ run 141 64 b → roots ≡ numbers16 (run 205 508 b)
-    → states ≡ run 713 254 b
+    → n ≡ le16 b 4 → links ≡ le32 b 9 → nodes ≡ numbers16 (run 13 128 b) → labels ≡ run 141 64 b
+    → roots ≡ numbers16 (run 205 508 b) → states ≡ run 713 254 b
     → _≡_ {A = Session} (record {
       phase = p;
       yes = eqb (getD b 1 0) 1;

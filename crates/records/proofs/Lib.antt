@@ -4,3 +4,4 @@ pub mod RunLaws
 pub mod ByteTests
 pub mod Theorems
 pub mod Types
+pub mod Controls

@@ -5,9 +5,9 @@
 -- Each keeps: the part that is done as the definition has it, and behind it what was there.
 -- Assumes nothing.
 use Prim.Native.Nat.{ℕ, suc, _+_, _*_, _/_, _%_, _≤_, _<_}
-use mathlib.Core.Path.{_≡_, refl, sym, ap, _∙_}
+use mathlib.Core.Path.{_≡_, refl, ap, _∙_}
 use mathlib.Core.List.{List, [], _∷_, _++_, append-assoc, append-nil}
-use native.Mathlib.Nat.{zero-add, suc-add}
+use native.Mathlib.Nat.{suc-add}
 use native.Mathlib.Numerals.{add-one}
 use native.Mathlib.Omega.{arith}
 use lib.ListN.{length, getD, take, drop, set, length-drop, drop-of-length-le}
@@ -38,7 +38,8 @@ copy-end s d₀ d i h e o = whole d (take i s) d₀ i (omega arith) o ∙ take-a
 
 -- ---- the bytes of numbers
 
-two-at : (p l : List ℕ) (n a b : ℕ) → length p ≡ n → 2 ≤ length l → set (set (p ++ l) n a) (n + 1) b ≡ p ++ (a ∷ b ∷ drop 2 l)
+two-at : (p l : List ℕ) (n a b : ℕ) → length p ≡ n → 2 ≤ length l
+    → set (set (p ++ l) n a) (n + 1) b ≡ p ++ (a ∷ b ∷ drop 2 l)
 two-at [] [] n a b e h = absurd (let z : 2 ≤ 0 = h in omega arith)
 two-at [] (x ∷ []) n a b e h = absurd (let z : 2 ≤ 1 = h in omega arith)
 two-at [] (x ∷ y ∷ l) n a b e h = rw (← e)
@@ -66,8 +67,8 @@ put-turn s d₀ d i a b h e f g o =
       append-assoc,
     )
 
-pub put-end : (s d₀ d : List ℕ) (i : ℕ) → length s ≤ i → length d₀ ≡ 2 * length s → d ≡ bytes16 (take i s) ++ drop (2 * i) d₀
-    → d ≡ bytes16 s
+pub put-end : (s d₀ d : List ℕ) (i : ℕ) → length s ≤ i → length d₀ ≡ 2 * length s
+    → d ≡ bytes16 (take i s) ++ drop (2 * i) d₀ → d ≡ bytes16 s
 put-end s d₀ d i h e o = whole d (bytes16 (take i s)) d₀ (2 * i) (omega arith) o ∙ ap bytes16 (take-all i s h)
 
 -- ---- the numbers of bytes

@@ -43,7 +43,8 @@ pub firsts-then : (b : List ℕ) (n i : ℕ) → i + n ≤ length b → drop i b
 unfolding firsts
 firsts-then b zero i h = rw add-zero
 firsts-then b (suc n) i h =
-    drop-cons b i 0 (omega arith) ∙ ap (λ (t : List ℕ). getD b i 0 ∷ t) (firsts-then b n (suc i) (omega arith) ∙ rw (add-suc, suc-add))
+    drop-cons b i 0 (omega arith)
+    ∙ ap (λ (t : List ℕ). getD b i 0 ∷ t) (firsts-then b n (suc i) (omega arith) ∙ rw (add-suc, suc-add))
 
 pub head-same : (a b m q h : ℕ) (p y p′ y′ : ℕ) (u v u′ v′ : List ℕ) → p ≡ p′ → y ≡ y′ → u ≡ u′ → v ≡ v′
     → p ∷ y ∷ a ∷ b ∷ (u ++ (m ∷ q ∷ h ∷ v)) ≡ p′ ∷ y′ ∷ a ∷ b ∷ (u′ ++ (m ∷ q ∷ h ∷ v′))

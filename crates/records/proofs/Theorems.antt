@@ -1,6 +1,6 @@
 -- The record's bytes and the bytes' record are each other's.
 --     decode-encode       the struct of a struct's bytes is the struct, whatever its types allow
---     encode-decode       the bytes of a record's struct are the record
+--     encode-decode       the bytes of the struct of a record are the record; encode-laid: of any bytes that are laid out
 --     encoded-length      967 bytes, each below 256 (encoded-bytes)
 --     fresh-bytes         a fresh session's bytes are 967 zeros, and fresh-valid: they are a record
 --     encoded-valid       the bytes of a valid struct are a record
@@ -22,12 +22,13 @@ use Rattle.formats.proofs.PartLaws.{length-part}
 use Rattle.formats.proofs.CheckLaws.{and-left, and-right, and-both}
 use Rattle.session.specs.declared.state.Session.{Session}
 use Rattle.session.specs.Records.{zeroFrom, noQuestion, validIn, valid, freshSession}
-use Rattle.records.specs.Layout.{numbers16, bytes16, phaseByte, yesByte, headBytes, restBytes, encoded, run, decoded}
-use Rattle.records.specs.Layout.{laidOut, validBytes, InTypes, Bytes}
-use Rattle.records.proofs.NumberLaws.{bytes-two, two-bytes, bytes16-length, numbers16-length, numbers-bytes, bytes-numbers}
-use Rattle.records.proofs.NumberLaws.{bytes16-fit, numbers16-fit}
-use Rattle.records.proofs.RunLaws.{behind, first-run, run-then, firsts, firsts-then, head-same, cons-fits, append-fits, run-fits}
-use Rattle.records.proofs.RunLaws.{le32-fit, phase-again, yes-again, phase-most, yes-most, phase-number, yes-number}
+use Rattle.records.specs.Layout.{numbers16, bytes16, phaseByte, yesByte, headBytes, restBytes, encoded}
+use Rattle.records.specs.Layout.{run, decoded, laidOut, validBytes, InTypes, Bytes}
+use Rattle.records.proofs.NumberLaws.{bytes-two, two-bytes, bytes16-length, numbers16-length}
+use Rattle.records.proofs.NumberLaws.{numbers-bytes, bytes-numbers, bytes16-fit, numbers16-fit}
+use Rattle.records.proofs.RunLaws.{behind, first-run, run-then, firsts, firsts-then, head-same}
+use Rattle.records.proofs.RunLaws.{cons-fits, append-fits, run-fits, le32-fit}
+use Rattle.records.proofs.RunLaws.{phase-again, yes-again, phase-most, yes-most, phase-number, yes-number}
 use Rattle.records.proofs.ByteTests.{laid-length, record-read}
 
 -- ---- the struct of a struct's bytes
@@ -80,7 +81,8 @@ module _ (s : Session) (t : InTypes s) where
   unfolding encoded
   decode-encode =
       sym
-      (record-read (encoded s) (s .phase) (s .n) (s .links) (s .nodes) (s .labels) (s .roots) (s .states) (sym (phase-again (s .phase)))
+      (record-read (encoded s) (s .phase) (s .n) (s .links) (s .nodes) (s .labels) (s .roots) (s .states)
+      (sym (phase-again (s .phase)))
       (sym (bytes-two (s .n) (t .n-fits))) (sym (bytes-number (s .links) (t .links-fit)))
       (sym (ap numbers16 encoded-nodes ∙ numbers-bytes (s .nodes) (t .nodes-fit)))
       (sym encoded-labels)
@@ -96,7 +98,8 @@ module _ (s : Session) (t : InTypes s) where
 
   pub encoded-valid : valid s ≡ true → validBytes (encoded s) ≡ true
   unfolding validBytes
-  encoded-valid v = and-both (laidOut (encoded s)) (valid (decoded (encoded s))) encoded-laid (ap valid decode-encode ∙ v)
+  encoded-valid v =
+      and-both (laidOut (encoded s)) (valid (decoded (encoded s))) encoded-laid (ap valid decode-encode ∙ v)
 
   head-fits : Bytes (headBytes s)
   head-fits =
@@ -145,7 +148,8 @@ module _ (b : List ℕ) where
     head-again : getD b 0 0 ≤ 3 → getD b 1 0 ≤ 1 → headBytes (decoded b) ≡ firsts 13 0 b
     unfolding decoded firsts
     head-again p y =
-        head-same _ _ _ _ _ _ _ _ _ _ _ _ _ (phase-number (getD b 0 0) p) (yes-number (getD b 1 0) y) (two-bytes (getD b 4 0) (getD b 5 0) (fits 4) (fits 5))
+        head-same _ _ _ _ _ _ _ _ _ _ _ _ _ (phase-number (getD b 0 0) p) (yes-number (getD b 1 0) y)
+        (two-bytes (getD b 4 0) (getD b 5 0) (fits 4) (fits 5))
         (number-bytes (getD b 9 0) (getD b 10 0) (getD b 11 0) (getD b 12 0) (fits 9) (fits 10) (fits 11) (fits 12))
 
     rest-again : restBytes (decoded b) ≡ drop 13 b
@@ -160,13 +164,14 @@ module _ (b : List ℕ) where
         )
         (run-then b 13 128)
 
-    encode-laid : laidOut b ≡ true → encoded (decoded b) ≡ b
+    pub encode-laid : laidOut b ≡ true → encoded (decoded b) ≡ b
     unfolding laidOut encoded
     encode-laid e =
         let q = and-right (eqb (length b) 967) (leb (getD b 0 0) 3 && leb (getD b 1 0) 1) e in
         let p = leb-true (getD b 0 0) 3 (and-left (leb (getD b 0 0) 3) (leb (getD b 1 0) 1) q) in
         let y = leb-true (getD b 1 0) 1 (and-right (leb (getD b 0 0) 3) (leb (getD b 1 0) 1) q) in
-        ap (λ (h : List ℕ). h ++ restBytes (decoded b)) (head-again p y) ∙ ap (λ (r : List ℕ). firsts 13 0 b ++ r) rest-again
+        ap (λ (h : List ℕ). h ++ restBytes (decoded b)) (head-again p y)
+        ∙ ap (λ (r : List ℕ). firsts 13 0 b ++ r) rest-again
         ∙ sym (firsts-then b 13 0 (omega arith))
 
   pub encode-decode : validBytes b ≡ true → Bytes b → encoded (decoded b) ≡ b

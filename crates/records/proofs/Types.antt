@@ -1,7 +1,5 @@
 -- What a struct's types say, from what the prover knows of every struct that code holds.
 -- Assumes nothing.
-use Prim.Native.Nat.{ℕ, _<_}
-use mathlib.Core.Path.{_≡_}
 use native.Mathlib.Omega.{arith}
 use lib.ListN.{length, getD}
 use denote.Laws.{Is}

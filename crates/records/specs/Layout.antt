@@ -19,14 +19,14 @@
 -- numbers16 b == the 16-bit numbers that b holds, two bytes each; an odd byte at the end is left out
 -- bytes16 l == the bytes of the numbers l, two each
 -- encoded s == the bytes of a struct: headBytes s, the first 13, and restBytes s
--- decoded b == the struct of bytes, each field read at its offset; a byte past the end counts 0, a state above 3 as answered, and
---   only 1 as yes
+-- decoded b == the struct of bytes, each field read at its offset; a byte past the end counts 0, a state above 3 as
+--   answered, and only 1 as yes
 -- laidOut b == whether there are 967 bytes, the state is at most 3 and the yes or no at most 1
 -- validBytes b == whether b is a record: laid out, and its struct is valid (crate session, Records)
 -- InTypes s == what the struct's types say of its fields; Bytes b == what the type of bytes says of theirs
 --
--- "the record crosses as bytes, whose layout stands in docs/, and bytes that break it get 1": the table above is that of
--- docs/LAYOUT.md, "The record".
+-- "the record crosses as bytes, whose layout stands in docs/, and bytes that break it get 1": the table above is that
+-- of docs/LAYOUT.md, "The record".
 -- Order: numbers, states, the struct's bytes, the bytes' struct, tests. The laws stand in proofs/.
 -- Assumes nothing.
 use Prim.Native.Nat.{ℕ, _+_, _*_, _/_, _%_, _<_}

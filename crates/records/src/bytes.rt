@@ -10,7 +10,8 @@ ghost use mathlib.Core.Path.{_≡_};
 ghost use mathlib.Core.Bool.{cond};
 ghost use lib.Dec.{eqb};
 ghost use lib.ListN.{length};
-ghost use Rattle.records.specs.Layout.{recordLength, phaseByte, phaseAt, yesByte, headBytes, encoded, decoded, laidOut, validBytes};
+ghost use Rattle.records.specs.Layout.{recordLength, phaseByte, phaseAt, yesByte, headBytes, encoded};
+ghost use Rattle.records.specs.Layout.{decoded, laidOut, validBytes};
 
 // The number of a state.
 fn phase_byte(phase: Phase) -> u8
@@ -112,7 +113,8 @@ fn put_record(rec: Session, out: &mut [u8])
 
 // The bytes of a record. A buffer that has not 967 bytes is left as it is.
 pub fn encode(rec: Session, out: &mut [u8])
-    ensures { λ _. ⌜ now (out .exit) ≡ cond (eqb (length (now (out .entry))) recordLength) (encoded rec) (now (out .entry)) ⌝ }
+    ensures { λ _. ⌜
+        now (out .exit) ≡ cond (eqb (length (now (out .entry))) recordLength) (encoded rec) (now (out .entry)) ⌝ }
 {
     if out.len() != 967 {
         return;

@@ -1,7 +1,7 @@
 // Runs of bytes and of numbers of two bytes. There is no early exit: the loops can be done many numbers at a time.
 use formats::bytes::read32;
 ghost use mathlib.Core.Path.{_≡_};
-ghost use Prim.Native.Nat.{ℕ, _+_, _*_, _/_, _%_, _≤_, _<_};
+ghost use Prim.Native.Nat.{_+_, _*_, _/_, _%_, _≤_, _<_};
 ghost use lib.ListN.{length};
 ghost use Rattle.records.specs.Layout.{le16, numbers16, bytes16};
 ghost use Rattle.formats.specs.Bytes.{le32};

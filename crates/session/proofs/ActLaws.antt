@@ -231,7 +231,8 @@ module _ (r : Record) (H : Holds r) where
           }
 
       advance-holds : (b : Bool) → eqb (suc (length (r .states))) (length (r .roots)) ≡ b → (w : Bool)
-          → Holds (cond b (acted calls.Answer.finished (stepped r calls.Phase.answered y w)) (acted calls.Answer.more (stepped r calls.Phase.running y false)) .record′)
+          → Holds (cond b (acted calls.Answer.finished (stepped r calls.Phase.answered y w))
+          (acted calls.Answer.more (stepped r calls.Phase.running y false)) .record′)
       unfolding stepped
       advance-holds true t w =
           let l : length (r .states ++ (y .state ∷ [])) ≡ length (r .states) + 1 = length-append (r .states)

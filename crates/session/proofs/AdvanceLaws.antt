@@ -36,7 +36,7 @@ use Rattle.session.specs.declared.answers.Advanced.{Advanced}
 use Rattle.session.specs.Records.{phaseOf, phaseTo, sizesOf, recordOf, sessionOf, risesTo, valid}
 use Rattle.session.specs.Promises.{CallDone, advancingAnswer}
 use Rattle.session.specs.Tests.{Shaped}
-use Rattle.session.specs.Steps.{NextArgs, HandleArgs, marksIn, steppedOf, handledBy}
+use Rattle.session.specs.Steps.{NextArgs, HandleArgs, markedIn, steppedOf, handledBy}
 use Rattle.session.proofs.PadLaws.{padded-take, padded-more}
 use Rattle.session.proofs.RecordLaws.{Tails}
 use Rattle.session.proofs.Holds.{Sized, Going, holds-of, tails-of, struct-is}
@@ -45,14 +45,14 @@ use Rattle.session.proofs.CallLaws.{unless-done, refused-done, proceeds
 
 -- the mark of a state, where the code reads it
 pub mark-at : (rules : List ℕ) (s k p q : ℕ) → p ≡ s * k * s → q < s
-    → eqb (getD rules (20 + k + p + q) 0) 1 ≡ eqb (getD (marksIn s k rules) q 0) 1
+    → eqb (getD rules (20 + k + p + q) 0) 1 ≡ markedIn s k rules q
 mark-at rules s k p q e h =
     rw (e, getD-take s (drop (20 + k + s * k * s) rules) q 0 h, getD-drop (20 + k + s * k * s) rules q 0)
 
 -- the last part, and any other
 module _ (s : Session) (rules : List ℕ) (q l : ℕ) (t : Session) where
   pub handled-last : s .handled + 1 ≡ s .parts → (y : Bool) → t ≡ steppedOf s Answered q l y
-      → y ≡ eqb (getD (marksIn (s .s) (s .k) rules) q 0) 1
+      → y ≡ markedIn (s .s) (s .k) rules q
       → _≡_ {A = Advanced} (record { told = Finished; rec = t }) (handledBy s rules q l)
   unfolding handledBy
   handled-last e y f g = rw (eq-eqb (s .handled + 1) (s .parts) e, f, g)
@@ -149,13 +149,13 @@ module _ (s : Session) (h : Shaped s) (x : Lent) (b : Bool) (may : b ≡ (valid 
     abbrev byCode : Reached → Bool → Advanced
     byCode y d =
         cond d
-        (record { told = Finished; rec = steppedOf s Answered (y .state) (y .links) (eqb (getD (marksIn (s .s) (s .k) (x .rules)) (y .state) 0) 1) })
+        (record { told = Finished; rec = steppedOf s Answered (y .state) (y .links) (markedIn (s .s) (s .k) (x .rules) (y .state)) })
         (record { told = More; rec = steppedOf s Running (y .state) (y .links) false })
 
     abbrev byModel : Reached → Bool → Acted
     byModel y d =
         cond d
-        (acted calls.Answer.finished (stepped (recordOf s) calls.Phase.answered y (eqb (getD (marksIn (s .s) (s .k) (x .rules)) (y .state) 0) 1)))
+        (acted calls.Answer.finished (stepped (recordOf s) calls.Phase.answered y (markedIn (s .s) (s .k) (x .rules) (y .state))))
         (acted calls.Answer.more (stepped (recordOf s) calls.Phase.running y false))
 
     same-step : (y : Reached) (d : Bool) → (advancingAnswer (byCode y d .told) ≡ byModel y d .answer)
@@ -163,7 +163,7 @@ module _ (s : Session) (h : Shaped s) (x : Lent) (b : Bool) (may : b ≡ (valid 
     unfolding advancingAnswer phaseTo
     same-step y true = (
       refl,
-      sym (stepped-struct s h T few-handled calls.Phase.answered y (eqb (getD (marksIn (s .s) (s .k) (x .rules)) (y .state) 0) 1)),
+      sym (stepped-struct s h T few-handled calls.Phase.answered y (markedIn (s .s) (s .k) (x .rules) (y .state))),
     )
     same-step y false = (refl, sym (stepped-struct s h T few-handled calls.Phase.running y false))
 

@@ -166,12 +166,12 @@ module _ (s : Session) (h : Shaped s) (x : Lent) (vs bs : List ℕ) (b : Bool)
                           (one .1) (list-is .most),
                     )
 
-                pub start-yes : (t : Session) → t ≡ startedOf (s .n) (s .s) (s .k) vs bs (R .count) (R .nodes)
+                pub start-yes : (t : Session) → t ≡ startedOf s vs bs (R .count) (R .nodes)
                     → CallDone s C (startingAnswer (Parts (R .count))) t
                 unfolding startingAnswer startWith started sessionOf phaseTo recordOf
                 start-yes t e =
                     let k : R .count ≡ length (one .0) = ap (λ (z : Rooted). z .count) (one .2) in
                     let l : R .nodes ≡ padded 254 (one .0) = ap (λ (z : Rooted). z .nodes) (one .2) in
                     acts (some (one .0)) (one .1) (calls.Answer.parts (R .count)) t (ap calls.Answer.parts k)
-                    (e ∙ ap (λ (i : ℕ). startedOf (s .n) (s .s) (s .k) vs bs i (R .nodes)) k
-                    ∙ ap (λ (z : List ℕ). startedOf (s .n) (s .s) (s .k) vs bs (length (one .0)) z) l)
+                    (e ∙ ap (λ (i : ℕ). startedOf s vs bs i (R .nodes)) k
+                    ∙ ap (λ (z : List ℕ). startedOf s vs bs (length (one .0)) z) l)

@@ -1,11 +1,11 @@
 -- The structs that Start and advance make, field by field.
 --
 -- ListArgs vs bs == two lists of one length that fit the record
--- startedOf n s k vs bs parts roots == a running session with its question and no part handled
+-- startedOf s vs bs parts roots == session s in running with this question and no part handled
 -- steppedOf s p q l y == session s in state p with one more part handled, of state q and l links, and the yes or no y
 -- NextArgs s == the counts are within the arrays
 -- StepArgs s l == there is room for one more state, and the links fit
--- marksIn s k rules == the accept marks by S and K; MarkArgs rules s k q == the rules' length is exact, and q is a state
+-- marksIn s k rules == the accept marks by S and K; markedIn s k rules q == whether that of state q is 1; MarkArgs rules s k q == the rules' length is exact, and q is a state
 -- handledBy s rules q l == what an advance leaves and tells where the part's state is q and its links are l; HandleArgs what it asks
 --
 -- Assumes nothing.
@@ -27,13 +27,13 @@ pub record ListArgs (vs bs : List ℕ) : Type 0 where
   pub few : length vs ≤ 64
   pub few-labels : length bs ≤ 64
 
-abbrev pub startedOf : ℕ → ℕ → ℕ → List ℕ → List ℕ → ℕ → List ℕ → Session
-startedOf n s k vs bs parts roots = record {
+abbrev pub startedOf : Session → List ℕ → List ℕ → ℕ → List ℕ → Session
+startedOf s vs bs parts roots = record {
   phase = Running;
   yes = false;
-  n = n;
-  s = s;
-  k = k;
+  n = s .n;
+  s = s .s;
+  k = s .k;
   m = length vs;
   parts = parts;
   handled = 0;
@@ -79,6 +79,9 @@ pub record MarkArgs (rules : List ℕ) (s k q : ℕ) : Type 0 where
 abbrev pub marksIn : ℕ → ℕ → List ℕ → List ℕ
 marksIn s k rules = take s (drop (20 + k + s * k * s) rules)
 
+abbrev pub markedIn : ℕ → ℕ → List ℕ → ℕ → Bool
+markedIn s k rules q = eqb (getD (marksIn s k rules) q 0) 1
+
 pub record HandleArgs (s : Session) (rules : List ℕ) (q l : ℕ) : Type 0 where
   pub marks : MarkArgs rules (s .s) (s .k) q
   pub step : StepArgs s l
@@ -86,5 +89,5 @@ pub record HandleArgs (s : Session) (rules : List ℕ) (q l : ℕ) : Type 0 wher
 unfoldable pub handledBy : Session → List ℕ → ℕ → ℕ → Advanced
 handledBy s rules q l =
     cond (eqb (s .handled + 1) (s .parts))
-    (record { told = Finished; rec = steppedOf s Answered q l (eqb (getD (marksIn (s .s) (s .k) rules) q 0) 1) })
+    (record { told = Finished; rec = steppedOf s Answered q l (markedIn (s .s) (s .k) rules q) })
     (record { told = More; rec = steppedOf s Running q l false })

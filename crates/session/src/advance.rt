@@ -9,13 +9,12 @@ use questions::climb::Climbed;
 use questions::fits::lengths_fit;
 use questions::part::part;
 ghost use mathlib.Core.Path.{_≡_};
-ghost use lib.Dec.{eqb};
-ghost use lib.ListN.{take, getD};
+ghost use lib.ListN.{take};
 ghost use Rattle.questions.specs.PartTold.{toldReached, partGiven};
 ghost use Rattle.book.specs.Calls as calls;
 ghost use Rattle.session.specs.Promises.{CallDone, advancingAnswer};
 ghost use Rattle.session.specs.Tests.{lentOf};
-ghost use Rattle.session.specs.Steps.{NextArgs, StepArgs, MarkArgs, HandleArgs, marksIn, steppedOf, handledBy};
+ghost use Rattle.session.specs.Steps.{NextArgs, StepArgs, MarkArgs, HandleArgs, markedIn, steppedOf, handledBy};
 
 // The part that comes next: with the record's lists, without the zeros behind them.
 fn next_part(s: Session, plan: &[u8], rules: &[u8], nums: &[u16], bytes: &[u8]) -> Climbed
@@ -50,7 +49,7 @@ fn next_part(s: Session, plan: &[u8], rules: &[u8], nums: &[u16], bytes: &[u8]) 
 // Whether the mark of state q is 1.
 fn is_marked(rules: &[u8], s: usize, k: usize, q: usize) -> bool
     requires { ⌜ MarkArgs (now rules) s k q ⌝ }
-    ensures { λ r. ⌜ r ≡ eqb (getD (marksIn s k (now (rules .entry))) q 0) 1 ⌝ }
+    ensures { λ r. ⌜ r ≡ markedIn s k (now (rules .entry)) q ⌝ }
 {
     rules[20 + k + inner_count(s, k) + q] == 1
 }

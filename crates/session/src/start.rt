@@ -16,34 +16,28 @@ ghost use Rattle.session.specs.Tests.{lentOf};
 ghost use Rattle.session.specs.Steps.{ListArgs, startedOf};
 
 // A running session with its question and no part handled. Nothing of an earlier question is left.
-fn started(
-    n: u16,
-    s: u8,
-    k: u8,
-    nodes: &[u16],
-    labels: &[u8],
-    parts: u8,
-    roots: [u16; 254],
-) -> Session
+fn started(s: Session, nodes: &[u16], labels: &[u8], parts: u8, roots: [u16; 254]) -> Session
     requires { ⌜ ListArgs (now nodes) (now labels) ⌝ }
-    ensures { λ r. ⌜ r ≡ startedOf n s k (now (nodes .entry)) (now (labels .entry)) parts roots ⌝ }
+    ensures { λ r. ⌜ r ≡ startedOf s (now (nodes .entry)) (now (labels .entry)) parts roots ⌝ }
 {
+    let states = [0u8; 254];
     let listed = padded_nodes(nodes);
     let changes = padded_labels(labels);
+    let m = nodes.len() as u8;
     Session {
         phase: Phase::Running,
         yes: false,
-        n,
-        s,
-        k,
-        m: nodes.len() as u8,
+        n: s.n,
+        s: s.s,
+        k: s.k,
+        m,
         parts,
         handled: 0,
         links: 0,
         nodes: listed,
         labels: changes,
         roots,
-        states: [0u8; 254],
+        states,
     }
 }
 
@@ -95,7 +89,7 @@ impl Session {
         }
         let count = found.count as u8;
         let parts = found.nodes;
-        let rec = started(self.n, self.s, self.k, nodes, labels, count, parts);
+        let rec = started(self, nodes, labels, count, parts);
         Started {
             told: Starting::Parts(count),
             rec,

@@ -1,4 +1,3 @@
-use native.Mathlib.Omega.{arith}
 use Rattle.records.proofs.ByteTests.{record-read}
 use borrow.Author.Needs.{needs}
 use Rattle.records.proofs.bytes.decode.Statement.{statement}
@@ -103,11 +102,15 @@ number32-requires c κs = search needs
 
 returns : tie.Need-returns
 returns c =
-    let e = c .before .before .before .before .before .before .before .before in
-    let l = c .before .before .before .before .before .before .before .before .before .before in
-    let n = l .before .before .before .before .before .before .before .before .before in
-    record-read (n .before .before .before .before .before .before .before .before .args .bytes .now) (e .phase-at .result) (c .before .before .before .before .before .before .number16 .result) (c .number32 .result) _ _ _ _ (e .phase-at .ensures) (c .before .before .before .before .before .before .number16 .ensures) (c .number32 .ensures)
-    (n .before .before .before .before .get-numbers .ensures) (n .copy-bytes .ensures) (l .before .before .before .before .before .get-numbers2 .ensures) (l .before .copy-bytes2 .ensures)
+    let n = c .before .before .before .before .before .before in
+    let p = n .before .before in
+    let r₄ = p .before .before .before in
+    let r₃ = r₄ .before .before .before .before in
+    let r₂ = r₃ .before .before .before .before in
+    let r₁ = r₂ .before .before .before .before in
+    record-read (r₁ .before .before .before .before .args .bytes .now) (p .phase-at .result) (n .number16 .result)
+    (c .number32 .result) _ _ _ _ (p .phase-at .ensures) (n .number16 .ensures) (c .number32 .ensures)
+    (r₁ .get-numbers .ensures) (r₂ .copy-bytes .ensures) (r₃ .get-numbers2 .ensures) (r₄ .copy-bytes2 .ensures)
 
 pub decode-spec : {M : Type 1} → statement M
 decode-spec =

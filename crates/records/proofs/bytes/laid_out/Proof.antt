@@ -1,4 +1,3 @@
-use native.Mathlib.Omega.{arith}
 use Rattle.records.proofs.ByteTests.{laid-short, laid-test}
 use borrow.Author.Needs.{needs}
 use Rattle.records.proofs.bytes.laid_out.Statement.{statement}

@@ -77,8 +77,10 @@ same-length c = simp length-set
 
 returns : tie.Need-returns
 returns c =
-    let a = c .before .before .before .before .before .before .before .before .before .args in
-    head-written (a .out .now) (a .rec) _ _ (omega arith) (c .before .before .before .before .before .before .before .phase-byte .ensures) (c .before .before .before .before .before .before .yes-byte .ensures)
+    let y = c .before .before .before .before .before .before in
+    let p = y .before in
+    let s = p .before .before in
+    head-written (s .args .out .now) (s .args .rec) _ _ (s .pre) (p .phase-byte .ensures) (y .yes-byte .ensures)
 
 pub put-head-spec : {M : Type 1} → statement M
 put-head-spec =

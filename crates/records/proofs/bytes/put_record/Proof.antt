@@ -74,10 +74,15 @@ same-length c = search needs
 
 returns : tie.Need-returns
 returns c =
-    let a = c .before .before .before .before .before .before .before .before .before .before .before .before .before .before .before .before .before .before .before .before .before .before .before .before .before .before .before .before .before .before .before .before .before in
-    let h = c .before .before .before .before .before .before .before .before .before .before .before .before .before .before .before .before .before .before .before .before .before .before .before .before .before .before .before .before .before .before in
-    record-written (a .args .out .now) (a .args .t1) _ _ _ _ _ (a .pre) (in-types (a .args .t1) (a .good .0)) (h .put-head .ensures)
-    (c .before .before .before .before .before .before .before .before .before .before .before .before .before .before .before .before .before .before .before .before .before .before .before .put-numbers .ensures) (c .before .before .before .before .before .before .before .before .before .before .before .before .before .before .before .before .copy-bytes .ensures) (c .before .before .before .before .before .before .before .before .before .put-numbers2 .ensures) (c .before .before .copy-bytes2 .ensures)
+    let p₅ = c .before .before in
+    let p₄ = p₅ .before .before .before .before .before .before .before in
+    let p₃ = p₄ .before .before .before .before .before .before .before in
+    let p₂ = p₃ .before .before .before .before .before .before .before in
+    let p₁ = p₂ .before .before .before .before .before .before .before in
+    let a = p₁ .before .before .before in
+    record-written (a .args .out .now) (a .args .t1) _ _ _ _ _ (a .pre) (in-types (a .args .t1) (a .good .0))
+    (p₁ .put-head .ensures) (p₂ .put-numbers .ensures) (p₃ .copy-bytes .ensures) (p₄ .put-numbers2 .ensures)
+    (p₅ .copy-bytes2 .ensures)
 
 pub put-record-spec : {M : Type 1} → statement M
 put-record-spec =

@@ -1,4 +1,3 @@
-use native.Mathlib.Omega.{arith}
 use Rattle.records.proofs.ByteTests.{valid-not, valid-laid, valid-test}
 use borrow.Author.Needs.{needs}
 use Rattle.records.proofs.bytes.valid_bytes.Statement.{statement}
@@ -16,13 +15,19 @@ returns : tie.Need-returns
 returns c = valid-not (c .before .before .before .args .bytes .now) _ (c .before .laid-out .ensures) (c .if1 .taken)
 
 decode-requires : tie.Need-decode-requires
-decode-requires c κs = valid-laid (c .before .before .before .args .bytes .now) _ (c .before .laid-out .ensures) (c .if1 .left)
+decode-requires c κs =
+    valid-laid (c .before .before .before .args .bytes .now) _ (c .before .laid-out .ensures) (c .if1 .left)
 
 valid-requires : tie.Need-valid-requires
 valid-requires c κs = search needs
 
 returns-2 : tie.Need-returns-2
-returns-2 c = valid-test (c .before .before .before .before .before .args .bytes .now) _ _ _ (c .before .before .before .laid-out .ensures) (c .before .before .if1 .left) (c .before .decode .ensures) (c .valid .ensures)
+returns-2 c =
+    let d = c .before in
+    let i = d .before in
+    let l = i .before in
+    valid-test (l .before .before .args .bytes .now) _ _ _ (l .laid-out .ensures) (i .if1 .left) (d .decode .ensures)
+    (c .valid .ensures)
 
 pub valid-bytes-spec : {M : Type 1} → statement M
 valid-bytes-spec =

@@ -1,8 +1,8 @@
-use Prim.Native.Nat.{_+_, _-_, _*_, _≤_, _<_}
-use mathlib.Core.Path.{_≡_, refl, sym, _∙_}
+use Prim.Native.Nat.{_+_, _-_, _*_, _≤_}
+use mathlib.Core.Path.{_≡_, refl}
 use mathlib.Core.List.{_++_}
 use native.Mathlib.Omega.{arith}
-use lib.ListN.{length, getD, take, drop, length-set}
+use lib.ListN.{length, take, drop, length-set}
 use Rattle.records.specs.Layout.{numbers16}
 use Rattle.records.proofs.NumberTurns.{get-turn, get-end}
 use borrow.Author.Needs.{needs}
@@ -47,7 +47,8 @@ loop-again c =
     let a = c .before .before .before .before .before .args in (
       search needs,
       simp length-set (omega arith),
-      get-turn (a .bytes .now) (a .out .now) (l .out) (l .i) (c .number16 .result) (omega arith) (omega arith) (c .number16 .ensures) (l .inv .2),
+      get-turn (a .bytes .now) (a .out .now) (l .out) (l .i) (c .number16 .result) (omega arith) (omega arith)
+          (c .number16 .ensures) (l .inv .2),
     )
 
 same-length : tie.Need-same-length Inv-loop μ-loop

@@ -1,5 +1,5 @@
 use Prim.Native.Nat.{_+_, _-_, _*_, _≤_, _<_}
-use mathlib.Core.Path.{_≡_, refl, sym, _∙_}
+use mathlib.Core.Path.{_≡_, refl}
 use mathlib.Core.List.{_++_}
 use native.Mathlib.Omega.{arith}
 use lib.ListN.{length, getD, take, drop, length-set}
@@ -68,7 +68,8 @@ loop-again c =
     let x : getD (a .numbers .now) (l .i) 0 < 65536 = omega (arith, c .shared-slice-known2 .given (l .i)) in (
       search needs,
       simp length-set (omega arith),
-      put-turn (a .numbers .now) (a .out .now) (l .out) (l .i) _ _ (omega arith) (omega arith) refl (omega arith) (l .inv .2),
+      put-turn (a .numbers .now) (a .out .now) (l .out) (l .i) _ _ (omega arith) (omega arith) refl (omega arith)
+          (l .inv .2),
     )
 
 same-length : tie.Need-same-length Inv-loop μ-loop

@@ -10,11 +10,11 @@ padded-nodes-requires c κs = search needs
 padded-labels-requires : tie.Need-padded-labels-requires
 padded-labels-requires c κs = search needs
 
-cast-t12 : tie.Need-cast-t12
-cast-t12 c = search needs
+cast-m : tie.Need-cast-m
+cast-m c = search needs
 
 returns : tie.Need-returns
 returns c = rw (c .before .padded-nodes .ensures, c .padded-labels .ensures)
 
 pub started-spec : {M : Type 1} → statement M
-started-spec = tie.close (tie.spec padded-nodes-requires padded-labels-requires cast-t12 returns)
+started-spec = tie.close (tie.spec padded-nodes-requires padded-labels-requires cast-m returns)

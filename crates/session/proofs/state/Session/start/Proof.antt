@@ -79,8 +79,10 @@ slice-aggregate-roots c =
     let k = t .before in
     let e = k .before .before .before .before in
     let m = e .before in
-    sym (length-take-le (of m .args .self .n * 4) (of m .args .nums .now) (start-room (of m .args .self) (shape (of m)) (lent (of m)) (of m .args .nodes .now) (of m .args .labels .now) _ (m .may-start .ensures)
-    (e .if1 .left) _ (k .lengths-fit .ensures) (t .if2 .left)))
+    let h =
+    start-room (of m .args .self) (shape (of m)) (lent (of m)) (of m .args .nodes .now) (of m .args .labels .now) _
+    (m .may-start .ensures) (e .if1 .left) _ (k .lengths-fit .ensures) (t .if2 .left) in
+    sym (length-take-le (of m .args .self .n * 4) (of m .args .nums .now) h)
 
 roots-requires : tie.Need-roots-requires
 roots-requires c κs = search needs
