@@ -176,6 +176,35 @@ fn limits_of_the_list() {
     assert!(matches!(panel.call(&Call::Read, random), Answer::Told(_)));
 }
 
+/// The three records that docs/LAYOUT.md shows: after Load, after Start of 0→0, after two advances.
+#[test]
+fn the_records_of_the_layout_page() {
+    let random = &mut Random::new(1209);
+    let page = std::fs::read_to_string(concat!(env!("CARGO_MANIFEST_DIR"), "/../../docs/LAYOUT.md")).unwrap();
+    let shown = |row: &str| -> Vec<u8> {
+        let line = page.lines().find(|line| line.starts_with(row)).expect("a row of the page");
+        let cells: Vec<Vec<u8>> = line.split('|').skip(2).map(hex).collect();
+        let mut record = vec![0; 967];
+        record[..13].copy_from_slice(&cells[0]);
+        record[205..205 + cells[1].len()].copy_from_slice(&cells[1]);
+        record
+    };
+    let (plan, rules) = inputs::sample();
+    let lent = Lent::built(&Case { n: 7, s: 2, k: 2, plan, rules, branch: vec![] }, random);
+    let mut panel = Panel::loaded(&lent, random);
+    assert!(panel.record == shown("| after Load |"));
+    panel.start(&lent, &[0], &[0], random);
+    assert!(panel.record == shown("| after Start |"));
+    panel.finish(&lent, random);
+    assert!(panel.record == shown("| after two advances |"));
+}
+
+/// The bytes of a cell: pairs of digits in backticks, or nothing.
+fn hex(cell: &str) -> Vec<u8> {
+    let digits = cell.trim().trim_matches('`');
+    digits.split_whitespace().map(|byte| u8::from_str_radix(byte, 16).expect("a byte")).collect()
+}
+
 /// Nodes, labels, and what is told: state, yes, parts, links; or the refusal.
 type Row = (&'static [u16], &'static [u8], Result<(u32, bool, u32, u32), u32>);
 
@@ -183,10 +212,7 @@ type Row = (&'static [u16], &'static [u8], Result<(u32, bool, u32, u32), u32>);
 fn the_sample_clearance() {
     let random = &mut Random::new(1207);
     let (plan, rules) = inputs::sample();
-    let mut lent = Lent { plan, rules, numbers: vec![0; 28], bytes: vec![0; 21] };
-    let tables = compare::sides::call(&[0; 967], &Call::Load(lent.lends()), random).tables.unwrap();
-    lent.numbers = tables.numbers;
-    lent.bytes = tables.bytes;
+    let lent = Lent::built(&Case { n: 7, s: 2, k: 2, plan, rules, branch: vec![] }, random);
     let mut panel = Panel::loaded(&lent, random);
     let rows: [Row; 9] = [
         (&[], &[], Ok((1, true, 1, 0))),

@@ -11,9 +11,9 @@
 //! | 7 | 1 | the parts |
 //! | 8 | 1 | the parts handled |
 //! | 9 | 4 | the links so far |
-//! | 13 | 64 × 2 | the nodes as listed |
+//! | 13 | 128 | the nodes as listed, two bytes each |
 //! | 141 | 64 | their labels |
-//! | 205 | 254 × 2 | the roots of the parts |
+//! | 205 | 508 | the roots of the parts, two bytes each |
 //! | 713 | 254 | the states of the parts handled |
 //!
 //! Numbers of more than one byte are little-endian, and unused entries are zero.
