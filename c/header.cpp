@@ -1,7 +1,7 @@
-// The header alone, as C++: it compiles, and the names link as C's.
+// The header alone, as C++: it compiles, and the names link as C's. SESSION is 1 where the archive has the session.
 #include "whatif.h"
 
-int main() {
+static int without_a_session() {
     uint32_t yes = 9, state = 9, links = 9;
     uint32_t answers[] = {
         whatif_build(NULL, 0, NULL, 0, NULL, 0, NULL, 0),
@@ -16,4 +16,32 @@ int main() {
     if (whatif_branch(NULL, 0, NULL, 0, NULL, 0, NULL, 0, 0, 0, &state, &yes, &links) != WHATIF_REFUSED_LENT_LENGTH)
         return 2;
     return yes == 9 && state == 9 && links == 9 ? 0 : 3;
+}
+
+#if SESSION
+// No record at all is a broken one.
+static int with_a_session() {
+    uint32_t out[4] = {9, 9, 9, 9};
+    uint32_t answers[] = {
+        whatif_load(NULL, 0, NULL, 0, NULL, 0, NULL, 0, NULL, 0),
+        whatif_start(NULL, 0, NULL, 0, NULL, 0, NULL, 0, NULL, 0, NULL, 0, NULL, 0, out),
+        whatif_advance(NULL, 0, NULL, 0, NULL, 0, NULL, 0, NULL, 0, out),
+        whatif_cancel(NULL, 0),
+        whatif_read(NULL, 0, out, out + 1, out + 2, out + 3),
+    };
+    for (unsigned i = 0; i < sizeof answers / sizeof *answers; i++)
+        if (answers[i] != WHATIF_REFUSED_SESSION_STATE)
+            return 4;
+    return out[0] == 9 && out[1] == 9 && out[2] == 9 && out[3] == 9 ? 0 : 5;
+}
+#else
+static int with_a_session() { return 0; }
+#endif
+
+int main() {
+    for (uint32_t answer = 0; answer <= 19; answer++)
+        if (!*whatif_answer_text(answer))
+            return 6;
+    int failed = without_a_session();
+    return failed ? failed : with_a_session();
 }

@@ -1,8 +1,10 @@
 /*
  * whatif.h: the what-if checker for C and C++.
  *
- * Order: limits, sizes, answers, then the six functions.
- * The bytes of plans and tables are in docs/LAYOUT.md, the order of the checks of each call in docs/REFUSALS.md.
+ * Order: limits, sizes, answers; the functions for tables and fresh runs, for branch questions, and of the panel
+ * session; the answers' texts.
+ * The bytes of plans, tables and records are in docs/LAYOUT.md, the order of the checks of each call in
+ * docs/REFUSALS.md.
  *
  * Link with libcapi.a (x86-64). The library never allocates, keeps nothing between calls and is re-entrant: any
  * number of threads may call it at once, each with buffers that no other thread writes during the call.
@@ -35,6 +37,8 @@ extern "C" {
 #define WHATIF_MAX_STATES 16u
 #define WHATIF_MAX_LABELS 64u
 #define WHATIF_MAX_CHANGES 64u
+/* The most parts that a question can have: 4 x 64 - 2. */
+#define WHATIF_MAX_PARTS 254u
 /* The greatest depth of a node, root 0. It follows from the limit on nodes and is no check of its own. */
 #define WHATIF_MAX_DEPTH 32767u
 
@@ -47,11 +51,15 @@ extern "C" {
 #define WHATIF_NODE_TABLE_LEN(n) ((size_t)4 * (size_t)(n))
 #define WHATIF_STATE_TABLE_LEN(n, s) (((size_t)(s) + (size_t)1) * (size_t)(n))
 
+/* Bytes of a session's record, and the version of its layout. All zero is a fresh session. */
+#define WHATIF_RECORD_BYTES 967u
+#define WHATIF_RECORD_LAYOUT 1u
+
 /* Answers. The numbers are fixed for good. */
 enum whatif_answer {
     /* The call was accepted. */
     WHATIF_ACCEPTED = 0,
-    /* The session is in a state in which this call may not be made. */
+    /* The session is in a state in which this call may not be made, or its record is broken. */
     WHATIF_REFUSED_SESSION_STATE = 1,
     /* The plan has fewer than 12 bytes. */
     WHATIF_REFUSED_PLAN_SHORT = 2,
@@ -83,7 +91,7 @@ enum whatif_answer {
     WHATIF_REFUSED_NODE_TWICE = 15,
     /* The lower node is not at or below the upper node. */
     WHATIF_REFUSED_NOT_BELOW = 16,
-    /* What is lent does not have the length that its counts of nodes, states and labels need. */
+    /* What is lent does not have the length that the counts of nodes, states and labels need. */
     WHATIF_REFUSED_LENT_LENGTH = 17,
     /* A value read leads outside the plan, the states or the labels, or a climb does not rise. */
     WHATIF_REFUSED_LENT_VALUE = 18
@@ -162,6 +170,125 @@ uint32_t whatif_branch(const uint8_t *plan, size_t plan_len, const uint8_t *bran
                        const uint16_t *node_table, size_t node_table_len, const uint8_t *state_table,
                        size_t state_table_len, uint32_t upper, uint32_t lower, uint32_t *state, uint32_t *yes,
                        uint32_t *links);
+
+/*
+ * The panel session. Its record, WHATIF_RECORD_BYTES bytes, belongs to the panel: it is all zero at first, passes from
+ * call to call and is written by these functions alone. Plan, rule table and tables are lent with each call that needs
+ * them and may be altered or exchanged between calls. A record belongs to one thread at a time.
+ *
+ * A session is empty, loaded, running or answered:
+ *
+ *     whatif_load     unless running         then loaded
+ *     whatif_start    loaded or answered     then running
+ *     whatif_advance  running                then running, after the last part answered
+ *     whatif_cancel   running                then loaded
+ *     whatif_read     answered               then answered
+ *
+ * Any other call gets 1. So does a record that breaks its layout, or that has another length.
+ */
+
+/*
+ * Load: begins with a plan, and writes its tables as whatif_build does.
+ * Lent:    the record, altered; the plan and the rule table, read; node_table and state_table, written.
+ * Written: both tables as by whatif_build; the record, exactly as after a first Load of that plan.
+ * Answers: WHATIF_ACCEPTED, or the first of 1, 2, 3, 4, 5, 6, 7, 8, 9, 10, 11. Refused, the record and both buffers are
+ *          as they were.
+ */
+uint32_t whatif_load(uint8_t *record, size_t record_len, const uint8_t *plan, size_t plan_len, const uint8_t *rules,
+                     size_t rules_len, uint16_t *node_table, size_t node_table_len, uint8_t *state_table,
+                     size_t state_table_len);
+
+/*
+ * Start: puts a question. What would the plan's state be if node nodes[i] took labels[i], for every i?
+ * Lent:    the record, altered; the plan, the rule table, both tables and the list, read. The plan need not be that of
+ *          the Load, but N, S and K are: plan and rule table have the length that these need, the tables at least.
+ *          nodes_len and labels_len are equal, 0 to 64. A node listed with the label it has is still a change.
+ * Written: *parts, the number of parts, 1 to WHATIF_MAX_PARTS; the record. An earlier question is forgotten.
+ * Answers: WHATIF_ACCEPTED, or the first of 1, 17, 12, 13, 14, 15, 18; each of 13, 14 and 15 is put to the whole list.
+ *          18 is never given on tables as built from the plan and rule table lent, where these name the record's N, S
+ *          and K. Refused, the record and *parts are as they were.
+ */
+uint32_t whatif_start(uint8_t *record, size_t record_len, const uint8_t *plan, size_t plan_len, const uint8_t *rules,
+                      size_t rules_len, const uint16_t *node_table, size_t node_table_len, const uint8_t *state_table,
+                      size_t state_table_len, const uint16_t *nodes, size_t nodes_len, const uint8_t *labels,
+                      size_t labels_len, uint32_t *parts);
+
+/*
+ * Advance: handles the next part of the question.
+ * Lent:    the record, altered; the plan, the rule table and both tables, read: as at Start, if the answer is to be
+ *          that of a fresh run.
+ * Written: *finished, 1 where that was the last part, else 0; the record.
+ * Answers: WHATIF_ACCEPTED, or the first of 1, 17, 18. 18 is never given where all is as at Start and as built. It
+ *          leaves the question as it was: with the right tables the next advance goes on. Refused, the record and
+ *          *finished are as they were.
+ */
+uint32_t whatif_advance(uint8_t *record, size_t record_len, const uint8_t *plan, size_t plan_len, const uint8_t *rules,
+                        size_t rules_len, const uint16_t *node_table, size_t node_table_len,
+                        const uint8_t *state_table, size_t state_table_len, uint32_t *finished);
+
+/*
+ * Cancel: drops the question.
+ * Lent:    the record, altered.
+ * Written: the record, exactly as after a first Load.
+ * Answers: WHATIF_ACCEPTED, or the first of 1. Refused, the record is as it was.
+ */
+uint32_t whatif_cancel(uint8_t *record, size_t record_len);
+
+/*
+ * Read: tells the answer.
+ * Lent:    the record, read.
+ * Written: *state, the root's state; *yes, 1 where it is accepted, else 0; *parts, the number of parts; *links, the
+ *          moves of their climbs.
+ * Answers: WHATIF_ACCEPTED, or the first of 1. Refused, the four are as they were.
+ */
+uint32_t whatif_read(const uint8_t *record, size_t record_len, uint32_t *state, uint32_t *yes, uint32_t *parts,
+                     uint32_t *links);
+
+/* The text of an answer, in one sentence: that of its comment above. */
+static inline const char *whatif_answer_text(uint32_t answer) {
+    switch (answer) {
+    case WHATIF_ACCEPTED:
+        return "The call was accepted.";
+    case WHATIF_REFUSED_SESSION_STATE:
+        return "The session is in a state in which this call may not be made, or its record is broken.";
+    case WHATIF_REFUSED_PLAN_SHORT:
+        return "The plan has fewer than 12 bytes.";
+    case WHATIF_REFUSED_NODE_COUNT:
+        return "The plan's node count is not 1 to 65,535.";
+    case WHATIF_REFUSED_PLAN_LAYOUT:
+        return "The plan's offsets or its length are not exact.";
+    case WHATIF_REFUSED_PLAN_TREE:
+        return "The plan's kinds are not those of one tree in post-order.";
+    case WHATIF_REFUSED_TABLE_SHORT:
+        return "The rule table has fewer than 20 bytes, or the branch table fewer than 16.";
+    case WHATIF_REFUSED_TABLE_COUNTS:
+        return "The table's count of states is not 1 to 16, or its count of labels not 1 to 64.";
+    case WHATIF_REFUSED_TABLE_LAYOUT:
+        return "The table's offsets or its length are not exact.";
+    case WHATIF_REFUSED_TABLE_ENTRY:
+        return "The table holds a state that it does not have, or a mark that is neither 0 nor 1.";
+    case WHATIF_REFUSED_PLAN_LABEL:
+        return "The plan has a label that the table does not have.";
+    case WHATIF_REFUSED_BUFFER_SHORT:
+        return "The node table or the state table is too short.";
+    case WHATIF_REFUSED_LIST_LENGTH:
+        return "The list has more than 64 changes, or not as many labels as nodes.";
+    case WHATIF_REFUSED_NODE:
+        return "A node given is not one of the plan.";
+    case WHATIF_REFUSED_LABEL:
+        return "A label given is not one of the table.";
+    case WHATIF_REFUSED_NODE_TWICE:
+        return "The list has a node twice.";
+    case WHATIF_REFUSED_NOT_BELOW:
+        return "The lower node is not at or below the upper node.";
+    case WHATIF_REFUSED_LENT_LENGTH:
+        return "What is lent does not have the length that the counts of nodes, states and labels need.";
+    case WHATIF_REFUSED_LENT_VALUE:
+        return "A value read leads outside the plan, the states or the labels, or a climb does not rise.";
+    default:
+        return "This is no answer of this version.";
+    }
+}
 
 #ifdef __cplusplus
 }

@@ -24,31 +24,41 @@ impl Row {
     }
 }
 
-pub fn print_table(rows: &[Row]) {
+/// With the unit of the times, and what the library is compared with.
+pub fn print_table(unit: &str, other: &str, rows: &[Row]) {
     println!("{:<31}  {:^25}  {:^25}  {:>6}", "", "N 1,001", "N 65,535", "");
     println!(
         "{:<16} {:<10} {:>3}  {:>8} {:>8} {:>7}  {:>8} {:>8} {:>7}  {:>6} {:>6}",
-        "ns a node", "shape", "S", "library", "plain", "ratio", "library", "plain", "ratio", "growth", "wanted"
+        unit, "shape", "S", "library", other, "ratio", "library", other, "ratio", "growth", "wanted"
     );
     for row in rows {
         let [small, large] = row.times;
         let wanted = row.wanted.map_or("-".to_string(), |wanted| format!("{:.1}", wanted));
         let over = row.wanted.map_or(false, |wanted| row.ratio(SMALL) > wanted || row.ratio(LARGE) > wanted);
         println!(
-            "{:<16} {:<10} {:>3}  {:>8.2} {:>8.2} {:>7.2}  {:>8.2} {:>8.2} {:>7.2}  {:>6.2} {:>6}{}",
+            "{:<16} {:<10} {:>3}  {:>8} {:>8} {:>7.3}  {:>8} {:>8} {:>7.3}  {:>6.2} {:>6}{}",
             row.what,
             row.shape,
             row.s,
-            small.0,
-            small.1,
+            short(small.0),
+            short(small.1),
             row.ratio(SMALL),
-            large.0,
-            large.1,
+            short(large.0),
+            short(large.1),
             row.ratio(LARGE),
             large.0 / small.0,
             wanted,
             if over { " over" } else { "" }
         );
+    }
+}
+
+/// Two places behind the point for small numbers, none for large ones.
+fn short(time: f64) -> String {
+    if time < 1_000.0 {
+        format!("{:.2}", time)
+    } else {
+        format!("{:.0}", time)
     }
 }
 

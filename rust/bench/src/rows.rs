@@ -9,10 +9,10 @@ use reference::tree::Tree;
 
 /// Nodes of the smaller and of the larger plans, and how many plans make one turn.
 pub const NODES: [usize; 2] = [1_001, 65_535];
-const PLANS: [usize; 2] = [65, 1];
+pub const PLANS: [usize; 2] = [65, 1];
 const QUESTIONS: usize = 2_000;
 
-const SHAPES: [(Shape, &str); 4] = [
+pub const SHAPES: [(Shape, &str); 4] = [
     (Shape::LeftComb, "left comb"),
     (Shape::RightComb, "right comb"),
     (Shape::Balanced, "balanced"),

@@ -3,6 +3,8 @@
 use crate::calls::Kind;
 use crate::random::Random;
 use crate::shapes::{kinds, Shape};
+use reference::formats::read_plan;
+use reference::tree::Tree;
 
 /// Little-endian 32-bit numbers, then the parts one after the other.
 fn with_header(header: &[usize], parts: &[&[u8]]) -> Vec<u8> {
@@ -124,5 +126,29 @@ impl Case {
 
     pub fn labels(&self) -> &[u8] {
         &self.plan[12..12 + self.n]
+    }
+
+    /// A list of `m` different nodes, at most N, with a label for each: anywhere, near each other, or on few paths.
+    pub fn list(&self, m: usize, random: &mut Random) -> (Vec<u16>, Vec<u8>) {
+        let m = m.min(self.n);
+        let parents = Tree::of(&read_plan(&self.plan).expect("accepted")).parent;
+        let way = random.below(3);
+        let around = random.below(self.n);
+        let mut nodes: Vec<u16> = Vec::new();
+        let mut v = around;
+        while nodes.len() < m {
+            if !nodes.contains(&(v as u16)) {
+                nodes.push(v as u16);
+            }
+            v = match way {
+                1 => (around + random.below(3 * m + 1)) % self.n,
+                // a few steps up, now and then from another node on
+                2 if v + 1 < self.n && random.below(6) > 0 => (0..random.between(1, 9)).fold(v, |v, _| parents[v]),
+                _ => random.below(self.n),
+            };
+        }
+        random.shuffle(&mut nodes);
+        let labels = random.bytes_below(m, self.k);
+        (nodes, labels)
     }
 }

@@ -1,10 +1,11 @@
-//! A small seeded generator (SplitMix64): the same seed gives the same tests.
+//! A small seeded generator (SplitMix64): the same seed gives the same tests. A number in WHATIF_SEED gives others.
 
 pub struct Random(u64);
 
 impl Random {
     pub fn new(seed: u64) -> Random {
-        Random(seed)
+        let other: u64 = std::env::var("WHATIF_SEED").map_or(0, |number| number.parse().expect("a number"));
+        Random(seed.wrapping_add(other << 32))
     }
 
     pub fn word(&mut self) -> u64 {

@@ -108,3 +108,15 @@ pub fn all(leaves: usize) -> Vec<Vec<u8>> {
     }
     trees
 }
+
+/// A tree and 64 of its leaves, whose question has 254 parts: 64 leaves, 63 nodes where two of them meet, the 126
+/// children of these, and the root, none of them twice.
+pub fn most_parts() -> (Vec<u8>, Vec<u16>) {
+    let (mut kinds, mut listed) = (vec![0, 0, 1], vec![0]);
+    for _ in 0..6 {
+        let n = kinds.len();
+        listed.extend(listed.clone().iter().map(|v| v + n as u16));
+        kinds = [&kinds[..], &kinds[..], &[1, 0, 1]].concat();
+    }
+    (kinds, listed)
+}

@@ -1,20 +1,12 @@
 //! Branch questions on tables that are not as built: 16, 18 or the answer that the rule gives on those very bytes, the
 //! same every time.
 
+use compare::alterations::damage;
 use compare::built::Built;
 use compare::calls::{self, Kind};
 use compare::inputs::Case;
 use compare::random::Random;
 use compare::shapes::Shape;
-
-/// Puts another value at every place that chance hits, one in `share`.
-fn damage<T>(list: &mut [T], share: usize, random: &mut Random, mut value: impl FnMut(&mut Random) -> T) {
-    for place in list {
-        if random.below(share) == 0 {
-            *place = value(random);
-        }
-    }
-}
 
 /// Damages numbers, bytes, or labels, steps and marks: a few or all of them, inside the plan and the states or not.
 fn damaged(case: Case, random: &mut Random) -> Built {

@@ -29,7 +29,7 @@ pub fn fresh_run(plan: &[u8], rules: &[u8], nodes: &[u16], changes: &[u8]) -> Re
     Ok((state, rules.marks[state as usize] == 1))
 }
 
-fn list(nodes: &[u16], changes: &[u8], n: usize, k: usize) -> Result<(), u32> {
+pub fn list(nodes: &[u16], changes: &[u8], n: usize, k: usize) -> Result<(), u32> {
     if nodes.len() != changes.len() || nodes.len() > 64 {
         return Err(12);
     }

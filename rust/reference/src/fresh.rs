@@ -16,13 +16,18 @@ pub fn fresh_run(plan: &[u8], rules: &[u8], nodes: &[u16], labels: &[u8]) -> Res
     let rules = read_rules(rules)?;
     plan.labels_below(rules.labels)?;
     check_list(nodes, labels, plan.nodes(), rules.labels)?;
-    let mut changed = plan.labels.to_vec();
-    for (&v, &a) in nodes.iter().zip(labels) {
-        changed[v as usize] = a;
-    }
-    let states = run(plan.kinds, &changed, &rules);
+    let states = run(plan.kinds, &changed(plan.labels, nodes, labels), &rules);
     let state = states[states.len() - 1];
     Ok(Answer { state, yes: rules.accepts(state) })
+}
+
+/// The plan's labels with the listed ones changed.
+pub fn changed(labels: &[u8], nodes: &[u16], new: &[u8]) -> Vec<u8> {
+    let mut changed = labels.to_vec();
+    for (&v, &a) in nodes.iter().zip(new) {
+        changed[v as usize] = a;
+    }
+    changed
 }
 
 /// "node and label lists of one length, at most 64? 12; nodes below N? 13; labels below K? 14; no node twice? 15"

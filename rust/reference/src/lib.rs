@@ -1,13 +1,23 @@
 //! The what-if checker again, written from document 01 alone and for clarity: the library is compared with it.
 //!
 //! Order: `formats` (bytes and checks 2 to 10), `tree` (parents, depths, sizes, jumps), `tables` (run, maps, both table
-//! buffers), `climb` (moves), `branch` (branch questions), `fresh` (fresh run). The calls are in this file.
+//! buffers), `climb` (moves), `branch` (branch questions), `fresh` (fresh run); `ready` (the ready set), `parts` (the
+//! rule for a part, on a tree), `lent` (the same on lent tables, whatever they hold); `panel` (the session's calls and
+//! answers), `record` (its record as bytes), `session` (the five calls), `book` (the panel book).
+//! The calls without a session are in this file.
 //! A refusal is its number. Nothing here is fast, and nothing is shared with the library.
 
+pub mod book;
 pub mod branch;
 pub mod climb;
 pub mod formats;
 pub mod fresh;
+pub mod lent;
+pub mod panel;
+pub mod parts;
+pub mod ready;
+pub mod record;
+pub mod session;
 pub mod tables;
 pub mod tree;
 
@@ -17,10 +27,15 @@ use tables::Tables;
 /// The tables of a plan and a rule table, or the first of 2 to 11.
 /// Of the buffers only the lengths matter: count of 16-bit numbers, count of bytes.
 pub fn build(plan: &[u8], rules: &[u8], numbers_len: usize, bytes_len: usize) -> Result<Tables, u32> {
+    build_checks(plan, rules, numbers_len, bytes_len)?;
+    Ok(tables::rule_tables(&read_plan(plan)?, &read_rules(rules)?))
+}
+
+/// 2 to 11 of a build of rule tables.
+pub fn build_checks(plan: &[u8], rules: &[u8], numbers_len: usize, bytes_len: usize) -> Result<(), u32> {
     let plan = read_plan(plan)?;
     let rules = read_rules(rules)?;
-    labels_and_buffers(&plan, rules.states, rules.labels, numbers_len, bytes_len)?;
-    Ok(tables::rule_tables(&plan, &rules))
+    labels_and_buffers(&plan, rules.states, rules.labels, numbers_len, bytes_len)
 }
 
 /// The tables of a plan and a branch table, or the first of 2 to 11.

@@ -41,7 +41,7 @@ macro_rules! refusals {
 }
 
 refusals! {
-    SessionState = 1, "The session is in a state in which this call may not be made.";
+    SessionState = 1, "The session is in a state in which this call may not be made, or its record is broken.";
     PlanShort = 2, "The plan has fewer than 12 bytes.";
     NodeCount = 3, "The plan's node count is not 1 to 65,535.";
     PlanLayout = 4, "The plan's offsets or its length are not exact.";
@@ -57,7 +57,7 @@ refusals! {
     Label = 14, "A label given is not one of the table.";
     NodeTwice = 15, "The list has a node twice.";
     NotBelow = 16, "The lower node is not at or below the upper node.";
-    LentLength = 17, "What is lent does not have the length that its counts of nodes, states and labels need.";
+    LentLength = 17, "What is lent does not have the length that the counts of nodes, states and labels need.";
     LentValue = 18, "A value read leads outside the plan, the states or the labels, or a climb does not rise.";
 }
 

@@ -4,8 +4,15 @@ pub const MAX_NODES: usize = 65_535;
 pub const MAX_STATES: usize = 16;
 pub const MAX_LABELS: usize = 64;
 pub const MAX_CHANGES: usize = 64;
+/// The most parts that a question can have: 4 × 64 - 2.
+pub const MAX_PARTS: usize = 254;
 /// The greatest depth of a node, root 0. It follows from the limit on nodes.
 pub const MAX_DEPTH: usize = 32_767;
+
+/// Bytes of a session's record.
+pub const RECORD_BYTES: usize = 967;
+/// The version of the record's layout.
+pub const RECORD_LAYOUT: usize = 1;
 
 /// Bytes of a plan of `n` nodes.
 pub const fn plan_bytes(n: usize) -> usize {

@@ -1,0 +1,75 @@
+/*
+ * A trainer's walk at the panel: Load, Start, Cancel, Start, advances with a progress bar, Read, and one refusal.
+ * Build it with: cc -Iinclude examples/panel.c target/staticlib/libcapi.a
+ */
+#include "whatif.h"
+
+#include <stdio.h>
+
+/* Plan A of document 01: nodes 0 and 1 below 2, nodes 3 and 4 below 5, nodes 2 and 5 below the root 6. */
+static const uint8_t plan[] = {7, 0, 0, 0, 12, 0, 0, 0, 19, 0, 0, 0, 1, 1, 1, 0, 1, 0, 1, 0, 0, 1, 0, 0, 1, 1};
+/* Table A: label 0 takes the greater state of two children, label 1 the lesser; state 1 clears the plan. */
+static const uint8_t rules[] = {2, 0,  0, 0, 2, 0, 0, 0, 20, 0, 0, 0, 22, 0, 0, 0,
+                                30, 0, 0, 0, 0, 1, 0, 1, 0,  0, 1, 1, 0,  1, 0, 1};
+
+/* What the panel keeps: the session's record, all zero at first, and the tables that Load writes. */
+static uint8_t record[WHATIF_RECORD_BYTES];
+static uint16_t nodes[WHATIF_NODE_TABLE_LEN(7)];
+static uint8_t states[WHATIF_STATE_TABLE_LEN(7, 2)];
+#define LENT plan, sizeof plan, rules, sizeof rules, nodes, sizeof nodes / sizeof *nodes, states, sizeof states
+
+/* Says what a refusal means. */
+static int accepted(uint32_t answer) {
+    if (answer != WHATIF_ACCEPTED)
+        printf("refused %u: %s\n", answer, whatif_answer_text(answer));
+    return answer == WHATIF_ACCEPTED;
+}
+
+/* Puts a question. The number of its parts, 0 where it is refused. */
+static uint32_t start(const uint16_t *listed, const uint8_t *labels, size_t m) {
+    uint32_t parts = 0;
+    printf("What if");
+    for (size_t i = 0; i < m; i++)
+        printf("%s node %u took label %u", i ? " and" : "", listed[i], labels[i]);
+    printf("?\n");
+    if (accepted(whatif_start(record, sizeof record, LENT, listed, m, labels, m, &parts)))
+        printf("%u parts\n", parts);
+    return parts;
+}
+
+/* Handles all parts; a panel would do one whenever it has a moment. */
+static int finish(uint32_t parts) {
+    for (uint32_t done = 1, finished = 0; !finished; done++) {
+        if (!accepted(whatif_advance(record, sizeof record, LENT, &finished)))
+            return 0;
+        putchar('[');
+        for (uint32_t i = 0; i < parts; i++)
+            putchar(i < done ? '#' : '.');
+        printf("] %u of %u\n", done, parts);
+    }
+    return 1;
+}
+
+static int tell(void) {
+    uint32_t state, yes, parts, links;
+    if (!accepted(whatif_read(record, sizeof record, &state, &yes, &parts, &links)))
+        return 0;
+    printf("%s: state %u, %u parts, %u links\n", yes ? "cleared" : "not cleared", state, parts, links);
+    return 1;
+}
+
+int main(void) {
+    if (!accepted(whatif_load(record, sizeof record, LENT)))
+        return 1;
+    printf("loaded: %u nodes\n", plan[0]);
+    if (!start((const uint16_t[]){4}, (const uint8_t[]){0}, 1) || !accepted(whatif_cancel(record, sizeof record)))
+        return 1;
+    printf("cancelled\n");
+    uint32_t parts = start((const uint16_t[]){0, 3}, (const uint8_t[]){0, 1}, 2);
+    if (!parts || !finish(parts) || !tell())
+        return 1;
+    /* the plan has no node 7; a refused call changes nothing, so the answer is still there */
+    if (start((const uint16_t[]){7}, (const uint8_t[]){0}, 1))
+        return 1;
+    return tell() ? 0 : 1;
+}

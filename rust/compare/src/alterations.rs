@@ -1,0 +1,98 @@
+//! Lends that are not as built, or not those of Start.
+
+use crate::faults::shorter;
+use crate::inputs::Case;
+use crate::panel::Lent;
+use crate::random::Random;
+
+/// Puts another value at every place that chance hits, one in `share`; at one place at least.
+pub fn damage<T>(list: &mut [T], share: usize, random: &mut Random, mut value: impl FnMut(&mut Random) -> T) {
+    if list.is_empty() {
+        return;
+    }
+    let sure = random.below(list.len());
+    for (i, place) in list.iter_mut().enumerate() {
+        if i == sure || random.below(share) == 0 {
+            *place = value(random);
+        }
+    }
+}
+
+/// What an alteration does to lends of a case.
+#[derive(Clone, Copy, Debug, PartialEq, Eq)]
+pub enum Alteration {
+    /// Longer tables with anything behind: nothing to any call.
+    Excess,
+    /// Run states and maps, all below S.
+    BytesBelow,
+    /// Run states and maps, some not below S.
+    Bytes,
+    /// 16-bit numbers, inside the plan or not.
+    Numbers,
+    /// Labels of the plan, some not below K.
+    Labels,
+    Kinds,
+    /// Offsets and counts of the headers.
+    Headers,
+    /// Leaf states, inner states and marks, some not below S.
+    Rules,
+    /// Another length of one of the four.
+    Length,
+}
+
+pub const ALTERATIONS: [Alteration; 9] = [
+    Alteration::Excess,
+    Alteration::BytesBelow,
+    Alteration::Bytes,
+    Alteration::Numbers,
+    Alteration::Labels,
+    Alteration::Kinds,
+    Alteration::Headers,
+    Alteration::Rules,
+    Alteration::Length,
+];
+
+impl Alteration {
+    pub fn lay(self, lent: &mut Lent, case: &Case, random: &mut Random) {
+        let Case { n, s, k, .. } = *case;
+        let share = *random.pick(&[2, 10, 50, 1_000]);
+        match self {
+            Alteration::Excess => {
+                let (more_numbers, more_bytes) = (random.below(5), random.below(5));
+                lent.numbers.truncate(4 * n);
+                lent.bytes.truncate((s + 1) * n);
+                lent.numbers.extend(random.numbers(more_numbers));
+                lent.bytes.extend(random.bytes(more_bytes));
+            }
+            Alteration::BytesBelow => damage(&mut lent.bytes, share, random, |random| random.below(s) as u8),
+            Alteration::Bytes => damage(&mut lent.bytes, share, random, |random| random.below(s + 2) as u8),
+            Alteration::Numbers => {
+                let limit = *random.pick(&[n, n + 1, 65_536]);
+                damage(&mut lent.numbers, share, random, |random| random.below(limit) as u16);
+            }
+            Alteration::Labels => {
+                let limit = k + random.below(2);
+                damage(&mut lent.plan[12..12 + n], share, random, |random| random.below(limit) as u8);
+            }
+            Alteration::Kinds => damage(&mut lent.plan[12 + n..], share, random, |random| random.below(3) as u8),
+            Alteration::Headers => {
+                let header = if random.below(2) == 0 { &mut lent.plan[..12] } else { &mut lent.rules[..20] };
+                damage(header, 4, random, |random| random.byte());
+            }
+            Alteration::Rules => damage(&mut lent.rules[20..], share, random, |random| random.below(s + 1) as u8),
+            Alteration::Length => wrong_length(lent, case, random.below(6), random),
+        }
+    }
+}
+
+/// One of the four is too short, or the plan or the rules too long: which, by `way`.
+pub fn wrong_length(lent: &mut Lent, case: &Case, way: usize, random: &mut Random) {
+    match way {
+        0 => lent.plan.push(0),
+        1 => lent.plan.truncate(shorter(case.plan.len(), random)),
+        2 => lent.rules.push(0),
+        3 => lent.rules.truncate(shorter(case.rules.len(), random)),
+        4 => lent.numbers.truncate(shorter(case.numbers_len(), random)),
+        _ => lent.bytes.truncate(shorter(case.bytes_len(), random)),
+    }
+}

@@ -1,0 +1,105 @@
+//! A panel at work: a record that passes from call to call, with the panel book beside it, and what is lent.
+
+use crate::built::Built;
+use crate::calls::Kind;
+use crate::inputs::Case;
+use crate::random::Random;
+use crate::sides;
+use reference::book::{Book, Next};
+use reference::panel::{Answer, Call, Lends, Told};
+use reference::record::Record;
+
+/// Plan, rule table, node table and state table.
+#[derive(Clone)]
+pub struct Lent {
+    pub plan: Vec<u8>,
+    pub rules: Vec<u8>,
+    pub numbers: Vec<u16>,
+    pub bytes: Vec<u8>,
+}
+
+impl Lent {
+    /// With the tables that Load writes.
+    pub fn built(case: &Case, random: &mut Random) -> Lent {
+        let built = Built::new(Kind::Rules, case.clone(), random);
+        Lent { plan: case.plan.clone(), rules: case.rules.clone(), numbers: built.numbers, bytes: built.bytes }
+    }
+
+    pub fn lends(&self) -> Lends<'_> {
+        Lends { plan: &self.plan, rules: &self.rules, numbers: &self.numbers, bytes: &self.bytes }
+    }
+}
+
+pub struct Panel {
+    pub record: Vec<u8>,
+    pub book: Book,
+    /// How many answers the book settled, and how many it left to the program.
+    pub settled: usize,
+    pub left: usize,
+}
+
+impl Default for Panel {
+    /// "It starts empty": the fresh record is all zero.
+    fn default() -> Panel {
+        let record = Record::fresh().bytes();
+        assert!(record.iter().all(|&byte| byte == 0));
+        Panel { record, book: Book::default(), settled: 0, left: 0 }
+    }
+}
+
+impl Panel {
+    /// Loaded with a case.
+    pub fn loaded(lent: &Lent, random: &mut Random) -> Panel {
+        let mut panel = Panel::default();
+        assert_eq!(panel.call(&Call::Load(lent.lends()), random), Answer::Accepted);
+        panel
+    }
+
+    /// A call, held to the reference implementation and to the book.
+    pub fn call(&mut self, call: &Call, random: &mut Random) -> Answer {
+        let next = self.book.next(call);
+        let done = sides::call(&self.record, call, random);
+        self.record = done.record;
+        self.book = match next {
+            Next::Settled(answer, book) => {
+                self.settled += 1;
+                assert_eq!(done.answer, answer, "settled by the book");
+                book
+            }
+            Next::Left(after) => {
+                self.left += 1;
+                after(done.answer).unwrap_or_else(|| panic!("the book does not allow {:?}", done.answer))
+            }
+        };
+        done.answer
+    }
+
+    pub fn start(&mut self, lent: &Lent, nodes: &[u16], labels: &[u8], random: &mut Random) -> Answer {
+        self.call(&Call::Start(lent.lends(), nodes, labels), random)
+    }
+
+    pub fn advance(&mut self, lent: &Lent, random: &mut Random) -> Answer {
+        self.call(&Call::Advance(lent.lends()), random)
+    }
+
+    /// Advances to the end. How many they were, and what Read tells.
+    pub fn finish(&mut self, lent: &Lent, random: &mut Random) -> (u32, Told) {
+        let mut advances = 1;
+        loop {
+            match self.advance(lent, random) {
+                Answer::More => advances += 1,
+                Answer::Finished => break,
+                other => panic!("an advance answered {:?}", other),
+            }
+        }
+        match self.call(&Call::Read, random) {
+            Answer::Told(told) => (advances, told),
+            other => panic!("the Read answered {:?}", other),
+        }
+    }
+
+    /// What the record's bytes say.
+    pub fn says(&self) -> Record {
+        Record::of(&self.record).expect("a valid record")
+    }
+}

@@ -1,0 +1,206 @@
+//! The session's calls, made by every side: plain Rust, and the library where the feature `session` is on. Everything
+//! lent is held to account, and each answer and each record is compared with the reference implementation.
+//!
+//! What is written stands inside longer buffers: what is outside must stay. Out values start at random numbers, and
+//! those that a call does not tell must stay, all of them on a refusal.
+
+use crate::calls::same;
+use crate::random::Random;
+use reference::panel::{Answer, Call, Lends, Told};
+use reference::session::Done;
+use reference::tables::Tables;
+
+/// A call on a record, the buffers of a Load and the places of what is told, four of them. The answer's number.
+type Side = fn(&Call, &mut [u8], &mut [u16], &mut [u8], &mut [u32; 4]) -> u32;
+
+const SIDES: &[(&str, Side)] = &[
+    ("plain Rust", by_plain),
+    #[cfg(feature = "session")]
+    ("the library", library::call),
+];
+
+const MARGIN: usize = 9;
+/// Lends above this many bytes are not copied to see whether they stay.
+const COPIED: usize = 50_000;
+
+/// The answer of a call and the record after it, compared; and the tables that an accepted Load writes.
+pub fn call(record: &[u8], call: &Call, random: &mut Random) -> Done {
+    let done = reference::session::call(record, call);
+    for &(name, side) in SIDES {
+        compare(name, side, record, call, &done, random);
+    }
+    done
+}
+
+fn compare(name: &str, side: Side, record: &[u8], call: &Call, done: &Done, random: &mut Random) {
+    let mut own = Margins::new(record, random.bytes(2 * MARGIN));
+    let (mut numbers, mut bytes) = match call {
+        Call::Load(lends) => (
+            Margins::new(lends.numbers, random.numbers(2 * MARGIN)),
+            Margins::new(lends.bytes, random.bytes(2 * MARGIN)),
+        ),
+        _ => (Margins::new(&[], vec![]), Margins::new(&[], vec![])),
+    };
+    let unset = [0; 4].map(|_: u32| random.word() as u32 | 1 << 20);
+    let mut out = unset;
+    let lent = lent(call).filter(|lends| lends.plan.len() + 2 * lends.numbers.len() + lends.bytes.len() < COPIED);
+    let before = lent.map(copies);
+    let number = side(call, own.lent(), numbers.lent(), bytes.lent(), &mut out);
+    assert_eq!(answer(call, number, &out, &unset), done.answer, "{}: the answer", name);
+    let what = |written: &str| format!("{}: the {}", name, written);
+    own.is(&what("record"), &done.record);
+    if let (Call::Load(_), Some(Tables { numbers: n, bytes: b })) = (call, &done.tables) {
+        numbers.starts(&what("node table"), n);
+        bytes.starts(&what("state table"), b);
+    } else if let Call::Load(lends) = call {
+        numbers.is(&what("node table"), lends.numbers);
+        bytes.is(&what("state table"), lends.bytes);
+    }
+    assert!(lent.map(copies) == before, "{}: something lent was written", name);
+}
+
+fn lent<'a>(call: &Call<'a>) -> Option<Lends<'a>> {
+    match *call {
+        Call::Load(lends) | Call::Start(lends, ..) | Call::Advance(lends) => Some(lends),
+        Call::Cancel | Call::Read => None,
+    }
+}
+
+fn copies(lends: Lends) -> (Vec<u8>, Vec<u8>, Vec<u16>, Vec<u8>) {
+    (lends.plan.to_vec(), lends.rules.to_vec(), lends.numbers.to_vec(), lends.bytes.to_vec())
+}
+
+/// What a number and the told values mean; the values that the call does not tell are as they were.
+fn answer(call: &Call, number: u32, out: &[u32; 4], unset: &[u32; 4]) -> Answer {
+    let told = match call {
+        _ if number != 0 => 0,
+        Call::Load(_) | Call::Cancel => 0,
+        Call::Start(..) | Call::Advance(_) => 1,
+        Call::Read => 4,
+    };
+    assert_eq!(out[told..], unset[told..], "answer {} told something", number);
+    match call {
+        _ if number != 0 => Answer::Refused(number),
+        Call::Load(_) | Call::Cancel => Answer::Accepted,
+        Call::Start(..) => Answer::Parts(out[0]),
+        Call::Advance(_) => {
+            assert!(out[0] <= 1, "the advance told {}", out[0]);
+            [Answer::More, Answer::Finished][out[0] as usize]
+        }
+        Call::Read => {
+            assert!(out[1] <= 1, "the Read told yes {}", out[1]);
+            Answer::Told(Told { state: out[0], yes: out[1] == 1, parts: out[2], links: out[3] })
+        }
+    }
+}
+
+/// A buffer that is lent, with something before and after it.
+struct Margins<T> {
+    all: Vec<T>,
+    was: Vec<T>,
+    around: usize,
+}
+
+impl<T: Copy + PartialEq + std::fmt::Debug> Margins<T> {
+    fn new(inside: &[T], margins: Vec<T>) -> Margins<T> {
+        let (before, after) = margins.split_at(margins.len() / 2);
+        let all = [before, inside, after].concat();
+        Margins { was: all.clone(), all, around: before.len() }
+    }
+
+    fn lent(&mut self) -> &mut [T] {
+        let end = self.all.len() - self.around;
+        &mut self.all[self.around..end]
+    }
+
+    /// It begins with this now, and nothing else changed.
+    fn starts(&mut self, what: &str, with: &[T]) {
+        self.was[self.around..self.around + with.len()].copy_from_slice(with);
+        same(what, &self.all, &self.was);
+    }
+
+    /// It is this now.
+    fn is(&mut self, what: &str, wanted: &[T]) {
+        assert_eq!(wanted.len(), self.lent().len());
+        self.starts(what, wanted);
+    }
+}
+
+fn by_plain(call: &Call, record: &mut [u8], numbers: &mut [u16], bytes: &mut [u8], out: &mut [u32; 4]) -> u32 {
+    use plain::session;
+    let done = match *call {
+        Call::Load(lends) => session::load(record, lends.plan, lends.rules, numbers, bytes),
+        Call::Start(lends, nodes, labels) => {
+            let Lends { plan, rules, numbers, bytes } = lends;
+            session::start(record, plan, rules, numbers, bytes, nodes, labels).map(|parts| out[0] = parts)
+        }
+        Call::Advance(Lends { plan, rules, numbers, bytes }) => {
+            session::advance(record, plan, rules, numbers, bytes).map(|finished| out[0] = finished as u32)
+        }
+        Call::Cancel => session::cancel(record),
+        Call::Read => {
+            session::read(record).map(|told| *out = [told.state as u32, told.yes as u32, told.parts, told.links])
+        }
+    };
+    done.err().unwrap_or(0)
+}
+
+#[cfg(feature = "session")]
+mod library {
+    use super::{Call, Lends};
+    use whatif::raw;
+
+    pub fn call(call: &Call, record: &mut [u8], numbers: &mut [u16], bytes: &mut [u8], out: &mut [u32; 4]) -> u32 {
+        let (at, len) = (record.as_mut_ptr(), record.len());
+        let [first, second, third, fourth] = out;
+        // SAFETY: each pointer comes with its own slice's length, and nothing that is written overlaps
+        unsafe {
+            match *call {
+                Call::Load(Lends { plan, rules, .. }) => raw::whatif_load(
+                    at,
+                    len,
+                    plan.as_ptr(),
+                    plan.len(),
+                    rules.as_ptr(),
+                    rules.len(),
+                    numbers.as_mut_ptr(),
+                    numbers.len(),
+                    bytes.as_mut_ptr(),
+                    bytes.len(),
+                ),
+                Call::Start(Lends { plan, rules, numbers, bytes }, nodes, labels) => raw::whatif_start(
+                    at,
+                    len,
+                    plan.as_ptr(),
+                    plan.len(),
+                    rules.as_ptr(),
+                    rules.len(),
+                    numbers.as_ptr(),
+                    numbers.len(),
+                    bytes.as_ptr(),
+                    bytes.len(),
+                    nodes.as_ptr(),
+                    nodes.len(),
+                    labels.as_ptr(),
+                    labels.len(),
+                    first,
+                ),
+                Call::Advance(Lends { plan, rules, numbers, bytes }) => raw::whatif_advance(
+                    at,
+                    len,
+                    plan.as_ptr(),
+                    plan.len(),
+                    rules.as_ptr(),
+                    rules.len(),
+                    numbers.as_ptr(),
+                    numbers.len(),
+                    bytes.as_ptr(),
+                    bytes.len(),
+                    first,
+                ),
+                Call::Cancel => raw::whatif_cancel(at, len),
+                Call::Read => raw::whatif_read(at, len, first, second, third, fourth),
+            }
+        }
+    }
+}

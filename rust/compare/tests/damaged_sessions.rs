@@ -1,0 +1,187 @@
+//! Sessions on lends that are not as built: numbers, bytes, labels, kinds, headers and rules with other values. Every
+//! answer and every record is the reference's, which follows the lent values and gives 18 where one leads outside.
+
+use compare::alterations::{wrong_length, Alteration, ALTERATIONS};
+use compare::inputs::{self, Case};
+use compare::panel::{Lent, Panel};
+use compare::random::Random;
+use compare::shapes::Shape;
+use reference::panel::{Answer, Call};
+use std::collections::BTreeMap;
+
+/// What came of a question: how many there were of each.
+type Counts = BTreeMap<&'static str, usize>;
+
+/// Start and advances on damaged lends; 18 in the middle is tried again, and then the lends are restored or the question
+/// is given up.
+fn ask(panel: &mut Panel, case: &Case, good: &Lent, bad: &Lent, counts: &mut Counts, random: &mut Random) {
+    let m = random.between(0, 12);
+    let (nodes, labels) = case.list(m, random);
+    let lent = if random.below(3) == 0 { good } else { bad };
+    match panel.start(lent, &nodes, &labels, random) {
+        Answer::Parts(_) => *counts.entry("started").or_default() += 1,
+        Answer::Refused(18) => {
+            *counts.entry("18 at Start").or_default() += 1;
+            return;
+        }
+        other => panic!("{:?}", other),
+    }
+    loop {
+        let lent = if random.below(20) == 0 { good } else { bad };
+        let before = panel.record.clone();
+        match panel.advance(lent, random) {
+            Answer::More => *counts.entry("more").or_default() += 1,
+            Answer::Finished => break,
+            Answer::Refused(18) => {
+                *counts.entry("18 at an advance").or_default() += 1;
+                assert!(panel.record == before, "a refused advance leaves the record");
+                if random.below(4) == 0 {
+                    assert_eq!(panel.call(&Call::Cancel, random), Answer::Accepted);
+                    return;
+                }
+                if !matches!(panel.advance(good, random), Answer::More | Answer::Refused(18)) {
+                    break;
+                }
+            }
+            other => panic!("{:?}", other),
+        }
+    }
+    *counts.entry("finished").or_default() += 1;
+    assert!(matches!(panel.call(&Call::Read, random), Answer::Told(_)));
+}
+
+#[test]
+fn the_rule_on_any_lends() {
+    let random = &mut Random::new(1401);
+    for kind in ALTERATIONS.into_iter().filter(|&kind| kind != Alteration::Length) {
+        let mut counts = Counts::new();
+        for turn in 0..700 {
+            let leaves = if turn % 100 == 0 { 1_500 } else { random.between(1, 30) };
+            let (s, k) = (random.between(1, 6), random.between(1, 6));
+            let shape = *random.pick(&compare::shapes::SHAPES);
+            let case = Case::new(shape, leaves, s, k, random);
+            let good = Lent::built(&case, random);
+            let mut bad = good.clone();
+            kind.lay(&mut bad, &case, random);
+            let mut panel = Panel::loaded(&good, random);
+            for _ in 0..3 {
+                ask(&mut panel, &case, &good, &bad, &mut counts, random);
+            }
+        }
+        let count = |what: &str| counts.get(what).copied().unwrap_or(0);
+        assert!(count("finished") > 150, "{:?}: {:?}", kind, counts);
+        // Start reads the numbers alone; excess, headers and bytes below S lead nowhere
+        let never = [Alteration::Excess, Alteration::BytesBelow, Alteration::Headers].contains(&kind);
+        assert_eq!(count("18 at Start") > 50, kind == Alteration::Numbers, "{:?}: {:?}", kind, counts);
+        assert_eq!(count("18 at an advance") == 0, never, "{:?}: {:?}", kind, counts);
+    }
+}
+
+/// Several of them at once, and anything at all in the tables.
+#[test]
+fn everything_damaged() {
+    let random = &mut Random::new(1402);
+    let mut counts = Counts::new();
+    for _ in 0..1_500 {
+        let case = Case::random(25, random);
+        let good = Lent::built(&case, random);
+        let mut bad = good.clone();
+        for kind in ALTERATIONS.into_iter().filter(|&kind| kind != Alteration::Length) {
+            if random.below(3) == 0 {
+                kind.lay(&mut bad, &case, random);
+            }
+        }
+        if random.below(5) == 0 {
+            bad.numbers = random.numbers(bad.numbers.len());
+            let n = case.n as u16;
+            bad.numbers.iter_mut().for_each(|number| *number %= n);
+        }
+        let mut panel = Panel::loaded(&good, random);
+        ask(&mut panel, &case, &good, &bad, &mut counts, random);
+    }
+    assert!(counts.values().all(|&count| count > 100) && counts.len() == 5, "{:?}", counts);
+}
+
+/// 17 for each length that is not right, at Start and at an advance, and nothing else for those that are.
+#[test]
+fn lengths() {
+    let random = &mut Random::new(1403);
+    for turn in 0..600 {
+        let case = Case::random(30, random);
+        let good = Lent::built(&case, random);
+        let mut bad = good.clone();
+        wrong_length(&mut bad, &case, turn % 6, random);
+        let mut panel = Panel::loaded(&good, random);
+        assert_eq!(panel.start(&bad, &[0], &[0], random), Answer::Refused(17), "way {}", turn % 6);
+        assert!(matches!(panel.start(&good, &[0], &[0], random), Answer::Parts(_)));
+        assert_eq!(panel.advance(&bad, random), Answer::Refused(17), "way {}", turn % 6);
+        let mut long = good.clone();
+        Alteration::Excess.lay(&mut long, &case, random);
+        panel.finish(&long, random);
+    }
+}
+
+/// 17 looks at lengths alone: 27 bytes of rules fit S 1 and K 3 as well as S 2 and K 1. The record's S and K hold.
+#[test]
+fn other_counts_of_the_same_length() {
+    let random = &mut Random::new(1404);
+    let mut outside = 0;
+    for _ in 0..200 {
+        let kinds = compare::shapes::kinds(Shape::Uniform, 6, random);
+        let case = Case::of_kinds(&kinds, 1, 3, random);
+        let lent = Lent::built(&case, random);
+        let other = Lent { rules: inputs::random_rules(2, 1, random), ..lent.clone() };
+        assert_eq!((lent.rules.len(), other.rules.len()), (27, 27));
+        let mut panel = Panel::loaded(&lent, random);
+        let (nodes, labels) = case.list(2, random);
+        assert!(matches!(panel.start(&other, &nodes, &labels, random), Answer::Parts(_)));
+        while let Answer::More = panel.advance(&other, random) {}
+        outside += usize::from(panel.call(&Call::Read, random) == Answer::Refused(1));
+        assert!(panel.left > 0, "left to the program");
+    }
+    assert!((20..200).contains(&outside), "{} of 200 ended with 18", outside);
+}
+
+/// A mark above 1 is no yes, and no refusal.
+#[test]
+fn marks_above_1() {
+    let random = &mut Random::new(1405);
+    for mark in [0, 1, 2, 3, 128, 255] {
+        let case = Case::new(Shape::Zigzag, 20, 3, 3, random);
+        let good = Lent::built(&case, random);
+        let mut bad = good.clone();
+        let marks = bad.rules.len() - 3;
+        bad.rules[marks..].fill(mark);
+        let mut panel = Panel::loaded(&good, random);
+        panel.start(&bad, &[0], &[0], random);
+        let (_, told) = panel.finish(&bad, random);
+        assert_eq!(told.yes, mark == 1);
+    }
+}
+
+/// Every jump leads to the next node and every depth is one less: a link for each node on the way.
+#[test]
+fn the_longest_climbs() {
+    let random = &mut Random::new(1406);
+    let case = Case::new(Shape::LeftComb, 32_768, 4, 4, random);
+    let good = Lent::built(&case, random);
+    let mut bad = good.clone();
+    for v in 0..case.n {
+        let next = v as u16 + 1;
+        bad.numbers[4 * v..4 * v + 3].copy_from_slice(&[next, next, 65_534 - v as u16]);
+    }
+    let mut panel = Panel::loaded(&good, random);
+    assert_eq!(panel.start(&good, &[0], &[0], random), Answer::Parts(2));
+    assert_eq!(panel.advance(&bad, random), Answer::More);
+    assert_eq!(panel.advance(&bad, random), Answer::Finished);
+    match panel.call(&Call::Read, random) {
+        Answer::Told(told) => assert_eq!(told.links, 65_533),
+        other => panic!("{:?}", other),
+    }
+    // a move to the same depth does not rise
+    assert_eq!(panel.start(&good, &[0], &[0], random), Answer::Parts(2));
+    panel.advance(&good, random);
+    bad.numbers[4 * 30_000 + 2] = bad.numbers[4 * 30_001 + 2];
+    assert_eq!(panel.advance(&bad, random), Answer::Refused(18));
+    assert_eq!(panel.advance(&good, random), Answer::Finished);
+}

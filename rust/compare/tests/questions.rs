@@ -1,0 +1,235 @@
+//! Questions on tables as built, through the session's calls: roots, states, answer, parts and links, on trees of every
+//! shape and size. The book holds every answer to a fresh run of the changed plan; here the record is looked at too.
+
+use compare::inputs::{self, Case};
+use compare::panel::{Lent, Panel};
+use compare::random::Random;
+use compare::shapes::{self, Shape, DEEPEST, SHAPES};
+use reference::book::Standing;
+use reference::formats::{read_plan, read_rules};
+use reference::fresh::changed;
+use reference::panel::{Answer, Call, Told};
+use reference::ready::{by_marks, closure};
+use reference::tables::run;
+use reference::tree::Tree;
+
+/// A case, its tables, and a panel that has loaded it.
+struct Asked {
+    case: Case,
+    lent: Lent,
+    tree: Tree,
+    panel: Panel,
+}
+
+impl Asked {
+    fn new(case: Case, random: &mut Random) -> Asked {
+        let lent = Lent::built(&case, random);
+        let tree = Tree::of(&read_plan(&case.plan).unwrap());
+        let panel = Panel::loaded(&lent, random);
+        Asked { case, lent, tree, panel }
+    }
+
+    /// A whole question; every part's state is the changed run's at its root, and its root is the ready set's.
+    fn ask(&mut self, nodes: &[u16], labels: &[u8], random: &mut Random) -> Told {
+        let members = if self.case.n < 80 { closure(&self.tree, nodes) } else { by_marks(&self.tree, nodes) };
+        let parts = members.len() as u32;
+        assert_eq!(self.panel.start(&self.lent, nodes, labels, random), Answer::Parts(parts));
+        assert_eq!(self.panel.says().states, [], "no state yet");
+        let (advances, told) = self.panel.finish(&self.lent, random);
+        assert_eq!((advances, told.parts), (parts, parts));
+        assert_eq!(self.panel.book.standing(), Some(Standing::Clean));
+        let record = self.panel.says();
+        assert!(record.roots.iter().map(|&v| v as usize).eq(members.iter().copied()));
+        assert_eq!((&record.nodes[..], &record.labels[..]), (nodes, labels), "the changes as listed");
+        let plan = read_plan(&self.case.plan).unwrap();
+        let labels_then = changed(plan.labels, nodes, labels);
+        let states = run(plan.kinds, &labels_then, &read_rules(&self.case.rules).unwrap());
+        assert!(members.iter().map(|&v| states[v]).eq(record.states), "the states at the roots");
+        let deepest = *self.tree.depth.iter().max().unwrap();
+        let digits = usize::BITS - deepest.leading_zeros();
+        assert!(told.links <= 3 * digits * parts);
+        assert!(parts as usize <= if nodes.is_empty() { 1 } else { 4 * nodes.len() - 2 });
+        told
+    }
+}
+
+#[test]
+fn every_set_of_nodes_of_small_trees() {
+    let random = &mut Random::new(1201);
+    for leaves in 1..=4 {
+        for kinds in shapes::all(leaves) {
+            let mut asked = Asked::new(Case::of_kinds(&kinds, 3, 3, random), random);
+            for set in 0..1 << asked.case.n {
+                let mut nodes: Vec<u16> = (0..asked.case.n as u16).filter(|v| set >> v & 1 == 1).collect();
+                random.shuffle(&mut nodes);
+                let labels = random.bytes_below(nodes.len(), 3);
+                asked.ask(&nodes, &labels, random);
+            }
+        }
+    }
+}
+
+#[test]
+fn lists_of_every_length_on_every_shape() {
+    let random = &mut Random::new(1202);
+    for shape in SHAPES {
+        for m in 0..=64 {
+            let (leaves, s, k) = (random.between(1, 260), random.between(1, 16), random.between(1, 64));
+            let mut asked = Asked::new(Case::new(shape, leaves, s, k, random), random);
+            for _ in 0..3 {
+                let (mut nodes, mut labels) = asked.case.list(m, random);
+                let told = asked.ask(&nodes, &labels, random);
+                // the other way round it is the same question
+                nodes.reverse();
+                labels.reverse();
+                assert_eq!(asked.ask(&nodes, &labels, random), told);
+            }
+        }
+    }
+}
+
+#[test]
+fn small_trees_of_every_shape_and_every_length() {
+    let random = &mut Random::new(1203);
+    for shape in SHAPES {
+        for leaves in 1..=39 {
+            let (s, k) = (random.between(2, 5), random.between(2, 5));
+            let mut asked = Asked::new(Case::new(shape, leaves, s, k, random), random);
+            for m in [0, 1, 2, 3, 5, 8, 13, 64] {
+                let (nodes, labels) = asked.case.list(m, random);
+                asked.ask(&nodes, &labels, random);
+            }
+        }
+    }
+}
+
+/// N 65,535; in three of the shapes the greatest depth is 32,767.
+#[test]
+fn the_largest_plans() {
+    let random = &mut Random::new(1204);
+    for shape in SHAPES {
+        let (s, k) = *random.pick(&[(1, 1), (2, 64), (16, 64), (16, 2), (7, 33)]);
+        let mut asked = Asked::new(Case::new(shape, 32_768, s, k, random), random);
+        let deepest = *asked.tree.depth.iter().max().unwrap();
+        assert_eq!((asked.case.n, deepest == 32_767), (65_535, DEEPEST.contains(&shape)));
+        for m in [0, 1, 2, 8, 64] {
+            let (nodes, labels) = asked.case.list(m, random);
+            asked.ask(&nodes, &labels, random);
+        }
+        let deep = asked.tree.depth.iter().position(|&d| d == deepest).unwrap() as u16;
+        asked.ask(&[deep], &[0], random);
+        asked.ask(&[65_534, deep], &[0, k as u8 - 1], random);
+    }
+}
+
+/// 254 parts, and 4m - 2 for every m.
+#[test]
+fn as_many_parts_as_there_can_be() {
+    let random = &mut Random::new(1208);
+    let (kinds, listed) = shapes::most_parts();
+    let mut asked = Asked::new(Case::of_kinds(&kinds, 5, 3, random), random);
+    for m in 1..=64 {
+        let mut nodes = listed[..m].to_vec();
+        random.shuffle(&mut nodes);
+        let labels = random.bytes_below(m, 3);
+        assert_eq!(asked.ask(&nodes, &labels, random).parts as usize, 4 * m - 2);
+    }
+}
+
+/// "Listing a node with the label it already has is still a change."
+#[test]
+fn labels_that_are_there_already() {
+    let random = &mut Random::new(1205);
+    for turn in 0..60 {
+        let leaves = random.between(2, 60);
+        let mut asked = Asked::new(Case::new(SHAPES[turn % 6], leaves, 4, 3, random), random);
+        let (nodes, _) = asked.case.list(5, random);
+        let labels: Vec<u8> = nodes.iter().map(|&v| asked.case.labels()[v as usize]).collect();
+        let unchanged = asked.ask(&[], &[], random);
+        let told = asked.ask(&nodes, &labels, random);
+        assert_eq!((told.state, told.yes), (unchanged.state, unchanged.yes));
+        assert_eq!(told.parts as usize, by_marks(&asked.tree, &nodes).len());
+    }
+}
+
+#[test]
+fn limits_of_the_list() {
+    let random = &mut Random::new(1206);
+    let mut asked = Asked::new(Case::new(Shape::Uniform, 100, 16, 4, random), random);
+    let (nodes, labels) = asked.case.list(65, random);
+    asked.ask(&nodes[..64], &labels[..64], random);
+    let refused = |panel: &mut Panel, lent: &Lent, nodes: &[u16], labels: &[u8], random: &mut Random| match panel
+        .start(lent, nodes, labels, random)
+    {
+        Answer::Refused(number) => number,
+        other => panic!("{:?}", other),
+    };
+    let (panel, lent) = (&mut asked.panel, &asked.lent);
+    assert_eq!(refused(panel, lent, &nodes, &labels, random), 12);
+    assert_eq!(refused(panel, lent, &nodes[..64], &labels[..63], random), 12);
+    assert_eq!(refused(panel, lent, &[], &labels[..1], random), 12);
+    // 13 is put to the whole list before 14, and 14 before 15
+    assert_eq!(refused(panel, lent, &[0, 199], &[4, 0], random), 13);
+    assert_eq!(refused(panel, lent, &[0, 0], &[0, 4], random), 14);
+    assert_eq!(refused(panel, lent, &[5, 0, 5], &[1, 2, 1], random), 15);
+    // the answer before is still there
+    assert!(matches!(panel.call(&Call::Read, random), Answer::Told(_)));
+}
+
+/// The three records that docs/LAYOUT.md shows: after Load, after Start of 0→0, after two advances.
+#[test]
+fn the_records_of_the_layout_page() {
+    let random = &mut Random::new(1209);
+    let page = std::fs::read_to_string(concat!(env!("CARGO_MANIFEST_DIR"), "/../../docs/LAYOUT.md")).unwrap();
+    let shown = |row: &str| -> Vec<u8> {
+        let line = page.lines().find(|line| line.starts_with(row)).expect("a row of the page");
+        let cells: Vec<Vec<u8>> = line.split('|').skip(2).map(hex).collect();
+        let mut record = vec![0; 967];
+        record[..13].copy_from_slice(&cells[0]);
+        record[205..205 + cells[1].len()].copy_from_slice(&cells[1]);
+        record
+    };
+    let (plan, rules) = inputs::sample();
+    let lent = Lent::built(&Case { n: 7, s: 2, k: 2, plan, rules, branch: vec![] }, random);
+    let mut panel = Panel::loaded(&lent, random);
+    assert!(panel.record == shown("| after Load |"));
+    panel.start(&lent, &[0], &[0], random);
+    assert!(panel.record == shown("| after Start |"));
+    panel.finish(&lent, random);
+    assert!(panel.record == shown("| after two advances |"));
+}
+
+/// The bytes of a cell: pairs of digits in backticks, or nothing.
+fn hex(cell: &str) -> Vec<u8> {
+    let digits = cell.trim().trim_matches('`');
+    digits.split_whitespace().map(|byte| u8::from_str_radix(byte, 16).expect("a byte")).collect()
+}
+
+/// Nodes, labels, and what is told: state, yes, parts, links; or the refusal.
+type Row = (&'static [u16], &'static [u8], Result<(u32, bool, u32, u32), u32>);
+
+#[test]
+fn the_sample_clearance() {
+    let random = &mut Random::new(1207);
+    let (plan, rules) = inputs::sample();
+    let lent = Lent::built(&Case { n: 7, s: 2, k: 2, plan, rules, branch: vec![] }, random);
+    let mut panel = Panel::loaded(&lent, random);
+    let rows: [Row; 9] = [
+        (&[], &[], Ok((1, true, 1, 0))),
+        (&[0], &[0], Ok((0, false, 2, 1))),
+        (&[0, 2], &[0, 0], Ok((1, true, 3, 0))),
+        (&[0, 3], &[0, 1], Ok((0, false, 5, 0))),
+        (&[4], &[0], Ok((0, false, 2, 1))),
+        (&[6], &[0], Ok((1, true, 1, 0))),
+        (&[7], &[0], Err(13)),
+        (&[0], &[2], Err(14)),
+        (&[0, 0], &[0, 1], Err(15)),
+    ];
+    for (nodes, labels, told) in rows {
+        let answer = match panel.start(&lent, nodes, labels, random) {
+            Answer::Refused(number) => Err(number),
+            _ => Ok(panel.finish(&lent, random).1),
+        };
+        assert_eq!(answer.map(|t| (t.state, t.yes, t.parts, t.links)), told, "{:?} {:?}", nodes, labels);
+    }
+}

@@ -1,0 +1,267 @@
+//! The panel book of document 01. It "is fed the calls with their lists of changes and what the panel lends beside the
+//! record, never the record, and an answer only where a line below says so": a settled answer is there before the
+//! program's is known.
+//!
+//! What is left to the program, "save what Parts of a question and the closing words on 18 below settle": where plan,
+//! rules and 16-bit numbers are as built and as at Start, a question is `Firm` while the bytes lent with each accepted
+//! advance are below S. The rule settles it then, and never with 18.
+
+use crate::formats::{read_plan, read_rules};
+use crate::fresh::{changed, check_list, fresh_run};
+use crate::panel::{Answer, Call, Lends, Phase, Sizes, Told};
+use crate::parts::{Given, Part};
+use crate::ready::by_marks;
+use crate::session::named;
+use crate::tables::rule_tables;
+use crate::tree::Tree;
+use std::rc::Rc;
+
+/// "It starts empty and holds the session's state, N, S and K of the last accepted Load, and of the question its list,
+/// what its Start lent, a count, and whether it is clean".
+#[derive(Clone)]
+pub struct Book {
+    phase: Phase,
+    sizes: Sizes,
+    question: Option<Question>,
+}
+
+#[derive(Clone, Copy, Debug, PartialEq, Eq)]
+pub enum Standing {
+    /// "sound at Start and left alone, every accepted advance lent the same, excess aside"
+    Clean,
+    Firm,
+    Loose,
+}
+
+/// What a Start gave, without excess.
+struct Start {
+    nodes: Vec<u16>,
+    labels: Vec<u8>,
+    plan: Vec<u8>,
+    rules: Vec<u8>,
+    numbers: Vec<u16>,
+    bytes: Vec<u8>,
+    built: Option<Built>,
+}
+
+/// Where plan and rules pass 2 to 10 with N, S and K, and the numbers are what Load writes: the tree, the labels as
+/// changed, and the roots of the parts.
+struct Built {
+    tree: Tree,
+    changed: Vec<u8>,
+    roots: Vec<usize>,
+}
+
+#[derive(Clone)]
+struct Question {
+    start: Rc<Start>,
+    count: usize,
+    standing: Standing,
+    /// The parts by the rule, while the question is clean or firm.
+    parts: Vec<Part>,
+}
+
+/// The book's reply to a call.
+pub enum Next {
+    /// The answer, and the book then.
+    Settled(Answer, Book),
+    /// Left to the program: the book after its answer; none where that answer is not allowed.
+    Left(Box<dyn Fn(Answer) -> Option<Book>>),
+}
+
+impl Default for Book {
+    fn default() -> Book {
+        Book { phase: Phase::Empty, sizes: Sizes::NONE, question: None }
+    }
+}
+
+impl Book {
+    pub fn phase(&self) -> Phase {
+        self.phase
+    }
+
+    pub fn sizes(&self) -> Sizes {
+        self.sizes
+    }
+
+    /// How the question stands, if there is one.
+    pub fn standing(&self) -> Option<Standing> {
+        self.question.as_ref().map(|question| question.standing)
+    }
+
+    pub fn next(&self, call: &Call) -> Next {
+        if let Err(number) = self.first_no(call) {
+            return Next::Settled(Answer::Refused(number), self.clone());
+        }
+        match *call {
+            Call::Load(lends) => Next::Settled(Answer::Accepted, self.loaded(named(&lends))),
+            Call::Cancel => Next::Settled(Answer::Accepted, self.loaded(self.sizes)),
+            Call::Start(lends, nodes, labels) => self.start(lends, nodes, labels),
+            Call::Advance(lends) => self.advance(&lends),
+            Call::Read => self.read(),
+        }
+    }
+
+    /// "One of the next section's checks, 18 apart, says no: the first such number; the book stays."
+    fn first_no(&self, call: &Call) -> Result<(), u32> {
+        self.phase.allows(call)?;
+        match *call {
+            Call::Load(lends) => crate::build_checks(lends.plan, lends.rules, lends.numbers.len(), lends.bytes.len()),
+            Call::Start(lends, nodes, labels) => {
+                self.sizes.fit(&lends)?;
+                check_list(nodes, labels, self.sizes.n, self.sizes.k)
+            }
+            Call::Advance(lends) => self.sizes.fit(&lends),
+            Call::Cancel | Call::Read => Ok(()),
+        }
+    }
+
+    /// "Load, Cancel: loaded, no question."
+    fn loaded(&self, sizes: Sizes) -> Book {
+        Book { phase: Phase::Loaded, sizes, question: None }
+    }
+
+    fn with(&self, phase: Phase, question: Question) -> Book {
+        Book { phase, sizes: self.sizes, question: Some(question) }
+    }
+
+    /// "Start: running, count 0, clean if sound; clean, it tells the number of parts."
+    fn start(&self, lends: Lends, nodes: &[u16], labels: &[u8]) -> Next {
+        let (start, standing) = Start::new(self.sizes, &lends, nodes, labels);
+        let roots = start.built.as_ref().map(|built| built.roots.len());
+        let question = Question { start: Rc::new(start), count: 0, standing, parts: vec![] };
+        let running = self.with(Phase::Running, question);
+        if let Some(parts) = roots {
+            return Next::Settled(Answer::Parts(parts as u32), running);
+        }
+        let as_is = self.clone();
+        Next::Left(Box::new(move |answer| match answer {
+            Answer::Refused(18) => Some(as_is.clone()),
+            Answer::Parts(_) => Some(running.clone()),
+            _ => None,
+        }))
+    }
+
+    fn advance(&self, lends: &Lends) -> Next {
+        let question = self.question.as_ref().expect("running");
+        let (same, usable) = (question.start.same(lends), question.start.usable(self.sizes, lends));
+        let standing = match question.standing {
+            Standing::Clean if same => Standing::Clean,
+            Standing::Clean | Standing::Firm if usable => Standing::Firm,
+            _ => return self.advance_left(question, usable),
+        };
+        // "the count rises by one. At the number of parts it tells finished and the state is answered; until then it
+        // tells more."
+        let mut question = question.clone();
+        question.count += 1;
+        question.standing = standing;
+        let built = question.start.built.as_ref().expect("clean or firm");
+        let (v, last) = (built.roots[question.parts.len()], question.count == built.roots.len());
+        let part = question.start.on(lends.bytes, |given| given.part(&built.roots, &question.parts, v));
+        question.parts.push(part);
+        if last {
+            Next::Settled(Answer::Finished, self.with(Phase::Answered, question))
+        } else {
+            Next::Settled(Answer::More, self.with(Phase::Running, question))
+        }
+    }
+
+    /// "18 leaves the book as it is; an accepted advance makes the question unclean, and its more or finished gives the
+    /// state." No 18 where the tables lent are usable.
+    fn advance_left(&self, question: &Question, usable: bool) -> Next {
+        let after =
+            Question { standing: Standing::Loose, count: question.count + 1, parts: vec![], ..question.clone() };
+        let [more, finished] = [Phase::Running, Phase::Answered].map(|phase| self.with(phase, after.clone()));
+        let as_is = self.clone();
+        Next::Left(Box::new(move |answer| match answer {
+            Answer::Refused(18) if !usable => Some(as_is.clone()),
+            Answer::More => Some(more.clone()),
+            Answer::Finished => Some(finished.clone()),
+            _ => None,
+        }))
+    }
+
+    fn read(&self) -> Next {
+        let question = self.question.as_ref().expect("answered");
+        let told = match question.standing {
+            Standing::Clean => question.start.fresh_answer(),
+            Standing::Firm => question.start.rule_answer(&question.parts),
+            Standing::Loose => {
+                let as_is = self.clone();
+                let told = move |answer| if let Answer::Told(_) = answer { Some(as_is.clone()) } else { None };
+                return Next::Left(Box::new(told));
+            }
+        };
+        Next::Settled(Answer::Told(told), self.clone())
+    }
+}
+
+impl Start {
+    /// Lends that fit. "Sound means that plan and rules pass 2 to 10 with that N, S and K and the tables, excess aside,
+    /// are what Load writes from them." Nothing asks whether it is the plan of the Load.
+    fn new(sizes: Sizes, lends: &Lends, nodes: &[u16], labels: &[u8]) -> (Start, Standing) {
+        let mut start = Start {
+            nodes: nodes.to_vec(),
+            labels: labels.to_vec(),
+            plan: lends.plan.to_vec(),
+            rules: lends.rules.to_vec(),
+            numbers: lends.numbers[..4 * sizes.n].to_vec(),
+            bytes: lends.bytes[..(sizes.s + 1) * sizes.n].to_vec(),
+            built: None,
+        };
+        let passes = crate::build_checks(lends.plan, lends.rules, usize::MAX, usize::MAX).is_ok();
+        if !passes || named(lends) != sizes {
+            return (start, Standing::Loose);
+        }
+        let (plan, rules) = (read_plan(lends.plan).unwrap(), read_rules(lends.rules).unwrap());
+        let written = rule_tables(&plan, &rules);
+        if start.numbers != written.numbers {
+            return (start, Standing::Loose);
+        }
+        let tree = Tree::of(&plan);
+        let (changed, roots) = (changed(plan.labels, nodes, labels), by_marks(&tree, nodes));
+        start.built = Some(Built { tree, changed, roots });
+        let sound = start.bytes == written.bytes;
+        (start, if sound { Standing::Clean } else { Standing::Firm })
+    }
+
+    fn same_links(&self, lends: &Lends) -> bool {
+        lends.plan == self.plan && lends.rules == self.rules && lends.numbers.starts_with(&self.numbers)
+    }
+
+    /// "lent the same, excess aside"
+    fn same(&self, lends: &Lends) -> bool {
+        self.same_links(lends) && lends.bytes.starts_with(&self.bytes)
+    }
+
+    /// "Where plan and rules name the record's N, S and K and, like the 16-bit numbers, are as at Start and as built,
+    /// but run states and maps are any bytes below S".
+    fn usable(&self, sizes: Sizes, lends: &Lends) -> bool {
+        let used = &lends.bytes[..self.bytes.len()];
+        self.built.is_some() && self.same_links(lends) && used.iter().all(|&q| (q as usize) < sizes.s)
+    }
+
+    /// The rule on Start's plan and rules and some bytes.
+    fn on<T>(&self, bytes: &[u8], f: impl FnOnce(&Given) -> T) -> T {
+        let (plan, rules) = (read_plan(&self.plan).unwrap(), read_rules(&self.rules).unwrap());
+        let built = self.built.as_ref().expect("clean or firm");
+        f(&Given { tree: &built.tree, labels: plan.labels, changed: &built.changed, rules: &rules, bytes })
+    }
+
+    /// "the root state, and its yes or no, of a fresh run (.. on Start's plan with the listed labels changed), the
+    /// parts, and as links the moves of its parts' climbs"
+    fn fresh_answer(&self) -> Told {
+        let fresh = fresh_run(&self.plan, &self.rules, &self.nodes, &self.labels).expect("sound");
+        let roots = &self.built.as_ref().expect("sound").roots;
+        let links: usize = self.on(&self.bytes, |given| given.parts(roots)).iter().map(|part| part.links).sum();
+        Told { state: fresh.state as u32, yes: fresh.yes, parts: roots.len() as u32, links: links as u32 }
+    }
+
+    /// What the rule gave on the bytes that were lent.
+    fn rule_answer(&self, parts: &[Part]) -> Told {
+        let rules = read_rules(&self.rules).expect("firm");
+        let state = parts[parts.len() - 1].state;
+        let links: usize = parts.iter().map(|part| part.links).sum();
+        Told { state: state as u32, yes: rules.accepts(state), parts: parts.len() as u32, links: links as u32 }
+    }
+}

@@ -1,0 +1,159 @@
+//! A question on lent tables, whatever they hold: the roots of its parts and one part, or 18, where "a value read leads
+//! outside the plan, the states or the labels, or a climb doesn't rise". N, S and K are the record's; no header is read.
+
+use crate::climb::{climb, Lent, Links, Move};
+use crate::panel::{Lends, Sizes};
+use crate::parts::Part;
+use std::collections::BTreeSet;
+
+/// What is lent, cut by N, S and K.
+pub struct View<'a> {
+    sizes: Sizes,
+    labels: &'a [u8],
+    kinds: &'a [u8],
+    leaf: &'a [u8],
+    inner: &'a [u8],
+    marks: &'a [u8],
+    links: Lent<'a>,
+    bytes: &'a [u8],
+}
+
+impl<'a> View<'a> {
+    /// Of lends that fit.
+    pub fn new(sizes: Sizes, lends: &Lends<'a>) -> View<'a> {
+        let Sizes { n, s, k } = sizes;
+        let (labels, kinds) = lends.plan[12..].split_at(n);
+        let (leaf, rest) = lends.rules[20..].split_at(k);
+        let (inner, marks) = rest.split_at(s * k * s);
+        let links = Lent { nodes: n, numbers: &lends.numbers[..4 * n] };
+        View { sizes, labels, kinds, leaf, inner, marks, links, bytes: &lends.bytes[..(s + 1) * n] }
+    }
+
+    /// The listed nodes and the root; for each two neighbours of these, the root apart, the lowest node at or above the
+    /// second that has the first below it and, where that is not the second, its two children.
+    pub fn roots(&self, listed: &[u16]) -> Result<Vec<usize>, u32> {
+        let root = self.sizes.n - 1;
+        let mut wanted: BTreeSet<usize> = listed.iter().map(|&v| v as usize).collect();
+        wanted.insert(root);
+        let in_order: Vec<usize> = wanted.iter().copied().collect();
+        for pair in in_order.windows(2).filter(|pair| pair[1] != root) {
+            let x = self.meet(pair[0], pair[1])?;
+            if x != pair[1] {
+                let (left, right) = self.children(x)?;
+                wanted.extend([x, left, right]);
+            }
+        }
+        Ok(wanted.into_iter().collect())
+    }
+
+    /// From v up, by the jump unless that has u below it, else to the parent, until a node has u below it.
+    fn meet(&self, u: usize, v: usize) -> Result<usize, u32> {
+        let mut x = v;
+        while !self.is_below(u, x) {
+            let jump = self.links.jump(x);
+            if jump >= self.sizes.n {
+                return Err(18);
+            }
+            let next = if self.is_below(u, jump) { self.links.parent(x) } else { jump };
+            if next >= self.sizes.n || self.links.depth(next) >= self.links.depth(x) {
+                return Err(18);
+            }
+            x = next;
+        }
+        Ok(x)
+    }
+
+    /// By the lent size of c.
+    fn is_below(&self, v: usize, c: usize) -> bool {
+        v <= c && c < v + self.links.size(c)
+    }
+
+    /// In post-order the right child of x is the node before it, and the left one stands before the right one's nodes.
+    fn children(&self, x: usize) -> Result<(usize, usize), u32> {
+        let right = x.checked_sub(1).ok_or(18u32)?;
+        let left = right.checked_sub(self.links.size(right)).ok_or(18u32)?;
+        Ok((left, right))
+    }
+
+    /// The part of root v after the roots and states handled before it, with the list's labels: the last entry of a
+    /// node holds.
+    pub fn part(&self, handled: &[(usize, u8)], nodes: &[u16], labels: &[u8], v: usize) -> Result<Part, u32> {
+        let listed = nodes.iter().rposition(|&w| w as usize == v);
+        let a = listed.map_or(self.labels[v], |at| labels[at]) as usize;
+        if self.kinds[v] == 0 {
+            let state = self.state(self.leaf[self.label(a)?])?;
+            return Ok(Part { state, links: 0 });
+        }
+        let (left, right) = self.children(v)?;
+        let last_below = |c: usize| handled.iter().copied().rfind(|&(w, _)| self.is_below(w, c));
+        let depth = self.links.depth(v) + 1;
+        let unmoved = |state: u8| Part { state, links: 0 };
+        let (l, r) = match (last_below(left), last_below(right)) {
+            (None, None) => (unmoved(self.run(left)?), unmoved(self.run(right)?)),
+            (Some(f), None) => (self.climbed(f, depth)?, unmoved(self.run(right)?)),
+            (None, Some(g)) => (unmoved(self.run(left)?), self.climbed(g, depth)?),
+            (Some(f), Some(g)) => (unmoved(f.1), unmoved(g.1)),
+        };
+        Ok(Part { state: self.rule(l.state, a, r.state)?, links: l.links + r.links })
+    }
+
+    /// The climb from a root and its state to a depth.
+    fn climbed(&self, (w, from): (usize, u8), depth: usize) -> Result<Part, u32> {
+        let moves = climb(&self.links, w, depth)?;
+        let mut q = from;
+        for &one in &moves {
+            q = match one {
+                Move::ByJump(v) => self.state(self.bytes[self.row(v) + 1 + q as usize])?,
+                Move::ToParent(v) => self.to_parent(v, q)?,
+            };
+        }
+        Ok(Part { state: q, links: moves.len() })
+    }
+
+    /// v is the right child where its parent is the next node.
+    fn to_parent(&self, v: usize, q: u8) -> Result<u8, u32> {
+        let p = self.links.parent(v);
+        let a = self.labels[p] as usize;
+        if p == v + 1 {
+            let left = v.checked_sub(self.links.size(v)).ok_or(18u32)?;
+            self.rule(self.run(left)?, a, q)
+        } else {
+            let right = p.checked_sub(1).ok_or(18u32)?;
+            self.rule(q, a, self.run(right)?)
+        }
+    }
+
+    /// Yes exactly where the mark is 1.
+    pub fn accepts(&self, state: u8) -> bool {
+        self.marks[state as usize] == 1
+    }
+
+    fn rule(&self, p: u8, a: usize, q: u8) -> Result<u8, u32> {
+        let at = (p as usize * self.sizes.k + self.label(a)?) * self.sizes.s + q as usize;
+        self.state(self.inner[at])
+    }
+
+    fn run(&self, v: usize) -> Result<u8, u32> {
+        self.state(self.bytes[self.row(v)])
+    }
+
+    fn row(&self, v: usize) -> usize {
+        (self.sizes.s + 1) * v
+    }
+
+    fn state(&self, q: u8) -> Result<u8, u32> {
+        if (q as usize) < self.sizes.s {
+            Ok(q)
+        } else {
+            Err(18)
+        }
+    }
+
+    fn label(&self, a: usize) -> Result<usize, u32> {
+        if a < self.sizes.k {
+            Ok(a)
+        } else {
+            Err(18)
+        }
+    }
+}

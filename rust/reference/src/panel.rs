@@ -1,0 +1,88 @@
+//! What passes between the panel and a session: the calls with what is lent beside the record, and the answers.
+
+/// Plan, rule table, node table and state table.
+#[derive(Clone, Copy)]
+pub struct Lends<'a> {
+    pub plan: &'a [u8],
+    pub rules: &'a [u8],
+    pub numbers: &'a [u16],
+    pub bytes: &'a [u8],
+}
+
+#[derive(Clone, Copy)]
+pub enum Call<'a> {
+    Load(Lends<'a>),
+    /// With the listed nodes and their labels.
+    Start(Lends<'a>, &'a [u16], &'a [u8]),
+    Advance(Lends<'a>),
+    Cancel,
+    Read,
+}
+
+#[derive(Clone, Copy, Debug, PartialEq, Eq)]
+pub enum Answer {
+    Refused(u32),
+    Accepted,
+    Parts(u32),
+    More,
+    Finished,
+    Told(Told),
+}
+
+/// "state, yes or no, parts, links"
+#[derive(Clone, Copy, Debug, PartialEq, Eq)]
+pub struct Told {
+    pub state: u32,
+    pub yes: bool,
+    pub parts: u32,
+    pub links: u32,
+}
+
+/// "Load is allowed unless running; Start in loaded or answered; advance and Cancel in running; Read in answered."
+#[derive(Clone, Copy, Debug, PartialEq, Eq)]
+pub enum Phase {
+    Empty,
+    Loaded,
+    Running,
+    Answered,
+}
+
+/// N, S and K.
+#[derive(Clone, Copy, Debug, PartialEq, Eq)]
+pub struct Sizes {
+    pub n: usize,
+    pub s: usize,
+    pub k: usize,
+}
+
+impl Sizes {
+    pub const NONE: Sizes = Sizes { n: 0, s: 0, k: 0 };
+
+    /// "lent plan, rules and tables at least as long as N, S and K need, plan and rules exactly?"
+    pub fn fit(&self, lends: &Lends) -> Result<(), u32> {
+        let Sizes { n, s, k } = *self;
+        let exact = lends.plan.len() == 12 + 2 * n && lends.rules.len() == 20 + k + s * k * s + s;
+        if exact && lends.numbers.len() >= 4 * n && lends.bytes.len() >= (s + 1) * n {
+            Ok(())
+        } else {
+            Err(17)
+        }
+    }
+}
+
+impl Phase {
+    /// "may it be made in this state? 1"
+    pub fn allows(self, call: &Call) -> Result<(), u32> {
+        let allowed = match call {
+            Call::Load(_) => self != Phase::Running,
+            Call::Start(..) => self == Phase::Loaded || self == Phase::Answered,
+            Call::Advance(_) | Call::Cancel => self == Phase::Running,
+            Call::Read => self == Phase::Answered,
+        };
+        if allowed {
+            Ok(())
+        } else {
+            Err(1)
+        }
+    }
+}

@@ -1,0 +1,63 @@
+//! The ready set: "the least set that holds W, holds the lowest common ancestor of any two members, and holds both
+//! children of a member that has members below both." W is the listed nodes and the root.
+//!
+//! Twice, each with the members rising: by doing what the sentence says until nothing is added (`closure`, for small
+//! trees), and by marks from the leaves up (`by_marks`, for trees of any size).
+
+use crate::tree::Tree;
+use std::collections::BTreeSet;
+
+pub fn closure(tree: &Tree, listed: &[u16]) -> Vec<usize> {
+    let mut members: BTreeSet<usize> = listed.iter().map(|&v| v as usize).collect();
+    members.insert(tree.root());
+    loop {
+        let more = once_more(tree, &members);
+        if more == members {
+            return members.into_iter().collect();
+        }
+        members = more;
+    }
+}
+
+/// The members, with what they ask for.
+fn once_more(tree: &Tree, members: &BTreeSet<usize>) -> BTreeSet<usize> {
+    let mut more = members.clone();
+    for &u in members {
+        more.extend(members.iter().map(|&v| lowest_common_ancestor(tree, u, v)));
+        if let Some((left, right)) = tree.children[u] {
+            let below = |child| members.iter().any(|&w| tree.at_or_below(w, child));
+            if below(left) && below(right) {
+                more.extend([left, right]);
+            }
+        }
+    }
+    more
+}
+
+/// The first node on the way up from u that has v at or below it.
+fn lowest_common_ancestor(tree: &Tree, u: usize, v: usize) -> usize {
+    let mut x = u;
+    while !tree.at_or_below(v, x) {
+        x = tree.parent[x];
+    }
+    x
+}
+
+/// A node forks where listed nodes are below both children. The members are the listed nodes, the root, the nodes that
+/// fork and their children.
+pub fn by_marks(tree: &Tree, listed: &[u16]) -> Vec<usize> {
+    let nodes = tree.parent.len();
+    let mut is_listed = vec![false; nodes];
+    for &v in listed {
+        is_listed[v as usize] = true;
+    }
+    let mut has_below = is_listed.clone();
+    let mut forks = vec![false; nodes];
+    for v in 0..nodes {
+        if let Some((left, right)) = tree.children[v] {
+            has_below[v] |= has_below[left] | has_below[right];
+            forks[v] = has_below[left] && has_below[right];
+        }
+    }
+    (0..nodes).filter(|&v| is_listed[v] || v == tree.root() || forks[v] || forks[tree.parent[v]]).collect()
+}

@@ -1,0 +1,135 @@
+//! The session record and its bytes.
+//!
+//! | Offset | Bytes | Holds |
+//! |---|---|---|
+//! | 0 | 1 | state: 0 empty, 1 loaded, 2 running, 3 answered |
+//! | 1 | 1 | yes 1, no 0; 0 unless answered |
+//! | 2 | 1 | S |
+//! | 3 | 1 | K |
+//! | 4 | 2 | N |
+//! | 6 | 1 | m, the changes listed |
+//! | 7 | 1 | the parts |
+//! | 8 | 1 | the parts handled |
+//! | 9 | 4 | the links so far |
+//! | 13 | 128 | the nodes as listed, two bytes each |
+//! | 141 | 64 | their labels |
+//! | 205 | 508 | the roots of the parts, two bytes each |
+//! | 713 | 254 | the states of the parts handled |
+//!
+//! Numbers of more than one byte are little-endian, and unused entries are zero.
+
+use crate::formats::{MAX_LABELS, MAX_STATES};
+use crate::fresh::MAX_CHANGES;
+use crate::panel::{Phase, Sizes};
+
+pub const RECORD_BYTES: usize = 967;
+/// 4 × 64 - 2.
+pub const MAX_PARTS: usize = 254;
+
+#[derive(Clone, Debug, PartialEq, Eq)]
+pub struct Record {
+    pub phase: Phase,
+    pub yes: bool,
+    pub sizes: Sizes,
+    pub links: u32,
+    pub nodes: Vec<u16>,
+    pub labels: Vec<u8>,
+    pub roots: Vec<u16>,
+    pub states: Vec<u8>,
+}
+
+impl Record {
+    pub fn fresh() -> Record {
+        Record::idle(Phase::Empty, Sizes::NONE)
+    }
+
+    /// "Load and Cancel end in loaded with the record exactly as after a first Load of that plan."
+    pub fn loaded(sizes: Sizes) -> Record {
+        Record::idle(Phase::Loaded, sizes)
+    }
+
+    fn idle(phase: Phase, sizes: Sizes) -> Record {
+        let (nodes, labels, roots, states) = (vec![], vec![], vec![], vec![]);
+        Record { phase, yes: false, sizes, links: 0, nodes, labels, roots, states }
+    }
+
+    pub fn bytes(&self) -> Vec<u8> {
+        let phase =
+            [Phase::Empty, Phase::Loaded, Phase::Running, Phase::Answered].iter().position(|&p| p == self.phase);
+        let counts = [self.nodes.len(), self.roots.len(), self.states.len()];
+        let mut bytes = vec![phase.unwrap() as u8, self.yes as u8, self.sizes.s as u8, self.sizes.k as u8];
+        bytes.extend((self.sizes.n as u16).to_le_bytes());
+        bytes.extend(counts.map(|count| count as u8));
+        bytes.extend(self.links.to_le_bytes());
+        let doubled = |list: &[u16]| list.iter().flat_map(|v| v.to_le_bytes()).collect::<Vec<u8>>();
+        for (list, end) in [
+            (doubled(&self.nodes), 141),
+            (self.labels.clone(), 205),
+            (doubled(&self.roots), 713),
+            (self.states.clone(), RECORD_BYTES),
+        ] {
+            bytes.extend(list);
+            assert!(bytes.len() <= end);
+            bytes.resize(end, 0);
+        }
+        bytes
+    }
+
+    /// The record of these bytes; none where they can't be a session's. What the plan and the rules would be needed for
+    /// is not asked, nor whether a node is listed twice.
+    pub fn of(bytes: &[u8]) -> Option<Record> {
+        if bytes.len() != RECORD_BYTES {
+            return None;
+        }
+        let [m, parts, handled] = [bytes[6] as usize, bytes[7] as usize, bytes[8] as usize];
+        if m > MAX_CHANGES || parts > MAX_PARTS || handled > parts {
+            return None;
+        }
+        let record = Record {
+            phase: *[Phase::Empty, Phase::Loaded, Phase::Running, Phase::Answered].get(bytes[0] as usize)?,
+            yes: bytes[1] == 1,
+            sizes: Sizes { n: word(bytes, 4) as usize, s: bytes[2] as usize, k: bytes[3] as usize },
+            links: u32::from_le_bytes(bytes[9..13].try_into().unwrap()),
+            nodes: (0..m).map(|i| word(bytes, 13 + 2 * i)).collect(),
+            labels: bytes[141..141 + m].to_vec(),
+            roots: (0..parts).map(|i| word(bytes, 205 + 2 * i)).collect(),
+            states: bytes[713..713 + handled].to_vec(),
+        };
+        // bytes that no record has: entries in use no more, a yes of 2
+        if record.bytes() == bytes && record.holds() {
+            Some(record)
+        } else {
+            None
+        }
+    }
+
+    /// What each state asks for.
+    fn holds(&self) -> bool {
+        match self.phase {
+            Phase::Empty => *self == Record::fresh(),
+            Phase::Loaded => self.sizes_hold() && *self == Record::loaded(self.sizes),
+            Phase::Running => self.question_holds() && self.states.len() < self.roots.len() && !self.yes,
+            Phase::Answered => self.question_holds() && self.states.len() == self.roots.len(),
+        }
+    }
+
+    fn sizes_hold(&self) -> bool {
+        let Sizes { n, s, k } = self.sizes;
+        n >= 1 && (1..=MAX_STATES as usize).contains(&s) && (1..=MAX_LABELS as usize).contains(&k)
+    }
+
+    fn question_holds(&self) -> bool {
+        let Sizes { n, s, k } = self.sizes;
+        self.sizes_hold()
+            && self.nodes.iter().all(|&v| (v as usize) < n)
+            && self.labels.iter().all(|&a| (a as usize) < k)
+            && self.roots.windows(2).all(|pair| pair[0] < pair[1])
+            && self.roots.last().map_or(false, |&last| last as usize == n - 1)
+            && self.states.iter().all(|&q| (q as usize) < s)
+            && self.links as usize <= 65_535 * self.states.len()
+    }
+}
+
+fn word(bytes: &[u8], at: usize) -> u16 {
+    u16::from_le_bytes([bytes[at], bytes[at + 1]])
+}

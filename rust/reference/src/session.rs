@@ -1,0 +1,97 @@
+//! The five calls of the panel session, on the record's bytes.
+
+use crate::build;
+use crate::formats::number;
+use crate::fresh::check_list;
+use crate::lent::View;
+use crate::panel::{Answer, Call, Lends, Phase, Sizes, Told};
+use crate::record::Record;
+use crate::tables::Tables;
+
+/// What a call leaves: the answer, the record's bytes, and the tables that an accepted Load writes.
+pub struct Done {
+    pub answer: Answer,
+    pub record: Vec<u8>,
+    pub tables: Option<Tables>,
+}
+
+/// "The first no gives its number; nothing else is returned and nothing is altered." Bytes that break the record's
+/// layout get 1.
+pub fn call(bytes: &[u8], call: &Call) -> Done {
+    let record = match Record::of(bytes) {
+        Some(record) => record,
+        None => return refused(bytes, 1),
+    };
+    match record.after(call) {
+        Ok((answer, record, tables)) => Done { answer, record: record.bytes(), tables },
+        Err(number) => refused(bytes, number),
+    }
+}
+
+fn refused(bytes: &[u8], number: u32) -> Done {
+    Done { answer: Answer::Refused(number), record: bytes.to_vec(), tables: None }
+}
+
+type After = (Answer, Record, Option<Tables>);
+
+impl Record {
+    fn after(self, call: &Call) -> Result<After, u32> {
+        self.phase.allows(call)?;
+        match *call {
+            Call::Load(lends) => load(lends),
+            Call::Start(lends, nodes, labels) => self.start(lends, nodes, labels),
+            Call::Advance(lends) => self.advance(lends),
+            Call::Cancel => Ok((Answer::Accepted, Record::loaded(self.sizes), None)),
+            Call::Read => {
+                let state = self.states[self.states.len() - 1] as u32;
+                let told = Told { state, yes: self.yes, parts: self.roots.len() as u32, links: self.links };
+                Ok((Answer::Told(told), self, None))
+            }
+        }
+    }
+
+    /// 17, 12 to 15, 18. "clean, it tells the number of parts"; nothing of an earlier question stays.
+    fn start(self, lends: Lends, nodes: &[u16], labels: &[u8]) -> Result<After, u32> {
+        self.sizes.fit(&lends)?;
+        check_list(nodes, labels, self.sizes.n, self.sizes.k)?;
+        let roots = View::new(self.sizes, &lends).roots(nodes)?;
+        let answer = Answer::Parts(roots.len() as u32);
+        let record = Record {
+            phase: Phase::Running,
+            nodes: nodes.to_vec(),
+            labels: labels.to_vec(),
+            roots: roots.iter().map(|&v| v as u16).collect(),
+            ..Record::loaded(self.sizes)
+        };
+        Ok((answer, record, None))
+    }
+
+    /// 17, 18. One more state, and its links.
+    fn advance(mut self, lends: Lends) -> Result<After, u32> {
+        self.sizes.fit(&lends)?;
+        let view = View::new(self.sizes, &lends);
+        let handled: Vec<(usize, u8)> = self.roots.iter().map(|&v| v as usize).zip(self.states.clone()).collect();
+        let v = self.roots[handled.len()] as usize;
+        let part = view.part(&handled, &self.nodes, &self.labels, v)?;
+        self.states.push(part.state);
+        self.links += part.links as u32;
+        if self.states.len() < self.roots.len() {
+            return Ok((Answer::More, self, None));
+        }
+        self.phase = Phase::Answered;
+        self.yes = view.accepts(part.state);
+        Ok((Answer::Finished, self, None))
+    }
+}
+
+/// 2 to 11.
+fn load(lends: Lends) -> Result<After, u32> {
+    let tables = build(lends.plan, lends.rules, lends.numbers.len(), lends.bytes.len())?;
+    Ok((Answer::Accepted, Record::loaded(named(&lends)), Some(tables)))
+}
+
+/// N, S and K as the headers name them.
+pub fn named(lends: &Lends) -> Sizes {
+    let [n, s, k] = [number(lends.plan, 0), number(lends.rules, 0), number(lends.rules, 4)];
+    Sizes { n: n as usize, s: s as usize, k: k as usize }
+}
