@@ -1,3 +1,4 @@
 pub mod Numbers
 pub mod PanelLaws
+pub mod PanelTheorem
 pub mod Theorems

@@ -4,4 +4,5 @@ pub mod RunLaws
 pub mod ByteTests
 pub mod Theorems
 pub mod Types
+pub mod ValidTypes
 pub mod Controls

@@ -63,7 +63,7 @@ module _ (s : Session) (rules : List ℕ) (q l : ℕ) (t : Session) where
   handled-more e f = rw (ne-eqb (s .handled + 1) (s .parts) e, f)
 
 -- a list that rises to e is nowhere above it
-rises-below : (e : ℕ) (l : List ℕ) (i : ℕ) → risesTo e l ≡ true → i < length l → getD l i 0 ≤ e
+pub rises-below : (e : ℕ) (l : List ℕ) (i : ℕ) → risesTo e l ≡ true → i < length l → getD l i 0 ≤ e
 unfolding risesTo
 rises-below e [] i r h = absurd (omega arith)
 rises-below e (x ∷ []) zero r h = omega (arith, eqb-true x e r)

@@ -1,0 +1,129 @@
+-- Demand 3 for the session calls on record bytes: every list of calls, from 967 zeros, whatever is lent, is answered as the
+-- panel book says.
+--     panel-demand-3     the theorem, over what the exported calls answer and leave (Panel: answerFor, recordFor)
+--     panel-refines      each call on bytes is the session's call on the struct of those bytes
+-- Assumes nothing.
+use Prim.Native.Nat.{ℕ, zero, suc}
+use mathlib.Core.Path.{_≡_, refl, sym, ap, ap₂, _∙_, subst}
+use mathlib.Core.Bool.{Bool, true, false, cond}
+use mathlib.Core.Option.{Option, none, some}
+use mathlib.Core.List.{List}
+use lib.Dec.{eqb}
+use lib.ListN.{length, getD, replicate}
+use Rattle.formats.proofs.CheckLaws.{and-left}
+use Rattle.questions.specs.Climbs.{Reached}
+use Rattle.book.specs.Lends.{Lent}
+use Rattle.book.specs.Calls.{Call, load, start, advance, cancel, read, Answer, more, finished, Phase}
+use Rattle.book.specs.Refusals.{refusal}
+use Rattle.book.specs.Demand3.{Demand3}
+use Rattle.book.specs.Model.{Record, Acted, acted, stepped, marksBy, freshRecord, proceeds, unless, act, startWith, advanceWith, Does}
+use Rattle.book.proofs.Demand3Theorem.{Refines, demand-3, demand-3-of}
+use Rattle.book.proofs.LayersHold.{layers}
+use Rattle.session.specs.declared.state.Session.{Session}
+use Rattle.session.specs.Records.{recordOf, sessionOf, valid, freshSession}
+use Rattle.session.specs.Promises.{answerOn, recordOn}
+use Rattle.session.proofs.Holds.{struct-is}
+use Rattle.session.proofs.Refine.{Seen, fresh-seen, done-refines}
+use Rattle.records.specs.Layout.{encoded, decoded, laidOut, validBytes, InTypes}
+use Rattle.records.proofs.Theorems.{decode-encode, encoded-valid, fresh-bytes}
+use Rattle.records.proofs.ValidTypes.{valid-types}
+use Rattle.capi.specs.Panel.{answerFor, unlessRefused, recordFor}
+
+-- a call on bytes: the answer and the bytes that its contract names
+pub record ByteStep (b : List ℕ) (c : Call) (a : Answer) (b′ : List ℕ) : Type 0 where
+  pub tells : a ≡ answerFor b c
+  pub leaves : b′ ≡ recordFor b c
+
+-- the bytes of a struct that holds record r
+pub record Held (b : List ℕ) (r : Record) : Type 0 where
+  pub struct : Session
+  pub bytes : b ≡ encoded struct
+  pub seen : Seen struct r
+
+-- ---- a refusal leaves the record, so its bytes
+
+abbrev bytesOf : Record → List ℕ
+bytesOf r = encoded (sessionOf r)
+
+abbrev Settled : Record → Acted → Type 0
+Settled r a = unlessRefused (a .answer) (bytesOf (a .record′)) (bytesOf r) ≡ bytesOf (a .record′)
+
+module _ (r : Record) where
+  on-cond : (b : Bool) (x y : Acted) → Settled r x → Settled r y → Settled r (cond b x y)
+  on-cond true x y e f = e
+  on-cond false x y e f = f
+
+  on-start : (vs bs : List ℕ) (o : Option (List ℕ)) → Settled r (startWith r vs bs o)
+  unfolding startWith unlessRefused
+  on-start vs bs none = refl
+  on-start vs bs (some rs) = refl
+
+  on-advance : (x : Lent) (o : Option Reached) → Settled r (advanceWith r x o)
+  unfolding advanceWith unlessRefused
+  on-advance x none = refl
+  on-advance x (some y) =
+      on-cond (eqb (suc (length (r .states))) (length (r .roots)))
+      (acted finished (stepped r Phase.answered y (eqb (getD (marksBy (r .sizes) x) (y .state) 0) 1)))
+      (acted more (stepped r Phase.running y false)) refl refl
+
+  on-call : (c : Call) → Settled r (proceeds r c)
+  unfolding proceeds unlessRefused
+  on-call (load x) = refl
+  on-call (start x vs bs) = on-start vs bs _
+  on-call (advance x) = on-advance x _
+  on-call cancel = refl
+  on-call read = refl
+
+  settled : (c : Call) → Settled r (act r c)
+  unfolding act unless unlessRefused
+  settled c = go (refusal (r .phase) (r .sizes) c)
+    where
+      go : (n : ℕ) → Settled r (unless n r c)
+      go zero = on-call c
+      go (suc n) = refl
+
+-- ---- a call on the bytes of a struct
+
+module _ (s : Session) (r : Record) (i : Seen s r) (c : Call) where
+  types : InTypes s
+  types = valid-types s (i .shaped) (i .passes)
+
+  laid : laidOut (encoded s) ≡ true
+  unfolding validBytes
+  laid = and-left (laidOut (encoded s)) (valid (decoded (encoded s))) (encoded-valid s types (i .passes))
+
+  answer-is : answerFor (encoded s) c ≡ answerOn s c
+  unfolding answerFor
+  answer-is = rw laid (ap (λ (t : Session). answerOn t c) (decode-encode s types))
+
+  model-answer : answerOn s c ≡ act (recordOf s) c .answer
+  unfolding answerOn
+  model-answer = rw (i .passes)
+
+  model-record : recordOn s c ≡ sessionOf (act (recordOf s) c .record′)
+  unfolding recordOn
+  model-record = rw (i .passes)
+
+  record-is : recordFor (encoded s) c ≡ encoded (recordOn s c)
+  unfolding recordFor
+  record-is =
+      ap₂ (λ (a : Answer) (t : Session). unlessRefused a (encoded (recordOn t c)) (encoded s)) (answer-is ∙ model-answer) (decode-encode s types)
+      ∙ ap₂ (λ (t u : Session). unlessRefused (act (recordOf s) c .answer) (encoded t) (encoded u)) model-record
+      (sym (struct-is s (i .shaped) (i .passes)))
+      ∙ settled (recordOf s) c
+      ∙ sym (ap encoded model-record)
+
+  step-is : (a : Answer) (b′ : List ℕ) → ByteStep (encoded s) c a b′ → (r′ : Record) × Does r c a r′ × Held b′ r′
+  step-is a b′ e =
+      let d = done-refines s r i c a (recordOn s c) (record { tells = e .tells ∙ answer-is; leaves = refl }) in
+      (d .0, d .1, record { struct = recordOn s c; bytes = e .leaves ∙ record-is; seen = d .2 })
+
+pub panel-refines : Refines ByteStep Does Held
+panel-refines b b′ r c a h e =
+    step-is (h .struct) r (h .seen) c a b′ (subst (λ (t : List ℕ). ByteStep t c a b′) (h .bytes) e)
+
+fresh-held : Held (replicate 967 0) freshRecord
+fresh-held = record { struct = freshSession; bytes = sym fresh-bytes; seen = fresh-seen }
+
+pub panel-demand-3 : Demand3 (replicate 967 0) ByteStep
+panel-demand-3 = demand-3-of ByteStep Does Held panel-refines (replicate 967 0) freshRecord fresh-held (demand-3 layers)
