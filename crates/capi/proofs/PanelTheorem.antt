@@ -1,6 +1,6 @@
 -- Demand 3 for the session calls on record bytes: every list of calls, from 967 zeros, whatever is lent, is answered as the
 -- panel book says.
---     panel-demand-3     the theorem, over what the exported calls answer and leave (Panel: answerFor, recordFor)
+--     panel-demand-3     the theorem, over the very promises of the five exported functions, heard as numbers and values (Heard)
 --     panel-refines      each call on bytes is the session's call on the struct of those bytes
 -- Assumes nothing.
 use Prim.Native.Nat.{ℕ, zero, suc}
@@ -27,12 +27,14 @@ use Rattle.session.proofs.Refine.{Seen, fresh-seen, done-refines}
 use Rattle.records.specs.Layout.{encoded, decoded, laidOut, validBytes, InTypes}
 use Rattle.records.proofs.Theorems.{decode-encode, encoded-valid, fresh-bytes}
 use Rattle.records.proofs.ValidTypes.{valid-types}
-use Rattle.capi.specs.Panel.{answerFor, unlessRefused, recordFor}
+use Rattle.capi.specs.Panel.{answerFor, answerNumber, unlessRefused, recordFor, partsOf, finishedOf, toldPlaces}
+use Rattle.capi.specs.Heard.{heardDone, heardStart, heardAdvance, heardRead, Exports, loads, starts, advances, cancels, reads}
+use Rattle.capi.proofs.HeardLaws.{heard-load, heard-start, heard-advance, heard-cancel, heard-read, read-keeps}
 
 -- a call on bytes: the answer and the bytes that its contract names
-pub record ByteStep (b : List ℕ) (c : Call) (a : Answer) (b′ : List ℕ) : Type 0 where
-  pub tells : a ≡ answerFor b c
-  pub leaves : b′ ≡ recordFor b c
+record ByteStep (b : List ℕ) (c : Call) (a : Answer) (b′ : List ℕ) : Type 0 where
+  tells : a ≡ answerFor b c
+  leaves : b′ ≡ recordFor b c
 
 -- the bytes of a struct that holds record r
 pub record Held (b : List ℕ) (r : Record) : Type 0 where
@@ -118,12 +120,52 @@ module _ (s : Session) (r : Record) (i : Seen s r) (c : Call) where
       let d = done-refines s r i c a (recordOn s c) (record { tells = e .tells ∙ answer-is; leaves = refl }) in
       (d .0, d .1, record { struct = recordOn s c; bytes = e .leaves ∙ record-is; seen = d .2 })
 
-pub panel-refines : Refines ByteStep Does Held
+-- ---- a call as it is heard
+
+module _ (s : Session) (r : Record) (i : Seen s r) where
+  -- what is heard is the answer, if that tells itself
+  heard : (c : Call) (f : Answer → Answer) → f (act (recordOf s) c .answer) ≡ act (recordOf s) c .answer
+      → f (answerFor (encoded s) c) ≡ answerFor (encoded s) c
+  heard c f e =
+      let a : answerFor (encoded s) c ≡ act (recordOf s) c .answer = answer-is s r i c ∙ model-answer s r i c in
+      ap f a ∙ e ∙ sym a
+
+  read-leaves : encoded s ≡ recordFor (encoded s) read
+  read-leaves =
+      ap encoded (sym (struct-is s (i .shaped) (i .passes)) ∙ ap sessionOf (sym (read-keeps (recordOf s))) ∙ sym (model-record s r i read))
+      ∙ sym (record-is s r i read)
+
+  exports-is : (c : Call) (a : Answer) (b b′ : List ℕ) → b ≡ encoded s → Exports b c a b′ → ByteStep (encoded s) c a b′
+  exports-is c a b b′ q (loads {x} n nums bytes e) = record {
+    tells = rw (e .call .number, q) (heard (load x) (λ (y : Answer). heardDone (answerNumber y)) (heard-load (recordOf s) x));
+    leaves = e .call .left ∙ ap (λ (t : List ℕ). recordFor t (load x)) q;
+  }
+  exports-is c a b b′ q (starts {x} {vs} {bs} n p₀ p₁ e) = record {
+    tells = rw (e .call .number, e .parts-told, q)
+        (heard (start x vs bs) (λ (y : Answer). heardStart (answerNumber y) (partsOf y p₀)) (heard-start (recordOf s) p₀ x vs bs));
+    leaves = e .call .left ∙ ap (λ (t : List ℕ). recordFor t (start x vs bs)) q;
+  }
+  exports-is c a b b′ q (advances {x} n f₀ f₁ e) = record {
+    tells = rw (e .call .number, e .finished-told, q)
+        (heard (advance x) (λ (y : Answer). heardAdvance (answerNumber y) (finishedOf y f₀)) (heard-advance (recordOf s) f₀ x));
+    leaves = e .call .left ∙ ap (λ (t : List ℕ). recordFor t (advance x)) q;
+  }
+  exports-is c a b b′ q (cancels n e) = record {
+    tells = rw (e .number, q) (heard cancel (λ (y : Answer). heardDone (answerNumber y)) (heard-cancel (recordOf s)));
+    leaves = e .left ∙ ap (λ (t : List ℕ). recordFor t cancel) q;
+  }
+  exports-is c a b b′ q (reads n before after e) = record {
+    tells = rw (e .number, e .told-to, q)
+        (heard read (λ (y : Answer). heardRead (answerNumber y) (toldPlaces y before)) (heard-read (recordOf s) before));
+    leaves = q ∙ read-leaves;
+  }
+
+pub panel-refines : Refines Exports Does Held
 panel-refines b b′ r c a h e =
-    step-is (h .struct) r (h .seen) c a b′ (subst (λ (t : List ℕ). ByteStep t c a b′) (h .bytes) e)
+    step-is (h .struct) r (h .seen) c a b′ (exports-is (h .struct) r (h .seen) c a b b′ (h .bytes) e)
 
 fresh-held : Held (replicate 967 0) freshRecord
 fresh-held = record { struct = freshSession; bytes = sym fresh-bytes; seen = fresh-seen }
 
-pub panel-demand-3 : Demand3 (replicate 967 0) ByteStep
-panel-demand-3 = demand-3-of ByteStep Does Held panel-refines (replicate 967 0) freshRecord fresh-held (demand-3 layers)
+pub panel-demand-3 : Demand3 (replicate 967 0) Exports
+panel-demand-3 = demand-3-of Exports Does Held panel-refines (replicate 967 0) freshRecord fresh-held (demand-3 layers)

@@ -1,3 +1,4 @@
 pub mod Exported
+pub mod Heard
 pub mod Panel
 pub mod Stored
