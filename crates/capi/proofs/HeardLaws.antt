@@ -1,6 +1,5 @@
 -- What is heard of a call is its answer: number and values tell it whole.
 --     heard-load .. heard-read   of the model's calls (crate book)
---     read-keeps                 Read alters nothing
 -- Assumes nothing.
 use Prim.Native.Nat.{ℕ, zero, suc}
 use mathlib.Core.Path.{_≡_, refl}
@@ -91,12 +90,4 @@ module _ (r : Record) where
     where
       go : (n : ℕ) → ReadHeard q (unless n r read .answer)
       go zero = reading q (lastOf (r .states) 0) (length (r .roots)) (r .links) (r .yes)
-      go (suc n) = refl
-
-  pub read-keeps : act r read .record′ ≡ r
-  unfolding act unless proceeds
-  read-keeps = go (refusal (r .phase) (r .sizes) read)
-    where
-      go : (n : ℕ) → unless n r read .record′ ≡ r
-      go zero = refl
       go (suc n) = refl

@@ -23,13 +23,13 @@ use Rattle.session.specs.declared.state.Session.{Session}
 use Rattle.session.specs.Records.{recordOf, sessionOf, valid, freshSession}
 use Rattle.session.specs.Promises.{answerOn, recordOn}
 use Rattle.session.proofs.Holds.{struct-is}
-use Rattle.session.proofs.Refine.{Seen, fresh-seen, done-refines}
+use Rattle.session.proofs.Refine.{Seen, fresh-seen, read-keeps, done-refines}
 use Rattle.records.specs.Layout.{encoded, decoded, laidOut, validBytes, InTypes}
 use Rattle.records.proofs.Theorems.{decode-encode, encoded-valid, fresh-bytes}
 use Rattle.records.proofs.ValidTypes.{valid-types}
 use Rattle.capi.specs.Panel.{answerFor, answerNumber, unlessRefused, recordFor, partsOf, finishedOf, toldPlaces}
 use Rattle.capi.specs.Heard.{heardDone, heardStart, heardAdvance, heardRead, Exports, loads, starts, advances, cancels, reads}
-use Rattle.capi.proofs.HeardLaws.{heard-load, heard-start, heard-advance, heard-cancel, heard-read, read-keeps}
+use Rattle.capi.proofs.HeardLaws.{heard-load, heard-start, heard-advance, heard-cancel, heard-read}
 
 -- a call on bytes: the answer and the bytes that its contract names
 record ByteStep (b : List ℕ) (c : Call) (a : Answer) (b′ : List ℕ) : Type 0 where

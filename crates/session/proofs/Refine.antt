@@ -2,6 +2,7 @@
 --     Seen s r         struct s passes its conditions and holds record r
 --     fresh-seen       the fresh session holds the fresh record
 --     done-refines     a call's promise on such a struct: the model's step, and again such a struct
+--     read-keeps       Read alters nothing
 --     step-refines     each of the five
 -- Assumes nothing.
 use Prim.Native.Nat.{ℕ, zero, suc}
@@ -63,7 +64,7 @@ module _ (s : Session) (r : Record) (i : Seen s r) (c : Call) where
   )
 
 -- Read alters nothing
-read-keeps : (r : Record) → act r read .record′ ≡ r
+pub read-keeps : (r : Record) → act r read .record′ ≡ r
 unfolding act unless proceeds
 read-keeps r = go (refusal (r .phase) (r .sizes) read)
   where
