@@ -2,8 +2,8 @@
 pub mod climb;
 pub mod fits;
 pub mod part;
-pub mod rising;
+mod rising;
 pub mod roots;
-pub mod rules;
-pub mod scan;
-pub mod search;
+mod rules;
+mod scan;
+mod search;
