@@ -28,7 +28,8 @@ use Rattle.ready.proofs.ClosedForm.{kind-one}
 use Rattle.ready.proofs.BelowLaws.{some-below}
 use Rattle.ready.proofs.PartsRun.{Members}
 use Rattle.ready.proofs.ListLaws.{list-members}
-use Rattle.questions.proofs.RootsLaws.{RootsAre, rootsOn-are}
+use Rattle.questions.specs.Promises.{RootsAre}
+use Rattle.questions.proofs.RootsLaws.{rootsOn-are}
 use Rattle.book.specs.Lends.{Lent, Sizes, usedNums, linksBuilt}
 use Rattle.book.proofs.Facts.{Layers}
 use Rattle.book.proofs.LendLaws.{Built, links-built, plan-of}

@@ -35,7 +35,8 @@ use Rattle.ready.proofs.ListLaws.{list-members}
 use Rattle.questions.specs.Climbs.{View, viewOf}
 use Rattle.questions.specs.Roots.{rootsOn}
 use Rattle.questions.specs.Part.{partOn}
-use Rattle.questions.proofs.ClimbBuilt.{Reads}
+use Rattle.questions.specs.Promises.{Reads}
+use Rattle.questions.proofs.Promised.{all-small}
 use Rattle.questions.proofs.RootsBuilt as roots-theorem
 use Rattle.questions.proofs.PartBuilt as part-theorem
 use Rattle.book.specs.Lends.{Lent, Sizes, usedNums, usedBytes, linksBuilt, bytesBelow}
@@ -45,15 +46,6 @@ use Rattle.book.proofs.Facts.{Firmly, Handled, nextRoot, reachedBy, Lay
 use Rattle.book.proofs.LendLaws.{Built, links-built, plan-of, rules-of, labels-of, Same, same-links}
 
 -- ---- Start
-
-all-small : (n : ℕ) (vs : List ℕ) → allBelow n vs ≡ true → (v : ℕ) → List·Memᴰ v vs → v < n
-unfolding allBelow
-all-small n [] e v m = absurd (List·Memᴰ·not-nil m)
-all-small n (x ∷ vs) e v m = go (ltb x n) refl e (all-small n vs)
-  where
-    go : (b : Bool) → ltb x n ≡ b → (b && allBelow n vs) ≡ true → (allBelow n vs ≡ true → (v : ℕ) → List·Memᴰ v vs → v < n) → v < n
-    go true q f ih = elim (List·Memᴰ·cases-cons m) [ inl z ↦ omega (arith, ltb-true x n q) | inr k ↦ ih f v k ]
-    go false q f ih = absurd (let z : _≡_ {A = ℕ} 0 1 = cc in omega arith)
 
 module _ (z : Sizes) (x : Lent) (B : Built z x) where
   tree-size : z .n ≡ size (planTree (x .plan))

@@ -18,3 +18,4 @@ pub mod JudgeLaws
 pub mod Theorems
 pub mod Sample
 pub mod Controls
+pub mod KeptLaws

@@ -6,3 +6,4 @@ pub mod Demand3
 pub mod Model
 pub mod Alone
 pub mod Judge
+pub mod Kept

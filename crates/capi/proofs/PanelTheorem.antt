@@ -23,7 +23,7 @@ use Rattle.session.specs.declared.state.Session.{Session}
 use Rattle.session.specs.Records.{recordOf, sessionOf, valid, freshSession}
 use Rattle.session.specs.Promises.{answerOn, recordOn}
 use Rattle.session.proofs.Holds.{struct-is}
-use Rattle.session.proofs.Refine.{Seen, fresh-seen, read-keeps, done-refines}
+use Rattle.session.proofs.Refine.{Seen, fresh-seen, read-keeps, call-refines}
 use Rattle.records.specs.Layout.{encoded, decoded, laidOut, validBytes, InTypes}
 use Rattle.records.proofs.Theorems.{decode-encode, encoded-valid, fresh-bytes}
 use Rattle.records.proofs.ValidTypes.{valid-types}
@@ -117,7 +117,7 @@ module _ (s : Session) (r : Record) (i : Seen s r) (c : Call) where
 
   step-is : (a : Answer) (b′ : List ℕ) → ByteStep (encoded s) c a b′ → (r′ : Record) × Does r c a r′ × Held b′ r′
   step-is a b′ e =
-      let d = done-refines s r i c a (recordOn s c) (record { tells = e .tells ∙ answer-is; leaves = refl }) in
+      let d = call-refines s r i c a (recordOn s c) (e .tells ∙ answer-is) refl in
       (d .0, d .1, record { struct = recordOn s c; bytes = e .leaves ∙ record-is; seen = d .2 })
 
 -- ---- a call as it is heard

@@ -1,5 +1,4 @@
 -- On numbers as built and bytes below S: what one move and one climb read is in range, and they give what the rule gives.
---     Reads X G      the view X shows the tree, the automaton and the bytes of G, and all of it is in range
 --     move-built     a move from a node below the root
 --     climb-built    a climb to the depth of a node above
 -- Assumes nothing.
@@ -27,23 +26,7 @@ use Rattle.links.specs.LinkCells.{LinkCells}
 use Rattle.tables.specs.StateCells.{stateCell, mapCell}
 use Rattle.ready.specs.Parts.{Given, moveState, moveStates, movesOf, climbMoves}
 use Rattle.questions.specs.Climbs.{View, below, runOn, ruleOn, siblingOn, parentOn, moveOn, Reached, reached, climbOn}
-
-pub record Reads (X : View) (G : Given) : Type 0 where
-  pub count : X .n ≡ size (G .tree)
-  pub labels : X .labels ≡ labelsOf (G .tree)
-  pub kinds : X .kinds ≡ kindsOf (G .tree)
-  pub cells : LinkCells (G .tree) (X .nums)
-  pub states : G .automaton .states ≡ X .s
-  pub leaf : (a : ℕ) → G .automaton .ι a ≡ getD (X .leaves) a 0
-  pub inner : (p a q : ℕ) → G .automaton .δ p a q ≡ getD (X .inner) ((p * X .k + a) * X .s + q) 0
-  pub leaf-below : (a : ℕ) → G .automaton .ι a < X .s
-  pub inner-below : (p a q : ℕ) → G .automaton .δ p a q < X .s
-  pub label-below : (v : ℕ) → labelAt (G .tree) v < X .k
-  pub changed-below : (v : ℕ) → getD (G .labels) v 0 < X .k
-  pub run : (v : ℕ) → G .runState v ≡ stateCell (X .s) (X .bytes) v
-  pub map : (v q : ℕ) → G .mapState v q ≡ mapCell (X .s) (X .bytes) v q
-  pub run-below : (v : ℕ) → v < size (G .tree) → G .runState v < X .s
-  pub map-below : (v q : ℕ) → v < size (G .tree) → q < X .s → G .mapState v q < X .s
+use Rattle.questions.specs.Promises.{Reads}
 
 pub is-below : (s q : ℕ) → q < s → below s q ≡ some q
 unfolding below

@@ -26,3 +26,4 @@ pub mod RootsBuilt
 pub mod ClimbBuilt
 pub mod PartBuilt
 pub mod Theorems
+pub mod Promised

@@ -17,6 +17,7 @@ use borrow.Author.Tests.{leb-true}
 use Rattle.trees.specs.Climb.{andThen}
 use Rattle.trees.proofs.MoveLaws.{none-some}
 use Rattle.formats.specs.Limits.{nodeLimit, within}
+use Rattle.formats.proofs.CheckLaws.{and-left, and-right}
 use Rattle.links.specs.Cells.{sizeCell}
 use Rattle.questions.specs.Climbs.{View, below, runOn, ruleOn, Reached, reached, climbOn}
 use Rattle.questions.specs.Part.{Found, climbFrom, runReached, ownReached, joinOn}
@@ -31,14 +32,6 @@ use Rattle.questions.proofs.ClimbBounds.{rule-state, Bounded, climb-bou
 cond-some : {A : Type 0} {x : A} (b : Bool) (o : Option A) → cond b o none ≡ some x → (b ≡ true) × (o ≡ some x)
 cond-some true o h = (refl, h)
 cond-some false o h = absurd (none-some h)
-
-and-left : (a b : Bool) → (a && b) ≡ true → a ≡ true
-and-left true b h = refl
-and-left false b h = h
-
-and-right : (a b : Bool) → (a && b) ≡ true → b ≡ true
-and-right true b h = h
-and-right false b h = let z : _≡_ {A = ℕ} 0 1 = cc in absurd (omega arith)
 
 module _ (X : View) where
   -- ---- at a child

@@ -32,7 +32,8 @@ use Rattle.links.specs.Cells.{isBelow}
 use Rattle.questions.specs.Climbs.{View, below, runOn, ruleOn, Reached, reached, climbOn}
 use Rattle.questions.specs.Part.{Found, found, lastFound, foundBelow, labelOn, climbFrom, runReached, ownReached, joinOn, innerOn, leafOn, forkOn, partOn}
 use Rattle.questions.proofs.MeetBuilt.{below-is}
-use Rattle.questions.proofs.ClimbBuilt.{Reads, is-below, rule-built, run-built, climb-built}
+use Rattle.questions.specs.Promises.{Reads}
+use Rattle.questions.proofs.ClimbBuilt.{is-below, rule-built, run-built, climb-built}
 
 -- ---- the root found below a node
 

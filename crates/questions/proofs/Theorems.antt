@@ -29,9 +29,9 @@ use Rattle.ready.proofs.PartsRun.{Members, Sound, RunGiven, parts-right}
 use Rattle.questions.specs.Roots.{rootsOn}
 use Rattle.questions.specs.Climbs.{View, reached}
 use Rattle.questions.specs.Part.{partOn}
-use Rattle.questions.proofs.RootsLaws.{RootsAre, rootsOn-are}
+use Rattle.questions.specs.Promises.{RootsAre, Reads}
+use Rattle.questions.proofs.RootsLaws.{rootsOn-are}
 use Rattle.questions.proofs.RootsBuilt as built
-use Rattle.questions.proofs.ClimbBuilt.{Reads}
 use Rattle.questions.proofs.PartBuilt.{part-built}
 
 ready-is-closed : (w : ℕ → Bool) (t : Tree) → Closed w t (Ready w t)

@@ -10,3 +10,4 @@ pub mod PartTold
 pub mod Steps
 pub mod Scans
 pub mod PartArgs
+pub mod Promises

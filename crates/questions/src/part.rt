@@ -21,7 +21,8 @@ ghost use Rattle.questions.specs.PathViews.{pathView, rulesView};
 ghost use Rattle.questions.specs.Scans.{lastIn, foundOf, sideOn};
 ghost use Rattle.questions.specs.PartArgs.{partView, leavesView, unmoved, heard, LastArgs, LabelArgs, LeafArgs};
 ghost use Rattle.questions.specs.PartArgs.{JoinArgs, SideArgs, ForkArgs, PartArgs};
-ghost use Rattle.questions.specs.PartTold.{toldReached, partGiven};
+ghost use Rattle.questions.specs.PartTold.{toldReached};
+ghost use Rattle.questions.specs.Promises.{PartDone};
 
 // The place, from 1, of the last of the earlier roots that is c or below it; 0 where there is none.
 fn last_below(nums: &[u16], earlier: &[u16], c: usize) -> usize
@@ -254,9 +255,8 @@ pub fn part(
     nodes: &[u16],
     labels: &[u8],
 ) -> Climbed
-    ensures { λ r. ⌜ r ≡ toldReached (partGiven n s k (now (plan .entry)) (now (rules .entry)) (now (nums .entry))
-        (now (bytes .entry)) (now (roots .entry)) (now (states .entry)) (now (nodes .entry))
-        (now (labels .entry))) ⌝ }
+    ensures { λ r. ⌜ PartDone n s k (now (plan .entry)) (now (rules .entry)) (now (nums .entry)) (now (bytes .entry))
+        (now (roots .entry)) (now (states .entry)) (now (nodes .entry)) (now (labels .entry)) r ⌝ }
 {
     if !limits_fit(n, s, k) {
         return Climbed::Outside;

@@ -183,7 +183,7 @@ module _ (s : Session) (h : Shaped s) (x : Lent) (b : Bool) (may : b ≡ (valid 
 
       pub advance-17 : not f ≡ true → CallDone s C (advancingAnswer (NotAdvanced 17)) s
       unfolding advancingAnswer
-      advance-17 g = refused-done s C v h 16 (on ∙ firstNo-no 17 (fits (sizesOf s) x) [] (fits-is ∙ not-true f g))
+      advance-17 g = refused-done s C h v 16 (on ∙ firstNo-no 17 (fits (sizesOf s) x) [] (fits-is ∙ not-true f g))
 
       module _ (yes : not f ≡ false) where
         no-refusal : refusal (phaseOf (s .phase)) (sizesOf s) C ≡ 0
@@ -228,7 +228,7 @@ module _ (s : Session) (h : Shaped s) (x : Lent) (b : Bool) (may : b ≡ (valid 
             → CallDone s C a t
         unfolding proceeds
         acts o e a t i j =
-            proceeds-done s C v no-refusal a t
+            proceeds-done s C h v no-refusal a t
             (i ∙ ap (λ (z : Option Reached). advanceWith (recordOf s) x z .answer) (sym e))
             (j ∙ ap (λ (z : Option Reached). sessionOf (advanceWith (recordOf s) x z .record′)) (sym e))
 

@@ -1,50 +1,84 @@
 -- The promise of a call, by what the code has found.
 --     invalid-done, refused-done, unless-done     a refusal: by the struct, by a number, by check 1
 --     proceeds-done                               no check fails
+--     kept-of                                     what is left to the program has its properties
 -- Assumes nothing.
-use Prim.Native.Nat.{ℕ, suc}
-use mathlib.Core.Path.{_≡_, refl, sym, ap, _∙_}
+use Prim.Native.Nat.{ℕ, suc, _<_}
+use mathlib.Core.Path.{_≡_, refl, sym, ap, _∙_, subst}
 use mathlib.Core.Bool.{Bool, true, false, _&&_}
 use mathlib.Core.List.{List, _∷_}
-use Rattle.formats.specs.Checks.{Check, check, firstNo}
-use Rattle.formats.proofs.CheckLaws.{firstNo-no}
+use native.Mathlib.Omega.{arith}
+use Rattle.formats.specs.Checks.{Check, check, firstNo, listChecks}
+use Rattle.formats.proofs.CheckLaws.{true-false, firstNo-no, firstNo-head}
+use Rattle.book.specs.Lends.{Lent, fits}
 use Rattle.book.specs.Calls as calls
-use Rattle.book.specs.Calls.{Call, Answer, refused}
+use Rattle.book.specs.Calls.{Call, load, start, advance, cancel, read, Answer, refused, mayStart}
 use Rattle.book.specs.Refusals.{refusal}
-use Rattle.book.specs.Model.{proceeds, unless, act}
+use Rattle.book.specs.Model.{Acted, proceeds, unless, act}
+use Rattle.book.specs.Kept.{Kept}
+use Rattle.book.proofs.KeptLaws.{refused-keeps, start-kept, advance-kept}
 use Rattle.session.specs.declared.state.Phase.{Phase}
 use Rattle.session.specs.declared.state.Session.{Session}
 use Rattle.session.specs.Records.{phaseOf, sizesOf, recordOf, sessionOf, valid}
 use Rattle.session.specs.Promises.{CallDone, answerOn, recordOn}
 use Rattle.session.specs.Tests.{Shaped}
-use Rattle.session.proofs.Holds.{struct-is}
+use Rattle.session.proofs.Holds.{holds-of, struct-is}
+use Rattle.session.proofs.ActLaws.{start-sized}
+
+-- a Start that no check refuses finds a plan loaded
+start-loaded : (s : Session) → Shaped s → valid s ≡ true → (x : Lent) (vs bs : List ℕ)
+    → refusal (recordOf s .phase) (recordOf s .sizes) (start x vs bs) ≡ 0 → 0 < recordOf s .sizes .n
+unfolding refusal recordOf
+start-loaded s h v x vs bs e =
+    let m = firstNo-head 1 (mayStart (phaseOf (s .phase))) (check 17 (fits (sizesOf s) x) ∷ listChecks (s .n) (s .k) vs bs)
+    (omega arith) e in
+    start-sized (phaseOf (s .phase)) (recordOf s) m (holds-of s h v) .nodes-least
+
+-- the properties of what is left to the program
+kept-of : (s : Session) → Shaped s → valid s ≡ true → (c : Call)
+    → Kept (recordOf s) c (act (recordOf s) c .answer) (act (recordOf s) c .record′)
+kept-of s h v (load x) = tt
+kept-of s h v (start x vs bs) = start-kept (recordOf s) x vs bs (start-loaded s h v x vs bs)
+kept-of s h v (advance x) = advance-kept (recordOf s) x
+kept-of s h v cancel = tt
+kept-of s h v read = tt
 
 module _ (s : Session) (c : Call) where
   pub invalid-done : valid s ≡ false → CallDone s c (refused 1) s
   unfolding answerOn recordOn
-  invalid-done e = record { tells = rw e; leaves = rw e }
+  invalid-done e = record { tells = rw e; leaves = rw e; keeps = λ n f. refl; kept = λ v. absurd (true-false (sym v ∙ e)) }
 
-  module _ (v : valid s ≡ true) where
+  module _ (h : Shaped s) (v : valid s ≡ true) where
+    -- a valid struct: answer and record are the model's
+    model-done : (a : Answer) (t : Session) → a ≡ act (recordOf s) c .answer → t ≡ sessionOf (act (recordOf s) c .record′)
+        → CallDone s c a t
+    unfolding answerOn recordOn
+    model-done a t f g = record {
+      tells = rw v f;
+      leaves = rw v g;
+      keeps = λ n e. g ∙ ap sessionOf (refused-keeps (recordOf s) c n (sym f ∙ e)) ∙ struct-is s h v;
+      kept = λ w. subst (λ (b : Answer). Kept (recordOf s) c b (act (recordOf s) c .record′)) (sym f) (kept-of s h v c);
+    }
+
     act-refused : (n : ℕ) → refusal (phaseOf (s .phase)) (sizesOf s) c ≡ suc n
         → (refused (suc n) ≡ act (recordOf s) c .answer) × (recordOf s ≡ act (recordOf s) c .record′)
     unfolding act unless recordOf
     act-refused n e = (rw e, rw e)
 
-    pub refused-done : Shaped s → (n : ℕ) → refusal (phaseOf (s .phase)) (sizesOf s) c ≡ suc n
-        → CallDone s c (refused (suc n)) s
-    unfolding answerOn recordOn
-    refused-done h n e =
+    pub refused-done : (n : ℕ) → refusal (phaseOf (s .phase)) (sizesOf s) c ≡ suc n → CallDone s c (refused (suc n)) s
+    refused-done n e =
         let a = act-refused n e in
-        record {
-          tells = rw v (a .0);
-          leaves = rw v (sym (struct-is s h v) ∙ ap sessionOf (a .1));
-        }
+        model-done (refused (suc n)) s (a .0) (sym (struct-is s h v) ∙ ap sessionOf (a .1))
+
+    act-proceeds : refusal (phaseOf (s .phase)) (sizesOf s) c ≡ 0 → proceeds (recordOf s) c ≡ act (recordOf s) c
+    unfolding act unless recordOf
+    act-proceeds e = rw e
 
     pub proceeds-done : refusal (phaseOf (s .phase)) (sizesOf s) c ≡ 0 → (a : Answer) (t : Session)
         → a ≡ proceeds (recordOf s) c .answer
         → t ≡ sessionOf (proceeds (recordOf s) c .record′) → CallDone s c a t
-    unfolding answerOn recordOn act unless recordOf
-    proceeds-done e a t f g = record { tells = rw (v, e) f; leaves = rw (v, e) g }
+    proceeds-done e a t f g =
+        model-done a t (f ∙ ap (λ (x : Acted). x .answer) (act-proceeds e)) (g ∙ ap (λ (x : Acted). sessionOf (x .record′)) (act-proceeds e))
 
   -- check 1 says no
   pub unless-done : Shaped s → (b : Bool) (cs : List Check)
@@ -53,7 +87,7 @@ module _ (s : Session) (c : Call) where
   unless-done h b cs e f = go (valid s) refl f
     where
       go : (a : Bool) → valid s ≡ a → (a && b) ≡ false → CallDone s c (refused 1) s
-      go true v g = refused-done v h 0 (e ∙ firstNo-no 1 b cs g)
+      go true v g = refused-done h v 0 (e ∙ firstNo-no 1 b cs g)
       go false v g = invalid-done v
 
 -- ---- check 1, state by state

@@ -34,7 +34,7 @@ module _ (s : Session) (h : Shaped s) (b : Bool) (e : b ≡ (valid s && isRunnin
   cancel-yes f t g =
       let y = sym e ∙ not-false b f in
       let r : isRunning (phaseOf (s .phase)) ≡ true = and-right (valid s) _ y in
-      proceeds-done s cancel (and-left (valid s) _ y) (rw r) calls.Answer.accepted t refl g
+      proceeds-done s cancel h (and-left (valid s) _ y) (rw r) calls.Answer.accepted t refl g
 
 answered-is : (p : calls.Phase) (r : Record) → isAnswered p ≡ true → HoldsIn p r → Ended r
 unfolding isAnswered

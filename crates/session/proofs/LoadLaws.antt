@@ -106,7 +106,7 @@ module _ (s : Session) (h : Shaped s) (x : Lent) (b : Bool) (may : b ≡ (valid 
             → LoadDone s x (doingAnswer Made) t nums′ bytes′
         unfolding doingAnswer proceeds
         load-built t f =
-            done calls.Answer.accepted t (proceeds-done s (load x) v (on ∙ none-fails) calls.Answer.accepted t refl f)
+            done calls.Answer.accepted t (proceeds-done s (load x) h v (on ∙ none-fails) calls.Answer.accepted t refl f)
 
       pub load-refused : (k : ℕ) → a ≡ Refused k → LoadDone s x (doingAnswer (NotDone k)) s nums′ bytes′
       unfolding doingAnswer toldBuild
@@ -116,4 +116,4 @@ module _ (s : Session) (h : Shaped s) (x : Lent) (b : Bool) (may : b ≡ (valid 
           go zero f g = let z : _≡_ {A = ℕ} 0 1 = cc in absurd (omega arith)
           go (suc n) f g =
               let q : k ≡ suc n = cc in
-              done (calls.Answer.refused k) s (rw q (refused-done s (load x) v h n (on ∙ f)))
+              done (calls.Answer.refused k) s (rw q (refused-done s (load x) h v n (on ∙ f)))

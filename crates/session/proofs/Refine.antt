@@ -1,7 +1,7 @@
 -- The calls' promises refine the model of the session (crate book, Model).
 --     Seen s r         struct s passes its conditions and holds record r
 --     fresh-seen       the fresh session holds the fresh record
---     done-refines     a call's promise on such a struct: the model's step, and again such a struct
+--     call-refines     a call on such a struct: the model's step, and again such a struct
 --     read-keeps       Read alters nothing
 --     step-refines     each of the five
 -- Assumes nothing.
@@ -56,12 +56,15 @@ module _ (s : Session) (r : Record) (i : Seen s r) (c : Call) where
     holds = act-record s (i .shaped) (i .passes) c ∙ ap (λ (t : Record). act t c .record′) (i .holds);
   }
 
-  pub done-refines : (a : Answer) (s′ : Session) → CallDone s c a s′ → (r′ : Record) × Does r c a r′ × Seen s′ r′
-  done-refines a s′ d = (
+  pub call-refines : (a : Answer) (s′ : Session) → a ≡ answerOn s c → s′ ≡ recordOn s c → (r′ : Record) × Does r c a r′ × Seen s′ r′
+  call-refines a s′ f g = (
     act r c .record′,
-    record { tells = d .tells ∙ answer-is; leaves = refl },
-    subst (λ (t : Session). Seen t (act r c .record′)) (sym (d .leaves ∙ record-is)) after-seen,
+    record { tells = f ∙ answer-is; leaves = refl },
+    subst (λ (t : Session). Seen t (act r c .record′)) (sym (g ∙ record-is)) after-seen,
   )
+
+  done-refines : (a : Answer) (s′ : Session) → CallDone s c a s′ → (r′ : Record) × Does r c a r′ × Seen s′ r′
+  done-refines a s′ d = call-refines a s′ (d .tells) (d .leaves)
 
 -- Read alters nothing
 pub read-keeps : (r : Record) → act r read .record′ ≡ r

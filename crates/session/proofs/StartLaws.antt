@@ -79,7 +79,7 @@ module _ (s : Session) (h : Shaped s) (x : Lent) (vs bs : List ℕ) (b : Bool)
       pub start-17 : not f ≡ true → CallDone s C (startingAnswer (NotStarted 17)) s
       unfolding startingAnswer
       start-17 g =
-          refused-done s C v h 16
+          refused-done s C h v 16
           (on ∙ firstNo-no 17 (fits (sizesOf s) x) (listChecks (s .n) (s .k) vs bs) (fits-is ∙ not-true f g))
 
       module _ (yes : not f ≡ false) where
@@ -99,7 +99,7 @@ module _ (s : Session) (h : Shaped s) (x : Lent) (vs bs : List ℕ) (b : Bool)
               go : (n : ℕ) → refusal (phaseOf (s .phase)) (sizesOf s) C ≡ n → (n ≡ 0 → ⊥)
                   → CallDone s C (calls.Answer.refused n) s
               go zero e i = absurd (i refl)
-              go (suc n) e i = refused-done s C v h n e
+              go (suc n) e i = refused-done s C h v n e
 
           module _ (none-fails : q ≡ 0) where
             list-is : ListPasses (s .n) (s .k) vs bs
@@ -127,7 +127,7 @@ module _ (s : Session) (h : Shaped s) (x : Lent) (vs bs : List ℕ) (b : Bool)
                 → t ≡ sessionOf (startWith (recordOf s) vs bs o .record′) → CallDone s C a t
             unfolding proceeds recordOf
             acts o e a t i j =
-                proceeds-done s C v no-refusal a t
+                proceeds-done s C h v no-refusal a t
                 (i ∙ ap (λ (z : Option (List ℕ)). startWith (recordOf s) vs bs z .answer) (sym e))
                 (j ∙ ap (λ (z : Option (List ℕ)). sessionOf (startWith (recordOf s) vs bs z .record′)) (sym e))
 

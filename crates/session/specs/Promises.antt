@@ -9,7 +9,7 @@
 -- Assumes nothing.
 use Prim.Native.Nat.{ℕ}
 use mathlib.Core.Path.{_≡_}
-use mathlib.Core.Bool.{cond}
+use mathlib.Core.Bool.{true, cond}
 use mathlib.Core.List.{List}
 use Rattle.formats.specs.Built.{builtLinks, builtStates}
 use Rattle.tables.specs.Answers.{written}
@@ -17,6 +17,7 @@ use Rattle.book.specs.Lends.{Lent}
 use Rattle.book.specs.Calls.{Call, load, Answer, refused, accepted, parts, more, finished, told}
 use Rattle.book.specs.Refusals.{refusal}
 use Rattle.book.specs.Model.{act}
+use Rattle.book.specs.Kept.{Kept}
 use Rattle.session.specs.declared.state.Session.{Session}
 use Rattle.session.specs.declared.answers.Doing.{Doing}
 use Rattle.session.specs.declared.answers.Doing.the-variants.{Done as Made, Refused as NotDone}
@@ -56,10 +57,14 @@ recordOn s c = cond (valid s) (sessionOf (act (recordOf s) c .record′)) s
 unfoldable pub refusalOn : Session → Call → ℕ
 refusalOn s c = cond (valid s) (refusal (recordOf s .phase) (recordOf s .sizes) c) 1
 
--- a call's promise: what is told and the whole record after
 pub record CallDone (s : Session) (c : Call) (a : Answer) (s′ : Session) : Type 0 where
+  -- what is told and the whole record after
   pub tells : a ≡ answerOn s c
   pub leaves : s′ ≡ recordOn s c
+  -- "nothing else is returned and nothing is altered"
+  pub keeps : (n : ℕ) → a ≡ refused n → s′ ≡ s
+  -- what is left to the program has these properties
+  pub kept : valid s ≡ true → Kept (recordOf s) c a (act (recordOf s) c .record′)
 
 -- Load's besides: the tables of the definition in the lent buffers, excess untouched; as at entry where it is refused
 pub record LoadDone (s : Session) (x : Lent) (a : Answer) (s′ : Session) (nums′ bytes′ : List ℕ) : Type 0 where

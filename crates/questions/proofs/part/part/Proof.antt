@@ -10,6 +10,7 @@ use lib.Seq.{length-take-le}
 use Rattle.questions.specs.PartTold.{limitsFit, lengthsFit, askedFits}
 use Rattle.questions.proofs.PartFits.{limits-are, given-limits, given-lengths, given-asked}
 use Rattle.questions.proofs.PartHanded.{Fit, fit-by, part-args, part-told}
+use Rattle.questions.proofs.Promised.{part-done}
 use Rattle.questions.proofs.part.part.Statement.{statement}
 use Rattle.questions.proofs.part.part.Tie as tie
 
@@ -40,7 +41,8 @@ limits-fit-requires c κs = search needs
 
 returns : tie.Need-returns
 returns c =
-    given-limits _ _ _ _ _ _ _ _ _ _ _ (sym (c .before .limits-fit .ensures) ∙ not-true _ (c .if1 .taken))
+    part-done _ _ _ _ _ _ _ _ _ _ _ _
+    (given-limits _ _ _ _ _ _ _ _ _ _ _ (sym (c .before .limits-fit .ensures) ∙ not-true _ (c .if1 .taken)))
 
 lengths-fit-requires : tie.Need-lengths-fit-requires
 lengths-fit-requires c κs =
@@ -49,16 +51,18 @@ lengths-fit-requires c κs =
 
 returns-2 : tie.Need-returns-2
 returns-2 c =
-    given-lengths _ _ _ _ _ _ _ _ _ _ _ (limits (c .before .before))
-    (sym (c .before .lengths-fit .ensures) ∙ not-true _ (c .if2 .taken))
+    part-done _ _ _ _ _ _ _ _ _ _ _ _
+    (given-lengths _ _ _ _ _ _ _ _ _ _ _ (limits (c .before .before))
+    (sym (c .before .lengths-fit .ensures) ∙ not-true _ (c .if2 .taken)))
 
 asked-fits-requires : tie.Need-asked-fits-requires
 asked-fits-requires c κs = search needs
 
 returns-3 : tie.Need-returns-3
 returns-3 c =
-    given-asked _ _ _ _ _ _ _ _ _ _ _ (limits (c .before .before .before .before)) (lengths (c .before .before))
-    (sym (c .before .asked-fits .ensures) ∙ not-true _ (c .if3 .taken))
+    part-done _ _ _ _ _ _ _ _ _ _ _ _
+    (given-asked _ _ _ _ _ _ _ _ _ _ _ (limits (c .before .before .before .before)) (lengths (c .before .before))
+    (sym (c .before .asked-fits .ensures) ∙ not-true _ (c .if3 .taken)))
 
 add-part-on : tie.Need-add-part-on
 add-part-on c = omega (arith, fit c)
@@ -161,8 +165,9 @@ part-on-requires c κs =
 returns-4 : tie.Need-returns-4
 returns-4 c =
     let e = c .before .before .before .before .before .before .before .before .before in
-    part-told _ _ _ _ _ _ _ _ _ _ _ (limits (e .before .before .before .before)) (lengths (e .before .before)) (asked e)
-    (c .part-on .result) (c .part-on .ensures)
+    part-done _ _ _ _ _ _ _ _ _ _ _ _
+    (part-told _ _ _ _ _ _ _ _ _ _ _ (limits (e .before .before .before .before)) (lengths (e .before .before)) (asked e)
+    (c .part-on .result) (c .part-on .ensures))
 
 pub part-spec : {M : Type 1} → statement M
 part-spec =

@@ -68,7 +68,7 @@ part-requires : tie.Need-part-requires
 part-requires c κs = search needs
 
 returns : tie.Need-returns
-returns c = search needs
+returns c = c .part .ensures .told
 
 pub next-part-spec : {M : Type 1} → statement M
 next-part-spec =

@@ -98,7 +98,7 @@ returns-4 c =
     let m = e .before in
     start-18 (of m .args .self) (shape (of m)) (lent (of m)) (of m .args .nodes .now) (of m .args .labels .now) _
     (m .may-start .ensures)
-    (e .if1 .left) _ (k .lengths-fit .ensures) (t .if2 .left) _ (l .check-list .ensures) (u .if3 .left) _ (r .roots .ensures)
+    (e .if1 .left) _ (k .lengths-fit .ensures) (t .if2 .left) _ (l .check-list .ensures) (u .if3 .left) _ (r .roots .ensures .told)
     (c .if4 .taken)
 
 cast-count : tie.Need-cast-count
@@ -116,7 +116,7 @@ cast-count c =
       start-count (of m .args .self) (shape (of m)) (lent (of m)) (of m .args .nodes .now) (of m .args .labels .now) _
           (m .may-start .ensures)
           (e .if1 .left) _ (k .lengths-fit .ensures) (t .if2 .left) _ (l .check-list .ensures) (u .if3 .left) _
-          (r .roots .ensures) (w .if4 .left),
+          (r .roots .ensures .told) (w .if4 .left),
     )
 
 started-requires : tie.Need-started-requires
@@ -145,7 +145,7 @@ returns-5 c =
     let m = e .before in
     start-yes (of m .args .self) (shape (of m)) (lent (of m)) (of m .args .nodes .now) (of m .args .labels .now) _
     (m .may-start .ensures)
-    (e .if1 .left) _ (k .lengths-fit .ensures) (t .if2 .left) _ (l .check-list .ensures) (u .if3 .left) _ (r .roots .ensures)
+    (e .if1 .left) _ (k .lengths-fit .ensures) (t .if2 .left) _ (l .check-list .ensures) (u .if3 .left) _ (r .roots .ensures .told)
     (w .if4 .left)
     _ (c .started .ensures)
 

@@ -1,0 +1,102 @@
+-- The promises of roots and part, from the named result that the code gives.
+--     all-small      numbers below n, one by one
+--     roots-done     roots
+--     part-done      part
+-- Assumes nothing.
+use Prim.Native.Nat.{ℕ, suc, _<_}
+use mathlib.Core.Path.{_≡_, refl, sym, ap, ap₂, _∙_}
+use mathlib.Core.Bool.{Bool, true, false, _&&_}
+use mathlib.Core.List.{List, [], _∷_, _++_, List·Memᴰ, List·Memᴰ·cases-cons, List·Memᴰ·not-nil}
+use mathlib.Core.Logic.{_⊎_, inl, inr}
+use mathlib.Core.Option.{Option, some}
+use native.Mathlib.Omega.{arith}
+use lib.Dec.{ltb}
+use lib.ListN.{length, getD, take, drop, take-append-drop}
+use lib.Seq.{drop-cons}
+use borrow.Author.Tests.{ltb-true}
+use Rattle.trees.specs.Tree.{Tree, size}
+use Rattle.formats.specs.Bytes.{allBelow, holds}
+use Rattle.formats.proofs.CheckLaws.{and-right}
+use Rattle.links.specs.LinkCells.{LinkCells}
+use Rattle.ready.specs.Members as members
+use Rattle.ready.specs.Parts.{Given, Part, nodesOf, statesOf, partState, partLinks}
+use Rattle.ready.proofs.PartsRun.{Members}
+use Rattle.ready.proofs.ListLaws.{list-members}
+use Rattle.questions.specs.declared.roots.Rooted.{Rooted}
+use Rattle.questions.specs.declared.climb.Climbed.{Climbed}
+use Rattle.questions.specs.Climbs.{Reached, reached}
+use Rattle.questions.specs.Part.{partOn}
+use Rattle.questions.specs.Roots.{rootsOn}
+use Rattle.questions.specs.RootsTold.{rootsFit, rootsGiven, rootedOf}
+use Rattle.questions.specs.PartTold.{limitsFit, lengthsFit, askedFits, partFits, partGiven, lentView, toldReached}
+use Rattle.questions.specs.Promises.{RootsDone, Asked, PartDone}
+use Rattle.questions.proofs.FitLaws.{Fit, fit-facts, given-yes, given-are}
+use Rattle.questions.proofs.PartBounds.{partGiven-below, part-links}
+use Rattle.questions.proofs.PartFits.{asked-are}
+use Rattle.questions.proofs.RootsBuilt.{roots-built}
+use Rattle.questions.proofs.PartBuilt.{part-built}
+
+pub all-small : (n : ℕ) (vs : List ℕ) → allBelow n vs ≡ true → (v : ℕ) → List·Memᴰ v vs → v < n
+unfolding allBelow
+all-small n [] e v m = absurd (List·Memᴰ·not-nil m)
+all-small n (x ∷ vs) e v m = go (ltb x n) refl e (all-small n vs)
+  where
+    go : (b : Bool) → ltb x n ≡ b → (b && allBelow n vs) ≡ true → (allBelow n vs ≡ true → (v : ℕ) → List·Memᴰ v vs → v < n) → v < n
+    go true q f ih = elim (List·Memᴰ·cases-cons m) [ inl z ↦ omega (arith, ltb-true x n q) | inr k ↦ ih f v k ]
+    go false q f ih = absurd (let z : _≡_ {A = ℕ} 0 1 = cc in omega arith)
+
+-- ---- roots
+
+module _ (n : ℕ) (nums vs : List ℕ) where
+  built : (t : Tree) → LinkCells t nums → n ≡ size t → rootsFit n (length nums) vs ≡ true → rootsGiven n nums vs ≡ some (members.roots t vs)
+  built t L e f =
+      given-yes n nums vs f
+      ∙ ap (λ (m : ℕ). rootsOn m nums vs) e
+      ∙ roots-built t nums L vs (λ v m. omega (arith, e, all-small n vs (fit-facts n (length nums) vs f .below) v m))
+
+  pub roots-done : (r : Rooted) → r ≡ rootedOf (rootsGiven n nums vs) → RootsDone n nums vs r
+  roots-done r e = record {
+    told = e;
+    few = given-are n nums vs;
+    built = λ t L m f. e ∙ ap rootedOf (built t L m f);
+  }
+
+-- ---- part
+
+module _ (n s k : ℕ) (plan rules nums bytes roots states vs bs : List ℕ) where
+  -- the roots are those of the parts before, the next one, and the rest
+  cut : (ps : List Part) → nodesOf ps ≡ take (length states) roots → length states < length roots
+      → nodesOf ps ++ (getD roots (length states) 0 ∷ drop (suc (length states)) roots) ≡ roots
+  cut ps e l =
+      ap₂ (λ (a b : List ℕ). a ++ b) e (sym (drop-cons roots (length states) 0 l))
+      ∙ take-append-drop (length states) roots
+
+  next-is : partFits n s k plan rules nums bytes roots states vs bs ≡ true → length states < length roots
+  unfolding partFits
+  next-is e =
+      let lengths = lengthsFit n s k (length plan) (length rules) (length nums) (length bytes) in
+      let asked = askedFits n roots states vs bs in
+      asked-are n roots states vs bs (and-right lengths asked (and-right (limitsFit n s k) (lengths && asked) e)) .root
+
+  by-rule : (G : Given) (ps : List Part) → Asked n s k plan rules nums bytes roots states vs bs G ps
+      → partGiven n s k plan rules nums bytes roots states vs bs
+      ≡ some (reached (partState G roots ps (getD roots (length states) 0)) (partLinks (G .tree) roots (getD roots (length states) 0)))
+  unfolding partGiven members.roots
+  by-rule G ps A =
+      let w : ℕ → Bool = λ v. holds v vs in
+      let M : Members w (G .tree) roots = rw (A .ready) (list-members w (G .tree)) in
+      let v = getD roots (length states) 0 in
+      rw (A .fits)
+      (ap₂ (λ (es qs : List ℕ). partOn (lentView n s k plan rules nums bytes) es qs vs bs v) (sym (A .before)) (sym (A .states-are))
+      ∙ part-built (lentView n s k plan rules nums bytes) G (A .reads) w roots M ps v (drop (suc (length states)) roots)
+      (cut ps (A .before) (next-is (A .fits))) (A .below) vs bs (A .labels))
+
+  pub part-done : (r : Climbed) → r ≡ toldReached (partGiven n s k plan rules nums bytes roots states vs bs)
+      → PartDone n s k plan rules nums bytes roots states vs bs r
+  unfolding toldReached
+  part-done r e = record {
+    told = e;
+    state-below = λ x f. partGiven-below n s k plan rules nums bytes roots states vs bs x f;
+    links-most = λ x f. part-links n s k plan rules nums bytes roots states vs bs x f;
+    rule = λ G ps A. e ∙ ap toldReached (by-rule G ps A);
+  }
