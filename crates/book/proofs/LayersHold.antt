@@ -151,7 +151,12 @@ module _ (z : Sizes) (q : Question) (x : Lent) (F : Firmly z q x) where
     leaf = λ a. ap₂ (λ (k : ℕ) (r : List ℕ). getD (take k (drop 20 r)) a 0) (B .k-is) (S .rules);
     inner = λ p a y. inner-same p a y;
     leaf-below = λ a. omega (arith, B .s-is, leaf-state-below (q .lent .rules) rp a);
-    inner-below = λ p a y. omega (arith, B .s-is, inner-state-below (q .lent .rules) rp ((p * labelCount (q .lent .rules) + a) * stateCount (q .lent .rules) + y));
+    inner-below = λ p a y. omega (
+      arith,
+      B .s-is,
+      inner-state-below (q .lent .rules) rp
+          ((p * labelCount (q .lent .rules) + a) * stateCount (q .lent .rules) + y),
+    );
     label-below = λ v. rw (labels-planTree (q .lent .plan) pp) (plan-labels v);
     changed-below = λ v. changed-below (z .k) (labelsIn (q .lent .plan)) (q .nodes) (q .labels) k-pos plan-labels
         (allBelow-all (z .k) (q .labels) (lp .labels-below) k-pos) v;

@@ -25,7 +25,8 @@ use Rattle.session.specs.declared.state.Session.{Session}
 use Rattle.session.specs.Promises.{doingAnswer, startingAnswer, advancingAnswer, readingAnswer, answerOn, recordOn, refusalOn, CallDone, LoadDone}
 use Rattle.records.specs.Layout.{recordLength, encoded, decoded, laidOut}
 use Rattle.capi.specs.Exported.{bitOf}
-use Rattle.capi.specs.Panel.{answerFor, answerNumber, unlessRefused, recordFor, CallExported, loadNumber, LoadExported, partsOf, StartExported, finishedOf, AdvanceExported, Places, toldPlaces, ReadExported}
+use Rattle.capi.specs.Panel.{answerFor, answerNumber, unlessRefused, recordFor, CallExported, loadNumber, LoadExported, partsOf}
+use Rattle.capi.specs.Panel.{StartExported, finishedOf, AdvanceExported, Places, toldPlaces, ReadExported}
 use Rattle.capi.specs.Stored.{places, Stored, DoneStored, StartStored, AdvanceStored, ReadStored}
 
 -- an accepted answer's bytes, from what encode ensures
@@ -180,7 +181,8 @@ module _ (b : List ℕ) where
   load-laid x h o r b′ nums′ bytes′ D S = record {
     call = laid b (load x) h (doingAnswer (o .told)) (o .rec) r b′ (D .call) S;
     links-written = D .links-written ∙ sym (ap (λ (t : Bool). written (cond t (refusalOn (decoded b) (load x)) 1) (builtLinks (x .plan)) (x .nums)) h);
-    states-written = D .states-written ∙ sym (ap (λ (t : Bool). written (cond t (refusalOn (decoded b) (load x)) 1) (builtStates (x .plan) (x .rules)) (x .bytes)) h);
+    states-written = D .states-written
+        ∙ sym (ap (λ (t : Bool). written (cond t (refusalOn (decoded b) (load x)) 1) (builtStates (x .plan) (x .rules)) (x .bytes)) h);
   }
 
   module _ (c : Call) where

@@ -7,10 +7,10 @@
 //     lists    checks 12 to 15
 //     inputs   the checks of whole calls, 10 and 11 among them
 // A check answers the number of the first question that is answered with no, and 0 where none is.
-pub mod branch;
+mod branch;
 pub mod bytes;
 pub mod inputs;
 pub mod limits;
 pub mod lists;
-pub mod plan;
+mod plan;
 pub mod rules;

@@ -1,6 +1,6 @@
 // The table of links, each node's parent, jump, depth and size: its build, its full check, one move of a climb on it.
 pub mod build;
 pub mod check;
-pub mod down;
+mod down;
 pub mod moves;
-pub mod up;
+mod up;

@@ -18,6 +18,7 @@ use borrow.Author.Tests.{ltb-true, lt-ltb, le-ltb}
 use Rattle.trees.specs.Climb.{Forest, Move, byJump, toParent, target, andThen, climb, carry}
 use Rattle.trees.proofs.Choice.{by-test}
 use Rattle.trees.proofs.MoveLaws.{none-some, next-inside, next-rises}
+use Rattle.formats.proofs.CheckLaws.{true-false}
 use Rattle.trees.proofs.ClimbLaws.{climb-cons}
 use Rattle.links.specs.Cells.{parentCell, cellForest}
 use Rattle.questions.specs.Climbs.{View, below, runOn, ruleOn, siblingOn}
@@ -29,9 +30,6 @@ use Rattle.questions.proofs.LookupLaws.{below-state}
 abbrev count : (ℕ → Bool) → ℕ → ℕ
 count P zero = 0
 count P (suc n) = cond (P n) (suc (count P n)) (count P n)
-
-true-false : true ≡ false → ⊥
-true-false h = let z : _≡_ {A = ℕ} 0 1 = cc in omega arith
 
 count-most : (P : ℕ → Bool) (n : ℕ) → count P n ≤ n
 count-most P zero = le-refl 0

@@ -16,7 +16,7 @@ use Rattle.trees.specs.Climb.{Forest, Move, andThen, climb, carry}
 use Rattle.trees.proofs.MoveLaws.{next-inside, next-rises}
 use Rattle.trees.proofs.CarryLaws.{carried, carried-done, carried-move, carried-lost, carried-stuck}
 use Rattle.links.specs.Cells.{cellForest}
-use Rattle.questions.specs.declared.climb.Climbed.the-variants.{Reached as Told, Outside}
+use Rattle.questions.specs.declared.answer.Climbed.the-variants.{Reached as Told, Outside}
 use Rattle.questions.specs.declared.climb.Landed.{Landed}
 use Rattle.questions.specs.Climbs.{View, moveOn, Reached, reached, climbOn}
 use Rattle.questions.specs.Steps.{stepOn, landed}

@@ -15,7 +15,7 @@ use lib.Dec.{leb, ltb, eqb}
 use lib.ListN.{length, getD, take}
 use borrow.Author.Tests.{leb-true}
 use Rattle.trees.specs.Climb.{andThen}
-use Rattle.trees.proofs.MoveLaws.{none-some}
+use Rattle.trees.proofs.MoveLaws.{none-some, cond-some}
 use Rattle.formats.specs.Limits.{nodeLimit, within}
 use Rattle.formats.proofs.CheckLaws.{and-left, and-right}
 use Rattle.links.specs.Cells.{sizeCell}
@@ -28,10 +28,6 @@ use Rattle.questions.specs.PartArgs.{unmoved}
 use Rattle.questions.specs.PartTold.{limitsFit, partFits, lentView, partGiven}
 use Rattle.questions.proofs.LookupLaws.{below-state}
 use Rattle.questions.proofs.ClimbBounds.{rule-state, Bounded, climb-bounded}
-
-cond-some : {A : Type 0} {x : A} (b : Bool) (o : Option A) → cond b o none ≡ some x → (b ≡ true) × (o ≡ some x)
-cond-some true o h = (refl, h)
-cond-some false o h = absurd (none-some h)
 
 module _ (X : View) where
   -- ---- at a child

@@ -5,7 +5,8 @@
 use Prim.Native.Nat.{ℕ, zero, suc, _+_, _-_, _≤_, _<_}
 use mathlib.Core.Path.{_≡_, refl, sym, ap, ap₂, _∙_, subst}
 use mathlib.Core.Bool.{Bool, true, false, cond, _&&_, _||_}
-use mathlib.Core.List.{List, [], _∷_, _++_, List·Memᴰ, List·Memᴰ·head, List·Memᴰ·tail, List·Memᴰ·cases-cons, List·Memᴰ·not-nil, Memᴰ·append-left, Memᴰ·append-right}
+use mathlib.Core.List.{List, [], _∷_, _++_, List·Memᴰ, List·Memᴰ·head, List·Memᴰ·tail, List·Memᴰ·cases-cons, List·Memᴰ·not-nil}
+use mathlib.Core.List.{Memᴰ·append-left, Memᴰ·append-right}
 use mathlib.Core.Logic.{_⊎_, inl, inr}
 use mathlib.Core.Option.{Option, none, some}
 use native.Mathlib.Decide.{ℕ-discrete}
@@ -22,7 +23,8 @@ use Rattle.trees.proofs.IntervalLaws.{interval-ancestor, above-at}
 use Rattle.links.specs.Cells.{depthCell, sizeCell}
 use Rattle.ready.specs.Ready.{Under, leftChild, rightChild}
 use Rattle.ready.specs.Members.{Rising}
-use Rattle.ready.specs.Parts.{Given, isUnder, anyBelow, lastBelow, highestBelow, moveStates, climbMoves, climbedLinks, innerLinks, partLinks, Part, nodesOf, statesOf, stateOf, climbedState, innerState, partState}
+use Rattle.ready.specs.Parts.{Given, isUnder, anyBelow, lastBelow, highestBelow, moveStates, climbMoves, climbedLinks, innerLinks}
+use Rattle.ready.specs.Parts.{partLinks, Part, nodesOf, statesOf, stateOf, climbedState, innerState, partState}
 use Rattle.ready.proofs.BelowLaws.{none-below, some-below, under-no, true-false, rising-above}
 use Rattle.ready.proofs.ClosedForm.{kind-one}
 use Rattle.ready.proofs.HighestLaws.{Highest, is-false}
@@ -318,6 +320,13 @@ module _ (X : View) (G : Given) (R : Reads X G) (w : ℕ → Bool) (ms : List �
         )
         | no n ↦ (let i : Inner (G .tree) v = inner (G .tree) v hv n in
             let s : sizeCell (X .nums) (v - 1) ≡ size (sub (G .tree) (v - 1)) = R .cells .sizes (v - 1) (omega (arith, hv)) in
-            rw (kind, ne-eqb (kindAt (G .tree) v) 0 n, s, lt-ltb 0 v (omega (arith, i .at)), le-leb (size (sub (G .tree) (v - 1))) (v - 1) (omega (arith, i .at)))
+            rw (
+              kind,
+              ne-eqb (kindAt (G .tree) v) 0 n,
+              s,
+              lt-ltb 0 v (omega (arith, i .at)),
+              le-leb (size (sub (G .tree) (v - 1)))
+                  (v - 1) (omega (arith, i .at)),
+            )
             (fork-built (kind-one (G .tree) v hv n) (getD (changed (X .labels) vs bs) v 0) lab))
       ]

@@ -16,11 +16,12 @@ use native.Mathlib.Nat.{mul-le-mul-right}
 use lib.Dec.{leb, ltb, eqb}
 use lib.ListN.{length, getD, take}
 use borrow.Author.Tests.{leb-true, ltb-true, eqb-true, le-leb, lt-leb, lt-ltb, le-ltb, eq-eqb, ne-eqb}
+use Rattle.trees.proofs.MoveLaws.{both}
 use Rattle.formats.specs.Limits.{nodeLimit, stateLimit, labelLimit, within}
 use Rattle.formats.specs.Plan.{planLength}
 use Rattle.formats.specs.Rules.{ruleLength}
 use Rattle.formats.specs.Checks.{linkLength, stateLength}
-use Rattle.questions.specs.declared.climb.Climbed.the-variants.{Outside}
+use Rattle.questions.specs.declared.answer.Climbed.the-variants.{Outside}
 use Rattle.questions.specs.Part.{partOn}
 use Rattle.questions.specs.PartTold.{toldReached, limitsFit, lengthsFit, askedFits, partFits, lentView, partGiven}
 
@@ -29,10 +30,6 @@ and-no a b e = rw e
 
 pub and-yes : (a b : Bool) → a ≡ true → (a && b) ≡ b
 and-yes a b e = rw e
-
-pub and-parts : (a b : Bool) → (a && b) ≡ true → (a ≡ true) × (b ≡ true)
-and-parts true b h = (refl, h)
-and-parts false b h = let z : _≡_ {A = ℕ} 0 1 = cc in absurd (omega arith)
 
 -- ---- limits
 
@@ -45,7 +42,7 @@ module _ (low high x : ℕ) where
 
   within-is : within low high x ≡ true → (low ≤ x) × (x ≤ high)
   within-is h =
-      let t = and-parts (leb low x) (leb x high) h in
+      let t = both (leb low x) (leb x high) h in
       (leb-true low x (t .0), leb-true x high (t .1))
 
 -- the greatest product of two numbers within limits
@@ -81,8 +78,8 @@ module _ (n s k : ℕ) where
   pub limits-are : limitsFit n s k ≡ true → Limits
   unfolding limitsFit
   limits-are h =
-      let one = and-parts (within 1 nodeLimit n) (within 1 stateLimit s && within 1 labelLimit k) h in
-      let two = and-parts (within 1 stateLimit s) (within 1 labelLimit k) (one .1) in
+      let one = both (within 1 nodeLimit n) (within 1 stateLimit s && within 1 labelLimit k) h in
+      let two = both (within 1 stateLimit s) (within 1 labelLimit k) (one .1) in
       let a = within-is 1 nodeLimit n (one .0) in
       let b = within-is 1 stateLimit s (two .0) in
       let c = within-is 1 labelLimit k (two .1) in
@@ -127,9 +124,9 @@ module _ (n s k plan rules nums bytes : ℕ) where
   pub lengths-are : lengthsFit n s k plan rules nums bytes ≡ true → Lengths
   unfolding lengthsFit
   lengths-are h =
-      let one = and-parts (eqb plan (planLength n)) (eqb rules (ruleLength s k) && rest) h in
-      let two = and-parts (eqb rules (ruleLength s k)) rest (one .1) in
-      let three = and-parts (leb (linkLength n) nums) (leb (stateLength n s) bytes) (two .1) in
+      let one = both (eqb plan (planLength n)) (eqb rules (ruleLength s k) && rest) h in
+      let two = both (eqb rules (ruleLength s k)) rest (one .1) in
+      let three = both (leb (linkLength n) nums) (leb (stateLength n s) bytes) (two .1) in
       record {
         plan-is = eqb-true plan (planLength n) (one .0);
         rules-is = eqb-true rules (ruleLength s k) (two .0);
@@ -194,10 +191,10 @@ module _ (n : ℕ) (roots states vs bs : List ℕ) where
   pub asked-are : askedFits n roots states vs bs ≡ true → Asked
   unfolding askedFits
   asked-are h =
-      let one = and-parts after (many && (node && (lists && listed))) h in
-      let two = and-parts many (node && (lists && listed)) (one .1) in
-      let three = and-parts node (lists && listed) (two .1) in
-      let four = and-parts lists listed (three .1) in
+      let one = both after (many && (node && (lists && listed))) h in
+      let two = both many (node && (lists && listed)) (one .1) in
+      let three = both node (lists && listed) (two .1) in
+      let four = both lists listed (three .1) in
       record {
         root = ltb-true (length states) (length roots) (one .0);
         roots-most = leb-true (length roots) nodeLimit (two .0);

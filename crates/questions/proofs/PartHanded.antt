@@ -9,7 +9,7 @@ use mathlib.Core.Bool.{true}
 use mathlib.Core.List.{List}
 use native.Mathlib.Omega.{arith}
 use lib.ListN.{length, getD, take, drop, length-take, length-drop}
-use Rattle.questions.specs.declared.climb.Climbed.{Climbed}
+use Rattle.questions.specs.declared.answer.Climbed.{Climbed}
 use Rattle.questions.specs.Part.{partOn}
 use Rattle.questions.specs.PartArgs.{partView, PartArgs}
 use Rattle.questions.specs.PartTold.{toldReached, limitsFit, lengthsFit, askedFits, partGiven}

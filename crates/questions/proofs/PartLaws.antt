@@ -17,7 +17,7 @@ use native.Mathlib.Numerals.{add-one}
 use lib.ListN.{getD}
 use borrow.Author.Tests.{lt-ltb, le-ltb}
 use Rattle.trees.specs.Climb.{andThen}
-use Rattle.questions.specs.declared.climb.Climbed.the-variants.{Reached as Told, Outside}
+use Rattle.questions.specs.declared.answer.Climbed.the-variants.{Reached as Told, Outside}
 use Rattle.questions.specs.Climbs.{View, below, runOn, ruleOn, Reached, reached, climbOn}
 use Rattle.questions.specs.Part.{Found, found, climbFrom, runReached, ownReached, joinOn, leafOn}
 use Rattle.questions.specs.PathViews.{statesView}

@@ -11,8 +11,8 @@ use lib.ListN.{length, getD}
 use borrow.Author.Tests.{lt-ltb, le-ltb, le-leb, lt-leb, eq-eqb, ne-eqb}
 use Rattle.trees.specs.Changes.{changed}
 use Rattle.links.specs.Cells.{depthCell, sizeCell}
-use Rattle.questions.specs.declared.climb.Climbed.{Climbed}
-use Rattle.questions.specs.declared.climb.Climbed.the-variants.{Outside}
+use Rattle.questions.specs.declared.answer.Climbed.{Climbed}
+use Rattle.questions.specs.declared.answer.Climbed.the-variants.{Outside}
 use Rattle.questions.specs.Climbs.{View, ruleOn, Reached}
 use Rattle.questions.specs.Part.{Found, joinOn, leafOn, forkOn, partOn, foundBelow, labelOn}
 use Rattle.questions.specs.PathViews.{rulesView, PathArgs}

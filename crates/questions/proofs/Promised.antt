@@ -23,7 +23,7 @@ use Rattle.ready.specs.Parts.{Given, Part, nodesOf, statesOf, partState, partLi
 use Rattle.ready.proofs.PartsRun.{Members}
 use Rattle.ready.proofs.ListLaws.{list-members}
 use Rattle.questions.specs.declared.roots.Rooted.{Rooted}
-use Rattle.questions.specs.declared.climb.Climbed.{Climbed}
+use Rattle.questions.specs.declared.answer.Climbed.{Climbed}
 use Rattle.questions.specs.Climbs.{Reached, reached}
 use Rattle.questions.specs.Part.{partOn}
 use Rattle.questions.specs.Roots.{rootsOn}

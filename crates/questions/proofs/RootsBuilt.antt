@@ -24,7 +24,8 @@ use Rattle.ready.proofs.BelowLaws.{rising-above, true-false}
 use Rattle.ready.proofs.ClosedForm.{Forks, Member, m-listed, m-root, m-forks, m-left, m-right, fork-meet, parted}
 use Rattle.ready.proofs.ListLaws.{list-member, member-list, list-rising, rising-unique}
 use Rattle.questions.specs.Roots.{risingOf, wanted, forksOn, fromFirst, rootsOn}
-use Rattle.questions.proofs.InsertLaws.{rising-old, rising-new, member-rising, all-rising, Next, Between, next-first, next-second, next-rising, next-between}
+use Rattle.questions.proofs.InsertLaws.{rising-old, rising-new, member-rising, all-rising, Next, Between, next-first, next-second}
+use Rattle.questions.proofs.InsertLaws.{next-rising, next-between}
 use Rattle.questions.proofs.ForksBuilt.{Of, Added, forks-built}
 
 pub holds-yes : (x : ℕ) (l : List ℕ) → holds x l ≡ true → List·Memᴰ x l
@@ -140,8 +141,10 @@ module _ (t : Tree) (nums : List ℕ) (L : LinkCells t nums) (vs : List ℕ) (sm
         let l : ℕ = leftChild t m in
         let B : Between a bs (l + 1 - size (sub t l)) l (rightChild m) =
         next-between bs a (l + 1 - size (sub t l)) l (rightChild m) (rises .1)
-        (f .left .0) (to-wanted (f .left .0) (in-wanted (f .left .0) (holds-yes (f .left .0) vs (f .left .3)))) (omega (arith, f .left .2)) (omega (arith, f .left .2))
-        (f .right .0) (to-wanted (f .right .0) (in-wanted (f .right .0) (holds-yes (f .right .0) vs (f .right .3)))) (omega (arith, f .right .2, i .at)) (omega (arith, f .right .2)) in
+        (f .left .0) (to-wanted (f .left .0) (in-wanted (f .left .0) (holds-yes (f .left .0) vs (f .left .3))))
+        (omega (arith, f .left .2)) (omega (arith, f .left .2))
+        (f .right .0) (to-wanted (f .right .0) (in-wanted (f .right .0) (holds-yes (f .right .0) vs (f .right .3))))
+        (omega (arith, f .right .2, i .at)) (omega (arith, f .right .2)) in
         let u : ℕ = B .0 in
         let v : ℕ = B .1 in
         let hl : l < m = left-in t m (f .inside) (f .inner) in

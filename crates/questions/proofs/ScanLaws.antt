@@ -18,17 +18,12 @@ use lib.Seq.{drop-cons, drop-drop, getD-drop, getD-set-same, getD-set-other}
 use borrow.Author.Tests.{lt-ltb, le-ltb, le-leb, lt-leb, leb-true, ltb-true}
 use Rattle.trees.specs.Changes.{changed}
 use Rattle.trees.proofs.Choice.{by-test}
+use Rattle.trees.proofs.MoveLaws.{both}
+use Rattle.formats.proofs.CheckLaws.{true-false}
 use Rattle.links.specs.Cells.{sizeCell}
 use Rattle.links.specs.Cells.{isBelow}
 use Rattle.questions.specs.Part.{found, lastFound, foundBelow}
 use Rattle.questions.specs.Scans.{covers, lastFrom, lastIn, foundOf, labelOf}
-
-both : (a b : Bool) → (a && b) ≡ true → (a ≡ true) × (b ≡ true)
-both true b h = (refl, h)
-both false b h = let z : _≡_ {A = ℕ} 0 1 = cc in absurd (omega arith)
-
-true-false : true ≡ false → ⊥
-true-false h = let z : _≡_ {A = ℕ} 0 1 = cc in omega arith
 
 -- the first entry of a rest, and the rest after it
 at-head : (e i : ℕ) (es l : List ℕ) → e ∷ es ≡ drop i l → e ≡ getD l i 0

@@ -13,17 +13,9 @@ use native.Mathlib.Nat.{le-refl}
 use lib.Dec.{ltb}
 use borrow.Author.Tests.{ltb-true}
 use Rattle.trees.specs.Climb.{Forest, Move, byJump, toParent, target, rising, andThen}
-use Rattle.trees.proofs.MoveLaws.{none-some}
+use Rattle.trees.proofs.MoveLaws.{none-some, cond-some, both}
 use Rattle.trees.proofs.Choice.{by-test}
 use Rattle.questions.specs.Search.{nextUnless, searchIn, search}
-
-pub cond-some : {X : Type 0} {x : X} (b : Bool) (o : Option X) → cond b o none ≡ some x → (b ≡ true) × (o ≡ some x)
-cond-some true o h = (refl, h)
-cond-some false o h = absurd (none-some h)
-
-pub both : (a b : Bool) → (a && b) ≡ true → (a ≡ true) × (b ≡ true)
-both true b h = (refl, h)
-both false b h = let z : _≡_ {A = ℕ} 0 1 = cc in absurd (omega arith)
 
 onward : (o : Option Move) (c d : Move → Option ℕ) → ((m : Move) → o ≡ some m → c m ≡ d m) → andThen o c ≡ andThen o d
 onward none c d h = refl

@@ -13,8 +13,8 @@ use mathlib.Core.List.{List, []}
 use mathlib.Core.Option.{Option, none, some}
 use lib.ListN.{length, getD}
 use Rattle.trees.specs.Climb.{andThen}
-use Rattle.questions.specs.declared.climb.Climbed.{Climbed}
-use Rattle.questions.specs.declared.climb.Climbed.the-variants.{Reached as Told, Outside}
+use Rattle.questions.specs.declared.answer.Climbed.{Climbed}
+use Rattle.questions.specs.declared.answer.Climbed.the-variants.{Reached as Told, Outside}
 use Rattle.questions.specs.Climbs.{View, Reached, reached}
 use Rattle.questions.specs.PathViews.{pathView, PathArgs}
 

@@ -22,8 +22,8 @@ use Rattle.formats.specs.Limits.{nodeLimit, stateLimit, labelLimit, within}
 use Rattle.formats.specs.Plan.{planLength}
 use Rattle.formats.specs.Rules.{ruleLength}
 use Rattle.formats.specs.Checks.{linkLength, stateLength}
-use Rattle.questions.specs.declared.climb.Climbed.{Climbed}
-use Rattle.questions.specs.declared.climb.Climbed.the-variants.{Reached as Told, Outside}
+use Rattle.questions.specs.declared.answer.Climbed.{Climbed}
+use Rattle.questions.specs.declared.answer.Climbed.the-variants.{Reached as Told, Outside}
 use Rattle.questions.specs.Climbs.{View, viewOf, Reached}
 use Rattle.questions.specs.Part.{partOn}
 

@@ -20,8 +20,8 @@ use Rattle.tables.specs.StateCells.{stateCell, mapCell}
 use Rattle.ready.specs.Members as members
 use Rattle.ready.specs.Parts.{Given, Part, nodesOf, statesOf, stateOf, partState, partLinks}
 use Rattle.questions.specs.declared.roots.Rooted.{Rooted}
-use Rattle.questions.specs.declared.climb.Climbed.{Climbed}
-use Rattle.questions.specs.declared.climb.Climbed.the-variants.{Reached as Told}
+use Rattle.questions.specs.declared.answer.Climbed.{Climbed}
+use Rattle.questions.specs.declared.answer.Climbed.the-variants.{Reached as Told}
 use Rattle.questions.specs.Rising.{RisesTo}
 use Rattle.questions.specs.RootsTold.{rootsFit, rootsGiven, rootedOf}
 use Rattle.questions.specs.Climbs.{View, Reached}

@@ -1,4 +1,5 @@
 // The climb of a part: from a node with its state to a depth, on whatever is lent.
+use crate::answer::Climbed;
 use crate::rules::rule_on;
 use crate::rules::run_on;
 use crate::rules::sibling_on;
@@ -10,13 +11,6 @@ ghost use Rattle.questions.specs.Climbs.{below, parentOn, climbOn};
 ghost use Rattle.questions.specs.PathViews.{pathView};
 ghost use Rattle.questions.specs.Steps.{stepOn, landed, StepArgs, ParentArgs};
 ghost use Rattle.questions.specs.PartTold.{toldReached};
-
-// The state that a climb or a part ends in and the links that led to it; or that a value read led outside the plan,
-// the states or the labels, or that a climb did not rise.
-pub enum Climbed {
-    Reached(u8, u32),
-    Outside,
-}
 
 // The node that a move leads to and the state there: no state where the number is not below S.
 pub struct Landed {

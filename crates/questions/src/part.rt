@@ -1,6 +1,6 @@
 // One part of a question: the state of its root, from the parts before it, and the links of its climb, on whatever is
 // lent.
-use crate::climb::Climbed;
+use crate::answer::Climbed;
 use crate::climb::climb_state;
 use crate::fits::asked_fits;
 use crate::fits::lengths_fit;

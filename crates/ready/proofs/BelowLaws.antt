@@ -11,16 +11,13 @@ use mathlib.Core.List.{List, [], _∷_, List·Memᴰ, List·Memᴰ·head, List·
 use native.Mathlib.Omega.{arith}
 use lib.Dec.{leb, ltb}
 use borrow.Author.Tests.{leb-true, leb-false, ltb-true, ltb-false}
+use Rattle.trees.proofs.MoveLaws.{both}
 use Rattle.trees.specs.Tree.{Tree, size}
 use Rattle.trees.specs.Numbering.{sub}
 use Rattle.ready.specs.Ready.{Under}
 use Rattle.ready.specs.Members.{Rising}
 use Rattle.ready.specs.Parts.{isUnder, anyBelow, lastBelow, highestBelow}
 use Rattle.ready.proofs.HighestLaws.{Highest}
-
-pub and-parts : (a b : Bool) → (a && b) ≡ true → (a ≡ true) × (b ≡ true)
-and-parts true b e = (refl, e)
-and-parts false b e = absurd (let z : _≡_ {A = ℕ} 0 1 = cc in omega arith)
 
 pub true-false : (b : Bool) → b ≡ true → b ≡ false → ⊥
 true-false b p q = let z : _≡_ {A = ℕ} 0 1 = cc in omega arith
@@ -36,7 +33,7 @@ module _ (t : Tree) (c : ℕ) where
   pub under-yes : (v : ℕ) → isUnder t c v ≡ true → Under t c v
   unfolding isUnder
   under-yes v e =
-      let a : (leb v c ≡ true) × (ltb c (v + size (sub t c)) ≡ true) = and-parts (leb v c) (ltb c (v + size (sub t c))) e in
+      let a : (leb v c ≡ true) × (ltb c (v + size (sub t c)) ≡ true) = both (leb v c) (ltb c (v + size (sub t c))) e in
       (leb-true v c (a .0), ltb-true c (v + size (sub t c)) (a .1))
 
   pub under-no : (v : ℕ) → isUnder t c v ≡ false → Under t c v → ⊥

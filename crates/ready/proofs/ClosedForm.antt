@@ -16,7 +16,8 @@ use Rattle.trees.proofs.NodeLaws.{Inner, inner, up, sub-leaf}
 use Rattle.trees.proofs.JumpLaws.{ancestor-add, ancestor-depth}
 use Rattle.trees.proofs.IntervalLaws.{Above, ancestor-interval, interval-ancestor}
 use Rattle.ready.specs.Ready.{Under, leftChild, rightChild, Meet, Fork, Ready, listed, root, meet, child-left, child-right, Closed}
-use Rattle.ready.proofs.UnderLaws.{under-self, under-trans, under-anti, under-inner, under-root, left-in, right-in, left-under, right-under, children-apart}
+use Rattle.ready.proofs.UnderLaws.{under-self, under-trans, under-anti, under-inner, under-root, left-in, right-in, left-under}
+use Rattle.ready.proofs.UnderLaws.{right-under, children-apart}
 
 -- a listed node under c
 abbrev pub Some : (ℕ → Bool) → Tree → ℕ → Type 0

@@ -8,20 +8,23 @@
 use Prim.Native.Nat.{ℕ, zero, suc, _+_, _-_, _≤_, _<_}
 use mathlib.Core.Path.{_≡_, refl, sym, ap, ap₂, _∙_, subst}
 use mathlib.Core.Bool.{Bool, true, false, cond, _&&_, _||_}
-use mathlib.Core.List.{List, [], _∷_, _++_, append-nil, List·Memᴰ, List·Memᴰ·head, List·Memᴰ·tail, List·Memᴰ·cases-cons, List·Memᴰ·not-nil, List·Memᴰ·append-cases, List·Memᴰ·eq-of-singleton, Memᴰ·append-left, Memᴰ·append-right}
+use mathlib.Core.List.{List, [], _∷_, _++_, append-nil, List·Memᴰ, List·Memᴰ·head, List·Memᴰ·tail, List·Memᴰ·cases-cons, List·Memᴰ·not-nil}
+use mathlib.Core.List.{List·Memᴰ·append-cases, List·Memᴰ·eq-of-singleton, Memᴰ·append-left, Memᴰ·append-right}
 use mathlib.Core.Logic.{_⊎_, inl, inr}
 use native.Mathlib.Decide.{ℕ-discrete, decLt}
 use native.Mathlib.Omega.{arith}
 use lib.Dec.{eqb}
 use borrow.Author.Tests.{eqb-true, eq-eqb}
+use Rattle.trees.proofs.MoveLaws.{both}
 use Rattle.trees.specs.Tree.{Tree, size, kindAt}
 use Rattle.trees.specs.Numbering.{sub, parent}
 use Rattle.trees.proofs.NodeLaws.{Up, up, sub-size, size-pos, parent-root}
 use Rattle.ready.specs.Ready.{Under, leftChild, rightChild, Ready}
 use Rattle.ready.specs.Members.{someIn, someBelow, forksAt, isMember, keep, readyList, Rising}
 use Rattle.ready.proofs.UnderLaws.{left-in, right-in, left-parent, right-parent}
-use Rattle.ready.proofs.BelowLaws.{and-parts, true-false, rising-above}
-use Rattle.ready.proofs.ClosedForm.{Some, Forks, Member, m-listed, m-root, m-forks, m-left, m-right, member-in, member-ready, member-closed, ready-member}
+use Rattle.ready.proofs.BelowLaws.{true-false, rising-above}
+use Rattle.ready.proofs.ClosedForm.{Some, Forks, Member, m-listed, m-root, m-forks, m-left, m-right, member-in, member-ready}
+use Rattle.ready.proofs.ClosedForm.{member-closed, ready-member}
 use Rattle.ready.proofs.PartsRun.{Members}
 
 -- ---- Booleans
@@ -75,8 +78,8 @@ module _ (w : ℕ → Bool) where
     forks-yes : (v : ℕ) → v < size t → forksAt w t v ≡ true → Forks w t v
     unfolding forksAt
     forks-yes v h e =
-        let a = and-parts (eqb (kindAt t v) 1) (someBelow w t (leftChild t v) && someBelow w t (rightChild v)) e in
-        let b = and-parts (someBelow w t (leftChild t v)) (someBelow w t (rightChild v)) (a .1) in
+        let a = both (eqb (kindAt t v) 1) (someBelow w t (leftChild t v) && someBelow w t (rightChild v)) e in
+        let b = both (someBelow w t (leftChild t v)) (someBelow w t (rightChild v)) (a .1) in
         let k : kindAt t v ≡ 1 = eqb-true (kindAt t v) 1 (a .0) in
         record {
           inside = h;

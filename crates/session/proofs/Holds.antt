@@ -17,7 +17,7 @@ use Rattle.formats.specs.Bytes.{allBelow}
 use Rattle.book.specs.Lends.{Sizes}
 use Rattle.book.specs.Calls as calls
 use Rattle.book.specs.Model.{Record, idle, freshRecord, loadedRecord}
-use Rattle.questions.proofs.PartFits.{and-parts}
+use Rattle.trees.proofs.MoveLaws.{both}
 use Rattle.session.specs.declared.state.Phase.{Phase}
 use Rattle.session.specs.declared.state.Phase.the-variants.{Empty, Loaded, Running, Answered}
 use Rattle.session.specs.declared.state.Session.{Session}
@@ -96,13 +96,13 @@ record PartsFit (s : Session) : Type 0 where
 
 module _ (s : Session) where
   within-is : (low high x : ℕ) → (leb low x && leb x high) ≡ true → (low ≤ x) × (x ≤ high)
-  within-is low high x e = let p = and-parts (leb low x) (leb x high) e in (leb-true low x (p .0), leb-true x high (p .1))
+  within-is low high x e = let p = both (leb low x) (leb x high) e in (leb-true low x (p .0), leb-true x high (p .1))
 
   pub sized-of : sizesFit s ≡ true → Sized (sizesOf s)
   unfolding sizesFit
   sized-of e =
-      let p = and-parts _ _ e in
-      let q = and-parts _ _ (p .1) in
+      let p = both _ _ e in
+      let q = both _ _ (p .1) in
       let a = within-is 1 65535 (s .n) (p .0) in
       let b = within-is 1 16 (s .s) (q .0) in
       let c = within-is 1 64 (s .k) (q .1) in
@@ -111,14 +111,14 @@ module _ (s : Session) where
   nothing-of : noQuestion s ≡ true → Nothing s
   unfolding noQuestion
   nothing-of e =
-      let a = and-parts _ _ e in
-      let b = and-parts _ _ (a .1) in
-      let c = and-parts _ _ (b .1) in
-      let d = and-parts _ _ (c .1) in
-      let f = and-parts _ _ (d .1) in
-      let g = and-parts _ _ (f .1) in
-      let h = and-parts _ _ (g .1) in
-      let i = and-parts _ _ (h .1) in
+      let a = both _ _ e in
+      let b = both _ _ (a .1) in
+      let c = both _ _ (b .1) in
+      let d = both _ _ (c .1) in
+      let f = both _ _ (d .1) in
+      let g = both _ _ (f .1) in
+      let h = both _ _ (g .1) in
+      let i = both _ _ (h .1) in
       record {
         no-yes = not-true (s .yes) (a .0);
         m-is = eqb-true (s .m) 0 (b .0);
@@ -134,20 +134,20 @@ module _ (s : Session) where
   list-of : listFits s ≡ true → ListFits s
   unfolding listFits
   list-of e =
-      let a = and-parts _ _ e in
-      let b = and-parts _ _ (a .1) in
-      let c = and-parts _ _ (b .1) in
-      let d = and-parts _ _ (c .1) in
+      let a = both _ _ e in
+      let b = both _ _ (a .1) in
+      let c = both _ _ (b .1) in
+      let d = both _ _ (c .1) in
       record { few = leb-true (s .m) 64 (a .0); nodes-below = b .0; labels-below = c .0; nodes-end = d .0; labels-end = d .1 }
 
   parts-of : partsFit s ≡ true → PartsFit s
   unfolding partsFit
   parts-of e =
-      let a = and-parts _ _ e in
-      let b = and-parts _ _ (a .1) in
-      let c = and-parts _ _ (b .1) in
-      let d = and-parts _ _ (c .1) in
-      let f = and-parts _ _ (d .1) in
+      let a = both _ _ e in
+      let b = both _ _ (a .1) in
+      let c = both _ _ (b .1) in
+      let d = both _ _ (c .1) in
+      let f = both _ _ (d .1) in
       let w = within-is 1 254 (s .parts) (a .0) in
       record {
         some-part = w .0;
@@ -201,9 +201,9 @@ module _ (s : Session) where
   empties-of : validIn Empty s ≡ true → Empties
   unfolding validIn
   empties-of e =
-      let a = and-parts _ _ e in
-      let b = and-parts _ _ (a .1) in
-      let c = and-parts _ _ (b .1) in
+      let a = both _ _ e in
+      let b = both _ _ (a .1) in
+      let c = both _ _ (b .1) in
       record {
         n-is = eqb-true (s .n) 0 (a .0);
         s-is = eqb-true (s .s) 0 (b .0);
@@ -213,15 +213,15 @@ module _ (s : Session) where
 
   loaded-of : validIn Loaded s ≡ true → Sized (sizesOf s) × Nothing s
   unfolding validIn
-  loaded-of e = let a = and-parts _ _ e in (sized-of (a .0), nothing-of (a .1))
+  loaded-of e = let a = both _ _ e in (sized-of (a .0), nothing-of (a .1))
 
   running-of : validIn Running s ≡ true → Questions × (s .handled < s .parts) × (s .yes ≡ false)
   unfolding validIn
   running-of e =
-      let a = and-parts _ _ e in
-      let b = and-parts _ _ (a .1) in
-      let c = and-parts _ _ (b .1) in
-      let d = and-parts _ _ (c .1) in (
+      let a = both _ _ e in
+      let b = both _ _ (a .1) in
+      let c = both _ _ (b .1) in
+      let d = both _ _ (c .1) in (
         record { sizes = sized-of (a .0); list = list-of (b .0); parts = parts-of (c .0) },
         ltb-true (s .handled) (s .parts) (d .0),
         not-true (s .yes) (d .1),
@@ -230,9 +230,9 @@ module _ (s : Session) where
   answered-of : validIn Answered s ≡ true → Questions × (s .handled ≡ s .parts)
   unfolding validIn
   answered-of e =
-      let a = and-parts _ _ e in
-      let b = and-parts _ _ (a .1) in
-      let c = and-parts _ _ (b .1) in
+      let a = both _ _ e in
+      let b = both _ _ (a .1) in
+      let c = both _ _ (b .1) in
       (record { sizes = sized-of (a .0); list = list-of (b .0); parts = parts-of (c .0) }, eqb-true (s .handled) (s .parts) (c .1))
 
   holds-in : Shaped s → (p : Phase) → s .phase ≡ p → validIn p s ≡ true → HoldsIn (phaseOf p) (recordOf s)

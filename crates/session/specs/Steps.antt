@@ -5,7 +5,8 @@
 -- steppedOf s p q l y == session s in state p with one more part handled, of state q and l links, and the yes or no y
 -- NextArgs s == the counts are within the arrays
 -- StepArgs s l == there is room for one more state, and the links fit
--- marksIn s k rules == the accept marks by S and K; markedIn s k rules q == whether that of state q is 1; MarkArgs rules s k q == the rules' length is exact, and q is a state
+-- marksIn s k rules == the accept marks by S and K; markedIn s k rules q == whether that of state q is 1; MarkArgs rules s k q == the
+--   rules' length is exact, and q is a state
 -- handledBy s rules q l == what an advance leaves and tells where the part's state is q and its links are l; HandleArgs what it asks
 --
 -- Assumes nothing.

@@ -5,7 +5,7 @@ use crate::may::is_running;
 use crate::state::Phase;
 use crate::state::Session;
 use formats::rules::inner_count;
-use questions::climb::Climbed;
+use questions::answer::Climbed;
 use questions::fits::lengths_fit;
 use questions::part::part;
 ghost use mathlib.Core.Path.{_≡_};

@@ -2,10 +2,10 @@
 pub mod answers;
 pub mod build;
 pub mod check;
-pub mod check_maps;
-pub mod check_states;
+mod check_maps;
+mod check_states;
 pub mod compare;
-pub mod maps;
+mod maps;
 pub mod rows;
-pub mod states;
-pub mod tables;
+mod states;
+mod tables;

@@ -43,7 +43,8 @@ same (suc f) zero (suc d) hf hg = absurd (omega arith)
 same (suc f) (suc g) zero hf hg = refl
 same (suc f) (suc g) (suc d) hf hg =
     let a : jumpDepthIn f d ≡ jumpDepthIn g d = same f g d (omega arith) (omega arith) in
-    let b : jumpDepthIn f (jumpDepthIn g d) ≡ jumpDepthIn g (jumpDepthIn g d) = same f g (jumpDepthIn g d) (omega (arith, to-le g d)) (omega (arith, to-le g d)) in
+    let b : jumpDepthIn f (jumpDepthIn g d) ≡ jumpDepthIn g (jumpDepthIn g d) = same f g (jumpDepthIn g d)
+    (omega (arith, to-le g d)) (omega (arith, to-le g d)) in
     rw (a, b)
 
 pub jumpDepth-le : (d : ℕ) → jumpDepth d ≤ d
@@ -57,7 +58,8 @@ jumpDepth-zero = refl
 pub jumpDepth-suc : (d : ℕ) → jumpDepth (suc d) ≡ twoDistances d (jumpDepth d) (jumpDepth (jumpDepth d)) (jumpDepth (jumpDepth d)) d
 unfolding jumpDepth jumpDepthIn
 jumpDepth-suc d =
-    let b : jumpDepthIn d (jumpDepthIn d d) ≡ jumpDepthIn (jumpDepthIn d d) (jumpDepthIn d d) = same d (jumpDepthIn d d) (jumpDepthIn d d) (to-le d d) (omega arith) in
+    let b : jumpDepthIn d (jumpDepthIn d d) ≡ jumpDepthIn (jumpDepthIn d d) (jumpDepthIn d d) = same d (jumpDepthIn d d)
+    (jumpDepthIn d d) (to-le d d) (omega arith) in
     rw b
 
 -- depths 1 to 7 jump to 0, 1, 0, 3, 4, 3, 0
@@ -124,22 +126,27 @@ module _ (t : Tree) where
 
   -- the two-distances rule holds of it
   leap-rule : (v : ℕ) → v + 1 < size t
-      → leap t v ≡ twoDistances (depth t (parent t v)) (depth t (leap t (parent t v))) (depth t (leap t (leap t (parent t v)))) (leap t (leap t (parent t v))) (parent t v)
+      → leap t v ≡ twoDistances (depth t (parent t v)) (depth t (leap t (parent t v))) (depth t (leap t (leap t (parent t v))))
+      (leap t (leap t (parent t v))) (parent t v)
   unfolding ancestor
   leap-rule v h =
       let p : ℕ = parent t v in
       let hp : p < size t = up t v h .below in
-      rw (depth-leap (leap t p) (leap-in p hp), depth-leap p hp) (go p hp (up t v h .deeper) refl (eqb (depth t p - jumpDepth (depth t p)) (jumpDepth (depth t p) - jumpDepth (jumpDepth (depth t p)))) refl)
+      rw (depth-leap (leap t p) (leap-in p hp), depth-leap p hp)
+      (go p hp (up t v h .deeper) refl
+      (eqb (depth t p - jumpDepth (depth t p)) (jumpDepth (depth t p) - jumpDepth (jumpDepth (depth t p)))) refl)
     where
       go : (p : ℕ) → p < size t → depth t v ≡ depth t p + 1 → parent t v ≡ p → (c : Bool)
           → eqb (depth t p - jumpDepth (depth t p)) (jumpDepth (depth t p) - jumpDepth (jumpDepth (depth t p))) ≡ c → leap t v ≡ cond c (leap t (leap t p)) p
       go p hp e q true c =
           let l : jumpDepth (depth t v) ≡ jumpDepth (jumpDepth (depth t p)) = ap jumpDepth (e ∙ add-one (depth t p)) ∙ jumpDepth-suc (depth t p) ∙ rw c in
           let m : ℕ = jumpDepth (depth t p) in
-          let far : leap t p ≡ ancestor t v (depth t p - m + 1) = leap-is p m refl ∙ ap (λ (u : ℕ). ancestor t u (depth t p - m)) (sym q) ∙ ancestor-add v 1 (depth t p - m) in
+          let far : leap t p ≡ ancestor t v (depth t p - m + 1) = leap-is p m refl ∙ ap (λ (u : ℕ). ancestor t u (depth t p - m))
+          (sym q) ∙ ancestor-add v 1 (depth t p - m) in
           let dj : depth t (leap t p) ≡ m = depth-leap p hp in
           let two : leap t (leap t p) ≡ ancestor t v (m - jumpDepth m + (depth t p - m + 1)) =
-          leap-is (leap t p) (jumpDepth m) (ap jumpDepth dj) ∙ ap₂ (λ (u k : ℕ). ancestor t u (k - jumpDepth m)) far dj ∙ ancestor-add v (depth t p - m + 1) (m - jumpDepth m) in
+          leap-is (leap t p) (jumpDepth m) (ap jumpDepth dj) ∙ ap₂ (λ (u k : ℕ). ancestor t u (k - jumpDepth m)) far dj
+          ∙ ancestor-add v (depth t p - m + 1) (m - jumpDepth m) in
           let n : depth t v - jumpDepth m ≡ m - jumpDepth m + (depth t p - m + 1) = omega (arith, jumpDepth-le (depth t p), jumpDepth-le m) in
           leap-is v (jumpDepth m) l ∙ ap (ancestor t v) n ∙ sym two
       go p hp e q false c =
@@ -194,7 +201,8 @@ module _ (t : Tree) where
   jump-root v e = jump-leap v (omega arith) ∙ leap-root v e
 
   pub jump-rule : (v : ℕ) → v + 1 < size t
-      → jump t v ≡ twoDistances (depth t (parent t v)) (depth t (jump t (parent t v))) (depth t (jump t (jump t (parent t v)))) (jump t (jump t (parent t v))) (parent t v)
+      → jump t v ≡ twoDistances (depth t (parent t v)) (depth t (jump t (parent t v))) (depth t (jump t (jump t (parent t v))))
+      (jump t (jump t (parent t v))) (parent t v)
   jump-rule v h =
       let p : ℕ = parent t v in
       let hp : p < size t = up t v h .below in

@@ -5,6 +5,7 @@
 --     next-inside, next-rises, next-starts, next-start   the same, fact by fact
 --     next-jump, next-parent  when the jump is taken, and when the parent
 --     next-outside, next-jump-flat, next-parent-outside, next-parent-flat   when there is no move
+--     none-some, cond-some, both   what a result and a test of two say, for all who read such
 -- Assumes nothing.
 use Prim.Native.Nat.{ℕ, _≤_, _<_}
 use mathlib.Core.Path.{_≡_, refl, sym, ap, subst}
@@ -20,11 +21,11 @@ use Rattle.trees.proofs.Choice.{by-le}
 pub none-some : {X : Type 0} {x : X} → none ≡ some x → ⊥
 none-some h = let z : _≡_ {A = ℕ} 0 1 = cc in omega arith
 
-cond-some : {X : Type 0} {x : X} (b : Bool) (o : Option X) → cond b o none ≡ some x → (b ≡ true) × (o ≡ some x)
+pub cond-some : {X : Type 0} {x : X} (b : Bool) (o : Option X) → cond b o none ≡ some x → (b ≡ true) × (o ≡ some x)
 cond-some true o h = (refl, h)
 cond-some false o h = absurd (none-some h)
 
-both : (a b : Bool) → (a && b) ≡ true → (a ≡ true) × (b ≡ true)
+pub both : (a b : Bool) → (a && b) ≡ true → (a ≡ true) × (b ≡ true)
 both true b h = (refl, h)
 both false b h = let z : _≡_ {A = ℕ} 0 1 = cc in absurd (omega arith)
 

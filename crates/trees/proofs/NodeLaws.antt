@@ -217,8 +217,10 @@ inner (node l a r) v h e = go (place l a r v h) (inner l v) (λ j. inner r j)
           left-up = parent-right l a r (size l + i .left) (i .left) refl (omega (arith, i .at)) ∙ omega (arith, i .left-up);
         }
     go (top q) il ir =
-        let a2 : sub (node l a r) (v - 1) ≡ r = sub-right l a r (v - 1) (size r - 1) (omega (arith, size-pos r)) (omega (arith, size-pos r)) ∙ sub-root r (size r - 1) (omega (arith, size-pos r)) in
-        let a3 : sub (node l a r) (size l - 1) ≡ l = sub-left l a r (size l - 1) (omega (arith, size-pos l)) ∙ sub-root l (size l - 1) (omega (arith, size-pos l)) in
+        let a2 : sub (node l a r) (v - 1) ≡ r = sub-right l a r (v - 1) (size r - 1) (omega (arith, size-pos r))
+        (omega (arith, size-pos r)) ∙ sub-root r (size r - 1) (omega (arith, size-pos r)) in
+        let a3 : sub (node l a r) (size l - 1) ≡ l = sub-left l a r (size l - 1) (omega (arith, size-pos l))
+        ∙ sub-root l (size l - 1) (omega (arith, size-pos l)) in
         record {
           left = size l - 1;
           at = rw a2 (omega (arith, size-pos l));
@@ -287,7 +289,8 @@ up (node l a r) v h = go (place l a r v (omega arith)) (up l v) (λ j. up r j)
               let k : j + 1 < size r = omega arith in
               let u : Up r j (parent r j) = ir j k in
               let b : parent r j < size r = u .below in
-              let s : sub t (size l + parent r j - 1) ≡ sub r (parent r j - 1) = sub-right l a r (size l + parent r j - 1) (parent r j - 1) (omega (arith, u .above)) (omega arith) in
+              let s : sub t (size l + parent r j - 1) ≡ sub r (parent r j - 1) = sub-right l a r (size l + parent r j - 1)
+              (parent r j - 1) (omega (arith, u .above)) (omega arith) in
               subst (Up t v) (sym (parent-right l a r v j q k)) (record {
                 above = omega (arith, u .above);
                 below = omega arith;

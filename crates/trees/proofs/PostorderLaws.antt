@@ -56,7 +56,8 @@ fold-id (node l a r) = ap₂ (λ (x y : Tree). node x a y) (fold-id l) (fold-id 
 -- one post-order, one tree
 pub postorder-unique : (t u : Tree) → kindsOf t ≡ kindsOf u → labelsOf t ≡ labelsOf u → t ≡ u
 postorder-unique t u p q =
-    let e : some (fold leaf node t ∷ []) ≡ some (fold leaf node u ∷ []) = sym (read-whole leaf node t) ∙ ap₂ (λ (ks ls : List ℕ). read leaf node ks ls []) p q ∙ read-whole leaf node u in
+    let e : some (fold leaf node t ∷ []) ≡ some (fold leaf node u ∷ []) = sym (read-whole leaf node t)
+    ∙ ap₂ (λ (ks ls : List ℕ). read leaf node ks ls []) p q ∙ read-whole leaf node u in
     sym (fold-id t) ∙ (cc) ∙ fold-id u
 
 -- the post-order of a stack of trees, the last completed first

@@ -17,7 +17,8 @@ same-length : tie.Need-same-length
 same-length c = search needs
 
 returns : tie.Need-returns
-returns c = more-stored _ _ _ _ (c .before .before .before .before .before .before .before .before .pre) (c .before .before .before .before .before .enum-told .given .1) (c .before .before .encode .ensures)
+returns c = more-stored _ _ _ _ (c .before .before .before .before .before .before .before .before .pre)
+    (c .before .before .before .before .before .enum-told .given .1) (c .before .before .encode .ensures)
 
 enum-told-2 : tie.Need-enum-told-2
 enum-told-2 c = search needs
@@ -29,7 +30,8 @@ same-length-2 : tie.Need-same-length-2
 same-length-2 c = search needs
 
 returns-2 : tie.Need-returns-2
-returns-2 c = finished-stored _ _ _ _ (c .before .before .before .before .before .before .before .before .pre) (c .before .before .before .before .before .enum-told2 .given .1) (c .before .before .encode2 .ensures)
+returns-2 c = finished-stored _ _ _ _ (c .before .before .before .before .before .before .before .before .pre)
+    (c .before .before .before .before .before .enum-told2 .given .1) (c .before .before .encode2 .ensures)
 
 enum-known-told : tie.Need-enum-known-told
 enum-known-told c = search needs

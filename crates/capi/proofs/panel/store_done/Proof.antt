@@ -17,7 +17,8 @@ same-length : tie.Need-same-length
 same-length c = search needs
 
 returns : tie.Need-returns
-returns c = done-stored _ _ _ (c .before .before .before .before .before .before .before .before .pre) (c .before .before .before .before .before .enum-told .given .1) (c .before .before .encode .ensures)
+returns c = done-stored _ _ _ (c .before .before .before .before .before .before .before .before .pre)
+    (c .before .before .before .before .before .enum-told .given .1) (c .before .before .encode .ensures)
 
 enum-known-told : tie.Need-enum-known-told
 enum-known-told c = search needs

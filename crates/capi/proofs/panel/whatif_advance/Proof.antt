@@ -36,7 +36,11 @@ same-length-2 c = search needs
 
 returns-2 : tie.Need-returns-2
 returns-2 c =
-    advance-laid _ _ (passed-laid _ _ (c .before .before .before .before .before .before .before .before .before .laid-out .ensures) (c .before .before .before .before .before .before .before .before .if1 .left)) _ _ _ _ _ (of-decoded _ _ _ _ _ (c .before .before .before .before .before .before .decode .ensures) (c .before .before .before .before .before .advance .ensures)) (c .before .before .store-advanced .ensures)
+    advance-laid _ _ (passed-laid _ _
+    (c .before .before .before .before .before .before .before .before .before .laid-out .ensures)
+    (c .before .before .before .before .before .before .before .before .if1 .left)) _ _ _ _ _
+    (of-decoded _ _ _ _ _ (c .before .before .before .before .before .before .decode .ensures)
+    (c .before .before .before .before .before .advance .ensures)) (c .before .before .store-advanced .ensures)
 
 pub whatif-advance-spec : {M : Type 1} → statement M
 whatif-advance-spec =

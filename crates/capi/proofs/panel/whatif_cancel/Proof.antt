@@ -36,7 +36,10 @@ same-length-2 c = search needs
 
 returns-2 : tie.Need-returns-2
 returns-2 c =
-    laid _ _ (passed-laid _ _ (c .before .before .before .before .before .before .before .before .laid-out .ensures) (c .before .before .before .before .before .before .before .if1 .left)) _ _ _ _ (of-decoded _ _ _ _ _ (c .before .before .before .before .before .decode .ensures) (c .before .before .before .before .cancel .ensures)) (c .before .before .store-done .ensures)
+    laid _ _ (passed-laid _ _ (c .before .before .before .before .before .before .before .before .laid-out .ensures)
+    (c .before .before .before .before .before .before .before .if1 .left)) _ _ _ _
+    (of-decoded _ _ _ _ _ (c .before .before .before .before .before .decode .ensures)
+    (c .before .before .before .before .cancel .ensures)) (c .before .before .store-done .ensures)
 
 pub whatif-cancel-spec : {M : Type 1} → statement M
 whatif-cancel-spec =
