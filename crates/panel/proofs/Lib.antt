@@ -1,2 +1,3 @@
 mod InPlace
 pub mod InPlaceTheorem
+mod Lendings
