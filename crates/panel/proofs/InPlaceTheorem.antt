@@ -1,5 +1,5 @@
 -- Demand 3 for the calls in place: every list of calls, from the fresh session, whatever is lent, is answered as the panel book says.
---     in-place-demand-3     the theorem, over the very promises of the calls in place
+--     in-place-demand-3     the theorem, over the very promises of load, start, advance, cancel and read in place
 --     step-by-value         each call in place is the call by value on the record at entry
 -- Assumes nothing.
 use mathlib.Core.Path.{_≡_, refl, subst}
@@ -13,7 +13,7 @@ use Rattle.session.proofs.SessionTheorem.{session-demand-3}
 use Rattle.panel.specs.CallsInPlace.{StepInPlace, loads, starts, advances, cancels, reads}
 
 pub step-by-value : (s s′ : Session) (c : Call) (a : Answer) → StepInPlace s c a s′ → by-value.Step s c a s′
-step-by-value s s′ c a (loads o nums bytes d) = by-value.loads o nums bytes d
+step-by-value s s′ c a (loads r nums bytes d) = by-value.loads (record { told = r; rec = s′ }) nums bytes d
 step-by-value s s′ c a (starts r d) = by-value.starts (record { told = r; rec = s′ }) d
 step-by-value s s′ c a (advances r d) = by-value.advances (record { told = r; rec = s′ }) d
 step-by-value s s′ c a (cancels r d) = by-value.cancels (record { told = r; rec = s′ }) d

@@ -1,13 +1,28 @@
-// The session in place: "a record of numbers, bools and arrays of numbers, lent to every call and altered where it is" (document 01).
-// Each call is thin: it makes the call by value (crate session) on a copy, stores the record that it leaves and tells its answer.
-// So it promises what that call promises, of the record at entry and at exit.
+// The session in place: "the session record is lent by the panel and altered where it is" (document 01).
+// Each call is thin: it makes the call by value (crate session) on a copy, stores the record that this returns where the old one was and
+// tells its answer. So it promises what that call promises, of the record at entry and at exit.
 use session::answers::Advancing;
 use session::answers::Doing;
+use session::answers::Reading;
 use session::answers::Starting;
 use session::state::Session;
+ghost use mathlib.Core.Path.{_≡_};
 ghost use Rattle.book.specs.Calls as calls;
-ghost use Rattle.session.specs.Promises.{CallDone, startingAnswer, advancingAnswer, doingAnswer};
+ghost use Rattle.session.specs.Promises.{CallDone, LoadDone, doingAnswer, startingAnswer, advancingAnswer, readingAnswer, answerOn};
 ghost use Rattle.session.specs.Tests.{lentOf};
+
+// Builds the tables of a plan and rules into the lent buffers.
+pub fn load(s: &mut Session, plan: &[u8], rules: &[u8], nums: &mut [u16], bytes: &mut [u8]) -> Doing
+    ensures { λ r. ⌜
+        LoadDone (now (s .entry))
+        (lentOf (now (plan .entry)) (now (rules .entry)) (now (nums .entry)) (now (bytes .entry)))
+        (doingAnswer r) (now (s .exit)) (now (nums .exit)) (now (bytes .exit)) ⌝ }
+{
+    let old = *s;
+    let out = old.load(plan, rules, nums, bytes);
+    *s = out.rec;
+    out.told
+}
 
 // Puts a question: tells the number of its parts.
 pub fn start(
@@ -52,4 +67,12 @@ pub fn cancel(s: &mut Session) -> Doing
     let out = old.cancel();
     *s = out.rec;
     out.told
+}
+
+// Tells the root's state, the yes or no, the parts and the links.
+pub fn read(s: &Session) -> Reading
+    ensures { λ r. ⌜ readingAnswer r ≡ answerOn (now (s .entry)) calls.read ⌝ }
+{
+    let rec = *s;
+    rec.read()
 }
