@@ -3,6 +3,7 @@
 --                      At exit nothing is had of a `shared` one, and of a `written` one its last elements alone
 --     back             what the call by value leaves of it is what is had of it at exit
 --     slots, stays, goes, kinds, spells, tells      of a list of them: what a walk's laws ask (denote.Triple.Walked)
+--     Passed, Fitting  what a walk knows of what is passed: each stands for its value, and has its machine type.   fitting  the second
 --     Said, Had, Fits  of their last values: what the call by value says, what is had at exit, what these fit.   backs    as `back`
 -- Assumes nothing.
 use mathlib.Core.Path.{refl}
@@ -19,9 +20,9 @@ use contract.Monad.{fact}
 use contract.Lifetimes.{Lfts}
 use types.Kit.{Given, ‵, raw, _⊛_, _$_, _∵_, !, qed, move, split, use1, fsplit, fjoin, feqL, done}
 use denote.RattleType.{RattleType, Denots}
-use denote.Laws.{Is, Ises, Spells, Tells, Tellss, valss}
+use denote.Laws.{Is, Are, Ises, Spells, Tells, Tellss, Typed, Lawful, valss}
 use denote.Ref.{name, now}
-use denote.Slice.{finally, slice-vals, shr-slice-tells, mut-slice-tells}
+use denote.Slice.{finally, slice-vals, shr-slice-tells, shr-slice-lawful, mut-slice-tells, mut-slice-lawful}
 use denote.Signature.{Slot, AllWithin, nameOf, meetAt, plain, mutSliceOf, shrSliceOf, typesAt}
 use denote.Steps.{heard}
 use denote.Triple.End.{all, Fins, lastsOf}
@@ -33,6 +34,7 @@ pub record Lending (n : ℕ) : Type 2 where
   pub stay : Stay slot yes
   pub spells : (κs : Lfts n) → slot .row κs .Denot → List Val
   pub tells : (κs : Lfts n) → Tells (slot .row κs) (Is (slot .row κs)) (spells κs)
+  pub lawful : {M : Type 1} (𝓤 : URA M) (H : Heap 𝓤) (A : Atoms 𝓤) (W : Given 𝓤 H A) (κs : Lfts n) → Lawful 𝓤 H A (slot .row κs)
   pub goes : {M : Type 1} (𝓤 : URA M) (H : Heap 𝓤) (A : Atoms 𝓤) (W : Given 𝓤 H A) → Goes 𝓤 H A W n slot yes stay
   pub back : {M : Type 1} (𝓤 : URA M) (H : Heap 𝓤) (A : Atoms 𝓤) (W : Given 𝓤 H A) (κs : Lfts n) (x : slot .row κs .Denot)
       (w : Last (slot .row κs .exit yes) x) (vs : List Val)
@@ -48,6 +50,7 @@ module _ {n : ℕ} (i : ℕ) (ok : AllWithin n (i ∷ [])) (R : RattleType) wher
     stay = stay-dropped read-only yes;
     spells = λ κs. slice-vals;
     tells = λ κs. shr-slice-tells (nameOf (i ∷ [])) (meetAt n (i ∷ []) ok κs) R;
+    lawful = λ 𝓤 H A W κs. shr-slice-lawful 𝓤 H A W (nameOf (i ∷ [])) (meetAt n (i ∷ []) ok κs) R;
     goes = λ 𝓤 H A W. goes-dropped 𝓤 H A W n read-only yes (λ κs x f. refl);
     back = λ 𝓤 H A W κs x w vs. qed W (‵ ftrue ∷ []) ∵ says ! tt $ done !;
   }
@@ -58,6 +61,7 @@ module _ {n : ℕ} (i : ℕ) (ok : AllWithin n (i ∷ [])) (R : RattleType) wher
     stay = gave-slice (i ∷ []) ok (plain (λ _. R));
     spells = λ κs. slice-vals;
     tells = λ κs. mut-slice-tells (nameOf (i ∷ [])) (meetAt n (i ∷ []) ok κs) R;
+    lawful = λ 𝓤 H A W κs. mut-slice-lawful 𝓤 H A W (nameOf (i ∷ [])) (meetAt n (i ∷ []) ok κs) R;
     goes = λ 𝓤 H A W. goes-gave-slice 𝓤 H A W n i ok (plain (λ _. R));
     back = λ 𝓤 H A W κs x w vs. qed W (‵ (fsep (finally R (name x) w) (feq ℕ (length w) (length (now x)))) ∷ []) ∵
         fsplit ! $ move ! (1 ∷ []) $ feqL ! (λ e. says ! e $ done !);
@@ -90,6 +94,14 @@ module _ {n : ℕ} where
     tells [] = tt
     tells (l ∷ ls) = (l .tells κs, tells ls)
 
+    -- what is passed: of the right types, and these what they are said to be
+    abbrev pub Passed : (ls : List (Lending n)) → Denots (kinds ls) → Type 0
+    Passed ls xs = Are (kinds ls) (Ises (kinds ls)) xs (valss (kinds ls) (spells ls) xs)
+
+    abbrev pub Fitting : (ls : List (Lending n)) → Denots (kinds ls) → Type 0
+    Fitting [] xs = Unit {0}
+    Fitting (l ∷ ls) xs = Typed (l .slot .row κs .mir) (l .spells κs (xs .0)) × Fitting ls (xs .1)
+
     -- their last values, what is said of these, and what is had at exit
     abbrev pub Lasts : (ls : List (Lending n)) → Denots (kinds ls) → Type 0
     Lasts ls xs = Fins κs (slots ls) (all yes (slots ls)) xs
@@ -104,6 +116,10 @@ module _ {n : ℕ} where
     Fits ls xs ws = fitsOf κs (slots ls) (all yes (slots ls)) (stays ls) xs ws
 
     module _ {M : Type 1} (𝓤 : URA M) (H : Heap 𝓤) (A : Atoms 𝓤) (W : Given 𝓤 H A) where
+      pub fitting : (ls : List (Lending n)) (xs : Denots (kinds ls)) → Passed ls xs → Fitting ls xs
+      fitting [] xs are = tt
+      fitting (l ∷ ls) xs are = (l .lawful 𝓤 H A W κs .typed (xs .0) _ (are .0), fitting ls (xs .1) (are .1))
+
       pub backs : (ls : List (Lending n)) (xs : Denots (kinds ls)) (ws : Lasts ls xs)
           → ent 𝓤 (sem 𝓤 H A (Said ls xs ws)) (sep 𝓤 (sem 𝓤 H A (Had ls xs ws)) (fact 𝓤 (Fits ls xs ws)))
       backs [] xs ws = qed W (‵ ftrue ∷ []) ∵ says ! tt $ done !

@@ -1,6 +1,6 @@
--- `panel::cancel` meets its contract: a walk of its MIR, by hand. The borrow is opened, the record is copied out, the call by value is made
--- on the copy, the record that it returns is stored where the old one was, the borrow is closed at it,
--- and the answer is returned. All that it knows of the call by value is its contract, whose promise it hands on unopened.
+-- `panel::cancel` meets its contract: a walk of its MIR, by hand. The borrow is opened and the record copied out. The call by value is
+-- made on the copy. The record that it returns is stored where the old one was, the borrow is closed at it, and the
+-- answer is returned. All that it knows of the call by value is its contract, whose promise it hands on unopened.
 -- Assumes nothing.
 use mathlib.Core.Path.{refl}
 use Prim.Native.Nat.{ℕ}
@@ -24,7 +24,7 @@ use types.Run.{look, look-raw, init, store-raw, forget, stop, hop, fld, from, lo
 use types.Run.{enter, alloc1, alloc0, params1, pass1, pass0, free1, free0}
 use sound.WpLaws.{FmC, fmOf, WpFn-mono}
 use denote.RattleType.{owns, flat}
-use denote.Laws.{Is, Are, Ises, shows}
+use denote.Laws.{Is, shows}
 use denote.Ref.{ptr, now}
 use denote.Signature.{typesAt}
 use denote.Steps.{opens, closes, owned, peeks, heard}
@@ -52,8 +52,8 @@ use Rattle.session.proofs.state.Session.cancel as step
 use Rattle.session.proofs.state.Session.cancel.Symbol as step-def
 use Rattle.session.proofs.state.Session.cancel.Symbol.{name as #step}
 use Rattle.session.proofs.state.Session.cancel.Met as step-thm
-use Rattle.panel.proofs.Lendings.{Lending, kinds}
-use Rattle.panel.proofs.InPlace.{passed, Post, exits, met, spelled}
+use Rattle.panel.proofs.Lendings.{Lending, kinds, Fitting}
+use Rattle.panel.proofs.InPlace.{vals, passed, Post, exits, met, spelled}
 use Rattle.panel.proofs.cancel.Key.{name as #this}
 use Rattle.panel.proofs.cancel as this
 use Rattle.panel.proofs.cancel.Statement as stated
@@ -66,9 +66,6 @@ abbrev Promised : (κs : Lfts 1) (a : Args this.signature κs) → Doing → AtE
 Promised κs a r e =
     CallDone (now (a .0)) calls.cancel
     (doingAnswer r) (now (e .0))
-
-abbrev vals : Session → List Val
-vals = LL.vals T.the-type T′.the-laws
 
 told-is : (r : Done) (v : Val) → Is O.the-row r (v ∷ []) → Is E.the-row (r .told) (EL.vals E.the-type E′.the-laws (r .told))
 told-is r v is = LL.owed O.the-type O′.the-laws r (v ∷ []) is .0
@@ -118,11 +115,11 @@ module _ {M : Type 1} (𝓤 : URA M) (H : Heap 𝓤) (A : Atoms 𝓤) (W : Given
   Holds r ws = Promised κs a (r .told) (atExit this.ended κs a (r .rec, ws .1))
 
   module _ (C : Calls 𝓤 H) (Λ : Loops 𝓤 H) (fm : FmC 𝓤 H (W .laws) C) (known : Triple 𝓤 (C #step) (Step 𝓤 H A at-mem run)) where
-    walk : Are (kinds κs lends) (Ises (kinds κs lends)) (a .1) (passed lends E.the-row κs a .1)
+    walk : Fitting κs lends (a .1)
         → ent 𝓤 (onEntry 𝓤 H A this.signature κs qs a (passed lends E.the-row κs a))
         (WpFn 𝓤 H C Λ code.function (flat (typesAt (this.signature .params) κs) (passed lends E.the-row κs a))
         (Post lends E.the-row 𝓤 H A Promised κs qs a))
-    walk are =
+    walk fit =
         qed W ((‵ (flft (κs .0) (qs .0)) ⊛ Tokens) ∷ ‵ (owns (typesAt (this.signature .params) κs) a (passed lends E.the-row κs a)) ∷ []) ∵
         split ! $ move ! (2 ∷ []) $ fsplit ! $ fsplit3 ! $ drop ! $ move ! (0 ∷ 1 ∷ 3 ∷ []) $
         -- [obs; the borrow; its token; Slices; Tokens]
