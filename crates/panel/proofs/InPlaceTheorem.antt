@@ -24,7 +24,8 @@ step-by-value s s′ c a (reads r d) = by-value.reads r d
 same-record : Refines StepInPlace by-value.Step (_≡_ {A = Session})
 same-record s s′ t c a e d = (s′, subst (λ (u : Session). by-value.Step u c a s′) e (step-by-value s s′ c a d), refl)
 
-pub in-place-history : (cs : List Call) (xs : List Answer) → History StepInPlace freshSession cs xs → History by-value.Step freshSession cs xs
+pub in-place-history : (cs : List Call) (xs : List Answer) → History StepInPlace freshSession cs xs
+    → History by-value.Step freshSession cs xs
 in-place-history cs xs h = refines StepInPlace by-value.Step (_≡_ {A = Session}) same-record freshSession freshSession cs xs refl h
 
 pub in-place-demand-3 : Demand3 freshSession StepInPlace
