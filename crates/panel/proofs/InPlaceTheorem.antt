@@ -1,0 +1,32 @@
+-- Demand 3 for the calls in place: every list of calls, from the fresh session, whatever is lent, is answered as the panel book says.
+--     in-place-demand-3     the theorem, over the very promises of load, start, advance, cancel and read in place
+--     in-place-history      a history of these calls is one of the calls by value, so what is proved of those holds of it
+-- Assumes nothing.
+use mathlib.Core.Path.{_≡_, refl, subst}
+use mathlib.Core.List.{List}
+use Rattle.book.specs.Calls.{Call, Answer}
+use Rattle.book.specs.Demand3.{History, Demand3}
+use Rattle.book.proofs.Demand3Theorem.{Refines, refines}
+use Rattle.session.specs.declared.state.Session.{Session}
+use Rattle.session.specs.Records.{freshSession}
+use Rattle.session.specs.CallSteps as by-value
+use Rattle.session.proofs.SessionTheorem.{session-demand-3}
+use Rattle.panel.specs.CallsInPlace.{StepInPlace, loads, starts, advances, cancels, reads}
+
+-- each call in place is the call by value on the record at entry
+step-by-value : (s s′ : Session) (c : Call) (a : Answer) → StepInPlace s c a s′ → by-value.Step s c a s′
+step-by-value s s′ c a (loads r nums bytes d) = by-value.loads (record { told = r; rec = s′ }) nums bytes d
+step-by-value s s′ c a (starts r d) = by-value.starts (record { told = r; rec = s′ }) d
+step-by-value s s′ c a (advances r d) = by-value.advances (record { told = r; rec = s′ }) d
+step-by-value s s′ c a (cancels r d) = by-value.cancels (record { told = r; rec = s′ }) d
+step-by-value s s′ c a (reads r d) = by-value.reads r d
+
+same-record : Refines StepInPlace by-value.Step (_≡_ {A = Session})
+same-record s s′ t c a e d = (s′, subst (λ (u : Session). by-value.Step u c a s′) e (step-by-value s s′ c a d), refl)
+
+pub in-place-history : (cs : List Call) (xs : List Answer) → History StepInPlace freshSession cs xs
+    → History by-value.Step freshSession cs xs
+in-place-history cs xs h = refines StepInPlace by-value.Step (_≡_ {A = Session}) same-record freshSession freshSession cs xs refl h
+
+pub in-place-demand-3 : Demand3 freshSession StepInPlace
+in-place-demand-3 cs xs h = session-demand-3 cs xs (in-place-history cs xs h)

@@ -1,0 +1,3 @@
+mod InPlace
+pub mod InPlaceTheorem
+mod Lendings

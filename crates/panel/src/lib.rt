@@ -1,0 +1,78 @@
+// The session in place: "the session record is lent by the panel and altered where it is" (document 01).
+// Each call is thin: it makes the call by value (crate session) on a copy, stores the record that this returns where the old one was and
+// tells its answer. So it promises what that call promises, of the record at entry and at exit.
+use session::answers::Advancing;
+use session::answers::Doing;
+use session::answers::Reading;
+use session::answers::Starting;
+use session::state::Session;
+ghost use mathlib.Core.Path.{_≡_};
+ghost use Rattle.book.specs.Calls as calls;
+ghost use Rattle.session.specs.Promises.{CallDone, LoadDone, doingAnswer, startingAnswer, advancingAnswer, readingAnswer, answerOn};
+ghost use Rattle.session.specs.Tests.{lentOf};
+
+// Builds the tables of a plan and rules into the lent buffers.
+pub fn load(s: &mut Session, plan: &[u8], rules: &[u8], nums: &mut [u16], bytes: &mut [u8]) -> Doing
+    ensures { λ r. ⌜
+        LoadDone (now (s .entry))
+        (lentOf (now (plan .entry)) (now (rules .entry)) (now (nums .entry)) (now (bytes .entry)))
+        (doingAnswer r) (now (s .exit)) (now (nums .exit)) (now (bytes .exit)) ⌝ }
+{
+    let old = *s;
+    let out = old.load(plan, rules, nums, bytes);
+    *s = out.rec;
+    out.told
+}
+
+// Puts a question: tells the number of its parts.
+pub fn start(
+    s: &mut Session,
+    plan: &[u8],
+    rules: &[u8],
+    nums: &[u16],
+    bytes: &[u8],
+    nodes: &[u16],
+    labels: &[u8],
+) -> Starting
+    ensures { λ r. ⌜
+        CallDone (now (s .entry))
+        (calls.start (lentOf (now (plan .entry)) (now (rules .entry)) (now (nums .entry)) (now (bytes .entry)))
+        (now (nodes .entry)) (now (labels .entry)))
+        (startingAnswer r) (now (s .exit)) ⌝ }
+{
+    let old = *s;
+    let out = old.start(plan, rules, nums, bytes, nodes, labels);
+    *s = out.rec;
+    out.told
+}
+
+// Handles the next part.
+pub fn advance(s: &mut Session, plan: &[u8], rules: &[u8], nums: &[u16], bytes: &[u8]) -> Advancing
+    ensures { λ r. ⌜
+        CallDone (now (s .entry))
+        (calls.advance (lentOf (now (plan .entry)) (now (rules .entry)) (now (nums .entry)) (now (bytes .entry))))
+        (advancingAnswer r) (now (s .exit)) ⌝ }
+{
+    let old = *s;
+    let out = old.advance(plan, rules, nums, bytes);
+    *s = out.rec;
+    out.told
+}
+
+// Ends a question: the record is as after a first Load.
+pub fn cancel(s: &mut Session) -> Doing
+    ensures { λ r. ⌜ CallDone (now (s .entry)) calls.cancel (doingAnswer r) (now (s .exit)) ⌝ }
+{
+    let old = *s;
+    let out = old.cancel();
+    *s = out.rec;
+    out.told
+}
+
+// Tells the root's state, the yes or no, the parts and the links.
+pub fn read(s: &Session) -> Reading
+    ensures { λ r. ⌜ readingAnswer r ≡ answerOn (now (s .entry)) calls.read ⌝ }
+{
+    let rec = *s;
+    rec.read()
+}
