@@ -1,9 +1,8 @@
 -- The turns of the pass over a plan's nodes.
---     Onward         the next listed node, seen from a node
---     label-listed, label-own, onward, onward-own   the label of a turn, and the next listed node after it
 --     Passed         what holds before each turn
 --     pass-start, leaf-turn, inner-turn, pass-end   it holds at first, a turn keeps it, and what it says at the end
 --     top-most, leaf-room, inner-two, rule-args     what the machine asks in a turn
+-- Not here: the label of a turn (OnwardLaws).
 -- Assumes nothing.
 use Prim.Native.Nat.{ℕ, suc, _+_, _-_, _*_, _≤_, _<_}
 use mathlib.Core.Path.{_≡_, refl, sym, ap, ap₂, _∙_, subst}
@@ -18,35 +17,12 @@ use lib.ListN.{length, getD, set, drop, length-set, length-drop, drop-of-length-
 use lib.Seq.{getD-set-same, getD-set-other}
 use Rattle.trees.specs.Automaton.{Automaton, state}
 use Rattle.trees.specs.Postorder.{waiting, isOne, isPostorder, read, treeOf}
-use Rattle.trees.specs.Changes.{changed}
 use Rattle.trees.proofs.PostorderLaws.{state-fold, read-whole, treeOf-kinds, treeOf-labels}
 use Rattle.trees.proofs.PostorderLaws.{leaf-at, inner-at, short-at, other-at, end-at}
 use Rattle.formats.specs.Rules.{treeAutomaton}
-use Rattle.runs.specs.Listed.{labelFor, nextListed}
 use Rattle.runs.specs.Pass.{RuleArgs}
-use Rattle.runs.proofs.ListedLaws.{label-changed, next-from, next-skips}
 use Rattle.runs.proofs.StackLaws.{stackOf, stack-push, stack-two, none-some, some-some, waiting-most}
 use Rattle.runs.proofs.StackLaws.{read-leaf, read-inner}
-
--- ---- the label of a turn
-
--- from node v on, `next` is listed first
-pub record Onward (vs bs : List ℕ) (v next : ℕ) : Type 0 where
-  pub ahead : v ≤ next
-  pub skips : (u : ℕ) → v ≤ u → u < next → (a : ℕ) → labelFor a vs bs u ≡ a
-
-pub onward : (vs bs : List ℕ) (v n : ℕ) → v ≤ n → Onward vs bs v (nextListed vs v n)
-onward vs bs v n h = record { ahead = next-from vs v n h; skips = next-skips vs bs v n }
-
-pub onward-own : {vs bs : List ℕ} {v next : ℕ} → Onward vs bs v next → (v ≡ next → ⊥) → Onward vs bs (v + 1) next
-onward-own o ne = record { ahead = omega (arith, o .ahead); skips = λ u h. o .skips u (omega arith) }
-
-module _ (ls vs bs : List ℕ) (v : ℕ) (h : v < length ls) where
-  pub label-listed : labelFor (getD ls v 0) vs bs v ≡ getD (changed ls vs bs) v 0
-  label-listed = sym (label-changed ls vs bs v h)
-
-  pub label-own : {next : ℕ} → Onward vs bs v next → (v ≡ next → ⊥) → getD ls v 0 ≡ getD (changed ls vs bs) v 0
-  label-own o ne = sym (o .skips v (omega arith) (omega (arith, o .ahead)) (getD ls v 0)) ∙ label-listed
 
 -- ---- what holds before a turn
 

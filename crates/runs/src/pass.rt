@@ -1,5 +1,5 @@
-use crate::changes::label_for;
-use crate::changes::next_listed;
+use crate::changes::in_order;
+use crate::changes::node_at;
 ghost use mathlib.Core.Path.{_≡_};
 ghost use Prim.Native.Nat.{ℕ, _+_, _*_};
 ghost use lib.ListN.{length, getD};
@@ -21,7 +21,7 @@ fn rule(inner: &[u8], s: usize, k: usize, p: usize, a: usize, q: usize) -> u8
 }
 
 // The root's state in the run over the plan with the listed labels changed. One pass over the nodes in order: the
-// states of the trees that wait are kept, the last completed on top, and the list is looked up only at a listed node.
+// states of the trees that wait are kept, the last completed on top, and the list is followed in the order of its nodes.
 pub fn pass(
     kinds: &[u8],
     labels: &[u8],
@@ -39,13 +39,17 @@ pub fn pass(
     let n = kinds.len();
     let mut waiting = room();
     let mut top: usize = 0;
-    let mut next = next_listed(nodes, 0, n);
+    let order = in_order(nodes);
+    let mut i: usize = 0;
+    let mut next = node_at(nodes, &order, 0, n);
     let mut v: usize = 0;
     while v < n {
         let mut a = labels[v];
         if v == next {
-            a = label_for(a, nodes, news, v);
-            next = next_listed(nodes, v + 1, n);
+            let e = order[i] as usize;
+            a = news[e];
+            i += 1;
+            next = node_at(nodes, &order, i, n);
         }
         let x = if kinds[v] == 0 {
             leaves[a as usize]

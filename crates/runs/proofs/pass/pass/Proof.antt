@@ -1,4 +1,5 @@
--- The pass meets its contract. The invariant: `Passed` of the labels as changed, and `next` is listed first from v on.
+-- The pass meets its contract. The invariant: `Passed` of the labels as changed, and `Onward` in the list. `order` holds
+-- the list's entries in the order of their nodes.
 -- The measure is what is left of the nodes. The laws of a turn are in proofs/PassTurns.
 -- Assumes nothing.
 use Prim.Native.Nat.{ℕ, _+_, _-_, _≤_, _<_}
@@ -9,31 +10,33 @@ use native.Mathlib.Omega.{arith}
 use borrow.Author.Needs.{needs}
 use lib.ListN.{length, getD}
 use Rattle.trees.specs.Changes.{changed}
+use Rattle.runs.specs.Listed.{Placed}
 use Rattle.runs.proofs.ListedLaws.{label-below, label-changed, length-changed}
-use Rattle.runs.proofs.PassTurns.{Onward, onward, onward-own, label-listed, label-own}
+use Rattle.runs.proofs.OnwardLaws.{Onward, onward-start, onward-listed, onward-own, entry-in, place-in}
+use Rattle.runs.proofs.OnwardLaws.{label-listed, label-own}
 use Rattle.runs.proofs.PassTurns.{Passed, pass-start, leaf-turn, inner-turn, pass-end}
 use Rattle.runs.proofs.PassTurns.{top-most, leaf-room, inner-two, rule-args}
 use Rattle.runs.proofs.pass.pass.Statement.{statement}
 use Rattle.runs.proofs.pass.pass.Tie as tie
 use Rattle.runs.proofs.pass.pass.Reads as reads
 use Rattle.runs.proofs.pass.pass.Lts as lts
-use Rattle.runs.proofs.changes.label_for.Reads as label-for-reads
-use Rattle.runs.proofs.changes.next_listed.Reads as next-listed-reads
+use Rattle.runs.proofs.changes.in_order.Reads as in-order-reads
+use Rattle.runs.proofs.changes.node_at.Reads as node-at-reads
 use Rattle.runs.proofs.pass.room.Reads as room-reads
 use Rattle.runs.proofs.pass.rule.Reads as rule-reads
 
 abbrev Inv-loop : tie.InvT-loop
-Inv-loop kinds labels nodes news leaves inner s k n waiting₀ top₀ next₀ v₀ waiting top next v =
+Inv-loop kinds labels nodes news leaves inner s k n waiting₀ top₀ order i₀ next₀ v₀ waiting top i next v =
     (n ≡ length kinds) × Passed kinds (changed labels nodes news) leaves inner s k v waiting top
-    × Onward nodes news v next
+    × Onward nodes order n v i next
 
 abbrev μ-loop : tie.MeasureT-loop
-μ-loop kinds labels nodes news leaves inner s k n waiting₀ top₀ next₀ v₀ waiting top next v = n - v
+μ-loop kinds labels nodes news leaves inner s k n waiting₀ top₀ order i₀ next₀ v₀ waiting top i next v = n - v
 
 -- ---- at the loop's head
 
 abbrev entered : tie.At-loop Inv-loop μ-loop → tie.Start Inv-loop μ-loop
-entered l = l .before .before .before .before .before .before .before .before .before
+entered l = l .before .before .before .before .before .before .before .before .before .before .before
 
 -- the labels as changed
 abbrev labelled : tie.At-loop Inv-loop μ-loop → List ℕ
@@ -57,33 +60,53 @@ labels-in l v h =
 most : (l : tie.At-loop Inv-loop μ-loop) → l .loop .top ≤ 32768
 most l = top-most (l .loop .inv .1) (entered l .pre .most)
 
--- ---- where the first arms meet: the label of the turn and the next listed node
+-- the list's entries stand in the order of their nodes
+abbrev order : tie.At-loop Inv-loop μ-loop → List ℕ
+order l = l .before .before .before .in-order .result
+
+placed : (l : tie.At-loop Inv-loop μ-loop)
+    → let vs = entered l .args .nodes .now in Placed vs (length vs) (order l)
+placed l = l .before .before .before .in-order .ensures
+
+-- ---- at a listed node: its entry
+
+here : (c : tie.Then1 Inv-loop μ-loop) → let l = c .before .before .before in l .loop .i < length (entered l .args .nodes .now)
+here c =
+    let l = c .before .before .before in
+    place-in (placed l) (entered l .pre .no-twice) (l .loop .inv .2) (omega arith) (c .if1 .taken)
+
+entry : (c : tie.Then1 Inv-loop μ-loop)
+    → let l = c .before .before .before in getD (order l) (l .loop .i) 0 < length (entered l .args .nodes .now)
+entry c =
+    let l = c .before .before .before in
+    entry-in (placed l) (entered l .pre .no-twice) (l .loop .inv .2) (omega arith) (c .if1 .taken)
+
+-- ---- where the first arms meet: the label of the turn, and how far the list is followed
 
 label-is : (c : tie.Joined1 Inv-loop μ-loop)
     → let l = c .before .before .before in c .if1 .a ≡ getD (labelled l) (l .loop .v) 0
 label-is c =
     let l = c .before .before .before in
     let s = entered l in
+    let p = s .pre in
     let ls = s .args .labels .now in
-    let vs = s .args .nodes .now in
     let bs = s .args .news .now in
-    let v = l .loop .v in
-    let h : v < length ls = omega (arith, s .pre .labelled, l .loop .inv .0) in
+    let h : l .loop .v < length ls = omega (arith, p .labelled, l .loop .inv .0) in
     ⊎-elim
-    (λ w. w .4 ∙ w .1 .ensures ∙ label-listed ls vs bs v h)
-    (λ w. w .2 ∙ label-own ls vs bs v h (l .loop .inv .2) (w .0 .left))
+    (λ w. w .6 ∙ label-listed (placed l) (p .no-twice) (l .loop .inv .2) (omega arith) (w .0 .taken) ls bs (p .paired) h)
+    (λ w. w .3 ∙ label-own (placed l) (p .no-twice) (l .loop .inv .2) (omega arith) (w .0 .left) ls bs h)
     (c .if1 .came)
 
-next-is : (c : tie.Joined1 Inv-loop μ-loop)
+onward-is : (c : tie.Joined1 Inv-loop μ-loop)
     → let l = c .before .before .before in
-    Onward (entered l .args .nodes .now) (entered l .args .news .now) (l .loop .v + 1) (c .if1 .next)
-next-is c =
-    let l = c .before .before .before in
     let a = entered l .args in
+    Onward (a .nodes .now) (order l) (length (a .kinds .now)) (l .loop .v + 1) (c .if1 .i) (c .if1 .next)
+onward-is c =
+    let l = c .before .before .before in
+    let d = entered l .pre .no-twice in
     ⊎-elim
-    (λ w. rw (w .3 ∙ w .2 .ensures)
-    (onward (a .nodes .now) (a .news .now) (l .loop .v + 1) (length (a .kinds .now)) (omega arith)))
-    (λ w. rw (w .1) (onward-own (l .loop .inv .2) (w .0 .left)))
+    (λ w. rw (w .4, w .5 ∙ w .3 .ensures) (onward-listed (placed l) d (l .loop .inv .2) (omega arith) (w .0 .taken)))
+    (λ w. rw (w .1, w .2) (onward-own (placed l) d (l .loop .inv .2) (omega arith) (w .0 .left)))
     (c .if1 .came)
 
 label-in : (c : tie.Joined1 Inv-loop μ-loop) → c .if1 .a < entered (c .before .before .before) .args .k
@@ -103,29 +126,44 @@ two c =
 room-requires : tie.Need-room-requires Inv-loop μ-loop
 room-requires c κs = search needs
 
-next-listed-requires : tie.Need-next-listed-requires Inv-loop μ-loop
-next-listed-requires c κs = search needs
+in-order-requires : tie.Need-in-order-requires Inv-loop μ-loop
+in-order-requires c κs = let s = c .before .before .before .before .before .before .before in (s .pre .few, s .pre .no-twice)
+
+slice-aggregate-node-at : tie.Need-slice-aggregate-node-at Inv-loop μ-loop
+slice-aggregate-node-at c = search needs
+
+node-at-requires : tie.Need-node-at-requires Inv-loop μ-loop
+node-at-requires c κs = c .before .in-order .ensures
 
 loop-holds : tie.Need-loop-holds Inv-loop μ-loop
 loop-holds c =
-    let s = c .before .before .before .before .before .before .before .before in
+    let s = c .before .before .before .before .before .before .before .before .before .before in
     let a = s .args in (
       refl,
-      pass-start (c .before .room .ensures) (s .pre .postorder),
-      rw (c .next-listed .ensures) (onward (a .nodes .now) (a .news .now) 0 (length (a .kinds .now)) (omega arith)),
+      pass-start (c .before .before .before .room .ensures) (s .pre .postorder),
+      rw (c .node-at .ensures) (onward-start (a .nodes .now) (c .before .before .in-order .result) (length (a .kinds .now))),
     )
 
 shared-slice-read-a : tie.Need-shared-slice-read-a Inv-loop μ-loop
 shared-slice-read-a c = search needs
 
-label-for-requires : tie.Need-label-for-requires Inv-loop μ-loop
-label-for-requires c κs = search needs
+array-read-e : tie.Need-array-read-e Inv-loop μ-loop
+array-read-e c = omega (arith, here c, entered (c .before .before .before) .pre .few)
 
-add-next-listed : tie.Need-add-next-listed Inv-loop μ-loop
-add-next-listed c = search needs
+cast-e : tie.Need-cast-e Inv-loop μ-loop
+cast-e c = omega (arith, entry c, entered (c .before .before .before) .pre .few)
 
-next-listed-requires-2 : tie.Need-next-listed-requires-2 Inv-loop μ-loop
-next-listed-requires-2 c κs = search needs
+shared-slice-read-a-2 : tie.Need-shared-slice-read-a-2 Inv-loop μ-loop
+shared-slice-read-a-2 c = omega (arith, entry (c .before), entered (c .before .before .before .before) .pre .paired)
+
+add-i : tie.Need-add-i Inv-loop μ-loop
+add-i c = omega (arith, here (c .before), entered (c .before .before .before .before) .pre .few)
+
+slice-aggregate-node-at-2 : tie.Need-slice-aggregate-node-at-2 Inv-loop μ-loop
+slice-aggregate-node-at-2 c = search needs
+
+node-at-requires-2 : tie.Need-node-at-requires-2 Inv-loop μ-loop
+node-at-requires-2 c κs = placed (c .before .before .before .before .before)
 
 shared-slice-read-if2 : tie.Need-shared-slice-read-if2 Inv-loop μ-loop
 shared-slice-read-if2 c = search needs
@@ -199,7 +237,7 @@ loop-again c =
           (λ w. rw (w .3, w .4) (leaf-turn i h g (p .most) (w .0 .taken) (p .leaf-below) (label-is j)))
           (λ w. rw (w .3, w .4 ∙ w .2 .ensures) (inner-turn i h g (p .most) (w .0 .left) (p .inner-below) (label-is j) refl))
           (c .before .if2 .came),
-      next-is j,
+      onward-is j,
     )
 
 array-read-result : tie.Need-array-read-result Inv-loop μ-loop
@@ -217,12 +255,17 @@ pass-spec =
     Inv-loop
     μ-loop
     room-requires
-    next-listed-requires
+    in-order-requires
+    slice-aggregate-node-at
+    node-at-requires
     loop-holds
     shared-slice-read-a
-    label-for-requires
-    add-next-listed
-    next-listed-requires-2
+    array-read-e
+    cast-e
+    shared-slice-read-a-2
+    add-i
+    slice-aggregate-node-at-2
+    node-at-requires-2
     shared-slice-read-if2
     shared-slice-read-x
     sub-top
