@@ -39,7 +39,7 @@ reads s k lv inn ks ls st = read (leafOf lv) (innerOf s k inn) ks ls st
 -- these, gives what reading the whole gives, and one tree will be left
 pub record Passed (ks ls lv inn : List ℕ) (s k v : ℕ) (st : List ℕ) (top : ℕ) : Type 0 where
   pub here : v ≤ length ks
-  pub room : length st ≡ 32768
+  pub room : length ks < 2 * length st
   pub few : top ≤ v
   pub one : waiting (drop v ks) top ≡ some 1
   pub same : reads s k lv inn (drop v ks) (drop v ls) (stackOf st top) ≡ reads s k lv inn ks ls []
@@ -49,7 +49,7 @@ is-one : (o : Option ℕ) → isOne o ≡ true → o ≡ some 1
 is-one none q = let z : _≡_ {A = ℕ} 0 1 = cc in absurd (omega arith)
 is-one (some w) q = ap some (eqb-true w 1 q)
 
-pub pass-start : {ks ls lv inn : List ℕ} {s k : ℕ} {st : List ℕ} → length st ≡ 32768 → isPostorder ks ≡ true
+pub pass-start : {ks ls lv inn : List ℕ} {s k : ℕ} {st : List ℕ} → length ks < 2 * length st → isPostorder ks ≡ true
     → Passed ks ls lv inn s k 0 st 0
 unfolding isPostorder stackOf
 pass-start {ks = ks} e p = record {
@@ -105,24 +105,24 @@ module _ {ks ls lv inn : List ℕ} {s k v : ℕ} {st : List ℕ} {top : ℕ} (p 
       cc (p .same)
 
   -- no more trees wait than half the nodes, rounded up
-  pub top-most : length ks ≤ 65535 → top ≤ 32768
-  top-most m = omega (arith, waiting-most (drop v ks) top (p .one), length-drop v ks, p .few, p .here)
+  pub top-most : top ≤ length st
+  top-most = omega (arith, waiting-most (drop v ks) top (p .one), length-drop v ks, p .few, p .here, p .room)
 
-  module _ (h : v < length ks) (g : length ls ≡ length ks) (m : length ks ≤ 65535) where
+  module _ (h : v < length ks) (g : length ls ≡ length ks) where
     -- a leaf is one more tree that waits
-    pub leaf-room : getD ks v 0 ≡ 0 → top < 32768
+    pub leaf-room : getD ks v 0 ≡ 0 → top < length st
     leaf-room e =
         let w : waiting (drop (v + 1) ks) (top + 1) ≡ some 1 = sym (leaf-at ks v h top e) ∙ p .one in
-        omega (arith, waiting-most (drop (v + 1) ks) (top + 1) w, length-drop (v + 1) ks, p .few)
+        omega (arith, waiting-most (drop (v + 1) ks) (top + 1) w, length-drop (v + 1) ks, p .few, p .room)
 
     pub leaf-turn : getD ks v 0 ≡ 0 → ((j : ℕ) → getD lv j 0 < s) → {a : ℕ} → a ≡ getD ls v 0
         → Passed ks ls lv inn s k (v + 1) (set st top (leafOf lv a)) (top + 1)
     leaf-turn e below {a} is =
         let x : ℕ = leafOf lv a in
-        let r : top < length st = omega (arith, leaf-room e, p .room) in
+        let r : top < length st = leaf-room e in
         record {
           here = omega arith;
-          room = length-set st top x ∙ p .room;
+          room = rw length-set (p .room);
           few = omega (arith, p .few);
           one = sym (leaf-at ks v h top e) ∙ p .one;
           same =
@@ -156,11 +156,11 @@ module _ {ks ls lv inn : List ℕ} {s k v : ℕ} {st : List ℕ} {top : ℕ} (p 
           let r : ℕ = getD st (w + 1) 0 in
           let x : ℕ = innerOf s k inn l a r in
           let f : top ≡ w + 2 = omega (arith, inner-two) in
-          let i : w < length st = omega (arith, top-most m, p .room) in
+          let i : w < length st = omega (arith, top-most) in
           let back : w + 1 ≡ top - 1 = omega arith in
           record {
             here = omega arith;
-            room = length-set st w x ∙ p .room;
+            room = rw length-set (p .room);
             few = omega (arith, p .few);
             one = ap (waiting (drop (v + 1) ks)) back ∙ sym (inner-at ks v h top inner-kind inner-two) ∙ p .one;
             same =
