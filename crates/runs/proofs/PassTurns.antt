@@ -1,9 +1,8 @@
 -- The turns of the pass over a plan's nodes.
---     Onward         the next listed node, seen from a node
---     label-listed, label-own, onward, onward-own   the label of a turn, and the next listed node after it
 --     Passed         what holds before each turn
 --     pass-start, leaf-turn, inner-turn, pass-end   it holds at first, a turn keeps it, and what it says at the end
 --     top-most, leaf-room, inner-two, rule-args     what the machine asks in a turn
+-- Not here: the label of a turn (OnwardLaws).
 -- Assumes nothing.
 use Prim.Native.Nat.{ℕ, suc, _+_, _-_, _*_, _≤_, _<_}
 use mathlib.Core.Path.{_≡_, refl, sym, ap, ap₂, _∙_, subst}
@@ -18,35 +17,12 @@ use lib.ListN.{length, getD, set, drop, length-set, length-drop, drop-of-length-
 use lib.Seq.{getD-set-same, getD-set-other}
 use Rattle.trees.specs.Automaton.{Automaton, state}
 use Rattle.trees.specs.Postorder.{waiting, isOne, isPostorder, read, treeOf}
-use Rattle.trees.specs.Changes.{changed}
 use Rattle.trees.proofs.PostorderLaws.{state-fold, read-whole, treeOf-kinds, treeOf-labels}
 use Rattle.trees.proofs.PostorderLaws.{leaf-at, inner-at, short-at, other-at, end-at}
 use Rattle.formats.specs.Rules.{treeAutomaton}
-use Rattle.runs.specs.Listed.{labelFor, nextListed}
 use Rattle.runs.specs.Pass.{RuleArgs}
-use Rattle.runs.proofs.ListedLaws.{label-changed, next-from, next-skips}
 use Rattle.runs.proofs.StackLaws.{stackOf, stack-push, stack-two, none-some, some-some, waiting-most}
 use Rattle.runs.proofs.StackLaws.{read-leaf, read-inner}
-
--- ---- the label of a turn
-
--- from node v on, `next` is listed first
-pub record Onward (vs bs : List ℕ) (v next : ℕ) : Type 0 where
-  pub ahead : v ≤ next
-  pub skips : (u : ℕ) → v ≤ u → u < next → (a : ℕ) → labelFor a vs bs u ≡ a
-
-pub onward : (vs bs : List ℕ) (v n : ℕ) → v ≤ n → Onward vs bs v (nextListed vs v n)
-onward vs bs v n h = record { ahead = next-from vs v n h; skips = next-skips vs bs v n }
-
-pub onward-own : {vs bs : List ℕ} {v next : ℕ} → Onward vs bs v next → (v ≡ next → ⊥) → Onward vs bs (v + 1) next
-onward-own o ne = record { ahead = omega (arith, o .ahead); skips = λ u h. o .skips u (omega arith) }
-
-module _ (ls vs bs : List ℕ) (v : ℕ) (h : v < length ls) where
-  pub label-listed : labelFor (getD ls v 0) vs bs v ≡ getD (changed ls vs bs) v 0
-  label-listed = sym (label-changed ls vs bs v h)
-
-  pub label-own : {next : ℕ} → Onward vs bs v next → (v ≡ next → ⊥) → getD ls v 0 ≡ getD (changed ls vs bs) v 0
-  label-own o ne = sym (o .skips v (omega arith) (omega (arith, o .ahead)) (getD ls v 0)) ∙ label-listed
 
 -- ---- what holds before a turn
 
@@ -63,7 +39,7 @@ reads s k lv inn ks ls st = read (leafOf lv) (innerOf s k inn) ks ls st
 -- these, gives what reading the whole gives, and one tree will be left
 pub record Passed (ks ls lv inn : List ℕ) (s k v : ℕ) (st : List ℕ) (top : ℕ) : Type 0 where
   pub here : v ≤ length ks
-  pub room : length st ≡ 32768
+  pub room : length ks < 2 * length st
   pub few : top ≤ v
   pub one : waiting (drop v ks) top ≡ some 1
   pub same : reads s k lv inn (drop v ks) (drop v ls) (stackOf st top) ≡ reads s k lv inn ks ls []
@@ -73,7 +49,7 @@ is-one : (o : Option ℕ) → isOne o ≡ true → o ≡ some 1
 is-one none q = let z : _≡_ {A = ℕ} 0 1 = cc in absurd (omega arith)
 is-one (some w) q = ap some (eqb-true w 1 q)
 
-pub pass-start : {ks ls lv inn : List ℕ} {s k : ℕ} {st : List ℕ} → length st ≡ 32768 → isPostorder ks ≡ true
+pub pass-start : {ks ls lv inn : List ℕ} {s k : ℕ} {st : List ℕ} → length ks < 2 * length st → isPostorder ks ≡ true
     → Passed ks ls lv inn s k 0 st 0
 unfolding isPostorder stackOf
 pass-start {ks = ks} e p = record {
@@ -129,24 +105,24 @@ module _ {ks ls lv inn : List ℕ} {s k v : ℕ} {st : List ℕ} {top : ℕ} (p 
       cc (p .same)
 
   -- no more trees wait than half the nodes, rounded up
-  pub top-most : length ks ≤ 65535 → top ≤ 32768
-  top-most m = omega (arith, waiting-most (drop v ks) top (p .one), length-drop v ks, p .few, p .here)
+  pub top-most : top ≤ length st
+  top-most = omega (arith, waiting-most (drop v ks) top (p .one), length-drop v ks, p .few, p .here, p .room)
 
-  module _ (h : v < length ks) (g : length ls ≡ length ks) (m : length ks ≤ 65535) where
+  module _ (h : v < length ks) (g : length ls ≡ length ks) where
     -- a leaf is one more tree that waits
-    pub leaf-room : getD ks v 0 ≡ 0 → top < 32768
+    pub leaf-room : getD ks v 0 ≡ 0 → top < length st
     leaf-room e =
         let w : waiting (drop (v + 1) ks) (top + 1) ≡ some 1 = sym (leaf-at ks v h top e) ∙ p .one in
-        omega (arith, waiting-most (drop (v + 1) ks) (top + 1) w, length-drop (v + 1) ks, p .few)
+        omega (arith, waiting-most (drop (v + 1) ks) (top + 1) w, length-drop (v + 1) ks, p .few, p .room)
 
     pub leaf-turn : getD ks v 0 ≡ 0 → ((j : ℕ) → getD lv j 0 < s) → {a : ℕ} → a ≡ getD ls v 0
         → Passed ks ls lv inn s k (v + 1) (set st top (leafOf lv a)) (top + 1)
     leaf-turn e below {a} is =
         let x : ℕ = leafOf lv a in
-        let r : top < length st = omega (arith, leaf-room e, p .room) in
+        let r : top < length st = leaf-room e in
         record {
           here = omega arith;
-          room = length-set st top x ∙ p .room;
+          room = rw length-set (p .room);
           few = omega (arith, p .few);
           one = sym (leaf-at ks v h top e) ∙ p .one;
           same =
@@ -180,11 +156,11 @@ module _ {ks ls lv inn : List ℕ} {s k v : ℕ} {st : List ℕ} {top : ℕ} (p 
           let r : ℕ = getD st (w + 1) 0 in
           let x : ℕ = innerOf s k inn l a r in
           let f : top ≡ w + 2 = omega (arith, inner-two) in
-          let i : w < length st = omega (arith, top-most m, p .room) in
+          let i : w < length st = omega (arith, top-most) in
           let back : w + 1 ≡ top - 1 = omega arith in
           record {
             here = omega arith;
-            room = length-set st w x ∙ p .room;
+            room = rw length-set (p .room);
             few = omega (arith, p .few);
             one = ap (waiting (drop (v + 1) ks)) back ∙ sym (inner-at ks v h top inner-kind inner-two) ∙ p .one;
             same =

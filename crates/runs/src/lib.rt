@@ -1,9 +1,9 @@
 // Fresh runs: a plan's run with listed labels changed, worked out without tables.
 //     answer    what a fresh run tells
-//     changes   a list of changes, looked up node by node
+//     changes   a list of changes, in the order of its nodes
 //     pass      the pass over the nodes
 //     fresh     the call
 pub mod answer;
-pub mod changes;
+mod changes;
 pub mod fresh;
-pub mod pass;
+mod pass;

@@ -1,7 +1,7 @@
-use crate::changes::label_for;
-use crate::changes::next_listed;
+use crate::changes::in_order;
+use crate::changes::node_at;
 ghost use mathlib.Core.Path.{_≡_};
-ghost use Prim.Native.Nat.{ℕ, _+_, _*_};
+ghost use Prim.Native.Nat.{ℕ, _+_, _*_, _<_};
 ghost use lib.ListN.{length, getD};
 ghost use Rattle.runs.specs.Pass.{RuleArgs, PassArgs, PassDone};
 
@@ -10,6 +10,13 @@ fn room() -> [u8; 32768]
     ensures { λ r. ⌜ length r ≡ 32768 ⌝ }
 {
     [0u8; 32768]
+}
+
+// Room for those of fewer than 2,048 nodes: less to clear.
+fn small_room() -> [u8; 1024]
+    ensures { λ r. ⌜ length r ≡ 1024 ⌝ }
+{
+    [0u8; 1024]
 }
 
 // The state for left state p, label a and right state q.
@@ -21,8 +28,10 @@ fn rule(inner: &[u8], s: usize, k: usize, p: usize, a: usize, q: usize) -> u8
 }
 
 // The root's state in the run over the plan with the listed labels changed. One pass over the nodes in order: the
-// states of the trees that wait are kept, the last completed on top, and the list is looked up only at a listed node.
-pub fn pass(
+// states of the trees that wait are kept in the room given, the last completed on top, and the list is followed in the
+// order of its nodes.
+fn pass_in(
+    waiting: &mut [u8],
     kinds: &[u8],
     labels: &[u8],
     nodes: &[u16],
@@ -32,20 +41,24 @@ pub fn pass(
     s: usize,
     k: usize,
 ) -> u8
-    requires { ⌜ PassArgs (now kinds) (now labels) (now nodes) (now news) (now leaves) (now inner) s k ⌝ }
+    requires { ⌜ PassArgs (now kinds) (now labels) (now nodes) (now news) (now leaves) (now inner) s k
+        × (length (now kinds) < 2 * length (now waiting)) ⌝ }
     ensures { λ r. ⌜ PassDone (now (kinds .entry)) (now (labels .entry)) (now (nodes .entry)) (now (news .entry))
         (now (leaves .entry)) (now (inner .entry)) s k r ⌝ }
 {
     let n = kinds.len();
-    let mut waiting = room();
     let mut top: usize = 0;
-    let mut next = next_listed(nodes, 0, n);
+    let order = in_order(nodes);
+    let mut i: usize = 0;
+    let mut next = node_at(nodes, &order, 0, n);
     let mut v: usize = 0;
     while v < n {
         let mut a = labels[v];
         if v == next {
-            a = label_for(a, nodes, news, v);
-            next = next_listed(nodes, v + 1, n);
+            let e = order[i] as usize;
+            a = news[e];
+            i += 1;
+            next = node_at(nodes, &order, i, n);
         }
         let x = if kinds[v] == 0 {
             leaves[a as usize]
@@ -60,4 +73,27 @@ pub fn pass(
         v += 1;
     }
     waiting[0]
+}
+
+// The pass in room enough for the plan.
+pub fn pass(
+    kinds: &[u8],
+    labels: &[u8],
+    nodes: &[u16],
+    news: &[u8],
+    leaves: &[u8],
+    inner: &[u8],
+    s: usize,
+    k: usize,
+) -> u8
+    requires { ⌜ PassArgs (now kinds) (now labels) (now nodes) (now news) (now leaves) (now inner) s k ⌝ }
+    ensures { λ r. ⌜ PassDone (now (kinds .entry)) (now (labels .entry)) (now (nodes .entry)) (now (news .entry))
+        (now (leaves .entry)) (now (inner .entry)) s k r ⌝ }
+{
+    if kinds.len() < 2048 {
+        let mut few = small_room();
+        return pass_in(&mut few, kinds, labels, nodes, news, leaves, inner, s, k);
+    }
+    let mut many = room();
+    pass_in(&mut many, kinds, labels, nodes, news, leaves, inner, s, k)
 }
