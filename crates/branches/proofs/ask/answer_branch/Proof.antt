@@ -1,6 +1,5 @@
 use Prim.Native.Nat.{ℕ, _+_, _-_, _*_, _≤_}
 use mathlib.Core.Path.{_≡_, ap₂}
-use native.Mathlib.Omega.{arith}
 use borrow.Author.Tests.{not-true, not-false}
 use mathlib.Core.List.{List}
 use lib.ListN.{length, take, drop}
@@ -8,6 +7,7 @@ use Rattle.formats.specs.Rules.{stateCount, labelCount}
 use Rattle.branches.proofs.FitLaws.{LentFits, lent-fits}
 use Rattle.branches.proofs.AskParts.{Handed, handed}
 use Rattle.branches.proofs.AskAnswer.{compose-args, finish-args, answer-none, answer-some}
+use native.Mathlib.Omega.{arith}
 use borrow.Author.Needs.{needs}
 use Rattle.branches.proofs.ask.answer_branch.Statement.{statement}
 use Rattle.branches.proofs.ask.answer_branch.Tie as tie
@@ -117,49 +117,53 @@ depth-at-requires c κs =
       fit (c .before .before .before .before .before .before .before .before .before) .nums-room,
     )
 
+slice-aggregate-compose-climb : tie.Need-slice-aggregate-compose-climb
+slice-aggregate-compose-climb c = search needs
+
 compose-climb-requires : tie.Need-compose-climb-requires
 compose-climb-requires c κs =
-    compose-args _ _ _ _ _ _ _ _ _ _ _ _ (mark-run c)
-    (c .before .before .before .before .before .before .before .before .before .before .pre) (on c)
+    let d = c .before in
+    compose-args _ _ _ _ _ _ _ _ _ _ _ _ (mark-run d) (d .before .before .before .before .before .before .before .before .before .before .pre) (on d)
 
 returns : tie.Need-returns
 returns c =
-    let x = c .before .before in
-    answer-none _ _ _ _ _ _ _ _ _ _ _ _ (mark-run (x .before))
-    (c .before .before .before .before .before .before .before .before .before .before .before .before .before .pre)
-    (on (x .before)) (x .compose-climb .result) (x .compose-climb .ensures)
-    (not-true _ (c .if1 .taken))
+    let x = c .before .before .before in
+    let d = x .before .before in
+    answer-none _ _ _ _ _ _ _ _ _ _ _ _ (mark-run d) (d .before .before .before .before .before .before .before .before .before .before .pre) (on d) (x .compose-climb .result) _
+    (x .compose-climb .ensures) (not-true _ (c .if1 .taken))
 
 mul-finish-answer : tie.Need-mul-finish-answer
-mul-finish-answer c = omega (arith, steps-end (c .before .before .before .before .before .before .before))
+mul-finish-answer c = omega (arith, steps-end (c .before .before .before .before .before .before .before .before))
 
 add-finish-answer : tie.Need-add-finish-answer
-add-finish-answer c = omega (arith, steps-end (c .before .before .before .before .before .before .before))
+add-finish-answer c = omega (arith, steps-end (c .before .before .before .before .before .before .before .before))
 
 sub-finish-answer : tie.Need-sub-finish-answer
-sub-finish-answer c = steps-end (c .before .before .before .before .before .before .before)
+sub-finish-answer c = steps-end (c .before .before .before .before .before .before .before .before)
 
 part-finish-answer-start : tie.Need-part-finish-answer-start
-part-finish-answer-start c = steps-end (c .before .before .before .before .before .before .before)
+part-finish-answer-start c = steps-end (c .before .before .before .before .before .before .before .before)
 
 part-finish-answer-end : tie.Need-part-finish-answer-end
 part-finish-answer-end c = search needs
 
+slice-aggregate-finish-answer : tie.Need-slice-aggregate-finish-answer
+slice-aggregate-finish-answer c = search needs
+
 finish-answer-requires : tie.Need-finish-answer-requires
 finish-answer-requires c κs =
-    let x = c .before .before .before .before in
-    finish-args _ _ _ _ _ _ _ _ _ _ _ _ (mark-run (x .before))
-    (c .before .before .before .before .before .before .before .before .before .before .before .before .before .before
-    .before .pre) (on (x .before)) (x .compose-climb .result) (x .compose-climb .ensures)
-    (not-false _ (c .before .before .if1 .left))
+    let x = c .before .before .before .before .before in
+    let d = x .before .before in
+    finish-args _ _ _ _ _ _ _ _ _ _ _ _ (mark-run d) (d .before .before .before .before .before .before .before .before .before .before .pre) (on d) (x .compose-climb .result) _
+    (x .compose-climb .ensures) (not-false _ (c .before .before .if1 .left))
 
 returns-2 : tie.Need-returns-2
 returns-2 c =
-    let x = c .before .before .before .before .before in
-    answer-some _ _ _ _ _ _ _ _ _ _ _ _ (mark-run (x .before))
-    (c .before .before .before .before .before .before .before .before .before .before .before .before .before .before
-    .before .before .pre) (on (x .before)) (x .compose-climb .result) (x .compose-climb .ensures)
-    (c .finish-answer .result) (not-false _ (c .before .before .before .if1 .left)) (c .finish-answer .ensures)
+    let x = c .before .before .before .before .before .before in
+    let d = x .before .before in
+    answer-some _ _ _ _ _ _ _ _ _ _ _ _ (mark-run d) (d .before .before .before .before .before .before .before .before .before .before .pre) (on d) (x .compose-climb .result) _
+    (x .compose-climb .ensures) (c .finish-answer .result) (not-false _ (c .before .before .before .if1 .left))
+    (c .finish-answer .ensures)
 
 pub answer-branch-spec : {M : Type 1} → statement M
 answer-branch-spec =
@@ -178,6 +182,7 @@ answer-branch-spec =
     part-steps-start
     part-steps-end
     depth-at-requires
+    slice-aggregate-compose-climb
     compose-climb-requires
     returns
     mul-finish-answer
@@ -185,5 +190,6 @@ answer-branch-spec =
     sub-finish-answer
     part-finish-answer-start
     part-finish-answer-end
+    slice-aggregate-finish-answer
     finish-answer-requires
     returns-2)
