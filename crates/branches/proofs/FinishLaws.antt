@@ -5,7 +5,7 @@
 --     finish-no-label, finish-no-state, finish-told    what is told of a composed map
 -- Assumes nothing.
 use Prim.Native.Nat.{ℕ, _+_, _-_, _*_, _≤_, _<_}
-use mathlib.Core.Path.{_≡_, refl, sym, ap, _∙_}
+use mathlib.Core.Path.{_≡_, sym, ap, _∙_}
 use mathlib.Core.Bool.{true, false}
 use mathlib.Core.List.{List}
 use mathlib.Core.Option.{none, some}
@@ -13,13 +13,11 @@ use native.Mathlib.Omega.{arith}
 use lib.Dec.{leb, ltb, eqb}
 use lib.ListN.{getD}
 use borrow.Author.Tests.{leb-true, le-leb, lt-leb, ltb-true, lt-ltb, le-ltb}
-use Rattle.trees.specs.Climb.{andThen}
 use Rattle.trees.proofs.Choice.{le-or}
-use Rattle.formats.specs.Rules.{wordAutomaton}
 use Rattle.formats.proofs.CheckLaws.{and-both, and-left, and-right, and-no-left, and-no-right}
 use Rattle.links.specs.Cells.{sizeCell}
 use Rattle.branches.specs.declared.answers.Branching.the-variants.{Told, Refused}
-use Rattle.branches.specs.Question.{branched, toldBranch}
+use Rattle.branches.specs.Question.{toldBranch}
 use Rattle.links.specs.Cells.{isBelow}
 use Rattle.branches.specs.Compose.{mapAt}
 use Rattle.branches.specs.Finish.{firstOf, finish}

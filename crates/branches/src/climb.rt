@@ -4,8 +4,7 @@
 use links::moves::NextMove;
 use links::moves::depth_at;
 use links::moves::next_move;
-ghost use mathlib.Core.Path.{_≡_};
-ghost use Prim.Native.Nat.{ℕ, _+_, _*_, _≤_};
+ghost use Prim.Native.Nat.{ℕ, _+_, _*_};
 ghost use lib.ListN.{getD};
 ghost use Rattle.trees.specs.Climb.{nextMove};
 ghost use Rattle.links.specs.Cells.{cellForest};

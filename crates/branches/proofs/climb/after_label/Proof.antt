@@ -1,7 +1,7 @@
 use mathlib.Core.Path.{sym, subst}
+use native.Mathlib.Omega.{arith}
 use Rattle.branches.specs.Compose.{mapAt, Followed}
 use Rattle.branches.proofs.MoveMaps.{label-outside, label-inside, label-reads}
-use native.Mathlib.Omega.{arith}
 use borrow.Author.Needs.{needs}
 use Rattle.branches.proofs.climb.after_label.Statement.{statement}
 use Rattle.branches.proofs.climb.after_label.Tie as tie

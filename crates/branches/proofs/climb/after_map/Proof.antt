@@ -1,8 +1,8 @@
 use Prim.Native.Nat.{ℕ, _+_, _-_, _*_, _<_}
 use mathlib.Core.Path.{_≡_, subst}
+use native.Mathlib.Omega.{arith}
 use lib.ListN.{length, getD}
 use Rattle.branches.proofs.MapHalves.{Turned, turned-start, turned-turn, turned-done, turned-lost}
-use native.Mathlib.Omega.{arith}
 use borrow.Author.Needs.{needs}
 use Rattle.branches.proofs.climb.after_map.Statement.{statement}
 use Rattle.branches.proofs.climb.after_map.Tie as tie

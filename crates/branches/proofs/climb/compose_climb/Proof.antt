@@ -1,9 +1,9 @@
 use Prim.Native.Nat.{_+_, _*_, _<_}
+use native.Mathlib.Omega.{arith}
 use borrow.Author.Tests.{not-true, not-false}
 use Rattle.links.specs.Cells.{depthCell}
 use Rattle.branches.proofs.ComposeTurns.{Climbing, climbing-start, climbing-turn, climbing-rises}
 use Rattle.branches.proofs.ComposeTurns.{climbing-done, climbing-lost}
-use native.Mathlib.Omega.{arith}
 use borrow.Author.Needs.{needs}
 use Rattle.branches.proofs.climb.compose_climb.Statement.{statement}
 use Rattle.branches.proofs.climb.compose_climb.Tie as tie

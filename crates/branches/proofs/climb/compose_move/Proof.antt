@@ -2,13 +2,13 @@ use Prim.Native.Nat.{ℕ, _+_, _*_, _≤_}
 use mathlib.Core.Path.{sym, subst, _∙_}
 use mathlib.Core.List.{List}
 use mathlib.Core.Option.{Option}
+use native.Mathlib.Omega.{arith}
 use lib.ListN.{length}
 use Rattle.trees.specs.Climb.{Forest, Move}
 use Rattle.links.specs.Cells.{cellForest}
 use Rattle.branches.specs.Compose.{mapAt, Followed, runMove}
 use Rattle.branches.proofs.MoveMaps.{jump-at, jump-reads, run-jump, run-parent}
 use Rattle.branches.proofs.MovedLaws.{moved-jump, moved-parent, moved-stuck}
-use native.Mathlib.Omega.{arith}
 use borrow.Author.Needs.{needs}
 use Rattle.branches.proofs.climb.compose_move.Statement.{statement}
 use Rattle.branches.proofs.climb.compose_move.Tie as tie
