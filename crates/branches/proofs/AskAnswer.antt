@@ -3,28 +3,27 @@
 --     answer-none                  no composition: 18
 --     answer-some                  a composition, finished
 -- Assumes nothing.
-use Prim.Native.Nat.{ℕ, _+_, _*_}
-use mathlib.Core.Path.{_≡_, refl, sym, ap, ap₂, _∙_}
-use mathlib.Core.Bool.{true, false}
+use Prim.Native.Nat.{ℕ, _+_, _*_, _≤_}
+use mathlib.Core.Path.{_≡_, refl, sym, ap, _∙_}
+use mathlib.Core.Bool.{Bool, true, false, cond}
 use mathlib.Core.List.{List}
 use mathlib.Core.Option.{Option, none, some}
 use native.Mathlib.Omega.{arith}
 use lib.ListN.{length}
 use Rattle.trees.specs.Climb.{andThen}
+use Rattle.trees.specs.Tables.{tabulate}
 use Rattle.formats.specs.Plan.{nodeCount}
 use Rattle.formats.specs.Rules.{stateCount, labelCount}
-use Rattle.formats.proofs.CheckLaws.{true-false}
 use Rattle.formats.proofs.PartLaws.{length-part}
 use Rattle.branches.specs.declared.answers.Branching.{Branching}
 use Rattle.branches.specs.declared.answers.Branching.the-variants.{Refused}
 use Rattle.branches.specs.declared.climb.Composed.{Composed}
 use Rattle.branches.specs.Question.{branchOn, toldBranch}
-use Rattle.branches.specs.Compose.{padded, Counted, composition, composed, ComposeArgs}
+use Rattle.branches.specs.Compose.{mapAt, Counted, composition, ComposeArgs, ComposedTo}
 use Rattle.branches.specs.Finish.{finish, FinishArgs, AnswerArgs}
 use Rattle.branches.proofs.FitLaws.{LentFits, lent-fits}
-use Rattle.branches.proofs.FollowLaws.{MapOf}
-use Rattle.branches.proofs.MapArrays.{getD-padded}
-use Rattle.branches.proofs.FinishLaws.{finish-padded}
+use Rattle.branches.proofs.FollowLaws.{MapOf, identity-map}
+use Rattle.branches.proofs.MapHalves.{getD-mapAt, same, same-map}
 use Rattle.branches.proofs.AskParts.{Handed, composition-map, composition-is, finish-is}
 use Rattle.branches.proofs.AskParts.{branch-on-parts, branchFinish}
 
@@ -50,51 +49,44 @@ module _ (p r nums bytes : List ℕ) (u l n s k to : ℕ) (ls st mk : List ℕ) 
       ∙ length-part r (16 + stateCount r * labelCount r) (stateCount r) (omega (arith, fit .branch .exact))
       ∙ sym (H .states)
 
-  pub compose-args : ComposeArgs n s k ls st nums bytes l
+  few : s ≤ 16
+  few = omega (arith, fit .branch .states-most, H .states)
+
+  pub compose-args : ComposeArgs n s k same 0 ls st nums bytes l
   compose-args = record {
+    halves = record { few = few; long = refl; half = omega arith; within = omega arith };
     at = omega (arith, A .lower, H .nodes);
     most = omega (arith, fit .plan .most, H .nodes);
-    few = omega (arith, fit .branch .states-most, H .states);
     labels-room = omega (arith, labels-long);
     steps-room = omega (arith, steps-long, steps-product);
     nums-room = omega (arith, fit .nums-room, H .nodes);
     bytes-room = rw (H .nodes, H .states) (fit .bytes-room);
   }
 
-  module _ (x : Composed) (e : x ≡ composed (composition n s k ls st nums bytes l to)) where
-    -- a composition that was found
-    found : x .ok ≡ true
-        → (y : Counted) × (composition n s k ls st nums bytes l to ≡ some y)
-        × (x .map ≡ padded (y .map)) × (x .links ≡ y .links)
-    unfolding composed
-    found h = go (composition n s k ls st nums bytes l to) refl e
-      where
-        go : (o : Option Counted) → composition n s k ls st nums bytes l to ≡ o → x ≡ composed o
-            → (y : Counted) × (composition n s k ls st nums bytes l to ≡ some y)
-            × (x .map ≡ padded (y .map)) × (x .links ≡ y .links)
-        go none q z = absurd (true-false (sym h ∙ ap (λ (c : Composed). c .ok) z))
-        go (some y) q z = (y, q, ap (λ (c : Composed). c .map) z, ap (λ (c : Composed). c .links) z)
+  module _ (x : Composed) (after : List ℕ)
+      (C : ComposedTo s after x (composition n s k ls st nums bytes l to (mapAt s same 0))) where
+    abbrev found : Counted
+    found = record { map = mapAt s after (x .at); links = x .links }
 
-    lost : x .ok ≡ false → composition n s k ls st nums bytes l to ≡ none
-    unfolding composed
-    lost h = go (composition n s k ls st nums bytes l to) refl e
-      where
-        go : (o : Option Counted) → composition n s k ls st nums bytes l to ≡ o → x ≡ composed o
-            → composition n s k ls st nums bytes l to ≡ none
-        go none q z = q
-        go (some y) q z = absurd (true-false (sym (ap (λ (c : Composed). c .ok) z) ∙ h))
+    -- the climb starts with each state to itself
+    composed : composition n s k ls st nums bytes l to (tabulate s (λ q. q)) ≡ cond (x .ok) (some found) none
+    composed = ap (composition n s k ls st nums bytes l to) (sym (same-map s few)) ∙ C .made
 
-    pub finish-args : x .ok ≡ true → FinishArgs s k ls st mk u (x .map)
+    composed-as : (b : Bool) → x .ok ≡ b
+        → composition n s k ls st nums bytes l to (tabulate s (λ q. q)) ≡ cond b (some found) none
+    composed-as b h = composed ∙ ap (λ (b : Bool). cond b (some found) none) h
+
+    pub finish-args : x .ok ≡ true → FinishArgs s k ls st mk u after (x .at)
     finish-args h =
-        let f = found h in
-        let M : MapOf s (f .0 .map) = composition-map s k ls st bytes n nums l to (f .0) (f .1) in
+        let M : MapOf s (found .map) =
+        composition-map s k ls st bytes n nums l to (tabulate s (λ q. q)) found (identity-map s) (composed-as true h) in
         record {
           least = omega (arith, fit .branch .states-least, H .states);
-          few = omega (arith, fit .branch .states-most, H .states);
-          at = omega (arith, labels-long, A .upper, H .nodes);
+          upper = omega (arith, labels-long, A .upper, H .nodes);
           steps-room = omega (arith, steps-long, steps-product);
           marks-room = omega (arith, marks-long);
-          below = λ q i. rw (f .2, getD-padded (f .0 .map) q) (M .below q i);
+          maps-room = omega (arith, C .long, C .within, few);
+          below = λ q i. rw (getD-mapAt s after (x .at) q i) at (M .below q i);
         }
 
     pub answer-none : x .ok ≡ false → Refused 18 ≡ toldBranch 0 (branchOn p r nums bytes u l)
@@ -102,16 +94,14 @@ module _ (p r nums bytes : List ℕ) (u l n s k to : ℕ) (ls st mk : List ℕ) 
     answer-none h =
         ap (λ (o : Option Counted).
         toldBranch 0 (andThen o (λ (y : Counted). branchFinish p r nums bytes u l (y .map) (y .links))))
-        (sym (lost h) ∙ composition-is p r nums bytes u l n s k to ls st mk H)
+        (sym (composed-as false h) ∙ composition-is p r nums bytes u l n s k to ls st mk H)
         ∙ ap (toldBranch 0) (sym (branch-on-parts p r nums bytes u l))
 
-    pub answer-some : (y : Branching) → x .ok ≡ true → y ≡ toldBranch 0 (finish s k ls st mk u (x .map) (x .links))
+    pub answer-some : (y : Branching) → x .ok ≡ true
+        → y ≡ toldBranch 0 (finish s k ls st mk u (mapAt s after (x .at)) (x .links))
         → y ≡ toldBranch 0 (branchOn p r nums bytes u l)
     answer-some y h q =
-        let f = found h in
-        q ∙ ap (toldBranch 0) (ap₂ (finish s k ls st mk u) (f .2) (f .3)
-        ∙ finish-padded s k ls st u mk (f .0 .map) (f .0 .links)
-        ∙ finish-is p r nums bytes u l n s k to ls st mk H (f .0 .map) (f .0 .links)
+        q ∙ ap (toldBranch 0) (finish-is p r nums bytes u l n s k to ls st mk H (found .map) (found .links)
         ∙ ap (λ (o : Option Counted). andThen o (λ (y : Counted). branchFinish p r nums bytes u l (y .map) (y .links)))
-        (sym (f .1) ∙ composition-is p r nums bytes u l n s k to ls st mk H)
+        (sym (composed-as true h) ∙ composition-is p r nums bytes u l n s k to ls st mk H)
         ∙ sym (branch-on-parts p r nums bytes u l))

@@ -19,7 +19,7 @@ use Rattle.links.specs.Cells.{depthCell, cellForest}
 use Rattle.branches.specs.Question.{moveMap, firstState, Branched, branched, branchOn}
 use Rattle.branches.specs.Compose.{runMove, Counted, composition}
 use Rattle.branches.specs.Finish.{firstOf, finish}
-use Rattle.branches.proofs.FollowLaws.{MapOf, identity-map}
+use Rattle.branches.proofs.FollowLaws.{MapOf}
 use Rattle.branches.proofs.MoveMaps.{run-move-map, move-map-run}
 
 -- ---- composed maps
@@ -37,25 +37,24 @@ module _ (s k : ℕ) (ls st bytes : List ℕ) where
       go none a q h = absurd (none-some q)
       go (some x) a q h = h x (run-move-map s k ls st bytes i m x M a) q
 
-  pub composition-map : (n : ℕ) (nums : List ℕ) (l to : ℕ) (x : Counted)
-      → composition n s k ls st nums bytes l to ≡ some x → MapOf s (x .map)
+  pub composition-map : (n : ℕ) (nums : List ℕ) (l to : ℕ) (first : List ℕ) (x : Counted) → MapOf s first
+      → composition n s k ls st nums bytes l to first ≡ some x → MapOf s (x .map)
   unfolding composition
-  composition-map n nums l to x e = climbed (climb (cellForest n nums) l to) e
+  composition-map n nums l to first x M e = climbed (climb (cellForest n nums) l to) e
     where
-      carried : (ms : List Move) (o : Option (List ℕ)) → carry act ms (tabulate s (λ q. q)) ≡ o
+      carried : (ms : List Move) (o : Option (List ℕ)) → carry act ms first ≡ o
           → andThen o (λ m. some (record { map = m; links = length ms })) ≡ some x → MapOf s (x .map)
       carried ms none a q = absurd (none-some q)
       carried ms (some m) a q =
           let z : m ≡ x .map =
           ap (λ (y : Counted). y .map) (Option·some-injective (record { map = m; links = length ms }) x q) in
-          subst (MapOf s) z (carry-map ms (tabulate s (λ q. q)) m (identity-map s) a)
+          subst (MapOf s) z (carry-map ms first m M a)
 
       climbed : (o : Option (List Move))
-          → andThen o (λ ms. andThen (carry act ms (tabulate s (λ q. q)))
-          (λ m. some (record { map = m; links = length ms }))) ≡ some x
+          → andThen o (λ ms. andThen (carry act ms first) (λ m. some (record { map = m; links = length ms }))) ≡ some x
           → MapOf s (x .map)
       climbed none q = absurd (none-some q)
-      climbed (some ms) q = carried ms (carry act ms (tabulate s (λ q. q))) refl q
+      climbed (some ms) q = carried ms (carry act ms first) refl q
 
 -- ---- the answer
 
@@ -73,7 +72,7 @@ module _ (p r nums bytes : List ℕ) (u l : ℕ) where
   abbrev pub branchComposition : Option Counted
   branchComposition =
       composition (nodeCount p) (stateCount r) (labelCount r) (labelsIn p) (branchSteps r) nums bytes l
-      (depthCell nums u)
+      (depthCell nums u) (tabulate (stateCount r) (λ q. q))
 
   abbrev pub branchFinish : List ℕ → ℕ → Option Branched
   branchFinish m c = finish (stateCount r) (labelCount r) (labelsIn p) (branchSteps r) (branchMarks r) u m c
@@ -134,7 +133,8 @@ handed p r nums u n s k to a b c d e = record {
 
 module _ (p r nums bytes : List ℕ) (u l n s k to : ℕ) (ls st mk : List ℕ)
     (H : Handed p r nums u n s k to ls st mk) where
-  pub composition-is : composition n s k ls st nums bytes l to ≡ branchComposition p r nums bytes u l
+  pub composition-is : composition n s k ls st nums bytes l to (tabulate s (λ q. q))
+      ≡ branchComposition p r nums bytes u l
   composition-is = rw (H .nodes, H .states, H .labels, H .depth, H .label-run, H .step-run)
 
   pub finish-is : (m : List ℕ) (c : ℕ) → finish s k ls st mk u m c ≡ branchFinish p r nums bytes u l m c

@@ -1,27 +1,25 @@
 -- The turns of the loop that composes maps on a climb.
 --     countedMove                        a move on a map that counts its links
---     composition-carried                the composition is what counted moves of the climb make of the identity
+--     composition-carried                the composition is what counted moves of the climb make of the first map
 --     Climbing                           the loop's state: the map of the moves so far, and the same answer from here
 --     climbing-start, climbing-turn      before the first move, and after one more
 --     climbing-done, climbing-lost       the answer where the climb has arrived, and where a move was not made
 -- Assumes nothing.
-use Prim.Native.Nat.{ℕ, _+_, _≤_, _<_}
+use Prim.Native.Nat.{ℕ, _+_, _-_, _≤_, _<_}
 use mathlib.Core.Path.{_≡_, refl, sym, ap, _∙_}
-use mathlib.Core.Bool.{true, false}
+use mathlib.Core.Bool.{Bool, true, false, cond}
 use mathlib.Core.List.{List, [], _∷_}
 use mathlib.Core.Logic.{inl, inr}
 use mathlib.Core.Option.{Option, none, some}
 use native.Mathlib.Omega.{arith}
-use lib.ListN.{length, replicate}
+use lib.ListN.{length}
 use Rattle.trees.specs.Climb.{Forest, Move, nextMove, andThen, climb, carry}
-use Rattle.trees.specs.Tables.{tabulate}
 use Rattle.trees.proofs.MoveLaws.{next-inside, next-rises}
 use Rattle.trees.proofs.CarryLaws.{carried, carried-done, carried-move, carried-lost, carried-stuck}
 use Rattle.links.specs.Cells.{cellForest}
 use Rattle.branches.specs.declared.climb.Moved.{Moved}
-use Rattle.branches.specs.Compose.{padded, runMove, movedBy, Counted, composition, composed}
-use Rattle.branches.proofs.FollowLaws.{MapOf, identity-map}
-use Rattle.branches.proofs.MoveMaps.{run-move-padded, run-move-map}
+use Rattle.branches.specs.Compose.{mapAt, Halves, runMove, Reached, movedBy, MovedTo}
+use Rattle.branches.specs.Compose.{Counted, composition, ComposedTo}
 use Rattle.branches.proofs.MovedLaws.{Went, moved-on, moved-lost}
 
 abbrev counted : List ℕ → ℕ → Counted
@@ -50,7 +48,7 @@ module _ (act : Move → List ℕ → Option (List ℕ)) where
 
 -- ---- the loop
 
-module _ (n s k : ℕ) (ls st nums bytes : List ℕ) (from to : ℕ) where
+module _ (n s k : ℕ) (ls st nums bytes : List ℕ) (from to : ℕ) (first : List ℕ) where
   abbrev forest : Forest
   forest = cellForest n nums
 
@@ -61,82 +59,84 @@ module _ (n s k : ℕ) (ls st nums bytes : List ℕ) (from to : ℕ) where
   abbrev onward : ℕ → List ℕ → ℕ → Option Counted
   onward v m c = carried forest (countedMove act) v to (counted m c)
 
-  composition-carried : composition n s k ls st nums bytes from to ≡ onward from (tabulate s (λ q. q)) 0
+  abbrev whole : Option Counted
+  whole = composition n s k ls st nums bytes from to (mapAt s first 0)
+
+  composition-carried : whole ≡ onward from (mapAt s first 0) 0
   unfolding composition
   composition-carried = go (climb forest from to)
     where
       go : (o : Option (List Move))
-          → andThen o (λ ms. andThen (carry act ms (tabulate s (λ q. q))) (λ m. some (counted m (length ms))))
-          ≡ andThen o (λ ms. carry (countedMove act) ms (counted (tabulate s (λ q. q)) 0))
+          → andThen o (λ ms. andThen (carry act ms (mapAt s first 0)) (λ m. some (counted m (length ms))))
+          ≡ andThen o (λ ms. carry (countedMove act) ms (counted (mapAt s first 0) 0))
       go none = refl
       go (some ms) =
           let e : length ms ≡ 0 + length ms = omega arith in
-          ap (λ (c : ℕ). andThen (carry act ms (tabulate s (λ q. q))) (λ m. some (counted m c))) e
-          ∙ sym (counted-carry act ms (tabulate s (λ q. q)) 0)
+          ap (λ (c : ℕ). andThen (carry act ms (mapAt s first 0)) (λ m. some (counted m c))) e
+          ∙ sym (counted-carry act ms (mapAt s first 0) 0)
 
-  pub record Climbing (a : List ℕ) (v c : ℕ) : Type 0 where
-    pub map : List ℕ
-    pub array : a ≡ padded map
-    pub states : MapOf s map
+  pub record Climbing (maps : List ℕ) (here v c : ℕ) : Type 0 where
+    pub halves : Halves s maps here
     pub inside : v < n
     pub few : c + forest .depth v ≤ forest .depth from
-    pub same : onward v map c ≡ composition n s k ls st nums bytes from to
+    pub same : onward v (mapAt s maps here) c ≡ composition n s k ls st nums bytes from to (mapAt s first 0)
 
-  pub climbing-start : (a : List ℕ) → from < n → a ≡ padded (tabulate s (λ q. q)) → Climbing a from 0
-  climbing-start a h e = record {
-    map = tabulate s (λ q. q);
-    array = e;
-    states = identity-map s;
-    inside = h;
-    few = omega arith;
-    same = sym composition-carried;
-  }
+  pub climbing-start : from < n → Halves s first 0 → Climbing first 0 from 0
+  climbing-start h H = record { halves = H; inside = h; few = omega arith; same = sym composition-carried }
 
-  module _ (a : List ℕ) (v c : ℕ) (C : Climbing a v c) where
-    pub climbing-done : forest .depth v ≤ to
-        → record { ok = true; map = a; links = c } ≡ composed (composition n s k ls st nums bytes from to)
-    unfolding composed
-    climbing-done h =
-        ap (λ (x : List ℕ). record { ok = true; map = x; links = c }) (C .array)
-        ∙ ap composed (sym (carried-done forest (countedMove act) v to (counted (C .map) c) h) ∙ C .same)
+  module _ (maps : List ℕ) (here v c : ℕ) (C : Climbing maps here v c) where
+    pub climbing-done : forest .depth v ≤ to → ComposedTo s maps (record { ok = true; at = here; links = c })
+        (composition n s k ls st nums bytes from to (mapAt s first 0))
+    climbing-done h = record {
+      long = C .halves .long;
+      within = C .halves .within;
+      made = sym (C .same) ∙ carried-done forest (countedMove act) v to (counted (mapAt s maps here) c) h;
+    }
 
-    -- the array or its map: a move makes the same of both
-    made-of-map : (i : Move) → act i a ≡ act i (C .map)
-    made-of-map i = ap (act i) (C .array) ∙ run-move-padded s k ls st bytes i (C .map)
+    module _ (deeper : to < forest .depth v) (x : Moved) (after : List ℕ)
+        (T : MovedTo s here after x (movedBy forest act (mapAt s maps here) (nextMove forest v to))) where
+      abbrev next : List ℕ
+      next = mapAt s after (16 - here)
 
-    module _ (deeper : to < forest .depth v) (x : Moved) (e : x ≡ movedBy forest act a (nextMove forest v to)) where
+      abbrev reached : Reached
+      reached = record { node = x .node; map = next }
+
+      went : x .ok ≡ true → Went forest act (mapAt s maps here) v to reached
+      went h =
+          moved-on forest act (mapAt s maps here) v to reached
+          (T .made ∙ ap (λ (b : Bool). cond b (some reached) none) h)
+
       pub climbing-rises : x .ok ≡ true → forest .depth (x .node) < forest .depth v
-      climbing-rises h =
-          let w : Went forest act a v to x = moved-on forest act a v to x e h in
-          rw (w .node) (next-rises forest v to (w .move) (w .next))
+      climbing-rises h = let w = went h in rw (w .node) (next-rises forest v to (w .move) (w .next))
 
-      pub climbing-turn : x .ok ≡ true → Climbing (x .map) (x .node) (c + 1)
+      pub climbing-turn : x .ok ≡ true → Climbing after (16 - here) (x .node) (c + 1)
       climbing-turn h =
-          let w : Went forest act a v to x = moved-on forest act a v to x e h in
-          let made : act (w .move) (C .map) ≡ some (w .map) = sym (made-of-map (w .move)) ∙ w .made in
-          let step : countedMove act (w .move) (counted (C .map) c) ≡ some (counted (w .map) (c + 1)) =
-          ap (λ (o : Option (List ℕ)). andThen o (λ m. some (counted m (c + 1)))) made in
+          let w = went h in
+          let step : countedMove act (w .move) (counted (mapAt s maps here) c) ≡ some (counted next (c + 1)) =
+          ap (λ (o : Option (List ℕ)). andThen o (λ m. some (counted m (c + 1)))) (w .made) in
           record {
-            map = w .map;
-            array = w .array;
-            states = run-move-map s k ls st bytes (w .move) (C .map) (w .map) (C .states) made;
+            halves = record {
+              few = C .halves .few;
+              long = T .long;
+              half = omega (arith, C .halves .half, C .halves .within);
+              within = omega arith;
+            };
             inside = rw (w .node) (next-inside forest v to (w .move) (w .next));
             few = omega (arith, C .few, climbing-rises h);
-            same = ap (λ (u : ℕ). onward u (w .map) (c + 1)) (w .node)
-                ∙ sym (carried-move forest (countedMove act) v to (counted (C .map) c) (w .move) deeper (w .next)
-                (counted (w .map) (c + 1)) step)
+            same = ap (λ (u : ℕ). onward u next (c + 1)) (w .node)
+                ∙ sym (carried-move forest (countedMove act) v to (counted (mapAt s maps here) c) (w .move) deeper
+                (w .next) (counted next (c + 1)) step)
                 ∙ C .same;
           }
 
-      nothing : x .ok ≡ false → composition n s k ls st nums bytes from to ≡ none
-      nothing h = sym (C .same) ∙ elim (moved-lost forest act a v to x e h) [
-        | inl q ↦ carried-stuck forest (countedMove act) v to (counted (C .map) c) deeper q
-        | inr q ↦ carried-lost forest (countedMove act) v to (counted (C .map) c) (q .0) deeper (q .1)
-            (ap (λ (o : Option (List ℕ)). andThen o (λ m. some (counted m (c + 1)))) (sym (made-of-map (q .0)) ∙ q .2))
-      ]
+      nothing : x .ok ≡ false → whole ≡ none
+      nothing h = sym (C .same) ∙ elim (moved-lost forest act (mapAt s maps here) v to
+          (T .made ∙ ap (λ (b : Bool). cond b (some reached) none) h)) [
+            | inl q ↦ carried-stuck forest (countedMove act) v to (counted (mapAt s maps here) c) deeper q
+            | inr q ↦ carried-lost forest (countedMove act) v to (counted (mapAt s maps here) c) (q .0) deeper (q .1)
+                (ap (λ (o : Option (List ℕ)). andThen o (λ m. some (counted m (c + 1)))) (q .2))
+          ]
 
-      pub climbing-lost : x .ok ≡ false
-          → record { ok = false; map = replicate 16 0; links = 0 }
-          ≡ composed (composition n s k ls st nums bytes from to)
-      unfolding composed
-      climbing-lost h = ap composed (sym (nothing h))
+      pub climbing-lost : x .ok ≡ false → ComposedTo s after (record { ok = false; at = 0; links = 0 })
+          (composition n s k ls st nums bytes from to (mapAt s first 0))
+      climbing-lost h = record { long = T .long; within = omega arith; made = nothing h }

@@ -3,28 +3,25 @@
 --     isBelow-true, true-isBelow                       what it says, and back
 --     first-is                                         the state after the upper node's label
 --     finish-no-label, finish-no-state, finish-told    what is told of a composed map
---     finish-padded                                    the map may stand in its array
 -- Assumes nothing.
 use Prim.Native.Nat.{ℕ, _+_, _-_, _*_, _≤_, _<_}
-use mathlib.Core.Path.{_≡_, refl, sym, ap, _∙_}
+use mathlib.Core.Path.{_≡_, sym, ap, _∙_}
 use mathlib.Core.Bool.{true, false}
 use mathlib.Core.List.{List}
-use mathlib.Core.Option.{Option, none, some}
+use mathlib.Core.Option.{none, some}
 use native.Mathlib.Omega.{arith}
 use lib.Dec.{leb, ltb, eqb}
 use lib.ListN.{getD}
 use borrow.Author.Tests.{leb-true, le-leb, lt-leb, ltb-true, lt-ltb, le-ltb}
-use Rattle.trees.specs.Climb.{andThen}
 use Rattle.trees.proofs.Choice.{le-or}
-use Rattle.formats.specs.Rules.{wordAutomaton}
 use Rattle.formats.proofs.CheckLaws.{and-both, and-left, and-right, and-no-left, and-no-right}
 use Rattle.links.specs.Cells.{sizeCell}
 use Rattle.branches.specs.declared.answers.Branching.the-variants.{Told, Refused}
-use Rattle.branches.specs.Question.{branched, toldBranch}
+use Rattle.branches.specs.Question.{toldBranch}
 use Rattle.links.specs.Cells.{isBelow}
-use Rattle.branches.specs.Compose.{padded}
+use Rattle.branches.specs.Compose.{mapAt}
 use Rattle.branches.specs.Finish.{firstOf, finish}
-use Rattle.branches.proofs.MapArrays.{getD-padded}
+use Rattle.branches.proofs.MapHalves.{getD-mapAt}
 
 -- ---- check 16
 
@@ -87,17 +84,9 @@ module _ (s k : ℕ) (ls st : List ℕ) (u : ℕ) where
     unfolding finish toldBranch
     finish-no-state h = rw (first-no-state h)
 
+  module _ (mk maps : List ℕ) (at c : ℕ) where
     pub finish-told : label < k → getD st label 0 < s
-        → Told (getD m (getD st label 0) 0) (eqb (getD mk (getD m (getD st label 0) 0) 0) 1) c
-        ≡ toldBranch 0 (finish s k ls st mk u m c)
+        → Told (getD maps (at + getD st label 0) 0) (eqb (getD mk (getD maps (at + getD st label 0) 0) 0) 1) c
+        ≡ toldBranch 0 (finish s k ls st mk u (mapAt s maps at) c)
     unfolding finish toldBranch
-    finish-told h i = rw (first-is h i)
-
-    pub finish-padded : finish s k ls st mk u (padded m) c ≡ finish s k ls st mk u m c
-    unfolding finish
-    finish-padded = go (firstOf s k ls st u)
-      where
-        go : (o : Option ℕ) → andThen o (λ q. some (branched (wordAutomaton s k st mk) (getD (padded m) q 0) c))
-            ≡ andThen o (λ q. some (branched (wordAutomaton s k st mk) (getD m q 0) c))
-        go none = refl
-        go (some q) = ap (λ (x : ℕ). some (branched (wordAutomaton s k st mk) x c)) (getD-padded m q)
+    finish-told h i = rw (first-is h i, getD-mapAt s maps at (getD st label 0) i)

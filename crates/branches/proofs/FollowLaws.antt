@@ -1,7 +1,6 @@
 -- The laws of `follow`: one map after another.
 --     follow-yes, follow-no    every state read is a state, or one is not
 --     follow-ext               it goes by the entries alone
---     follow-padded            the map carried may stand in its array
 --     MapOf s m                m has s entries, all below s; follow-map: a composed map is such a map
 -- Assumes nothing.
 use Prim.Native.Nat.{ℕ, _≤_, _<_}
@@ -17,8 +16,6 @@ use Rattle.trees.proofs.MoveLaws.{none-some}
 use Rattle.formats.specs.Bytes.{allBelow}
 use Rattle.formats.proofs.ListLaws.{allBelow-at, at-allBelow}
 use Rattle.branches.specs.Question.{follow}
-use Rattle.branches.specs.Compose.{padded}
-use Rattle.branches.proofs.MapArrays.{getD-padded}
 
 module _ (s : ℕ) (f : ℕ → ℕ) where
   all-below : ((q : ℕ) → q < s → f q < s) → allBelow s (tabulate s f) ≡ true
@@ -60,11 +57,6 @@ follow-ext s m f g e =
       tabulate-ext s f g e,
       tabulate-ext s (λ q. getD m (f q) 0) (λ q. getD m (g q) 0) (λ q h. ap (λ (x : ℕ). getD m x 0) (e q h)),
     )
-
-pub follow-padded : (s : ℕ) (m : List ℕ) (f : ℕ → ℕ) → follow s (padded m) f ≡ follow s m f
-unfolding follow
-follow-padded s m f =
-    rw (tabulate-ext s (λ q. getD (padded m) (f q) 0) (λ q. getD m (f q) 0) (λ q h. getD-padded m (f q)))
 
 -- ---- maps of s states
 

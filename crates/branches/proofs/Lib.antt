@@ -1,5 +1,5 @@
-pub mod MapArrays
 pub mod FollowLaws
+pub mod MapHalves
 pub mod FitLaws
 pub mod MoveMaps
 pub mod MovedLaws

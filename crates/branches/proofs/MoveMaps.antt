@@ -1,7 +1,6 @@
 -- What one move of a climb makes of a map.
 --     label-outside, label-inside, label-reads    by the step of a node's label
 --     run-jump, jump-at, jump-reads               by the map of its jump
---     run-move-padded                             the map carried may stand in its array
 --     run-move-map                                a map becomes a map
 --     move-map-run                                moveMap is runMove on the runs of plan and branch table
 -- Assumes nothing.
@@ -22,8 +21,8 @@ use Rattle.formats.specs.Rules.{stateCount, labelCount, branchSteps}
 use Rattle.formats.specs.Checks.{stateLength}
 use Rattle.tables.specs.StateCells.{mapCell}
 use Rattle.branches.specs.Question.{follow, moveMap}
-use Rattle.branches.specs.Compose.{padded, FollowArgs, LabelArgs, labelMove, runMove}
-use Rattle.branches.proofs.FollowLaws.{MapOf, follow-ext, follow-padded, follow-map}
+use Rattle.branches.specs.Compose.{Halves, FollowArgs, LabelArgs, labelMove, runMove}
+use Rattle.branches.proofs.FollowLaws.{MapOf, follow-ext, follow-map}
 
 -- ---- by a label
 
@@ -41,9 +40,10 @@ module _ (s k : ℕ) (ls st : List ℕ) (v : ℕ) where
       (follow-ext s m (λ q. getD st (q * k + getD ls v 0) 0) (λ q. getD st (getD ls v 0 + q * k) 0)
       (λ q l. let e : q * k + getD ls v 0 ≡ getD ls v 0 + q * k = omega arith in ap (λ (i : ℕ). getD st i 0) e))
 
-  pub label-reads : LabelArgs s k ls st v → getD ls v 0 < k → FollowArgs s st (getD ls v 0) k
-  label-reads A h = record {
-    few = A .few;
+  pub label-reads : (maps : List ℕ) (here : ℕ) → LabelArgs s k maps here ls st v → getD ls v 0 < k
+      → FollowArgs s maps here st (getD ls v 0) k
+  label-reads maps here A h = record {
+    halves = A .halves;
     inside = λ q l. omega (arith, stride k q s l, A .room);
   }
 
@@ -59,9 +59,10 @@ module _ (s : ℕ) (bytes : List ℕ) (v : ℕ) where
   pub jump-at : (n : ℕ) → v < n → stateLength n s ≤ length bytes → v * (s + 1) + 1 ≤ length bytes
   jump-at n h room = omega (arith, cell-in (s + 1) n v 0 (length bytes) h (omega arith) room)
 
-  pub jump-reads : (n : ℕ) → s ≤ 16 → v < n → stateLength n s ≤ length bytes → FollowArgs s bytes (v * (s + 1) + 1) 1
-  jump-reads n few h room = record {
-    few = few;
+  pub jump-reads : (maps : List ℕ) (here n : ℕ) → Halves s maps here → v < n → stateLength n s ≤ length bytes
+      → FollowArgs s maps here bytes (v * (s + 1) + 1) 1
+  jump-reads maps here n H h room = record {
+    halves = H;
     inside = λ q l. omega (arith, cell-in (s + 1) n v (1 + q) (length bytes) h (omega arith) room);
   }
 
@@ -76,11 +77,6 @@ module _ (s k : ℕ) (ls st bytes : List ℕ) where
   pub run-parent : (v : ℕ) (m : List ℕ) → runMove s k ls st bytes (toParent v) m ≡ labelMove s k ls st v m
   unfolding runMove
   run-parent v m = refl
-
-  pub run-move-padded : (i : Move) (m : List ℕ) → runMove s k ls st bytes i (padded m) ≡ runMove s k ls st bytes i m
-  unfolding runMove labelMove
-  run-move-padded (byJump v) m = follow-padded s m (mapCell s bytes v)
-  run-move-padded (toParent v) m = rw (follow-padded s m (λ q. getD st (q * k + getD ls v 0) 0))
 
   pub run-move-map : (i : Move) (m m′ : List ℕ) → MapOf s m → runMove s k ls st bytes i m ≡ some m′ → MapOf s m′
   unfolding runMove labelMove

@@ -1,50 +1,64 @@
--- Maps composed on a climb, as the functions of the branch question have them: on runs of labels and steps, in arrays
--- of 16.
+-- Maps composed on a climb, as the functions of the branch question have them: on runs of labels and steps, with the map
+-- carried in one half of 32 bytes and room for the next one in the other.
 --
--- padded m == the map m in an array of 16; the entries that it does not use are 0
--- followed o == a composed map, or none, as a function returns it
--- FollowArgs s from at stride == the composition of s states reads inside `from`
--- LabelArgs s k ls st v == the composition with the step of node v's label reads inside the runs
+-- mapAt s maps at == the map of s states that stands in maps from `at` on
+-- Halves s maps here == maps of at most 16 states in 32 bytes, one of them from byte 0 or from byte 16 on: `here`; the other half
+--   starts at 16 - here
+-- FollowArgs s maps here from at stride == the composition of s states reads inside `from`
+-- LabelArgs s k maps here ls st v == the composition with the step of node v's label reads inside the runs
+-- Followed s here after ok o == ok tells whether there is a map o, and then it stands in the other half of `after`
 -- runMove s k ls st bytes == moveMap on the run of labels ls and the run of steps st
--- movedBy F act m o == the node that the move o leads to and what it makes of the map m, as a function returns them
+-- Reached == a node and the map from there
+-- movedBy F act m o == the node that the move o leads to and what it makes of the map m; none where either is not
+-- MovedTo s here after x o == x tells whether there is a move o and the node, and then the map stands in the other half of `after`
 -- Counted == a map and the number of links that it was composed of
--- composition .. == the map from after the label at depth `to` to after node l's label, with the links of the climb;
---   none where a value read leads outside the plan, the states or the labels, or the climb does not rise
--- composed o == a composition, or none, as a function returns it
+-- composition .. m == what the climb from node l to depth `to` makes of the map m, with its links; none where a value read leads
+--   outside the plan, the states or the labels, or the climb does not rise
+-- ComposedTo s after x o == x tells whether there is a composition o, its links and where its map stands in `after`
 -- ComposeArgs .. == n nodes, s states and k labels within limits, and runs and tables that are long enough
 --
 -- Assumes nothing.
-use Prim.Native.Nat.{ℕ, _+_, _-_, _*_, _≤_, _<_}
-use mathlib.Core.Bool.{true, false, cond}
-use mathlib.Core.List.{List, _++_}
+use Prim.Native.Nat.{ℕ, _+_, _-_, _*_, _%_, _≤_, _<_}
+use mathlib.Core.Path.{_≡_}
+use mathlib.Core.Bool.{Bool, cond}
+use mathlib.Core.List.{List}
 use mathlib.Core.Option.{Option, none, some}
 use lib.Dec.{ltb}
-use lib.ListN.{length, getD, replicate}
+use lib.ListN.{length, getD}
 use Rattle.trees.specs.Climb.{Forest, Move, byJump, toParent, target, andThen, climb, carry}
 use Rattle.trees.specs.Tables.{tabulate}
 use Rattle.formats.specs.Checks.{linkLength, stateLength}
 use Rattle.links.specs.Cells.{cellForest}
 use Rattle.tables.specs.StateCells.{mapCell}
-use Rattle.branches.specs.declared.climb.Followed.{Followed}
 use Rattle.branches.specs.declared.climb.Moved.{Moved}
 use Rattle.branches.specs.declared.climb.Composed.{Composed}
 use Rattle.branches.specs.Question.{follow}
 
-abbrev pub padded : List ℕ → List ℕ
-padded m = m ++ replicate (16 - length m) 0
+-- ---- maps in two halves
 
-abbrev pub followed : Option (List ℕ) → Followed
-followed none = record { ok = false; map = replicate 16 0 }
-followed (some m) = record { ok = true; map = padded m }
+unfoldable pub mapAt : ℕ → List ℕ → ℕ → List ℕ
+mapAt s maps at = tabulate s (λ q. getD maps (at + q) 0)
 
-pub record FollowArgs (s : ℕ) (from : List ℕ) (at stride : ℕ) : Type 0 where
+pub record Halves (s : ℕ) (maps : List ℕ) (here : ℕ) : Type 0 where
   pub few : s ≤ 16
+  pub long : length maps ≡ 32
+  pub half : here % 16 ≡ 0
+  pub within : here ≤ 16
+
+-- ---- one map after another
+
+pub record FollowArgs (s : ℕ) (maps : List ℕ) (here : ℕ) (from : List ℕ) (at stride : ℕ) : Type 0 where
+  pub halves : Halves s maps here
   pub inside : (q : ℕ) → q < s → at + q * stride < length from
 
-pub record LabelArgs (s k : ℕ) (ls st : List ℕ) (v : ℕ) : Type 0 where
-  pub few : s ≤ 16
+pub record LabelArgs (s k : ℕ) (maps : List ℕ) (here : ℕ) (ls st : List ℕ) (v : ℕ) : Type 0 where
+  pub halves : Halves s maps here
   pub at : v < length ls
   pub room : s * k ≤ length st
+
+pub record Followed (s here : ℕ) (after : List ℕ) (ok : Bool) (o : Option (List ℕ)) : Type 0 where
+  pub long : length after ≡ 32
+  pub made : o ≡ cond ok (some (mapAt s after (16 - here))) none
 
 -- ---- one move
 
@@ -55,9 +69,16 @@ unfoldable pub runMove : ℕ → ℕ → List ℕ → List ℕ → List ℕ → 
 runMove s k ls st bytes (byJump v) m = follow s m (mapCell s bytes v)
 runMove s k ls st bytes (toParent v) m = labelMove s k ls st v m
 
-unfoldable pub movedBy : Forest → (Move → List ℕ → Option (List ℕ)) → List ℕ → Option Move → Moved
-movedBy F act m none = record { ok = false; node = 0; map = replicate 16 0 }
-movedBy F act m (some i) = record { ok = followed (act i m) .ok; node = target F i; map = followed (act i m) .map }
+pub record Reached : Type 0 where
+  pub node : ℕ
+  pub map : List ℕ
+
+unfoldable pub movedBy : Forest → (Move → List ℕ → Option (List ℕ)) → List ℕ → Option Move → Option Reached
+movedBy F act m o = andThen o (λ i. andThen (act i m) (λ m′. some (record { node = target F i; map = m′ })))
+
+pub record MovedTo (s here : ℕ) (after : List ℕ) (x : Moved) (o : Option Reached) : Type 0 where
+  pub long : length after ≡ 32
+  pub made : o ≡ cond (x .ok) (some (record { node = x .node; map = mapAt s after (16 - here) })) none
 
 -- ---- the climb
 
@@ -65,20 +86,21 @@ pub record Counted : Type 0 where
   pub map : List ℕ
   pub links : ℕ
 
-unfoldable pub composition : ℕ → ℕ → ℕ → List ℕ → List ℕ → List ℕ → List ℕ → ℕ → ℕ → Option Counted
-composition n s k ls st nums bytes l to =
+unfoldable pub composition : ℕ → ℕ → ℕ → List ℕ → List ℕ → List ℕ → List ℕ → ℕ → ℕ → List ℕ → Option Counted
+composition n s k ls st nums bytes l to m =
     andThen (climb (cellForest n nums) l to) (λ ms.
-    andThen (carry (runMove s k ls st bytes) ms (tabulate s (λ q. q))) (λ m.
-    some (record { map = m; links = length ms })))
+    andThen (carry (runMove s k ls st bytes) ms m) (λ m′.
+    some (record { map = m′; links = length ms })))
 
-unfoldable pub composed : Option Counted → Composed
-composed none = record { ok = false; map = replicate 16 0; links = 0 }
-composed (some x) = record { ok = true; map = padded (x .map); links = x .links }
+pub record ComposedTo (s : ℕ) (after : List ℕ) (x : Composed) (o : Option Counted) : Type 0 where
+  pub long : length after ≡ 32
+  pub within : x .at ≤ 16
+  pub made : o ≡ cond (x .ok) (some (record { map = mapAt s after (x .at); links = x .links })) none
 
-pub record ComposeArgs (n s k : ℕ) (ls st nums bytes : List ℕ) (v : ℕ) : Type 0 where
+pub record ComposeArgs (n s k : ℕ) (maps : List ℕ) (here : ℕ) (ls st nums bytes : List ℕ) (v : ℕ) : Type 0 where
+  pub halves : Halves s maps here
   pub at : v < n
   pub most : n ≤ 65535
-  pub few : s ≤ 16
   pub labels-room : n ≤ length ls
   pub steps-room : s * k ≤ length st
   pub nums-room : linkLength n ≤ length nums

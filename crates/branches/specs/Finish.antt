@@ -2,7 +2,7 @@
 --
 -- firstOf s k ls st u == firstState on runs: the state after the upper node's label
 -- finish s k ls st mk u x == the answer of a composition x
--- FinishArgs .. == what the last function reads is inside its runs
+-- FinishArgs .. == what the last function reads is inside its runs, the map of s states in maps from `at` on included
 -- AnswerArgs p r nums bytes u l == what the lent headers and lengths say where 17 and 13 pass
 --
 -- Assumes nothing.
@@ -26,13 +26,13 @@ unfoldable pub finish : ℕ → ℕ → List ℕ → List ℕ → List ℕ → �
 finish s k ls st mk u m c =
     andThen (firstOf s k ls st u) (λ q. some (branched (wordAutomaton s k st mk) (getD m q 0) c))
 
-pub record FinishArgs (s k : ℕ) (ls st mk : List ℕ) (u : ℕ) (m : List ℕ) : Type 0 where
+pub record FinishArgs (s k : ℕ) (ls st mk : List ℕ) (u : ℕ) (maps : List ℕ) (at : ℕ) : Type 0 where
   pub least : 1 ≤ s
-  pub few : s ≤ 16
-  pub at : u < length ls
+  pub upper : u < length ls
   pub steps-room : s * k ≤ length st
   pub marks-room : s ≤ length mk
-  pub below : (q : ℕ) → q < s → getD m q 0 < s
+  pub maps-room : at + s ≤ length maps
+  pub below : (q : ℕ) → q < s → getD maps (at + q) 0 < s
 
 pub record AnswerArgs (p r nums bytes : List ℕ) (u l : ℕ) : Type 0 where
   pub fits : lentFits p r nums bytes ≡ true

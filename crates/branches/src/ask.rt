@@ -1,6 +1,7 @@
 // The branch question: the state after the word from the upper node down to the lower, whether it is marked, and the
 // links of the climb.
 use crate::answers::Branching;
+use crate::climb::SAME;
 use crate::climb::compose_climb;
 use crate::lent::lent_fits;
 use formats::bytes::read32;
@@ -12,6 +13,7 @@ ghost use lib.ListN.{length};
 ghost use Rattle.branches.specs.Question.{branchOn, toldBranch};
 ghost use Rattle.links.specs.Cells.{isBelow};
 ghost use Rattle.branches.specs.Promise.{AskDone};
+ghost use Rattle.branches.specs.Compose.{mapAt};
 ghost use Rattle.branches.specs.Finish.{finish, FinishArgs, AnswerArgs};
 
 // Check 16: is node l in the run of numbers that ends at node u and is as long as u's size?
@@ -33,12 +35,13 @@ fn finish_answer(
     s: usize,
     k: usize,
     u: usize,
-    map: [u8; 16],
+    maps: &[u8],
+    at: usize,
     links: u32,
 ) -> Branching
-    requires { ⌜ FinishArgs s k (now labels) (now steps) (now marks) u map ⌝ }
+    requires { ⌜ FinishArgs s k (now labels) (now steps) (now marks) u (now maps) at ⌝ }
     ensures { λ r. ⌜ r ≡ toldBranch 0 (finish s k (now (labels .entry)) (now (steps .entry)) (now (marks .entry)) u
-        map links) ⌝ }
+        (mapAt s (now (maps .entry)) at) links) ⌝ }
 {
     let a = labels[u] as usize;
     if k <= a {
@@ -48,7 +51,7 @@ fn finish_answer(
     if s <= q {
         return Branching::Refused(18);
     }
-    let state = map[q];
+    let state = maps[at + q];
     let mark = marks[state as usize];
     Branching::Told(state, mark == 1, links)
 }
@@ -72,12 +75,22 @@ fn answer_branch(
     let labels = &plan[12..12 + n];
     let steps = &branch[16..16 + s * k];
     let to = depth_at(nums, u);
-    let x = compose_climb(labels, steps, nums, bytes, n, s, k, l, to);
+    let mut maps = SAME;
+    let x = compose_climb(&mut maps, labels, steps, nums, bytes, n, s, k, l, to);
     if !x.ok {
         return Branching::Refused(18);
     }
-    let map = x.map;
-    finish_answer(labels, steps, &branch[16 + s * k..], s, k, u, map, x.links)
+    finish_answer(
+        labels,
+        steps,
+        &branch[16 + s * k..],
+        s,
+        k,
+        u,
+        &maps,
+        x.at,
+        x.links,
+    )
 }
 
 // A branch question: the word from the upper node down to the lower, both included. It takes N, S and K from the lent

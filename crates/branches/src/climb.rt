@@ -1,90 +1,111 @@
 // Maps composed on the climb of a branch question: the word runs downward while the climb goes up, so each move puts
-// its own map before the map carried so far.
+// its own map before the map carried so far. The map carried stands in one half of 32 bytes, from byte 0 or from byte
+// 16 on, and a move writes the next one into the other half: nothing is copied.
 use links::moves::NextMove;
 use links::moves::depth_at;
 use links::moves::next_move;
-ghost use mathlib.Core.Path.{_≡_};
-ghost use Prim.Native.Nat.{ℕ, _+_, _*_, _≤_};
+ghost use Prim.Native.Nat.{ℕ, _+_, _*_};
 ghost use lib.ListN.{getD};
 ghost use Rattle.trees.specs.Climb.{nextMove};
-ghost use Rattle.trees.specs.Tables.{tabulate};
 ghost use Rattle.links.specs.Cells.{cellForest};
 ghost use Rattle.branches.specs.Question.{follow};
-ghost use Rattle.branches.specs.Compose.{padded, followed, FollowArgs, LabelArgs, labelMove, runMove, movedBy};
-ghost use Rattle.branches.specs.Compose.{composition, composed, ComposeArgs};
+ghost use Rattle.branches.specs.Compose.{mapAt, FollowArgs, LabelArgs, labelMove, runMove, movedBy};
+ghost use Rattle.branches.specs.Compose.{Followed, MovedTo, composition, ComposeArgs, ComposedTo};
 
-// A map in an array of 16, or that a value read led outside the states or the labels.
-pub struct Followed {
-    pub ok: bool,
-    pub map: [u8; 16],
-}
+// Each of 16 states to itself, and room for the next map.
+pub const SAME: [u8; 32] = [
+    0,
+    1,
+    2,
+    3,
+    4,
+    5,
+    6,
+    7,
+    8,
+    9,
+    10,
+    11,
+    12,
+    13,
+    14,
+    15,
+    0,
+    0,
+    0,
+    0,
+    0,
+    0,
+    0,
+    0,
+    0,
+    0,
+    0,
+    0,
+    0,
+    0,
+    0,
+    0,
+];
 
-// The node that a move leads to, with the map from there; or that there is none.
+// The node that a move leads to; or that there is none.
 pub struct Moved {
     pub ok: bool,
     pub node: usize,
-    pub map: [u8; 16],
 }
 
-// The map of a climb and its links; or that there is none.
+// Where the map of a climb starts, and its links; or that there is none.
 pub struct Composed {
     pub ok: bool,
-    pub map: [u8; 16],
+    pub at: usize,
     pub links: u32,
 }
 
-// Each of s states to itself.
-fn identity(s: usize) -> [u8; 16]
-    requires { ⌜ s ≤ 16 ⌝ }
-    ensures { λ r. ⌜ r ≡ padded (tabulate s (λ (q : ℕ). q)) ⌝ }
+// The map from `here` on after the map whose entry q stands at `at` + q * `stride` of `from`, written into the other
+// half; or false, where a value read is no state.
+fn after_map(maps: &mut [u8], here: usize, from: &[u8], at: usize, stride: usize, s: usize) -> bool
+    requires { ⌜ FollowArgs s (now maps) here (now from) at stride ⌝ }
+    ensures { λ r. ⌜ Followed s here (now (maps .exit)) r (follow s (mapAt s (now (maps .entry)) here)
+        (λ (q : ℕ). getD (now (from .entry)) (at + q * stride) 0)) ⌝ }
 {
-    let mut map = [0u8; 16];
-    let mut q: usize = 0;
-    while q < s {
-        map[q] = q as u8;
-        q += 1;
-    }
-    map
-}
-
-// The map m after the map whose entry q stands at `at` + q * `stride` of `from`.
-fn after_map(m: [u8; 16], from: &[u8], at: usize, stride: usize, s: usize) -> Followed
-    requires { ⌜ FollowArgs s (now from) at stride ⌝ }
-    ensures { λ r. ⌜ r ≡ followed (follow s m (λ (q : ℕ). getD (now (from .entry)) (at + q * stride) 0)) ⌝ }
-{
-    let mut map = [0u8; 16];
+    let there = 16 - here;
     let mut q: usize = 0;
     while q < s {
         let x = from[at + q * stride] as usize;
         if s <= x {
-            return Followed {
-                ok: false,
-                map: [0u8; 16],
-            };
+            return false;
         }
-        map[q] = m[x];
+        maps[there + q] = maps[here + x];
         q += 1;
     }
-    Followed { ok: true, map }
+    true
 }
 
-// The map m after the step of node v's own label.
-fn after_label(m: [u8; 16], labels: &[u8], steps: &[u8], s: usize, k: usize, v: usize) -> Followed
-    requires { ⌜ LabelArgs s k (now labels) (now steps) v ⌝ }
-    ensures { λ r. ⌜ r ≡ followed (labelMove s k (now (labels .entry)) (now (steps .entry)) v m) ⌝ }
+// The map from `here` on after the step of node v's own label.
+fn after_label(
+    maps: &mut [u8],
+    here: usize,
+    labels: &[u8],
+    steps: &[u8],
+    s: usize,
+    k: usize,
+    v: usize,
+) -> bool
+    requires { ⌜ LabelArgs s k (now maps) here (now labels) (now steps) v ⌝ }
+    ensures { λ r. ⌜ Followed s here (now (maps .exit)) r (labelMove s k (now (labels .entry)) (now (steps .entry)) v
+        (mapAt s (now (maps .entry)) here)) ⌝ }
 {
     let a = labels[v] as usize;
     if k <= a {
-        return Followed {
-            ok: false,
-            map: [0u8; 16],
-        };
+        return false;
     }
-    after_map(m, steps, a, k, s)
+    after_map(maps, here, steps, a, k, s)
 }
 
-// The next move from node v to depth `to`: the node that it leads to and what it makes of the map m.
+// The next move from node v to depth `to`: the node that it leads to, and what it makes of the map from `here` on.
 fn compose_move(
+    maps: &mut [u8],
+    here: usize,
     labels: &[u8],
     steps: &[u8],
     nums: &[u16],
@@ -94,43 +115,29 @@ fn compose_move(
     k: usize,
     v: usize,
     to: usize,
-    m: [u8; 16],
 ) -> Moved
-    requires { ⌜ ComposeArgs n s k (now labels) (now steps) (now nums) (now bytes) v ⌝ }
-    ensures { λ r. ⌜ r ≡ movedBy (cellForest n (now (nums .entry)))
-        (runMove s k (now (labels .entry)) (now (steps .entry)) (now (bytes .entry))) m
-        (nextMove (cellForest n (now (nums .entry))) v to) ⌝ }
+    requires { ⌜ ComposeArgs n s k (now maps) here (now labels) (now steps) (now nums) (now bytes) v ⌝ }
+    ensures { λ r. ⌜ MovedTo s here (now (maps .exit)) r (movedBy (cellForest n (now (nums .entry)))
+        (runMove s k (now (labels .entry)) (now (steps .entry)) (now (bytes .entry))) (mapAt s (now (maps .entry)) here)
+        (nextMove (cellForest n (now (nums .entry))) v to)) ⌝ }
 {
     match next_move(nums, n, v, to) {
         NextMove::Jump(j) => {
-            let f = after_map(m, bytes, v * (s + 1) + 1, 1, s);
-            let map = f.map;
-            Moved {
-                ok: f.ok,
-                node: j,
-                map,
-            }
+            let ok = after_map(maps, here, bytes, v * (s + 1) + 1, 1, s);
+            Moved { ok, node: j }
         }
         NextMove::Parent(p) => {
-            let f = after_label(m, labels, steps, s, k, v);
-            let map = f.map;
-            Moved {
-                ok: f.ok,
-                node: p,
-                map,
-            }
+            let ok = after_label(maps, here, labels, steps, s, k, v);
+            Moved { ok, node: p }
         }
-        NextMove::Stuck => Moved {
-            ok: false,
-            node: 0,
-            map: [0u8; 16],
-        },
+        NextMove::Stuck => Moved { ok: false, node: 0 },
     }
 }
 
 // The climb from node `from` to depth `to`: the map from the state after the label reached to the state after `from`'s
-// label, and the links.
+// label, and the links. `maps` starts with the identity.
 pub fn compose_climb(
+    maps: &mut [u8],
     labels: &[u8],
     steps: &[u8],
     nums: &[u16],
@@ -141,29 +148,29 @@ pub fn compose_climb(
     from: usize,
     to: usize,
 ) -> Composed
-    requires { ⌜ ComposeArgs n s k (now labels) (now steps) (now nums) (now bytes) from ⌝ }
-    ensures { λ r. ⌜ r ≡ composed (composition n s k (now (labels .entry)) (now (steps .entry)) (now (nums .entry))
-        (now (bytes .entry)) from to) ⌝ }
+    requires { ⌜ ComposeArgs n s k (now maps) 0 (now labels) (now steps) (now nums) (now bytes) from ⌝ }
+    ensures { λ r. ⌜ ComposedTo s (now (maps .exit)) r (composition n s k (now (labels .entry)) (now (steps .entry))
+        (now (nums .entry)) (now (bytes .entry)) from to (mapAt s (now (maps .entry)) 0)) ⌝ }
 {
     let mut v = from;
-    let mut map = identity(s);
+    let mut here: usize = 0;
     let mut links: u32 = 0;
     while to < depth_at(nums, v) {
-        let x = compose_move(labels, steps, nums, bytes, n, s, k, v, to, map);
+        let x = compose_move(maps, here, labels, steps, nums, bytes, n, s, k, v, to);
         if !x.ok {
             return Composed {
                 ok: false,
-                map: [0u8; 16],
+                at: 0,
                 links: 0,
             };
         }
         v = x.node;
-        map = x.map;
+        here = 16 - here;
         links += 1;
     }
     Composed {
         ok: true,
-        map,
+        at: here,
         links,
     }
 }

@@ -1,9 +1,9 @@
 use Prim.Native.Nat.{ℕ, _+_, _-_, _*_, _≤_}
 use mathlib.Core.Path.{_≡_, ap₂}
-use native.Mathlib.Omega.{arith}
-use borrow.Author.Tests.{not-true, not-false}
 use mathlib.Core.List.{List}
+use native.Mathlib.Omega.{arith}
 use lib.ListN.{length, take, drop}
+use borrow.Author.Tests.{not-true, not-false}
 use Rattle.formats.specs.Rules.{stateCount, labelCount}
 use Rattle.branches.proofs.FitLaws.{LentFits, lent-fits}
 use Rattle.branches.proofs.AskParts.{Handed, handed}
@@ -32,6 +32,9 @@ steps-end c =
     ap₂ (λ (i j : ℕ). i * j) (c .before .read322 .ensures) (c .read323 .ensures) in
     omega (arith, fit s .branch .exact)
 
+abbrev begun : tie.After-depth-at → tie.Start
+begun c = c .before .before .before .before .before .before .before .before .before .before
+
 -- what is handed on
 abbrev nodes : tie.After-depth-at → ℕ
 nodes c = c .before .before .before .before .before .read32 .result
@@ -44,26 +47,26 @@ labels c = c .before .before .before .read323 .result
 
 abbrev label-run : tie.After-depth-at → List ℕ
 label-run c = take (12 + nodes c - 12)
-    (drop 12 (c .before .before .before .before .before .before .before .before .before .before .args .plan .now))
+    (drop 12 (begun c .args .plan .now))
 
 abbrev step-run : tie.After-depth-at → List ℕ
 step-run c = take (16 + states c * labels c - 16)
-    (drop 16 (c .before .before .before .before .before .before .before .before .before .before .args .branch .now))
+    (drop 16 (begun c .args .branch .now))
 
 abbrev mark-run : tie.After-depth-at → List ℕ
 mark-run c =
-    let r = c .before .before .before .before .before .before .before .before .before .before .args .branch .now in
+    let r = begun c .args .branch .now in
     take (length r - (16 + states c * labels c)) (drop (16 + states c * labels c) r)
 
 on : (c : tie.After-depth-at)
-    → let g = c .before .before .before .before .before .before .before .before .before .before .args in
+    → let g = begun c .args in
     Handed (g .plan .now) (g .branch .now) (g .nums .now) (g .u) (nodes c) (states c) (labels c) (c .depth-at .result)
     (label-run c) (step-run c) (mark-run c)
 on c =
     handed _ _ _ _ (nodes c) (states c) (labels c) (c .depth-at .result)
     (c .before .before .before .before .before .read32 .ensures) (c .before .before .before .before .read322 .ensures)
     (c .before .before .before .read323 .ensures) (c .depth-at .ensures)
-    (fit (c .before .before .before .before .before .before .before .before .before .before) .branch .exact)
+    (fit (begun c) .branch .exact)
 
 read32-requires : tie.Need-read32-requires
 read32-requires c κs = omega (arith, fit (c .before .before .before .before) .plan .long)
@@ -117,49 +120,53 @@ depth-at-requires c κs =
       fit (c .before .before .before .before .before .before .before .before .before) .nums-room,
     )
 
+slice-aggregate-compose-climb : tie.Need-slice-aggregate-compose-climb
+slice-aggregate-compose-climb c = search needs
+
 compose-climb-requires : tie.Need-compose-climb-requires
 compose-climb-requires c κs =
-    compose-args _ _ _ _ _ _ _ _ _ _ _ _ (mark-run c)
-    (c .before .before .before .before .before .before .before .before .before .before .pre) (on c)
+    let d = c .before in
+    compose-args _ _ _ _ _ _ _ _ _ _ _ _ (mark-run d) (begun d .pre) (on d)
 
 returns : tie.Need-returns
 returns c =
-    let x = c .before .before in
-    answer-none _ _ _ _ _ _ _ _ _ _ _ _ (mark-run (x .before))
-    (c .before .before .before .before .before .before .before .before .before .before .before .before .before .pre)
-    (on (x .before)) (x .compose-climb .result) (x .compose-climb .ensures)
-    (not-true _ (c .if1 .taken))
+    let x = c .before .before .before in
+    let d = x .before .before in
+    answer-none _ _ _ _ _ _ _ _ _ _ _ _ (mark-run d) (begun d .pre) (on d) (x .compose-climb .result) _
+    (x .compose-climb .ensures) (not-true _ (c .if1 .taken))
 
 mul-finish-answer : tie.Need-mul-finish-answer
-mul-finish-answer c = omega (arith, steps-end (c .before .before .before .before .before .before .before))
+mul-finish-answer c = omega (arith, steps-end (c .before .before .before .before .before .before .before .before))
 
 add-finish-answer : tie.Need-add-finish-answer
-add-finish-answer c = omega (arith, steps-end (c .before .before .before .before .before .before .before))
+add-finish-answer c = omega (arith, steps-end (c .before .before .before .before .before .before .before .before))
 
 sub-finish-answer : tie.Need-sub-finish-answer
-sub-finish-answer c = steps-end (c .before .before .before .before .before .before .before)
+sub-finish-answer c = steps-end (c .before .before .before .before .before .before .before .before)
 
 part-finish-answer-start : tie.Need-part-finish-answer-start
-part-finish-answer-start c = steps-end (c .before .before .before .before .before .before .before)
+part-finish-answer-start c = steps-end (c .before .before .before .before .before .before .before .before)
 
 part-finish-answer-end : tie.Need-part-finish-answer-end
 part-finish-answer-end c = search needs
 
+slice-aggregate-finish-answer : tie.Need-slice-aggregate-finish-answer
+slice-aggregate-finish-answer c = search needs
+
 finish-answer-requires : tie.Need-finish-answer-requires
 finish-answer-requires c κs =
-    let x = c .before .before .before .before in
-    finish-args _ _ _ _ _ _ _ _ _ _ _ _ (mark-run (x .before))
-    (c .before .before .before .before .before .before .before .before .before .before .before .before .before .before
-    .before .pre) (on (x .before)) (x .compose-climb .result) (x .compose-climb .ensures)
-    (not-false _ (c .before .before .if1 .left))
+    let x = c .before .before .before .before .before in
+    let d = x .before .before in
+    finish-args _ _ _ _ _ _ _ _ _ _ _ _ (mark-run d) (begun d .pre) (on d) (x .compose-climb .result) _
+    (x .compose-climb .ensures) (not-false _ (c .before .before .if1 .left))
 
 returns-2 : tie.Need-returns-2
 returns-2 c =
-    let x = c .before .before .before .before .before in
-    answer-some _ _ _ _ _ _ _ _ _ _ _ _ (mark-run (x .before))
-    (c .before .before .before .before .before .before .before .before .before .before .before .before .before .before
-    .before .before .pre) (on (x .before)) (x .compose-climb .result) (x .compose-climb .ensures)
-    (c .finish-answer .result) (not-false _ (c .before .before .before .if1 .left)) (c .finish-answer .ensures)
+    let x = c .before .before .before .before .before .before in
+    let d = x .before .before in
+    answer-some _ _ _ _ _ _ _ _ _ _ _ _ (mark-run d) (begun d .pre) (on d) (x .compose-climb .result) _
+    (x .compose-climb .ensures) (c .finish-answer .result) (not-false _ (c .before .before .before .if1 .left))
+    (c .finish-answer .ensures)
 
 pub answer-branch-spec : {M : Type 1} → statement M
 answer-branch-spec =
@@ -178,6 +185,7 @@ answer-branch-spec =
     part-steps-start
     part-steps-end
     depth-at-requires
+    slice-aggregate-compose-climb
     compose-climb-requires
     returns
     mul-finish-answer
@@ -185,5 +193,6 @@ answer-branch-spec =
     sub-finish-answer
     part-finish-answer-start
     part-finish-answer-end
+    slice-aggregate-finish-answer
     finish-answer-requires
     returns-2)

@@ -1,3 +1,4 @@
+use Prim.Native.Nat.{ℕ, _+_}
 use native.Mathlib.Omega.{arith}
 use lib.ListN.{getD}
 use Rattle.trees.proofs.RowLaws.{stride}
@@ -30,23 +31,28 @@ cast-q c =
 returns-2 : tie.Need-returns-2
 returns-2 c = finish-no-state _ _ _ _ _ _ _ _ (c .if2 .taken)
 
-array-read-state : tie.Need-array-read-state
-array-read-state c = search needs
+-- the first state
+abbrev state-first : tie.Start → ℕ
+state-first s = getD (s .args .steps .now) (getD (s .args .labels .now) (s .args .u) 0) 0
+
+add-state : tie.Need-add-state
+add-state c = omega (arith, c .before .before .before .before .pre .maps-room, c .if2 .left)
+
+shared-slice-read-state : tie.Need-shared-slice-read-state
+shared-slice-read-state c = omega (arith, c .before .before .before .before .before .pre .maps-room, c .before .if2 .left)
 
 cast-mark : tie.Need-cast-mark
-cast-mark c = search needs
+cast-mark c =
+    let s = c .before .before .before .before .before in
+    omega (arith, c .shared-slice-known3 .given (s .args .at + state-first s))
 
 shared-slice-read-mark : tie.Need-shared-slice-read-mark
 shared-slice-read-mark c =
-    let s = c .before .before .before .before .before in
-    omega (
-      arith,
-      s .pre .below (getD (s .args .steps .now) (getD (s .args .labels .now) (s .args .u) 0) 0) (c .before .if2 .left),
-      s .pre .marks-room,
-    )
+    let s = c .before .before .before .before .before .before in
+    omega (arith, s .pre .below (state-first s) (c .before .before .if2 .left), s .pre .marks-room)
 
 returns-3 : tie.Need-returns-3
-returns-3 c = finish-told _ _ _ _ _ _ _ _ (c .before .before .before .if1 .left) (c .before .if2 .left)
+returns-3 c = finish-told _ _ _ _ _ _ _ _ _ (c .before .before .before .before .if1 .left) (c .before .before .if2 .left)
 
 pub finish-answer-spec : {M : Type 1} → statement M
 finish-answer-spec =
@@ -58,7 +64,8 @@ finish-answer-spec =
     shared-slice-read-q
     cast-q
     returns-2
-    array-read-state
+    add-state
+    shared-slice-read-state
     cast-mark
     shared-slice-read-mark
     returns-3)
