@@ -1,19 +1,18 @@
 //! Builds of rule tables and of branch tables: every number and byte that is written, for trees of every shape and
-//! size. Each build is followed by a full check, which must say yes, also with excess.
+//! size. Each build is followed by full checks, which must say yes, also with another excess.
 
 use compare::calls::{self, Kind, KINDS};
+use compare::counts::Counts;
 use compare::inputs::Case;
 use compare::random::Random;
+use compare::rounds::builds;
 use compare::shapes::{self, DEEPEST, SHAPES};
 
-/// Builds both tables of a case in buffers a little too long, and checks what came out.
+/// Builds both tables of a case in buffers a little too long, or not.
 fn build_both(case: &Case, random: &mut Random) {
     for kind in KINDS {
-        let table = case.table(kind);
-        let lens = (case.numbers_len() + random.below(4), case.bytes_len() + random.below(4));
-        let (numbers, bytes) = calls::build(kind, &case.plan, table, lens, random).expect("accepted");
-        let yes = calls::library_check(kind, &case.plan, table, &numbers, &bytes, random);
-        assert_eq!(yes, Ok(true), "the full check of what was built");
+        let excess = (random.below(4), random.below(4));
+        builds::build(case, kind, excess, random, &mut Counts::default());
     }
 }
 

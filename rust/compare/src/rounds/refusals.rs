@@ -1,0 +1,59 @@
+//! Refusals of the builds, the full checks and the fresh run: one fault, two at once, or any set of them. The first one
+//! in the order of the checks wins. Nothing lent may change and nothing may be told.
+
+use super::any_case;
+use crate::calls::{self, Kind, KINDS};
+use crate::counts::Counts;
+use crate::faults::{Input, BUILD_CHECKS, FRESH_CHECKS};
+use crate::inputs::Case;
+use crate::random::Random;
+
+pub fn round(random: &mut Random, counts: &mut Counts) {
+    let case = any_case(random);
+    for pick in [any_two, any_set] {
+        for kind in KINDS {
+            let faults = pick(&BUILD_CHECKS, random);
+            build_and_check(&case, kind, &faults, random, counts);
+        }
+        let faults = pick(&FRESH_CHECKS, random);
+        fresh_run(&case, &faults, random, counts);
+    }
+}
+
+/// One check, or two of them.
+pub fn any_two(checks: &[u32], random: &mut Random) -> Vec<u32> {
+    let (first, second) = (random.below(checks.len()), random.below(checks.len()));
+    [first.min(second), first.max(second)].map(|at| checks[at]).to_vec()
+}
+
+/// Some of the checks, or none.
+pub fn any_set(checks: &[u32], random: &mut Random) -> Vec<u32> {
+    checks.iter().copied().filter(|_| random.below(4) == 0).collect()
+}
+
+/// A build and a full check with these faults, which stand in the order of the checks: both give the first.
+pub fn build_and_check(case: &Case, kind: Kind, faults: &[u32], random: &mut Random, counts: &mut Counts) {
+    let mut input = Input::new(case, kind, random);
+    input.lay(faults, random);
+    let lens = (input.numbers_len, input.bytes_len);
+    let wanted = faults.first().copied();
+    let built = calls::build(kind, &input.plan, &input.table, lens, random);
+    assert_eq!(built.err(), wanted, "the build of {:?} with {:?}", kind, faults);
+    let (numbers, bytes) = (random.numbers(lens.0), random.bytes(lens.1));
+    let checked = calls::check(kind, &input.plan, &input.table, &numbers, &bytes, random);
+    assert_eq!(checked.err(), wanted, "the full check of {:?} with {:?}", kind, faults);
+    counts.add(format!("{:?}: build and full check, {}", kind, named(wanted)));
+}
+
+pub fn fresh_run(case: &Case, faults: &[u32], random: &mut Random, counts: &mut Counts) {
+    let mut input = Input::new(case, Kind::Rules, random);
+    input.lay(faults, random);
+    let told = calls::fresh_run(&input.plan, &input.table, &input.nodes, &input.labels, random);
+    let wanted = faults.first().copied();
+    assert_eq!(told.err(), wanted, "the fresh run with {:?}", faults);
+    counts.add(format!("fresh run, {}", named(wanted)));
+}
+
+fn named(refusal: Option<u32>) -> String {
+    refusal.map_or("accepted".to_string(), |number| format!("refused {}", number))
+}
