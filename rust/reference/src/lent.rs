@@ -2,6 +2,7 @@
 //! outside the plan, the states or the labels, or a climb doesn't rise". N, S and K are the record's; no header is read.
 
 use crate::climb::{climb, Lent, Links, Move};
+use crate::mistakes::{made, unless, Mistake};
 use crate::panel::{Lends, Sizes};
 use crate::parts::Part;
 use std::collections::BTreeSet;
@@ -40,7 +41,10 @@ impl<'a> View<'a> {
             let x = self.meet(pair[0], pair[1])?;
             if x != pair[1] {
                 let (left, right) = self.children(x)?;
-                wanted.extend([x, left, right]);
+                wanted.insert(x);
+                if !made(Mistake::ChildrenLeftOut) {
+                    wanted.extend([left, right]);
+                }
             }
         }
         Ok(wanted.into_iter().collect())
@@ -78,7 +82,8 @@ impl<'a> View<'a> {
     /// The part of root v after the roots and states handled before it, with the list's labels: the last entry of a
     /// node holds.
     pub fn part(&self, handled: &[(usize, u8)], nodes: &[u16], labels: &[u8], v: usize) -> Result<Part, u32> {
-        let listed = nodes.iter().rposition(|&w| w as usize == v);
+        let [first, last] = [nodes.iter().position(|&w| w as usize == v), nodes.iter().rposition(|&w| w as usize == v)];
+        let listed = unless(Mistake::FirstEntryHolds, last, first);
         let a = listed.map_or(self.labels[v], |at| labels[at]) as usize;
         if self.kinds[v] == 0 {
             let state = self.state(self.leaf[self.label(a)?])?;
@@ -89,6 +94,8 @@ impl<'a> View<'a> {
         let depth = self.links.depth(v) + 1;
         let unmoved = |state: u8| Part { state, links: 0 };
         let (l, r) = match (last_below(left), last_below(right)) {
+            (Some(w), None) | (None, Some(w)) if made(Mistake::ClimbToTheRoot) => return self.climbed(w, depth - 1),
+            (Some(f), Some(_)) if made(Mistake::SiblingFromOldRun) => (unmoved(f.1), unmoved(self.run(right)?)),
             (None, None) => (unmoved(self.run(left)?), unmoved(self.run(right)?)),
             (Some(f), None) => (self.climbed(f, depth)?, unmoved(self.run(right)?)),
             (None, Some(g)) => (unmoved(self.run(left)?), self.climbed(g, depth)?),
@@ -125,10 +132,12 @@ impl<'a> View<'a> {
 
     /// Yes exactly where the mark is 1.
     pub fn accepts(&self, state: u8) -> bool {
-        self.marks[state as usize] == 1
+        let mark = self.marks[state as usize];
+        unless(Mistake::AnyMarkIsYes, mark == 1, mark != 0)
     }
 
     fn rule(&self, p: u8, a: usize, q: u8) -> Result<u8, u32> {
+        let (p, q) = unless(Mistake::ChildrenExchanged, (p, q), (q, p));
         let at = (p as usize * self.sizes.k + self.label(a)?) * self.sizes.s + q as usize;
         self.state(self.inner[at])
     }

@@ -3,6 +3,7 @@
 
 use crate::climb::{climb, Move};
 use crate::formats::Rules;
+use crate::mistakes::{made, Mistake};
 use crate::tree::Tree;
 
 /// What the rule reads: `labels` are the plan's, `changed` those with the changes; `bytes` is a state table.
@@ -40,6 +41,13 @@ impl Given<'_> {
         };
         let (p, q, links) = match (self.highest(members, left), self.highest(members, right)) {
             (None, None) => (self.run(left), self.run(right), 0),
+            (Some(w), None) | (None, Some(w)) if made(Mistake::ClimbToTheRoot) => {
+                let (state, links) = self.climbed(w, state(members, handled, w), self.tree.depth[v]);
+                return Part { state, links };
+            }
+            (Some(_), Some(_)) if made(Mistake::SiblingFromOldRun) => {
+                (state(members, handled, left), self.run(right), 0)
+            }
             // "With members below both children it takes theirs": both children are members
             (Some(_), Some(_)) => (state(members, handled, left), state(members, handled, right), 0),
             (Some(w), None) => {

@@ -108,8 +108,12 @@ impl World<'_> {
         let (case, built) = &self.at_hand[at];
         let mut lent = if exchanged { built.clone() } else { session.usual.clone() };
         while random.below(5) == 0 {
-            // the same again, with another excess, is as often as all others together
-            let kind = if random.below(2) == 0 { Alteration::Excess } else { *random.pick(&ALTERATIONS) };
+            // the same again with another excess is as often as all others together; a clean question may become firm
+            let kind = match random.below(4) {
+                0 | 1 => Alteration::Excess,
+                2 => Alteration::BytesBelow,
+                _ => *random.pick(&ALTERATIONS),
+            };
             kind.lay(&mut lent, case, random);
             if kind == Alteration::Length {
                 break;

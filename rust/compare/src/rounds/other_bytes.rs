@@ -29,15 +29,16 @@ fn altered(lent: &Lent, case: &Case, random: &mut Random) -> Lent {
     other
 }
 
-/// A question whose Start and whose advances are lent other bytes, the same for all or others for each. As many advances
-/// as there are parts, and as many links as on tables as built; the answer may be another.
+/// A question whose advances, and maybe its Start, are lent other bytes, the same for all or others for each. As many
+/// advances as there are parts, and as many links as on tables as built; the answer may be another.
 pub fn ask(case: &Case, lent: &Lent, m: usize, each: bool, random: &mut Random, counts: &mut Counts) {
     let mut panel = Panel::loaded(lent, random);
     let (nodes, labels) = case.list(m, random);
     assert!(matches!(panel.start(lent, &nodes, &labels, random), Answer::Parts(_)));
     let (_, as_built) = panel.finish(lent, random);
     let mut now = altered(lent, case, random);
-    let parts = match panel.start(&now, &nodes, &labels, random) {
+    let at_start = if random.below(2) == 0 { lent } else { &now };
+    let parts = match panel.start(at_start, &nodes, &labels, random) {
         Answer::Parts(parts) => parts,
         other => panic!("a Start on other bytes answered {:?}", other),
     };

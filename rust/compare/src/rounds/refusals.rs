@@ -10,20 +10,28 @@ use crate::random::Random;
 
 pub fn round(random: &mut Random, counts: &mut Counts) {
     let case = any_case(random);
-    for pick in [any_two, any_set] {
-        for kind in KINDS {
-            let faults = pick(&BUILD_CHECKS, random);
+    for kind in KINDS {
+        for faults in neighbours_and_any(&BUILD_CHECKS, random) {
             build_and_check(&case, kind, &faults, random, counts);
         }
-        let faults = pick(&FRESH_CHECKS, random);
+    }
+    for faults in neighbours_and_any(&FRESH_CHECKS, random) {
         fresh_run(&case, &faults, random, counts);
     }
 }
 
+/// Each two checks that are put one after the other; and some sets by chance.
+fn neighbours_and_any(checks: &[u32], random: &mut Random) -> Vec<Vec<u32>> {
+    let mut sets: Vec<Vec<u32>> = checks.windows(2).map(|pair| pair.to_vec()).collect();
+    sets.extend([vec![checks[checks.len() - 1]], any_two(checks, random), any_set(checks, random)]);
+    sets
+}
+
 /// One check, or two of them.
 pub fn any_two(checks: &[u32], random: &mut Random) -> Vec<u32> {
-    let (first, second) = (random.below(checks.len()), random.below(checks.len()));
-    [first.min(second), first.max(second)].map(|at| checks[at]).to_vec()
+    let first = random.below(checks.len());
+    let second = random.between(first, checks.len() - 1);
+    [checks[first], checks[second]].to_vec()
 }
 
 /// Some of the checks, or none.
