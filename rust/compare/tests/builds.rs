@@ -1,12 +1,12 @@
 //! Builds of rule tables and of branch tables: every number and byte that is written, for trees of every shape and
 //! size. Each build is followed by full checks, which must say yes, also with another excess.
 
-use compare::calls::{self, Kind, KINDS};
+use compare::calls::KINDS;
 use compare::counts::Counts;
 use compare::inputs::Case;
 use compare::random::Random;
 use compare::rounds::builds;
-use compare::shapes::{self, DEEPEST, SHAPES};
+use compare::shapes::{self, SHAPES};
 
 /// Builds both tables of a case in buffers a little too long, or not.
 fn build_both(case: &Case, random: &mut Random) {
@@ -63,17 +63,5 @@ fn the_largest_plans_of_every_shape() {
             assert_eq!(case.n, 2 * leaves - 1);
             build_both(&case, random);
         }
-    }
-}
-
-#[test]
-fn the_greatest_depth() {
-    let random = &mut Random::new(105);
-    for shape in DEEPEST {
-        let case = Case::new(shape, 32_768, 3, 4, random);
-        let (numbers, _) =
-            calls::build(Kind::Rules, &case.plan, &case.rules, (case.numbers_len(), case.bytes_len()), random).unwrap();
-        let deepest = numbers.chunks(4).map(|row| row[2]).max();
-        assert_eq!((case.n, deepest), (65_535, Some(32_767)));
     }
 }

@@ -123,7 +123,7 @@ fn limits_of_the_counts() {
     assert_eq!(build(&leaf(2), &rules, random), 5);
     assert_eq!(build(&leaf(65_535), &rules, random), 5);
     assert_eq!(build(&leaf(65_536), &rules, random), 3);
-    for (s, k, number) in [(16, 64, 0), (17, 64, 7), (16, 65, 7), (0, 1, 7), (1, 0, 7), (1, 1, 0), (17, 65, 7)] {
+    for (s, k, number) in [(0, 1, 7), (1, 0, 7), (1, 1, 0)] {
         let table = inputs::rules(s, k, &vec![0; k], &vec![0; s * k * s], &vec![0; s]);
         assert_eq!(build(&leaf(1), &table, random), number, "S {} and K {}", s, k);
         let table = inputs::branch(s, k, &vec![0; s * k], &vec![0; s]);

@@ -84,20 +84,3 @@ fn the_answer_stays_until_a_start_is_accepted() {
         assert_eq!((record.states, record.links, record.yes), (vec![], 0, false));
     }
 }
-
-/// S 16 is loaded, S 17 is not; nor is K 65.
-#[test]
-fn limits_of_the_counts() {
-    let random = &mut Random::new(1706);
-    for (s, k, wanted) in [
-        (16, 64, Answer::Accepted),
-        (17, 64, Answer::Refused(7)),
-        (16, 65, Answer::Refused(7)),
-        (1, 1, Answer::Accepted),
-    ] {
-        let rules = compare::inputs::rules(s, k, &vec![0; k], &vec![0; s * k * s], &vec![0; s]);
-        let plan = compare::inputs::plan(&[0], &[0]);
-        let lent = Lent { plan, rules, numbers: vec![0; 4], bytes: vec![0; 18] };
-        assert_eq!(sides::call(&[0; 967], &Call::Load(lent.lends()), random).answer, wanted);
-    }
-}
