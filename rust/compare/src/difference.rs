@@ -1,7 +1,7 @@
 //! A comparison panics where it finds a difference; here the panic is caught, and nothing is printed.
 
 use crate::trace;
-use std::cell::RefCell;
+use std::cell::{Cell, RefCell};
 use std::panic::{self, AssertUnwindSafe};
 use std::sync::Once;
 
@@ -14,17 +14,17 @@ pub struct Difference {
 }
 
 thread_local! {
-    static CATCHING: RefCell<bool> = RefCell::new(false);
-    static FOUND: RefCell<Option<(String, String)>> = RefCell::new(None);
+    static CATCHING: Cell<bool> = const { Cell::new(false) };
+    static FOUND: RefCell<Option<(String, String)>> = const { RefCell::new(None) };
 }
 
 /// The first difference that a comparison finds, if any.
 pub fn first(comparison: impl FnOnce()) -> Option<Difference> {
     keep_panics();
     trace::take();
-    CATCHING.with(|catching| catching.replace(true));
+    CATCHING.with(|catching| catching.set(true));
     let done = panic::catch_unwind(AssertUnwindSafe(comparison));
-    CATCHING.with(|catching| catching.replace(false));
+    CATCHING.with(|catching| catching.set(false));
     let (what, at) = FOUND.with(|found| found.take()).filter(|_| done.is_err())?;
     Some(Difference { what, at, case: trace::take() })
 }
@@ -35,7 +35,7 @@ fn keep_panics() {
     ONCE.call_once(|| {
         let usual = panic::take_hook();
         panic::set_hook(Box::new(move |info| {
-            if !CATCHING.with(|catching| *catching.borrow()) {
+            if !CATCHING.with(Cell::get) {
                 return usual(info);
             }
             let payload = info.payload();

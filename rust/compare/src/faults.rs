@@ -4,6 +4,7 @@
 use crate::calls::Kind;
 use crate::inputs::Case;
 use crate::random::Random;
+use crate::trace;
 
 /// The checks of the builds and of the full checks, in their order.
 pub const BUILD_CHECKS: [u32; 10] = [2, 3, 4, 5, 6, 7, 8, 9, 10, 11];
@@ -51,6 +52,7 @@ impl Input {
         let mut falling = checks.to_vec();
         falling.sort_by(|a, b| b.cmp(a));
         falling.dedup();
+        trace::say(format!("faults {:?}", checks));
         for check in falling {
             self.lay_one(check, random);
         }

@@ -10,7 +10,7 @@ use std::time::{Duration, Instant};
 const USAGE: &str = "usage: compare [--seed S] [--seconds T]";
 /// Without --seed and --seconds.
 const SEED: u64 = 1;
-const ROUNDS_ALONE: u64 = 1_500;
+const ROUNDS_ALONE: u64 = 1_000;
 /// Between two lines of progress.
 const PAUSE: Duration = Duration::from_secs(10);
 
@@ -38,7 +38,7 @@ fn main() {
     let mut counts: Vec<Counts> = ROUNDS.iter().map(|_| Counts::default()).collect();
     let mut told = begun;
     let mut rounds = 0;
-    while seconds.map_or(rounds < ROUNDS_ALONE, |limit| begun.elapsed() < Duration::from_secs(limit)) {
+    while rounds == 0 || seconds.map_or(rounds < ROUNDS_ALONE, |limit| begun.elapsed() < Duration::from_secs(limit)) {
         let own = seed.wrapping_add(rounds);
         for (round, counts) in ROUNDS.iter().zip(&mut counts) {
             if let Some(difference) = round.run(own, counts) {

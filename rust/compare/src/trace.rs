@@ -10,7 +10,7 @@ const KEPT: usize = 8;
 const SHOWN: usize = 64;
 
 thread_local! {
-    static LINES: RefCell<VecDeque<String>> = RefCell::new(VecDeque::new());
+    static LINES: RefCell<VecDeque<String>> = const { RefCell::new(VecDeque::new()) };
 }
 
 pub fn say(line: String) {

@@ -33,6 +33,7 @@ fn small_plans() {
         "Read told Some(Loose)",
         "Read refused 1 None",
         "18 in a clean question",
+        "18, then restored and still clean",
         "Clean to Firm",
         "Clean to Loose",
         "Firm to Loose",

@@ -48,7 +48,7 @@ pub enum Mistake {
 }
 
 thread_local! {
-    static MADE: Cell<Option<Mistake>> = Cell::new(None);
+    static MADE: Cell<Option<Mistake>> = const { Cell::new(None) };
 }
 
 /// Is this mistake made?

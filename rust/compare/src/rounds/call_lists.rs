@@ -26,7 +26,7 @@ pub fn round(random: &mut Random, counts: &mut Counts) {
 /// A list of so many calls on plans of at most so many leaves.
 pub fn list(calls: usize, most_leaves: usize, random: &mut Random, counts: &mut Counts) {
     let mut world = World { at_hand: plans(most_leaves, random), counts };
-    let first = Session { panel: Panel::default(), now: 0, usual: world.at_hand[0].1.clone() };
+    let first = Session { panel: Panel::default(), now: 0, usual: world.at_hand[0].1.clone(), refused: false };
     let mut sessions = [first.clone(), first];
     let mut at = 0;
     for _ in 0..calls {
@@ -67,6 +67,8 @@ struct Session {
     panel: Panel,
     now: usize,
     usual: Lent,
+    /// Was the last advance refused with 18?
+    refused: bool,
 }
 
 /// What a panel has at hand: some plans with their tables.
@@ -183,9 +185,14 @@ impl World<'_> {
             assert_eq!(after, before);
             self.counts.add("18 in a clean question");
         }
-        if let (Answer::More | Answer::Finished, true) = (answer, before != after) {
+        let accepted = matches!(answer, Answer::More | Answer::Finished);
+        if accepted && before != after {
             self.counts.add(format!("{:?} to {:?}", before.unwrap(), after.unwrap()));
         }
+        if accepted && session.refused && after == Some(Standing::Clean) {
+            self.counts.add("18, then restored and still clean");
+        }
+        session.refused = answer == Answer::Refused(18);
     }
 
     /// A call on an altered copy of the record: it gets 1 where the bytes break the layout. The session goes on without.

@@ -11,6 +11,7 @@ use crate::panel::{Lent, Panel};
 use crate::random::Random;
 use crate::shapes::SHAPES;
 use crate::sides;
+use crate::trace;
 use reference::panel::{Answer, Call, Phase};
 
 pub const LOAD_CHECKS: [u32; 11] = [1, 2, 3, 4, 5, 6, 7, 8, 9, 10, 11];
@@ -124,6 +125,7 @@ impl Scene {
 
     /// Lays the faults of Start or advance, the last checks first.
     fn lay(&mut self, faults: &[u32], random: &mut Random) {
+        trace::say(format!("faults {:?}", faults));
         let Case { n, k, .. } = self.case;
         let has = |number: u32| faults.contains(&number);
         if has(18) {
