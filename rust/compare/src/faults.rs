@@ -70,11 +70,7 @@ impl Input {
             9 => self.entry(random),
             10 => self.plan[12 + random.below(self.n)] = random.between(self.k, 255) as u8,
             11 => self.buffers(random),
-            12 => self.list_length(random),
-            13 => *pick_mut(&mut self.nodes, random) = random.between(self.n, 65_535) as u16,
-            14 => *pick_mut(&mut self.labels, random) = random.between(self.k, 255) as u8,
-            15 => self.node_twice(random),
-            _ => panic!("no fault for {}", check),
+            _ => lay_on_list(check, &mut self.nodes, &mut self.labels, (self.n, self.k), random),
         }
     }
 
@@ -147,27 +143,35 @@ impl Input {
             self.bytes_len = shorter(bytes, random);
         }
     }
+}
 
-    fn list_length(&mut self, random: &mut Random) {
-        match random.below(3) {
-            0 => self.nodes.push(0),
-            1 => self.labels.push(0),
+/// Lays a fault of 12 to 15 on a list that names some nodes of a plan with N nodes, for K labels.
+pub fn lay_on_list(
+    check: u32,
+    nodes: &mut Vec<u16>,
+    labels: &mut Vec<u8>,
+    (n, k): (usize, usize),
+    random: &mut Random,
+) {
+    match check {
+        12 => match random.below(3) {
+            0 => nodes.push(0),
+            1 => labels.push(0),
             _ => {
-                self.nodes.resize(65, 0);
-                self.labels.resize(65, 0);
+                nodes.resize(65, 0);
+                labels.resize(65, 0);
             }
+        },
+        13 => *pick_mut(nodes, random) = random.between(n, 65_535) as u16,
+        14 => *pick_mut(labels, random) = random.between(k, 255) as u8,
+        15 => {
+            nodes.truncate(63);
+            labels.truncate(63);
+            let (from, to) = (random.below(nodes.len()), random.between(0, nodes.len()));
+            nodes.insert(to, nodes[from]);
+            labels.insert(to, random.below(k) as u8);
         }
-    }
-
-    fn node_twice(&mut self, random: &mut Random) {
-        if self.nodes.len() == 64 {
-            self.nodes.pop();
-            self.labels.pop();
-        }
-        let (from, to) = (random.below(self.nodes.len()), random.between(0, self.nodes.len()));
-        let node = self.nodes[from];
-        self.nodes.insert(to, node);
-        self.labels.insert(to, random.below(self.k) as u8);
+        _ => panic!("no fault for {}", check),
     }
 }
 

@@ -10,10 +10,12 @@ use reference::mistakes::{making, Mistake};
 const SEEDS: std::ops::Range<u64> = 1..201;
 
 /// A mistake, and the rounds that must notice it.
-const NOTICED: [(Mistake, &[&str]); 20] = [
+const NOTICED: [(Mistake, &[&str]); 22] = [
     (Mistake::ChildrenExchanged, &["builds", "fresh runs", "questions", "other bytes", "call lists"]),
     (Mistake::SiblingFromOldRun, &["questions", "other bytes", "damaged lends", "call lists"]),
     (Mistake::ClimbToTheRoot, &["questions", "other bytes", "damaged lends", "call lists"]),
+    (Mistake::OldLabel, &["questions", "other bytes", "damaged lends", "call lists"]),
+    (Mistake::LabelOfTheNode, &["questions", "other bytes", "damaged lends", "call lists"]),
     (Mistake::ChildrenLeftOut, &["questions", "other bytes", "damaged lends", "call lists"]),
     (Mistake::MapsFromTheWrongEnd, &["branch questions", "damaged tables"]),
     (Mistake::WordsUpward, &["builds", "full checks", "branch questions"]),

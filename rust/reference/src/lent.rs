@@ -84,7 +84,8 @@ impl<'a> View<'a> {
     pub fn part(&self, handled: &[(usize, u8)], nodes: &[u16], labels: &[u8], v: usize) -> Result<Part, u32> {
         let [first, last] = [nodes.iter().position(|&w| w as usize == v), nodes.iter().rposition(|&w| w as usize == v)];
         let listed = unless(Mistake::FirstEntryHolds, last, first);
-        let a = listed.map_or(self.labels[v], |at| labels[at]) as usize;
+        let changed = listed.map_or(self.labels[v], |at| labels[at]);
+        let a = unless(Mistake::OldLabel, changed, self.labels[v]) as usize;
         if self.kinds[v] == 0 {
             let state = self.state(self.leaf[self.label(a)?])?;
             return Ok(Part { state, links: 0 });
@@ -120,7 +121,7 @@ impl<'a> View<'a> {
     /// v is the right child where its parent is the next node.
     fn to_parent(&self, v: usize, q: u8) -> Result<u8, u32> {
         let p = self.links.parent(v);
-        let a = self.labels[p] as usize;
+        let a = self.labels[unless(Mistake::LabelOfTheNode, p, v)] as usize;
         if p == v + 1 {
             let left = v.checked_sub(self.links.size(v)).ok_or(18u32)?;
             self.rule(self.run(left)?, a, q)

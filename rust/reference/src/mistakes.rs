@@ -11,6 +11,10 @@ pub enum Mistake {
     SiblingFromOldRun,
     /// "Climbing to the part's root and so applying its old label."
     ClimbToTheRoot,
+    /// A part's own label is taken as it was, not as changed.
+    OldLabel,
+    /// A move to the parent applies the node's own label.
+    LabelOfTheNode,
     /// "Ready set without the children of a branching member."
     ChildrenLeftOut,
     /// "Composing branch maps from the wrong end."

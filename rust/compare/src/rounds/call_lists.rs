@@ -5,10 +5,11 @@
 //! Two sessions go on by turns, over the same plans; now and then one goes back to where the other is.
 
 use super::damaged_records;
+use super::refusals::any_two;
 use crate::alterations::{Alteration, ALTERATIONS};
 use crate::calls::Kind;
 use crate::counts::Counts;
-use crate::faults::{Input, BUILD_CHECKS};
+use crate::faults::{lay_on_list, Input, BUILD_CHECKS};
 use crate::inputs::Case;
 use crate::panel::{Lent, Panel};
 use crate::random::Random;
@@ -130,16 +131,10 @@ impl World<'_> {
         let m = *random.pick(&[0, 1, 2, 3, 5, 9]);
         let (mut nodes, mut labels) = case.list(m, random);
         if random.below(4) == 0 && !nodes.is_empty() {
-            let (i, j) = (random.below(nodes.len()), random.below(nodes.len()));
-            match random.below(5) {
-                0 => nodes[i] = case.n as u16,
-                1 => labels[j] = case.k as u8,
-                2 => nodes.push(nodes[i]),
-                3 => labels.push(0),
-                _ => {
-                    nodes.push(nodes[i]);
-                    labels.push(labels[j]);
-                }
+            let faults = any_two(&[12, 13, 14, 15], random);
+            // the last check first, so that its fault still shows
+            for &check in faults.iter().rev() {
+                lay_on_list(check, &mut nodes, &mut labels, (case.n, case.k), random);
             }
         }
         (nodes, labels)

@@ -5,7 +5,7 @@ use super::refusals::{any_set, any_two};
 use crate::alterations::wrong_length;
 use crate::calls::Kind;
 use crate::counts::Counts;
-use crate::faults::{Input, BUILD_CHECKS};
+use crate::faults::{lay_on_list, Input, BUILD_CHECKS};
 use crate::inputs::Case;
 use crate::panel::{Lent, Panel};
 use crate::random::Random;
@@ -127,37 +127,16 @@ impl Scene {
     fn lay(&mut self, faults: &[u32], random: &mut Random) {
         trace::say(format!("faults {:?}", faults));
         let Case { n, k, .. } = self.case;
-        let has = |number: u32| faults.contains(&number);
-        if has(18) {
+        let has = |number: &u32| faults.contains(number);
+        if has(&18) {
             // no jump leads inside the plan, and no result is a state
             self.lent.numbers.iter_mut().skip(1).step_by(4).for_each(|jump| *jump = u16::MAX);
             self.lent.rules[20..].fill(255);
         }
-        if has(15) {
-            let at = random.between(2, self.nodes.len());
-            let v = self.nodes[random.below(self.nodes.len())];
-            self.nodes.insert(at, v);
-            self.labels.insert(at, random.below(k) as u8);
+        for check in [15, 14, 13, 12].into_iter().filter(has) {
+            lay_on_list(check, &mut self.nodes, &mut self.labels, (n, k), random);
         }
-        if has(14) {
-            let at = random.below(self.labels.len());
-            self.labels[at] = random.between(k, 255) as u8;
-        }
-        if has(13) {
-            let at = random.below(self.nodes.len());
-            self.nodes[at] = random.between(n, 65_535) as u16;
-        }
-        if has(12) {
-            match random.below(3) {
-                0 => self.nodes.push(0),
-                1 => self.labels.push(0),
-                _ => {
-                    self.nodes.resize(65, 0);
-                    self.labels.resize(65, 0);
-                }
-            }
-        }
-        if has(17) {
+        if has(&17) {
             wrong_length(&mut self.lent, &self.case, random.below(6), random);
         }
     }
