@@ -38,7 +38,11 @@ fn main() {
     let mut counts: Vec<Counts> = ROUNDS.iter().map(|_| Counts::default()).collect();
     let mut told = begun;
     let mut rounds = 0;
-    while rounds == 0 || seconds.map_or(rounds < ROUNDS_ALONE, |limit| begun.elapsed() < Duration::from_secs(limit)) {
+    let goes_on = |rounds: u64| match seconds {
+        Some(limit) => rounds == 0 || begun.elapsed() < Duration::from_secs(limit),
+        None => rounds < ROUNDS_ALONE,
+    };
+    while goes_on(rounds) {
         let own = seed.wrapping_add(rounds);
         for (round, counts) in ROUNDS.iter().zip(&mut counts) {
             if let Some(difference) = round.run(own, counts) {
@@ -49,15 +53,18 @@ fn main() {
         rounds += 1;
         if told.elapsed() >= PAUSE {
             told = Instant::now();
-            let cases: usize = counts.iter().map(Counts::total).sum();
-            println!("{} s: {} rounds, {} cases, no difference", begun.elapsed().as_secs(), rounds, cases);
+            println!("{} s: {} rounds, {} cases, no difference", begun.elapsed().as_secs(), rounds, total(&counts));
         }
     }
     for (round, counts) in ROUNDS.iter().zip(&counts) {
         print!("{}: {} cases\n{}", round.name, counts.total(), counts);
     }
-    let cases: usize = counts.iter().map(Counts::total).sum();
-    println!("seed {}: {} rounds, {} cases, no difference, {} s", seed, rounds, cases, begun.elapsed().as_secs());
+    let passed = begun.elapsed().as_secs();
+    println!("seed {}: {} rounds, {} cases, no difference, {} s", seed, rounds, total(&counts), passed);
+}
+
+fn total(counts: &[Counts]) -> usize {
+    counts.iter().map(Counts::total).sum()
 }
 
 fn tell(seed: u64, round: &Round, difference: &Difference) {
