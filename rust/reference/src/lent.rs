@@ -79,13 +79,9 @@ impl<'a> View<'a> {
         Ok((left, right))
     }
 
-    /// The part of root v after the roots and states handled before it, with the list's labels: the last entry of a
-    /// node holds.
+    /// The part of root v after the roots and states handled before it, with the list's labels.
     pub fn part(&self, handled: &[(usize, u8)], nodes: &[u16], labels: &[u8], v: usize) -> Result<Part, u32> {
-        let [first, last] = [nodes.iter().position(|&w| w as usize == v), nodes.iter().rposition(|&w| w as usize == v)];
-        let listed = unless(Mistake::FirstEntryHolds, last, first);
-        let changed = listed.map_or(self.labels[v], |at| labels[at]);
-        let a = unless(Mistake::OldLabel, changed, self.labels[v]) as usize;
+        let a = self.own_label(nodes, labels, v) as usize;
         if self.kinds[v] == 0 {
             let state = self.state(self.leaf[self.label(a)?])?;
             return Ok(Part { state, links: 0 });
@@ -103,6 +99,13 @@ impl<'a> View<'a> {
             (Some(f), Some(g)) => (unmoved(f.1), unmoved(g.1)),
         };
         Ok(Part { state: self.rule(l.state, a, r.state)?, links: l.links + r.links })
+    }
+
+    /// "v's own label, as changed": the last entry of a node holds.
+    fn own_label(&self, nodes: &[u16], labels: &[u8], v: usize) -> u8 {
+        let entries: Vec<u8> = nodes.iter().zip(labels).filter(|(&w, _)| w as usize == v).map(|(_, &a)| a).collect();
+        let entry = unless(Mistake::FirstEntryHolds, entries.last(), entries.first());
+        unless(Mistake::OldLabel, entry, None).copied().unwrap_or(self.labels[v])
     }
 
     /// The climb from a root and its state to a depth.

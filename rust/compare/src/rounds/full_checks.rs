@@ -34,17 +34,24 @@ pub fn single_entry(built: &Built, random: &mut Random, counts: &mut Counts) {
         0 => "a leaf",
         _ => "another node",
     };
-    let (entry, at) = (random.below(6), random.below(s));
-    let [number, byte] = [4 * v + entry % 4, (s + 1) * v + if entry == 4 { 0 } else { 1 + at }];
     let (mut numbers, mut bytes) = (built.numbers.clone(), built.bytes.clone());
-    if entry < 4 {
-        numbers[number] ^= 1 << random.below(16);
-    } else {
-        bytes[byte] ^= 1 << random.below(8);
-    }
-    assert!(!says(built, &numbers, &bytes, random), "an altered entry of {}", node);
+    let entry = match random.below(6) {
+        at @ 0..=3 => {
+            numbers[4 * v + at] ^= 1 << random.below(16);
+            ["parent", "jump", "depth", "size"][at]
+        }
+        4 => {
+            bytes[(s + 1) * v] ^= 1 << random.below(8);
+            "state"
+        }
+        _ => {
+            bytes[(s + 1) * v + random.between(1, s)] ^= 1 << random.below(8);
+            "map"
+        }
+    };
+    assert!(!says(built, &numbers, &bytes, random), "{} of {} altered", entry, node);
     assert!(says(built, &built.numbers, &built.bytes, random));
-    counts.add(format!("no: {} of {}", ["parent", "jump", "depth", "size", "state", "map"][entry], node));
+    counts.add(format!("no: {} of {}", entry, node));
 }
 
 /// Tables that fit together entry by entry, from another start at the root.
