@@ -61,7 +61,11 @@ impl Input {
     fn lay_one(&mut self, check: u32, random: &mut Random) {
         match check {
             2 => self.plan.truncate(*random.pick(&[0, 1, 4, 11])),
-            3 => put(&mut self.plan, 0, *random.pick(&[0, 65_536, 65_536 + self.n, 1 << 31, u32::MAX as usize])),
+            3 => put(
+                &mut self.plan,
+                0,
+                *random.pick(&[0, 65_536, 65_536 + self.n, (1 << 31) + self.n, u32::MAX as usize]),
+            ),
             4 => self.plan_layout(random),
             5 => self.tree(random),
             6 => self.table.truncate(*random.pick(&[0, 1, 7, if self.kind == Kind::Rules { 19 } else { 15 }])),
@@ -103,9 +107,12 @@ impl Input {
     }
 
     fn counts(&mut self, random: &mut Random) {
-        if random.below(2) == 0 {
+        // one of them or both: no product of theirs may be formed
+        let which = random.below(3);
+        if which != 1 {
             put(&mut self.table, 0, *random.pick(&[0, 17, 65_536 + self.s, 1 << 24, u32::MAX as usize]));
-        } else {
+        }
+        if which != 0 {
             put(&mut self.table, 4, *random.pick(&[0, 65, 65_536 + self.k, 1 << 24, u32::MAX as usize]));
         }
     }

@@ -49,6 +49,7 @@ fn every_mistake_is_noticed() {
             let found = first(Some(mistake), name);
             let (seed, difference) = found.unwrap_or_else(|| panic!("{}: {:?} was not noticed", name, mistake));
             println!("{:?}, {}, seed {}: {} ({})", mistake, name, seed, difference.what, difference.at);
+            assert!(!difference.case.is_empty(), "the case is told");
             // by the comparison, not by an accident in the reference implementation
             assert!(difference.at.starts_with("compare/src/"), "{}: {:?}: {:?}", name, mistake, difference);
         }

@@ -38,7 +38,7 @@ pub fn ask(built: &Built, tree: &Tree, upper: u32, lower: u32, random: &mut Rand
 }
 
 /// In how many ways something lent can be cut short, be too long or name a number outside its limits.
-pub const WRONG_LENGTHS: usize = 11;
+pub const WRONG_LENGTHS: usize = 12;
 
 fn wrong_length(built: &Built, way: usize, random: &mut Random) -> Built {
     let case = &built.case;
@@ -56,7 +56,8 @@ fn wrong_length(built: &Built, way: usize, random: &mut Random) -> Built {
         6 => wrong.case.branch.push(0),
         7 => header(&mut wrong.case.branch, 0, *random.pick(&[0, 17, 65_536 + case.s, u32::MAX as usize])),
         8 => header(&mut wrong.case.branch, 4, *random.pick(&[0, 65, 65_536 + case.k, u32::MAX as usize])),
-        9 => wrong.numbers.truncate(shorter(case.numbers_len(), random)),
+        9 => [0, 4].iter().for_each(|&at| header(&mut wrong.case.branch, at, u32::MAX as usize)),
+        10 => wrong.numbers.truncate(shorter(case.numbers_len(), random)),
         _ => wrong.bytes.truncate(shorter(case.bytes_len(), random)),
     }
     wrong
