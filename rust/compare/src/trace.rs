@@ -2,7 +2,6 @@
 
 use crate::inputs::Case;
 use std::cell::RefCell;
-use std::collections::VecDeque;
 
 /// So many lines are kept.
 const KEPT: usize = 8;
@@ -10,16 +9,16 @@ const KEPT: usize = 8;
 const SHOWN: usize = 64;
 
 thread_local! {
-    static LINES: RefCell<VecDeque<String>> = const { RefCell::new(VecDeque::new()) };
+    static LINES: RefCell<Vec<String>> = const { RefCell::new(Vec::new()) };
 }
 
 pub fn say(line: String) {
     LINES.with(|lines| {
         let mut lines = lines.borrow_mut();
-        lines.push_back(line);
-        if lines.len() > KEPT {
-            lines.pop_front();
+        if lines.len() == KEPT {
+            lines.remove(0);
         }
+        lines.push(line);
     });
 }
 
@@ -39,5 +38,5 @@ fn shown(name: &str, bytes: &[u8]) -> String {
 
 /// The lines, which are forgotten then.
 pub fn take() -> Vec<String> {
-    LINES.with(|lines| lines.take().into())
+    LINES.with(RefCell::take)
 }
