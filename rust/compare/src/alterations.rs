@@ -4,6 +4,7 @@ use crate::faults::shorter;
 use crate::inputs::Case;
 use crate::panel::Lent;
 use crate::random::Random;
+use crate::trace;
 
 /// Puts another value at every place that chance hits, one in `share`; at one place at least.
 pub fn damage<T>(list: &mut [T], share: usize, random: &mut Random, mut value: impl FnMut(&mut Random) -> T) {
@@ -56,6 +57,7 @@ impl Alteration {
     pub fn lay(self, lent: &mut Lent, case: &Case, random: &mut Random) {
         let Case { n, s, k, .. } = *case;
         let share = *random.pick(&[2, 10, 50, 1_000]);
+        trace::say(format!("{:?} altered", self));
         match self {
             Alteration::Excess => {
                 let (more_numbers, more_bytes) = (random.below(5), random.below(5));

@@ -6,6 +6,7 @@ use crate::random::Random;
 use reference::formats::read_plan;
 use reference::tree::Tree;
 
+#[derive(Clone)]
 pub struct Built {
     pub kind: Kind,
     pub case: Case,
@@ -19,6 +20,15 @@ impl Built {
         let lens = (case.numbers_len(), case.bytes_len());
         let (numbers, bytes) = calls::build(kind, &case.plan, case.table(kind), lens, random).expect("accepted");
         Built { kind, case, numbers, bytes }
+    }
+
+    /// In longer buffers, with anything behind the tables.
+    pub fn with_excess(kind: Kind, case: Case, random: &mut Random) -> Built {
+        let mut built = Built::new(kind, case, random);
+        let (more_numbers, more_bytes) = (random.below(3), random.below(3));
+        built.numbers.extend(random.numbers(more_numbers));
+        built.bytes.extend(random.bytes(more_bytes));
+        built
     }
 
     pub fn tree(&self) -> Tree {

@@ -4,6 +4,7 @@
 use crate::calls::Kind;
 use crate::inputs::Case;
 use crate::random::Random;
+use crate::trace;
 
 /// The checks of the builds and of the full checks, in their order.
 pub const BUILD_CHECKS: [u32; 10] = [2, 3, 4, 5, 6, 7, 8, 9, 10, 11];
@@ -51,6 +52,7 @@ impl Input {
         let mut falling = checks.to_vec();
         falling.sort_by(|a, b| b.cmp(a));
         falling.dedup();
+        trace::say(format!("faults {:?}", checks));
         for check in falling {
             self.lay_one(check, random);
         }
@@ -59,7 +61,11 @@ impl Input {
     fn lay_one(&mut self, check: u32, random: &mut Random) {
         match check {
             2 => self.plan.truncate(*random.pick(&[0, 1, 4, 11])),
-            3 => put(&mut self.plan, 0, *random.pick(&[0, 65_536, 65_536 + self.n, 1 << 31, u32::MAX as usize])),
+            3 => put(
+                &mut self.plan,
+                0,
+                *random.pick(&[0, 65_536, 65_536 + self.n, (1 << 31) + self.n, u32::MAX as usize]),
+            ),
             4 => self.plan_layout(random),
             5 => self.tree(random),
             6 => self.table.truncate(*random.pick(&[0, 1, 7, if self.kind == Kind::Rules { 19 } else { 15 }])),
@@ -68,11 +74,7 @@ impl Input {
             9 => self.entry(random),
             10 => self.plan[12 + random.below(self.n)] = random.between(self.k, 255) as u8,
             11 => self.buffers(random),
-            12 => self.list_length(random),
-            13 => *pick_mut(&mut self.nodes, random) = random.between(self.n, 65_535) as u16,
-            14 => *pick_mut(&mut self.labels, random) = random.between(self.k, 255) as u8,
-            15 => self.node_twice(random),
-            _ => panic!("no fault for {}", check),
+            _ => lay_on_list(check, &mut self.nodes, &mut self.labels, (self.n, self.k), random),
         }
     }
 
@@ -105,9 +107,12 @@ impl Input {
     }
 
     fn counts(&mut self, random: &mut Random) {
-        if random.below(2) == 0 {
+        // one of them or both: no product of theirs may be formed
+        let which = random.below(3);
+        if which != 1 {
             put(&mut self.table, 0, *random.pick(&[0, 17, 65_536 + self.s, 1 << 24, u32::MAX as usize]));
-        } else {
+        }
+        if which != 0 {
             put(&mut self.table, 4, *random.pick(&[0, 65, 65_536 + self.k, 1 << 24, u32::MAX as usize]));
         }
     }
@@ -145,27 +150,35 @@ impl Input {
             self.bytes_len = shorter(bytes, random);
         }
     }
+}
 
-    fn list_length(&mut self, random: &mut Random) {
-        match random.below(3) {
-            0 => self.nodes.push(0),
-            1 => self.labels.push(0),
+/// Lays a fault of 12 to 15 on a list that names some nodes of a plan with N nodes, for K labels.
+pub fn lay_on_list(
+    check: u32,
+    nodes: &mut Vec<u16>,
+    labels: &mut Vec<u8>,
+    (n, k): (usize, usize),
+    random: &mut Random,
+) {
+    match check {
+        12 => match random.below(3) {
+            0 => nodes.push(0),
+            1 => labels.push(0),
             _ => {
-                self.nodes.resize(65, 0);
-                self.labels.resize(65, 0);
+                nodes.resize(65, 0);
+                labels.resize(65, 0);
             }
+        },
+        13 => *pick_mut(nodes, random) = random.between(n, 65_535) as u16,
+        14 => *pick_mut(labels, random) = random.between(k, 255) as u8,
+        15 => {
+            nodes.truncate(63);
+            labels.truncate(63);
+            let (from, to) = (random.below(nodes.len()), random.between(0, nodes.len()));
+            nodes.insert(to, nodes[from]);
+            labels.insert(to, random.below(k) as u8);
         }
-    }
-
-    fn node_twice(&mut self, random: &mut Random) {
-        if self.nodes.len() == 64 {
-            self.nodes.pop();
-            self.labels.pop();
-        }
-        let (from, to) = (random.below(self.nodes.len()), random.between(0, self.nodes.len()));
-        let node = self.nodes[from];
-        self.nodes.insert(to, node);
-        self.labels.insert(to, random.below(self.k) as u8);
+        _ => panic!("no fault for {}", check),
     }
 }
 

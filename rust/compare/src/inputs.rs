@@ -3,6 +3,7 @@
 use crate::calls::Kind;
 use crate::random::Random;
 use crate::shapes::{kinds, Shape};
+use crate::trace;
 use reference::formats::read_plan;
 use reference::tree::Tree;
 
@@ -95,7 +96,9 @@ impl Case {
         } else {
             (lasting_rules(s, k, random), lasting_branch(s, k, random))
         };
-        Case { n, s, k, plan, rules, branch }
+        let case = Case { n, s, k, plan, rules, branch };
+        trace::say_case(&case);
+        case
     }
 
     pub fn new(shape: Shape, leaves: usize, s: usize, k: usize, random: &mut Random) -> Case {

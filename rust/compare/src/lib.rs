@@ -1,14 +1,21 @@
-//! What the comparison tests share: `random` (a small seeded generator), `shapes` (kinds of trees), `inputs` (plans and
-//! tables as bytes), `calls` (the library's calls with everything lent held to account), `built` (a case with its
-//! tables), `faults` (one for each check); for the session `sides` (its calls, made by every side), `panel` (a record
-//! that passes from call to call, with the book beside it), `alterations` (lends that are not as built).
+//! The library against the reference implementation.
+//!
+//! `random` (a small seeded generator), `shapes` (kinds of trees), `inputs` (plans and tables as bytes), `calls` (the
+//! library's calls with everything lent held to account), `built` (a case with its tables), `faults` (one for each
+//! check); for the session `sides` (its calls, made by every side), `panel` (a record that passes from call to call,
+//! with the book beside it), `alterations` (lends that are not as built); `rounds` (random comparisons of every kind,
+//! for the tests and for the program), `counts` (what came), `difference` and `trace` (what was found, and the case).
 
 pub mod alterations;
 pub mod built;
 pub mod calls;
+pub mod counts;
+pub mod difference;
 pub mod faults;
 pub mod inputs;
 pub mod panel;
 pub mod random;
+pub mod rounds;
 pub mod shapes;
 pub mod sides;
+pub mod trace;

@@ -5,6 +5,7 @@ use crate::calls::Kind;
 use crate::inputs::Case;
 use crate::random::Random;
 use crate::sides;
+use crate::trace;
 use reference::book::{Book, Next};
 use reference::panel::{Answer, Call, Lends, Told};
 use reference::record::Record;
@@ -30,6 +31,7 @@ impl Lent {
     }
 }
 
+#[derive(Clone)]
 pub struct Panel {
     pub record: Vec<u8>,
     pub book: Book,
@@ -57,6 +59,7 @@ impl Panel {
 
     /// A call, held to the reference implementation and to the book.
     pub fn call(&mut self, call: &Call, random: &mut Random) -> Answer {
+        trace::say(told(call));
         let next = self.book.next(call);
         let done = sides::call(&self.record, call, random);
         self.record = done.record;
@@ -101,5 +104,16 @@ impl Panel {
     /// What the record's bytes say.
     pub fn says(&self) -> Record {
         Record::of(&self.record).expect("a valid record")
+    }
+}
+
+/// A call in short.
+fn told(call: &Call) -> String {
+    match call {
+        Call::Load(_) => "Load".to_string(),
+        Call::Start(_, nodes, labels) => format!("Start, nodes {:?}, labels {:?}", nodes, labels),
+        Call::Advance(_) => "advance".to_string(),
+        Call::Cancel => "Cancel".to_string(),
+        Call::Read => "Read".to_string(),
     }
 }

@@ -14,9 +14,9 @@ use reference::tables::Tables;
 type Side = fn(&Call, &mut [u8], &mut [u16], &mut [u8], &mut [u32; 4]) -> u32;
 
 const SIDES: &[(&str, Side)] = &[
-    ("plain Rust", by_plain),
     #[cfg(feature = "session")]
     ("the library", library::call),
+    ("plain Rust", by_plain),
 ];
 
 const MARGIN: usize = 9;

@@ -1,60 +1,98 @@
-//! Table buffers that are too short, exactly long enough and longer: nothing beyond the tables is written, nothing at
-//! all on a refusal, and the full check looks at nothing beyond the tables.
+//! Buffers that are too short, exactly long enough and longer, for every call that is lent some.
 
-use compare::calls::{self, longer, KINDS};
-use compare::faults::shorter;
+use compare::built::Built;
+use compare::calls::{self, longer, Kind, KINDS};
+use compare::counts::Counts;
 use compare::inputs::Case;
+use compare::panel::{Lent, Panel};
 use compare::random::Random;
+use compare::rounds::builds;
+use reference::panel::{Answer, Call};
+
+fn case(turn: usize, random: &mut Random) -> Case {
+    Case::random(if turn % 100 == 0 { 32_768 } else { 60 }, random)
+}
 
 #[test]
 fn short_buffers_get_11() {
-    let random = &mut Random::new(201);
-    for turn in 0..600 {
-        let case = Case::random(if turn % 100 == 0 { 32_768 } else { 60 }, random);
+    let (random, counts) = (&mut Random::new(201), &mut Counts::default());
+    for turn in 0..400 {
         let kind = *random.pick(&KINDS);
-        let (numbers, bytes) = (case.numbers_len(), case.bytes_len());
-        let (few_numbers, few_bytes) = (shorter(numbers, random), shorter(bytes, random));
-        for lens in [(few_numbers, bytes), (numbers, few_bytes), (few_numbers, few_bytes), (few_numbers, bytes + 5)] {
-            let refused = calls::build(kind, &case.plan, case.table(kind), lens, random);
-            assert_eq!(refused.err(), Some(11));
-        }
+        builds::too_short(&case(turn, random), kind, random, counts);
     }
+    assert!(KINDS.iter().all(|kind: &Kind| counts.of(&format!("{:?} refused 11", kind)) > 700), "{}", counts);
 }
 
 #[test]
 fn exact_and_longer_buffers_are_accepted() {
-    let random = &mut Random::new(202);
-    for turn in 0..400 {
-        let case = Case::random(if turn % 100 == 0 { 32_768 } else { 60 }, random);
-        let kind = *random.pick(&KINDS);
-        let (numbers, bytes) = (case.numbers_len(), case.bytes_len());
-        for (more_numbers, more_bytes) in [(0, 0), (0, 1), (1, 0), (random.below(500), random.below(500))] {
-            let lens = (numbers + more_numbers, bytes + more_bytes);
-            calls::build(kind, &case.plan, case.table(kind), lens, random).expect("accepted");
+    let (random, counts) = (&mut Random::new(202), &mut Counts::default());
+    for turn in 0..300 {
+        let (case, kind) = (case(turn, random), *random.pick(&KINDS));
+        for excess in [(0, 0), (0, 1), (1, 0), (random.below(500), random.below(500))] {
+            builds::build(&case, kind, excess, random, counts);
         }
     }
 }
 
+/// Another length by so many: one too few, exactly enough, or any excess.
+fn resized<T: Clone>(table: &[T], by: isize, excess: Vec<T>) -> Vec<T> {
+    longer(&table[..(table.len() as isize + by.min(0)) as usize], excess)
+}
+
+const SHORT: [(isize, isize); 5] = [(-1, 0), (0, -1), (-1, -1), (-1, 9), (9, -1)];
+const ENOUGH: [(isize, isize); 4] = [(0, 0), (1, 0), (0, 1), (9, 9)];
+
+fn both_resized(numbers: &[u16], bytes: &[u8], by: (isize, isize), random: &mut Random) -> (Vec<u16>, Vec<u8>) {
+    let more = (by.0.max(0) as usize, by.1.max(0) as usize);
+    (resized(numbers, by.0, random.numbers(more.0)), resized(bytes, by.1, random.bytes(more.1)))
+}
+
+fn lent_resized(lent: &Lent, by: (isize, isize), random: &mut Random) -> Lent {
+    let (numbers, bytes) = both_resized(&lent.numbers, &lent.bytes, by, random);
+    Lent { plan: lent.plan.clone(), rules: lent.rules.clone(), numbers, bytes }
+}
+
+/// Load gets 11, Start and advance 17, and a whole question goes on with any excess.
 #[test]
-fn a_full_check_of_short_tables_gets_11_and_excess_is_free() {
+fn session_calls() {
     let random = &mut Random::new(203);
-    for _ in 0..400 {
-        let case = Case::random(60, random);
-        let kind = *random.pick(&KINDS);
-        let table = case.table(kind);
-        let lens = (case.numbers_len(), case.bytes_len());
-        let (numbers, bytes) = calls::build(kind, &case.plan, table, lens, random).expect("accepted");
-        let fewer_numbers = &numbers[..shorter(lens.0, random)];
-        let fewer_bytes = &bytes[..shorter(lens.1, random)];
-        for (numbers, bytes) in [(fewer_numbers, &bytes[..]), (&numbers[..], fewer_bytes), (fewer_numbers, fewer_bytes)]
-        {
-            assert_eq!(calls::check(kind, &case.plan, table, numbers, bytes, random), Err(11));
+    for turn in 0..150 {
+        let case = Case::random(if turn % 50 == 0 { 5_000 } else { 40 }, random);
+        let lent = Lent::built(&case, random);
+        let short = SHORT.map(|by| lent_resized(&lent, by, random));
+        let mut panel = Panel::default();
+        let (nodes, labels) = case.list(3, random);
+        for short in &short {
+            assert_eq!(panel.call(&Call::Load(short.lends()), random), Answer::Refused(11));
         }
-        let (more_numbers, more_bytes) = (random.between(1, 9), random.between(1, 9));
-        let long_numbers = longer(&numbers, random.numbers(more_numbers));
-        let long_bytes = longer(&bytes, random.bytes(more_bytes));
-        for (numbers, bytes) in [(&long_numbers, &bytes), (&numbers, &long_bytes), (&long_numbers, &long_bytes)] {
-            assert_eq!(calls::check(kind, &case.plan, table, numbers, bytes, random), Ok(true));
+        for by in ENOUGH {
+            let long = lent_resized(&lent, by, random);
+            assert_eq!(panel.call(&Call::Load(long.lends()), random), Answer::Accepted);
+            for short in &short {
+                assert_eq!(panel.start(short, &nodes, &labels, random), Answer::Refused(17));
+            }
+            assert!(matches!(panel.start(&long, &nodes, &labels, random), Answer::Parts(_)));
+            for short in &short {
+                assert_eq!(panel.advance(short, random), Answer::Refused(17));
+            }
+            panel.finish(&lent_resized(&lent, (by.1, by.0), random), random);
+            assert_eq!(panel.left, 0, "all of it is settled");
+        }
+    }
+}
+
+/// A branch question gets 17, and excess is nothing to it.
+#[test]
+fn branch_questions() {
+    let random = &mut Random::new(204);
+    for _ in 0..300 {
+        let built = Built::new(Kind::Branch, Case::random(40, random), random);
+        let (lower, upper) = built.pair(&built.tree(), random);
+        let told = calls::branch(built.lent(), upper, lower, random).expect("accepted");
+        for (by, wanted) in SHORT.map(|by| (by, Err(17))).into_iter().chain(ENOUGH.map(|by| (by, Ok(told)))) {
+            let (numbers, bytes) = both_resized(&built.numbers, &built.bytes, by, random);
+            let lent = calls::Lent { numbers: &numbers, bytes: &bytes, ..built.lent() };
+            assert_eq!(calls::branch(lent, upper, lower, random), wanted);
         }
     }
 }

@@ -1,19 +1,18 @@
 //! Builds of rule tables and of branch tables: every number and byte that is written, for trees of every shape and
-//! size. Each build is followed by a full check, which must say yes, also with excess.
+//! size. Each build is followed by full checks, which must say yes, also with another excess.
 
-use compare::calls::{self, Kind, KINDS};
+use compare::calls::KINDS;
+use compare::counts::Counts;
 use compare::inputs::Case;
 use compare::random::Random;
-use compare::shapes::{self, DEEPEST, SHAPES};
+use compare::rounds::builds;
+use compare::shapes::{self, SHAPES};
 
-/// Builds both tables of a case in buffers a little too long, and checks what came out.
+/// Builds both tables of a case in buffers a little too long, or not.
 fn build_both(case: &Case, random: &mut Random) {
     for kind in KINDS {
-        let table = case.table(kind);
-        let lens = (case.numbers_len() + random.below(4), case.bytes_len() + random.below(4));
-        let (numbers, bytes) = calls::build(kind, &case.plan, table, lens, random).expect("accepted");
-        let yes = calls::library_check(kind, &case.plan, table, &numbers, &bytes, random);
-        assert_eq!(yes, Ok(true), "the full check of what was built");
+        let excess = (random.below(4), random.below(4));
+        builds::build(case, kind, excess, random, &mut Counts::default());
     }
 }
 
@@ -64,17 +63,5 @@ fn the_largest_plans_of_every_shape() {
             assert_eq!(case.n, 2 * leaves - 1);
             build_both(&case, random);
         }
-    }
-}
-
-#[test]
-fn the_greatest_depth() {
-    let random = &mut Random::new(105);
-    for shape in DEEPEST {
-        let case = Case::new(shape, 32_768, 3, 4, random);
-        let (numbers, _) =
-            calls::build(Kind::Rules, &case.plan, &case.rules, (case.numbers_len(), case.bytes_len()), random).unwrap();
-        let deepest = numbers.chunks(4).map(|row| row[2]).max();
-        assert_eq!((case.n, deepest), (65_535, Some(32_767)));
     }
 }

@@ -1,190 +1,20 @@
-//! Whole lists of calls, as chance has them, from a fresh record: refused calls, exchanged plans, altered lends, short
-//! and long buffers. Every answer is held to the reference implementation on the record's bytes, and to the book, which
-//! never sees the record.
+//! Whole lists of calls, held to the reference implementation and to the book.
 
-use compare::alterations::{Alteration, ALTERATIONS};
-use compare::calls::Kind;
-use compare::faults::{Input, BUILD_CHECKS};
+use compare::counts::Counts;
 use compare::inputs::Case;
 use compare::panel::{Lent, Panel};
 use compare::random::Random;
-use compare::shapes::{kinds, SHAPES};
+use compare::rounds::call_lists::{list, same_sizes};
+use compare::shapes::SHAPES;
 use reference::book::{Next, Standing};
-use reference::panel::{Answer, Call, Phase};
-use std::collections::BTreeMap;
-
-/// What a panel has at hand: some plans with their tables. The first few have the same N, S and K; the last has the
-/// same lengths as the first, where there are such.
-struct World {
-    at_hand: Vec<(Case, Lent)>,
-    /// Which of them the last Load or Start was about, and what is lent usually since then.
-    now: usize,
-    usual: Lent,
-    counts: BTreeMap<String, usize>,
-}
-
-impl World {
-    fn new(most_leaves: usize, random: &mut Random) -> World {
-        let (leaves, s, k) = (random.between(1, most_leaves), random.between(1, 5), random.between(1, 5));
-        let (s, k) = if random.below(4) == 0 { (1, 3) } else { (s, k) };
-        let mut cases: Vec<Case> = (0..3).map(|_| same_sizes(leaves, s, k, random)).collect();
-        if (s, k) == (1, 3) {
-            // 27 bytes of rules, too
-            cases.push(same_sizes(leaves, 2, 1, random));
-        }
-        let other = random.between(1, most_leaves);
-        cases.push(same_sizes(other, random.between(1, 16), random.between(1, 64), random));
-        let at_hand: Vec<_> = cases.into_iter().map(|case| (case.clone(), Lent::built(&case, random))).collect();
-        World { now: 0, usual: at_hand[0].1.clone(), at_hand, counts: BTreeMap::new() }
-    }
-
-    fn count(&mut self, what: String) {
-        *self.counts.entry(what).or_default() += 1;
-    }
-
-    /// What is lent with a Start or an advance: mostly what was lent before, now and then another plan, or altered.
-    fn lent(&mut self, random: &mut Random) -> (usize, Lent) {
-        let exchanged = random.below(12) == 0;
-        let at = if exchanged { random.below(self.at_hand.len()) } else { self.now };
-        let (case, built) = &self.at_hand[at];
-        let mut lent = if exchanged { built.clone() } else { self.usual.clone() };
-        while random.below(5) == 0 {
-            // the same again, with another excess, is as often as all others together
-            let kind = if random.below(2) == 0 { Alteration::Excess } else { *random.pick(&ALTERATIONS) };
-            kind.lay(&mut lent, case, random);
-            if kind == Alteration::Length {
-                break;
-            }
-        }
-        (at, lent)
-    }
-
-    /// A list, now and then with one or two faults of 12 to 15.
-    fn list(&self, at: usize, random: &mut Random) -> (Vec<u16>, Vec<u8>) {
-        let case = &self.at_hand[at].0;
-        let m = *random.pick(&[0, 1, 2, 3, 5, 9]);
-        let (mut nodes, mut labels) = case.list(m, random);
-        if random.below(4) == 0 && !nodes.is_empty() {
-            let (i, j) = (random.below(nodes.len()), random.below(nodes.len()));
-            match random.below(5) {
-                0 => nodes[i] = case.n as u16,
-                1 => labels[j] = case.k as u8,
-                2 => nodes.push(nodes[i]),
-                3 => labels.push(0),
-                _ => {
-                    nodes.push(nodes[i]);
-                    labels.push(labels[j]);
-                }
-            }
-        }
-        (nodes, labels)
-    }
-
-    fn load(&mut self, panel: &mut Panel, random: &mut Random) {
-        let at = random.below(self.at_hand.len());
-        let (case, built) = &self.at_hand[at];
-        let mut input = Input::new(case, Kind::Rules, random);
-        if random.below(3) == 0 {
-            let faults = [*random.pick(&BUILD_CHECKS), *random.pick(&BUILD_CHECKS)];
-            input.lay(&faults[random.below(2)..], random);
-        }
-        let (numbers, bytes) = (random.numbers(input.numbers_len), random.bytes(input.bytes_len));
-        let lent = Lent { plan: input.plan, rules: input.table, numbers, bytes };
-        let answer = panel.call(&Call::Load(lent.lends()), random);
-        if answer == Answer::Accepted {
-            // what Load wrote
-            self.usual = built.clone();
-            self.now = at;
-        }
-        self.count(format!("Load {}", name(answer)));
-    }
-
-    fn start(&mut self, panel: &mut Panel, random: &mut Random) {
-        let (at, lent) = self.lent(random);
-        let (nodes, labels) = self.list(at, random);
-        let answer = panel.start(&lent, &nodes, &labels, random);
-        if let Answer::Parts(_) = answer {
-            self.now = at;
-            self.usual = if random.below(4) > 0 { lent } else { self.at_hand[at].1.clone() };
-        }
-        self.count(format!("Start {}", name(answer)));
-    }
-
-    fn advance(&mut self, panel: &mut Panel, random: &mut Random) {
-        let before = panel.book.standing();
-        let (_, lent) = self.lent(random);
-        let answer = panel.advance(&lent, random);
-        self.count(format!("advance {}", name(answer)));
-        if (before, answer) == (Some(Standing::Clean), Answer::Refused(18)) {
-            assert_eq!(panel.book.standing(), before);
-            self.count("18 in a clean question".to_string());
-        }
-        if let (Answer::More | Answer::Finished, true) = (answer, before != panel.book.standing()) {
-            self.count(format!("{:?} to {:?}", before.unwrap(), panel.book.standing().unwrap()));
-        }
-    }
-
-    /// A call, mostly one that the state allows.
-    fn turn(&mut self, panel: &mut Panel, random: &mut Random) {
-        let usual = match panel.book.phase() {
-            Phase::Empty => 0,
-            Phase::Loaded => 1,
-            Phase::Running => 2,
-            Phase::Answered => *random.pick(&[4, 1]),
-        };
-        match if random.below(8) == 0 { random.below(5) } else { usual } {
-            0 => self.load(panel, random),
-            1 => self.start(panel, random),
-            2 => self.advance(panel, random),
-            3 => {
-                let answer = panel.call(&Call::Cancel, random);
-                self.count(format!("Cancel {}", name(answer)));
-            }
-            _ => {
-                let answer = panel.call(&Call::Read, random);
-                let standing = panel.book.standing().filter(|_| matches!(answer, Answer::Told(_)));
-                self.count(format!("Read {} {:?}", name(answer), standing));
-            }
-        }
-    }
-}
-
-fn same_sizes(leaves: usize, s: usize, k: usize, random: &mut Random) -> Case {
-    let shape = *random.pick(&SHAPES);
-    Case::of_kinds(&kinds(shape, leaves, random), s, k, random)
-}
-
-fn name(answer: Answer) -> String {
-    match answer {
-        Answer::Refused(number) => format!("refused {}", number),
-        Answer::Parts(_) => "parts".to_string(),
-        Answer::Told(_) => "told".to_string(),
-        other => format!("{:?}", other),
-    }
-}
-
-/// All that came, in worlds of many sizes.
-fn run(worlds: usize, turns: usize, most_leaves: usize, seed: u64) -> BTreeMap<String, usize> {
-    let random = &mut Random::new(seed);
-    let mut counts = BTreeMap::new();
-    for _ in 0..worlds {
-        let mut world = World::new(most_leaves, random);
-        let mut panel = Panel::default();
-        for _ in 0..turns {
-            world.turn(&mut panel, random);
-        }
-        for (what, count) in world.counts {
-            *counts.entry(what).or_default() += count;
-        }
-        *counts.entry("settled".to_string()).or_default() += panel.settled;
-        *counts.entry("left".to_string()).or_default() += panel.left;
-    }
-    counts
-}
+use reference::panel::{Answer, Call};
 
 #[test]
 fn small_plans() {
-    let counts = run(700, 150, 20, 1501);
+    let (random, counts) = (&mut Random::new(1501), &mut Counts::default());
+    for _ in 0..700 {
+        list(150, 20, random, counts);
+    }
     // everything that a session can answer came, and each often enough
     let wanted: Vec<String> = [1, 17, 12, 13, 14, 15, 18].iter().map(|n| format!("Start refused {}", n)).collect();
     let loads = (1..=11).map(|n| format!("Load refused {}", n));
@@ -203,21 +33,26 @@ fn small_plans() {
         "Read told Some(Loose)",
         "Read refused 1 None",
         "18 in a clean question",
+        "18, then restored and still clean",
         "Clean to Firm",
         "Clean to Loose",
         "Firm to Loose",
-        "settled",
-        "left",
+        "broken record refused 1",
+        "altered record, still a session's",
+        "a session goes back to where the other is",
     ];
     for what in wanted.into_iter().chain(loads).chain(others.map(String::from)) {
-        assert!(counts.get(&what).copied().unwrap_or(0) >= 20, "{}: {:#?}", what, counts);
+        assert!(counts.of(&what) >= 20, "{}:\n{}", what, counts);
     }
 }
 
 #[test]
 fn larger_plans() {
-    let counts = run(12, 150, 3_000, 1502);
-    assert!(counts["Read told Some(Clean)"] > 10, "{:#?}", counts);
+    let (random, counts) = (&mut Random::new(1502), &mut Counts::default());
+    for _ in 0..12 {
+        list(150, 3_000, random, counts);
+    }
+    assert!(counts.of("Read told Some(Clean)") > 10, "{}", counts);
 }
 
 /// "it may lend what Load wrote", and an exchanged plan with its own tables is as sound: Start's plan is asked.

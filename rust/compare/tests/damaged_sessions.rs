@@ -1,105 +1,44 @@
 //! Sessions on lends that are not as built: numbers, bytes, labels, kinds, headers and rules with other values. Every
 //! answer and every record is the reference's, which follows the lent values and gives 18 where one leads outside.
 
-use compare::alterations::{wrong_length, Alteration, ALTERATIONS};
+use compare::alterations::{wrong_length, Alteration};
+use compare::counts::Counts;
 use compare::inputs::{self, Case};
 use compare::panel::{Lent, Panel};
 use compare::random::Random;
+use compare::rounds::damaged_lends;
 use compare::shapes::Shape;
 use reference::panel::{Answer, Call};
-use std::collections::BTreeMap;
-
-/// What came of a question: how many there were of each.
-type Counts = BTreeMap<&'static str, usize>;
-
-/// Start and advances on damaged lends; 18 in the middle is tried again, and then the lends are restored or the question
-/// is given up.
-fn ask(panel: &mut Panel, case: &Case, good: &Lent, bad: &Lent, counts: &mut Counts, random: &mut Random) {
-    let m = random.between(0, 12);
-    let (nodes, labels) = case.list(m, random);
-    let lent = if random.below(3) == 0 { good } else { bad };
-    match panel.start(lent, &nodes, &labels, random) {
-        Answer::Parts(_) => *counts.entry("started").or_default() += 1,
-        Answer::Refused(18) => {
-            *counts.entry("18 at Start").or_default() += 1;
-            return;
-        }
-        other => panic!("{:?}", other),
-    }
-    loop {
-        let lent = if random.below(20) == 0 { good } else { bad };
-        let before = panel.record.clone();
-        match panel.advance(lent, random) {
-            Answer::More => *counts.entry("more").or_default() += 1,
-            Answer::Finished => break,
-            Answer::Refused(18) => {
-                *counts.entry("18 at an advance").or_default() += 1;
-                assert!(panel.record == before, "a refused advance leaves the record");
-                if random.below(4) == 0 {
-                    assert_eq!(panel.call(&Call::Cancel, random), Answer::Accepted);
-                    return;
-                }
-                if !matches!(panel.advance(good, random), Answer::More | Answer::Refused(18)) {
-                    break;
-                }
-            }
-            other => panic!("{:?}", other),
-        }
-    }
-    *counts.entry("finished").or_default() += 1;
-    assert!(matches!(panel.call(&Call::Read, random), Answer::Told(_)));
-}
 
 #[test]
 fn the_rule_on_any_lends() {
-    let random = &mut Random::new(1401);
-    for kind in ALTERATIONS.into_iter().filter(|&kind| kind != Alteration::Length) {
-        let mut counts = Counts::new();
+    let (random, counts) = (&mut Random::new(1401), &mut Counts::default());
+    for kind in damaged_lends::of_values() {
         for turn in 0..700 {
             let leaves = if turn % 100 == 0 { 1_500 } else { random.between(1, 30) };
             let (s, k) = (random.between(1, 6), random.between(1, 6));
             let shape = *random.pick(&compare::shapes::SHAPES);
-            let case = Case::new(shape, leaves, s, k, random);
-            let good = Lent::built(&case, random);
-            let mut bad = good.clone();
-            kind.lay(&mut bad, &case, random);
-            let mut panel = Panel::loaded(&good, random);
-            for _ in 0..3 {
-                ask(&mut panel, &case, &good, &bad, &mut counts, random);
-            }
+            damaged_lends::of_one_kind(kind, Case::new(shape, leaves, s, k, random), random, counts);
         }
-        let count = |what: &str| counts.get(what).copied().unwrap_or(0);
-        assert!(count("finished") > 150, "{:?}: {:?}", kind, counts);
+        let count = |what: &str| counts.of(&format!("{:?}: {}", kind, what));
+        assert!(count("finished") > 150, "{}", counts);
         // Start reads the numbers alone; excess, headers and bytes below S lead nowhere
         let never = [Alteration::Excess, Alteration::BytesBelow, Alteration::Headers].contains(&kind);
-        assert_eq!(count("18 at Start") > 50, kind == Alteration::Numbers, "{:?}: {:?}", kind, counts);
-        assert_eq!(count("18 at an advance") == 0, never, "{:?}: {:?}", kind, counts);
+        assert_eq!(count("18 at Start") > 50, kind == Alteration::Numbers, "{}", counts);
+        assert_eq!(count("18 at an advance") == 0, never, "{}", counts);
     }
 }
 
 /// Several of them at once, and anything at all in the tables.
 #[test]
 fn everything_damaged() {
-    let random = &mut Random::new(1402);
-    let mut counts = Counts::new();
+    let (random, counts) = (&mut Random::new(1402), &mut Counts::default());
     for _ in 0..1_500 {
-        let case = Case::random(25, random);
-        let good = Lent::built(&case, random);
-        let mut bad = good.clone();
-        for kind in ALTERATIONS.into_iter().filter(|&kind| kind != Alteration::Length) {
-            if random.below(3) == 0 {
-                kind.lay(&mut bad, &case, random);
-            }
-        }
-        if random.below(5) == 0 {
-            bad.numbers = random.numbers(bad.numbers.len());
-            let n = case.n as u16;
-            bad.numbers.iter_mut().for_each(|number| *number %= n);
-        }
-        let mut panel = Panel::loaded(&good, random);
-        ask(&mut panel, &case, &good, &bad, &mut counts, random);
+        damaged_lends::everything(random, counts);
     }
-    assert!(counts.values().all(|&count| count > 100) && counts.len() == 5, "{:?}", counts);
+    for what in ["started", "18 at Start", "more", "18 at an advance", "finished"] {
+        assert!(counts.of(&format!("several: {}", what)) > 100, "{}", counts);
+    }
 }
 
 /// 17 for each length that is not right, at Start and at an advance, and nothing else for those that are.

@@ -1,21 +1,11 @@
 //! Fresh runs with lists of changes, on trees of every shape and size. (Their refusals are in refusals.rs.)
 
 use compare::calls;
+use compare::counts::Counts;
 use compare::inputs::{self, Case};
 use compare::random::Random;
+use compare::rounds::fresh_runs::fresh_run;
 use compare::shapes::{self, SHAPES};
-
-/// `m` different nodes and a label for each.
-fn list(case: &Case, m: usize, random: &mut Random) -> (Vec<u16>, Vec<u8>) {
-    let mut nodes: Vec<u16> = Vec::new();
-    while nodes.len() < m {
-        let v = random.below(case.n) as u16;
-        if !nodes.contains(&v) {
-            nodes.push(v);
-        }
-    }
-    (nodes, random.bytes_below(m, case.k))
-}
 
 #[test]
 fn no_change_and_every_single_change_of_small_trees() {
@@ -35,19 +25,15 @@ fn no_change_and_every_single_change_of_small_trees() {
 
 #[test]
 fn lists_of_every_length() {
-    let random = &mut Random::new(502);
+    let (random, counts) = (&mut Random::new(502), &mut Counts::default());
     for shape in SHAPES {
         for turn in 0..300 {
             let (leaves, s, k) = (random.between(1, 400), random.between(1, 16), random.between(1, 64));
-            let case = Case::new(shape, leaves, s, k, random);
-            let m = (turn % 65).min(case.n);
-            let (mut nodes, mut labels) = list(&case, m, random);
-            calls::fresh_run(&case.plan, &case.rules, &nodes, &labels, random).expect("accepted");
-            // the other way round it is the same question
-            nodes.reverse();
-            labels.reverse();
-            calls::fresh_run(&case.plan, &case.rules, &nodes, &labels, random).expect("accepted");
+            fresh_run(&Case::new(shape, leaves, s, k, random), turn % 65, random, counts);
         }
+    }
+    for changes in ["none", "1", "2 to 63", "64"] {
+        assert!(counts.of(&format!("changes: {}", changes)) >= 20, "{}", counts);
     }
 }
 
@@ -58,8 +44,7 @@ fn the_largest_plans_with_64_changes() {
         for (s, k) in [(1, 1), (2, 64), (16, 64), (16, 2)] {
             let case = Case::new(shape, 32_768, s, k, random);
             for m in [0, 1, 64] {
-                let (nodes, labels) = list(&case, m, random);
-                calls::fresh_run(&case.plan, &case.rules, &nodes, &labels, random).expect("accepted");
+                fresh_run(&case, m, random, &mut Counts::default());
             }
             let root = case.n as u16 - 1;
             calls::fresh_run(&case.plan, &case.rules, &[0, root], &[0, k as u8 - 1], random).expect("accepted");
@@ -71,7 +56,7 @@ fn the_largest_plans_with_64_changes() {
 fn limits_of_the_list() {
     let random = &mut Random::new(504);
     let case = Case::new(shapes::Shape::Uniform, 100, 4, 4, random);
-    let (nodes, labels) = list(&case, 65, random);
+    let (nodes, labels) = case.list(65, random);
     let run = |nodes: &[u16], labels: &[u8], random: &mut Random| {
         calls::fresh_run(&case.plan, &case.rules, nodes, labels, random).err().unwrap_or(0)
     };

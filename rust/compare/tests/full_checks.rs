@@ -1,10 +1,12 @@
 //! Full checks of tables that are not as built: every single entry counts, and so does what only the whole shows.
 
 use compare::built::Built;
-use compare::calls::{self, KINDS};
-use compare::inputs::{self, Case};
+use compare::calls::KINDS;
+use compare::counts::Counts;
+use compare::inputs::Case;
 use compare::random::Random;
-use compare::shapes::{Shape, SHAPES};
+use compare::rounds::full_checks;
+use compare::shapes::SHAPES;
 
 #[test]
 fn every_entry_of_small_tables() {
@@ -66,74 +68,52 @@ fn single_entries_of_the_largest_tables() {
     }
 }
 
+/// At every kind of node, for every kind of entry.
+#[test]
+fn single_entries_by_chance() {
+    let (random, counts) = (&mut Random::new(406), &mut Counts::default());
+    for turn in 0..300 {
+        let built = Built::with_excess(KINDS[turn % 2], Case::random(30, random), random);
+        for _ in 0..20 {
+            full_checks::single_entry(&built, random, counts);
+        }
+    }
+    for entry in ["parent", "jump", "depth", "size", "state", "map"] {
+        for node in ["the root", "a leaf", "another node"] {
+            assert!(counts.of(&format!("no: {} of {}", entry, node)) > 50, "{}", counts);
+        }
+    }
+}
+
 /// Tables that fit together entry by entry, from another start at the root.
 #[test]
 fn consistent_from_a_wrong_root() {
-    let random = &mut Random::new(403);
+    let (random, counts) = (&mut Random::new(403), &mut Counts::default());
     for turn in 0..300 {
-        let shape = SHAPES[turn % SHAPES.len()];
         let leaves = random.between(2, 40);
         for kind in KINDS {
-            let built = Built::new(kind, Case::new(shape, leaves, 4, 3, random), random);
-            let mut deeper = built.numbers.clone();
-            deeper.iter_mut().skip(2).step_by(4).for_each(|depth| *depth += 1);
-            assert!(!built.says(&deeper, &built.bytes, random), "all depths one too large");
-            // every map followed by one more exchange of two states, which alters the root's map too
-            let mut exchanged = built.bytes.clone();
-            for row in exchanged.chunks_mut(5) {
-                for state in &mut row[1..] {
-                    *state = [1, 0, 2, 3][*state as usize];
-                }
-            }
-            assert!(!built.says(&built.numbers, &exchanged, random), "all maps with two states exchanged");
+            let case = Case::new(SHAPES[turn % SHAPES.len()], leaves, 4, 3, random);
+            full_checks::wrong_root(&Built::with_excess(kind, case, random), random, counts);
         }
     }
+    assert_eq!(counts.total(), 1_200);
 }
 
 /// The tables of another plan, of other labels, of other rules: yes exactly where they happen to be the same.
 #[test]
 fn tables_of_something_else() {
-    let random = &mut Random::new(404);
-    let mut no = 0;
+    let (random, counts) = (&mut Random::new(404), &mut Counts::default());
     for turn in 0..600 {
-        let kind = KINDS[turn % 2];
-        let (leaves, s, k) = (random.between(2, 40), random.between(2, 4), random.between(2, 4));
-        let shape = *random.pick(&SHAPES);
-        let built = Built::new(kind, Case::new(shape, leaves, s, k, random), random);
-        let mut other = built.case.clone();
-        match turn % 3 {
-            0 => other.plan = Case::new(Shape::Uniform, leaves, s, k, random).plan,
-            1 => {
-                let at = 12 + random.below(other.n);
-                other.plan[at] = (other.plan[at] + 1) % k as u8;
-            }
-            _ => {
-                other.rules = inputs::random_rules(s, k, random);
-                other.branch = inputs::random_branch(s, k, random);
-            }
-        }
-        let other = Built::new(kind, other, random);
-        let says = other.says(&built.numbers, &built.bytes, random);
-        assert_eq!(says, (&other.numbers, &other.bytes) == (&built.numbers, &built.bytes));
-        no += usize::from(!says);
+        full_checks::something_else(KINDS[turn % 2], random, counts);
     }
-    assert!(no > 400, "{} of 600 said no", no);
+    assert!(counts.of("no: tables of something else") > 400, "{}", counts);
 }
 
 /// Any numbers and bytes at all: no crash, and as the reference says.
 #[test]
-fn random_tables() {
+fn any_tables() {
     let random = &mut Random::new(405);
     for _ in 0..3_000 {
-        let case = Case::random(20, random);
-        let kind = *random.pick(&KINDS);
-        let table = case.table(kind);
-        let limit = random.between(1, case.n);
-        let mut numbers = random.numbers(case.numbers_len());
-        if random.below(2) == 0 {
-            numbers.iter_mut().for_each(|number| *number %= limit as u16 + 1);
-        }
-        let bytes = random.bytes_below(case.bytes_len(), case.s + 1);
-        let _ = calls::check(kind, &case.plan, table, &numbers, &bytes, random);
+        full_checks::any_tables(random, &mut Counts::default());
     }
 }

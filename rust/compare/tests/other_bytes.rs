@@ -1,66 +1,22 @@
 //! Run states and maps that are any bytes below S, under plan, rules and numbers as built: "an advance goes on as always
 //! and stores and counts what this rule gives on those bytes". The book replays the rule on the tree.
 
-use compare::alterations::Alteration;
+use compare::counts::Counts;
 use compare::inputs::Case;
 use compare::panel::{Lent, Panel};
 use compare::random::Random;
+use compare::rounds::other_bytes;
 use compare::shapes::{Shape, SHAPES};
 use reference::book::Standing;
-use reference::panel::{Answer, Call};
-
-/// Another state table, below S.
-fn altered(lent: &Lent, case: &Case, random: &mut Random) -> Lent {
-    let mut other = lent.clone();
-    if random.below(2) == 0 {
-        Alteration::BytesBelow.lay(&mut other, case, random);
-    } else {
-        other.bytes = random.bytes_below(lent.bytes.len(), case.s);
-    }
-    other
-}
-
-/// A question whose Start and whose advances are each lent as chance has it: as built, or other bytes. As many advances
-/// as there are parts; whether what Read tells differs from the answer on tables as built.
-fn ask(case: &Case, lent: &Lent, m: usize, each: bool, random: &mut Random) -> bool {
-    let mut panel = Panel::loaded(lent, random);
-    let (nodes, labels) = case.list(m, random);
-    assert!(matches!(panel.start(lent, &nodes, &labels, random), Answer::Parts(_)));
-    let (_, as_built) = panel.finish(lent, random);
-    let mut now = altered(lent, case, random);
-    let parts = match panel.start(&now, &nodes, &labels, random) {
-        Answer::Parts(parts) => parts,
-        other => panic!("a Start on other bytes answered {:?}", other),
-    };
-    for i in 1..=parts {
-        if each {
-            now = altered(lent, case, random);
-        }
-        let wanted = if i == parts { Answer::Finished } else { Answer::More };
-        assert_eq!(panel.advance(&now, random), wanted);
-    }
-    match panel.call(&Call::Read, random) {
-        Answer::Told(told) => {
-            assert_eq!((told.parts, told.links), (as_built.parts, as_built.links));
-            assert_eq!(panel.left, 0, "all of it is settled");
-            told != as_built
-        }
-        other => panic!("{:?}", other),
-    }
-}
+use reference::panel::Answer;
 
 #[test]
 fn the_rule_on_any_bytes_below_s() {
-    let random = &mut Random::new(1301);
-    let mut differ = 0;
-    for turn in 0..600 {
-        let (leaves, s, k) = (random.between(1, 60), random.between(2, 16), random.between(1, 9));
-        let case = Case::new(SHAPES[turn % 6], leaves, s, k, random);
-        let lent = Lent::built(&case, random);
-        let m = random.between(0, 9);
-        differ += usize::from(ask(&case, &lent, m, turn % 2 == 0, random));
+    let (random, counts) = (&mut Random::new(1301), &mut Counts::default());
+    for _ in 0..600 {
+        other_bytes::round(random, counts);
     }
-    assert!(differ > 200, "{} of 600 told another answer", differ);
+    assert!(counts.of("another answer") > 200, "{}", counts);
 }
 
 #[test]
@@ -70,7 +26,7 @@ fn the_largest_plans() {
         let case = Case::new(shape, 32_768, 5, 3, random);
         let lent = Lent::built(&case, random);
         for m in [1, 3, 16] {
-            ask(&case, &lent, m, false, random);
+            other_bytes::ask(&case, &lent, m, false, random, &mut Counts::default());
         }
     }
 }

@@ -1,57 +1,14 @@
 //! Questions on tables as built, through the session's calls: roots, states, answer, parts and links, on trees of every
 //! shape and size. The book holds every answer to a fresh run of the changed plan; here the record is looked at too.
 
+use compare::counts::Counts;
 use compare::inputs::{self, Case};
 use compare::panel::{Lent, Panel};
 use compare::random::Random;
+use compare::rounds::questions::Asked;
 use compare::shapes::{self, Shape, DEEPEST, SHAPES};
-use reference::book::Standing;
-use reference::formats::{read_plan, read_rules};
-use reference::fresh::changed;
-use reference::panel::{Answer, Call, Told};
-use reference::ready::{by_marks, closure};
-use reference::tables::run;
-use reference::tree::Tree;
-
-/// A case, its tables, and a panel that has loaded it.
-struct Asked {
-    case: Case,
-    lent: Lent,
-    tree: Tree,
-    panel: Panel,
-}
-
-impl Asked {
-    fn new(case: Case, random: &mut Random) -> Asked {
-        let lent = Lent::built(&case, random);
-        let tree = Tree::of(&read_plan(&case.plan).unwrap());
-        let panel = Panel::loaded(&lent, random);
-        Asked { case, lent, tree, panel }
-    }
-
-    /// A whole question; every part's state is the changed run's at its root, and its root is the ready set's.
-    fn ask(&mut self, nodes: &[u16], labels: &[u8], random: &mut Random) -> Told {
-        let members = if self.case.n < 80 { closure(&self.tree, nodes) } else { by_marks(&self.tree, nodes) };
-        let parts = members.len() as u32;
-        assert_eq!(self.panel.start(&self.lent, nodes, labels, random), Answer::Parts(parts));
-        assert_eq!(self.panel.says().states, [], "no state yet");
-        let (advances, told) = self.panel.finish(&self.lent, random);
-        assert_eq!((advances, told.parts), (parts, parts));
-        assert_eq!(self.panel.book.standing(), Some(Standing::Clean));
-        let record = self.panel.says();
-        assert!(record.roots.iter().map(|&v| v as usize).eq(members.iter().copied()));
-        assert_eq!((&record.nodes[..], &record.labels[..]), (nodes, labels), "the changes as listed");
-        let plan = read_plan(&self.case.plan).unwrap();
-        let labels_then = changed(plan.labels, nodes, labels);
-        let states = run(plan.kinds, &labels_then, &read_rules(&self.case.rules).unwrap());
-        assert!(members.iter().map(|&v| states[v]).eq(record.states), "the states at the roots");
-        let deepest = *self.tree.depth.iter().max().unwrap();
-        let digits = usize::BITS - deepest.leading_zeros();
-        assert!(told.links <= 3 * digits * parts);
-        assert!(parts as usize <= if nodes.is_empty() { 1 } else { 4 * nodes.len() - 2 });
-        told
-    }
-}
+use reference::panel::{Answer, Call};
+use reference::ready::by_marks;
 
 #[test]
 fn every_set_of_nodes_of_small_trees() {
@@ -77,12 +34,7 @@ fn lists_of_every_length_on_every_shape() {
             let (leaves, s, k) = (random.between(1, 260), random.between(1, 16), random.between(1, 64));
             let mut asked = Asked::new(Case::new(shape, leaves, s, k, random), random);
             for _ in 0..3 {
-                let (mut nodes, mut labels) = asked.case.list(m, random);
-                let told = asked.ask(&nodes, &labels, random);
-                // the other way round it is the same question
-                nodes.reverse();
-                labels.reverse();
-                assert_eq!(asked.ask(&nodes, &labels, random), told);
+                asked.both_ways(m, random, &mut Counts::default());
             }
         }
     }

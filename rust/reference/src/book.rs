@@ -8,6 +8,7 @@
 
 use crate::formats::{read_plan, read_rules};
 use crate::fresh::{changed, check_list, fresh_run};
+use crate::mistakes::{made, Mistake};
 use crate::panel::{Answer, Call, Lends, Phase, Sizes, Told};
 use crate::parts::{Given, Part};
 use crate::ready::by_marks;
@@ -146,7 +147,7 @@ impl Book {
         let question = self.question.as_ref().expect("running");
         let (same, usable) = (question.start.same(lends), question.start.usable(self.sizes, lends));
         let standing = match question.standing {
-            Standing::Clean if same => Standing::Clean,
+            Standing::Clean if same || usable && made(Mistake::CleanForEver) => Standing::Clean,
             Standing::Clean | Standing::Firm if usable => Standing::Firm,
             _ => return self.advance_left(question, usable),
         };

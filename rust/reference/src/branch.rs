@@ -3,6 +3,7 @@
 
 use crate::climb::{climb, Lent, Links, Move};
 use crate::formats::{number, Branch, Plan, MAX_LABELS, MAX_NODES, MAX_STATES};
+use crate::mistakes::{unless, Mistake};
 use crate::tables::labels_down;
 use crate::tree::Tree;
 
@@ -70,7 +71,7 @@ pub fn on_tables(
     lower: u32,
 ) -> Result<Answer, u32> {
     let lent = lent(plan, branch, numbers, bytes).ok_or(17u32)?;
-    let (upper, lower) = (upper as usize, lower as usize);
+    let [upper, lower] = [upper, lower].map(|v| unless(Mistake::NodesCut, v, v & 0xffff) as usize);
     if upper >= lent.links.nodes || lower >= lent.links.nodes {
         return Err(13);
     }
@@ -89,10 +90,13 @@ impl Question<'_> {
         let mut carried: Vec<usize> = (0..self.s).collect();
         for &one in moves {
             let entered = (0..self.s).map(|q| self.through(one, q)).collect::<Result<Vec<usize>, u32>>()?;
-            carried = entered.into_iter().map(|q| carried[q]).collect();
+            let after = |first: &[usize], then: &[usize]| first.iter().map(|&q| then[q]).collect();
+            let wrong = after(&carried, &entered);
+            carried = unless(Mistake::MapsFromTheWrongEnd, after(&entered, &carried), wrong);
         }
         let state = carried[self.step(0, upper)?];
-        Ok(Answer { state: state as u8, yes: self.marks[state] == 1, links: moves.len() })
+        let yes = unless(Mistake::AnyMarkIsYes, self.marks[state] == 1, self.marks[state] != 0);
+        Ok(Answer { state: state as u8, yes, links: moves.len() })
     }
 
     /// The state at the lower end of a move, from the state at its upper end.

@@ -1,5 +1,7 @@
 //! Climbs: "while deeper than t, take the jump if its depth is at least t, else the parent. Each move is one link."
 
+use crate::mistakes::{made, unless, Mistake};
+
 /// Parents, jumps and depths of `nodes` nodes, by a tree or by a lent table.
 pub trait Links {
     fn nodes(&self) -> usize;
@@ -24,8 +26,10 @@ pub fn climb(links: &impl Links, w: usize, t: usize) -> Result<Vec<Move>, u32> {
         if jump >= links.nodes() {
             return Err(18);
         }
+        let reaches = unless(Mistake::ClimbRule, links.depth(jump) >= t, links.depth(jump) > t);
+        let to_parent = made(Mistake::ParentBeforeJump) && jump == links.parent(v);
         let (one, next) =
-            if links.depth(jump) >= t { (Move::ByJump(v), jump) } else { (Move::ToParent(v), links.parent(v)) };
+            if reaches && !to_parent { (Move::ByJump(v), jump) } else { (Move::ToParent(v), links.parent(v)) };
         if next >= links.nodes() || links.depth(next) >= links.depth(v) {
             return Err(18);
         }

@@ -1,6 +1,7 @@
 //! The fresh run: "a fresh run without tables (it tells state, yes or no)". Checks 2 to 10, then 12 to 15.
 
 use crate::formats::{read_plan, read_rules};
+use crate::mistakes::{made, Mistake};
 use crate::tables::run;
 
 pub const MAX_CHANGES: usize = 64;
@@ -35,10 +36,14 @@ pub fn check_list(nodes: &[u16], labels: &[u8], n: usize, k: usize) -> Result<()
     if nodes.len() != labels.len() || nodes.len() > MAX_CHANGES {
         return Err(12);
     }
+    let labels_fit = labels.iter().all(|&a| (a as usize) < k);
+    if made(Mistake::LabelsBeforeNodes) && !labels_fit {
+        return Err(14);
+    }
     if nodes.iter().any(|&v| v as usize >= n) {
         return Err(13);
     }
-    if labels.iter().any(|&a| a as usize >= k) {
+    if !labels_fit {
         return Err(14);
     }
     if (1..nodes.len()).any(|i| nodes[..i].contains(&nodes[i])) {

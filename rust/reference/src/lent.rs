@@ -2,6 +2,7 @@
 //! outside the plan, the states or the labels, or a climb doesn't rise". N, S and K are the record's; no header is read.
 
 use crate::climb::{climb, Lent, Links, Move};
+use crate::mistakes::{made, unless, Mistake};
 use crate::panel::{Lends, Sizes};
 use crate::parts::Part;
 use std::collections::BTreeSet;
@@ -40,7 +41,10 @@ impl<'a> View<'a> {
             let x = self.meet(pair[0], pair[1])?;
             if x != pair[1] {
                 let (left, right) = self.children(x)?;
-                wanted.extend([x, left, right]);
+                wanted.insert(x);
+                if !made(Mistake::ChildrenLeftOut) {
+                    wanted.extend([left, right]);
+                }
             }
         }
         Ok(wanted.into_iter().collect())
@@ -75,11 +79,9 @@ impl<'a> View<'a> {
         Ok((left, right))
     }
 
-    /// The part of root v after the roots and states handled before it, with the list's labels: the last entry of a
-    /// node holds.
+    /// The part of root v after the roots and states handled before it, with the list's labels.
     pub fn part(&self, handled: &[(usize, u8)], nodes: &[u16], labels: &[u8], v: usize) -> Result<Part, u32> {
-        let listed = nodes.iter().rposition(|&w| w as usize == v);
-        let a = listed.map_or(self.labels[v], |at| labels[at]) as usize;
+        let a = self.own_label(nodes, labels, v) as usize;
         if self.kinds[v] == 0 {
             let state = self.state(self.leaf[self.label(a)?])?;
             return Ok(Part { state, links: 0 });
@@ -89,12 +91,21 @@ impl<'a> View<'a> {
         let depth = self.links.depth(v) + 1;
         let unmoved = |state: u8| Part { state, links: 0 };
         let (l, r) = match (last_below(left), last_below(right)) {
+            (Some(w), None) | (None, Some(w)) if made(Mistake::ClimbToTheRoot) => return self.climbed(w, depth - 1),
+            (Some(f), Some(_)) if made(Mistake::SiblingFromOldRun) => (unmoved(f.1), unmoved(self.run(right)?)),
             (None, None) => (unmoved(self.run(left)?), unmoved(self.run(right)?)),
             (Some(f), None) => (self.climbed(f, depth)?, unmoved(self.run(right)?)),
             (None, Some(g)) => (unmoved(self.run(left)?), self.climbed(g, depth)?),
             (Some(f), Some(g)) => (unmoved(f.1), unmoved(g.1)),
         };
         Ok(Part { state: self.rule(l.state, a, r.state)?, links: l.links + r.links })
+    }
+
+    /// "v's own label, as changed": the last entry of a node holds.
+    fn own_label(&self, nodes: &[u16], labels: &[u8], v: usize) -> u8 {
+        let entries: Vec<u8> = nodes.iter().zip(labels).filter(|(&w, _)| w as usize == v).map(|(_, &a)| a).collect();
+        let entry = unless(Mistake::FirstEntryHolds, entries.last(), entries.first());
+        unless(Mistake::OldLabel, entry, None).copied().unwrap_or(self.labels[v])
     }
 
     /// The climb from a root and its state to a depth.
@@ -113,7 +124,7 @@ impl<'a> View<'a> {
     /// v is the right child where its parent is the next node.
     fn to_parent(&self, v: usize, q: u8) -> Result<u8, u32> {
         let p = self.links.parent(v);
-        let a = self.labels[p] as usize;
+        let a = self.labels[unless(Mistake::LabelOfTheNode, p, v)] as usize;
         if p == v + 1 {
             let left = v.checked_sub(self.links.size(v)).ok_or(18u32)?;
             self.rule(self.run(left)?, a, q)
@@ -125,10 +136,12 @@ impl<'a> View<'a> {
 
     /// Yes exactly where the mark is 1.
     pub fn accepts(&self, state: u8) -> bool {
-        self.marks[state as usize] == 1
+        let mark = self.marks[state as usize];
+        unless(Mistake::AnyMarkIsYes, mark == 1, mark != 0)
     }
 
     fn rule(&self, p: u8, a: usize, q: u8) -> Result<u8, u32> {
+        let (p, q) = unless(Mistake::ChildrenExchanged, (p, q), (q, p));
         let at = (p as usize * self.sizes.k + self.label(a)?) * self.sizes.s + q as usize;
         self.state(self.inner[at])
     }

@@ -4,7 +4,7 @@
 //! buffers), `climb` (moves), `branch` (branch questions), `fresh` (fresh run); `ready` (the ready set), `parts` (the
 //! rule for a part, on a tree), `lent` (the same on lent tables, whatever they hold); `panel` (the session's calls and
 //! answers), `record` (its record as bytes), `session` (the five calls), `book` (the panel book).
-//! The calls without a session are in this file.
+//! The calls without a session are in this file. `mistakes` is for a test of the comparison; it does nothing else.
 //! A refusal is its number. Nothing here is fast, and nothing is shared with the library.
 
 pub mod book;
@@ -13,6 +13,7 @@ pub mod climb;
 pub mod formats;
 pub mod fresh;
 pub mod lent;
+pub mod mistakes;
 pub mod panel;
 pub mod parts;
 pub mod ready;

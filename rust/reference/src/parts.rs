@@ -3,6 +3,7 @@
 
 use crate::climb::{climb, Move};
 use crate::formats::Rules;
+use crate::mistakes::{made, unless, Mistake};
 use crate::tree::Tree;
 
 /// What the rule reads: `labels` are the plan's, `changed` those with the changes; `bytes` is a state table.
@@ -33,13 +34,20 @@ impl Given<'_> {
 
     /// The part that v roots; `handled` are the parts of the members before it.
     pub fn part(&self, members: &[usize], handled: &[Part], v: usize) -> Part {
-        let a = self.changed[v];
+        let a = unless(Mistake::OldLabel, self.changed[v], self.labels[v]);
         let (left, right) = match self.tree.children[v] {
             None => return Part { state: self.rules.leaf(a), links: 0 },
             Some(children) => children,
         };
         let (p, q, links) = match (self.highest(members, left), self.highest(members, right)) {
             (None, None) => (self.run(left), self.run(right), 0),
+            (Some(w), None) | (None, Some(w)) if made(Mistake::ClimbToTheRoot) => {
+                let (state, links) = self.climbed(w, state(members, handled, w), self.tree.depth[v]);
+                return Part { state, links };
+            }
+            (Some(_), Some(_)) if made(Mistake::SiblingFromOldRun) => {
+                (state(members, handled, left), self.run(right), 0)
+            }
             // "With members below both children it takes theirs": both children are members
             (Some(_), Some(_)) => (state(members, handled, left), state(members, handled, right), 0),
             (Some(w), None) => {
@@ -73,10 +81,11 @@ impl Given<'_> {
                 Move::ToParent(v) => {
                     let p = self.tree.parent[v];
                     let (left, right) = self.tree.children[p].expect("a parent is an inner node");
+                    let a = self.labels[unless(Mistake::LabelOfTheNode, p, v)];
                     if v == left {
-                        self.rules.inner(q, self.labels[p], self.run(right))
+                        self.rules.inner(q, a, self.run(right))
                     } else {
-                        self.rules.inner(self.run(left), self.labels[p], q)
+                        self.rules.inner(self.run(left), a, q)
                     }
                 }
             };

@@ -4,6 +4,7 @@
 //! Twice, each with the members rising: by doing what the sentence says until nothing is added (`closure`, for small
 //! trees), and by marks from the leaves up (`by_marks`, for trees of any size).
 
+use crate::mistakes::{made, Mistake};
 use crate::tree::Tree;
 use std::collections::BTreeSet;
 
@@ -26,7 +27,7 @@ fn once_more(tree: &Tree, members: &BTreeSet<usize>) -> BTreeSet<usize> {
         more.extend(members.iter().map(|&v| lowest_common_ancestor(tree, u, v)));
         if let Some((left, right)) = tree.children[u] {
             let below = |child| members.iter().any(|&w| tree.at_or_below(w, child));
-            if below(left) && below(right) {
+            if below(left) && below(right) && !made(Mistake::ChildrenLeftOut) {
                 more.extend([left, right]);
             }
         }
@@ -59,5 +60,6 @@ pub fn by_marks(tree: &Tree, listed: &[u16]) -> Vec<usize> {
             forks[v] = has_below[left] && has_below[right];
         }
     }
-    (0..nodes).filter(|&v| is_listed[v] || v == tree.root() || forks[v] || forks[tree.parent[v]]).collect()
+    let beside = |v: usize| forks[tree.parent[v]] && !made(Mistake::ChildrenLeftOut);
+    (0..nodes).filter(|&v| is_listed[v] || v == tree.root() || forks[v] || beside(v)).collect()
 }

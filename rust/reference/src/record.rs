@@ -20,6 +20,7 @@
 
 use crate::formats::{MAX_LABELS, MAX_STATES};
 use crate::fresh::MAX_CHANGES;
+use crate::mistakes::{made, Mistake};
 use crate::panel::{Phase, Sizes};
 
 pub const RECORD_BYTES: usize = 967;
@@ -96,7 +97,7 @@ impl Record {
             states: bytes[713..713 + handled].to_vec(),
         };
         // bytes that no record has: entries in use no more, a yes of 2
-        if record.bytes() == bytes && record.holds() {
+        if (record.bytes() == bytes || made(Mistake::TailsFree)) && record.holds() {
             Some(record)
         } else {
             None

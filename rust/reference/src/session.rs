@@ -4,6 +4,7 @@ use crate::build;
 use crate::formats::number;
 use crate::fresh::check_list;
 use crate::lent::View;
+use crate::mistakes::{unless, Mistake};
 use crate::panel::{Answer, Call, Lends, Phase, Sizes, Told};
 use crate::record::Record;
 use crate::tables::Tables;
@@ -58,6 +59,7 @@ impl Record {
         let answer = Answer::Parts(roots.len() as u32);
         let record = Record {
             phase: Phase::Running,
+            links: unless(Mistake::LinksKept, 0, self.links),
             nodes: nodes.to_vec(),
             labels: labels.to_vec(),
             roots: roots.iter().map(|&v| v as u16).collect(),
@@ -75,7 +77,7 @@ impl Record {
         let part = view.part(&handled, &self.nodes, &self.labels, v)?;
         self.states.push(part.state);
         self.links += part.links as u32;
-        if self.states.len() < self.roots.len() {
+        if self.states.len() + unless(Mistake::FinishedEarly, 0, 1) < self.roots.len() {
             return Ok((Answer::More, self, None));
         }
         self.phase = Phase::Answered;

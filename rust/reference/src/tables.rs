@@ -2,6 +2,7 @@
 //! and bytes, S+1 for each node (its state in the run, then its map)". Maps go by parents, one node at a time.
 
 use crate::formats::{Branch, Plan, Rules};
+use crate::mistakes::{made, unless, Mistake};
 use crate::tree::Tree;
 
 /// Both tables, exactly as long as they need to be.
@@ -14,7 +15,9 @@ pub struct Tables {
 impl Tables {
     /// Do the lent buffers start with these tables? Their excess is not looked at.
     pub fn starts(&self, numbers: &[u16], bytes: &[u8]) -> bool {
-        numbers.starts_with(&self.numbers) && bytes.starts_with(&self.bytes)
+        let looked_at = self.bytes.len() - unless(Mistake::LastByteFree, 0, 1);
+        let starts = numbers.starts_with(&self.numbers) && bytes.starts_with(&self.bytes[..looked_at]);
+        unless(Mistake::ExcessCompared, starts, numbers == self.numbers && bytes == self.bytes)
     }
 }
 
@@ -109,6 +112,8 @@ pub fn labels_down(tree: &Tree, labels: &[u8], above: usize, v: usize) -> Vec<u8
         word.push(labels[node]);
         node = tree.parent[node];
     }
-    word.reverse();
+    if !made(Mistake::WordsUpward) {
+        word.reverse();
+    }
     word
 }

@@ -1,6 +1,7 @@
 //! The tree of a plan: children, parents, depths, sizes and jumps, each by its own sentence of document 01.
 
 use crate::formats::Plan;
+use crate::mistakes::{unless, Mistake};
 
 /// Nodes are numbered in post-order from 0, so a parent's number is greater than its children's.
 pub struct Tree {
@@ -95,7 +96,8 @@ fn jumps(parent: &[usize], depth: &[usize]) -> Vec<usize> {
         let p = parent[v];
         let j = jump[p];
         let jj = jump[j];
-        jump[v] = if depth[p] - depth[j] == depth[j] - depth[jj] { jj } else { p };
+        let (near, far) = (depth[p] - depth[j], depth[j] - depth[jj]);
+        jump[v] = if unless(Mistake::JumpRule, near == far, near > far) { jj } else { p };
     }
     jump
 }

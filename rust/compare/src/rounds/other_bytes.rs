@@ -1,0 +1,60 @@
+//! Run states and maps that are any bytes below S, under plan, rules and numbers as built: "an advance goes on as always
+//! and stores and counts what this rule gives on those bytes". The book replays the rule on the tree.
+
+use crate::alterations::Alteration;
+use crate::counts::Counts;
+use crate::inputs::Case;
+use crate::panel::{Lent, Panel};
+use crate::random::Random;
+use crate::shapes::SHAPES;
+use reference::panel::{Answer, Call};
+
+pub fn round(random: &mut Random, counts: &mut Counts) {
+    let (shape, each) = (*random.pick(&SHAPES), random.below(2) == 0);
+    let (leaves, s, k) = (random.between(1, 60), random.between(2, 16), random.between(1, 9));
+    let case = Case::new(shape, leaves, s, k, random);
+    let lent = Lent::built(&case, random);
+    let m = random.between(0, 9);
+    ask(&case, &lent, m, each, random, counts);
+}
+
+/// Another state table, below S.
+fn altered(lent: &Lent, case: &Case, random: &mut Random) -> Lent {
+    let mut other = lent.clone();
+    if random.below(2) == 0 {
+        Alteration::BytesBelow.lay(&mut other, case, random);
+    } else {
+        other.bytes = random.bytes_below(lent.bytes.len(), case.s);
+    }
+    other
+}
+
+/// A question whose advances, and maybe its Start, are lent other bytes, the same for all or others for each. As many
+/// advances as there are parts, and as many links as on tables as built; the answer may be another.
+pub fn ask(case: &Case, lent: &Lent, m: usize, each: bool, random: &mut Random, counts: &mut Counts) {
+    let mut panel = Panel::loaded(lent, random);
+    let (nodes, labels) = case.list(m, random);
+    assert!(matches!(panel.start(lent, &nodes, &labels, random), Answer::Parts(_)));
+    let (_, as_built) = panel.finish(lent, random);
+    let mut now = altered(lent, case, random);
+    let at_start = if random.below(2) == 0 { lent } else { &now };
+    let parts = match panel.start(at_start, &nodes, &labels, random) {
+        Answer::Parts(parts) => parts,
+        other => panic!("a Start on other bytes answered {:?}", other),
+    };
+    for i in 1..=parts {
+        if each {
+            now = altered(lent, case, random);
+        }
+        let wanted = if i == parts { Answer::Finished } else { Answer::More };
+        assert_eq!(panel.advance(&now, random), wanted);
+    }
+    match panel.call(&Call::Read, random) {
+        Answer::Told(told) => {
+            assert_eq!((told.parts, told.links), (as_built.parts, as_built.links));
+            assert_eq!(panel.left, 0, "all of it is settled");
+            counts.add(if told == as_built { "the same answer" } else { "another answer" });
+        }
+        other => panic!("{:?}", other),
+    }
+}

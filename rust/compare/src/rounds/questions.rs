@@ -1,0 +1,73 @@
+//! Questions on tables as built, through the session's calls: roots, states, answer, parts and links. The book holds
+//! every answer to a fresh run of the changed plan; here the record is looked at too.
+
+use super::any_case;
+use crate::counts::Counts;
+use crate::inputs::Case;
+use crate::panel::{Lent, Panel};
+use crate::random::Random;
+use reference::book::Standing;
+use reference::formats::{read_plan, read_rules};
+use reference::fresh::changed;
+use reference::panel::{Answer, Told};
+use reference::ready::{by_marks, closure};
+use reference::tables::run;
+use reference::tree::Tree;
+
+pub fn round(random: &mut Random, counts: &mut Counts) {
+    let mut asked = Asked::new(any_case(random), random);
+    for _ in 0..2 {
+        let m = *random.pick(&[0, 1, 2, 3, 5, 8, 16, 64]);
+        asked.both_ways(m, random, counts);
+    }
+}
+
+/// A case, its tables, and a panel that has loaded it.
+pub struct Asked {
+    pub case: Case,
+    pub lent: Lent,
+    pub tree: Tree,
+    pub panel: Panel,
+}
+
+impl Asked {
+    pub fn new(case: Case, random: &mut Random) -> Asked {
+        let lent = Lent::built(&case, random);
+        let tree = Tree::of(&read_plan(&case.plan).unwrap());
+        let panel = Panel::loaded(&lent, random);
+        Asked { case, lent, tree, panel }
+    }
+
+    /// A question of at most `m` changes; the other way round it is the same question.
+    pub fn both_ways(&mut self, m: usize, random: &mut Random, counts: &mut Counts) {
+        let (mut nodes, mut labels) = self.case.list(m, random);
+        let told = self.ask(&nodes, &labels, random);
+        nodes.reverse();
+        labels.reverse();
+        assert_eq!(self.ask(&nodes, &labels, random), told, "the same changes in another order");
+        counts.add(format!("changes: {}", if nodes.len() < m { "all nodes".to_string() } else { m.to_string() }));
+    }
+
+    /// A whole question; every part's state is the changed run's at its root, and its root is the ready set's.
+    pub fn ask(&mut self, nodes: &[u16], labels: &[u8], random: &mut Random) -> Told {
+        let members = if self.case.n < 80 { closure(&self.tree, nodes) } else { by_marks(&self.tree, nodes) };
+        let parts = members.len() as u32;
+        assert_eq!(self.panel.start(&self.lent, nodes, labels, random), Answer::Parts(parts));
+        assert_eq!(self.panel.says().states, [], "no state yet");
+        let (advances, told) = self.panel.finish(&self.lent, random);
+        assert_eq!((advances, told.parts), (parts, parts));
+        assert_eq!(self.panel.book.standing(), Some(Standing::Clean));
+        let record = self.panel.says();
+        assert!(record.roots.iter().map(|&v| v as usize).eq(members.iter().copied()));
+        assert_eq!((&record.nodes[..], &record.labels[..]), (nodes, labels), "the changes as listed");
+        let plan = read_plan(&self.case.plan).unwrap();
+        let labels_then = changed(plan.labels, nodes, labels);
+        let states = run(plan.kinds, &labels_then, &read_rules(&self.case.rules).unwrap());
+        assert!(members.iter().map(|&v| states[v]).eq(record.states), "the states at the roots");
+        let deepest = *self.tree.depth.iter().max().unwrap();
+        let digits = usize::BITS - deepest.leading_zeros();
+        assert!(told.links <= 3 * digits * parts);
+        assert!(parts as usize <= if nodes.is_empty() { 1 } else { 4 * nodes.len() - 2 });
+        told
+    }
+}

@@ -1,0 +1,72 @@
+//! The comparison itself on trial: wrong variants of the reference implementation, each of which the rounds named with
+//! it must notice; and without a mistake no round may find a difference.
+
+use compare::counts::Counts;
+use compare::difference::Difference;
+use compare::rounds::ROUNDS;
+use reference::mistakes::{making, Mistake};
+
+/// The seeds of the rounds that are run at most.
+const SEEDS: std::ops::Range<u64> = 1..201;
+
+/// A mistake, and the rounds that must notice it.
+const NOTICED: [(Mistake, &[&str]); 22] = [
+    (Mistake::ChildrenExchanged, &["builds", "fresh runs", "questions", "other bytes", "call lists"]),
+    (Mistake::SiblingFromOldRun, &["questions", "other bytes", "damaged lends", "call lists"]),
+    (Mistake::ClimbToTheRoot, &["questions", "other bytes", "damaged lends", "call lists"]),
+    (Mistake::OldLabel, &["questions", "other bytes", "damaged lends", "call lists"]),
+    (Mistake::LabelOfTheNode, &["questions", "other bytes", "damaged lends", "call lists"]),
+    (Mistake::ChildrenLeftOut, &["questions", "other bytes", "damaged lends", "call lists"]),
+    (Mistake::MapsFromTheWrongEnd, &["branch questions", "damaged tables"]),
+    (Mistake::WordsUpward, &["builds", "full checks", "branch questions"]),
+    (Mistake::JumpRule, &["builds", "full checks", "branch questions", "questions", "call lists"]),
+    (Mistake::ClimbRule, &["branch questions", "questions", "call lists"]),
+    (Mistake::ParentBeforeJump, &["damaged tables", "other bytes", "damaged lends", "call lists"]),
+    (Mistake::CleanForEver, &["other bytes", "call lists"]),
+    (Mistake::FinishedEarly, &["questions", "call lists"]),
+    (Mistake::LinksKept, &["questions", "call lists"]),
+    (Mistake::NumbersCut, &["refusals", "branch questions", "session refusals", "call lists"]),
+    (Mistake::NodesCut, &["branch questions"]),
+    (Mistake::LabelsBeforeNodes, &["refusals", "session refusals"]),
+    (Mistake::ExcessCompared, &["full checks"]),
+    (Mistake::LastByteFree, &["full checks"]),
+    (Mistake::AnyMarkIsYes, &["damaged tables", "damaged lends"]),
+    (Mistake::FirstEntryHolds, &["damaged records"]),
+    (Mistake::TailsFree, &["damaged records", "call lists"]),
+];
+
+/// The first difference in the rounds of a kind, and its seed.
+fn first(mistake: Option<Mistake>, name: &str) -> Option<(u64, Difference)> {
+    let round = ROUNDS.iter().find(|round| round.name == name).expect("a kind of round");
+    let run = |seed| making(mistake, || round.run(seed, &mut Counts::default()));
+    SEEDS.into_iter().find_map(|seed| Some((seed, run(seed)?)))
+}
+
+#[test]
+fn every_mistake_is_noticed() {
+    for (mistake, rounds) in NOTICED {
+        for name in rounds {
+            let found = first(Some(mistake), name);
+            let (seed, difference) = found.unwrap_or_else(|| panic!("{}: {:?} was not noticed", name, mistake));
+            println!("{:?}, {}, seed {}: {} ({})", mistake, name, seed, difference.what, difference.at);
+            assert!(!difference.case.is_empty(), "the case is told");
+            // by the comparison, not by an accident in the reference implementation
+            assert!(difference.at.starts_with("compare/src/"), "{}: {:?}: {:?}", name, mistake, difference);
+        }
+    }
+}
+
+#[test]
+fn without_a_mistake_there_is_no_difference() {
+    for round in ROUNDS {
+        assert!(first(None, round.name).is_none(), "{}", round.name);
+    }
+}
+
+/// No round is there for nothing.
+#[test]
+fn every_kind_of_round_notices_something() {
+    for round in ROUNDS {
+        assert!(NOTICED.iter().any(|(_, rounds)| rounds.contains(&round.name)), "{}", round.name);
+    }
+}

@@ -1,0 +1,79 @@
+//! Wrong variants of this implementation, for the test that the comparison notices each of them. Only with the feature
+//! `mistakes`, and only inside `making`; else nothing is `made`, and `unless` gives what is right.
+
+use std::cell::Cell;
+
+#[derive(Clone, Copy, Debug, PartialEq, Eq)]
+pub enum Mistake {
+    /// The left child's state is taken for the right one's, and the other way round.
+    ChildrenExchanged,
+    /// "Using the run's state for a sibling that itself holds a changed node."
+    SiblingFromOldRun,
+    /// "Climbing to the part's root and so applying its old label."
+    ClimbToTheRoot,
+    /// A part's own label is taken as it was, not as changed.
+    OldLabel,
+    /// A move to the parent applies the node's own label.
+    LabelOfTheNode,
+    /// "Ready set without the children of a branching member."
+    ChildrenLeftOut,
+    /// "Composing branch maps from the wrong end."
+    MapsFromTheWrongEnd,
+    /// Words are read from the lower node up.
+    WordsUpward,
+    /// The jump of the jump is taken where the first distance is greater than the second, not equal.
+    JumpRule,
+    /// In a climb the jump is taken if its depth is greater than t, not at least t.
+    ClimbRule,
+    /// Where jump and parent are the same node, the move is to the parent.
+    ParentBeforeJump,
+    /// A question stays clean after an advance that was lent other bytes.
+    CleanForEver,
+    /// Finished is told one part too early.
+    FinishedEarly,
+    /// A Start goes on counting the links of the question before.
+    LinksKept,
+    /// Numbers of 32 bits are cut to 16.
+    NumbersCut,
+    /// The nodes of a branch question are cut to 16 bits.
+    NodesCut,
+    /// 14 is put before 13.
+    LabelsBeforeNodes,
+    /// The full check compares the excess, too.
+    ExcessCompared,
+    /// The full check does not look at the last byte, which belongs to the root's map.
+    LastByteFree,
+    /// Any mark but 0 is a yes.
+    AnyMarkIsYes,
+    /// Of two entries of a record for one node, the first holds.
+    FirstEntryHolds,
+    /// Unused entries of a record may be anything.
+    TailsFree,
+}
+
+thread_local! {
+    static MADE: Cell<Option<Mistake>> = const { Cell::new(None) };
+}
+
+/// Is this mistake made?
+pub fn made(mistake: Mistake) -> bool {
+    cfg!(feature = "mistakes") && MADE.with(Cell::get) == Some(mistake)
+}
+
+/// What is right; what is wrong where this mistake is made.
+pub fn unless<T>(mistake: Mistake, right: T, wrong: T) -> T {
+    if made(mistake) {
+        wrong
+    } else {
+        right
+    }
+}
+
+/// Makes a mistake in this thread while `f` runs.
+#[cfg(feature = "mistakes")]
+pub fn making<T>(mistake: Option<Mistake>, f: impl FnOnce() -> T) -> T {
+    MADE.with(|made| made.set(mistake));
+    let done = f();
+    MADE.with(|made| made.set(None));
+    done
+}
