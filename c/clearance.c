@@ -1,6 +1,6 @@
 /*
  * The sample clearance of document 01 through the session's calls: a line for each of its nine questions, state, yes or
- * no, parts and links, or the refusal. What it prints is held to clearance.expected, the document's own lines.
+ * no, parts and links, or the refusal. What it prints is held to examples/sample.expected.
  */
 #include "whatif.h"
 
