@@ -22,9 +22,10 @@
 //! the word `bytes` and two digits for each byte. Labels and states need not be those of the table: a program is to
 //! refuse them.
 //!
-//! Order: `lines` (words and numbers), `plan`, `rules`, `questions` (each from text to bytes and back); the whole input is
-//! in this file.
+//! Order: `lines` (words and numbers), `plan`, `rules`, `questions` (each from text to bytes and back), `dot` (a picture);
+//! the whole input is in this file.
 
+pub mod dot;
 pub mod lines;
 pub mod plan;
 pub mod questions;
@@ -85,4 +86,14 @@ pub fn show(input: &[u8]) -> Option<String> {
     let (rules, questions) = rest.split_at(rules);
     let shown = [plan::to_text(plan), rules::to_text(rules), questions::to_text(questions)];
     Some(NAMES.iter().zip(shown).map(|(name, text)| format!("{}\n{}", name, text)).collect::<Vec<_>>().join("\n"))
+}
+
+/// The plan with the parts of one of the questions, counted from 1, as Graphviz text; or what is wrong.
+pub fn draw(text: &str, question: usize) -> Result<String, String> {
+    let sections = sections(text).map_err(|wrong| wrong.to_string())?;
+    let plan = plan::to_bytes(&sections.plan).map_err(|wrong| wrong.to_string())?;
+    let line = question.checked_sub(1).and_then(|i| sections.questions.get(i));
+    let line = line.ok_or_else(|| format!("there is no question {}", question))?;
+    let changes = questions::changes(line).map_err(|wrong| wrong.to_string())?;
+    dot::picture(&plan, &changes).map_err(|number| format!("refused {}", number))
 }

@@ -1,20 +1,23 @@
 //! `whatif-text write` makes the bytes that the program `whatif` reads from text, `whatif-text show` makes text from such
-//! bytes; both from standard input to standard output. The form of the text stands in lib.rs.
+//! bytes, `whatif-text dot` draws a plan with the parts of one of its questions, counted from 1; from standard input to
+//! standard output. The form of the text stands in lib.rs.
 
 use std::io::{self, Read, Write};
 use std::process::exit;
 
 const USAGE: &str = "usage: whatif-text write < TEXT > BYTES
-       whatif-text show < BYTES > TEXT";
+       whatif-text show < BYTES > TEXT
+       whatif-text dot QUESTION < TEXT > GRAPHVIZ";
+
+const NOT_WHOLE: &str = "the input is shorter or longer than its three lengths say";
 
 fn main() {
     let words: Vec<String> = std::env::args().skip(1).collect();
     let words: Vec<&str> = words.iter().map(String::as_str).collect();
     let made = match &words[..] {
         ["write"] => read_text().and_then(|text| text::write(&text).map_err(|wrong| wrong.to_string())),
-        ["show"] => read()
-            .and_then(|input| text::show(&input).ok_or_else(|| "not as long as its lengths say".into()))
-            .map(String::into_bytes),
+        ["show"] => read().and_then(|input| text::show(&input).ok_or_else(|| NOT_WHOLE.into())).map(String::into_bytes),
+        ["dot", question] => read_text().and_then(|text| draw(&text, question)).map(String::into_bytes),
         _ => {
             eprintln!("{}", USAGE);
             exit(2);
@@ -24,6 +27,11 @@ fn main() {
         eprintln!("whatif-text: {}", what);
         exit(1);
     }
+}
+
+fn draw(text: &str, question: &str) -> Result<String, String> {
+    let question = question.parse().map_err(|_| format!("'{}' is not the number of a question", question))?;
+    text::draw(text, question)
 }
 
 fn read() -> Result<Vec<u8>, String> {
