@@ -4,8 +4,8 @@
  * to it.
  */
 #define _GNU_SOURCE
+#include "../sample.h"
 #include "calls.h"
-#include "whatif.h"
 
 #include <stdio.h>
 #include <stdlib.h>
@@ -19,11 +19,9 @@ struct plan {
     uint32_t upper, lower; /* of a branch question */
 };
 
-static const uint8_t plan_a[] = {7, 0, 0, 0, 12, 0, 0, 0, 19, 0, 0, 0, 1, 1, 1, 0, 1, 0, 1, 0, 0, 1, 0, 0, 1, 1};
-static const uint8_t rules_a[] = {2,  0, 0, 0, 2, 0, 0, 0, 20, 0, 0, 0, 22, 0, 0, 0,
-                                  30, 0, 0, 0, 0, 1, 0, 1, 0,  0, 1, 1, 0,  1, 0, 1};
-static const uint8_t branch_a[] = {3, 0, 0, 0, 2, 0, 0, 0, 16, 0, 0, 0, 22, 0, 0, 0, 0, 1, 2, 1, 2, 2, 0, 0, 1};
-static const struct plan sample = {"a", 7, 2, 2, 3, plan_a, rules_a, branch_a, 6, 3};
+static const struct plan sample = {
+    "a", SAMPLE_NODES, SAMPLE_STATES, 2, SAMPLE_BRANCH_STATES, plan, rules, branch, 6, 3,
+};
 
 /* A comb of 20 leaves: below each inner node the path and a leaf. */
 #define N 39
@@ -48,21 +46,7 @@ static void fill_b(void) {
         rules_b[sizeof rules_b - i] = branch_b[sizeof branch_b - i] = i % 2;
 }
 
-/* A list of changes. */
-struct list {
-    const char *name;
-    size_t m;
-    uint16_t nodes[4];
-    uint8_t labels[4];
-};
-
-/* The questions of the sample clearance, and one for the comb. */
-static const struct list asked[] = {
-    {"none", 0, {0}, {0}},      {"0", 1, {0}, {0}},        {"0-2", 2, {0, 2}, {0, 0}},
-    {"0-3", 2, {0, 3}, {0, 1}}, {"4", 1, {4}, {0}},        {"6", 1, {6}, {0}},
-    {"no-node", 1, {7}, {0}},   {"no-label", 1, {0}, {2}}, {"twice", 2, {0, 0}, {0, 1}},
-};
-static const struct list far = {"far", 3, {0, 9, 25}, {3, 5, 2}};
+static const struct question far = {3, {0, 9, 25}, {3, 5, 2}};
 
 static const char *folder;
 static FILE *file;
@@ -121,7 +105,7 @@ static void numbers(const uint16_t *list, size_t count) {
         put(list[i], 2);
 }
 
-static void changes(const struct list *list) {
+static void changes(const struct question *list) {
     numbers(list->nodes, list->m);
     bytes(list->labels, list->m);
 }
@@ -167,7 +151,7 @@ static void on_tables(const struct plan *p) {
 }
 
 /* With the record as it is before each call of a question. */
-static void on_records(const struct plan *p, const struct list *list) {
+static void on_records(const struct plan *p, const struct question *list) {
     uint8_t record[WHATIF_RECORD_BYTES] = {0};
     uint32_t parts, finished;
     size_t numbers_len = WHATIF_NODE_TABLE_LEN(p->n), bytes_len = WHATIF_STATE_TABLE_LEN(p->n, p->s);
@@ -194,7 +178,7 @@ static void on_records(const struct plan *p, const struct list *list) {
 static void step(enum step which) { put(which, 1); }
 
 /* Load, Start, some advances, Cancel, Start, the first state byte altered to 1, advances, Read. */
-static void panel(const struct plan *p, const struct list *list) {
+static void panel(const struct plan *p, const struct question *list) {
     begin(PANEL, p->name, ""), put(BEFORE, 1), plan_and_rules(p);
     step(DO_LOAD), step(DO_START), changes(list);
     for (int i = 0; i < 4; i++)
@@ -206,9 +190,9 @@ static void panel(const struct plan *p, const struct list *list) {
     step(DO_READ), end();
 }
 
-static void question(const struct plan *p, const struct list *list) {
-    begin(FRESH_RUN, list->name, ""), put(BEFORE, 1), plan_and_rules(p), changes(list), end();
-    begin(QUESTION, list->name, ""), put(BEFORE, 1), plan_and_rules(p), changes(list), end();
+static void question(const struct plan *p, const struct question *list, const char *which) {
+    begin(FRESH_RUN, p->name, which), put(BEFORE, 1), plan_and_rules(p), changes(list), end();
+    begin(QUESTION, p->name, which), put(BEFORE, 1), plan_and_rules(p), changes(list), end();
 }
 
 int main(int argc, char **argv) {
@@ -220,9 +204,11 @@ int main(int argc, char **argv) {
         mkdir(path, 0777);
     }
     fill_b();
-    on_tables(&sample), on_records(&sample, &asked[1]), panel(&sample, &asked[3]);
-    on_tables(&comb), on_records(&comb, &far), panel(&comb, &far), question(&comb, &far);
-    for (size_t i = 0; i < sizeof asked / sizeof *asked; i++)
-        question(&sample, &asked[i]);
+    on_tables(&sample), on_records(&sample, &questions[1]), panel(&sample, &questions[3]);
+    on_tables(&comb), on_records(&comb, &far), panel(&comb, &far), question(&comb, &far, "");
+    for (size_t i = 0; i < QUESTIONS; i++) {
+        char which[] = {'-', (char)('1' + i), 0};
+        question(&sample, &questions[i], which);
+    }
     return 0;
 }
