@@ -175,6 +175,24 @@ static void on_records(const struct plan *p, const struct question *list) {
     lengths(p, p->s), end();
 }
 
+static void start_with(const char *which, const struct question *list, size_t labels, const uint8_t *record) {
+    begin(START, sample.name, which), put(BEFORE, 1), numbers(list->nodes, list->m), bytes(list->labels, labels);
+    bytes(record, WHATIF_RECORD_BYTES), plan_and_rules(&sample), tables(&sample, SAMPLE_STATES), end();
+}
+
+/* Every refusal of Start but 1 and 17: a list without labels, the last questions of the sample, a table of 1s. */
+static void refused_starts(void) {
+    uint8_t record[WHATIF_RECORD_BYTES] = {0};
+    must(whatif_load(record, sizeof record, PLAN(&sample), RULES(&sample), nodes, 28, states, 21) == 0);
+    start_with("-12", &questions[1], 0, record);
+    start_with("-13", &questions[6], 1, record);
+    start_with("-14", &questions[7], 1, record);
+    start_with("-15", &questions[8], 2, record);
+    for (size_t i = 0; i < 28; i++)
+        nodes[i] = 1;
+    start_with("-18", &questions[3], 2, record);
+}
+
 static void step(enum step which) { put(which, 1); }
 
 /* Load, Start, some advances, Cancel, Start, the first state byte altered to 1, advances, Read. */
@@ -205,6 +223,7 @@ int main(int argc, char **argv) {
     }
     fill_b();
     on_tables(&sample), on_records(&sample, &questions[1]), panel(&sample, &questions[3]);
+    refused_starts();
     on_tables(&comb), on_records(&comb, &far), panel(&comb, &far), question(&comb, &far, "");
     for (size_t i = 0; i < QUESTIONS; i++) {
         char which[] = {'-', (char)('1' + i), 0};
