@@ -16,7 +16,7 @@ type Side = fn(&Call, &mut [u8], &mut [u16], &mut [u8], &mut [u32; 4]) -> u32;
 const SIDES: &[(&str, Side)] = &[
     ("plain Rust", by_plain),
     #[cfg(feature = "session")]
-    ("the library", by_library),
+    ("the library", library::call),
 ];
 
 const MARGIN: usize = 9;
@@ -146,17 +146,21 @@ fn by_plain(call: &Call, record: &mut [u8], numbers: &mut [u16], bytes: &mut [u8
 }
 
 #[cfg(feature = "session")]
-fn by_library(call: &Call, record: &mut [u8], numbers: &mut [u16], bytes: &mut [u8], out: &mut [u32; 4]) -> u32 {
+mod library {
+    use super::{Call, Lends};
     use whatif::slices;
-    match *call {
-        Call::Load(Lends { plan, rules, .. }) => slices::load(record, plan, rules, numbers, bytes),
-        Call::Start(Lends { plan, rules, numbers, bytes }, nodes, labels) => {
-            slices::start(record, plan, rules, numbers, bytes, nodes, labels, &mut out[0])
+
+    pub fn call(call: &Call, record: &mut [u8], numbers: &mut [u16], bytes: &mut [u8], out: &mut [u32; 4]) -> u32 {
+        match *call {
+            Call::Load(Lends { plan, rules, .. }) => slices::load(record, plan, rules, numbers, bytes),
+            Call::Start(Lends { plan, rules, numbers, bytes }, nodes, labels) => {
+                slices::start(record, plan, rules, numbers, bytes, nodes, labels, &mut out[0])
+            }
+            Call::Advance(Lends { plan, rules, numbers, bytes }) => {
+                slices::advance(record, plan, rules, numbers, bytes, &mut out[0])
+            }
+            Call::Cancel => slices::cancel(record),
+            Call::Read => slices::read(record, out),
         }
-        Call::Advance(Lends { plan, rules, numbers, bytes }) => {
-            slices::advance(record, plan, rules, numbers, bytes, &mut out[0])
-        }
-        Call::Cancel => slices::cancel(record),
-        Call::Read => slices::read(record, out),
     }
 }

@@ -1,10 +1,10 @@
 //! The what-if checker again, written from document 01 alone and for clarity: the library is compared with it.
 //!
-//! Order: `formats` (bytes and checks 2 to 10), `tree` (parents, depths, sizes, jumps), `tables` (run, maps, both table
+//! Order: `write` (plans and tables made into bytes), `sample` (document 01's sample clearance);
+//! `formats` (bytes and checks 2 to 10), `tree` (parents, depths, sizes, jumps), `tables` (run, maps, both table
 //! buffers), `climb` (moves), `branch` (branch questions), `fresh` (fresh run); `ready` (the ready set), `parts` (the
 //! rule for a part, on a tree), `lent` (the same on lent tables, whatever they hold); `panel` (the session's calls and
-//! answers), `record` (its record as bytes), `session` (the five calls), `book` (the panel book); `write` (plans and tables
-//! made into bytes), `sample` (document 01's sample clearance).
+//! answers), `record` (its record as bytes), `session` (the five calls), `book` (the panel book).
 //! The calls without a session are in this file.
 //! A refusal is its number. Nothing here is fast, and nothing is shared with the library.
 

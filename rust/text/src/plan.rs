@@ -43,7 +43,7 @@ fn nodes(bytes: &[u8]) -> Option<(&[u8], &[u8])> {
     let (labels, kinds) = bytes.get(12..)?.split_at((bytes.len() - 12) / 2);
     let as_many = !labels.is_empty() && labels.len() == kinds.len();
     let said = as_many && kinds.iter().all(|&kind| kind <= 1) && write::plan(labels, kinds) == bytes;
-    said.then(|| (labels, kinds))
+    said.then_some((labels, kinds))
 }
 
 /// The number of each node and, in a tree, those of its children.
