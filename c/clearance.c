@@ -1,19 +1,15 @@
 /*
  * The sample clearance of document 01 through the session's calls: a line for each of its nine questions, state, yes or
- * no, parts and links, or the refusal. What it prints is held to clearance.expected, the document's own lines.
+ * no, parts and links, or the refusal. What it prints is held to examples/sample.expected.
  */
-#include "whatif.h"
+#include "sample.h"
 
 #include <stdio.h>
 #include <string.h>
 
-static const uint8_t plan[] = {7, 0, 0, 0, 12, 0, 0, 0, 19, 0, 0, 0, 1, 1, 1, 0, 1, 0, 1, 0, 0, 1, 0, 0, 1, 1};
-static const uint8_t rules[] = {2, 0,  0, 0, 2, 0, 0, 0, 20, 0, 0, 0, 22, 0, 0, 0,
-                                30, 0, 0, 0, 0, 1, 0, 1, 0,  0, 1, 1, 0,  1, 0, 1};
-
 static uint8_t record[WHATIF_RECORD_BYTES];
-static uint16_t node_table[WHATIF_NODE_TABLE_LEN(7)];
-static uint8_t state_table[WHATIF_STATE_TABLE_LEN(7, 2)];
+static uint16_t node_table[WHATIF_NODE_TABLE_LEN(SAMPLE_NODES)];
+static uint8_t state_table[WHATIF_STATE_TABLE_LEN(SAMPLE_NODES, SAMPLE_STATES)];
 
 /* A refused call leaves the record and what it would tell. */
 static int refused(uint32_t answer, const uint8_t *before, uint32_t told) {
@@ -23,12 +19,12 @@ static int refused(uint32_t answer, const uint8_t *before, uint32_t told) {
     return 1;
 }
 
-static void ask(const uint16_t *nodes, const uint8_t *labels, size_t m) {
+static void ask(const struct question *q) {
     uint8_t before[WHATIF_RECORD_BYTES];
     uint32_t parts = 77, finished = 0, advances = 0, state, yes, told_parts, links;
     memcpy(before, record, sizeof record);
     uint32_t answer = whatif_start(record, sizeof record, plan, sizeof plan, rules, sizeof rules, node_table, 28,
-                                   state_table, 21, nodes, m, labels, m, &parts);
+                                   state_table, 21, NODES_OF(q), LABELS_OF(q), &parts);
     if (refused(answer, before, parts))
         return;
     for (; !finished; advances++)
@@ -47,14 +43,7 @@ int main(void) {
                                   state_table, 21);
     if (answer != WHATIF_ACCEPTED)
         return 1;
-    ask(NULL, NULL, 0);
-    ask((const uint16_t[]){0}, (const uint8_t[]){0}, 1);
-    ask((const uint16_t[]){0, 2}, (const uint8_t[]){0, 0}, 2);
-    ask((const uint16_t[]){0, 3}, (const uint8_t[]){0, 1}, 2);
-    ask((const uint16_t[]){4}, (const uint8_t[]){0}, 1);
-    ask((const uint16_t[]){6}, (const uint8_t[]){0}, 1);
-    ask((const uint16_t[]){7}, (const uint8_t[]){0}, 1);
-    ask((const uint16_t[]){0}, (const uint8_t[]){2}, 1);
-    ask((const uint16_t[]){0, 0}, (const uint8_t[]){0, 1}, 2);
+    for (size_t i = 0; i < QUESTIONS; i++)
+        ask(&questions[i]);
     return 0;
 }

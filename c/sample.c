@@ -2,25 +2,15 @@
  * The sample of document 01 through the C functions: plan A, table A, its nine questions as fresh runs, a branch table,
  * and one refusal of each function. What it prints is held to sample.expected.
  */
-#include "whatif.h"
+#include "sample.h"
 
 #include <stdio.h>
 #include <string.h>
 
-#define NODES 7
-#define STATES 2
-#define BRANCH_STATES 3
-
-/* Plan A: nodes 0 and 1 below 2, nodes 3 and 4 below 5, nodes 2 and 5 below the root 6. */
-static const uint8_t plan[] = {7, 0, 0, 0, 12, 0, 0, 0, 19, 0, 0, 0, 1, 1, 1, 0, 1, 0, 1, 0, 0, 1, 0, 0, 1, 1};
-/* Table A: label 0 takes the greater state, 1 the lesser; state 1 is marked. */
-static const uint8_t rules[] = {2, 0,  0, 0, 2, 0, 0, 0, 20, 0, 0, 0, 22, 0, 0, 0,
-                                30, 0, 0, 0, 0, 1, 0, 1, 0,  0, 1, 1, 0,  1, 0, 1};
-/* State 0 until a label 1 was read, then 1, and 2 once a label 0 came after it; state 2 is marked. */
-static const uint8_t branch[] = {3, 0, 0, 0, 2, 0, 0, 0, 16, 0, 0, 0, 22, 0, 0, 0, 0, 1, 2, 1, 2, 2, 0, 0, 1};
+#define NODES SAMPLE_NODES
 
 static uint16_t node_table[WHATIF_NODE_TABLE_LEN(NODES) + 1];
-static uint8_t state_table[WHATIF_STATE_TABLE_LEN(NODES, BRANCH_STATES) + 1];
+static uint8_t state_table[WHATIF_STATE_TABLE_LEN(NODES, SAMPLE_BRANCH_STATES) + 1];
 
 static const char *word(uint32_t yes) { return yes ? "yes" : "no"; }
 
@@ -47,7 +37,7 @@ static void rule_tables(void) {
     uint32_t yes = 9;
     clear_tables();
     printf("build %u\n", whatif_build(plan, sizeof plan, rules, sizeof rules, node_table, 29, state_table, 22));
-    print_tables(STATES);
+    print_tables(SAMPLE_STATES);
     uint32_t answer = whatif_check(plan, sizeof plan, rules, sizeof rules, node_table, 29, state_table, 22, &yes);
     printf("check %u %s\n", answer, word(yes));
     state_table[20] ^= 1;
@@ -55,26 +45,14 @@ static void rule_tables(void) {
     printf("check with the last byte changed %u %s\n", answer, word(yes));
 }
 
-/* The lines of the sample without parts and links. */
-static void fresh_run(const uint16_t *nodes, const uint8_t *labels, size_t m) {
+/* The line of a question without parts and links. */
+static void fresh_run(const struct question *q) {
     uint32_t state = 9, yes = 9;
-    uint32_t answer = whatif_fresh_run(plan, sizeof plan, rules, sizeof rules, nodes, m, labels, m, &state, &yes);
+    uint32_t answer = whatif_fresh_run(plan, sizeof plan, rules, sizeof rules, NODES_OF(q), LABELS_OF(q), &state, &yes);
     if (answer == WHATIF_ACCEPTED)
         printf("%u %s\n", state, word(yes));
     else
         printf("refused %u%s\n", answer, state == 9 && yes == 9 ? "" : ", and TOLD");
-}
-
-static void fresh_runs(void) {
-    fresh_run(NULL, NULL, 0);
-    fresh_run((const uint16_t[]){0}, (const uint8_t[]){0}, 1);
-    fresh_run((const uint16_t[]){0, 2}, (const uint8_t[]){0, 0}, 2);
-    fresh_run((const uint16_t[]){0, 3}, (const uint8_t[]){0, 1}, 2);
-    fresh_run((const uint16_t[]){4}, (const uint8_t[]){0}, 1);
-    fresh_run((const uint16_t[]){6}, (const uint8_t[]){0}, 1);
-    fresh_run((const uint16_t[]){7}, (const uint8_t[]){0}, 1);
-    fresh_run((const uint16_t[]){0}, (const uint8_t[]){2}, 1);
-    fresh_run((const uint16_t[]){0, 0}, (const uint8_t[]){0, 1}, 2);
 }
 
 static void ask(uint32_t upper, uint32_t lower) {
@@ -93,7 +71,7 @@ static void branch_tables(void) {
     clear_tables();
     printf("branch build %u\n",
            whatif_branch_build(plan, sizeof plan, branch, sizeof branch, node_table, 29, state_table, 29));
-    print_tables(BRANCH_STATES);
+    print_tables(SAMPLE_BRANCH_STATES);
     uint32_t answer =
         whatif_branch_check(plan, sizeof plan, branch, sizeof branch, node_table, 29, state_table, 29, &yes);
     printf("branch check %u %s\n", answer, word(yes));
@@ -127,10 +105,11 @@ static void refusals(void) {
 int main(void) {
     printf("version %s\n", WHATIF_VERSION);
     printf("bytes of plan %zu, rules %zu, branch table %zu\n", sizeof plan, sizeof rules, sizeof branch);
-    printf("by the macros %zu %zu %zu, largest rules %zu\n", WHATIF_PLAN_BYTES(NODES), WHATIF_RULES_BYTES(STATES, 2),
-           WHATIF_BRANCH_BYTES(BRANCH_STATES, 2), WHATIF_RULES_BYTES(WHATIF_MAX_STATES, WHATIF_MAX_LABELS));
+    printf("by the macros %zu %zu %zu, largest rules %zu\n", WHATIF_PLAN_BYTES(NODES), WHATIF_RULES_BYTES(SAMPLE_STATES, 2),
+           WHATIF_BRANCH_BYTES(SAMPLE_BRANCH_STATES, 2), WHATIF_RULES_BYTES(WHATIF_MAX_STATES, WHATIF_MAX_LABELS));
     rule_tables();
-    fresh_runs();
+    for (size_t i = 0; i < QUESTIONS; i++)
+        fresh_run(&questions[i]);
     branch_tables();
     refusals();
     return 0;

@@ -1,6 +1,6 @@
 /*
  * A trainer's walk at the panel: Load, Start, Cancel, Start, advances with a progress bar, Read, and one refusal.
- * Build it with: cc -Iinclude examples/panel.c target/staticlib/libcapi.a
+ * Build it with: cc examples/panel.c $(PKG_CONFIG_PATH=build pkg-config --cflags --libs whatif), after tools/archive.
  */
 #include "whatif.h"
 

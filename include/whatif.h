@@ -6,7 +6,7 @@
  * The bytes of plans, tables and records are in docs/LAYOUT.md, the order of the checks of each call in
  * docs/REFUSALS.md.
  *
- * Link with libcapi.a (x86-64). The library never allocates, keeps nothing between calls and is re-entrant: any
+ * Link with libwhatif.a (x86-64). The library never allocates, keeps nothing between calls and is re-entrant: any
  * number of threads may call it at once, each with buffers that no other thread writes during the call.
  *
  * What holds for every function:

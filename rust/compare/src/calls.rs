@@ -6,7 +6,7 @@
 use crate::random::Random;
 use reference::tables::Tables;
 use std::fmt::Debug;
-use whatif::raw;
+use whatif::slices;
 
 /// Which kind of table a call is about.
 #[derive(Clone, Copy, Debug, PartialEq, Eq)]
@@ -56,23 +56,11 @@ pub fn build_as(
     let mut bytes = random.bytes(lens.1 + 2 * MARGIN);
     let (mut want_numbers, mut want_bytes) = (numbers.clone(), bytes.clone());
     let (plan_was, table_was) = (plan.to_vec(), table.to_vec());
-    let f = match kind {
-        Kind::Rules => raw::whatif_build,
-        Kind::Branch => raw::whatif_branch_build,
+    let build = match kind {
+        Kind::Rules => slices::build,
+        Kind::Branch => slices::branch_build,
     };
-    // SAFETY: pointers into vectors of at least these lengths, none of which overlap
-    let number = unsafe {
-        f(
-            plan.as_ptr(),
-            plan.len(),
-            table.as_ptr(),
-            table.len(),
-            numbers.as_mut_ptr().add(MARGIN),
-            lens.0,
-            bytes.as_mut_ptr().add(MARGIN),
-            lens.1,
-        )
-    };
+    let number = build(plan, table, &mut numbers[MARGIN..MARGIN + lens.0], &mut bytes[MARGIN..MARGIN + lens.1]);
     assert_eq!(number, expected.err().unwrap_or(0), "the answer of the build");
     if let Ok(tables) = expected {
         want_numbers[MARGIN..MARGIN + tables.numbers.len()].copy_from_slice(&tables.numbers);
@@ -97,24 +85,11 @@ pub fn library_check(
 ) -> Result<bool, u32> {
     let unset = random.word() as u32 | 2;
     let mut yes = unset;
-    let f = match kind {
-        Kind::Rules => raw::whatif_check,
-        Kind::Branch => raw::whatif_branch_check,
+    let check = match kind {
+        Kind::Rules => slices::check,
+        Kind::Branch => slices::branch_check,
     };
-    // SAFETY: each pointer comes with its own slice's length
-    let number = unsafe {
-        f(
-            plan.as_ptr(),
-            plan.len(),
-            table.as_ptr(),
-            table.len(),
-            numbers.as_ptr(),
-            numbers.len(),
-            bytes.as_ptr(),
-            bytes.len(),
-            &mut yes,
-        )
-    };
+    let number = check(plan, table, numbers, bytes, &mut yes);
     told(number, &[yes], &[unset])?;
     assert!(yes <= 1, "the full check told {}", yes);
     Ok(yes == 1)
@@ -143,22 +118,7 @@ pub fn fresh_run(plan: &[u8], rules: &[u8], nodes: &[u16], labels: &[u8], random
     let expected = reference::fresh::fresh_run(plan, rules, nodes, labels);
     let unset = [random.word() as u32 | 16, random.word() as u32 | 16];
     let mut out = unset;
-    let [state, yes] = &mut out;
-    // SAFETY: each pointer comes with its own slice's length
-    let number = unsafe {
-        raw::whatif_fresh_run(
-            plan.as_ptr(),
-            plan.len(),
-            rules.as_ptr(),
-            rules.len(),
-            nodes.as_ptr(),
-            nodes.len(),
-            labels.as_ptr(),
-            labels.len(),
-            state,
-            yes,
-        )
-    };
+    let number = slices::fresh_run(plan, rules, nodes, labels, &mut out);
     let answer = told(number, &out, &unset).map(|()| out);
     let want = expected.map(|told| [told.state as u32, told.yes as u32]);
     assert_eq!(answer, want, "the answer of the fresh run with {:?} and {:?}", nodes, labels);
@@ -178,25 +138,7 @@ pub struct Lent<'a> {
 pub fn library_branch(lent: Lent, upper: u32, lower: u32, random: &mut Random) -> Result<[u32; 3], u32> {
     let unset = [random.word() as u32, random.word() as u32, random.word() as u32];
     let mut out = unset;
-    let [state, yes, links] = &mut out;
-    // SAFETY: each pointer comes with its own slice's length
-    let number = unsafe {
-        raw::whatif_branch(
-            lent.plan.as_ptr(),
-            lent.plan.len(),
-            lent.branch.as_ptr(),
-            lent.branch.len(),
-            lent.numbers.as_ptr(),
-            lent.numbers.len(),
-            lent.bytes.as_ptr(),
-            lent.bytes.len(),
-            upper,
-            lower,
-            state,
-            yes,
-            links,
-        )
-    };
+    let number = slices::branch(lent.plan, lent.branch, lent.numbers, lent.bytes, upper, lower, &mut out);
     told(number, &out, &unset).map(|()| out)
 }
 

@@ -5,32 +5,13 @@ use crate::random::Random;
 use crate::shapes::{kinds, Shape};
 use crate::trace;
 use reference::formats::read_plan;
+use reference::sample::{plan_a, table_a};
 use reference::tree::Tree;
-
-/// Little-endian 32-bit numbers, then the parts one after the other.
-fn with_header(header: &[usize], parts: &[&[u8]]) -> Vec<u8> {
-    let numbers = header.iter().flat_map(|&n| (n as u32).to_le_bytes());
-    numbers.chain(parts.concat()).collect()
-}
-
-pub fn plan(labels: &[u8], kinds: &[u8]) -> Vec<u8> {
-    let n = labels.len();
-    with_header(&[n, 12, 12 + n], &[labels, kinds])
-}
-
-pub fn rules(s: usize, k: usize, leaf: &[u8], inner: &[u8], marks: &[u8]) -> Vec<u8> {
-    with_header(&[s, k, 20, 20 + k, 20 + k + s * k * s], &[leaf, inner, marks])
-}
-
-pub fn branch(s: usize, k: usize, steps: &[u8], marks: &[u8]) -> Vec<u8> {
-    with_header(&[s, k, 16, 16 + s * k], &[steps, marks])
-}
+pub use reference::write::{branch, plan, rules};
 
 /// Plan A and table A of document 01's sample.
 pub fn sample() -> (Vec<u8>, Vec<u8>) {
-    let plan_a = plan(&[1, 1, 1, 0, 1, 0, 1], &[0, 0, 1, 0, 0, 1, 1]);
-    let table_a = rules(2, 2, &[0, 1], &[0, 1, 0, 0, 1, 1, 0, 1], &[0, 1]);
-    (plan_a, table_a)
+    (plan_a(), table_a())
 }
 
 /// A random rule table: entries without any pattern, so left and right differ.

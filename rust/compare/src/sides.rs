@@ -148,59 +148,19 @@ fn by_plain(call: &Call, record: &mut [u8], numbers: &mut [u16], bytes: &mut [u8
 #[cfg(feature = "session")]
 mod library {
     use super::{Call, Lends};
-    use whatif::raw;
+    use whatif::slices;
 
     pub fn call(call: &Call, record: &mut [u8], numbers: &mut [u16], bytes: &mut [u8], out: &mut [u32; 4]) -> u32 {
-        let (at, len) = (record.as_mut_ptr(), record.len());
-        let [first, second, third, fourth] = out;
-        // SAFETY: each pointer comes with its own slice's length, and nothing that is written overlaps
-        unsafe {
-            match *call {
-                Call::Load(Lends { plan, rules, .. }) => raw::whatif_load(
-                    at,
-                    len,
-                    plan.as_ptr(),
-                    plan.len(),
-                    rules.as_ptr(),
-                    rules.len(),
-                    numbers.as_mut_ptr(),
-                    numbers.len(),
-                    bytes.as_mut_ptr(),
-                    bytes.len(),
-                ),
-                Call::Start(Lends { plan, rules, numbers, bytes }, nodes, labels) => raw::whatif_start(
-                    at,
-                    len,
-                    plan.as_ptr(),
-                    plan.len(),
-                    rules.as_ptr(),
-                    rules.len(),
-                    numbers.as_ptr(),
-                    numbers.len(),
-                    bytes.as_ptr(),
-                    bytes.len(),
-                    nodes.as_ptr(),
-                    nodes.len(),
-                    labels.as_ptr(),
-                    labels.len(),
-                    first,
-                ),
-                Call::Advance(Lends { plan, rules, numbers, bytes }) => raw::whatif_advance(
-                    at,
-                    len,
-                    plan.as_ptr(),
-                    plan.len(),
-                    rules.as_ptr(),
-                    rules.len(),
-                    numbers.as_ptr(),
-                    numbers.len(),
-                    bytes.as_ptr(),
-                    bytes.len(),
-                    first,
-                ),
-                Call::Cancel => raw::whatif_cancel(at, len),
-                Call::Read => raw::whatif_read(at, len, first, second, third, fourth),
+        match *call {
+            Call::Load(Lends { plan, rules, .. }) => slices::load(record, plan, rules, numbers, bytes),
+            Call::Start(Lends { plan, rules, numbers, bytes }, nodes, labels) => {
+                slices::start(record, plan, rules, numbers, bytes, nodes, labels, &mut out[0])
             }
+            Call::Advance(Lends { plan, rules, numbers, bytes }) => {
+                slices::advance(record, plan, rules, numbers, bytes, &mut out[0])
+            }
+            Call::Cancel => slices::cancel(record),
+            Call::Read => slices::read(record, out),
         }
     }
 }

@@ -73,28 +73,14 @@ fn limits_of_the_list() {
     assert_eq!(run(&[198, 0], &[3, 3], random), 0);
 }
 
-/// Nodes, labels, and what is told.
-type Row = (&'static [u16], &'static [u8], Result<(u8, bool), u32>);
-
 #[test]
 fn the_sample() {
     let random = &mut Random::new(505);
     let (plan, rules) = inputs::sample();
     assert_eq!((plan.len(), rules.len()), (26, 32));
-    let rows: [Row; 9] = [
-        (&[], &[], Ok((1, true))),
-        (&[0], &[0], Ok((0, false))),
-        (&[0, 2], &[0, 0], Ok((1, true))),
-        (&[0, 3], &[0, 1], Ok((0, false))),
-        (&[4], &[0], Ok((0, false))),
-        (&[6], &[0], Ok((1, true))),
-        (&[7], &[0], Err(13)),
-        (&[0], &[2], Err(14)),
-        (&[0, 0], &[0, 1], Err(15)),
-    ];
-    for (nodes, labels, told) in rows {
-        let _ = calls::fresh_run(&plan, &rules, nodes, labels, random);
-        let answer = whatif::fresh_run(&plan, &rules, nodes, labels);
-        assert_eq!(answer.map(|a| (a.state, a.yes)).map_err(|refusal| refusal.number()), told);
+    for row in reference::sample::ROWS {
+        let _ = calls::fresh_run(&plan, &rules, row.nodes, row.labels, random);
+        let answer = whatif::fresh_run(&plan, &rules, row.nodes, row.labels);
+        assert_eq!(answer.map(|a| (a.state, a.yes)).map_err(|refusal| refusal.number()), row.fresh());
     }
 }

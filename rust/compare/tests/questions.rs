@@ -157,31 +157,17 @@ fn hex(cell: &str) -> Vec<u8> {
     digits.split_whitespace().map(|byte| u8::from_str_radix(byte, 16).expect("a byte")).collect()
 }
 
-/// Nodes, labels, and what is told: state, yes, parts, links; or the refusal.
-type Row = (&'static [u16], &'static [u8], Result<(u32, bool, u32, u32), u32>);
-
 #[test]
 fn the_sample_clearance() {
     let random = &mut Random::new(1207);
     let (plan, rules) = inputs::sample();
     let lent = Lent::built(&Case { n: 7, s: 2, k: 2, plan, rules, branch: vec![] }, random);
     let mut panel = Panel::loaded(&lent, random);
-    let rows: [Row; 9] = [
-        (&[], &[], Ok((1, true, 1, 0))),
-        (&[0], &[0], Ok((0, false, 2, 1))),
-        (&[0, 2], &[0, 0], Ok((1, true, 3, 0))),
-        (&[0, 3], &[0, 1], Ok((0, false, 5, 0))),
-        (&[4], &[0], Ok((0, false, 2, 1))),
-        (&[6], &[0], Ok((1, true, 1, 0))),
-        (&[7], &[0], Err(13)),
-        (&[0], &[2], Err(14)),
-        (&[0, 0], &[0, 1], Err(15)),
-    ];
-    for (nodes, labels, told) in rows {
-        let answer = match panel.start(&lent, nodes, labels, random) {
+    for row in reference::sample::ROWS {
+        let answer = match panel.start(&lent, row.nodes, row.labels, random) {
             Answer::Refused(number) => Err(number),
             _ => Ok(panel.finish(&lent, random).1),
         };
-        assert_eq!(answer.map(|t| (t.state, t.yes, t.parts, t.links)), told, "{:?} {:?}", nodes, labels);
+        assert_eq!(answer, row.told, "{:?} {:?}", row.nodes, row.labels);
     }
 }

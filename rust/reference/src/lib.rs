@@ -1,6 +1,7 @@
 //! The what-if checker again, written from document 01 alone and for clarity: the library is compared with it.
 //!
-//! Order: `formats` (bytes and checks 2 to 10), `tree` (parents, depths, sizes, jumps), `tables` (run, maps, both table
+//! Order: `write` (plans and tables made into bytes), `sample` (document 01's sample clearance);
+//! `formats` (bytes and checks 2 to 10), `tree` (parents, depths, sizes, jumps), `tables` (run, maps, both table
 //! buffers), `climb` (moves), `branch` (branch questions), `fresh` (fresh run); `ready` (the ready set), `parts` (the
 //! rule for a part, on a tree), `lent` (the same on lent tables, whatever they hold); `panel` (the session's calls and
 //! answers), `record` (its record as bytes), `session` (the five calls), `book` (the panel book).
@@ -18,9 +19,11 @@ pub mod panel;
 pub mod parts;
 pub mod ready;
 pub mod record;
+pub mod sample;
 pub mod session;
 pub mod tables;
 pub mod tree;
+pub mod write;
 
 use formats::{read_branch, read_plan, read_rules, Plan};
 use tables::Tables;

@@ -4,25 +4,15 @@ use reference::branch::{by_word, Answer};
 use reference::climb::climb;
 use reference::formats::{read_branch, read_plan, read_rules};
 use reference::fresh::fresh_run;
+use reference::sample::{plan_a, table_a, ROWS};
 use reference::tree::Tree;
-
-fn bytes(header: &[u32], parts: &[&[u8]]) -> Vec<u8> {
-    header.iter().flat_map(|n| n.to_le_bytes()).chain(parts.concat()).collect()
-}
-
-fn plan_a() -> Vec<u8> {
-    bytes(&[7, 12, 19], &[&[1, 1, 1, 0, 1, 0, 1], &[0, 0, 1, 0, 0, 1, 1]])
-}
-
-fn table_a() -> Vec<u8> {
-    bytes(&[2, 2, 20, 22, 30], &[&[0, 1], &[0, 1, 0, 0, 1, 1, 0, 1], &[0, 1]])
-}
+use reference::write;
 
 /// Leaves at the left of a path of inner nodes: the depths are 0, then 1 twice, 2 twice ..
 fn comb(leaves: usize) -> Vec<u8> {
     let n = 2 * leaves - 1;
     let kinds = [vec![0; leaves], vec![1; leaves - 1]].concat();
-    bytes(&[n as u32, 12, 12 + n as u32], &[&vec![0; n], &kinds])
+    write::plan(&vec![0; n], &kinds)
 }
 
 #[test]
@@ -30,25 +20,11 @@ fn sizes() {
     assert_eq!((plan_a().len(), table_a().len()), (26, 32));
 }
 
-/// Nodes, labels, and what is told.
-type Row = (&'static [u16], &'static [u8], Result<(u8, bool), u32>);
-
 #[test]
 fn sample_clearance() {
-    let rows: [Row; 9] = [
-        (&[], &[], Ok((1, true))),
-        (&[0], &[0], Ok((0, false))),
-        (&[0, 2], &[0, 0], Ok((1, true))),
-        (&[0, 3], &[0, 1], Ok((0, false))),
-        (&[4], &[0], Ok((0, false))),
-        (&[6], &[0], Ok((1, true))),
-        (&[7], &[0], Err(13)),
-        (&[0], &[2], Err(14)),
-        (&[0, 0], &[0, 1], Err(15)),
-    ];
-    for (nodes, labels, told) in rows {
-        let answer = fresh_run(&plan_a(), &table_a(), nodes, labels);
-        assert_eq!(answer.map(|a| (a.state, a.yes)), told, "{:?} {:?}", nodes, labels);
+    for row in ROWS {
+        let answer = fresh_run(&plan_a(), &table_a(), row.nodes, row.labels);
+        assert_eq!(answer.map(|a| (a.state, a.yes)), row.fresh(), "{:?} {:?}", row.nodes, row.labels);
     }
 }
 
@@ -88,7 +64,7 @@ fn climbs_stay_below_three_times_the_digits() {
 
 #[test]
 fn one_node_is_accepted_with_14_bytes() {
-    let plan = bytes(&[1, 12, 13], &[&[0], &[0]]);
+    let plan = write::plan(&[0], &[0]);
     assert_eq!(plan.len(), 14);
     assert!(read_plan(&plan).is_ok());
 }
@@ -97,7 +73,7 @@ fn one_node_is_accepted_with_14_bytes() {
 fn two_nodes_get_5() {
     for first in 0..=255 {
         for second in 0..=255 {
-            let plan = bytes(&[2, 12, 14], &[&[0, 0], &[first, second]]);
+            let plan = write::plan(&[0, 0], &[first, second]);
             assert_eq!(read_plan(&plan).err(), Some(5));
         }
     }
@@ -117,7 +93,7 @@ fn label_0_takes_the_greater_state_and_1_the_lesser() {
 #[test]
 fn branch_words_run_downward() {
     // three states: 0 until label 1 was read, then 1, and 2 once a 0 came after that; 2 is marked
-    let table = bytes(&[3, 2, 16, 22], &[&[0, 1, 2, 1, 2, 2], &[0, 0, 1]]);
+    let table = write::branch(3, 2, &[0, 1, 2, 1, 2, 2], &[0, 0, 1]);
     let plan = plan_a();
     let (plan, branch) = (read_plan(&plan).unwrap(), read_branch(&table).unwrap());
     let tree = Tree::of(&plan);

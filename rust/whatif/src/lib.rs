@@ -5,7 +5,7 @@
 //! never allocates; the caller lends the tables. A refused call has changed nothing.
 //!
 //! Order: `sizes` (limits and lengths), `Refusal`, the calls; with the feature `session`, `Session`, the panel session.
-//! `raw` has the library's own functions.
+//! `raw` has the library's own functions, `slices` the same on slices.
 //!
 //! The sample of document 01: plan A of seven nodes, and table A, under which label 0 takes the greater state of two
 //! children and label 1 the lesser.
@@ -42,6 +42,7 @@ mod refusal;
 #[cfg(feature = "session")]
 mod session;
 pub mod sizes;
+pub mod slices;
 
 pub use refusal::Refusal;
 #[cfg(feature = "session")]
@@ -81,98 +82,35 @@ pub struct BranchVerdict {
 /// assert_eq!((node_table, state_table), ([7; 4], [7; 4]));
 /// ```
 pub fn build(plan: &[u8], rules: &[u8], node_table: &mut [u16], state_table: &mut [u8]) -> Result<(), Refusal> {
-    // SAFETY: each pointer comes with its own slice's count, and the borrows keep the buffers apart
-    accepted(unsafe {
-        raw::whatif_build(
-            plan.as_ptr(),
-            plan.len(),
-            rules.as_ptr(),
-            rules.len(),
-            node_table.as_mut_ptr(),
-            node_table.len(),
-            state_table.as_mut_ptr(),
-            state_table.len(),
-        )
-    })
+    accepted(slices::build(plan, rules, node_table, state_table))
 }
 
 /// Are the lent tables what `build` writes for this plan and rule table? The rest of a longer table is not looked at.
 /// Refused with 2 to 11.
 pub fn check(plan: &[u8], rules: &[u8], node_table: &[u16], state_table: &[u8]) -> Result<bool, Refusal> {
     let mut yes = 0;
-    // SAFETY: each pointer comes with its own slice's count; `yes` is a place of this function
-    accepted(unsafe {
-        raw::whatif_check(
-            plan.as_ptr(),
-            plan.len(),
-            rules.as_ptr(),
-            rules.len(),
-            node_table.as_ptr(),
-            node_table.len(),
-            state_table.as_ptr(),
-            state_table.len(),
-            &mut yes,
-        )
-    })?;
+    accepted(slices::check(plan, rules, node_table, state_table, &mut yes))?;
     Ok(yes == 1)
 }
 
 /// Runs the rule table over the whole plan with the listed labels changed: node `nodes[i]` takes `labels[i]`.
 /// Refused with 2 to 10, 12 to 15.
 pub fn fresh_run(plan: &[u8], rules: &[u8], nodes: &[u16], labels: &[u8]) -> Result<Verdict, Refusal> {
-    let (mut state, mut yes) = (0, 0);
-    // SAFETY: as in `check`
-    accepted(unsafe {
-        raw::whatif_fresh_run(
-            plan.as_ptr(),
-            plan.len(),
-            rules.as_ptr(),
-            rules.len(),
-            nodes.as_ptr(),
-            nodes.len(),
-            labels.as_ptr(),
-            labels.len(),
-            &mut state,
-            &mut yes,
-        )
-    })?;
+    let mut told = [0; 2];
+    accepted(slices::fresh_run(plan, rules, nodes, labels, &mut told))?;
+    let [state, yes] = told;
     Ok(Verdict { state: state as u8, yes: yes == 1 })
 }
 
 /// Writes the tables of a plan and a branch table, as `build` does for a rule table. Refused with 2 to 11.
 pub fn branch_build(plan: &[u8], branch: &[u8], node_table: &mut [u16], state_table: &mut [u8]) -> Result<(), Refusal> {
-    // SAFETY: as in `build`
-    accepted(unsafe {
-        raw::whatif_branch_build(
-            plan.as_ptr(),
-            plan.len(),
-            branch.as_ptr(),
-            branch.len(),
-            node_table.as_mut_ptr(),
-            node_table.len(),
-            state_table.as_mut_ptr(),
-            state_table.len(),
-        )
-    })
+    accepted(slices::branch_build(plan, branch, node_table, state_table))
 }
 
 /// Are the lent tables what `branch_build` writes for this plan and branch table? Refused with 2 to 11.
 pub fn branch_check(plan: &[u8], branch: &[u8], node_table: &[u16], state_table: &[u8]) -> Result<bool, Refusal> {
     let mut yes = 0;
-    // SAFETY: as in `check`
-    accepted(unsafe {
-        raw::whatif_branch_check(
-            plan.as_ptr(),
-            plan.len(),
-            branch.as_ptr(),
-            branch.len(),
-            node_table.as_ptr(),
-            node_table.len(),
-            state_table.as_ptr(),
-            state_table.len(),
-            &mut yes,
-        )
-    })?;
+    accepted(slices::branch_check(plan, branch, node_table, state_table, &mut yes))?;
     Ok(yes == 1)
 }
 
@@ -206,25 +144,9 @@ pub fn branch(
     upper: u32,
     lower: u32,
 ) -> Result<BranchVerdict, Refusal> {
-    let (mut state, mut yes, mut links) = (0, 0, 0);
-    // SAFETY: as in `check`
-    accepted(unsafe {
-        raw::whatif_branch(
-            plan.as_ptr(),
-            plan.len(),
-            branch.as_ptr(),
-            branch.len(),
-            node_table.as_ptr(),
-            node_table.len(),
-            state_table.as_ptr(),
-            state_table.len(),
-            upper,
-            lower,
-            &mut state,
-            &mut yes,
-            &mut links,
-        )
-    })?;
+    let mut told = [0; 3];
+    accepted(slices::branch(plan, branch, node_table, state_table, upper, lower, &mut told))?;
+    let [state, yes, links] = told;
     Ok(BranchVerdict { state: state as u8, yes: yes == 1, links })
 }
 

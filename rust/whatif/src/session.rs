@@ -1,7 +1,7 @@
 //! The panel session: Load a plan, Start a question, advance part by part, Read the answer.
 
 use crate::sizes::RECORD_BYTES;
-use crate::{accepted, raw, Refusal};
+use crate::{accepted, slices, Refusal};
 
 /// A panel session: its record of 967 bytes, and nothing else. Plan, rule table and tables are lent with each call.
 ///
@@ -99,21 +99,7 @@ impl Session {
         node_table: &mut [u16],
         state_table: &mut [u8],
     ) -> Result<(), Refusal> {
-        // SAFETY: each pointer comes with its own slice's count, and the borrows keep the buffers apart
-        accepted(unsafe {
-            raw::whatif_load(
-                self.record.as_mut_ptr(),
-                self.record.len(),
-                plan.as_ptr(),
-                plan.len(),
-                rules.as_ptr(),
-                rules.len(),
-                node_table.as_mut_ptr(),
-                node_table.len(),
-                state_table.as_mut_ptr(),
-                state_table.len(),
-            )
-        })
+        accepted(slices::load(&mut self.record, plan, rules, node_table, state_table))
     }
 
     /// Puts a question: node `nodes[i]` takes `labels[i]`. Tells the number of its parts; the session is running then.
@@ -128,26 +114,7 @@ impl Session {
         labels: &[u8],
     ) -> Result<u32, Refusal> {
         let mut parts = 0;
-        // SAFETY: as in `load`; `parts` is a place of this function
-        accepted(unsafe {
-            raw::whatif_start(
-                self.record.as_mut_ptr(),
-                self.record.len(),
-                plan.as_ptr(),
-                plan.len(),
-                rules.as_ptr(),
-                rules.len(),
-                node_table.as_ptr(),
-                node_table.len(),
-                state_table.as_ptr(),
-                state_table.len(),
-                nodes.as_ptr(),
-                nodes.len(),
-                labels.as_ptr(),
-                labels.len(),
-                &mut parts,
-            )
-        })?;
+        accepted(slices::start(&mut self.record, plan, rules, node_table, state_table, nodes, labels, &mut parts))?;
         Ok(parts)
     }
 
@@ -160,22 +127,7 @@ impl Session {
         state_table: &[u8],
     ) -> Result<Progress, Refusal> {
         let mut finished = 0;
-        // SAFETY: as in `start`
-        accepted(unsafe {
-            raw::whatif_advance(
-                self.record.as_mut_ptr(),
-                self.record.len(),
-                plan.as_ptr(),
-                plan.len(),
-                rules.as_ptr(),
-                rules.len(),
-                node_table.as_ptr(),
-                node_table.len(),
-                state_table.as_ptr(),
-                state_table.len(),
-                &mut finished,
-            )
-        })?;
+        accepted(slices::advance(&mut self.record, plan, rules, node_table, state_table, &mut finished))?;
         Ok(if finished == 1 { Progress::Finished } else { Progress::More })
     }
 
@@ -185,17 +137,14 @@ impl Session {
     /// assert_eq!(whatif::Session::new().cancel(), Err(whatif::Refusal::SessionState));
     /// ```
     pub fn cancel(&mut self) -> Result<(), Refusal> {
-        // SAFETY: the pointer comes with its own array's count
-        accepted(unsafe { raw::whatif_cancel(self.record.as_mut_ptr(), self.record.len()) })
+        accepted(slices::cancel(&mut self.record))
     }
 
     /// The answer. Refused with 1.
     pub fn read(&self) -> Result<Answer, Refusal> {
-        let (mut state, mut yes, mut parts, mut links) = (0, 0, 0, 0);
-        // SAFETY: as in `cancel`; the others are places of this function
-        accepted(unsafe {
-            raw::whatif_read(self.record.as_ptr(), self.record.len(), &mut state, &mut yes, &mut parts, &mut links)
-        })?;
+        let mut told = [0; 4];
+        accepted(slices::read(&self.record, &mut told))?;
+        let [state, yes, parts, links] = told;
         Ok(Answer { state: state as u8, yes: yes == 1, parts, links })
     }
 }

@@ -1,0 +1,51 @@
+/*
+ * What a fuzz input may ask for. Its first byte says which, in this order; its second whether the buffers lie behind a
+ * page that must not be touched, or before one. The rest is as each function reads it: a lent slice is a 16-bit count
+ * and its elements, a table that the call writes a 16-bit count alone.
+ */
+#ifndef FUZZ_CALLS_H
+#define FUZZ_CALLS_H
+
+#include "lent.h"
+
+enum try {
+    BUILD,
+    CHECK,
+    FRESH_RUN,
+    BRANCH_BUILD,
+    BRANCH_CHECK,
+    BRANCH,
+    LOAD,
+    START,
+    ADVANCE,
+    CANCEL,
+    READ,
+    QUESTION,
+    PANEL,
+    TRIES
+};
+
+/* The steps of a list of calls, each a byte, then what it needs; any other byte is an advance too. */
+enum step { DO_LOAD, DO_START, DO_CANCEL, DO_READ, DO_ALTER, DO_ADVANCE };
+
+/* One exported call on whatever the input lends; the call's answer. tables.c */
+uint32_t try_build(struct input *in);
+uint32_t try_check(struct input *in);
+uint32_t try_fresh_run(struct input *in);
+uint32_t try_branch_build(struct input *in);
+uint32_t try_branch_check(struct input *in);
+uint32_t try_branch(struct input *in);
+
+/* The same for the session, on whatever the input has as record. session.c */
+uint32_t try_load(struct input *in);
+uint32_t try_start(struct input *in);
+uint32_t try_advance(struct input *in);
+uint32_t try_cancel(struct input *in);
+uint32_t try_read(struct input *in);
+
+/* A whole question from a fresh session on, held to a fresh run; the answer of Load, or else of Start. walks.c */
+uint32_t try_question(struct input *in);
+/* A list of calls from a fresh session on, with lent bytes altered between them; the last answer. walks.c */
+uint32_t try_panel(struct input *in);
+
+#endif

@@ -1,0 +1,81 @@
+/*
+ * Wrong libraries, to see that the fuzz target notices: the linker puts these functions before the library's, and
+ * FUZZ_FAULT says which of the faults below is laid. Not compiled with the sanitizers, as the archive isn't.
+ */
+#include "whatif.h"
+
+#include <stdlib.h>
+
+#define PLAN_RULES const uint8_t *plan, size_t plan_len, const uint8_t *rules, size_t rules_len
+#define WRITTEN uint16_t *nodes, size_t nodes_len, uint8_t *states, size_t states_len
+#define READ const uint16_t *nodes, size_t nodes_len, const uint8_t *states, size_t states_len
+#define LIST const uint16_t *listed, size_t listed_len, const uint8_t *labels, size_t labels_len
+#define ALL plan, plan_len, rules, rules_len, nodes, nodes_len, states, states_len
+
+uint32_t __real_whatif_build(PLAN_RULES, WRITTEN);
+uint32_t __real_whatif_check(PLAN_RULES, READ, uint32_t *yes);
+uint32_t __real_whatif_fresh_run(PLAN_RULES, LIST, uint32_t *state, uint32_t *yes);
+uint32_t __real_whatif_start(uint8_t *record, size_t record_len, PLAN_RULES, READ, LIST, uint32_t *parts);
+uint32_t __real_whatif_cancel(uint8_t *record, size_t record_len);
+uint32_t __real_whatif_read(const uint8_t *record, size_t record_len, uint32_t *state, uint32_t *yes, uint32_t *parts,
+                            uint32_t *links);
+
+static int laid(int fault) {
+    const char *chosen = getenv("FUZZ_FAULT");
+    return chosen && atoi(chosen) == fault;
+}
+
+uint32_t __wrap_whatif_build(PLAN_RULES, WRITTEN) {
+    uint32_t answer = __real_whatif_build(ALL);
+    if (laid(1) && answer != 0 && states_len > 0) /* a refused build writes */
+        states[0]++;
+    if (laid(2) && answer == 0 && states_len > 21) /* the excess is written */
+        states[21]++;
+    return answer;
+}
+
+uint32_t __wrap_whatif_check(PLAN_RULES, READ, uint32_t *yes) {
+    volatile uint8_t read = 0;
+    if (laid(3)) /* one byte past the plan */
+        read += plan[plan_len];
+    if (laid(4) && plan_len > 0) /* one byte before the plan */
+        read += plan[-1];
+    uint32_t answer = __real_whatif_check(ALL, yes);
+    if (laid(5) && answer == 0) /* yes to everything */
+        *yes = 1;
+    return answer;
+}
+
+uint32_t __wrap_whatif_fresh_run(PLAN_RULES, LIST, uint32_t *state, uint32_t *yes) {
+    uint32_t answer =
+        __real_whatif_fresh_run(plan, plan_len, rules, rules_len, listed, listed_len, labels, labels_len, state, yes);
+    if (laid(6) && answer != 0) /* refused, and told */
+        *state = 0;
+    return answer;
+}
+
+uint32_t __wrap_whatif_start(uint8_t *record, size_t record_len, PLAN_RULES, READ, LIST, uint32_t *parts) {
+    uint32_t answer = __real_whatif_start(record, record_len, ALL, listed, listed_len, labels, labels_len, parts);
+    if (laid(7) && answer == 0) /* the record left breaks its layout */
+        record[966] = 1;
+    if (laid(8) && answer == 0) /* more parts are told than there are */
+        ++*parts;
+    if (laid(9) && answer == 0 && listed_len > 0) /* another label is written down */
+        record[141] ^= 1;
+    return answer;
+}
+
+uint32_t __wrap_whatif_cancel(uint8_t *record, size_t record_len) {
+    uint32_t answer = __real_whatif_cancel(record, record_len);
+    if (laid(10) && answer == 0) /* the question stays */
+        record[0] = 2;
+    return answer;
+}
+
+uint32_t __wrap_whatif_read(const uint8_t *record, size_t record_len, uint32_t *state, uint32_t *yes, uint32_t *parts,
+                            uint32_t *links) {
+    uint32_t answer = __real_whatif_read(record, record_len, state, yes, parts, links);
+    if (laid(11) && answer == 0) /* yes to everything */
+        *yes = 1;
+    return answer;
+}

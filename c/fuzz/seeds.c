@@ -1,0 +1,233 @@
+/*
+ * Writes the seeds of the fuzz target into the folder it is given: for each call inputs that are accepted, and some
+ * that are not, on document 01's sample and on a deeper plan with more labels and states. c/fuzz/run holds c/fuzz/seeds
+ * to it.
+ */
+#define _GNU_SOURCE
+#include "../sample.h"
+#include "calls.h"
+
+#include <stdio.h>
+#include <stdlib.h>
+#include <sys/stat.h>
+
+/* A plan with its tables. */
+struct plan {
+    const char *name;
+    size_t n, s, k, branch_states;
+    const uint8_t *plan, *rules, *branch;
+    uint32_t upper, lower; /* of a branch question */
+};
+
+static const struct plan sample = {
+    "a", SAMPLE_NODES, SAMPLE_STATES, 2, SAMPLE_BRANCH_STATES, plan, rules, branch, 6, 3,
+};
+
+/* A comb of 20 leaves: below each inner node the path and a leaf. */
+#define N 39
+#define S 4
+#define K 8
+static uint8_t plan_b[WHATIF_PLAN_BYTES(N)] = {N, 0, 0, 0, 12, 0, 0, 0, 12 + N};
+static uint8_t rules_b[WHATIF_RULES_BYTES(S, K)] = {
+    S, 0, 0, 0, K, 0, 0, 0, 20, 0, 0, 0, 20 + K, 0, 0, 0, 20 + K + S *K *S};
+static uint8_t branch_b[WHATIF_BRANCH_BYTES(S, K)] = {S, 0, 0, 0, K, 0, 0, 0, 16, 0, 0, 0, 16 + S *K};
+static const struct plan comb = {"b", N, S, K, S, plan_b, rules_b, branch_b, 30, 1};
+
+static void fill_b(void) {
+    for (size_t v = 0; v < N; v++) {
+        plan_b[12 + v] = (uint8_t)(1 + v % (K - 2));
+        plan_b[12 + N + v] = v > 0 && v % 2 == 0;
+    }
+    for (size_t i = 20; i < sizeof rules_b - S; i++)
+        rules_b[i] = (uint8_t)((7 * i + i / 5) % S);
+    for (size_t i = 16; i < sizeof branch_b - S; i++)
+        branch_b[i] = (uint8_t)((3 * i + i / K) % S);
+    for (size_t i = 1; i <= S; i++)
+        rules_b[sizeof rules_b - i] = branch_b[sizeof branch_b - i] = i % 2;
+}
+
+static const struct question far = {3, {0, 9, 25}, {3, 5, 2}};
+
+static const char *folder;
+static FILE *file;
+static uint16_t nodes[WHATIF_NODE_TABLE_LEN(N)];
+static uint8_t states[WHATIF_STATE_TABLE_LEN(N, S)];
+
+static void must(int holds) {
+    if (!holds)
+        exit(1);
+}
+
+static void put(uint32_t number, size_t bytes) {
+    for (size_t i = 0; i < bytes; i++)
+        fputc((int)(number >> (8 * i) & 255), file);
+}
+
+static const char *const folders[TRIES] = {
+    [BUILD] = "build",
+    [CHECK] = "check",
+    [FRESH_RUN] = "fresh-run",
+    [BRANCH_BUILD] = "branch-build",
+    [BRANCH_CHECK] = "branch-check",
+    [BRANCH] = "branch",
+    [LOAD] = "load",
+    [START] = "start",
+    [ADVANCE] = "advance",
+    [CANCEL] = "cancel",
+    [READ] = "read",
+    [QUESTION] = "question",
+    [PANEL] = "panel",
+};
+
+/* A file in the folder of its call. */
+static void begin(enum try which, const char *name, const char *more) {
+    char path[4096];
+    must(snprintf(path, sizeof path, "%s/%s/%s%s", folder, folders[which], name, more) < (int)sizeof path);
+    file = fopen(path, "wb");
+    must(file != NULL);
+    put(which, 1);
+}
+
+/* The buffers lie before a page that must not be touched, or behind one. */
+enum side { BEFORE, BEHIND };
+
+static void end(void) { must(fclose(file) == 0); }
+
+static void bytes(const uint8_t *list, size_t count) {
+    put((uint32_t)count, 2);
+    for (size_t i = 0; i < count; i++)
+        put(list[i], 1);
+}
+
+static void numbers(const uint16_t *list, size_t count) {
+    put((uint32_t)count, 2);
+    for (size_t i = 0; i < count; i++)
+        put(list[i], 2);
+}
+
+static void changes(const struct question *list) {
+    numbers(list->nodes, list->m);
+    bytes(list->labels, list->m);
+}
+
+#define RULES(p) (p)->rules, WHATIF_RULES_BYTES((p)->s, (p)->k)
+#define BRANCH_TABLE(p) (p)->branch, WHATIF_BRANCH_BYTES((p)->branch_states, (p)->k)
+#define PLAN(p) (p)->plan, WHATIF_PLAN_BYTES((p)->n)
+
+static void plan_and_rules(const struct plan *p) {
+    bytes(PLAN(p));
+    bytes(RULES(p));
+}
+
+static void plan_and_branch(const struct plan *p) {
+    bytes(PLAN(p));
+    bytes(BRANCH_TABLE(p));
+}
+
+static void tables(const struct plan *p, size_t s) {
+    numbers(nodes, WHATIF_NODE_TABLE_LEN(p->n));
+    bytes(states, WHATIF_STATE_TABLE_LEN(p->n, s));
+}
+
+/* The lengths of tables that are written, with some excess. */
+static void lengths(const struct plan *p, size_t s) {
+    put((uint32_t)WHATIF_NODE_TABLE_LEN(p->n) + 1, 2);
+    put((uint32_t)WHATIF_STATE_TABLE_LEN(p->n, s) + 1, 2);
+}
+
+static void on_tables(const struct plan *p) {
+    size_t numbers_len = WHATIF_NODE_TABLE_LEN(p->n);
+    must(whatif_build(PLAN(p), RULES(p), nodes, numbers_len, states, WHATIF_STATE_TABLE_LEN(p->n, p->s)) == 0);
+    begin(BUILD, p->name, ""), put(BEFORE, 1), plan_and_rules(p), lengths(p, p->s), end();
+    begin(BUILD, p->name, "-short"), put(BEFORE, 1), plan_and_rules(p), put(27, 2), put(20, 2), end();
+    begin(CHECK, p->name, ""), put(BEFORE, 1), plan_and_rules(p), tables(p, p->s), end();
+    begin(CHECK, p->name, "-behind"), put(BEHIND, 1), plan_and_rules(p), tables(p, p->s), end();
+    size_t s = p->branch_states, bytes_len = WHATIF_STATE_TABLE_LEN(p->n, s);
+    must(whatif_branch_build(PLAN(p), BRANCH_TABLE(p), nodes, numbers_len, states, bytes_len) == 0);
+    begin(BRANCH_BUILD, p->name, ""), put(BEFORE, 1), plan_and_branch(p), lengths(p, s), end();
+    begin(BRANCH_CHECK, p->name, ""), put(BEFORE, 1), plan_and_branch(p), tables(p, s), end();
+    begin(BRANCH, p->name, ""), put(BEFORE, 1), put(p->upper, 4), put(p->lower, 4), plan_and_branch(p), tables(p, s),
+        end();
+}
+
+/* With the record as it is before each call of a question. */
+static void on_records(const struct plan *p, const struct question *list) {
+    uint8_t record[WHATIF_RECORD_BYTES] = {0};
+    uint32_t parts, finished;
+    size_t numbers_len = WHATIF_NODE_TABLE_LEN(p->n), bytes_len = WHATIF_STATE_TABLE_LEN(p->n, p->s);
+    begin(LOAD, p->name, ""), put(BEFORE, 1), bytes(record, 0), plan_and_rules(p), lengths(p, p->s), end();
+    must(whatif_load(record, sizeof record, PLAN(p), RULES(p), nodes, numbers_len, states, bytes_len) == 0);
+    begin(START, p->name, ""), put(BEFORE, 1), changes(list), bytes(record, sizeof record), plan_and_rules(p);
+    tables(p, p->s), end();
+    must(whatif_start(record, sizeof record, PLAN(p), RULES(p), nodes, numbers_len, states, bytes_len, list->nodes,
+                      list->m, list->labels, list->m, &parts) == 0);
+    begin(CANCEL, p->name, ""), put(BEFORE, 1), bytes(record, sizeof record), end();
+    for (uint32_t i = 1; i <= parts; i++) {
+        if (i == 1 || i == parts) {
+            begin(ADVANCE, p->name, i == 1 ? "" : "-last"), put(BEFORE, 1), bytes(record, sizeof record);
+            plan_and_rules(p), tables(p, p->s), end();
+        }
+        must(whatif_advance(record, sizeof record, PLAN(p), RULES(p), nodes, numbers_len, states, bytes_len,
+                            &finished) == 0);
+    }
+    begin(READ, p->name, ""), put(BEFORE, 1), bytes(record, sizeof record), end();
+    begin(LOAD, p->name, "-answered"), put(BEFORE, 1), bytes(record, sizeof record), plan_and_rules(p);
+    lengths(p, p->s), end();
+}
+
+static void start_with(const char *which, const struct question *list, size_t labels, const uint8_t *record) {
+    begin(START, sample.name, which), put(BEFORE, 1), numbers(list->nodes, list->m), bytes(list->labels, labels);
+    bytes(record, WHATIF_RECORD_BYTES), plan_and_rules(&sample), tables(&sample, SAMPLE_STATES), end();
+}
+
+/* Every refusal of Start but 1 and 17: a list without labels, the last questions of the sample, a table of 1s. */
+static void refused_starts(void) {
+    uint8_t record[WHATIF_RECORD_BYTES] = {0};
+    must(whatif_load(record, sizeof record, PLAN(&sample), RULES(&sample), nodes, 28, states, 21) == 0);
+    start_with("-12", &questions[1], 0, record);
+    start_with("-13", &questions[6], 1, record);
+    start_with("-14", &questions[7], 1, record);
+    start_with("-15", &questions[8], 2, record);
+    for (size_t i = 0; i < 28; i++)
+        nodes[i] = 1;
+    start_with("-18", &questions[3], 2, record);
+}
+
+static void step(enum step which) { put(which, 1); }
+
+/* Load, Start, some advances, Cancel, Start, the first state byte altered to 1, advances, Read. */
+static void panel(const struct plan *p, const struct question *list) {
+    begin(PANEL, p->name, ""), put(BEFORE, 1), plan_and_rules(p);
+    step(DO_LOAD), step(DO_START), changes(list);
+    for (int i = 0; i < 4; i++)
+        step(DO_ADVANCE);
+    step(DO_CANCEL), step(DO_START), changes(list);
+    step(DO_ALTER), put(3, 1), put(0, 2), put(1, 1);
+    for (int i = 0; i < 12; i++)
+        step(DO_ADVANCE);
+    step(DO_READ), end();
+}
+
+static void question(const struct plan *p, const struct question *list, const char *which) {
+    begin(FRESH_RUN, p->name, which), put(BEFORE, 1), plan_and_rules(p), changes(list), end();
+    begin(QUESTION, p->name, which), put(BEFORE, 1), plan_and_rules(p), changes(list), end();
+}
+
+int main(int argc, char **argv) {
+    must(argc == 2);
+    folder = argv[1];
+    for (size_t i = 0; i < TRIES; i++) {
+        char path[4096];
+        must(snprintf(path, sizeof path, "%s/%s", folder, folders[i]) < (int)sizeof path);
+        mkdir(path, 0777);
+    }
+    fill_b();
+    on_tables(&sample), on_records(&sample, &questions[1]), panel(&sample, &questions[3]);
+    refused_starts();
+    on_tables(&comb), on_records(&comb, &far), panel(&comb, &far), question(&comb, &far, "");
+    for (size_t i = 0; i < QUESTIONS; i++) {
+        char which[] = {'-', (char)('1' + i), 0};
+        question(&sample, &questions[i], which);
+    }
+    return 0;
+}

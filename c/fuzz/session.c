@@ -1,0 +1,142 @@
+/* The session's calls (session.h), and each of them on whatever an input lends. */
+#include "session.h"
+
+#include "calls.h"
+#include "whatif.h"
+
+#include <string.h>
+
+/*
+ * The record allows exactly the calls of its phase, and so does not break its layout. Load is asked with nothing lent,
+ * which is refused with 2 where it may be made; Cancel is asked of a copy.
+ */
+static void allows(const struct session *s, enum phase phase) {
+    uint8_t copy[WHATIF_RECORD_BYTES];
+    uint32_t a, b, c, d;
+    uint32_t loaded = whatif_load(LENT(s->record), NULL, 0, NULL, 0, NULL, 0, NULL, 0);
+    sure(loaded == (phase == RUNNING ? 1 : 2), "the record allows Load unless running");
+    uint32_t read = whatif_read(LENT(s->record), &a, &b, &c, &d);
+    sure(read == (phase == ANSWERED ? 0 : 1), "the record allows Read once answered");
+    memcpy(copy, s->record.at, sizeof copy);
+    uint32_t cancelled = whatif_cancel(copy, sizeof copy);
+    sure(cancelled == (phase == RUNNING ? 0 : 1), "the record allows Cancel while running");
+}
+
+static void done(struct session *s, uint32_t answer, enum phase phase) {
+    held(&s->plan, 0, "the plan stays");
+    held(&s->rules, 0, "the rule table stays");
+    held(&s->nodes, 0, "the node table stays");
+    held(&s->states, 0, "the state table stays");
+    if (answer != WHATIF_ACCEPTED) {
+        held(&s->record, 0, "a refused call leaves the record");
+        return;
+    }
+    sure(s->record.count == WHATIF_RECORD_BYTES, "only a whole record is accepted");
+    allows(s, phase);
+    keep(&s->record);
+}
+
+uint32_t load(struct session *s) {
+    uint32_t yes = UNSET;
+    uint32_t answer = whatif_load(LENT(s->record), LENT(s->plan), LENT(s->rules), LENT(s->nodes), LENT(s->states));
+    if (answer == WHATIF_ACCEPTED) {
+        size_t n = named(&s->plan, 0);
+        held(&s->nodes, WHATIF_NODE_TABLE_LEN(n), "the node table's excess stays");
+        held(&s->states, WHATIF_STATE_TABLE_LEN(n, named(&s->rules, 0)), "the state table's excess stays");
+        keep(&s->nodes);
+        keep(&s->states);
+        uint32_t checked = whatif_check(LENT(s->plan), LENT(s->rules), LENT(s->nodes), LENT(s->states), &yes);
+        sure(checked == WHATIF_ACCEPTED && yes == 1, "a full check after Load says yes");
+    }
+    done(s, answer, LOADED);
+    return answer;
+}
+
+uint32_t start(struct session *s, struct lent *listed, struct lent *labels, uint32_t *parts) {
+    *parts = UNSET;
+    uint32_t answer = whatif_start(LENT(s->record), LENT(s->plan), LENT(s->rules), LENT(s->nodes), LENT(s->states),
+                                   LENT(*listed), LENT(*labels), parts);
+    held(listed, 0, "the listed nodes stay");
+    held(labels, 0, "the listed labels stay");
+    told(answer, parts, 1);
+    sure(answer != WHATIF_ACCEPTED || (*parts >= 1 && *parts <= WHATIF_MAX_PARTS), "there are 1 to 254 parts");
+    done(s, answer, RUNNING);
+    return answer;
+}
+
+uint32_t advance(struct session *s, uint32_t *finished) {
+    *finished = UNSET;
+    uint32_t answer =
+        whatif_advance(LENT(s->record), LENT(s->plan), LENT(s->rules), LENT(s->nodes), LENT(s->states), finished);
+    told(answer, finished, 1);
+    sure(answer != WHATIF_ACCEPTED || *finished <= 1, "an advance tells more or finished");
+    done(s, answer, *finished == 1 ? ANSWERED : RUNNING);
+    return answer;
+}
+
+uint32_t cancel(struct session *s) {
+    uint32_t answer = whatif_cancel(LENT(s->record));
+    done(s, answer, LOADED);
+    return answer;
+}
+
+uint32_t tell(struct session *s, struct answer *read) {
+    uint32_t out[4] = {UNSET, UNSET, UNSET, UNSET};
+    uint32_t answer = whatif_read(LENT(s->record), &out[0], &out[1], &out[2], &out[3]);
+    told(answer, out, 4);
+    held(&s->record, 0, "Read leaves the record");
+    int fits = out[0] < WHATIF_MAX_STATES && out[1] <= 1 && out[2] >= 1 && out[2] <= WHATIF_MAX_PARTS;
+    sure(answer != WHATIF_ACCEPTED || fits, "Read tells a state, yes or no, and 1 to 254 parts");
+    done(s, answer, ANSWERED);
+    *read = (struct answer){out[0], out[1], out[2], out[3]};
+    return answer;
+}
+
+/* Everything from the input, the record too. */
+static struct session lend_session(struct input *in) {
+    struct lent record = lend(in, 1), plan = lend(in, 1), rules = lend(in, 1), nodes = lend(in, 2),
+                states = lend(in, 1);
+    struct session s = {record, plan, rules, nodes, states};
+    return s;
+}
+
+/* No record in the input stands for a fresh one. */
+uint32_t try_load(struct input *in) {
+    struct lent record = lend(in, 1), plan = lend(in, 1), rules = lend(in, 1);
+    if (record.count == 0)
+        record = lend_filled(WHATIF_RECORD_BYTES, 1, 0);
+    struct lent nodes = lend_filled(take(in, 2), 2, 0x77), states = lend_filled(take(in, 2), 1, 0x77);
+    struct session s = {record, plan, rules, nodes, states};
+    return load(&s);
+}
+
+uint32_t try_start(struct input *in) {
+    uint32_t parts;
+    struct lent listed = lend(in, 2), labels = lend(in, 1);
+    struct session s = lend_session(in);
+    return start(&s, &listed, &labels, &parts);
+}
+
+uint32_t try_advance(struct input *in) {
+    uint32_t finished;
+    struct session s = lend_session(in);
+    return advance(&s, &finished);
+}
+
+/* Cancel and Read are lent the record alone. */
+static struct session lend_record(struct input *in) {
+    struct lent record = lend(in, 1), none = lend_filled(0, 1, 0);
+    struct session s = {record, none, none, none, none};
+    return s;
+}
+
+uint32_t try_cancel(struct input *in) {
+    struct session s = lend_record(in);
+    return cancel(&s);
+}
+
+uint32_t try_read(struct input *in) {
+    struct answer read;
+    struct session s = lend_record(in);
+    return tell(&s, &read);
+}

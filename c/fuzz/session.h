@@ -1,0 +1,27 @@
+/* The five calls of the session, each held to what holds of it whatever is lent. */
+#ifndef FUZZ_SESSION_H
+#define FUZZ_SESSION_H
+
+#include "lent.h"
+
+/* Which calls a record allows. A record that breaks its layout allows none. */
+enum phase { EMPTY, LOADED, RUNNING, ANSWERED };
+
+/* All that a session is lent, the list of Start aside. */
+struct session {
+    struct lent record, plan, rules, nodes, states;
+};
+
+/* What Read tells. */
+struct answer {
+    uint32_t state, yes, parts, links;
+};
+
+/* A refused call has altered nothing. After an accepted one the record allows exactly the calls of its phase. */
+uint32_t load(struct session *s);
+uint32_t start(struct session *s, struct lent *listed, struct lent *labels, uint32_t *parts);
+uint32_t advance(struct session *s, uint32_t *finished);
+uint32_t cancel(struct session *s);
+uint32_t tell(struct session *s, struct answer *told);
+
+#endif

@@ -1,0 +1,109 @@
+/* Lists of session calls from a fresh record on, on one plan. */
+#include "calls.h"
+#include "session.h"
+#include "whatif.h"
+
+#define MOST_STEPS 60
+
+/* A fresh session with the plan and the rules of the input, and tables of the length that these name. */
+static struct session fresh(struct input *in) {
+    struct lent plan = lend(in, 1), rules = lend(in, 1);
+    size_t n = named(&plan, 0), s = named(&rules, 0), most = plan.count;
+    n = n < most ? n : most;
+    s = s < WHATIF_MAX_STATES ? s : WHATIF_MAX_STATES;
+    size_t numbers = WHATIF_NODE_TABLE_LEN(n), bytes = WHATIF_STATE_TABLE_LEN(n, s);
+    struct lent nodes = lend_filled(numbers < 65535 ? numbers : 65535, 2, 0x77);
+    struct lent states = lend_filled(bytes < 65535 ? bytes : 65535, 1, 0x77);
+    struct session one = {lend_filled(WHATIF_RECORD_BYTES, 1, 0), plan, rules, nodes, states};
+    return one;
+}
+
+/* A question on tables as built: as many advances as parts, and the answer of a fresh run. */
+static void finish(struct session *s, size_t listed, uint32_t parts, uint32_t state, uint32_t yes) {
+    struct answer read;
+    sure(parts <= (listed == 0 ? 1 : 4 * listed - 2), "m changes have at most 4m - 2 parts");
+    for (uint32_t i = 1, finished = 0; i <= parts; i++) {
+        sure(advance(s, &finished) == WHATIF_ACCEPTED, "an advance on tables as built is accepted");
+        sure(finished == (i == parts), "it is finished at the last part");
+    }
+    sure(tell(s, &read) == WHATIF_ACCEPTED, "a finished question may be read");
+    sure(read.state == state && read.yes == yes, "it is answered as by a fresh run");
+    /* 15 binary digits of the greatest depth */
+    sure(read.parts == parts && read.links <= 3 * 15 * parts, "a part has at most 3 links for each binary digit");
+}
+
+uint32_t try_question(struct input *in) {
+    struct session s = fresh(in);
+    struct lent listed = lend(in, 2), labels = lend(in, 1);
+    uint32_t parts, state = UNSET, yes = UNSET;
+    uint32_t loaded = load(&s);
+    uint32_t run = whatif_fresh_run(LENT(s.plan), LENT(s.rules), LENT(listed), LENT(labels), &state, &yes);
+    if (loaded != WHATIF_ACCEPTED) {
+        sure(loaded == run || loaded == WHATIF_REFUSED_BUFFER_SHORT, "Load and a fresh run refuse a plan alike");
+        return loaded;
+    }
+    uint32_t answer = start(&s, &listed, &labels, &parts);
+    sure(answer == run, "Start and a fresh run refuse a list alike");
+    if (answer == WHATIF_ACCEPTED)
+        finish(&s, listed.count, parts, state, yes);
+    return answer;
+}
+
+/* One byte of what is lent becomes another; never the record, which nobody else writes. */
+static void alter(struct session *s, struct input *in) {
+    struct lent *lends[] = {&s->plan, &s->rules, &s->nodes, &s->states};
+    struct lent *one = lends[take(in, 1) % 4];
+    size_t bytes = one->count * one->width, at = take(in, 2);
+    uint8_t to = (uint8_t)take(in, 1);
+    if (bytes > 0)
+        ((uint8_t *)one->at)[at % bytes] = to;
+    keep(one);
+}
+
+static uint32_t start_from(struct session *s, struct input *in) {
+    uint32_t parts;
+    struct lent listed = lend(in, 2), labels = lend(in, 1);
+    uint32_t answer = start(s, &listed, &labels, &parts);
+    give_back_last(2);
+    return answer;
+}
+
+/* One call: its answer, and the phase after it. It is refused with 1 exactly where the phase forbids it. */
+static uint32_t step(struct session *s, enum phase *phase, struct input *in) {
+    struct answer read;
+    uint32_t answer, finished = 0;
+    enum phase was = *phase, next;
+    int allowed;
+    switch (take(in, 1) % (DO_ADVANCE + 2)) {
+    case DO_LOAD:
+        answer = load(s), next = LOADED, allowed = was != RUNNING;
+        break;
+    case DO_START:
+        answer = start_from(s, in), next = RUNNING, allowed = was == LOADED || was == ANSWERED;
+        break;
+    case DO_CANCEL:
+        answer = cancel(s), next = LOADED, allowed = was == RUNNING;
+        break;
+    case DO_READ:
+        answer = tell(s, &read), next = ANSWERED, allowed = was == ANSWERED;
+        break;
+    case DO_ALTER:
+        alter(s, in);
+        return WHATIF_ACCEPTED;
+    default:
+        answer = advance(s, &finished), next = finished == 1 ? ANSWERED : RUNNING, allowed = was == RUNNING;
+    }
+    sure((answer == WHATIF_REFUSED_SESSION_STATE) == !allowed, "1 exactly where the session's state forbids the call");
+    if (answer == WHATIF_ACCEPTED)
+        *phase = next;
+    return answer;
+}
+
+uint32_t try_panel(struct input *in) {
+    struct session s = fresh(in);
+    enum phase phase = EMPTY;
+    uint32_t answer = WHATIF_ACCEPTED;
+    for (size_t i = 0; i < MOST_STEPS && in->left > 0; i++)
+        answer = step(&s, &phase, in);
+    return answer;
+}

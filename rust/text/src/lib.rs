@@ -1,0 +1,99 @@
+//! The input of the program `whatif` as text that people can write and read.
+//!
+//! ```text
+//! plan              # a node a line, in post-order: its kind and its label
+//! leaf 1            # node 0
+//! leaf 0            # node 1
+//! inner 1           # node 2, over the two trees before it
+//! rules
+//! states 2
+//! labels 2
+//! leaf * -> 0       # the state of a leaf, by label; * is all of them, and a later line counts
+//! leaf 1 -> 1
+//! inner * * * -> 0  # left state, label, right state, and the state that follows
+//! inner 1 * 1 -> 1
+//! accept 1          # the states that clear a plan
+//! questions         # a question a line: node->label for each change
+//! none
+//! 0->0 2->0
+//! ```
+//!
+//! `#` begins a comment. Bytes that have no such form, or that are to be refused, are written as they are, with lines of
+//! the word `bytes` and two digits for each byte. Labels and states need not be those of the table: a program is to
+//! refuse them.
+//!
+//! Order: `lines` (words and numbers), `plan`, `rules`, `questions` (each from text to bytes and back), `dot` (a picture);
+//! the whole input is in this file.
+
+pub mod dot;
+pub mod lines;
+pub mod plan;
+pub mod questions;
+pub mod rules;
+
+use lines::{Line, Wrong};
+use reference::formats::number;
+use reference::write::with_header;
+
+/// The lines of each section.
+#[derive(Default)]
+pub struct Sections<'a> {
+    pub plan: Vec<Line<'a>>,
+    pub rules: Vec<Line<'a>>,
+    pub questions: Vec<Line<'a>>,
+}
+
+const NAMES: [&str; 3] = ["plan", "rules", "questions"];
+
+/// Sections may be left out, but not exchanged.
+pub fn sections(text: &str) -> Result<Sections<'_>, Wrong> {
+    let mut found = [vec![], vec![], vec![]];
+    let mut at = None;
+    for line in lines::of(text) {
+        let named = NAMES.iter().position(|name| line.words == [*name]);
+        match (named, at) {
+            (Some(next), None) => at = Some(next),
+            (Some(next), Some(now)) if next > now => at = Some(next),
+            (Some(next), _) => return Err(line.wrong(format!("'{}' stands too late, or again", NAMES[next]))),
+            (None, Some(now)) => found[now].push(line),
+            (None, None) => return Err(line.wrong("this is in no section: 'plan', 'rules' or 'questions' comes first")),
+        }
+    }
+    let [plan, rules, questions] = found;
+    Ok(Sections { plan, rules, questions })
+}
+
+/// "three 32-bit lengths (plan, rules, questions), then those bytes"
+pub fn write(text: &str) -> Result<Vec<u8>, Wrong> {
+    let sections = sections(text)?;
+    let plan = plan::to_bytes(&sections.plan)?;
+    let rules = rules::to_bytes(&sections.rules)?;
+    let questions = questions::to_bytes(&sections.questions)?;
+    Ok(with_header(&[plan.len(), rules.len(), questions.len()], &[&plan, &rules, &questions]))
+}
+
+/// Text from which `write` makes these bytes; none where they are fewer or more than their lengths say.
+pub fn show(input: &[u8]) -> Option<String> {
+    if input.len() < 12 {
+        return None;
+    }
+    let [plan, rules, questions] = [0, 4, 8].map(|at| number(input, at) as usize);
+    let bytes = &input[12..];
+    if plan.checked_add(rules)?.checked_add(questions)? != bytes.len() {
+        return None;
+    }
+    let (plan, rest) = bytes.split_at(plan);
+    let (rules, questions) = rest.split_at(rules);
+    let shown = [plan::to_text(plan), rules::to_text(rules), questions::to_text(questions)];
+    Some(NAMES.iter().zip(shown).map(|(name, text)| format!("{}\n{}", name, text)).collect::<Vec<_>>().join("\n"))
+}
+
+/// The plan with the parts of one of the questions, counted from 1, as Graphviz text; or what is wrong.
+pub fn draw(text: &str, question: usize) -> Result<String, String> {
+    let sections = sections(text).map_err(|wrong| wrong.to_string())?;
+    let plan = plan::to_bytes(&sections.plan).map_err(|wrong| wrong.to_string())?;
+    let line = question.checked_sub(1).and_then(|i| sections.questions.get(i));
+    let line = line.ok_or_else(|| format!("there is no question {}", question))?;
+    let changes = questions::changes(line).map_err(|wrong| wrong.to_string())?;
+    dot::picture(&plan, &changes).map_err(|number| format!("refused {}", number))
+}

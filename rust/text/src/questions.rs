@@ -1,0 +1,63 @@
+//! Questions: "a question is a 16-bit m and m times a 16-bit node and an 8-bit label". A line each.
+
+use crate::lines::{raw_text, Line, Wrong};
+
+/// A node and the label it is to take.
+pub type Change = (u16, u8);
+
+pub fn to_bytes(lines: &[Line]) -> Result<Vec<u8>, Wrong> {
+    let mut bytes = Vec::new();
+    for line in lines {
+        match line.raw()? {
+            Some(raw) => bytes.extend(raw),
+            None => bytes.extend(question(&changes(line)?)),
+        }
+    }
+    Ok(bytes)
+}
+
+/// The changes of a line.
+pub fn changes(line: &Line) -> Result<Vec<Change>, Wrong> {
+    if line.words == ["none"] {
+        return Ok(vec![]);
+    }
+    if line.words.len() > 65_535 {
+        return Err(line.wrong("a question has at most 65,535 changes"));
+    }
+    line.words.iter().map(|word| change(line, word)).collect()
+}
+
+fn change(line: &Line, word: &str) -> Result<Change, Wrong> {
+    match word.split_once("->") {
+        Some((node, label)) => Ok((line.number(node, 65_535)? as u16, line.byte(label)?)),
+        None => Err(line.wrong(format!("'{}' is not NODE->LABEL, 'none' or 'bytes ..'", word))),
+    }
+}
+
+fn question(changes: &[Change]) -> Vec<u8> {
+    let mut bytes = (changes.len() as u16).to_le_bytes().to_vec();
+    for (node, label) in changes {
+        bytes.extend(node.to_le_bytes());
+        bytes.push(*label);
+    }
+    bytes
+}
+
+pub fn to_text(bytes: &[u8]) -> String {
+    let (mut text, mut rest) = (String::new(), bytes);
+    while let Some((line, after)) = first(rest) {
+        text += &line;
+        rest = after;
+    }
+    text + &raw_text(rest)
+}
+
+/// The line of the first question and what stands after it; none where it is cut short.
+fn first(bytes: &[u8]) -> Option<(String, &[u8])> {
+    let m = u16::from_le_bytes(bytes.get(..2)?.try_into().ok()?) as usize;
+    let listed = bytes.get(2..2 + 3 * m)?;
+    let said = |entry: &[u8]| format!("{}->{}", u16::from_le_bytes([entry[0], entry[1]]), entry[2]);
+    let words: Vec<String> = listed.chunks(3).map(said).collect();
+    let line = if m == 0 { "none".to_string() } else { words.join(" ") };
+    Some((line + "\n", &bytes[2 + 3 * m..]))
+}

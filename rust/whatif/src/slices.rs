@@ -1,0 +1,205 @@
+//! The library's functions on slices: each pointer with its own slice's count, kept apart by the borrows. The answer is a
+//! number, 0 or a refusal's; what is told goes to the last parameter, in the header's order, and only where that is 0.
+
+use crate::raw;
+
+type Build = unsafe extern "C" fn(*const u8, usize, *const u8, usize, *mut u16, usize, *mut u8, usize) -> u32;
+type Check =
+    unsafe extern "C" fn(*const u8, usize, *const u8, usize, *const u16, usize, *const u8, usize, *mut u32) -> u32;
+
+pub fn build(plan: &[u8], rules: &[u8], node_table: &mut [u16], state_table: &mut [u8]) -> u32 {
+    build_by(raw::whatif_build, plan, rules, node_table, state_table)
+}
+
+pub fn branch_build(plan: &[u8], branch: &[u8], node_table: &mut [u16], state_table: &mut [u8]) -> u32 {
+    build_by(raw::whatif_branch_build, plan, branch, node_table, state_table)
+}
+
+fn build_by(build: Build, plan: &[u8], table: &[u8], node_table: &mut [u16], state_table: &mut [u8]) -> u32 {
+    // SAFETY: one of the two above; each pointer comes with its own slice's count, and the borrows keep the buffers apart
+    unsafe {
+        build(
+            plan.as_ptr(),
+            plan.len(),
+            table.as_ptr(),
+            table.len(),
+            node_table.as_mut_ptr(),
+            node_table.len(),
+            state_table.as_mut_ptr(),
+            state_table.len(),
+        )
+    }
+}
+
+pub fn check(plan: &[u8], rules: &[u8], node_table: &[u16], state_table: &[u8], yes: &mut u32) -> u32 {
+    check_by(raw::whatif_check, plan, rules, node_table, state_table, yes)
+}
+
+pub fn branch_check(plan: &[u8], branch: &[u8], node_table: &[u16], state_table: &[u8], yes: &mut u32) -> u32 {
+    check_by(raw::whatif_branch_check, plan, branch, node_table, state_table, yes)
+}
+
+fn check_by(check: Check, plan: &[u8], table: &[u8], node_table: &[u16], state_table: &[u8], yes: &mut u32) -> u32 {
+    // SAFETY: as in `build_by`
+    unsafe {
+        check(
+            plan.as_ptr(),
+            plan.len(),
+            table.as_ptr(),
+            table.len(),
+            node_table.as_ptr(),
+            node_table.len(),
+            state_table.as_ptr(),
+            state_table.len(),
+            yes,
+        )
+    }
+}
+
+/// Tells state and yes.
+pub fn fresh_run(plan: &[u8], rules: &[u8], nodes: &[u16], labels: &[u8], told: &mut [u32; 2]) -> u32 {
+    let [state, yes] = told;
+    // SAFETY: as in `build_by`
+    unsafe {
+        raw::whatif_fresh_run(
+            plan.as_ptr(),
+            plan.len(),
+            rules.as_ptr(),
+            rules.len(),
+            nodes.as_ptr(),
+            nodes.len(),
+            labels.as_ptr(),
+            labels.len(),
+            state,
+            yes,
+        )
+    }
+}
+
+/// Tells state, yes and links.
+pub fn branch(
+    plan: &[u8],
+    branch: &[u8],
+    node_table: &[u16],
+    state_table: &[u8],
+    upper: u32,
+    lower: u32,
+    told: &mut [u32; 3],
+) -> u32 {
+    let [state, yes, links] = told;
+    // SAFETY: as in `build_by`
+    unsafe {
+        raw::whatif_branch(
+            plan.as_ptr(),
+            plan.len(),
+            branch.as_ptr(),
+            branch.len(),
+            node_table.as_ptr(),
+            node_table.len(),
+            state_table.as_ptr(),
+            state_table.len(),
+            upper,
+            lower,
+            state,
+            yes,
+            links,
+        )
+    }
+}
+
+#[cfg(feature = "session")]
+pub use session::*;
+
+#[cfg(feature = "session")]
+mod session {
+    use crate::raw;
+
+    pub fn load(record: &mut [u8], plan: &[u8], rules: &[u8], node_table: &mut [u16], state_table: &mut [u8]) -> u32 {
+        // SAFETY: each pointer comes with its own slice's count, and the borrows keep the buffers apart
+        unsafe {
+            raw::whatif_load(
+                record.as_mut_ptr(),
+                record.len(),
+                plan.as_ptr(),
+                plan.len(),
+                rules.as_ptr(),
+                rules.len(),
+                node_table.as_mut_ptr(),
+                node_table.len(),
+                state_table.as_mut_ptr(),
+                state_table.len(),
+            )
+        }
+    }
+
+    #[allow(clippy::too_many_arguments)] // those of the call
+    pub fn start(
+        record: &mut [u8],
+        plan: &[u8],
+        rules: &[u8],
+        node_table: &[u16],
+        state_table: &[u8],
+        nodes: &[u16],
+        labels: &[u8],
+        parts: &mut u32,
+    ) -> u32 {
+        // SAFETY: as in `load`
+        unsafe {
+            raw::whatif_start(
+                record.as_mut_ptr(),
+                record.len(),
+                plan.as_ptr(),
+                plan.len(),
+                rules.as_ptr(),
+                rules.len(),
+                node_table.as_ptr(),
+                node_table.len(),
+                state_table.as_ptr(),
+                state_table.len(),
+                nodes.as_ptr(),
+                nodes.len(),
+                labels.as_ptr(),
+                labels.len(),
+                parts,
+            )
+        }
+    }
+
+    pub fn advance(
+        record: &mut [u8],
+        plan: &[u8],
+        rules: &[u8],
+        node_table: &[u16],
+        state_table: &[u8],
+        finished: &mut u32,
+    ) -> u32 {
+        // SAFETY: as in `load`
+        unsafe {
+            raw::whatif_advance(
+                record.as_mut_ptr(),
+                record.len(),
+                plan.as_ptr(),
+                plan.len(),
+                rules.as_ptr(),
+                rules.len(),
+                node_table.as_ptr(),
+                node_table.len(),
+                state_table.as_ptr(),
+                state_table.len(),
+                finished,
+            )
+        }
+    }
+
+    pub fn cancel(record: &mut [u8]) -> u32 {
+        // SAFETY: as in `load`
+        unsafe { raw::whatif_cancel(record.as_mut_ptr(), record.len()) }
+    }
+
+    /// Tells state, yes, parts and links.
+    pub fn read(record: &[u8], told: &mut [u32; 4]) -> u32 {
+        let [state, yes, parts, links] = told;
+        // SAFETY: as in `load`
+        unsafe { raw::whatif_read(record.as_ptr(), record.len(), state, yes, parts, links) }
+    }
+}
