@@ -2,6 +2,7 @@
 --     refused-keeps     a refusal, 18 too, leaves the record as it is
 --     start-kept        Start
 --     advance-kept      advance
+--     start-usable      positive control: what an advance asks of usable tables holds after a Start on tables as built
 -- Assumes nothing.
 use Prim.Native.Nat.{ℕ, zero, suc, _+_, _≤_, _<_}
 use mathlib.Core.Path.{_≡_, refl, sym, ap, ap₂, _∙_, subst}
@@ -26,7 +27,7 @@ use Rattle.questions.specs.Part.{partOn}
 use Rattle.questions.specs.Promises.{RootsAre}
 use Rattle.questions.proofs.RootsLaws.{rootsOn-are}
 use Rattle.questions.proofs.PartBounds.{part-bounded}
-use Rattle.book.specs.Lends.{Lent, fits, sameLinks, usedNums, linksBuilt}
+use Rattle.book.specs.Lends.{Lent, sameLinks, usedNums, linksBuilt, bytesBelow}
 use Rattle.book.specs.Calls.{Call, load, start, advance, cancel, read, Answer, refused, parts, more, finished, Phase}
 use Rattle.book.specs.Refusals.{refusal}
 use Rattle.book.specs.Book.{rootsOf, givenBy}
@@ -37,7 +38,7 @@ use Rattle.book.specs.Kept.{StartKept, questionOf, Usable, ruleGives, Ad
 use Rattle.book.proofs.Facts.{Firmly, Handled, reachedBy}
 use Rattle.book.proofs.LayersHold.{layers}
 use Rattle.book.proofs.TrailLaws.{length-states}
-use Rattle.book.proofs.StartSim.{start-list}
+use Rattle.book.proofs.StartSim.{some-part, start-list}
 use Rattle.book.proofs.AdvanceSim.{advance-fits}
 
 -- "a refusal alters nothing"
@@ -105,6 +106,24 @@ module _ (r : Record) (x : Lent) (vs bs : List ℕ) where
         few = λ p w. absurd (let z : _≡_ {A = ℕ} 0 1 = cc in omega arith);
         built = λ f l. absurd (omega (arith, f, e));
       }
+
+-- after a Start on numbers as built, tables with any bytes below S are usable: the premise of `rule` can be met
+pub start-usable : (r : Record) (x : Lent) (vs bs : List ℕ) → refusal (r .phase) (r .sizes) (start x vs bs) ≡ 0
+    → linksBuilt (r .sizes) x ≡ true → bytesBelow (r .sizes) x ≡ true → Usable (act r (start x vs bs) .record′) x []
+unfolding act unless proceeds startWith started allBelow
+start-usable r x vs bs e l b =
+    let found = layers .roots-built (r .sizes) x vs l (listed r x vs bs e .nodes-below) in
+    rw (e, found)
+    (record {
+      links = l;
+      bytes = b;
+      listed = start-list (r .phase) (r .sizes) x vs bs e;
+      ready = refl;
+      before = refl;
+      states = refl;
+      below = refl;
+      next = some-part (questionOf (started (r .sizes) vs bs (roots (planTree (x .plan)) vs)) x);
+    })
 
 -- ---- advance
 

@@ -3,6 +3,7 @@
 --     CleanlyTold         of a question that Start accepted on sound lends and that was left alone: the parts that
 --                         Start told, after how many accepted advances finished is told, what Reads tell, ceilings
 --     question-told       it holds in every history from a fresh record
+--     questions-of        and passes on to every form of the calls
 --     told-order          and does not depend on the order of the list
 -- Refused calls may come between; a Cancel may not.
 -- Assumes nothing.
@@ -31,7 +32,7 @@ use Rattle.book.specs.Model.{freshRecord, Does}
 use Rattle.book.specs.Alone.{isRefused, advances, finishedAfter, bookAt, LeftAlone, EveryTold, OnlyTold}
 use Rattle.book.proofs.Facts.{Layers}
 use Rattle.book.proofs.StartSim.{some-part, start-list}
-use Rattle.book.proofs.Demand3Theorem.{demand-3}
+use Rattle.book.proofs.Demand3Theorem.{demand-3, Refines, refines}
 use Rattle.book.proofs.Ceilings.{Few, ready-count, question-links}
 use Rattle.book.proofs.AloneLaws.{going, Alone, agrees-split, left-alone}
 use Rattle.book.proofs.OrderLaws.{length-order, parts-order, fresh-order}
@@ -53,6 +54,13 @@ pub record CleanlyTold (x : Lent) (vs bs : List ℕ) (n : ℕ) (ys : List Answer
   pub only : OnlyTold (freshAnswer (question x vs bs)) ys
   -- at most three links for each binary digit of the plan's height, for each part told
   pub links : EveryTold (λ s y p l. l ≤ p * (3 * digits (height (planTree (x .plan))))) ys
+
+-- the same for any form of the calls: cs and xs are the calls and answers before the Start, ds and ys those after it
+abbrev pub QuestionsTold : {Record : Type 0} → Record → (Record → Call → Answer → Record → Type 0) → Type 0
+QuestionsTold fresh Step = (cs : List Call) (xs : List Answer) (x : Lent) (vs bs : List ℕ) (n : ℕ) (ds : List Call) (ys : List Answer)
+    → length cs ≡ length xs → History Step fresh (cs ++ (start x vs bs ∷ ds)) (xs ++ (parts n ∷ ys))
+    → sound (bookAt newBook cs xs .sizes) x ≡ true → LeftAlone (bookAt newBook cs xs .sizes) x ds ys
+    → CleanlyTold x vs bs n ys
 
 -- ---- the Start
 
@@ -181,3 +189,8 @@ told-order x vs bs ws cs g h d u n ys T = record {
       (fresh-order vs bs ws cs g h d (question x vs bs) (question x ws cs) refl refl refl refl refl u) (T .only);
   links = T .links;
 }
+
+-- it passes on to every form of the calls that refines this one
+module _ {A B : Type 0} (StepA : A → Call → Answer → A → Type 0) (StepB : B → Call → Answer → B → Type 0) (Seen : A → B → Type 0) where
+  pub questions-of : Refines StepA StepB Seen → (a : A) (b : B) → Seen a b → QuestionsTold b StepB → QuestionsTold a StepA
+  questions-of f a b i q cs xs x vs bs n ds ys l h = q cs xs x vs bs n ds ys l (refines StepA StepB Seen f a b _ _ i h)

@@ -5,32 +5,21 @@
 -- The order of a list is told-order and start-order (QuestionTheorem, OrderLaws); that the premises can be met is
 -- written-sound and start-written (WrittenSound), and Controls.
 -- Assumes nothing.
-use Prim.Native.Nat.{ℕ}
-use mathlib.Core.Path.{_≡_}
-use mathlib.Core.Bool.{true}
-use mathlib.Core.List.{List, _∷_, _++_}
-use lib.ListN.{length}
-use Rattle.book.specs.Lends.{Lent, sound}
-use Rattle.book.specs.Calls.{Call, start, Answer, parts}
+use mathlib.Core.List.{List}
+use Rattle.book.specs.Calls.{Call}
 use Rattle.book.specs.Book.{newBook}
-use Rattle.book.specs.Demand3.{Agrees, History, Demand3}
+use Rattle.book.specs.Demand3.{Agrees, Demand3}
 use Rattle.book.specs.Model.{freshRecord, Does}
-use Rattle.book.specs.Alone.{bookAt, LeftAlone}
 use Rattle.book.specs.Judge.{answersOf}
 use Rattle.book.proofs.Demand3Theorem.{demand-3}
 use Rattle.book.proofs.LayersHold.{layers}
-use Rattle.book.proofs.QuestionTheorem.{CleanlyTold, question-told}
+use Rattle.book.proofs.QuestionTheorem.{QuestionsTold, question-told}
 use Rattle.book.proofs.JudgeLaws.{history-of}
 
 pub session-demand-3 : Demand3 freshRecord Does
 session-demand-3 = demand-3 layers
 
--- cs and xs are the calls and answers before the Start, ds and ys those after it
-pub session-question : (cs : List Call) (xs : List Answer) (x : Lent) (vs bs : List ℕ) (n : ℕ) (ds : List Call)
-    (ys : List Answer)
-    → length cs ≡ length xs → History Does freshRecord (cs ++ (start x vs bs ∷ ds)) (xs ++ (parts n ∷ ys))
-    → sound (bookAt newBook cs xs .sizes) x ≡ true → LeftAlone (bookAt newBook cs xs .sizes) x ds ys
-    → CleanlyTold x vs bs n ys
+pub session-question : QuestionsTold freshRecord Does
 session-question = question-told layers
 
 pub session-model : (cs : List Call) → Agrees newBook cs (answersOf freshRecord cs)

@@ -15,12 +15,11 @@ use mathlib.Core.List.{List, [], _∷_, _++_}
 use lib.Dec.{eqb}
 use lib.ListN.{length, getD}
 use Rattle.trees.specs.Tree.{Tree}
-use Rattle.trees.specs.Automaton.{state, accepts}
-use Rattle.trees.specs.Postorder.{treeOf}
 use Rattle.trees.specs.Changes.{changed}
-use Rattle.formats.specs.Plan.{planTree, labelsIn, kindsIn}
+use Rattle.formats.specs.Plan.{planTree, labelsIn}
 use Rattle.formats.specs.Rules.{ruleAutomaton}
 use Rattle.tables.specs.StateCells.{stateCell, mapCell}
+use Rattle.runs.specs.FreshRun as fresh-run
 use Rattle.ready.specs.Members.{roots}
 use Rattle.ready.specs.Parts.{Given, Part, partOf, lastState, allLinks, questionLinks}
 use Rattle.book.specs.Lends.{Lent, Sizes, sizesIn, usedBytes, sameLinks, sameLent, linksBuilt, sound, bytesBelow}
@@ -79,7 +78,7 @@ partCount q = length (rootsOf q)
 
 -- Start's plan with the listed labels changed
 abbrev pub changedTree : Question → Tree
-changedTree q = treeOf (kindsIn (q .lent .plan)) (changed (labelsIn (q .lent .plan)) (q .nodes) (q .labels))
+changedTree q = fresh-run.changedTree (q .lent .plan) (q .nodes) (q .labels)
 
 -- what the rule reads: Start's plan and rules, and the bytes of this advance
 unfoldable pub givenBy : Sizes → Question → Lent → Given
@@ -99,7 +98,8 @@ longer z q x = q .trail ++ (partOf (givenBy z q x) (rootsOf q) (q .trail) (getD 
 -- parts, and as links the moves of its parts' climbs"
 unfoldable pub freshAnswer : Question → Answer
 freshAnswer q =
-    told (state (ruleAutomaton (q .lent .rules)) (changedTree q)) (accepts (ruleAutomaton (q .lent .rules)) (changedTree q))
+    told (fresh-run.rootState (q .lent .plan) (q .lent .rules) (q .nodes) (q .labels))
+    (fresh-run.rootAccepted (q .lent .plan) (q .lent .rules) (q .nodes) (q .labels))
     (partCount q) (questionLinks (planTree (q .lent .plan)) (rootsOf q))
 
 -- what the rule of "Parts of a question" gave on the bytes that were lent

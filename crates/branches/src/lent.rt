@@ -1,5 +1,8 @@
 // Check 17 of a branch question: what is lent, by its headers and lengths.
 use formats::bytes::read32;
+use formats::limits::LABEL_LIMIT;
+use formats::limits::NODE_LIMIT;
+use formats::limits::STATE_LIMIT;
 ghost use mathlib.Core.Path.{_≡_};
 ghost use Rattle.branches.specs.Question.{lentFits};
 ghost use Rattle.branches.specs.Fits.{planFits, branchFits};
@@ -15,7 +18,7 @@ fn plan_fits(plan: &[u8]) -> bool
     if n < 1 {
         return false;
     }
-    if 65535 < n {
+    if NODE_LIMIT < n {
         return false;
     }
     plan.len() == 12 + 2 * n
@@ -32,14 +35,14 @@ fn branch_fits(branch: &[u8]) -> bool
     if s < 1 {
         return false;
     }
-    if 16 < s {
+    if STATE_LIMIT < s {
         return false;
     }
     let k = read32(branch, 4);
     if k < 1 {
         return false;
     }
-    if 64 < k {
+    if LABEL_LIMIT < k {
         return false;
     }
     branch.len() == 16 + s * k + s

@@ -10,6 +10,7 @@ use lib.Dec.{eqb}
 use lib.ListN.{length}
 use borrow.Author.Tests.{eq-eqb, eqb-true, not-true, not-false}
 use Rattle.formats.specs.Built.{builtLinks, builtStates}
+use Rattle.formats.proofs.CheckLaws.{true-false, and-left, and-right}
 use Rattle.tables.specs.Answers.{written}
 use Rattle.book.specs.Lends.{Lent}
 use Rattle.book.specs.Calls.{Call, load, read, Answer, refused, accepted, parts, more, finished, told}
@@ -22,8 +23,11 @@ use Rattle.session.specs.declared.answers.Advancing.the-variants.{More, Finishe
 use Rattle.session.specs.declared.answers.Reading.{Reading}
 use Rattle.session.specs.declared.answers.Reading.the-variants.{Told, Refused as NotRead}
 use Rattle.session.specs.declared.state.Session.{Session}
+use Rattle.book.specs.Model.{act}
+use Rattle.book.specs.Kept.{Kept}
+use Rattle.session.specs.Records.{recordOf, valid}
 use Rattle.session.specs.Promises.{doingAnswer, startingAnswer, advancingAnswer, readingAnswer, answerOn, recordOn, refusalOn, CallDone, LoadDone}
-use Rattle.records.specs.Layout.{recordLength, encoded, decoded, laidOut}
+use Rattle.records.specs.Layout.{recordLength, encoded, decoded, laidOut, validBytes}
 use Rattle.capi.specs.Exported.{bitOf}
 use Rattle.capi.specs.Panel.{answerFor, answerNumber, unlessRefused, recordFor, CallExported, loadNumber, LoadExported, partsOf}
 use Rattle.capi.specs.Panel.{StartExported, finishedOf, AdvanceExported, Places, toldPlaces, ReadExported}
@@ -124,19 +128,23 @@ module _ (b : List ℕ) (c : Call) where
   answer-not h = rw h
 
   pub not-laid : laidOut b ≡ false → CallExported b c 1 b
-  unfolding recordFor answerNumber unlessRefused
+  unfolding recordFor answerNumber unlessRefused validBytes
   not-laid h = record {
     number = sym (ap answerNumber (answer-not h));
     left = sym (ap (λ (a : Answer). unlessRefused a (encoded (recordOn (decoded b) c)) b) (answer-not h));
+    kept = λ v. absurd (true-false (sym (and-left (laidOut b) (valid (decoded b)) v) ∙ h));
   }
 
-  pub laid : laidOut b ≡ true → (a : Answer) (s : Session) (r : ℕ) (b′ : List ℕ) → CallDone (decoded b) c a s → Stored a s b r b′ → CallExported b c r b′
-  unfolding recordFor
+  pub laid : laidOut b ≡ true → (a : Answer) (s : Session) (r : ℕ) (b′ : List ℕ) → CallDone (decoded b) c a s → Stored a s b r b′
+      → CallExported b c r b′
+  unfolding recordFor validBytes
   laid h a s r b′ D S =
       let e : answerFor b c ≡ a = answer-laid h ∙ sym (D .tells) in
       record {
         number = S .number ∙ sym (ap answerNumber e);
         left = S .left ∙ ap₂ (λ (x : Answer) (y : Session). unlessRefused x (encoded y) b) (sym e) (D .leaves);
+        kept = λ v. subst (λ (x : Answer). Kept (recordOf (decoded b)) c x (act (recordOf (decoded b)) c .record′)) (sym e)
+            (D .kept (and-right (laidOut b) (valid (decoded b)) v));
       }
 
   pub told-by : laidOut b ≡ true → (a : Answer) → a ≡ answerOn (decoded b) c → answerFor b c ≡ a
@@ -148,11 +156,7 @@ module _ (b : List ℕ) (c : Call) where
 -- bytes laid out as a record are as many as a record has
 pub laid-length : (b : List ℕ) → laidOut b ≡ true → length b ≡ recordLength
 unfolding laidOut
-laid-length b h = eqb-true (length b) recordLength (first (eqb (length b) recordLength) _ h)
-  where
-    first : (x y : Bool) → (x && y) ≡ true → x ≡ true
-    first true y e = refl
-    first false y e = e
+laid-length b h = eqb-true (length b) recordLength (and-left (eqb (length b) recordLength) _ h)
 
 module _ (b : List ℕ) (r : Bool) (e : r ≡ laidOut b) where
   pub refused-laid : not r ≡ true → laidOut b ≡ false

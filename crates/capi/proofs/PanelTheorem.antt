@@ -1,6 +1,7 @@
 -- Demand 3 for the session calls on record bytes: every list of calls, from 967 zeros, whatever is lent, is answered as the
 -- panel book says.
 --     panel-demand-3     the theorem, over the very promises of the five exported functions, heard as numbers and values (Heard)
+--     panel-questions    a question on sound tables left alone: parts, advances, what Reads tell, ceilings (CleanlyTold, crate book)
 --     panel-refines      each call on bytes is the session's call on the struct of those bytes
 -- Assumes nothing.
 use Prim.Native.Nat.{ℕ, zero, suc}
@@ -19,6 +20,7 @@ use Rattle.book.specs.Demand3.{Demand3}
 use Rattle.book.specs.Model.{Record, Acted, acted, stepped, marksBy, freshRecord, proceeds, unless, act, startWith, advanceWith, Does}
 use Rattle.book.proofs.Demand3Theorem.{Refines, demand-3, demand-3-of}
 use Rattle.book.proofs.LayersHold.{layers}
+use Rattle.book.proofs.QuestionTheorem.{QuestionsTold, question-told, questions-of}
 use Rattle.session.specs.declared.state.Session.{Session}
 use Rattle.session.specs.Records.{recordOf, sessionOf, valid, freshSession}
 use Rattle.session.specs.Promises.{answerOn, recordOn}
@@ -169,3 +171,7 @@ fresh-held = record { struct = freshSession; bytes = sym fresh-bytes; seen = fre
 
 pub panel-demand-3 : Demand3 (replicate 967 0) Exports
 panel-demand-3 = demand-3-of Exports Does Held panel-refines (replicate 967 0) freshRecord fresh-held (demand-3 layers)
+
+-- a question on sound tables left alone
+pub panel-questions : QuestionsTold (replicate 967 0) Exports
+panel-questions = questions-of Exports Does Held panel-refines (replicate 967 0) freshRecord fresh-held (question-told layers)

@@ -26,7 +26,7 @@ use Rattle.trees.proofs.CarryLaws.{carry-walk}
 use Rattle.trees.proofs.Samples as samples
 use Rattle.formats.specs.Bytes.{le32, allBelow}
 use Rattle.formats.specs.Plan.{nodeCount, planTree, planBytes}
-use Rattle.formats.specs.Checks.{firstNo, planChecks, buildChecks, ruleTableChecks, branchTableChecks}
+use Rattle.formats.specs.Checks.{firstNo, planChecks, buildChecks, branchBuildChecks, ruleTableChecks, branchTableChecks}
 use Rattle.formats.specs.Built.{builtLinks, builtStates, builtSteps, AsBuilt, BranchBuilt}
 use Rattle.formats.proofs.PlanTheorems as plan-theorems
 use Rattle.tables.specs.declared.answers.Checking.{Checking}
@@ -36,6 +36,7 @@ use Rattle.tables.proofs.BuildLaws.{written-as-built}
 use Rattle.tables.proofs.CheckTheorems.{check-yes, yes-check, buildNumber}
 use Rattle.branches.specs.Question.{askAnswer}
 use Rattle.branches.specs.Promise.{AtOrBelow, wordAnswer}
+use Rattle.branches.proofs.BranchTheorems as branch-theorems
 use Rattle.branches.proofs.BranchTheorems.{written-branch-built}
 use Rattle.branches.proofs.AskTheorem.{ask-built}
 
@@ -62,6 +63,12 @@ full-checks : (p r nums bytes : List ℕ) (a : Checking)
     → CheckDone (firstNo (buildChecks p r (length nums) (length bytes))) (builtLinks p) (builtStates p r) nums bytes a
     → (a ≡ Yes) ↔ AsBuilt p r nums bytes
 full-checks p r nums bytes a D = (check-yes p r nums bytes a D, yes-check p r nums bytes a D)
+
+branch-full-checks : (p r nums bytes : List ℕ) (a : Checking)
+    → CheckDone (firstNo (branchBuildChecks p r (length nums) (length bytes))) (builtLinks p) (builtSteps p r) nums bytes a
+    → (a ≡ Yes) ↔ BranchBuilt p r nums bytes
+branch-full-checks p r nums bytes a D =
+    (branch-theorems.check-yes p r nums bytes a D, branch-theorems.yes-check p r nums bytes a D)
 
 climb-to : (t : Tree) (w to : ℕ) (ms : List Move) → w < size t → to ≤ depth t w → climb (forestOf t) w to ≡ some ms
     → (climbEnd (forestOf t) w ms ≡ ancestor t w (depth t w - to)) × (length ms ≤ 3 * digits (height t))

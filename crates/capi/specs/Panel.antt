@@ -9,14 +9,17 @@
 -- Assumes nothing.
 use Prim.Native.Nat.{ℕ}
 use mathlib.Core.Path.{_≡_}
-use mathlib.Core.Bool.{Bool, cond}
+use mathlib.Core.Bool.{Bool, true, cond}
 use mathlib.Core.List.{List}
 use Rattle.formats.specs.Built.{builtLinks, builtStates}
 use Rattle.tables.specs.Answers.{written}
 use Rattle.book.specs.Lends.{Lent}
 use Rattle.book.specs.Calls.{Call, load, start, advance, cancel, read, Answer, refused, accepted, parts, more, finished, told}
+use Rattle.book.specs.Model.{act}
+use Rattle.book.specs.Kept.{Kept}
+use Rattle.session.specs.Records.{recordOf}
 use Rattle.session.specs.Promises.{answerOn, recordOn, refusalOn}
-use Rattle.records.specs.Layout.{encoded, decoded, laidOut}
+use Rattle.records.specs.Layout.{encoded, decoded, laidOut, validBytes}
 use Rattle.capi.specs.Exported.{bitOf}
 
 -- "bytes that break it get 1"
@@ -46,6 +49,8 @@ recordFor b c = unlessRefused (answerFor b c) (encoded (recordOn (decoded b) c))
 pub record CallExported (b : List ℕ) (c : Call) (r : ℕ) (b′ : List ℕ) : Type 0 where
   pub number : r ≡ answerNumber (answerFor b c)
   pub left : b′ ≡ recordFor b c
+  -- what is left to the program has these properties
+  pub kept : validBytes b ≡ true → Kept (recordOf (decoded b)) c (answerFor b c) (act (recordOf (decoded b)) c .record′)
 
 -- the refusal's number, 18 apart, of a Load on record bytes
 unfoldable pub loadNumber : List ℕ → Lent → ℕ

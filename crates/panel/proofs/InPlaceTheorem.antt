@@ -1,4 +1,5 @@
 -- Demand 3 for the calls in place: every list of calls, from the fresh session, whatever is lent, is answered as the panel book says.
+--     in-place-questions    a question on sound tables left alone
 --     in-place-demand-3     the theorem, over the very promises of load, start, advance, cancel and read in place
 --     in-place-history      a history of these calls is one of the calls by value, so what is proved of those holds of it
 -- Assumes nothing.
@@ -10,7 +11,8 @@ use Rattle.book.proofs.Demand3Theorem.{Refines, refines}
 use Rattle.session.specs.declared.state.Session.{Session}
 use Rattle.session.specs.Records.{freshSession}
 use Rattle.session.specs.CallSteps as by-value
-use Rattle.session.proofs.SessionTheorem.{session-demand-3}
+use Rattle.book.proofs.QuestionTheorem.{QuestionsTold, questions-of}
+use Rattle.session.proofs.SessionTheorem.{session-demand-3, session-questions}
 use Rattle.panel.specs.CallsInPlace.{StepInPlace, loads, starts, advances, cancels, reads}
 
 -- each call in place is the call by value on the record at entry
@@ -30,3 +32,7 @@ in-place-history cs xs h = refines StepInPlace by-value.Step (_≡_ {A = Session
 
 pub in-place-demand-3 : Demand3 freshSession StepInPlace
 in-place-demand-3 cs xs h = session-demand-3 cs xs (in-place-history cs xs h)
+
+pub in-place-questions : QuestionsTold freshSession StepInPlace
+in-place-questions =
+    questions-of StepInPlace by-value.Step (_≡_ {A = Session}) same-record freshSession freshSession refl session-questions

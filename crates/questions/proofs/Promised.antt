@@ -8,7 +8,7 @@ use mathlib.Core.Path.{_≡_, refl, sym, ap, ap₂, _∙_}
 use mathlib.Core.Bool.{Bool, true, false, _&&_}
 use mathlib.Core.List.{List, [], _∷_, _++_, List·Memᴰ, List·Memᴰ·cases-cons, List·Memᴰ·not-nil}
 use mathlib.Core.Logic.{_⊎_, inl, inr}
-use mathlib.Core.Option.{Option, some}
+use mathlib.Core.Option.{Option, none, some}
 use native.Mathlib.Omega.{arith}
 use lib.Dec.{ltb}
 use lib.ListN.{length, getD, take, drop, take-append-drop}
@@ -29,7 +29,7 @@ use Rattle.questions.specs.Part.{partOn}
 use Rattle.questions.specs.Roots.{rootsOn}
 use Rattle.questions.specs.RootsTold.{rootsFit, rootsGiven, rootedOf}
 use Rattle.questions.specs.PartTold.{limitsFit, lengthsFit, askedFits, partFits, partGiven, lentView, toldReached}
-use Rattle.questions.specs.Promises.{RootsDone, Asked, PartDone}
+use Rattle.questions.specs.Promises.{numberFor, rootedNumber, climbedNumber, RootsDone, Asked, PartDone}
 use Rattle.questions.proofs.FitLaws.{Fit, fit-facts, given-yes, given-are}
 use Rattle.questions.proofs.PartBounds.{partGiven-below, part-links}
 use Rattle.questions.proofs.PartFits.{asked-are}
@@ -54,9 +54,15 @@ module _ (n : ℕ) (nums vs : List ℕ) where
       ∙ ap (λ (m : ℕ). rootsOn m nums vs) e
       ∙ roots-built t nums L vs (λ v m. omega (arith, e, all-small n vs (fit-facts n (length nums) vs f .below) v m))
 
+  rooted-number : (o : Option (List ℕ)) → rootedNumber (rootedOf o) ≡ numberFor o
+  unfolding rootedNumber numberFor
+  rooted-number none = refl
+  rooted-number (some l) = refl
+
   pub roots-done : (r : Rooted) → r ≡ rootedOf (rootsGiven n nums vs) → RootsDone n nums vs r
   roots-done r e = record {
     told = e;
+    number = ap rootedNumber e ∙ rooted-number (rootsGiven n nums vs);
     few = given-are n nums vs;
     built = λ t L m f. e ∙ ap rootedOf (built t L m f);
   }
@@ -91,11 +97,17 @@ module _ (n s k : ℕ) (plan rules nums bytes roots states vs bs : List ℕ) whe
       ∙ part-built (lentView n s k plan rules nums bytes) G (A .reads) w roots M ps v (drop (suc (length states)) roots)
       (cut ps (A .before) (next-is (A .fits))) (A .below) vs bs (A .labels))
 
+  reached-number : (o : Option Reached) → climbedNumber (toldReached o) ≡ numberFor o
+  unfolding climbedNumber toldReached numberFor
+  reached-number none = refl
+  reached-number (some x) = refl
+
   pub part-done : (r : Climbed) → r ≡ toldReached (partGiven n s k plan rules nums bytes roots states vs bs)
       → PartDone n s k plan rules nums bytes roots states vs bs r
   unfolding toldReached
   part-done r e = record {
     told = e;
+    number = ap climbedNumber e ∙ reached-number (partGiven n s k plan rules nums bytes roots states vs bs);
     state-below = λ x f. partGiven-below n s k plan rules nums bytes roots states vs bs x f;
     links-most = λ x f. part-links n s k plan rules nums bytes roots states vs bs x f;
     rule = λ G ps A. e ∙ ap toldReached (by-rule G ps A);

@@ -1,6 +1,7 @@
 -- What roots and part promise, on every input.
 --
 -- RootsAre n m l == what holds of the roots l of m listed nodes on any numbers: they rise to the plan's root, n - 1, and are few
+-- rootedNumber r, climbedNumber r, numberFor o == document 01's number of an answer: 18 where there is no result, else 0
 -- RootsDone n nums vs r == the promise of roots
 -- Reads X G == what is lent, X, is as G has it: the 16-bit numbers those of the tree, run states and maps any bytes below S
 -- Asked .. G ps == a part asked for as "Parts of a question" has it: the roots are the ready set's, ps the parts before
@@ -9,9 +10,9 @@
 -- Assumes nothing.
 use Prim.Native.Nat.{ℕ, _+_, _-_, _*_, _≤_, _<_}
 use mathlib.Core.Path.{_≡_}
-use mathlib.Core.Bool.{true}
+use mathlib.Core.Bool.{true, cond}
 use mathlib.Core.List.{List}
-use mathlib.Core.Option.{some}
+use mathlib.Core.Option.{Option, none, some}
 use lib.ListN.{length, getD, take}
 use Rattle.trees.specs.Tree.{Tree, size, labelsOf, kindsOf, labelAt}
 use Rattle.trees.specs.Changes.{changed}
@@ -21,11 +22,23 @@ use Rattle.ready.specs.Members as members
 use Rattle.ready.specs.Parts.{Given, Part, nodesOf, statesOf, stateOf, partState, partLinks}
 use Rattle.questions.specs.declared.roots.Rooted.{Rooted}
 use Rattle.questions.specs.declared.answer.Climbed.{Climbed}
-use Rattle.questions.specs.declared.answer.Climbed.the-variants.{Reached as Told}
+use Rattle.questions.specs.declared.answer.Climbed.the-variants.{Reached as Told, Outside}
 use Rattle.questions.specs.Rising.{RisesTo}
 use Rattle.questions.specs.RootsTold.{rootsFit, rootsGiven, rootedOf}
 use Rattle.questions.specs.Climbs.{View, Reached}
 use Rattle.questions.specs.PartTold.{partFits, partGiven, lentView, toldReached}
+
+-- "a value read leads outside the plan, the states or the labels, or a climb doesn't rise": 18
+unfoldable pub numberFor : {A : Type 0} → Option A → ℕ
+numberFor none = 18
+numberFor (some x) = 0
+
+unfoldable pub rootedNumber : Rooted → ℕ
+rootedNumber r = cond (r .ok) 0 18
+
+unfoldable pub climbedNumber : Climbed → ℕ
+climbedNumber (Told q l) = 0
+climbedNumber Outside = 18
 
 -- ---- roots
 
@@ -38,6 +51,7 @@ pub record RootsAre (n m : ℕ) (l : List ℕ) : Type 0 where
 pub record RootsDone (n : ℕ) (nums vs : List ℕ) (r : Rooted) : Type 0 where
   -- on every input: the named result, or 18
   pub told : r ≡ rootedOf (rootsGiven n nums vs)
+  pub number : rootedNumber r ≡ numberFor (rootsGiven n nums vs)
   -- on whatever numbers: rising to the root, and few
   pub few : (l : List ℕ) → rootsGiven n nums vs ≡ some l → RootsAre n (length vs) l
   -- on numbers as built: exactly the ready set, never 18
@@ -74,6 +88,7 @@ pub record Asked (n s k : ℕ) (plan rules nums bytes roots states vs bs : List 
 pub record PartDone (n s k : ℕ) (plan rules nums bytes roots states vs bs : List ℕ) (r : Climbed) : Type 0 where
   -- on every input: the named result, or 18
   pub told : r ≡ toldReached (partGiven n s k plan rules nums bytes roots states vs bs)
+  pub number : climbedNumber r ≡ numberFor (partGiven n s k plan rules nums bytes roots states vs bs)
   -- on whatever is lent: a state, and no more links than a plan has nodes
   pub state-below : (x : Reached) → partGiven n s k plan rules nums bytes roots states vs bs ≡ some x → x .state < s
   pub links-most : (x : Reached) → partGiven n s k plan rules nums bytes roots states vs bs ≡ some x → x .links ≤ 65535

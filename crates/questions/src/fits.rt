@@ -1,4 +1,7 @@
 // Whether what a caller of a part lends and asks for fits the N, S and K that he gives.
+use formats::limits::LABEL_LIMIT;
+use formats::limits::NODE_LIMIT;
+use formats::limits::STATE_LIMIT;
 ghost use mathlib.Core.Path.{_≡_};
 ghost use lib.ListN.{length};
 ghost use Rattle.formats.specs.Limits.{within as between};
@@ -19,13 +22,13 @@ fn within(low: usize, high: usize, x: usize) -> bool
 pub fn limits_fit(n: usize, s: usize, k: usize) -> bool
     ensures { λ r. ⌜ r ≡ limitsFit n s k ⌝ }
 {
-    if !within(1, 65535, n) {
+    if !within(1, NODE_LIMIT, n) {
         return false;
     }
-    if !within(1, 16, s) {
+    if !within(1, STATE_LIMIT, s) {
         return false;
     }
-    within(1, 64, k)
+    within(1, LABEL_LIMIT, k)
 }
 
 // Are plan and rules exactly as long as n, s and k need, and both tables at least?
@@ -62,7 +65,7 @@ pub fn asked_fits(n: usize, roots: &[u16], states: &[u8], nodes: &[u16], labels:
     if roots.len() <= i {
         return false;
     }
-    if 65535 < roots.len() {
+    if NODE_LIMIT < roots.len() {
         return false;
     }
     if n <= roots[i] as usize {
@@ -71,5 +74,5 @@ pub fn asked_fits(n: usize, roots: &[u16], states: &[u8], nodes: &[u16], labels:
     if nodes.len() != labels.len() {
         return false;
     }
-    nodes.len() <= 65535
+    nodes.len() <= NODE_LIMIT
 }
