@@ -1,6 +1,5 @@
 pub mod ListedLaws
-pub mod CountLaws
-pub mod OnwardLaws
+pub mod ChangeLaws
 pub mod StackLaws
 pub mod PassTurns
 pub mod OrderLaws

@@ -1,24 +1,48 @@
 -- Laws of a list of changes that is read node by node.
+--     label-hit, label-miss, label-end   the scan of the list, entry by entry: what its loop uses
 --     label-changed   labelFor is the label that `changed` holds
 --     label-last, label-unlisted   it is the last entry's for the node, or the node's own where none is for it
---     label-entry     where no node is listed twice, it is that of any entry for the node
 --     length-changed, label-below  as many labels as before, and all in their range
 -- Assumes nothing.
-use Prim.Native.Nat.{ℕ, zero, suc, _<_}
+use Prim.Native.Nat.{ℕ, suc, _+_, _≤_, _<_}
 use mathlib.Core.Path.{_≡_, refl, sym, ap, _∙_}
 use mathlib.Core.Bool.{Bool, true, false, cond, _||_}
 use mathlib.Core.List.{List, [], _∷_, _++_}
 use native.Mathlib.Decide.{ℕ-discrete}
+use native.Mathlib.Numerals.{add-one}
 use native.Mathlib.Omega.{arith}
 use borrow.Author.Tests.{eq-eqb, ne-eqb, eqb-false}
 use lib.Dec.{eqb}
-use lib.ListN.{length, getD, set, length-set}
-use lib.Seq.{getD-set-same, getD-set-other}
+use lib.ListN.{length, getD, drop, set, length-set, drop-of-length-le}
+use lib.Seq.{drop-cons, getD-set-same, getD-set-other}
 use Rattle.trees.specs.Changes.{changed}
-use Rattle.formats.specs.Bytes.{holds, distinct}
+use Rattle.formats.specs.Bytes.{holds}
 use Rattle.formats.proofs.CheckLaws.{true-false}
-use Rattle.formats.proofs.ListLaws.{distinct-head, distinct-tail}
 use Rattle.runs.specs.Listed.{labelFor}
+
+-- ---- the scan for a label
+
+module _ (vs bs : List ℕ) (v i : ℕ) (hv : i < length vs) (hb : i < length bs) (a : ℕ) where
+  label-turn : (t : Bool) → eqb (getD vs i 0) v ≡ t
+      → labelFor a (drop i vs) (drop i bs) v ≡ labelFor (cond t (getD bs i 0) a) (drop (i + 1) vs) (drop (i + 1) bs) v
+  unfolding labelFor
+  label-turn t e =
+      rw (add-one, drop-cons vs i 0, drop-cons bs i 0)
+      (ap (λ (t : Bool). labelFor (cond t (getD bs i 0) a) (drop (suc i) vs) (drop (suc i) bs) v) e)
+
+  pub label-hit : getD vs i 0 ≡ v
+      → labelFor a (drop i vs) (drop i bs) v ≡ labelFor (getD bs i 0) (drop (i + 1) vs) (drop (i + 1) bs) v
+  label-hit e = label-turn true (eq-eqb (getD vs i 0) v e)
+
+  pub label-miss : (getD vs i 0 ≡ v → ⊥)
+      → labelFor a (drop i vs) (drop i bs) v ≡ labelFor a (drop (i + 1) vs) (drop (i + 1) bs) v
+  label-miss e = label-turn false (ne-eqb (getD vs i 0) v e)
+
+pub label-end : (vs bs : List ℕ) (v i a : ℕ) → length vs ≤ i → labelFor a (drop i vs) (drop i bs) v ≡ a
+unfolding labelFor
+label-end vs bs v i a h = rw (drop-of-length-le vs {i = i} h)
+
+-- ---- what it means
 
 -- the label that the changed labels have at v
 pub label-changed : (ls vs bs : List ℕ) (v : ℕ) → v < length ls
@@ -37,20 +61,14 @@ or-none : (s t : Bool) → (s || t) ≡ false → (s ≡ false) × (t ≡ false)
 or-none true t e = absurd (true-false e)
 or-none false t e = (refl, e)
 
--- what is not held is neither the first nor held by the others
-pub not-held : (v u : ℕ) (vs : List ℕ) → holds v (u ∷ vs) ≡ false → (u ≡ v → ⊥) × (holds v vs ≡ false)
-unfolding holds
-not-held v u vs h =
-    let o : (eqb v u ≡ false) × (holds v vs ≡ false) = or-none (eqb v u) (holds v vs) h in
-    (λ e. eqb-false v u (o .0) (sym e), o .1)
-
 pub label-unlisted : (a : ℕ) (vs bs : List ℕ) (v : ℕ) → holds v vs ≡ false → labelFor a vs bs v ≡ a
-unfolding labelFor
+unfolding labelFor holds
 label-unlisted a [] bs v h = refl
 label-unlisted a (u ∷ vs) [] v h = refl
 label-unlisted a (u ∷ vs) (b ∷ bs) v h =
-    let o : (u ≡ v → ⊥) × (holds v vs ≡ false) = not-held v u vs h in
-    label-unlisted (cond (eqb u v) b a) vs bs v (o .1) ∙ ap (λ (t : Bool). cond t b a) (ne-eqb u v (o .0))
+    let o : (eqb v u ≡ false) × (holds v vs ≡ false) = or-none (eqb v u) (holds v vs) h in
+    label-unlisted (cond (eqb u v) b a) vs bs v (o .1)
+    ∙ ap (λ (t : Bool). cond t b a) (ne-eqb u v (λ e. eqb-false v u (o .0) (sym e)))
 
 -- the last entry for v holds
 pub label-last : (a : ℕ) (vs bs : List ℕ) (v b : ℕ) (us cs : List ℕ) → length vs ≡ length bs → holds v us ≡ false
@@ -61,18 +79,6 @@ label-last a [] [] v b us cs e h =
 label-last a [] (x ∷ bs) v b us cs e h = absurd (omega arith)
 label-last a (u ∷ vs) [] v b us cs e h = absurd (omega arith)
 label-last a (u ∷ vs) (x ∷ bs) v b us cs e h = label-last (cond (eqb u v) x a) vs bs v b us cs (omega arith) h
-
--- of a node that is listed once, any entry for it holds
-pub label-entry : (a : ℕ) (vs bs : List ℕ) (j : ℕ) → distinct vs ≡ true → length vs ≡ length bs → j < length vs
-    → labelFor a vs bs (getD vs j 0) ≡ getD bs j 0
-unfolding labelFor
-label-entry a [] bs j d e h = absurd (omega arith)
-label-entry a (u ∷ vs) [] j d e h = absurd (omega arith)
-label-entry a (u ∷ vs) (b ∷ bs) zero d e h =
-    label-unlisted (cond (eqb u u) b a) vs bs u (distinct-head u vs d)
-    ∙ ap (λ (t : Bool). cond t b a) (eq-eqb u u refl)
-label-entry a (u ∷ vs) (b ∷ bs) (suc j) d e h =
-    label-entry (cond (eqb u (getD vs j 0)) b a) vs bs j (distinct-tail u vs d) (omega arith) (omega arith)
 
 pub length-changed : (ls vs bs : List ℕ) → length (changed ls vs bs) ≡ length ls
 unfolding changed

@@ -2,7 +2,7 @@
 --     Passed         what holds before each turn
 --     pass-start, leaf-turn, inner-turn, pass-end   it holds at first, a turn keeps it, and what it says at the end
 --     top-most, leaf-room, inner-two, rule-args     what the machine asks in a turn
--- Not here: the label of a turn (OnwardLaws).
+-- Not here: the label of a turn (ChangeLaws).
 -- Assumes nothing.
 use Prim.Native.Nat.{ℕ, suc, _+_, _-_, _*_, _≤_, _<_}
 use mathlib.Core.Path.{_≡_, refl, sym, ap, ap₂, _∙_, subst}

@@ -57,8 +57,6 @@ module _ (p r vs bs : List ℕ) (e : firstNo (freshRunChecks p r vs bs) ≡ 0) w
         labelled = labels-as-kinds p (f .0);
         labels-below = label-below p r (f .1 .labels-least) (f .2);
         paired = f .3 .lengths;
-        few = f .3 .most;
-        no-twice = f .3 .no-twice;
         changes-below = allBelow-all (labelCount r) bs (f .3 .labels-below) (f .1 .labels-least);
         leaf-count = length-leafStates r (f .1);
         leaf-below = leaf-state-below r (f .1);

@@ -1,19 +1,18 @@
 -- A list of changes, read node by node.
 --
 -- labelFor a vs bs v == the label of node v whose own label is a: that of the last entry for v; a where there is none
--- countBelow vs x == how many of the numbers vs are below x
--- Placed vs t order == the first t entries of vs stand in `order` by their nodes: each at the place that tells how many
---   listed nodes are below its own. Whatever else stands in `order` is an entry too
--- nodeAt vs order i n == the node of the entry at place i of `order`; n from place m on
+-- afterChange c a == the label after change c of a node whose own is a: 0 is no change, else c is one more than the label
+-- ListArgs vs bs == as many nodes as labels, and labels that can be changes
+-- ChangesFrom vs bs from cs == cs are the changes of the 1,024 nodes from `from` on
 --
--- The first is what `changed` of crate trees holds at v: label-changed (proofs/ListedLaws); it does not ask that a node
--- is listed once. Where none is listed twice the places of all entries differ (count-apart, proofs/CountLaws).
+-- The first is what `changed` of crate trees holds at v: label-changed (proofs/ListedLaws). Nothing here asks that a
+-- node is listed once.
 -- Assumes nothing.
-use Prim.Native.Nat.{ℕ, _+_, _≤_, _<_}
+use Prim.Native.Nat.{ℕ, _+_, _-_, _<_}
 use mathlib.Core.Path.{_≡_}
 use mathlib.Core.Bool.{cond}
 use mathlib.Core.List.{List, [], _∷_}
-use lib.Dec.{ltb, eqb}
+use lib.Dec.{eqb}
 use lib.ListN.{length, getD}
 
 unfoldable pub labelFor : ℕ → List ℕ → List ℕ → ℕ → ℕ
@@ -21,14 +20,12 @@ labelFor a [] bs v = a
 labelFor a (u ∷ vs) [] v = a
 labelFor a (u ∷ vs) (b ∷ bs) v = labelFor (cond (eqb u v) b a) vs bs v
 
-unfoldable pub countBelow : List ℕ → ℕ → ℕ
-countBelow [] x = 0
-countBelow (v ∷ vs) x = cond (ltb v x) 1 0 + countBelow vs x
+abbrev pub afterChange : ℕ → ℕ → ℕ
+afterChange c a = cond (eqb c 0) a (c - 1)
 
-pub record Placed (vs : List ℕ) (t : ℕ) (order : List ℕ) : Type 0 where
-  pub room : length vs ≤ length order
-  pub entries : (i : ℕ) → 0 < length vs → getD order i 0 < length vs
-  pub placed : (j : ℕ) → j < t → getD order (countBelow vs (getD vs j 0)) 0 ≡ j
+pub record ListArgs (vs bs : List ℕ) : Type 0 where
+  pub paired : length vs ≡ length bs
+  pub below : (j : ℕ) → getD bs j 0 < 255
 
-abbrev pub nodeAt : List ℕ → List ℕ → ℕ → ℕ → ℕ
-nodeAt vs order i n = cond (ltb i (length vs)) (getD vs (getD order i 0) 0) n
+pub record ChangesFrom (vs bs : List ℕ) (from : ℕ) (cs : List ℕ) : Type 0 where
+  pub after : (j : ℕ) → j < 1024 → (a : ℕ) → afterChange (getD cs j 0) a ≡ labelFor a vs bs (from + j)

@@ -1,8 +1,8 @@
 -- What the pass over a plan's nodes asks of its arguments, and what it promises.
 --
 -- RuleArgs inn s k p a q == the rule for left state p, label a and right state q stands inside the inner states inn
--- PassArgs ks ls vs bs lv inn s k == kinds of a tree and labels below k, a list of at most 64 changes to labels below k
---   with no node twice, a rule table's leaf and inner states, all below s
+-- PassArgs ks ls vs bs lv inn s k == kinds of a tree and labels below k, a list of changes to labels below k, a rule
+--   table's leaf and inner states, all below s
 -- PassDone ks ls vs bs lv inn s k q == q is the root's state in the run, whatever the marks
 -- RunArgs p r vs bs n s k == plan, rules and list that pass their checks, with N, S and K of their headers
 --
@@ -16,7 +16,6 @@ use lib.ListN.{length, getD}
 use Rattle.trees.specs.Automaton.{state}
 use Rattle.trees.specs.Postorder.{isPostorder, treeOf}
 use Rattle.trees.specs.Changes.{changed}
-use Rattle.formats.specs.Bytes.{distinct}
 use Rattle.formats.specs.Plan.{nodeCount}
 use Rattle.formats.specs.Rules.{stateCount, labelCount, treeAutomaton}
 use Rattle.formats.specs.Checks.{firstNo, freshRunChecks}
@@ -31,8 +30,6 @@ pub record PassArgs (ks ls vs bs lv inn : List ℕ) (s k : ℕ) : Type 0 where
   pub labelled : length ls ≡ length ks
   pub labels-below : (j : ℕ) → getD ls j 0 < k
   pub paired : length vs ≡ length bs
-  pub few : length vs ≤ 64
-  pub no-twice : distinct vs ≡ true
   pub changes-below : (j : ℕ) → getD bs j 0 < k
   pub leaf-count : length lv ≡ k
   pub leaf-below : (j : ℕ) → getD lv j 0 < s

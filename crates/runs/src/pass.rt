@@ -1,5 +1,6 @@
-use crate::changes::in_order;
-use crate::changes::node_at;
+use crate::changes::SPAN;
+use crate::changes::after_change;
+use crate::changes::changes_from;
 ghost use mathlib.Core.Path.{_≡_};
 ghost use Prim.Native.Nat.{ℕ, _+_, _*_, _<_};
 ghost use lib.ListN.{length, getD};
@@ -28,8 +29,8 @@ fn rule(inner: &[u8], s: usize, k: usize, p: usize, a: usize, q: usize) -> u8
 }
 
 // The root's state in the run over the plan with the listed labels changed. One pass over the nodes in order: the
-// states of the trees that wait are kept in the room given, the last completed on top, and the list is followed in the
-// order of its nodes.
+// states of the trees that wait are kept in the room given, the last completed on top. The changes of some nodes at a
+// time are laid out, so that no node asks whether it is listed.
 fn pass_in(
     waiting: &mut [u8],
     kinds: &[u8],
@@ -48,18 +49,15 @@ fn pass_in(
 {
     let n = kinds.len();
     let mut top: usize = 0;
-    let order = in_order(nodes);
-    let mut i: usize = 0;
-    let mut next = node_at(nodes, &order, 0, n);
+    let mut changes = changes_from(nodes, news, 0);
+    let mut j: usize = 0;
     let mut v: usize = 0;
     while v < n {
-        let mut a = labels[v];
-        if v == next {
-            let e = order[i] as usize;
-            a = news[e];
-            i += 1;
-            next = node_at(nodes, &order, i, n);
+        if j == SPAN {
+            changes = changes_from(nodes, news, v);
+            j = 0;
         }
+        let a = after_change(changes[j], labels[v]);
         let x = if kinds[v] == 0 {
             leaves[a as usize]
         } else {
@@ -70,6 +68,7 @@ fn pass_in(
         };
         waiting[top] = x;
         top += 1;
+        j += 1;
         v += 1;
     }
     waiting[0]
