@@ -1,8 +1,8 @@
--- Maps composed on a climb, as the functions of the branch question have them: on runs of labels and steps, with the map
--- carried in one half of 32 bytes and room for the next one in the other.
+-- Maps composed on a climb, as the functions of the branch question have them: on runs of labels and steps, with the
+-- map carried in one half of 32 bytes and room for the next one in the other.
 --
 -- mapAt s maps at == the map of s states that stands in maps from `at` on
--- Halves s maps here == maps of at most 16 states in 32 bytes, one of them from byte 0 or from byte 16 on: `here`; the other half
+-- Halves s maps here == 32 bytes with a map of s states, at most 16, from `here` on: byte 0 or byte 16; the other half
 --   starts at 16 - here
 -- FollowArgs s maps here from at stride == the composition of s states reads inside `from`
 -- LabelArgs s k maps here ls st v == the composition with the step of node v's label reads inside the runs
@@ -10,12 +10,13 @@
 -- runMove s k ls st bytes == moveMap on the run of labels ls and the run of steps st
 -- Reached == a node and the map from there
 -- movedBy F act m o == the node that the move o leads to and what it makes of the map m; none where either is not
--- MovedTo s here after x o == x tells whether there is a move o and the node, and then the map stands in the other half of `after`
+-- MovedTo s here after x o == x tells whether there is such a pair o and its node, and then its map stands in the other
+--   half of `after`
 -- Counted == a map and the number of links that it was composed of
--- composition .. m == what the climb from node l to depth `to` makes of the map m, with its links; none where a value read leads
---   outside the plan, the states or the labels, or the climb does not rise
+-- composition .. m == what the climb from node l to depth `to` makes of the map m, with its links; none where a value
+--   read leads outside the plan, the states or the labels, or the climb does not rise
 -- ComposedTo s after x o == x tells whether there is a composition o, its links and where its map stands in `after`
--- ComposeArgs .. == n nodes, s states and k labels within limits, and runs and tables that are long enough
+-- ComposeArgs .. == n nodes, s states and k labels within limits, halves, and runs and tables that are long enough
 --
 -- Assumes nothing.
 use Prim.Native.Nat.{ℕ, _+_, _-_, _*_, _%_, _≤_, _<_}

@@ -134,8 +134,8 @@ fn compose_move(
     }
 }
 
-// The climb from node `from` to depth `to`: the map from the state after the label reached to the state after `from`'s
-// label, and the links. `maps` starts with the identity.
+// The climb from node `from` to depth `to`: what its moves make of the map that `maps` starts with, and the links. The
+// identity becomes the map from the state after the label reached to the state after `from`'s label.
 pub fn compose_climb(
     maps: &mut [u8],
     labels: &[u8],
