@@ -8,10 +8,11 @@
 //!
 //!     bench --markdown FILE          the table as Markdown, between the two lines of FILE that mark its place
 //!     bench plot FILE.svg            time of a question and of a fresh run over N
-//!     bench question SHAPE N M       nothing but a Load and 20 questions; bench/instructions counts their instructions
+//!     bench calls SHAPE N S M        nothing but 20 calls of each kind; bench/instructions counts their instructions
 //!
 //! Without `--features probes` roots, part and the rows in place are missing.
 
+mod calls;
 mod cases;
 mod measure;
 #[cfg(feature = "probes")]
@@ -32,7 +33,7 @@ fn main() {
         [] => print(),
         ["--markdown", file] => put_between_marks(file),
         ["plot", file] => std::fs::write(file, plot::svg()).expect(file),
-        ["question", shape, n, m] => sessions::ask_only(shape, n.parse().expect("N"), m.parse().expect("M")),
+        ["calls", shape, n, s, m] => calls::make(shape, [n, s, m].map(|number| number.parse().expect(number))),
         _ => panic!("unknown words: see the head of bench/src/main.rs"),
     }
 }

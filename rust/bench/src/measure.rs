@@ -2,7 +2,7 @@
 //!
 //! Times are the thread's own processor time, so that other programs on the machine disturb less.
 
-const TURNS: usize = 31;
+pub const TURNS: usize = 31;
 
 /// Nanoseconds of library and plain.
 pub type Pair = (f64, f64);
@@ -28,12 +28,6 @@ pub fn by_turns_timed(count: usize, mut library: impl FnMut() -> f64, mut plain:
         }
     }
     (median(of_library) / count as f64, median(of_plain) / count as f64)
-}
-
-/// The median nanoseconds of one of `count` calls.
-pub fn alone(count: usize, mut f: impl FnMut()) -> f64 {
-    f();
-    median((0..TURNS).map(|_| time(&mut f)).collect()) / count as f64
 }
 
 /// The nanoseconds of a run of `f`.

@@ -128,18 +128,29 @@ fn advance(set: &Set) -> Pair {
     by_turns_timed(count as usize, || less_start(&library), || less_start(&plain))
 }
 
+fn ask(one: &One, list: &List) -> u32 {
+    let told = probes::question(one, list);
+    told.state + 16 * told.links + told.parts
+}
+
+fn plain_ask(one: &One, (nodes, labels): &List) -> u32 {
+    let (mut session, lends) = loaded(one);
+    session.start(&lends, nodes, labels).expect("accepted");
+    while session.advance(&lends) == Ok(false) {}
+    let told = session.read().expect("accepted");
+    u32::from(told.state) + 16 * told.links + told.parts
+}
+
 fn question(set: &Set) -> Pair {
-    set.told(
-        |one, list| {
-            let told = probes::question(one, list);
-            told.state + 16 * told.links + told.parts
-        },
-        |one, list| {
-            let (mut session, lends) = loaded(one);
-            session.start(&lends, &list.0, &list.1).expect("accepted");
-            while session.advance(&lends) == Ok(false) {}
-            let told = session.read().expect("accepted");
-            u32::from(told.state) + 16 * told.links + told.parts
-        },
-    )
+    set.told(ask, plain_ask)
+}
+
+/// A question in place and its roots and parts alone, by both sides.
+pub fn once(one: &One, list: &List) {
+    assert_eq!(ask(one, list), plain_ask(one, list), "both tell the same");
+    let handled = Handled::new(one, list);
+    let mut roots = [0; 254];
+    let count = layers::roots(one.case.n, &one.numbers, &list.0, &mut roots);
+    assert_eq!(handled.roots, roots[..count], "both tell the same");
+    assert!((0..count).all(|i| handled.states[i] as u32 == handled.plain(i).0), "both tell the same");
 }

@@ -1,6 +1,7 @@
 //! The plot: time of a question and of a fresh run over N, both axes logarithmic, as SVG.
 
-use crate::measure::alone;
+use crate::cases::List;
+use crate::measure::{median, time, TURNS};
 use crate::sessions::{One, Set};
 use crate::table::short;
 use compare::inputs::Case;
@@ -9,7 +10,7 @@ use compare::shapes::Shape;
 use std::fmt::Write;
 
 const NODES: [usize; 7] = [1_001, 2_047, 4_095, 8_191, 16_383, 32_767, 65_535];
-const CHANGES: [usize; 3] = [1, 8, 64];
+const FRESH_RUN: &str = "fresh run, m 64";
 
 /// The picture, the frame of the plot in it, and the room that is shown: nodes across, nanoseconds up.
 const SIZE: (f64, f64) = (760.0, 470.0);
@@ -23,8 +24,35 @@ const UP: (f64, f64) = (300.0, 2_000_000.0);
 struct Line {
     name: String,
     colour: &'static str,
-    /// Nodes and nanoseconds.
-    points: Vec<(f64, f64)>,
+    points: Vec<Point>,
+}
+
+/// Plans of n nodes with the questions of one turn, and nanoseconds of a call, one for each turn.
+struct Point {
+    n: usize,
+    set: Set,
+    times: Vec<f64>,
+}
+
+impl Point {
+    /// 65,535 nodes or a little fewer in all.
+    fn new(n: usize, m: usize, random: &mut Random) -> Point {
+        let case = || Case::new(Shape::Uniform, (n + 1) / 2, 16, 64, random);
+        let mut set = Set::new(std::iter::repeat_with(case).take(65_535 / n).collect());
+        set.with_changes(m, random);
+        Point { n, set, times: Vec::new() }
+    }
+
+    fn turn(&mut self, call: fn(&One, &List) -> u32) {
+        let (set, mut told) = (&self.set, 0);
+        self.times.push(time(&mut || told = set.sum(call)) / set.lists.len() as f64);
+        assert!(told > 0, "some state or link is not 0");
+    }
+
+    /// In the picture.
+    fn place(&self) -> (f64, f64) {
+        (x(self.n as f64), y(median(self.times.clone())))
+    }
 }
 
 pub fn svg() -> String {
@@ -45,33 +73,26 @@ pub fn svg() -> String {
     out + "</svg>\n"
 }
 
-/// Medians, on 65,535 nodes or a little fewer in each turn.
+/// Each turn takes every point once, so that a busy spell of the machine touches all alike.
 fn lines() -> Vec<Line> {
     let random = &mut Random::new(5);
-    let line = |name: String, colour| Line { name, colour, points: Vec::new() };
-    let mut fresh = line("fresh run".to_string(), "#333333");
-    let colours = ["#0072b2", "#009e73", "#d55e00"];
-    let mut questions: Vec<Line> =
-        CHANGES.iter().zip(colours).map(|(m, colour)| line(format!("question, m {}", m), colour)).collect();
-    for n in NODES {
-        let case = || Case::new(Shape::Uniform, (n + 1) / 2, 16, 64, random);
-        let mut set = Set::new(std::iter::repeat_with(case).take(65_535 / n).collect());
-        for (m, line) in CHANGES.iter().zip(&mut questions) {
-            set.with_changes(*m, random);
-            line.points.push((n as f64, took(&set, One::ask)));
+    let mut line = |name: &str, m: usize, colour| {
+        let points = NODES.iter().map(|&n| Point::new(n, m, random)).collect();
+        Line { name: name.to_string(), colour, points }
+    };
+    let mut lines = vec![
+        line("question, m 1", 1, "#0072b2"),
+        line("question, m 8", 8, "#009e73"),
+        line("question, m 64", 64, "#d55e00"),
+        line(FRESH_RUN, 64, "#333333"),
+    ];
+    for _ in 0..TURNS {
+        for line in &mut lines {
+            let call = if line.name == FRESH_RUN { One::fresh_run } else { One::ask };
+            line.points.iter_mut().for_each(|point| point.turn(call));
         }
-        set.lists.truncate(65);
-        fresh.points.push((n as f64, took(&set, One::fresh_run)));
     }
-    questions.push(fresh);
-    questions
-}
-
-fn took(set: &Set, call: fn(&One, &(Vec<u16>, Vec<u8>)) -> u32) -> f64 {
-    let mut told = 0;
-    let time = alone(set.lists.len(), || told = set.sum(call));
-    assert!(told > 0, "some state or link is not 0");
-    time
+    lines
 }
 
 /// A place between two ends on a logarithmic axis.
@@ -128,20 +149,14 @@ fn axes(out: &mut String) {
 
 /// A line with its name at its end.
 fn draw(out: &mut String, line: &Line) {
-    let at: Vec<String> = line.points.iter().map(|&(n, time)| format!("{:.1},{:.1}", x(n), y(time))).collect();
-    writeln!(out, r#"<polyline points="{}" fill="none" stroke="{}" stroke-width="2"/>"#, at.join(" "), line.colour)
-        .unwrap();
-    for &(n, time) in &line.points {
-        writeln!(out, r#"<circle cx="{:.1}" cy="{:.1}" r="3" fill="{}"/>"#, x(n), y(time), line.colour).unwrap();
+    let (colour, places) = (line.colour, line.points.iter().map(Point::place).collect::<Vec<(f64, f64)>>());
+    let path: Vec<String> = places.iter().map(|(x, y)| format!("{:.1},{:.1}", x, y)).collect();
+    let path = path.join(" ");
+    writeln!(out, r#"<polyline points="{}" fill="none" stroke="{}" stroke-width="2"/>"#, path, colour).unwrap();
+    for (x, y) in &places {
+        writeln!(out, r#"<circle cx="{:.1}" cy="{:.1}" r="3" fill="{}"/>"#, x, y, colour).unwrap();
     }
-    let &(n, time) = line.points.last().expect("points");
-    writeln!(
-        out,
-        r#"<text x="{:.1}" y="{:.1}" fill="{}">{}</text>"#,
-        x(n) + 14.0,
-        y(time) + 4.0,
-        line.colour,
-        line.name
-    )
-    .unwrap();
+    let (x, y) = places[places.len() - 1];
+    let (x, y) = (x + 14.0, y + 4.0);
+    writeln!(out, r#"<text x="{:.1}" y="{:.1}" fill="{}">{}</text>"#, x, y, colour, line.name).unwrap();
 }

@@ -3,7 +3,7 @@
 //! A question is Start, as many advances as there are parts, and Read, on tables as built. Its lists are nodes from
 //! anywhere. A Start begins with a copy of a loaded record, an advance is one of all those that a question has.
 
-use crate::cases::{each, list, List, SHAPES};
+use crate::cases::{each, list, List};
 use crate::measure::{by_turns, Pair};
 use crate::table::{Row, BESIDE_FRESH_RUN};
 use compare::inputs::Case;
@@ -63,7 +63,7 @@ impl One {
         while session::advance(record, &case.plan, &case.rules, &self.numbers, &self.bytes) == Ok(false) {}
     }
 
-    fn plain_ask(&self, list: &List) -> u32 {
+    pub fn plain_ask(&self, list: &List) -> u32 {
         let mut record = *self.loaded.as_bytes();
         self.plain_start(&mut record, list);
         self.plain_finish(&mut record);
@@ -164,14 +164,4 @@ pub fn rows() -> Vec<Row> {
         }
     }
     rows
-}
-
-/// Loads one plan and asks 20 questions of it, and nothing else.
-pub fn ask_only(shape: &str, n: usize, m: usize) {
-    let random = &mut Random::new(4);
-    let (shape, _) = *SHAPES.iter().find(|(_, name)| *name == shape).expect("one of the shapes of the table");
-    let one = One::new(Case::new(shape, (n + 1) / 2, 16, 64, random));
-    for _ in 0..20 {
-        one.ask(&list(&one.case, m, random));
-    }
 }

@@ -37,7 +37,7 @@ impl One {
 }
 
 /// A random node and one of the nodes from it up to the root.
-fn pair(tree: &Tree, random: &mut Random) -> (u32, u32) {
+pub fn pair(tree: &Tree, random: &mut Random) -> (u32, u32) {
     let lower = random.below(tree.root() + 1);
     let mut upper = lower;
     for _ in 0..random.below(tree.depth[lower] + 1) {
