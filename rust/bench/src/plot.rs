@@ -43,9 +43,11 @@ impl Point {
         Point { n, set, times: Vec::new() }
     }
 
+    /// Once to warm up, then once that counts.
     fn turn(&mut self, call: fn(&One, &List) -> u32) {
-        let (set, mut told) = (&self.set, 0);
-        self.times.push(time(&mut || told = set.sum(call)) / set.lists.len() as f64);
+        let set = &self.set;
+        let mut told = set.sum(call);
+        self.times.push(time(&mut || told = told.max(set.sum(call))) / set.lists.len() as f64);
         assert!(told > 0, "some state or link is not 0");
     }
 
