@@ -6,6 +6,7 @@
 //! 65,535 nodes, or 65 plans of 1,001 nodes one after the other (so that neither side learns a plan by heart). Times are
 //! for one call. Without a word the whole table is printed; with words:
 //!
+//!     bench only TEXT                the rows whose work has this text in its name
 //!     bench --markdown FILE          the table as Markdown, between the two lines of FILE that mark its place
 //!     bench plot FILE.svg            time of a question and of a fresh run over N
 //!     bench calls SHAPE N S M        nothing but 20 calls of each kind; bench/instructions counts their instructions
@@ -30,7 +31,8 @@ fn main() {
     let words: Vec<String> = std::env::args().skip(1).collect();
     let words: Vec<&str> = words.iter().map(String::as_str).collect();
     match words[..] {
-        [] => print(),
+        [] => print(""),
+        ["only", wanted] => print(wanted),
         ["--markdown", file] => put_between_marks(file),
         ["plot", file] => std::fs::write(file, plot::svg()).expect(file),
         ["calls", shape, n, s, m] => calls::make(shape, [n, s, m].map(|number| number.parse().expect(number))),
@@ -38,16 +40,16 @@ fn main() {
     }
 }
 
-fn rows() -> Vec<Row> {
-    table::in_order(tables::rows().into_iter().chain(sessions::rows()).collect())
+fn rows(wanted: &str) -> Vec<Row> {
+    table::in_order(tables::rows(wanted).into_iter().chain(sessions::rows(wanted)).collect())
 }
 
-fn print() {
+fn print(wanted: &str) {
     println!("what-if checker {}: library against plain Rust, times for one call", whatif::VERSION);
     println!("plain Rust: opt-level 3, codegen-units 1, plain x86-64 (no target-cpu); K 64");
     println!("random: all trees of that size alike; m: changes in the list");
     println!();
-    let rows = rows();
+    let rows = rows(wanted);
     println!("{}", table::text(&rows));
     print!("{}", table::summary(&rows));
 }
@@ -59,7 +61,7 @@ fn put_between_marks(file: &str) {
     let text = std::fs::read_to_string(file).expect(file);
     let (before, rest) = text.split_once(BEGIN).expect(BEGIN);
     let (_, after) = rest.split_once(END).expect(END);
-    let rows = rows();
+    let rows = rows("");
     let tables = format!("{}\n{}", table::summary(&rows), table::markdown(&rows));
     std::fs::write(file, [before, BEGIN, &tables, END, after].concat()).expect(file);
 }

@@ -142,7 +142,8 @@ impl Set {
 
 type Measured = fn(&Set) -> Pair;
 
-pub fn rows() -> Vec<Row> {
+/// Rows whose work has this text in its name.
+pub fn rows(wanted: &str) -> Vec<Row> {
     let random = &mut Random::new(3);
     let mut sets = each(random, |cases, _| Set::new(cases));
     let works: [(&'static str, Measured); 4] = [
@@ -157,7 +158,7 @@ pub fn rows() -> Vec<Row> {
     for m in [0, 1, 8, 64] {
         for (shape, s, both) in &mut sets {
             both.iter_mut().for_each(|set| set.with_changes(m, random));
-            for (work, measured) in &works {
+            for (work, measured) in works.iter().filter(|(work, _)| work.contains(wanted)) {
                 let times = [measured(&both[0]), measured(&both[1])];
                 rows.push(Row { work, m: Some(m), shape, s: *s, times });
             }

@@ -162,8 +162,13 @@ pub fn summary(rows: &[Row]) -> String {
 /// An advance through bytes should cost less than half a microsecond beside its climb; with m 0 there is none.
 fn without_climb(rows: &[Row]) -> String {
     let advances = rows.iter().filter(|row| row.work == "advance" && row.m == Some(0));
-    let greatest = advances.flat_map(|row| row.times).map(|times| times.0).fold(0.0, f64::max);
-    format!("\nAn advance through bytes that does not climb takes at most {} (goal: 500 ns).\n", short(greatest))
+    let times: Vec<f64> = advances.flat_map(|row| row.times).map(|times| times.0).collect();
+    if times.is_empty() {
+        return String::new();
+    }
+    let greatest = times.iter().copied().fold(0.0, f64::max);
+    let (median, greatest) = (short(median(times)), short(greatest));
+    format!("\nAn advance through bytes that does not climb takes {}, at most {} (goal: 500 ns).\n", median, greatest)
 }
 
 /// A line for each work and m; in a cell the ratios at both sizes, in bold where one is over the goal.

@@ -152,10 +152,14 @@ impl Set {
     }
 }
 
-pub fn rows() -> Vec<Row> {
+/// Rows whose work has this text in its name; the builds always, since what follows needs them.
+pub fn rows(wanted: &str) -> Vec<Row> {
     let mut sets = each(&mut Random::new(2), Set::new);
     let mut rows = Vec::new();
     let mut measure = |work: &'static str, m: Option<usize>, measured: &mut dyn FnMut(&mut Set) -> Pair| {
+        if !work.contains(wanted) && work != "Load" && work != "branch build" {
+            return;
+        }
         for (shape, s, [small, large]) in &mut sets {
             let times = [measured(small), measured(large)];
             rows.push(Row { work, m, shape, s: *s, times });
