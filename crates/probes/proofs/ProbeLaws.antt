@@ -20,7 +20,7 @@ use Rattle.session.specs.Promises.{startingAnswer, readingAnswer, answerOn, rec
 use Rattle.probes.specs.declared.layers.Part.{Part}
 use Rattle.probes.specs.declared.whole.Question.{Question}
 use Rattle.probes.specs.declared.whole.Steps.{Steps}
-use Rattle.probes.specs.Probed.{RootsProbed, partTold, advanced, partsTold, after, startParts, stepsTold, bitOf, nothingTold, readTold, questionTold}
+use Rattle.probes.specs.Probed.{RootsProbed, partTold, advanced, partsTold, after, startParts, stepsTold, nothingTold, readTold, questionTold}
 
 pub roots-probed : (x y : Rooted) → x ≡ y → RootsProbed y (x .count) (x .nodes)
 roots-probed x y e = record { count = ap (λ (z : Rooted). z .count) e; roots = ap (λ (z : Rooted). z .nodes) e }
@@ -39,14 +39,10 @@ pub parts-none : (t : Starting) (n : ℕ) → t ≡ NotStarted n → 0 ≡ parts
 unfolding partsTold startingAnswer
 parts-none t n e = sym (ap (λ (x : Starting). partsTold (startingAnswer x)) e)
 
-abbrev questionOf : ℕ → ℕ → ℕ → ℕ → Question
-questionOf q y p l = record { state = q; yes = y; parts = p; links = l }
-
-pub read-some : (a : Reading) (q y p l : ℕ) (m : Bool) → a ≡ Told q m p l → y ≡ bitOf m
+pub read-some : (a : Reading) (q p l : ℕ) (y : Bool) → a ≡ Told q y p l
     → _≡_ {A = Question} (record { state = q; yes = y; parts = p; links = l }) (readTold (readingAnswer a))
 unfolding readTold readingAnswer
-read-some a q y p l m e b =
-    ap (λ (z : ℕ). questionOf q z p l) b ∙ sym (ap (λ (x : Reading). readTold (readingAnswer x)) e)
+read-some a q p l y e = sym (ap (λ (x : Reading). readTold (readingAnswer x)) e)
 
 pub read-none : (a : Reading) (n : ℕ) → a ≡ NotRead n → nothingTold ≡ readTold (readingAnswer a)
 unfolding readTold readingAnswer

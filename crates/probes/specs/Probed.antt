@@ -12,7 +12,7 @@
 -- Assumes nothing.
 use Prim.Native.Nat.{ℕ, zero, suc}
 use mathlib.Core.Path.{_≡_}
-use mathlib.Core.Bool.{Bool, true, false}
+use mathlib.Core.Bool.{false}
 use mathlib.Core.List.{List}
 use Rattle.questions.specs.declared.climb.Climbed.{Climbed}
 use Rattle.questions.specs.declared.climb.Climbed.the-variants.{Reached, Outside}
@@ -62,15 +62,11 @@ startParts x vs bs s = partsTold (answerOn s (start x vs bs))
 unfoldable pub stepsTold : Lent → List ℕ → List ℕ → ℕ → Session → Steps
 stepsTold x vs bs i s = record { parts = startParts x vs bs s; links = after x vs bs i s .links }
 
-abbrev pub bitOf : Bool → ℕ
-bitOf true = 1
-bitOf false = 0
-
 abbrev pub nothingTold : Question
-nothingTold = record { state = 16; yes = 0; parts = 0; links = 0 }
+nothingTold = record { state = 16; yes = false; parts = 0; links = 0 }
 
 unfoldable pub readTold : Answer → Question
-readTold (told q y p l) = record { state = q; yes = bitOf y; parts = p; links = l }
+readTold (told q y p l) = record { state = q; yes = y; parts = p; links = l }
 readTold (refused n) = nothingTold
 readTold accepted = nothingTold
 readTold (parts p) = nothingTold

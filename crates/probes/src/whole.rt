@@ -6,7 +6,7 @@ use session::state::Session;
 ghost use mathlib.Core.Path.{_≡_};
 ghost use Rattle.session.specs.Promises.{startingAnswer, readingAnswer};
 ghost use Rattle.session.specs.Tests.{lentOf};
-ghost use Rattle.probes.specs.Probed.{loadedWith, partsTold, advanced, stepsTold, bitOf, readTold, questionTold};
+ghost use Rattle.probes.specs.Probed.{loadedWith, partsTold, advanced, stepsTold, readTold, questionTold};
 
 // A question's parts, and its links so far.
 #[repr(C)]
@@ -19,7 +19,7 @@ pub struct Steps {
 #[repr(C)]
 pub struct Question {
     pub state: u32,
-    pub yes: u32,
+    pub yes: bool,
     pub parts: u32,
     pub links: u32,
 }
@@ -111,13 +111,6 @@ pub extern "C" fn probe_steps(
     }
 }
 
-// A yes or no as a number.
-fn bit(yes: bool) -> u32
-    ensures { λ r. ⌜ r ≡ bitOf yes ⌝ }
-{
-    if yes { 1 } else { 0 }
-}
-
 // What Read tells; state 16 where it is refused.
 fn read_told(told: Reading) -> Question
     ensures { λ r. ⌜ r ≡ readTold (readingAnswer told) ⌝ }
@@ -126,7 +119,7 @@ fn read_told(told: Reading) -> Question
         Reading::Told(q, marked, p, l) => {
             return Question {
                 state: q as u32,
-                yes: bit(marked),
+                yes: marked,
                 parts: p as u32,
                 links: l,
             };
@@ -134,7 +127,7 @@ fn read_told(told: Reading) -> Question
         Reading::Refused(n) => {
             return Question {
                 state: 16,
-                yes: 0,
+                yes: false,
                 parts: 0,
                 links: 0,
             };

@@ -18,7 +18,7 @@ pub struct Steps {
 #[repr(C)]
 pub struct Question {
     pub state: u32,
-    pub yes: u32,
+    pub yes: bool,
     pub parts: u32,
     pub links: u32,
 }
