@@ -130,7 +130,7 @@ fn advance(set: &Set) -> Pair {
 
 fn ask(one: &One, list: &List) -> u32 {
     let told = probes::question(one, list);
-    told.state + 16 * told.links + told.parts
+    told.state + 16 * u32::from(told.yes) + 32 * told.links + told.parts
 }
 
 fn plain_ask(one: &One, (nodes, labels): &List) -> u32 {
@@ -138,7 +138,7 @@ fn plain_ask(one: &One, (nodes, labels): &List) -> u32 {
     session.start(&lends, nodes, labels).expect("accepted");
     while session.advance(&lends) == Ok(false) {}
     let told = session.read().expect("accepted");
-    u32::from(told.state) + 16 * told.links + told.parts
+    u32::from(told.state) + 16 * u32::from(told.yes) + 32 * told.links + told.parts
 }
 
 fn question(set: &Set) -> Pair {
