@@ -16,11 +16,11 @@ pub const SHAPES: [(Shape, &str); 4] = [
     (Shape::Uniform, "random"),
 ];
 
-/// For every count of states and every shape, something made of the smaller plans and of the larger ones.
-pub fn each<T>(
-    random: &mut Random,
-    mut of: impl FnMut(Vec<Case>, &mut Random) -> T,
-) -> Vec<(&'static str, usize, [T; 2])> {
+/// Something of a shape and a count of states, for the smaller plans and for the larger ones.
+pub type Both<T> = (&'static str, usize, [T; 2]);
+
+/// For every count of states and every shape, something made of the plans of one turn.
+pub fn each<T>(random: &mut Random, mut of: impl FnMut(Vec<Case>, &mut Random) -> T) -> Vec<Both<T>> {
     let mut all = Vec::new();
     for s in [2, 16] {
         for (shape, name) in SHAPES {

@@ -133,7 +133,7 @@ impl Session {
 
     fn question(&self) -> bool {
         let (m, parts, handled) = (self.m as usize, self.parts as usize, self.handled as usize);
-        if m > 64 || parts < 1 || parts > 254 {
+        if m > 64 || !(1..=254).contains(&parts) {
             return false;
         }
         let (nodes, no_nodes) = self.nodes.split_at(m);
