@@ -7,11 +7,11 @@
 use crate::cases::List;
 use crate::measure::{by_turns, by_turns_timed, time, Pair};
 use crate::probes;
-use crate::sessions::{One, Set};
+use crate::sessions::{One, Set, Work};
 use plain::layers;
 use plain::place::{Lends, Session};
 
-pub const WORKS: [(&str, fn(&Set) -> Pair); 5] = [
+pub const WORKS: [Work; 5] = [
     ("roots", roots),
     ("part", part),
     ("Start in place", start),

@@ -140,20 +140,21 @@ impl Set {
     }
 }
 
-type Measured = fn(&Set) -> Pair;
+/// What is measured, and how.
+pub type Work = (&'static str, fn(&Set) -> Pair);
 
 /// Rows whose work has this text in its name.
 pub fn rows(wanted: &str) -> Vec<Row> {
     let random = &mut Random::new(3);
     let mut sets = each(random, |cases, _| Set::new(cases));
-    let works: [(&'static str, Measured); 4] = [
+    let works: [Work; 4] = [
         ("Start", Set::start),
         ("advance", Set::advance),
         ("question", Set::question),
         (BESIDE_FRESH_RUN, Set::beside_fresh_run),
     ];
     #[cfg(feature = "probes")]
-    let works: Vec<(&'static str, Measured)> = works.into_iter().chain(crate::places::WORKS).collect();
+    let works: Vec<Work> = works.into_iter().chain(crate::places::WORKS).collect();
     let mut rows = Vec::new();
     for m in [0, 1, 8, 64] {
         for (shape, s, both) in &mut sets {
