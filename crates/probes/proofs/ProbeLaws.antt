@@ -20,7 +20,8 @@ use Rattle.session.specs.Promises.{startingAnswer, readingAnswer, answerOn, rec
 use Rattle.probes.specs.declared.layers.Part.{Part}
 use Rattle.probes.specs.declared.whole.Question.{Question}
 use Rattle.probes.specs.declared.whole.Steps.{Steps}
-use Rattle.probes.specs.Probed.{RootsProbed, partTold, advanced, partsTold, after, startParts, stepsTold, nothingTold, readTold, questionTold}
+use Rattle.probes.specs.Probed.{RootsProbed, partTold, advanced, partsTold, after, startParts, stepsTold}
+use Rattle.probes.specs.Probed.{nothingTold, readTold, questionTold}
 
 pub roots-probed : (x y : Rooted) → x ≡ y → RootsProbed y (x .count) (x .nodes)
 roots-probed x y e = record { count = ap (λ (z : Rooted). z .count) e; roots = ap (λ (z : Rooted). z .nodes) e }
@@ -83,7 +84,8 @@ module _ (x : Lent) (vs bs : List ℕ) (s before : Session) (o : Started) (is : 
   unfolding stepsTold
   steps-told i p end e f = ap₂ stepsOf (parts-are p e) (ap (λ (z : Session). z .links) (ends-at i end f))
 
-  pub question-told : (p : ℕ) (end : Session) (a : Reading) (r : Question) → p ≡ partsTold (startingAnswer (o .told)) → end ≡ advanced p x (o .rec)
+  pub question-told : (p : ℕ) (end : Session) (a : Reading) (r : Question) → p ≡ partsTold (startingAnswer (o .told))
+      → end ≡ advanced p x (o .rec)
       → readingAnswer a ≡ answerOn end read → r ≡ readTold (readingAnswer a) → r ≡ questionTold x vs bs s
   unfolding questionTold
   question-told p end a r e f g h =

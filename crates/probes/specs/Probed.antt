@@ -7,7 +7,9 @@
 -- advanced i x s == session s after i advances with what is lent
 -- partsTold a == the parts that answer a tells; 0 for any other answer
 -- stepsTold x vs bs i s == the parts of a question, and its links after i advances
--- questionTold x vs bs s == what Read tells after a question and as many advances as Start told parts; state 16 and zeros where it is refused
+-- after x vs bs i s == session s after Start and i advances; startParts x vs bs s == the parts that Start tells
+-- readTold a == what answer a of Read tells; state 16 and zeros for any other
+-- questionTold x vs bs s == what Read tells after Start and as many advances as it told parts
 --
 -- Assumes nothing.
 use Prim.Native.Nat.{ℕ, zero, suc}
@@ -52,7 +54,6 @@ partsTold more = 0
 partsTold finished = 0
 partsTold (told q y p l) = 0
 
--- the session after Start and i advances
 unfoldable pub after : Lent → List ℕ → List ℕ → ℕ → Session → Session
 after x vs bs i s = advanced i x (recordOn s (start x vs bs))
 
