@@ -1,49 +1,67 @@
-//! The library's speed against plain Rust, in one process: `cargo run --release --offline -p bench`, from rust/.
+//! The library's speed against plain Rust, in one process, from rust/:
+//!
+//!     cargo run --release --offline -p bench --features probes
 //!
 //! For each row both sides do the same work by turns, 31 turns each, and the median counts. The work is one plan of
-//! 65,535 nodes, or 65 plans of 1,001 nodes one after the other (so that neither side learns a plan by heart).
-//! Buffers are allocated and written before. Times are for one node, of a branch question for one question.
+//! 65,535 nodes, or 65 plans of 1,001 nodes one after the other (so that neither side learns a plan by heart). Times are
+//! for one call. Without a word the whole table is printed; with words:
 //!
-//! With `--features session` also Start, one advance and whole questions, through the record's bytes. Then
-//! `bench question SHAPE N M` does nothing but load a plan and ask 20 questions of M changes; `bench/instructions` counts
-//! their instructions.
+//!     bench only TEXT                the rows whose work has this text in its name
+//!     bench --markdown FILE          the table as Markdown, between the two lines of FILE that mark its place
+//!     bench plot FILE.svg            time of a question and of a fresh run over N
+//!     bench calls SHAPE N S M        nothing but 20 calls of each kind; bench/instructions counts their instructions
+//!
+//! Without `--features probes` roots, part and the rows in place are missing.
 
+mod calls;
+mod cases;
 mod measure;
-mod rows;
-#[cfg(feature = "session")]
+#[cfg(feature = "probes")]
+mod places;
+mod plot;
+#[cfg(feature = "probes")]
+mod probes;
 mod sessions;
+mod table;
+mod tables;
 
-use measure::{LARGE, SMALL};
+use table::Row;
 
 fn main() {
-    #[cfg(feature = "session")]
-    if let [_, word, shape, n, m] = &std::env::args().collect::<Vec<String>>()[..] {
-        assert_eq!(word, "question");
-        return sessions::ask_only(shape, n.parse().expect("N"), m.parse().expect("M"));
+    let words: Vec<String> = std::env::args().skip(1).collect();
+    let words: Vec<&str> = words.iter().map(String::as_str).collect();
+    match words[..] {
+        [] => print(""),
+        ["only", wanted] => print(wanted),
+        ["--markdown", file] => put_between_marks(file),
+        ["plot", file] => std::fs::write(file, plot::svg()).expect(file),
+        ["calls", shape, n, s, m] => calls::make(shape, [n, s, m].map(|number| number.parse().expect(number))),
+        _ => panic!("unknown words: see the head of bench/src/main.rs"),
     }
-    table();
 }
 
-fn table() {
-    println!("what-if checker {}: library against plain Rust", whatif::VERSION);
+fn rows(wanted: &str) -> Vec<Row> {
+    table::in_order(tables::rows(wanted).into_iter().chain(sessions::rows(wanted)).collect())
+}
+
+fn print(wanted: &str) {
+    println!("what-if checker {}: library against plain Rust, times for one call", whatif::VERSION);
     println!("plain Rust: opt-level 3, codegen-units 1, plain x86-64 (no target-cpu); K 64");
-    println!("random: all trees of that size alike; m: changes in the list; growth: library at N 65,535 to N 1,001");
+    println!("random: all trees of that size alike; m: changes in the list");
     println!();
-    let rows = rows::all();
-    measure::print_table("ns a node", "plain", &rows);
-    println!();
-    for row in rows.iter().filter(|row| row.what == "build" && row.s == 16) {
-        let ms = |ns: f64| ns * rows::NODES[LARGE] as f64 / 1e6;
-        let times = row.times[LARGE];
-        println!(
-            "largest plan (N 65,535, S 16, K 64), {}: {:.2} ms, plain {:.2} ms",
-            row.shape,
-            ms(times.0),
-            ms(times.1)
-        );
-    }
-    let worst = |at: usize| rows.iter().filter(|r| r.what == "build").map(|r| r.ratio(at)).fold(0.0, f64::max);
-    println!("build, greatest ratio: {:.2} at N 1,001, {:.2} at N 65,535", worst(SMALL), worst(LARGE));
-    #[cfg(feature = "session")]
-    sessions::print();
+    let rows = rows(wanted);
+    println!("{}", table::text(&rows));
+    print!("{}", table::summary(&rows));
+}
+
+const BEGIN: &str = "<!-- bench: begin -->\n";
+const END: &str = "<!-- bench: end -->\n";
+
+fn put_between_marks(file: &str) {
+    let text = std::fs::read_to_string(file).expect(file);
+    let (before, rest) = text.split_once(BEGIN).expect(BEGIN);
+    let (_, after) = rest.split_once(END).expect(END);
+    let rows = rows("");
+    let tables = format!("{}\n{}", table::summary(&rows), table::markdown(&rows));
+    std::fs::write(file, [before, BEGIN, &tables, END, after].concat()).expect(file);
 }

@@ -1,86 +1,37 @@
-//! Taking times by turns, and the table.
+//! Taking times by turns.
 //!
 //! Times are the thread's own processor time, so that other programs on the machine disturb less.
 
-/// Places of the smaller and of the larger plans.
-pub const SMALL: usize = 0;
-pub const LARGE: usize = 1;
+pub const TURNS: usize = 31;
 
-const TURNS: usize = 31;
+/// Nanoseconds of library and plain.
+pub type Pair = (f64, f64);
 
-/// What was measured on what: nanoseconds of library and plain, for the smaller and the larger plans.
-pub struct Row {
-    pub what: String,
-    pub shape: &'static str,
-    pub s: usize,
-    pub times: [(f64, f64); 2],
-    /// The greatest ratio that is wanted, if any.
-    pub wanted: Option<f64>,
+/// The median nanoseconds of library and plain, run by turns, for one of `count` calls.
+pub fn by_turns(count: usize, mut library: impl FnMut(), mut plain: impl FnMut()) -> Pair {
+    by_turns_timed(count, || time(&mut library), || time(&mut plain))
 }
 
-impl Row {
-    pub fn ratio(&self, at: usize) -> f64 {
-        self.times[at].0 / self.times[at].1
-    }
-}
-
-/// With the unit of the times, and what the library is compared with.
-pub fn print_table(unit: &str, other: &str, rows: &[Row]) {
-    println!("{:<31}  {:^25}  {:^25}  {:>6}", "", "N 1,001", "N 65,535", "");
-    println!(
-        "{:<16} {:<10} {:>3}  {:>8} {:>8} {:>7}  {:>8} {:>8} {:>7}  {:>6} {:>6}",
-        unit, "shape", "S", "library", other, "ratio", "library", other, "ratio", "growth", "wanted"
-    );
-    for row in rows {
-        let [small, large] = row.times;
-        let wanted = row.wanted.map_or("-".to_string(), |wanted| format!("{:.1}", wanted));
-        let over = row.wanted.map_or(false, |wanted| row.ratio(SMALL) > wanted || row.ratio(LARGE) > wanted);
-        println!(
-            "{:<16} {:<10} {:>3}  {:>8} {:>8} {:>7.3}  {:>8} {:>8} {:>7.3}  {:>6.2} {:>6}{}",
-            row.what,
-            row.shape,
-            row.s,
-            short(small.0),
-            short(small.1),
-            row.ratio(SMALL),
-            short(large.0),
-            short(large.1),
-            row.ratio(LARGE),
-            large.0 / small.0,
-            wanted,
-            if over { " over" } else { "" }
-        );
-    }
-}
-
-/// Two places behind the point for small numbers, none for large ones.
-fn short(time: f64) -> String {
-    if time < 1_000.0 {
-        format!("{:.2}", time)
-    } else {
-        format!("{:.0}", time)
-    }
-}
-
-/// The median nanoseconds of library and plain, run by turns, divided by the count of nodes or questions.
-pub fn by_turns(count: usize, mut library: impl FnMut(), mut plain: impl FnMut()) -> (f64, f64) {
+/// The same for sides that take their time themselves.
+pub fn by_turns_timed(count: usize, mut library: impl FnMut() -> f64, mut plain: impl FnMut() -> f64) -> Pair {
     library();
     plain();
     let (mut of_library, mut of_plain) = (Vec::new(), Vec::new());
     for turn in 0..TURNS {
         // who goes first changes
         if turn % 2 == 0 {
-            of_library.push(time(&mut library));
-            of_plain.push(time(&mut plain));
+            of_library.push(library());
+            of_plain.push(plain());
         } else {
-            of_plain.push(time(&mut plain));
-            of_library.push(time(&mut library));
+            of_plain.push(plain());
+            of_library.push(library());
         }
     }
     (median(of_library) / count as f64, median(of_plain) / count as f64)
 }
 
-fn time(f: &mut impl FnMut()) -> f64 {
+/// The nanoseconds of a run of `f`.
+pub fn time(f: &mut impl FnMut()) -> f64 {
     let start = processor_time();
     f();
     (processor_time() - start) as f64
@@ -105,7 +56,7 @@ fn processor_time() -> i64 {
     now.seconds * 1_000_000_000 + now.nanoseconds
 }
 
-fn median(mut times: Vec<f64>) -> f64 {
+pub fn median(mut times: Vec<f64>) -> f64 {
     times.sort_by(|a, b| a.total_cmp(b));
     times[times.len() / 2]
 }

@@ -41,34 +41,25 @@ fn down(plan: &Plan, branch: &Branch, numbers: &mut [u16], bytes: &mut [u8]) {
         let jump = links::jump(numbers, p);
         numbers[4 * v + JUMP] = jump.to;
         numbers[4 * v + DEPTH] = jump.depth;
-        bytes[row * v] = branch.steps[bytes[row * p] as usize * branch.k + plan.labels[v] as usize];
-        let map = map(plan, branch, bytes, v, p, jump.over);
-        bytes[row * v + 1..row * v + row].copy_from_slice(&map[..branch.s]);
-    }
-}
-
-/// The map of node v with parent p, from the top down: where the jump is far the map of p's jump, then p's; then the
-/// step.
-#[inline]
-fn map(plan: &Plan, branch: &Branch, bytes: &[u8], v: usize, p: usize, over: Option<usize>) -> [u8; 16] {
-    let (s, row) = (branch.s, branch.s + 1);
-    let a = plan.labels[v] as usize;
-    let mut map = [0u8; 16];
-    match over {
-        Some(j) => {
-            let of_p = &bytes[row * p + 1..row * p + row];
-            let of_j = &bytes[row * j + 1..row * j + row];
-            for (to, &at_j) in map[..s].iter_mut().zip(of_j) {
-                *to = branch.steps[of_p[at_j as usize] as usize * branch.k + a];
+        let steps = &branch.steps[plan.labels[v] as usize..];
+        let (low, high) = bytes.split_at_mut(row * p);
+        low[row * v] = steps[high[0] as usize * branch.k];
+        let map = &mut low[row * v + 1..row * v + row];
+        match jump.over {
+            // from the top down: the map of p's jump, then p's, then the step
+            Some(j) => {
+                let (of_p, of_j) = (&high[1..row], &high[row * (j - p) + 1..row * (j - p) + row]);
+                for (to, &at_j) in map.iter_mut().zip(of_j) {
+                    *to = steps[of_p[at_j as usize] as usize * branch.k];
+                }
             }
-        }
-        None => {
-            for (q, to) in map[..s].iter_mut().enumerate() {
-                *to = branch.steps[q * branch.k + a];
+            None => {
+                for (q, to) in map.iter_mut().enumerate() {
+                    *to = steps[q * branch.k];
+                }
             }
         }
     }
-    map
 }
 
 pub fn branch_check(plan: &[u8], branch: &[u8], numbers: &[u16], bytes: &[u8]) -> Result<bool, u32> {
@@ -114,8 +105,16 @@ fn checked_down(plan: &Plan, branch: &Branch, numbers: &[u16], bytes: &[u8]) -> 
         if numbers[4 * v + JUMP] != jump.to || numbers[4 * v + DEPTH] != jump.depth || bytes[row * v] != state {
             return false;
         }
-        let map = map(plan, branch, bytes, v, p, jump.over);
-        if bytes[row * v + 1..row * v + row] != map[..branch.s] {
+        let steps = &branch.steps[plan.labels[v] as usize..];
+        let map = &bytes[row * v + 1..row * v + row];
+        let same = match jump.over {
+            Some(j) => {
+                let (of_p, of_j) = (&bytes[row * p + 1..row * p + row], &bytes[row * j + 1..row * j + row]);
+                map.iter().zip(of_j).all(|(to, &at_j)| *to == steps[of_p[at_j as usize] as usize * branch.k])
+            }
+            None => map.iter().enumerate().all(|(q, to)| *to == steps[q * branch.k]),
+        };
+        if !same {
             return false;
         }
     }

@@ -51,6 +51,11 @@ pub fn plan(bytes: &[u8]) -> Result<Plan<'_>, u32> {
     Ok(Plan { n, labels, kinds })
 }
 
+/// No early end, so that many bytes are tested at a time.
+fn all_below(bytes: &[u8], bound: usize) -> bool {
+    bytes.iter().fold(true, |ok, &b| ok & (b < bound as u8))
+}
+
 fn counts(bytes: &[u8]) -> Result<(usize, usize), u32> {
     let (s, k) = (number(bytes, 0), number(bytes, 4));
     if !(1..=16).contains(&s) || !(1..=64).contains(&k) {
@@ -68,7 +73,7 @@ pub fn rules(bytes: &[u8]) -> Result<Rules<'_>, u32> {
     if number(bytes, 8) != 20 || number(bytes, 12) != 20 + k || number(bytes, 16) != marks || bytes.len() != marks + s {
         return Err(8);
     }
-    if bytes[20..marks].iter().any(|&q| q as usize >= s) || bytes[marks..].iter().any(|&m| m > 1) {
+    if !all_below(&bytes[20..marks], s) || !all_below(&bytes[marks..], 2) {
         return Err(9);
     }
     Ok(Rules { s, k, leaf: &bytes[20..20 + k], inner: &bytes[20 + k..marks], marks: &bytes[marks..] })
@@ -83,14 +88,14 @@ pub fn branch(bytes: &[u8]) -> Result<Branch<'_>, u32> {
     if number(bytes, 8) != 16 || number(bytes, 12) != marks || bytes.len() != marks + s {
         return Err(8);
     }
-    if bytes[16..marks].iter().any(|&q| q as usize >= s) || bytes[marks..].iter().any(|&m| m > 1) {
+    if !all_below(&bytes[16..marks], s) || !all_below(&bytes[marks..], 2) {
         return Err(9);
     }
     Ok(Branch { s, k, steps: &bytes[16..marks], marks: &bytes[marks..] })
 }
 
 pub fn labels(plan: &Plan, k: usize) -> Result<(), u32> {
-    if plan.labels.iter().any(|&a| a as usize >= k) {
+    if !all_below(plan.labels, k) {
         return Err(10);
     }
     Ok(())

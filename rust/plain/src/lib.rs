@@ -2,14 +2,16 @@
 //!
 //! Order: `checks` (2 to 11 and the parts of the lent bytes), `links` (the 16-bit numbers), `rules` and `branch` (the
 //! bytes, full checks, branch questions), `fresh`; `record` (the session's bytes), `question` (roots and parts),
-//! `session` (the five calls). Each call gives the same answers as the library's; the comparison tests hold it to the
-//! reference implementation as well.
+//! `layers` (both alone), `session` (the five calls on bytes), `place` (the session as a struct). Each call gives the
+//! same answers as the library's; the comparison tests hold it to the reference implementation as well.
 //! Maps are composed: a far jump's map is the step, then the parent's map, then the map of the parent's jump.
 
 mod branch;
 mod checks;
 mod fresh;
+pub mod layers;
 mod links;
+pub mod place;
 mod question;
 mod record;
 mod rules;

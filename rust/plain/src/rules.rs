@@ -45,35 +45,48 @@ fn down(plan: &Plan, rules: &Rules, numbers: &mut [u16], bytes: &mut [u8]) {
         let jump = links::jump(numbers, p);
         numbers[4 * v + JUMP] = jump.to;
         numbers[4 * v + DEPTH] = jump.depth;
-        let map = map(plan, rules, numbers, bytes, v, p, jump.over);
-        bytes[row * v + 1..row * v + row].copy_from_slice(&map[..rules.s]);
+        let step = Step::new(plan, rules, numbers, bytes, v, p);
+        let (low, high) = bytes.split_at_mut(row * p);
+        let map = &mut low[row * v + 1..row * v + row];
+        match jump.over {
+            Some(j) => {
+                let (of_p, of_j) = (&high[1..row], &high[row * (j - p) + 1..row * (j - p) + row]);
+                for (q, to) in map.iter_mut().enumerate() {
+                    *to = of_j[of_p[step.from(q) as usize] as usize];
+                }
+            }
+            None => {
+                for (q, to) in map.iter_mut().enumerate() {
+                    *to = step.from(q);
+                }
+            }
+        }
     }
 }
 
-/// The map of node v with parent p: the step to p, and where the jump is far the maps of p and of p's jump after it.
-#[inline]
-fn map(plan: &Plan, rules: &Rules, numbers: &[u16], bytes: &[u8], v: usize, p: usize, over: Option<usize>) -> [u8; 16] {
-    let (s, row) = (rules.s, rules.s + 1);
-    let a = plan.labels[p] as usize;
-    let mut map = [0u8; 16];
-    let (l, r) = links::children(numbers, p);
-    if v == r {
-        let base = (bytes[row * l] as usize * rules.k + a) * s;
-        map[..s].copy_from_slice(&rules.inner[base..base + s]);
-    } else {
-        let base = a * s + bytes[row * r] as usize;
-        for (q, to) in map[..s].iter_mut().enumerate() {
-            *to = rules.inner[q * rules.k * s + base];
+/// The step of a node to its parent: where the rules have the state for its own state q.
+struct Step<'a> {
+    entries: &'a [u8],
+    stride: usize,
+}
+
+impl<'a> Step<'a> {
+    /// Of node v with parent p.
+    #[inline]
+    fn new(plan: &Plan, rules: &Rules<'a>, numbers: &[u16], bytes: &[u8], v: usize, p: usize) -> Step<'a> {
+        let (s, row, a) = (rules.s, rules.s + 1, plan.labels[p] as usize);
+        let (l, r) = links::children(numbers, p);
+        if v == r {
+            Step { entries: &rules.inner[(bytes[row * l] as usize * rules.k + a) * s..], stride: 1 }
+        } else {
+            Step { entries: &rules.inner[a * s + bytes[row * r] as usize..], stride: rules.k * s }
         }
     }
-    if let Some(j) = over {
-        let of_p = &bytes[row * p + 1..row * p + row];
-        let of_j = &bytes[row * j + 1..row * j + row];
-        for to in &mut map[..s] {
-            *to = of_j[of_p[*to as usize] as usize];
-        }
+
+    #[inline]
+    fn from(&self, q: usize) -> u8 {
+        self.entries[q * self.stride]
     }
-    map
 }
 
 pub fn check(plan: &[u8], rules: &[u8], numbers: &[u16], bytes: &[u8]) -> Result<bool, u32> {
@@ -121,8 +134,16 @@ fn checked_down(plan: &Plan, rules: &Rules, numbers: &[u16], bytes: &[u8]) -> bo
         if numbers[4 * v + JUMP] != jump.to || numbers[4 * v + DEPTH] != jump.depth {
             return false;
         }
-        let map = map(plan, rules, numbers, bytes, v, p, jump.over);
-        if bytes[row * v + 1..row * v + row] != map[..rules.s] {
+        let step = Step::new(plan, rules, numbers, bytes, v, p);
+        let mut map = bytes[row * v + 1..row * v + row].iter().enumerate();
+        let same = match jump.over {
+            Some(j) => {
+                let (of_p, of_j) = (&bytes[row * p + 1..row * p + row], &bytes[row * j + 1..row * j + row]);
+                map.all(|(q, to)| *to == of_j[of_p[step.from(q) as usize] as usize])
+            }
+            None => map.all(|(q, to)| *to == step.from(q)),
+        };
+        if !same {
             return false;
         }
     }

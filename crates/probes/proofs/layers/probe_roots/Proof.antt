@@ -1,0 +1,17 @@
+use Rattle.probes.proofs.ProbeLaws.{roots-probed}
+use native.Mathlib.Omega.{arith}
+use borrow.Author.Needs.{needs}
+use Rattle.probes.proofs.layers.probe_roots.Statement.{statement}
+use Rattle.probes.proofs.layers.probe_roots.Tie as tie
+use Rattle.probes.proofs.layers.probe_roots.Reads as reads
+use Rattle.probes.proofs.layers.probe_roots.Lts as lts
+use Rattle.questions.proofs.roots.roots.Reads as roots-reads
+
+roots-requires : tie.Need-roots-requires
+roots-requires c κs = search needs
+
+returns : tie.Need-returns
+returns c = roots-probed _ _ (c .before .roots .ensures)
+
+pub probe-roots-spec : {M : Type 1} → statement M
+probe-roots-spec = tie.close (tie.spec roots-requires returns)

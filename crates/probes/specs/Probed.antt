@@ -1,0 +1,78 @@
+-- What the probes promise, by the definitions of the layers below.
+--
+-- RootsProbed x n l == how many roots the answer x has, and the roots with zeros behind them; 0 and zeros where they are refused
+-- partTold x == the state and the links of part x; 16 and 0 where it is refused
+--
+-- loadedWith n s k == a loaded session of N, S and K
+-- advanced i x s == session s after i advances with what is lent
+-- partsTold a == the parts that answer a tells; 0 for any other answer
+-- stepsTold x vs bs i s == the parts of a question, and its links after i advances
+-- after x vs bs i s == session s after Start and i advances; startParts x vs bs s == the parts that Start tells
+-- readTold a == what answer a of Read tells; state 16 and zeros for any other
+-- questionTold x vs bs s == what Read tells after Start and as many advances as it told parts
+--
+-- Assumes nothing.
+use Prim.Native.Nat.{ℕ, zero, suc}
+use mathlib.Core.Path.{_≡_}
+use mathlib.Core.Bool.{false}
+use mathlib.Core.List.{List}
+use Rattle.questions.specs.declared.climb.Climbed.{Climbed}
+use Rattle.questions.specs.declared.climb.Climbed.the-variants.{Reached, Outside}
+use Rattle.questions.specs.declared.roots.Rooted.{Rooted}
+use Rattle.book.specs.Lends.{Lent}
+use Rattle.book.specs.Calls.{start, advance, read, Answer, refused, accepted, parts, more, finished, told}
+use Rattle.session.specs.declared.state.Session.{Session}
+use Rattle.session.specs.Promises.{answerOn, recordOn}
+use Rattle.session.specs.Records.{sessionOf}
+use Rattle.session.specs.Tests.{loadedBy}
+use Rattle.probes.specs.declared.layers.Part.{Part}
+use Rattle.probes.specs.declared.whole.Steps.{Steps}
+use Rattle.probes.specs.declared.whole.Question.{Question}
+
+pub record RootsProbed (x : Rooted) (n : ℕ) (l : List ℕ) : Type 0 where
+  pub count : n ≡ x .count
+  pub roots : l ≡ x .nodes
+
+abbrev pub partTold : Climbed → Part
+partTold Outside = record { state = 16; links = 0 }
+partTold (Reached q l) = record { state = q; links = l }
+
+-- ---- the session by value
+
+abbrev pub loadedWith : ℕ → ℕ → ℕ → Session
+loadedWith n s k = sessionOf (loadedBy n s k)
+
+unfoldable pub advanced : ℕ → Lent → Session → Session
+advanced zero x s = s
+advanced (suc i) x s = advanced i x (recordOn s (advance x))
+
+unfoldable pub partsTold : Answer → ℕ
+partsTold (parts p) = p
+partsTold (refused n) = 0
+partsTold accepted = 0
+partsTold more = 0
+partsTold finished = 0
+partsTold (told q y p l) = 0
+
+unfoldable pub after : Lent → List ℕ → List ℕ → ℕ → Session → Session
+after x vs bs i s = advanced i x (recordOn s (start x vs bs))
+
+unfoldable pub startParts : Lent → List ℕ → List ℕ → Session → ℕ
+startParts x vs bs s = partsTold (answerOn s (start x vs bs))
+
+unfoldable pub stepsTold : Lent → List ℕ → List ℕ → ℕ → Session → Steps
+stepsTold x vs bs i s = record { parts = startParts x vs bs s; links = after x vs bs i s .links }
+
+abbrev pub nothingTold : Question
+nothingTold = record { state = 16; yes = false; parts = 0; links = 0 }
+
+unfoldable pub readTold : Answer → Question
+readTold (told q y p l) = record { state = q; yes = y; parts = p; links = l }
+readTold (refused n) = nothingTold
+readTold accepted = nothingTold
+readTold (parts p) = nothingTold
+readTold more = nothingTold
+readTold finished = nothingTold
+
+unfoldable pub questionTold : Lent → List ℕ → List ℕ → Session → Question
+questionTold x vs bs s = readTold (answerOn (after x vs bs (startParts x vs bs s) s) read)

@@ -1,0 +1,74 @@
+// The roots of a question and one part, as the questions layer works them out.
+use questions::climb::Climbed;
+use questions::part::part;
+use questions::roots::roots;
+ghost use mathlib.Core.Path.{_≡_};
+ghost use Rattle.questions.specs.PartTold.{toldReached, partGiven};
+ghost use Rattle.questions.specs.RootsTold.{rootsGiven, rootedOf};
+ghost use Rattle.probes.specs.Probed.{RootsProbed, partTold};
+
+// A part's state and links.
+#[repr(C)]
+pub struct Part {
+    pub state: u32,
+    pub links: u32,
+}
+
+// How many roots there are, and the roots with zeros behind them; 0 and zeros where they are refused.
+#[no_mangle]
+pub extern "C" fn probe_roots(n: usize, nums: &[u16], nodes: &[u16], out: &mut [u16; 254]) -> usize
+    ensures { λ r. ⌜
+        RootsProbed (rootedOf (rootsGiven n (now (nums .entry)) (now (nodes .entry)))) r (now (out .exit)) ⌝ }
+{
+    let found = roots(n, nums, nodes);
+    let list = found.nodes;
+    *out = list;
+    found.count
+}
+
+// The part that comes next; state 16 where it is refused.
+#[no_mangle]
+pub extern "C" fn probe_part(
+    n: usize,
+    s: usize,
+    k: usize,
+    plan: &[u8],
+    rules: &[u8],
+    nums: &[u16],
+    bytes: &[u8],
+    roots: &[u16],
+    states: &[u8],
+    nodes: &[u16],
+    labels: &[u8],
+) -> Part
+    ensures { λ r. ⌜ r
+        ≡ partTold (toldReached (partGiven n s k (now (plan .entry)) (now (rules .entry)) (now (nums .entry)) (now (bytes .entry))
+        (now (roots .entry)) (now (states .entry)) (now (nodes .entry)) (now (labels .entry)))) ⌝ }
+{
+    match part(
+        n,
+        s,
+        k,
+        plan,
+        rules,
+        nums,
+        bytes,
+        roots,
+        states,
+        nodes,
+        labels,
+    ) {
+        Climbed::Reached(q, l) => {
+            return Part {
+                state: q as u32,
+                links: l,
+            };
+        }
+        Climbed::Outside => {
+            return Part {
+                state: 16,
+                links: 0,
+            };
+        }
+    }
+}

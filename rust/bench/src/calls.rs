@@ -1,0 +1,40 @@
+//! Twenty calls of each kind by both sides, and nothing else: for bench/instructions.
+
+use crate::cases::{list, List, SHAPES};
+use crate::sessions::One;
+use crate::tables::pair;
+use compare::inputs::Case;
+use compare::random::Random;
+use reference::tree::Tree;
+
+/// On one plan of n nodes with s states, lists of m changes.
+pub fn make(shape: &str, [n, s, m]: [usize; 3]) {
+    let random = &mut Random::new(4);
+    let (shape, _) = *SHAPES.iter().find(|(_, name)| *name == shape).expect("one of the shapes of the table");
+    let one = One::new(Case::new(shape, (n + 1) / 2, s, 64, random));
+    for _ in 0..20 {
+        let list = list(&one.case, m, random);
+        assert_eq!(one.ask(&list), one.plain_ask(&list), "both tell the same");
+        fresh_run(&one, &list);
+        #[cfg(feature = "probes")]
+        crate::places::once(&one, &list);
+    }
+    branch_questions(one.case, random);
+}
+
+fn fresh_run(one: &One, list: &List) {
+    let told = plain::fresh_run(&one.case.plan, &one.case.rules, &list.0, &list.1).expect("accepted");
+    assert_eq!(one.fresh_run(list), u32::from(told.0), "both tell the same");
+}
+
+fn branch_questions(case: Case, random: &mut Random) {
+    let (mut numbers, mut bytes) = (vec![0; case.numbers_len()], vec![0; case.bytes_len()]);
+    whatif::branch_build(&case.plan, &case.branch, &mut numbers, &mut bytes).expect("accepted");
+    let tree = Tree::of(&reference::formats::read_plan(&case.plan).expect("accepted"));
+    for _ in 0..20 {
+        let (upper, lower) = pair(&tree, random);
+        let told = whatif::branch(&case.plan, &case.branch, &numbers, &bytes, upper, lower).expect("accepted");
+        let want = plain::ask(&case.plan, &case.branch, &numbers, &bytes, upper, lower).expect("accepted");
+        assert_eq!((told.state, told.links), (want.state, want.links), "both tell the same");
+    }
+}

@@ -1,0 +1,156 @@
+//! Work below the exported calls: roots and one part alone, and the session in place, without the record's bytes.
+//!
+//! In place stands for the library's calls by value in one loop (crates/probes), which make the same copies; the plain
+//! side alters a struct where it is. Both begin with a loaded record made anew. An advance is what Start and all
+//! advances of a question take, less what Start takes.
+
+use crate::cases::List;
+use crate::measure::{by_turns, by_turns_timed, time, Pair};
+use crate::probes;
+use crate::sessions::{One, Set, Work};
+use plain::layers;
+use plain::place::{Lends, Session};
+
+pub const WORKS: [Work; 5] = [
+    ("roots", roots),
+    ("part", part),
+    ("Start in place", start),
+    ("advance in place", advance),
+    ("question in place", question),
+];
+
+fn roots(set: &Set) -> Pair {
+    let tell = |count: usize, out: &[u16; 254]| count as u32 * 65_536 + u32::from(out[count / 2]);
+    set.told(
+        |one, (nodes, _)| {
+            let mut out = [0; 254];
+            tell(probes::roots(one, nodes, &mut out), &out)
+        },
+        |one, (nodes, _)| {
+            let mut out = [0; 254];
+            tell(layers::roots(one.case.n, &one.numbers, nodes, &mut out), &out)
+        },
+    )
+}
+
+/// A question with its roots and the states of all its parts.
+struct Handled<'a> {
+    one: &'a One,
+    list: &'a List,
+    roots: Vec<u16>,
+    states: Vec<u8>,
+}
+
+impl<'a> Handled<'a> {
+    fn new(one: &'a One, list: &'a List) -> Handled<'a> {
+        let mut out = [0; 254];
+        let count = probes::roots(one, &list.0, &mut out);
+        let mut handled = Handled { one, list, roots: out[..count].to_vec(), states: Vec::new() };
+        for i in 0..count {
+            let (state, _) = handled.library(i);
+            handled.states.push(state as u8);
+        }
+        handled
+    }
+
+    fn library(&self, i: usize) -> (u32, u32) {
+        probes::part(self.one, &self.roots, &self.states[..i], self.list)
+    }
+
+    fn plain(&self, i: usize) -> (u32, u32) {
+        let (One { case, numbers, bytes, .. }, (nodes, labels)) = (self.one, self.list);
+        let sizes = (case.n, case.s, case.k);
+        let states = &self.states[..i];
+        let told = layers::part(sizes, &case.plan, &case.rules, numbers, bytes, &self.roots, states, nodes, labels);
+        let (state, links) = told.expect("accepted");
+        (u32::from(state), links)
+    }
+}
+
+fn part(set: &Set) -> Pair {
+    let all: Vec<Handled> = set.lists.iter().map(|(at, list)| Handled::new(&set.plans[*at], list)).collect();
+    let count = all.iter().map(|handled| handled.roots.len()).sum();
+    let parts = || all.iter().flat_map(|handled| (0..handled.roots.len()).map(move |i| (handled, i)));
+    let tell = |(state, links): (u32, u32)| state + 16 * links;
+    let (mut library, mut plain) = (0, 0);
+    let times = by_turns(
+        count,
+        || library = parts().map(|(handled, i)| tell(handled.library(i))).sum(),
+        || plain = parts().map(|(handled, i)| tell(handled.plain(i))).sum(),
+    );
+    assert_eq!(library, plain, "both tell the same");
+    times
+}
+
+fn loaded(one: &One) -> (Session, Lends<'_>) {
+    let One { case, numbers, bytes, .. } = one;
+    let session = Session::loaded(case.n as u16, case.s as u8, case.k as u8);
+    (session, Lends { plan: &case.plan, rules: &case.rules, numbers, bytes })
+}
+
+/// Parts and links after Start and, if wanted, all advances.
+fn plain_steps(one: &One, (nodes, labels): &List, advances: bool) -> u32 {
+    let (mut session, lends) = loaded(one);
+    let parts = session.start(&lends, nodes, labels).expect("accepted");
+    while advances && session.advance(&lends) == Ok(false) {}
+    parts + 256 * session.links()
+}
+
+fn start(set: &Set) -> Pair {
+    set.told(
+        |one, list| {
+            let told = probes::steps(one, list, 0);
+            told.parts + 256 * told.links
+        },
+        |one, list| plain_steps(one, list, false),
+    )
+}
+
+fn advance(set: &Set) -> Pair {
+    let parts: Vec<u32> = set.lists.iter().map(|(at, list)| probes::steps(&set.plans[*at], list, 0).parts).collect();
+    let library = |advances: bool| -> u32 {
+        let steps = |((at, list), count): (&(usize, List), &u32)| {
+            let told = probes::steps(&set.plans[*at], list, if advances { *count } else { 0 });
+            told.parts + 256 * told.links
+        };
+        set.lists.iter().zip(&parts).map(steps).sum()
+    };
+    let plain = |advances: bool| set.sum(|one, list| plain_steps(one, list, advances));
+    assert_eq!(library(true), plain(true), "both tell the same");
+    let less_start = |f: &dyn Fn(bool) -> u32| {
+        let mut told = 0;
+        let all = time(&mut || told = f(true));
+        let start = time(&mut || told -= f(false));
+        assert!(told < u32::MAX);
+        all - start
+    };
+    let count: u32 = parts.iter().sum();
+    by_turns_timed(count as usize, || less_start(&library), || less_start(&plain))
+}
+
+fn ask(one: &One, list: &List) -> u32 {
+    let told = probes::question(one, list);
+    told.state + 16 * u32::from(told.yes) + 32 * told.links + told.parts
+}
+
+fn plain_ask(one: &One, (nodes, labels): &List) -> u32 {
+    let (mut session, lends) = loaded(one);
+    session.start(&lends, nodes, labels).expect("accepted");
+    while session.advance(&lends) == Ok(false) {}
+    let told = session.read().expect("accepted");
+    u32::from(told.state) + 16 * u32::from(told.yes) + 32 * told.links + told.parts
+}
+
+fn question(set: &Set) -> Pair {
+    set.told(ask, plain_ask)
+}
+
+/// A question in place and its roots and parts alone, by both sides.
+pub fn once(one: &One, list: &List) {
+    assert_eq!(ask(one, list), plain_ask(one, list), "both tell the same");
+    let handled = Handled::new(one, list);
+    let mut roots = [0; 254];
+    let count = layers::roots(one.case.n, &one.numbers, &list.0, &mut roots);
+    assert_eq!(handled.roots, roots[..count], "both tell the same");
+    assert!((0..count).all(|i| handled.states[i] as u32 == handled.plain(i).0), "both tell the same");
+}

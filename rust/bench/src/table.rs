@@ -1,0 +1,199 @@
+//! The rows, what is wanted of them, and the table in two forms: lines of text, and Markdown for docs/PERFORMANCE.md.
+
+use crate::measure::{median, Pair};
+use std::fmt::Write;
+
+/// Places of the smaller and of the larger plans.
+pub const SMALL: usize = 0;
+pub const LARGE: usize = 1;
+
+/// Which rows a goal is for.
+#[derive(Clone, Copy, PartialEq)]
+enum For {
+    All,
+    /// With 64 changes.
+    Longest,
+    /// At the larger size.
+    Largest,
+}
+
+struct Work {
+    name: &'static str,
+    /// The greatest ratio that is wanted.
+    goal: Option<f64>,
+    of: For,
+}
+
+const fn work(name: &'static str, goal: Option<f64>, of: For) -> Work {
+    Work { name, goal, of }
+}
+
+/// What is measured, in the order of the table. All but one are compared with plain Rust.
+const WORKS: [Work; 15] = [
+    work("Load", Some(1.5), For::All),
+    work("full check", None, For::All),
+    work("fresh run", Some(1.1), For::All),
+    work("roots", Some(2.0), For::All),
+    work("part", Some(2.0), For::All),
+    work("Start in place", Some(1.5), For::All),
+    work("advance in place", Some(1.5), For::All),
+    work("question in place", Some(1.5), For::Longest),
+    work("Start", Some(1.5), For::All),
+    work("advance", Some(4.0), For::All),
+    work("question", Some(4.0), For::Longest),
+    work(BESIDE_FRESH_RUN, Some(1.0), For::Largest),
+    work("branch build", Some(2.0), For::All),
+    work("branch check", None, For::All),
+    work("branch question", Some(1.3), For::All),
+];
+
+/// A question of the library in ratio to a fresh run of the library.
+pub const BESIDE_FRESH_RUN: &str = "question : fresh run";
+
+/// What was measured on what: nanoseconds of a call of library and plain, for the smaller and the larger plans.
+pub struct Row {
+    pub work: &'static str,
+    /// Changes in the list, where there is one.
+    pub m: Option<usize>,
+    pub shape: &'static str,
+    pub s: usize,
+    pub times: [Pair; 2],
+}
+
+impl Row {
+    fn ratio(&self, at: usize) -> f64 {
+        self.times[at].0 / self.times[at].1
+    }
+
+    fn goal(&self, at: usize) -> Option<f64> {
+        let work = &WORKS[self.place()];
+        work.goal.filter(|_| match work.of {
+            For::All => true,
+            For::Longest => self.m == Some(64),
+            For::Largest => at == LARGE,
+        })
+    }
+
+    fn over(&self, at: usize) -> bool {
+        self.goal(at).map_or(false, |goal| self.ratio(at) > goal)
+    }
+
+    fn place(&self) -> usize {
+        WORKS.iter().position(|work| work.name == self.work).expect("one of the table's works")
+    }
+
+    fn name(&self) -> String {
+        self.m.map_or(self.work.to_string(), |m| format!("{}, m {}", self.work, m))
+    }
+}
+
+/// By work, then by m; otherwise as measured.
+pub fn in_order(mut rows: Vec<Row>) -> Vec<Row> {
+    rows.sort_by_key(|row| (row.place(), row.m));
+    rows
+}
+
+fn goal_of(goal: Option<f64>) -> String {
+    goal.map_or("-".to_string(), |goal| format!("{:.1}", goal))
+}
+
+pub fn text(rows: &[Row]) -> String {
+    let mut out = format!("{:<39} {:^27} {:^27}\n", "", "N 1,001", "N 65,535");
+    let head = ["library", "plain", "ratio"];
+    writeln!(
+        out,
+        "{:<24} {:<10} {:>3} {:>9} {:>9} {:>7} {:>9} {:>9} {:>7} {:>6}",
+        "", "shape", "S", head[0], head[1], head[2], head[0], head[1], head[2], "goal"
+    )
+    .unwrap();
+    for row in rows {
+        write!(out, "{:<24} {:<10} {:>3}", row.name(), row.shape, row.s).unwrap();
+        for at in [SMALL, LARGE] {
+            let (library, plain) = row.times[at];
+            write!(out, " {:>9} {:>9} {:>7.2}", short(library), short(plain), row.ratio(at)).unwrap();
+        }
+        let over = if row.over(SMALL) || row.over(LARGE) { " over" } else { "" };
+        writeln!(out, " {:>6}{}", goal_of(row.goal(LARGE)), over).unwrap();
+    }
+    out
+}
+
+/// Nanoseconds with three digits and a unit.
+pub fn short(time: f64) -> String {
+    let (number, unit) = match time {
+        t if t < 999.5 => (t, "ns"),
+        t if t < 999_500.0 => (t / 1e3, "µs"),
+        t => (t / 1e6, "ms"),
+    };
+    let places = if number < 9.995 {
+        2
+    } else if number < 99.95 {
+        1
+    } else {
+        0
+    };
+    format!("{:.*} {}", places, number, unit)
+}
+
+/// For each work: goal, median and greatest ratio of the rows that the goal is for, and how many are over.
+pub fn summary(rows: &[Row]) -> String {
+    let mut out = "| work | goal | median | greatest | over |\n|---|---|---|---|---|\n".to_string();
+    for work in &WORKS {
+        let both = rows.iter().filter(|row| row.work == work.name).flat_map(|row| [(row, SMALL), (row, LARGE)]);
+        let counted: Vec<_> = both.filter(|(row, at)| work.goal.is_none() || row.goal(*at).is_some()).collect();
+        if counted.is_empty() {
+            continue;
+        }
+        let ratios: Vec<f64> = counted.iter().map(|(row, at)| row.ratio(*at)).collect();
+        let greatest = ratios.iter().copied().fold(0.0, f64::max);
+        let over = counted.iter().filter(|(row, at)| row.over(*at)).count();
+        let over = work.goal.map_or("-".to_string(), |_| format!("{} of {}", over, counted.len()));
+        let name = match work.of {
+            For::All => work.name.to_string(),
+            For::Longest => format!("{}, m 64", work.name),
+            For::Largest => format!("{}, N 65,535", work.name),
+        };
+        let goal = goal_of(work.goal);
+        writeln!(out, "| {} | {} | {:.2} | {:.2} | {} |", name, goal, median(ratios), greatest, over).unwrap();
+    }
+    out + &without_climb(rows)
+}
+
+/// An advance through bytes should cost less than half a microsecond beside its climb; with m 0 there is none.
+fn without_climb(rows: &[Row]) -> String {
+    let advances = rows.iter().filter(|row| row.work == "advance" && row.m == Some(0));
+    let times: Vec<f64> = advances.flat_map(|row| row.times).map(|times| times.0).collect();
+    if times.is_empty() {
+        return String::new();
+    }
+    let greatest = times.iter().copied().fold(0.0, f64::max);
+    let (median, greatest) = (short(median(times)), short(greatest));
+    format!("\nAn advance through bytes that does not climb takes {}, at most {} (goal: 500 ns).\n", median, greatest)
+}
+
+/// A line for each work and m; in a cell the ratios at both sizes, in bold where one is over the goal.
+pub fn markdown(rows: &[Row]) -> String {
+    let mut out = String::new();
+    let first: Vec<&Row> = rows.iter().take_while(|row| row.name() == rows[0].name()).collect();
+    let head: Vec<String> = first.iter().map(|row| format!("{}, S {}", row.shape, row.s)).collect();
+    writeln!(out, "| work | goal | {} | time of the library, {} |", head.join(" | "), head[head.len() - 1]).unwrap();
+    writeln!(out, "|---|---|{}---|", "---|".repeat(head.len())).unwrap();
+    let mut rest = rows;
+    while let Some(row) = rest.first() {
+        let (line, after) = rest.split_at(first.len());
+        let cells: Vec<String> = line.iter().map(cell).collect();
+        let last = &line[line.len() - 1].times;
+        let times = format!("{} / {}", short(last[SMALL].0), short(last[LARGE].0));
+        writeln!(out, "| {} | {} | {} | {} |", row.name(), goal_of(row.goal(LARGE)), cells.join(" | "), times).unwrap();
+        rest = after;
+    }
+    out
+}
+
+fn cell(row: &Row) -> String {
+    let ratio = |at| match row.over(at) {
+        true => format!("**{:.2}**", row.ratio(at)),
+        false => format!("{:.2}", row.ratio(at)),
+    };
+    format!("{} / {}", ratio(SMALL), ratio(LARGE))
+}

@@ -1,0 +1,177 @@
+//! The calls on tables: Load, full check, fresh run, and branch build, check and question. Each on buffers of its own,
+//! allocated and written before.
+
+use crate::cases::{each, list, List};
+use crate::measure::{by_turns, Pair};
+use crate::table::Row;
+use compare::inputs::Case;
+use compare::random::Random;
+use plain::session;
+use reference::tree::Tree;
+use whatif::sizes::RECORD_BYTES;
+use whatif::Session;
+
+const QUESTIONS: usize = 2_000;
+
+type Buffers = (Vec<u16>, Vec<u8>);
+
+/// A case, and buffers for both sides.
+struct One {
+    case: Case,
+    library: Buffers,
+    plain: Buffers,
+    /// The list of a fresh run.
+    list: List,
+    /// Branch questions: upper and lower node.
+    pairs: Vec<(u32, u32)>,
+}
+
+impl One {
+    fn new(case: Case, questions: usize, random: &mut Random) -> One {
+        let buffers = (vec![0; case.numbers_len()], vec![0; case.bytes_len()]);
+        let list = list(&case, 64, random);
+        let tree = Tree::of(&reference::formats::read_plan(&case.plan).expect("accepted"));
+        let pairs = (0..questions).map(|_| pair(&tree, random)).collect();
+        One { case, library: buffers.clone(), plain: buffers, list, pairs }
+    }
+}
+
+/// A random node and one of the nodes from it up to the root.
+pub fn pair(tree: &Tree, random: &mut Random) -> (u32, u32) {
+    let lower = random.below(tree.root() + 1);
+    let mut upper = lower;
+    for _ in 0..random.below(tree.depth[lower] + 1) {
+        upper = tree.parent[upper];
+    }
+    (upper as u32, lower as u32)
+}
+
+/// The plans of one turn, all of one shape and size.
+struct Set(Vec<One>);
+
+type Build = fn(&Case, &mut Buffers) -> bool;
+type Check = fn(&Case, &Buffers) -> bool;
+
+impl Set {
+    fn new(cases: Vec<Case>, random: &mut Random) -> Set {
+        let questions = QUESTIONS / cases.len();
+        Set(cases.into_iter().map(|case| One::new(case, questions, random)).collect())
+    }
+
+    fn build(&mut self, library: Build, plain: Build) -> Pair {
+        let count = self.0.len();
+        let (mut to_library, mut to_plain): (Vec<_>, Vec<_>) =
+            self.0.iter_mut().map(|one| ((&one.case, &mut one.library), (&one.case, &mut one.plain))).unzip();
+        let times = by_turns(
+            count,
+            || assert!(to_library.iter_mut().all(|(case, to)| library(case, to))),
+            || assert!(to_plain.iter_mut().all(|(case, to)| plain(case, to))),
+        );
+        assert!(self.0.iter().all(|one| one.library == one.plain), "both build the same");
+        times
+    }
+
+    fn load(&mut self) -> Pair {
+        self.build(
+            |case, to| Session::new().load(&case.plan, &case.rules, &mut to.0, &mut to.1).is_ok(),
+            |case, to| session::load(&mut [0; RECORD_BYTES], &case.plan, &case.rules, &mut to.0, &mut to.1).is_ok(),
+        )
+    }
+
+    fn branch_build(&mut self) -> Pair {
+        self.build(
+            |case, to| whatif::branch_build(&case.plan, &case.branch, &mut to.0, &mut to.1).is_ok(),
+            |case, to| plain::branch_build(&case.plan, &case.branch, &mut to.0, &mut to.1).is_ok(),
+        )
+    }
+
+    fn check(&self, library: Check, plain: Check) -> Pair {
+        by_turns(
+            self.0.len(),
+            || assert!(self.0.iter().all(|one| library(&one.case, &one.library)), "a full check says yes"),
+            || assert!(self.0.iter().all(|one| plain(&one.case, &one.library)), "a full check says yes"),
+        )
+    }
+
+    /// After `load`.
+    fn full_check(&self) -> Pair {
+        self.check(
+            |case, of| whatif::check(&case.plan, &case.rules, &of.0, &of.1) == Ok(true),
+            |case, of| plain::check(&case.plan, &case.rules, &of.0, &of.1) == Ok(true),
+        )
+    }
+
+    /// After `branch_build`.
+    fn branch_check(&self) -> Pair {
+        self.check(
+            |case, of| whatif::branch_check(&case.plan, &case.branch, &of.0, &of.1) == Ok(true),
+            |case, of| plain::branch_check(&case.plan, &case.branch, &of.0, &of.1) == Ok(true),
+        )
+    }
+
+    /// Both sides by turns on every plan; both must tell the same.
+    fn told(&self, count: usize, library: impl Fn(&One) -> u32, plain: impl Fn(&One) -> u32) -> Pair {
+        let (mut by_library, mut by_plain) = (0, 0);
+        let times = by_turns(
+            count,
+            || by_library = self.0.iter().map(&library).sum(),
+            || by_plain = self.0.iter().map(&plain).sum(),
+        );
+        assert_eq!(by_library, by_plain, "both tell the same");
+        times
+    }
+
+    fn fresh_run(&self, m: usize) -> Pair {
+        self.told(
+            self.0.len(),
+            |One { case, list: (nodes, labels), .. }| {
+                let told = whatif::fresh_run(&case.plan, &case.rules, &nodes[..m], &labels[..m]).unwrap();
+                u32::from(told.state) * 2 + u32::from(told.yes)
+            },
+            |One { case, list: (nodes, labels), .. }| {
+                let told = plain::fresh_run(&case.plan, &case.rules, &nodes[..m], &labels[..m]).unwrap();
+                u32::from(told.0) * 2 + u32::from(told.1)
+            },
+        )
+    }
+
+    /// After `branch_build`.
+    fn branch_question(&self) -> Pair {
+        self.told(
+            self.0.iter().map(|one| one.pairs.len()).sum(),
+            |One { case, library: (numbers, bytes), pairs, .. }| {
+                let ask =
+                    |&(upper, lower)| whatif::branch(&case.plan, &case.branch, numbers, bytes, upper, lower).unwrap();
+                pairs.iter().map(ask).map(|told| u32::from(told.state) + 16 * told.links).sum()
+            },
+            |One { case, library: (numbers, bytes), pairs, .. }| {
+                let ask = |&(upper, lower)| plain::ask(&case.plan, &case.branch, numbers, bytes, upper, lower).unwrap();
+                pairs.iter().map(ask).map(|told| u32::from(told.state) + 16 * told.links).sum()
+            },
+        )
+    }
+}
+
+/// Rows whose work has this text in its name; the builds always, since what follows needs them.
+pub fn rows(wanted: &str) -> Vec<Row> {
+    let mut sets = each(&mut Random::new(2), Set::new);
+    let mut rows = Vec::new();
+    let mut measure = |work: &'static str, m: Option<usize>, measured: &mut dyn FnMut(&mut Set) -> Pair| {
+        if !work.contains(wanted) && work != "Load" && work != "branch build" {
+            return;
+        }
+        for (shape, s, [small, large]) in &mut sets {
+            let times = [measured(small), measured(large)];
+            rows.push(Row { work, m, shape, s: *s, times });
+        }
+    };
+    measure("Load", None, &mut Set::load);
+    measure("full check", None, &mut |set| set.full_check());
+    for m in [0, 64] {
+        measure("fresh run", Some(m), &mut |set| set.fresh_run(m));
+    }
+    measure("branch build", None, &mut Set::branch_build);
+    measure("branch check", None, &mut |set| set.branch_check());
+    measure("branch question", None, &mut |set| set.branch_question());
+    rows
+}
