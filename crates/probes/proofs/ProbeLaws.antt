@@ -5,8 +5,8 @@ use mathlib.Core.Path.{_≡_, sym, ap, ap₂, _∙_, subst}
 use mathlib.Core.Bool.{Bool}
 use mathlib.Core.List.{List}
 use native.Mathlib.Omega.{arith}
-use Rattle.questions.specs.declared.climb.Climbed.{Climbed}
-use Rattle.questions.specs.declared.climb.Climbed.the-variants.{Reached, Outside}
+use Rattle.questions.specs.declared.answer.Climbed.{Climbed}
+use Rattle.questions.specs.declared.answer.Climbed.the-variants.{Reached, Outside}
 use Rattle.questions.specs.declared.roots.Rooted.{Rooted}
 use Rattle.book.specs.Lends.{Lent}
 use Rattle.book.specs.Calls.{start, advance, read}

@@ -1,5 +1,5 @@
 // The roots of a question and one part, as the questions layer works them out.
-use questions::climb::Climbed;
+use questions::answer::Climbed;
 use questions::part::part;
 use questions::roots::roots;
 ghost use mathlib.Core.Path.{_≡_};

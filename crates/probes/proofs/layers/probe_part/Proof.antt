@@ -17,13 +17,13 @@ cast-t15 : tie.Need-cast-t15
 cast-t15 c = search needs
 
 returns : tie.Need-returns
-returns c = part-reached _ _ _ _ (c .before .q .given .1) (c .before .before .before .part .ensures)
+returns c = part-reached _ _ _ _ (c .before .q .given .1) (c .before .before .before .part .ensures .told)
 
 enum-told : tie.Need-enum-told
 enum-told c = search needs
 
 returns-2 : tie.Need-returns-2
-returns-2 c = part-outside _ _ (c .enum-told .given .1) (c .before .before .part .ensures)
+returns-2 c = part-outside _ _ (c .enum-told .given .1) (c .before .before .part .ensures .told)
 
 pub probe-part-spec : {M : Type 1} → statement M
 probe-part-spec =
