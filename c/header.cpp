@@ -1,4 +1,4 @@
-// The header alone, as C++: it compiles, and the names link as C's. SESSION is 1 where the archive has the session.
+// The header alone, as C++: it compiles, and the names link as C's.
 #include "whatif.h"
 
 static int without_a_session() {
@@ -18,7 +18,6 @@ static int without_a_session() {
     return yes == 9 && state == 9 && links == 9 ? 0 : 3;
 }
 
-#if SESSION
 // No record at all is a broken one.
 static int with_a_session() {
     uint32_t out[4] = {9, 9, 9, 9};
@@ -34,9 +33,6 @@ static int with_a_session() {
             return 4;
     return out[0] == 9 && out[1] == 9 && out[2] == 9 && out[3] == 9 ? 0 : 5;
 }
-#else
-static int with_a_session() { return 0; }
-#endif
 
 int main() {
     for (uint32_t answer = 0; answer <= 19; answer++)

@@ -1,5 +1,5 @@
-//! The session's calls, made by every side: plain Rust, and the library where the feature `session` is on. Everything
-//! lent is held to account, and each answer and each record is compared with the reference implementation.
+//! The session's calls, made by every side: the library and plain Rust. Everything lent is held to account, and each
+//! answer and each record is compared with the reference implementation.
 //!
 //! What is written stands inside longer buffers: what is outside must stay. Out values start at random numbers, and
 //! those that a call does not tell must stay, all of them on a refusal.
@@ -13,11 +13,7 @@ use reference::tables::Tables;
 /// A call on a record, the buffers of a Load and the places of what is told, four of them. The answer's number.
 type Side = fn(&Call, &mut [u8], &mut [u16], &mut [u8], &mut [u32; 4]) -> u32;
 
-const SIDES: &[(&str, Side)] = &[
-    #[cfg(feature = "session")]
-    ("the library", library::call),
-    ("plain Rust", by_plain),
-];
+const SIDES: &[(&str, Side)] = &[("the library", library::call), ("plain Rust", by_plain)];
 
 const MARGIN: usize = 9;
 /// Lends above this many bytes are not copied to see whether they stay.
@@ -145,7 +141,6 @@ fn by_plain(call: &Call, record: &mut [u8], numbers: &mut [u16], bytes: &mut [u8
     done.err().unwrap_or(0)
 }
 
-#[cfg(feature = "session")]
 mod library {
     use super::{Call, Lends};
     use whatif::slices;

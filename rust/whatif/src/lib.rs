@@ -4,7 +4,7 @@
 //! automaton on the words from an upper node down to a lower. Plans and tables are bytes (docs/LAYOUT.md). The library
 //! never allocates; the caller lends the tables. A refused call has changed nothing.
 //!
-//! Order: `sizes` (limits and lengths), `Refusal`, the calls; with the feature `session`, `Session`, the panel session.
+//! Order: `sizes` (limits and lengths), `Refusal`, the calls on tables, `Session`, the panel session.
 //! `raw` has the library's own functions, `slices` the same on slices.
 //!
 //! The sample of document 01: plan A of seven nodes, and table A, under which label 0 takes the greater state of two
@@ -39,13 +39,11 @@
 
 pub mod raw;
 mod refusal;
-#[cfg(feature = "session")]
 mod session;
 pub mod sizes;
 pub mod slices;
 
 pub use refusal::Refusal;
-#[cfg(feature = "session")]
 pub use session::{Answer, Progress, Session};
 
 /// The library's version.

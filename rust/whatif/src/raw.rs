@@ -78,7 +78,6 @@ extern "C" {
     ) -> u32;
 }
 
-#[cfg(feature = "session")]
 extern "C" {
     pub fn whatif_load(
         record: *mut u8,

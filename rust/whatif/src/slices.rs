@@ -107,10 +107,8 @@ pub fn branch(
     }
 }
 
-#[cfg(feature = "session")]
 pub use session::*;
 
-#[cfg(feature = "session")]
 mod session {
     use crate::raw;
 
