@@ -2,6 +2,7 @@
 -- panel book says.
 --     panel-demand-3     the theorem, over the very promises of the five exported functions, heard as numbers and values (Heard)
 --     panel-questions    a question on sound tables left alone: parts, advances, what Reads tell, ceilings (CleanlyTold, crate book)
+--     record-stays       every record that a call leaves is one again
 --     panel-refines      each call on bytes is the session's call on the struct of those bytes
 -- Assumes nothing.
 use Prim.Native.Nat.{ℕ, zero, suc}
@@ -24,13 +25,15 @@ use Rattle.book.proofs.QuestionTheorem.{QuestionsTold, question-told, questions
 use Rattle.session.specs.declared.state.Session.{Session}
 use Rattle.session.specs.Records.{recordOf, sessionOf, valid, freshSession}
 use Rattle.session.specs.Promises.{answerOn, recordOn}
+use Rattle.session.specs.Tests.{Shaped}
 use Rattle.session.proofs.Holds.{struct-is}
 use Rattle.session.proofs.Refine.{Seen, fresh-seen, read-keeps, call-refines}
-use Rattle.records.specs.Layout.{encoded, decoded, laidOut, validBytes, InTypes}
-use Rattle.records.proofs.Theorems.{decode-encode, encoded-valid, fresh-bytes}
+use Rattle.records.specs.Layout.{encoded, decoded, laidOut, validBytes, InTypes, Bytes}
+use Rattle.records.proofs.Theorems.{decode-encode, encode-decode, encoded-valid, decoded-valid, decoded-types, fresh-bytes}
 use Rattle.records.proofs.ValidTypes.{valid-types}
 use Rattle.capi.specs.Panel.{answerFor, answerNumber, unlessRefused, recordFor, partsOf, finishedOf, toldPlaces}
 use Rattle.capi.specs.Heard.{heardDone, heardStart, heardAdvance, heardRead, Exports, loads, starts, advances, cancels, reads}
+use Rattle.capi.proofs.PanelLaws.{laid-length}
 use Rattle.capi.proofs.HeardLaws.{heard-load, heard-start, heard-advance, heard-cancel, heard-read}
 
 -- a call on bytes: the answer and the bytes that its contract names
@@ -175,3 +178,19 @@ panel-demand-3 = demand-3-of Exports Does Held panel-refines (replicate 967 0) f
 -- a question on sound tables left alone
 pub panel-questions : QuestionsTold (replicate 967 0) Exports
 panel-questions = questions-of Exports Does Held panel-refines (replicate 967 0) freshRecord fresh-held (question-told layers)
+
+-- ---- every record that a call leaves is a record again
+
+pub record-stays : (b : List ℕ) → validBytes b ≡ true → Bytes b → (c : Call) → validBytes (recordFor b c) ≡ true
+unfolding validBytes
+record-stays b v fits c =
+    let l = laid-length b (and-left (laidOut b) (valid (decoded b)) v) in
+    let T = decoded-types b l fits in
+    let S : Shaped (decoded b) =
+    record { nodes = T .nodes-length; labels = T .labels-length; roots = T .roots-length; states = T .states-length } in
+    let i : Seen (decoded b) (recordOf (decoded b)) = record { shaped = S; passes = decoded-valid b v; holds = refl } in
+    let d = call-refines (decoded b) (recordOf (decoded b)) i c (answerOn (decoded b) c) (recordOn (decoded b) c) refl refl in
+    let e : recordFor b c ≡ encoded (recordOn (decoded b) c) =
+    ap (λ (a : List ℕ). recordFor a c) (sym (encode-decode b v fits)) ∙ record-is (decoded b) (recordOf (decoded b)) i c in
+    subst (λ (a : List ℕ). validBytes a ≡ true) (sym e)
+    (encoded-valid (recordOn (decoded b) c) (valid-types (recordOn (decoded b) c) (d .2 .shaped) (d .2 .passes)) (d .2 .passes))
