@@ -20,6 +20,8 @@ use Rattle.formats.proofs.CheckLaws.{true-false, and-both, and-left, and-right,
 use Rattle.ready.specs.Parts.{Given, Part, part, partOf, partsFrom, statesOf}
 use Rattle.questions.specs.Climbs.{Reached}
 use Rattle.questions.specs.Part.{partOn}
+use Rattle.trees.proofs.MoveLaws.{none-some}
+use Rattle.ready.proofs.PartsRun.{nodes-more}
 use Rattle.book.specs.Lends.{Lent, Sizes, fits, sameLinks, sameLent, linksBuilt}
 use Rattle.book.specs.Lends.{bytesBelow}
 use Rattle.book.specs.Calls.{advance, more, finished, Phase, isRunning}
@@ -30,11 +32,11 @@ use Rattle.book.specs.Book.{givenBy, longer, advanced, goesOn, otherByte
 use Rattle.book.specs.Book.{firmly, advancing, proceed}
 use Rattle.book.specs.Model.{Record, acted, viewBy, marksBy, stepped, advanceWith, partNext, proceeds}
 use Rattle.book.proofs.Facts.{reachedBy, nextRoot, Layers}
-use Rattle.book.proofs.TrailLaws.{length-states, nodes-more, states-more, length-more, last-more, links-more}
+use Rattle.book.proofs.TrailLaws.{length-states, states-more, length-more, last-more, links-more}
 use Rattle.book.proofs.TrailLaws.{below-more, from-more}
 use Rattle.book.proofs.LendLaws.{Built, Same, links-built, same-links, lent-links, same-bytes, marks-built}
 use Rattle.book.proofs.FreshLaws.{part-state, given-same, sound-below}
-use Rattle.book.proofs.PartStates.{none-some, part-on-below}
+use Rattle.book.proofs.PartStates.{part-on-below}
 use Rattle.book.proofs.Relation.{Parted, Counted, Cleanly, SomeParted, Stands, Unended, Marked, Ended, Rel}
 use Rattle.book.proofs.Simulation.{Sim, book, Simulates, some-number, by-refusal, does}
 

@@ -17,6 +17,7 @@ use borrow.Author.Tests.{eqb-true, eqb-false}
 use Rattle.formats.specs.Checks.{firstNo}
 use Rattle.formats.proofs.CheckLaws.{true-false}
 use Rattle.ready.specs.Parts.{Part}
+use Rattle.trees.proofs.MoveLaws.{none-some}
 use Rattle.book.specs.Lends.{Lent, Sizes, sameLent}
 use Rattle.book.specs.Calls.{Call, load, start, advance, cancel, read, Answer, refused, parts, more, finished}
 use Rattle.book.specs.Calls.{told, Phase}
@@ -29,7 +30,6 @@ use Rattle.book.specs.Book.{advanced, goesOn, otherBytes}
 use Rattle.book.specs.Book.{byAnswer, loosely, firmly, advancing, reading}
 use Rattle.book.specs.Demand3.{Conforms, after, Agrees}
 use Rattle.book.specs.Alone.{isRefused, advances, oneMore, finishedAfter, bookAt, AloneBy, LeftAlone, OnlyTold}
-use Rattle.book.proofs.PartStates.{none-some}
 use Rattle.book.proofs.Simulation.{book}
 
 abbrev pub at : Question → ℕ → List Part → Question

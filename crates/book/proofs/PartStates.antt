@@ -15,9 +15,7 @@ use Rattle.links.specs.Cells.{depthCell, sizeCell}
 use Rattle.questions.specs.Climbs.{View, below, ruleOn, Reached, reached}
 use Rattle.questions.specs.Part.{Found, foundBelow, labelOn, climbFrom, runReached, ownReached, joinOn, innerOn}
 use Rattle.questions.specs.Part.{leafOn, forkOn, partOn}
-
-pub none-some : {X : Type 0} {x : X} → none ≡ some x → ⊥
-none-some e = let z : _≡_ {A = ℕ} 0 1 = cc in omega arith
+use Rattle.trees.proofs.MoveLaws.{none-some}
 
 below-is : (s q x : ℕ) → below s q ≡ some x → x < s
 unfolding below

@@ -16,6 +16,7 @@ use borrow.Author.Tests.{lt-ltb}
 use Rattle.formats.specs.Bytes.{allBelow}
 use Rattle.formats.proofs.CheckLaws.{and-both, and-left, and-right}
 use Rattle.ready.specs.Parts.{Given, Part, partOf, partLinks, sumOf, partsFrom, lastState, allLinks}
+use Rattle.ready.proofs.PartsRun.{nodes-more}
 use Rattle.book.specs.Model.{lastOf}
 use Rattle.ready.specs.Parts.{nodesOf, statesOf}
 
@@ -26,10 +27,6 @@ length-nodes (p ∷ ps) = ap suc (length-nodes ps)
 pub length-states : (ps : List Part) → length (statesOf ps) ≡ length ps
 length-states [] = refl
 length-states (p ∷ ps) = ap suc (length-states ps)
-
-pub nodes-more : (ps : List Part) (p : Part) → nodesOf (ps ++ (p ∷ [])) ≡ nodesOf ps ++ (p .node ∷ [])
-nodes-more [] p = refl
-nodes-more (x ∷ ps) p = ap (λ (l : List ℕ). x .node ∷ l) (nodes-more ps p)
 
 pub states-more : (ps : List Part) (p : Part) → statesOf (ps ++ (p ∷ [])) ≡ statesOf ps ++ (p .state ∷ [])
 states-more [] p = refl

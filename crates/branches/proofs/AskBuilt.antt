@@ -27,12 +27,9 @@ use Rattle.links.specs.Cells.{cellForest}
 use Rattle.links.specs.LinkCells.{LinkCells}
 use Rattle.links.proofs.CellLaws.{length-linkTable, link-cells}
 use Rattle.tables.specs.StateCells.{mapCell}
+use Rattle.branches.proofs.BranchInputs.{length-branchTable}
 use Rattle.branches.specs.Question.{lentFits}
 use Rattle.branches.proofs.FitLaws.{fits-lent}
-
-length-branchTable : (B : WordAutomaton) (t : Tree) → length (branchTable B t) ≡ size t * (B .states + 1)
-unfolding branchTable
-length-branchTable B t = length-rows (size t) (B .states + 1) (branchRow B t) (λ v h. length-branchRow B t v)
 
 -- a buffer that begins with a list of n elements has n
 begins : (n : ℕ) (b l : List ℕ) → take n b ≡ l → length l ≡ n → n ≤ length b

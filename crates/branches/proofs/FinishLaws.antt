@@ -1,5 +1,4 @@
 -- Check 16, and the end of a branch question.
---     below-no, below-by                               isBelow, question by question
 --     isBelow-true, true-isBelow                       what it says, and back
 --     first-is                                         the state after the upper node's label
 --     finish-no-label, finish-no-state, finish-told    what is told of a composed map
@@ -26,18 +25,6 @@ use Rattle.branches.proofs.MapHalves.{getD-mapAt}
 -- ---- check 16
 
 module _ (nums : List ℕ) (u l : ℕ) where
-  pub below-no : u < l → isBelow nums u l ≡ false
-  unfolding isBelow
-  below-no h = and-no-left (leb l u) (ltb u (l + sizeCell nums u)) (lt-leb l u h)
-
-  -- as a function asks it: no sum is formed
-  pub below-by : (z : ℕ) → z ≡ sizeCell nums u → l ≤ u → ltb (u - l) z ≡ isBelow nums u l
-  unfolding isBelow
-  below-by z e h =
-      rw (e, le-leb l u h) (le-or (sizeCell nums u) (u - l)
-      (λ i. le-ltb (u - l) (sizeCell nums u) i ∙ sym (le-ltb u (l + sizeCell nums u) (omega arith)))
-      (λ i. lt-ltb (u - l) (sizeCell nums u) i ∙ sym (lt-ltb u (l + sizeCell nums u) (omega arith))))
-
   pub isBelow-true : isBelow nums u l ≡ true → (l ≤ u) × (u < l + sizeCell nums u)
   unfolding isBelow
   isBelow-true e = (

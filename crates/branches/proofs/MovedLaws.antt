@@ -1,5 +1,4 @@
 -- One move of a climb on lent tables, as it is told.
---     told-jump, told-parent, told-stuck       which move was meant, from what next_move tells
 --     moved-jump, moved-parent, moved-stuck    the node that it leads to and what it makes of a map
 --     Went, moved-on                           a move that was made
 --     moved-lost                               one that was not: there is none, or it makes nothing of the map
@@ -17,54 +16,8 @@ use Rattle.trees.proofs.MoveLaws.{next-start, none-some}
 use Rattle.links.specs.declared.moves.NextMove.{NextMove}
 use Rattle.links.specs.declared.moves.NextMove.the-variants.{Jump, Parent, Stuck}
 use Rattle.links.specs.ToldMove.{toldMove}
+use Rattle.links.proofs.ToldLaws.{told-jump, told-parent, told-stuck}
 use Rattle.branches.specs.Compose.{mapAt, Followed, Reached, movedBy, MovedTo}
-
--- ---- what is told of an answer
-
-abbrev kind : NextMove → ℕ
-kind (Jump j) = 0
-kind (Parent p) = 1
-kind Stuck = 2
-
-abbrev node : NextMove → ℕ
-node (Jump j) = j
-node (Parent p) = p
-node Stuck = 0
-
-module _ (F : Forest) (v to : ℕ) where
-  told-jump : (j : ℕ) → Jump j ≡ toldMove F (nextMove F v to) → (nextMove F v to ≡ some (byJump v)) × (j ≡ F .jump v)
-  unfolding toldMove
-  told-jump j e = go (nextMove F v to) refl e
-    where
-      go : (o : Option Move) → nextMove F v to ≡ o → Jump j ≡ toldMove F o
-          → (nextMove F v to ≡ some (byJump v)) × (j ≡ F .jump v)
-      go none q h = absurd (let z : _≡_ {A = ℕ} 0 2 = ap kind h in omega arith)
-      go (some (byJump u)) q h =
-          let z : u ≡ v = next-start F v to (byJump u) q in
-          (q ∙ ap (λ (x : ℕ). some (byJump x)) z, ap node h ∙ ap (F .jump) z)
-      go (some (toParent u)) q h = absurd (let z : _≡_ {A = ℕ} 0 1 = ap kind h in omega arith)
-
-  told-parent : (p : ℕ) → Parent p ≡ toldMove F (nextMove F v to)
-      → (nextMove F v to ≡ some (toParent v)) × (p ≡ F .parent v)
-  unfolding toldMove
-  told-parent p e = go (nextMove F v to) refl e
-    where
-      go : (o : Option Move) → nextMove F v to ≡ o → Parent p ≡ toldMove F o
-          → (nextMove F v to ≡ some (toParent v)) × (p ≡ F .parent v)
-      go none q h = absurd (let z : _≡_ {A = ℕ} 1 2 = ap kind h in omega arith)
-      go (some (byJump u)) q h = absurd (let z : _≡_ {A = ℕ} 1 0 = ap kind h in omega arith)
-      go (some (toParent u)) q h =
-          let z : u ≡ v = next-start F v to (toParent u) q in
-          (q ∙ ap (λ (x : ℕ). some (toParent x)) z, ap node h ∙ ap (F .parent) z)
-
-  told-stuck : Stuck ≡ toldMove F (nextMove F v to) → nextMove F v to ≡ none
-  unfolding toldMove
-  told-stuck e = go (nextMove F v to) refl e
-    where
-      go : (o : Option Move) → nextMove F v to ≡ o → Stuck ≡ toldMove F o → nextMove F v to ≡ none
-      go none q h = q
-      go (some (byJump u)) q h = absurd (let z : _≡_ {A = ℕ} 2 0 = ap kind h in omega arith)
-      go (some (toParent u)) q h = absurd (let z : _≡_ {A = ℕ} 2 1 = ap kind h in omega arith)
 
 -- ---- what the move makes
 

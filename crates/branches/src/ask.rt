@@ -6,7 +6,7 @@ use crate::climb::compose_climb;
 use crate::lent::lent_fits;
 use formats::bytes::read32;
 use links::moves::depth_at;
-use links::moves::size_at;
+use links::moves::is_below;
 ghost use mathlib.Core.Path.{_≡_};
 ghost use Prim.Native.Nat.{_+_, _*_, _≤_};
 ghost use lib.ListN.{length};
@@ -15,17 +15,6 @@ ghost use Rattle.links.specs.Cells.{isBelow};
 ghost use Rattle.branches.specs.Promise.{AskDone};
 ghost use Rattle.branches.specs.Compose.{mapAt};
 ghost use Rattle.branches.specs.Finish.{finish, FinishArgs, AnswerArgs};
-
-// Check 16: is node l in the run of numbers that ends at node u and is as long as u's size?
-fn is_below(nums: &[u16], u: usize, l: usize) -> bool
-    requires { ⌜ u * 4 + 4 ≤ length (now nums) ⌝ }
-    ensures { λ r. ⌜ r ≡ isBelow (now (nums .entry)) u l ⌝ }
-{
-    if u < l {
-        return false;
-    }
-    u - l < size_at(nums, u)
-}
 
 // What is told of the map of a climb: the state after the upper node's label goes through it.
 fn finish_answer(

@@ -28,7 +28,7 @@ bytes-number n h =
     (bytes-sum n (n / 256) (n / 65536) (n / 16777216) (n % 256) (n / 256 % 256) (n / 65536 % 256) (omega arith)
     (rw (← e) (omega arith)) (rw (← f) (omega arith)))
 
-last-byte : (n b q : ℕ) → n ≡ b + 256 * q → b < 256 → n % 256 ≡ b
+pub last-byte : (n b q : ℕ) → n ≡ b + 256 * q → b < 256 → n % 256 ≡ b
 last-byte n b q e h = omega arith
 
 pub number-bytes : (a b c d : ℕ) → a < 256 → b < 256 → c < 256 → d < 256

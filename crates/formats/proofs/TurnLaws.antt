@@ -15,7 +15,7 @@ use lib.Seq.{drop-cons}
 use Rattle.formats.specs.Bytes.{allBelow, holds, distinct}
 use Rattle.formats.proofs.PartLaws.{rest-part}
 
-and-assoc : (a b c : Bool) → (a && b && c) ≡ (a && (b && c))
+pub and-assoc : (a b c : Bool) → (a && b && c) ≡ (a && (b && c))
 and-assoc true b c = refl
 and-assoc false b c = refl
 
@@ -23,7 +23,7 @@ or-assoc : (a b c : Bool) → (a || b || c) ≡ (a || (b || c))
 or-assoc true b c = refl
 or-assoc false b c = refl
 
-and-yes : (a : Bool) → (a && true) ≡ a
+pub and-yes : (a : Bool) → (a && true) ≡ a
 and-yes true = refl
 and-yes false = refl
 

@@ -4,3 +4,4 @@ pub mod CellLaws
 pub mod CheckTurns
 pub mod CheckLaws
 pub mod MoveWays
+pub mod ToldLaws

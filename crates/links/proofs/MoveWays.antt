@@ -2,13 +2,19 @@
 --     outside               the jump leads outside the forest
 --     by-jump, no-jump      it is taken, and rises or not
 --     to-parent, no-parent  it leads above the asked depth, and the parent rises or not
+--     below-no, below-yes   whether a node is below another
 -- Each takes what the code has read: j the jump, d its depth, p the parent.
 -- Assumes nothing.
-use Prim.Native.Nat.{ℕ, _≤_, _<_}
-use mathlib.Core.Path.{_≡_}
+use Prim.Native.Nat.{ℕ, _-_, _+_, _≤_, _<_}
+use mathlib.Core.Path.{_≡_, sym, _∙_}
 use mathlib.Core.Bool.{true, false}
+use mathlib.Core.List.{List}
+use native.Mathlib.Omega.{arith}
+use lib.Dec.{ltb}
 use borrow.Author.Tests.{lt-ltb, le-ltb, le-leb, lt-leb}
 use Rattle.trees.specs.Climb.{Forest, nextMove}
+use Rattle.trees.proofs.Choice.{le-or}
+use Rattle.links.specs.Cells.{sizeCell, isBelow}
 use Rattle.links.specs.declared.moves.NextMove.the-variants.{Jump, Parent, Stuck}
 use Rattle.links.specs.ToldMove.{toldMove, risesTo}
 
@@ -35,3 +41,17 @@ module _ (F : Forest) (v to j : ℕ) (ej : j ≡ F .jump v) where
       pub no-parent : risesTo F v p ≡ false → Stuck ≡ toldMove F (nextMove F v to)
       unfolding toldMove nextMove
       no-parent r = rw (← ej, lt-ltb j (F .nodes) h, ← ed, lt-leb to d l, ← ep, r)
+
+-- ---- is_below, by the order of the two nodes
+
+pub below-no : (nums : List ℕ) (c v : ℕ) → c < v → false ≡ isBelow nums c v
+unfolding isBelow
+below-no nums c v h = rw (lt-leb v c h)
+
+pub below-yes : (nums : List ℕ) (c v s : ℕ) → s ≡ sizeCell nums c → v ≤ c → ltb (c - v) s ≡ isBelow nums c v
+unfolding isBelow
+below-yes nums c v s e h =
+    rw (le-leb v c h, ← e)
+    (le-or (v + s) c
+    (λ l. le-ltb (c - v) s (omega arith) ∙ sym (le-ltb c (v + s) l))
+    (λ l. lt-ltb (c - v) s (omega arith) ∙ sym (lt-ltb c (v + s) l)))

@@ -15,6 +15,7 @@ use borrow.Author.Tests.{lt-ltb, le-ltb, le-leb, lt-leb, eq-eqb, ne-eqb}
 use Rattle.trees.proofs.MoveLaws.{none-some}
 use Rattle.trees.proofs.Choice.{by-lt}
 use Rattle.links.specs.Cells.{sizeCell}
+use Rattle.trees.proofs.RowLaws.{stride}
 use Rattle.questions.specs.Climbs.{View, below, ruleOn, siblingOn}
 
 pub below-yes : (s q : ℕ) → q < s → below s q ≡ some q
@@ -42,20 +43,12 @@ below-none s q e =
 -- ---- rules
 
 -- the row of u ends where a later row starts
-pub stride : (w u v : ℕ) → u < v → u * w + w ≤ v * w
-stride w u v h = let e : u + 1 ≤ v = omega arith in omega (arith, mul-le-mul-right w e)
-
 -- the state and the map of a node are inside the bytes
 pub map-place : (n s v q m : ℕ) → v < n → q < s → n * (s + 1) ≤ m → v * (s + 1) + (1 + q) < m
 map-place n s v q m hv hq hm = omega (arith, stride (s + 1) v n hv)
 
 pub state-place : (n s v m : ℕ) → v < n → n * (s + 1) ≤ m → v * (s + 1) < m
 state-place n s v m hv hm = omega (arith, stride (s + 1) v n hv)
-
-pub rule-place : (s k p a q : ℕ) → p < s → a < k → q < s → (p * k + a) * s + q < s * k * s
-rule-place s k p a q hp ha hq =
-    let i : p * k + a < s * k = omega (arith, stride k p s hp) in
-    omega (arith, stride s (p * k + a) (s * k) i)
 
 pub rule-small : (s k p a : ℕ) → s ≤ 16 → k ≤ 64 → p < s → a < k → p * k + a < 1024
 rule-small s k p a hs hk hp ha = omega (arith, stride k p s hp, mul-le-mul-right k hs)

@@ -1,5 +1,4 @@
 -- The ways out of the functions of the search.
---     below-no, below-yes               is_below, by the order of the two nodes
 --     rising-outside, rising-flat, rising-up   if_rising
 --     jump-outside, parent-taken, jump-taken   next_unless, by what the code has read: j the jump, p the parent
 --     Searching, searching-turn, ..     the loop of meet: node x has still what is looked for from node v on
@@ -23,18 +22,6 @@ use Rattle.questions.proofs.SearchLaws.{unless, Taken, taken, search-he
 use Rattle.questions.proofs.SearchLaws.{search-inside}
 
 -- ---- is_below
-
-pub below-no : (nums : List ℕ) (c v : ℕ) → c < v → false ≡ isBelow nums c v
-unfolding isBelow
-below-no nums c v h = rw (lt-leb v c h)
-
-pub below-yes : (nums : List ℕ) (c v s : ℕ) → s ≡ sizeCell nums c → v ≤ c → ltb (c - v) s ≡ isBelow nums c v
-unfolding isBelow
-below-yes nums c v s e h =
-    rw (le-leb v c h, ← e)
-    (le-or (v + s) c
-    (λ l. le-ltb (c - v) s (omega arith) ∙ sym (le-ltb c (v + s) l))
-    (λ l. lt-ltb (c - v) s (omega arith) ∙ sym (lt-ltb c (v + s) l)))
 
 -- ---- if_rising and next_unless
 

@@ -1,8 +1,8 @@
 // The search for a lowest common ancestor on lent numbers, whatever they hold. It counts no link.
 use links::moves::depth_at;
+use links::moves::is_below;
 use links::moves::jump_at;
 use links::moves::parent_at;
-use links::moves::size_at;
 ghost use mathlib.Core.Path.{_≡_};
 ghost use Prim.Native.Nat.{ℕ, _+_, _*_, _≤_};
 ghost use lib.ListN.{length};
@@ -16,17 +16,6 @@ ghost use Rattle.questions.specs.SearchTold.{toldMeeting, toldTarget, to
 pub enum Meeting {
     At(usize),
     Outside,
-}
-
-// Whether node v is node c or below it, by the lent size of c.
-pub fn is_below(nums: &[u16], c: usize, v: usize) -> bool
-    requires { ⌜ c * 4 + 4 ≤ length (now nums) ⌝ }
-    ensures { λ r. ⌜ r ≡ isBelow (now (nums .entry)) c v ⌝ }
-{
-    if c < v {
-        return false;
-    }
-    c - v < size_at(nums, c)
 }
 
 // Node u, where it is one of the n nodes and less deep than node v.

@@ -57,7 +57,7 @@ pub record RunGiven (G : Given) (u : Tree) : Type 0 where
 
 -- ---- lists of parts
 
-nodes-more : (ps : List Part) (p : Part) → nodesOf (ps ++ (p ∷ [])) ≡ nodesOf ps ++ (p .node ∷ [])
+pub nodes-more : (ps : List Part) (p : Part) → nodesOf (ps ++ (p ∷ [])) ≡ nodesOf ps ++ (p .node ∷ [])
 nodes-more [] p = refl
 nodes-more (q ∷ ps) p = ap (λ (l : List ℕ). q .node ∷ l) (nodes-more ps p)
 

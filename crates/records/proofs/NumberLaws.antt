@@ -13,13 +13,11 @@ use mathlib.Core.Path.{_≡_, refl, ap, _∙_}
 use mathlib.Core.List.{List, [], _∷_, _++_}
 use native.Mathlib.Omega.{arith}
 use lib.ListN.{length, getD}
+use Rattle.formats.proofs.ByteLaws.{last-byte}
 use Rattle.records.specs.Layout.{le16Bytes, numbers16, bytes16, Bytes}
 
 pub bytes-two : (n : ℕ) → n < 65536 → n % 256 + 256 * (n / 256 % 256) ≡ n
 bytes-two n h = omega arith
-
-last-byte : (n b q : ℕ) → n ≡ b + 256 * q → b < 256 → n % 256 ≡ b
-last-byte n b q e h = omega arith
 
 pub two-bytes : (a b : ℕ) → a < 256 → b < 256 → le16Bytes (a + 256 * b) ≡ a ∷ b ∷ []
 two-bytes a b h k =

@@ -21,18 +21,6 @@ whole d p d₀ j h e = e ∙ (ap (λ (t : List ℕ). p ++ t) (drop-of-length-le 
 
 -- ---- copy
 
-pub copy-turn : (s d₀ d : List ℕ) (i : ℕ) → i < length s → i < length d₀ → d ≡ take i s ++ drop i d₀
-    → set d i (getD s i 0) ≡ take (i + 1) s ++ drop (i + 1) d₀
-copy-turn s d₀ d i h k o =
-    rw (
-      o,
-      drop-cons d₀ i 0 k,
-      set-at (take i s) (getD d₀ i 0) (drop (suc i) d₀) (getD s i 0) i (length-take-le i s (omega arith)),
-      add-one i,
-      take-suc s i 0 h,
-      append-assoc,
-    )
-
 pub copy-end : (s d₀ d : List ℕ) (i : ℕ) → length s ≤ i → length d₀ ≡ length s → d ≡ take i s ++ drop i d₀ → d ≡ s
 copy-end s d₀ d i h e o = whole d (take i s) d₀ i (omega arith) o ∙ take-all i s h
 

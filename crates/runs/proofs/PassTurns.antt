@@ -20,8 +20,10 @@ use Rattle.trees.specs.Postorder.{waiting, isOne, isPostorder, read, treeOf}
 use Rattle.trees.proofs.PostorderLaws.{state-fold, read-whole, treeOf-kinds, treeOf-labels}
 use Rattle.trees.proofs.PostorderLaws.{leaf-at, inner-at, short-at, other-at, end-at}
 use Rattle.formats.specs.Rules.{treeAutomaton}
+use Rattle.trees.proofs.MoveLaws.{none-some}
+use Rattle.trees.proofs.RowLaws.{stride}
 use Rattle.runs.specs.Pass.{RuleArgs}
-use Rattle.runs.proofs.StackLaws.{stackOf, stack-push, stack-two, none-some, some-some, waiting-most}
+use Rattle.runs.proofs.StackLaws.{stackOf, stack-push, stack-two, some-some, waiting-most}
 use Rattle.runs.proofs.StackLaws.{read-leaf, read-inner}
 
 -- ---- what holds before a turn
@@ -64,9 +66,6 @@ pass-start {ks = ks} e p = record {
 -- ---- bounds
 
 -- u < v: a stride lies between them
-stride : (w u v : ℕ) → u < v → u * w + w ≤ v * w
-stride w u v h = omega (arith, mul-le-mul-right w h)
-
 -- the rule of states below s stands in the table
 pub rule-args : {inn : List ℕ} {s k p a q : ℕ} → p < s → a < k → q < s → s ≤ 16 → k ≤ 64 → length inn ≡ s * k * s
     → RuleArgs inn s k p a q

@@ -13,6 +13,7 @@ use native.Mathlib.Omega.{arith}
 use lib.ListN.{length, getD, set, drop}
 use lib.Seq.{drop-cons, getD-set-same, getD-set-other}
 use Rattle.trees.specs.Postorder.{waiting, read}
+use Rattle.trees.proofs.MoveLaws.{none-some}
 
 -- ---- the states that wait
 
@@ -39,9 +40,6 @@ unfolding stackOf
 stack-two st w top e = let f : top ≡ suc (suc w) = omega arith in rw (f, add-one)
 
 -- ---- the machine, node by node
-
-pub none-some : {X : Type 0} {x : X} → none ≡ some x → ⊥
-none-some h = let z : _≡_ {A = ℕ} 0 1 = cc in omega arith
 
 pub some-some : {x y : ℕ} → some x ≡ some y → x ≡ y
 some-some h = cc

@@ -28,6 +28,7 @@ use Rattle.book.specs.Refusals.{refusal}
 use Rattle.book.specs.Model.{Record, idle, freshRecord, loadedRecord, viewBy, marksBy, started, startWith, stepped}
 use Rattle.book.specs.Model.{advanceWith}
 use Rattle.book.specs.Model.{partNext, acted, proceeds, unless, act}
+use Rattle.book.proofs.TrailLaws.{below-more}
 use Rattle.session.specs.declared.state.Phase.the-variants.{Empty}
 use Rattle.session.specs.declared.state.Session.{Session}
 use Rattle.session.specs.Records.{phaseTo, recordOf, sessionOf, padded, zeroFrom, risesTo}
@@ -126,16 +127,6 @@ unfolding allBelow
 nil-below n = refl
 
 -- one state more
-below-more : (n : ℕ) (l : List ℕ) (x : ℕ) → allBelow n l ≡ true → x < n → allBelow n (l ++ (x ∷ [])) ≡ true
-unfolding allBelow
-below-more n [] x e h = and-both (ltb x n) true (lt-ltb x n h) refl
-below-more n (y ∷ l) x e h = go (ltb y n) e (λ f. below-more n l x f h)
-  where
-    go : (b : Bool) → (b && allBelow n l) ≡ true → (allBelow n l ≡ true → allBelow n (l ++ (x ∷ [])) ≡ true)
-        → (b && allBelow n (l ++ (x ∷ []))) ≡ true
-    go true f ih = ih f
-    go false f ih = f
-
 pub start-sized : (p : calls.Phase) (r : Record) → mayStart p ≡ true → HoldsIn p r → Sized (r .sizes)
 unfolding mayStart
 start-sized calls.Phase.empty r e H = absurd (true-false (sym e))

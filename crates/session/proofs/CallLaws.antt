@@ -17,6 +17,7 @@ use Rattle.book.specs.Refusals.{refusal}
 use Rattle.book.specs.Model.{Acted, proceeds, unless, act}
 use Rattle.book.specs.Kept.{Kept}
 use Rattle.book.proofs.KeptLaws.{refused-keeps, start-kept, advance-kept}
+use Rattle.formats.proofs.TurnLaws.{and-yes}
 use Rattle.session.specs.declared.state.Phase.{Phase}
 use Rattle.session.specs.declared.state.Session.{Session}
 use Rattle.session.specs.Records.{phaseOf, sizesOf, recordOf, sessionOf, valid}
@@ -91,10 +92,6 @@ module _ (s : Session) (c : Call) where
       go false v g = invalid-done v
 
 -- ---- check 1, state by state
-
-and-yes : (a : Bool) → (a && true) ≡ a
-and-yes true = refl
-and-yes false = refl
 
 and-no : (a : Bool) → (a && false) ≡ false
 and-no true = refl

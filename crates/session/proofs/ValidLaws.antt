@@ -10,17 +10,13 @@ use lib.ListN.{length, take, drop, length-drop}
 use lib.Seq.{take-all}
 use borrow.Author.Tests.{le-leb, lt-leb, le-ltb, lt-ltb, eq-eqb, ne-eqb, leb-true, not-true, not-false}
 use Rattle.formats.specs.Bytes.{allBelow}
+use Rattle.formats.proofs.TurnLaws.{and-yes, and-assoc}
 use Rattle.session.specs.declared.state.Session.{Session}
 use Rattle.formats.proofs.CheckLaws.{and-left, and-no-right}
 use Rattle.session.specs.declared.state.Phase.{Phase}
 use Rattle.session.specs.declared.state.Phase.the-variants.{Empty, Loaded, Running, Answered}
 use Rattle.session.specs.Records.{sizesFit, noQuestion, listFits, partsFit, zeroFrom, risesTo, validIn, valid}
 use Rattle.session.specs.Tests.{Parted, Shaped}
-use Rattle.session.proofs.RunLaws.{and-assoc}
-
-and-yes : (a : Bool) → (a && true) ≡ a
-and-yes true = refl
-and-yes false = refl
 
 five : (a b c d e : Bool) → (a && b && c && d && e) ≡ (a && true && (b && c && (d && e)))
 five true true true d e = refl

@@ -14,7 +14,6 @@ use Rattle.branches.proofs.ask.ask_branch.Tie as tie
 use Rattle.branches.proofs.ask.ask_branch.Reads as reads
 use Rattle.branches.proofs.ask.ask_branch.Lts as lts
 use Rattle.branches.proofs.ask.answer_branch.Reads as answer-branch-reads
-use Rattle.branches.proofs.ask.is_below.Reads as is-below-reads
 use Rattle.branches.proofs.lent.lent_fits.Reads as lent-fits-reads
 use Rattle.formats.proofs.bytes.read32.Reads as read32-reads
 

@@ -8,7 +8,8 @@ use Rattle.links.specs.Cells.{cellForest}
 use Rattle.questions.specs.Climbs.{View}
 use Rattle.questions.specs.PathViews.{pathView}
 use Rattle.questions.proofs.LookupLaws.{map-place}
-use Rattle.questions.proofs.StepLaws.{told-inside, step-jump, step-parent, step-stuck}
+use Rattle.questions.proofs.StepLaws.{step-jump, step-parent, step-stuck}
+use Rattle.links.proofs.ToldLaws.{told-inside}
 use Rattle.questions.proofs.climb.step_on.Statement.{statement}
 use Rattle.questions.proofs.climb.step_on.Tie as tie
 

@@ -4,8 +4,9 @@ use mathlib.Core.Path.{sym, _∙_}
 use native.Mathlib.Omega.{arith}
 use native.Mathlib.Nat.{le-refl}
 use lib.ListN.{length}
+use Rattle.tables.proofs.StateTurns.{rule-in}
 use Rattle.questions.specs.PathViews.{rulesView}
-use Rattle.questions.proofs.LookupLaws.{below-no, rule-place, rule-small, rule-outside, rule-at}
+use Rattle.questions.proofs.LookupLaws.{below-no, rule-small, rule-outside, rule-at}
 use Rattle.questions.proofs.rules.rule_on.Statement.{statement}
 use Rattle.questions.proofs.rules.rule_on.Tie as tie
 
@@ -13,7 +14,7 @@ place : (c : tie.Else1) → let g = c .before .args in (g .p * g .k + g .a) * g 
 place c =
     let g = c .before .args in
     let h = c .before .pre in
-    omega (arith, rule-place (g .s) (g .k) (g .p) (g .a) (g .q) (h .left) (c .if1 .left) (h .right), h .room)
+    omega (arith, rule-in (g .s) (g .k) (g .p) (g .a) (g .q) (h .left) (c .if1 .left) (h .right), h .room)
 
 small : (c : tie.Else1) → let g = c .before .args in g .p * g .k + g .a < 1024
 small c =

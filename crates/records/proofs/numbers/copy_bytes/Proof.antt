@@ -3,7 +3,8 @@ use mathlib.Core.Path.{_≡_, refl}
 use mathlib.Core.List.{_++_}
 use native.Mathlib.Omega.{arith}
 use lib.ListN.{length, take, drop, length-set}
-use Rattle.records.proofs.NumberTurns.{copy-turn, copy-end}
+use Rattle.session.proofs.PadLaws.{copy-turn}
+use Rattle.records.proofs.NumberTurns.{copy-end}
 use borrow.Author.Needs.{needs}
 use Rattle.records.proofs.numbers.copy_bytes.Statement.{statement}
 use Rattle.records.proofs.numbers.copy_bytes.Tie as tie

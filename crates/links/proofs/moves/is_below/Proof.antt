@@ -1,8 +1,8 @@
 -- `is_below` meets its contract. Assumes nothing.
-use Rattle.questions.proofs.MeetWays.{below-no, below-yes}
+use Rattle.links.proofs.MoveWays.{below-no, below-yes}
 use borrow.Author.Needs.{needs}
-use Rattle.questions.proofs.search.is_below.Statement.{statement}
-use Rattle.questions.proofs.search.is_below.Tie as tie
+use Rattle.links.proofs.moves.is_below.Statement.{statement}
+use Rattle.links.proofs.moves.is_below.Tie as tie
 
 returns : tie.Need-returns
 returns c = let a = c .before .before .args in below-no (a .nums .now) (a .c) (a .v) (c .if1 .taken)
