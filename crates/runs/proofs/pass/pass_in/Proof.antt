@@ -125,7 +125,7 @@ changes-from-requires-2 : tie.Need-changes-from-requires-2 Inv-loop μ-loop
 changes-from-requires-2 c κs = list-args (entered (c .before .before) .pre .0)
 
 array-read-after-change : tie.Need-array-read-after-change Inv-loop μ-loop
-array-read-after-change c = changes-are c .0
+array-read-after-change c = omega (arith, changes-are c .0)
 
 shared-slice-read-after-change : tie.Need-shared-slice-read-after-change Inv-loop μ-loop
 shared-slice-read-after-change c =
