@@ -125,7 +125,7 @@ changes-from-requires-2 : tie.Need-changes-from-requires-2 Inv-loop μ-loop
 changes-from-requires-2 c κs = list-args (entered (c .before .before) .pre .0)
 
 array-read-after-change : tie.Need-array-read-after-change Inv-loop μ-loop
-array-read-after-change c = changes-are c .0
+array-read-after-change c = omega (arith, changes-are c .0)
 
 shared-slice-read-after-change : tie.Need-shared-slice-read-after-change Inv-loop μ-loop
 shared-slice-read-after-change c =
@@ -168,7 +168,8 @@ cast-q c =
     omega (arith, l .loop .inv .1 .below w (omega (arith, two (c .before .before))), entered l .pre .0 .states)
 
 cast-rule : tie.Need-cast-rule Inv-loop μ-loop
-cast-rule c = omega (arith, label-in (c .before .before .before .before), entered (c .before .before .before .before .before .before .before .before) .pre .0 .letters)
+cast-rule c =
+    let m = c .before .before .before .before in omega (arith, label-in m, entered (m .before .before .before .before) .pre .0 .letters)
 
 rule-requires : tie.Need-rule-requires Inv-loop μ-loop
 rule-requires c κs =
@@ -207,13 +208,14 @@ loop-again : tie.Need-loop-again Inv-loop μ-loop
 loop-again c =
     let z = c .before .before in
     let m = c .before .before .before .before in
-    let d = changes-are (c .before .before .before .before .before .before) in
-    let l = c .before .before .before .before .before .before .before .before in
+    let y = m .before .before in
+    let d = changes-are y in
+    let l = y .before .before in
     let p = entered l .pre .0 in
     let i = l .loop .inv .1 in
     let h : l .loop .v < length (entered l .args .kinds .now) = omega (arith, l .loop .inv .0) in
     let g = labelled-length l in
-    let e : l .loop .v + 1 - (c .before .before .before .before .before .before .if1 .j + 1) ≡ l .loop .v - c .before .before .before .before .before .before .if1 .j = omega arith in (
+    let e : l .loop .v + 1 - (y .if1 .j + 1) ≡ l .loop .v - y .if1 .j = omega arith in (
       refl,
       ⊎-elim
           (λ w. rw (w .2, w .3) (leaf-turn i h g (w .0 .taken) (p .leaf-below) (label-is m)))
