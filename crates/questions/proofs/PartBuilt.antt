@@ -32,7 +32,8 @@ use Rattle.ready.proofs.PartsRun.{Members}
 use Rattle.ready.proofs.UnderLaws.{under-self, left-in, right-in, left-parent, right-parent}
 use Rattle.links.specs.Cells.{isBelow}
 use Rattle.questions.specs.Climbs.{View, below, runOn, ruleOn, Reached, reached, climbOn}
-use Rattle.questions.specs.Part.{Found, found, lastFound, foundBelow, labelOn, climbFrom, runReached, ownReached, joinOn, innerOn, leafOn, forkOn, partOn}
+use Rattle.questions.specs.Part.{Found, found, lastFound, foundBelow, labelOn, climbFrom, runReached, ownReached}
+use Rattle.questions.specs.Part.{joinOn, innerOn, leafOn, forkOn, partOn}
 use Rattle.questions.proofs.MeetBuilt.{below-is}
 use Rattle.questions.specs.Promises.{Reads}
 use Rattle.questions.proofs.ClimbBuilt.{is-below, rule-built, run-built, climb-built}
@@ -106,7 +107,8 @@ module _ (t : Tree) (c : ℕ) where
         go : (b : Bool) → Finding ps (some (found (p .node) (p .state))) (lastFound nums c (nodesOf ps) (statesOf ps) (some (found (p .node) (p .state))))
             → Finding ps f (lastFound nums c (nodesOf ps) (statesOf ps) f)
             → (((b || anyBelow (nodesOf ps) t c) ≡ false) × (lastFound nums c (nodesOf ps) (statesOf ps) (cond b (some (found (p .node) (p .state))) f) ≡ f))
-            ⊎ (((b || anyBelow (nodesOf ps) t c) ≡ true) × ((d : ℕ) → lastFound nums c (nodesOf ps) (statesOf ps) (cond b (some (found (p .node) (p .state))) f)
+            ⊎ (((b || anyBelow (nodesOf ps) t c) ≡ true)
+            × ((d : ℕ) → lastFound nums c (nodesOf ps) (statesOf ps) (cond b (some (found (p .node) (p .state))) f)
             ≡ some (found (lastBelow (nodesOf ps) t c (cond b (p .node) d)) (stateOf (p ∷ ps) (lastBelow (nodesOf ps) t c (cond b (p .node) d))))))
         go true (inl x) y = inr (
           refl,

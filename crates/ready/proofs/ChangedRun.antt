@@ -50,7 +50,8 @@ module _ (A : Automaton) (w : ℕ → Bool) (t u : Tree) (ch : Changes w t u) wh
     parent-state =
         let n : parent t y < size u = omega (arith, same-count t u (ch .kinds), up-y .below) in
         let k : kindAt u (parent t y) ≡ 0 → ⊥ = λ e. omega (arith, up-y .inside, same-kind t u (ch .kinds) (parent t y)) in
-        let s : size (sub u (parent t y - 1)) ≡ size (sub t (parent t y - 1)) = sym (same-size t u (ch .kinds) (parent t y - 1) (omega (arith, up-y .below))) in
+        let s : size (sub u (parent t y - 1)) ≡ size (sub t (parent t y - 1)) =
+        sym (same-size t u (ch .kinds) (parent t y - 1) (omega (arith, up-y .below))) in
         state-inner A u (parent t y) n k
         ∙ ap₂ (λ (x a : ℕ). A .δ (state A (sub u (parent t y - 1 - x))) a (state A (sub u (parent t y - 1)))) s (sym (ch .labels (parent t y) free))
 

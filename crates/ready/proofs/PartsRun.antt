@@ -76,7 +76,8 @@ state-new (q ∷ ps) p x e n =
     rw (ne-eqb (q .node) x (λ z. n (List·Memᴰ·head (sym z)))) (state-new ps p x e (λ m. n (List·Memᴰ·tail m)))
 
 -- of a rising list, what is below v stands before it, and v stands there once
-rising-first : (done : List ℕ) (v : ℕ) (rest : List ℕ) (lo x : ℕ) → Rising lo (done ++ (v ∷ rest)) → List·Memᴰ x (done ++ (v ∷ rest)) → x < v → List·Memᴰ x done
+rising-first : (done : List ℕ) (v : ℕ) (rest : List ℕ) (lo x : ℕ) → Rising lo (done ++ (v ∷ rest))
+    → List·Memᴰ x (done ++ (v ∷ rest)) → x < v → List·Memᴰ x done
 rising-first [] v rest lo x r m l = elim (List·Memᴰ·cases-cons m) [
   | inl e ↦ absurd (omega arith)
   | inr k ↦ absurd (omega (arith, rising-above rest (suc v) x (r .1) k))

@@ -29,7 +29,8 @@ load-requires c κs = search needs
 
 store-done-requires : tie.Need-store-done-requires
 store-done-requires c κs =
-    passed-length _ _ (c .before .before .before .before .before .before .before .before .before .before .before .laid-out .ensures) (c .before .before .before .before .before .before .before .before .before .before .if1 .left)
+    let i = c .before .before .before .before .before .before .before .before .before .before in
+    passed-length _ _ (i .before .laid-out .ensures) (i .if1 .left)
 
 same-length-2 : tie.Need-same-length-2
 same-length-2 c = search needs
@@ -42,7 +43,11 @@ same-length-4 c = search needs
 
 returns-2 : tie.Need-returns-2
 returns-2 c =
-    load-laid _ _ (passed-laid _ _ (c .before .before .before .before .before .before .before .before .before .before .before .before .before .before .laid-out .ensures) (c .before .before .before .before .before .before .before .before .before .before .before .before .before .if1 .left)) _ _ _ _ _ (load-decoded _ _ _ _ _ _ _ (c .before .before .before .before .before .before .before .before .before .before .before .decode .ensures) (c .before .before .before .before .before .before .before .before .load .ensures)) (c .before .before .store-done .ensures)
+    let l = c .before .before .before .before .before .before .before .before in
+    let d = l .before .before .before in
+    let i = d .before .before in
+    load-laid _ _ (passed-laid _ _ (i .before .laid-out .ensures) (i .if1 .left)) _ _ _ _ _
+    (load-decoded _ _ _ _ _ _ _ (d .decode .ensures) (l .load .ensures)) (c .before .before .store-done .ensures)
 
 pub whatif-load-spec : {M : Type 1} → statement M
 whatif-load-spec =
