@@ -1,4 +1,5 @@
 pub mod AskLaws
+pub mod ClearedTheorem
 pub mod InputLaws
 pub mod StreamLaws
 pub mod TripleLaws
