@@ -1,4 +1,5 @@
 -- The program's calls tell the definition's answer.
+--     load-cleared        a fresh session that accepted a Load is cleared
 --     cleared-answer      on the session and the tables that an accepted Load left, what is told of a question is answerTo
 -- From the theorem over every list of calls: each call is answered as the panel book says, and the book of a clean question says this.
 -- Assumes nothing.
@@ -14,6 +15,8 @@ use Rattle.formats.specs.Checks.{check, firstNo, listChecks}
 use Rattle.formats.proofs.CheckLaws.{firstNo-yes, and-both, and-left, true-false}
 use Rattle.formats.proofs.ListLaws.{sameList-is}
 use Rattle.formats.proofs.InputLaws.{list-passes}
+use Rattle.formats.specs.Built.{builtLinks, builtStates}
+use Rattle.tables.specs.Answers.{written}
 use Rattle.ready.specs.Parts.{Part}
 use Rattle.book.specs.Lends.{Lent, Sizes, sizesIn, fits, usedNums, usedBytes, sameLinks, sameLent, linksBuilt, bytesBuilt, sound}
 use Rattle.book.specs.Calls.{Call, load, start, advance, read, Answer, refused, accepted, parts, more, finished, Phase, isRunning, isAnswered}
@@ -22,7 +25,7 @@ use Rattle.book.specs.Refusals.{refusal}
 use Rattle.book.specs.Book.{clean, Question, State, Book, settled, phase, newBook, inState, step, decided, proceed, reading}
 use Rattle.book.specs.Book.{partCount, freshAnswer, longer, advanced, goesOn, firmly, advancing}
 use Rattle.book.specs.Demand3.{Conforms, after, Agrees}
-use Rattle.book.specs.Model.{Record, freshRecord, act}
+use Rattle.book.specs.Model.{Record, idle, freshRecord, act}
 use Rattle.book.specs.Alone.{isRefused}
 use Rattle.book.specs.Judge.{answersOf}
 use Rattle.book.proofs.Theorems.{session-model}
@@ -31,14 +34,17 @@ use Rattle.book.proofs.Simulation.{book}
 use Rattle.book.proofs.AloneLaws.{at, going, over}
 use Rattle.book.proofs.Ceilings.{Few, ready-count}
 use Rattle.book.proofs.StartSim.{some-part}
+use Rattle.book.proofs.QuestionTheorem.{question}
 use Rattle.book.proofs.WrittenSound.{loaded, written-sound, written-fits, start-written}
 use Rattle.session.specs.declared.state.Session.{Session}
 use Rattle.session.specs.Records.{freshSession}
 use Rattle.session.specs.Tests.{lentOf}
-use Rattle.session.specs.Promises.{CallDone, answerOn, recordOn}
+use Rattle.session.specs.declared.answers.Doing.{Doing}
+use Rattle.session.specs.declared.answers.Doing.the-variants.{Done}
+use Rattle.session.specs.Promises.{CallDone, LoadDone, doingAnswer, answerOn, recordOn, refusalOn}
 use Rattle.session.proofs.Refine.{Seen, fresh-seen, done-refines}
 use Rattle.whatif.specs.Asked.{afterAdvance, finishedIn, mostParts, afterStart, askedOn}
-use Rattle.whatif.specs.Cleared.{put, answerBy, answerTo, Cleared}
+use Rattle.whatif.specs.Cleared.{answerBy, answerTo, Cleared}
 
 -- the session holds a record whose answers, to any list of calls, agree with the book
 record Follows (s : Session) (b : Book) : Type 0 where
@@ -162,11 +168,11 @@ module _ (y : Lent) (passed : refusal (phase (newBook .state)) (newBook .sizes) 
       (ap (λ (k : ℕ). decided k (book State.loaded (sizesIn y)) (start (loaded y) vs bs)) (start-number ∙ e)))
 
   told-clean : firstNo (listChecks (sizesIn y .n) (sizesIn y .k) vs bs) ≡ 0
-      → askedOn s (loaded y) vs bs ≡ freshAnswer (put (loaded y) vs bs)
+      → askedOn s (loaded y) vs bs ≡ freshAnswer (question (loaded y) vs bs)
   unfolding askedOn afterStart sound phase mayStart
   told-clean e =
       let p = phase (newBook .state) in
-      let q = put (loaded y) vs bs in
+      let q = question (loaded y) vs bs in
       let w = start-written p (newBook .sizes) y State.loaded vs bs passed refl e in
       let a = settled-answer s (book State.loaded (sizesIn y)) F (start (loaded y) vs bs) _ _ w in
       let G = settled-follows s (book State.loaded (sizesIn y)) F (start (loaded y) vs bs) _ _ w in
@@ -179,12 +185,12 @@ module _ (y : Lent) (passed : refusal (phase (newBook .state)) (newBook .sizes) 
       ∙ finish-clean (sizesIn y) (loaded y) (written-fits p (newBook .sizes) y passed) mostParts
       (recordOn s (start (loaded y) vs bs)) q 0 [] refl G (some-part q) (omega arith)
 
-  told : askedOn s (loaded y) vs bs ≡ answerTo (loaded y) vs bs
-  unfolding answerBy loaded
+  told : askedOn s (loaded y) vs bs ≡ answerTo (y .plan) (y .rules) vs bs
+  unfolding answerBy loaded freshAnswer
   told = go (firstNo (listChecks (sizesIn y .n) (sizesIn y .k) vs bs)) refl
     where
       go : (n : ℕ) → firstNo (listChecks (sizesIn y .n) (sizesIn y .k) vs bs) ≡ n
-          → askedOn s (loaded y) vs bs ≡ answerBy n (loaded y) vs bs
+          → askedOn s (loaded y) vs bs ≡ answerBy n (y .plan) (y .rules) vs bs
       go zero e = told-clean e
       go (suc n) e = told-refused n e
 
@@ -215,9 +221,40 @@ lent-is : (s : Session) (x : Lent) (C : Cleared s x) → loaded (C .lent) ≡ x
 unfolding loaded
 lent-is s x C = same-lent _ (x .plan) _ (x .rules) _ (x .nums) _ (x .bytes) (C .plan) (C .rules) (C .nums) (C .bytes)
 
-pub cleared-answer : (s : Session) (x : Lent) (vs bs : List ℕ) → Cleared s x → askedOn s x vs bs ≡ answerTo x vs bs
+pub cleared-answer : (s : Session) (x : Lent) (vs bs : List ℕ) → Cleared s x → askedOn s x vs bs ≡ answerTo (x .plan) (x .rules) vs bs
+unfolding loaded
 cleared-answer s x vs bs C =
     let y = C .lent in
     let passed = load-passed y (C .taken) in
     let F = subst (λ (t : Session). Follows t (book State.loaded (sizesIn y))) (sym (C .session)) (load-follows y passed) in
-    subst (λ (t : Lent). askedOn s t vs bs ≡ answerTo t vs bs) (lent-is s x C) (told y passed s F vs bs)
+    subst (λ (t : Lent). askedOn s t vs bs ≡ answerTo (t .plan) (t .rules) vs bs) (lent-is s x C) (told y passed s F vs bs)
+
+-- ---- an accepted Load of a fresh session clears it
+
+fresh-refusal : (y : Lent) → answerOn freshSession (load y) ≡ accepted → refusalOn freshSession (load y) ≡ 0
+unfolding refusalOn freshRecord idle newBook phase
+fresh-refusal y e =
+    rw (fresh-seen .passes)
+    (ap (λ (r : Record). refusal (r .phase) (r .sizes) (load y)) (fresh-seen .holds) ∙ load-passed y e)
+
+fresh-cleared : (s : Session) (p r n b n′ b′ : List ℕ) (t : Doing) → t ≡ Done
+    → LoadDone freshSession (lentOf p r n b) (doingAnswer t) s n′ b′ → Cleared s (lentOf p r n′ b′)
+unfolding doingAnswer
+fresh-cleared s p r n b n′ b′ t e L =
+    let y = lentOf p r n b in
+    let a : answerOn freshSession (load y) ≡ accepted = sym (L .call .tells) ∙ ap doingAnswer e in
+    let z = fresh-refusal y a in
+    record {
+      lent = y;
+      taken = a;
+      session = L .call .leaves;
+      plan = refl;
+      rules = refl;
+      nums = L .links-written ∙ ap (λ (k : ℕ). written k (builtLinks p) n) z;
+      bytes = L .states-written ∙ ap (λ (k : ℕ). written k (builtStates p r) b) z;
+    }
+
+pub load-cleared : (f s : Session) (p r n b n′ b′ : List ℕ) (t : Doing) → f ≡ freshSession → t ≡ Done
+    → LoadDone f (lentOf p r n b) (doingAnswer t) s n′ b′ → Cleared s (lentOf p r n′ b′)
+load-cleared f s p r n b n′ b′ t d e L =
+    fresh-cleared s p r n b n′ b′ t e (subst (λ (g : Session). LoadDone g (lentOf p r n b) (doingAnswer t) s n′ b′) d L)

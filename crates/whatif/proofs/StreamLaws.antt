@@ -9,23 +9,23 @@
 -- Assumes nothing.
 use Prim.Native.Nat.{ℕ, suc, _+_, _-_, _*_, _/_, _≤_, _<_, min}
 use mathlib.Core.Path.{_≡_, refl, ap, sym, _∙_}
-use mathlib.Core.Bool.{Bool, true, false}
+use mathlib.Core.Bool.{Bool, true, false, _&&_}
 use mathlib.Core.List.{List, [], _∷_, _++_, append-assoc, append-nil}
 use native.Mathlib.Numerals.{add-one}
 use native.Mathlib.Omega.{arith}
 use lib.Dec.{leb, eqb}
 use lib.ListN.{length, getD, take, drop, set, length-append, length-drop, length-set}
 use lib.Seq.{take-all, take-take, take-add, drop-at, take-suc-set, set-out, take-append-le, getD-take, length-take-le}
-use borrow.Author.Tests.{leb-true, leb-false, ne-eqb, eqb-true}
-use Rattle.book.specs.Lends.{Lent}
-use Rattle.book.specs.Calls.{Answer}
-use Rattle.session.specs.declared.state.Session.{Session}
+use borrow.Author.Tests.{leb-true, leb-false, lt-leb, ne-eqb, eqb-true}
+use Rattle.formats.specs.Checks.{firstNo, listChecks}
+use Rattle.book.specs.Calls.{Answer, refused}
 use Rattle.whatif.specs.Text.{Put}
 use Rattle.whatif.specs.Line.{lineOf}
-use Rattle.whatif.specs.Asked.{askedOn}
+use Rattle.whatif.specs.Cleared.{answerBy, answerTo}
 use Rattle.whatif.specs.Question.{changeCount, questionLength, nodesIn, labelsIn}
+use Rattle.whatif.proofs.TripleLaws.{nodes-count}
 use Rattle.whatif.proofs.TextLaws.{put-nothing, put-then}
-use Rattle.whatif.specs.Stream.{keptList, isWhole, openAfter, openBy, lineAfter, linesBy, Held, Advances, questionLine}
+use Rattle.whatif.specs.Stream.{keptList, isWhole, openAfter, openBy, lineAfter, linesBy, Held, Advances, keptLine, questionLine}
 
 pub held-empty : (kept : List ℕ) → length kept ≡ 197 → Held [] kept 0
 held-empty kept e = record { counted = refl; room = e; first = refl }
@@ -125,15 +125,45 @@ module _ (kept : List ℕ) (k : ℕ) (room : length kept ≡ 197) (count : k ≡
       omega arith
 
   -- xs and ys hold the nodes and the labels
-  pub kept-line : (s : Session) (x : Lent) (xs ys : List ℕ) (a : Answer) → take (length part / 3) xs ≡ nodesIn part
-      → take (length part / 3) ys ≡ labelsIn part → a ≡ askedOn s x (take k xs) (take k ys) → lineOf a ≡ questionLine s x kept
-  unfolding questionLine
-  kept-line s x xs ys a n l e =
+  pub kept-line : (p r xs ys : List ℕ) (a : Answer) → take (length part / 3) xs ≡ nodesIn part
+      → take (length part / 3) ys ≡ labelsIn part → a ≡ answerTo p r (take k xs) (take k ys) → lineOf a ≡ keptLine p r kept
+  unfolding keptLine
+  kept-line p r xs ys a n l e =
       let v : take k xs ≡ nodesIn (keptList kept) =
       ap (λ (i : ℕ). take i xs) (sym part-third) ∙ (n ∙ ap nodesIn part-list) in
       let b : take k ys ≡ labelsIn (keptList kept) =
       ap (λ (i : ℕ). take i ys) (sym part-third) ∙ (l ∙ ap labelsIn part-list) in
       rw (e, v, b) refl
+
+-- a list that is too long is refused with 12
+long-refused : (p r vs bs : List ℕ) → 64 < length vs → answerTo p r vs bs ≡ refused 12
+unfolding listChecks firstNo answerBy
+long-refused p r vs bs h = rw (lt-leb (length vs) 64 h, and-false (eqb (length vs) (length bs))) refl
+  where
+    and-false : (t : Bool) → (t && false) ≡ false
+    and-false true = refl
+    and-false false = refl
+
+-- so the first 65 changes are enough
+same-answer : (p r q : List ℕ) → isWhole q ≡ true
+    → answerTo p r (nodesIn (keptList q)) (labelsIn (keptList q)) ≡ answerTo p r (nodesIn (drop 2 q)) (labelsIn (drop 2 q))
+same-answer p r q e = go (leb (changeCount q) 65) refl
+  where
+    w : length (drop 2 q) ≡ 3 * changeCount q
+    w = omega (arith, eqb-true (length q) (questionLength q) e, length-drop 2 q)
+
+    go : (t : Bool) → leb (changeCount q) 65 ≡ t
+        → answerTo p r (nodesIn (keptList q)) (labelsIn (keptList q)) ≡ answerTo p r (nodesIn (drop 2 q)) (labelsIn (drop 2 q))
+    go true h =
+        let l : changeCount q ≤ 65 = leb-true (changeCount q) 65 h in
+        let m : keptList q ≡ drop 2 q = take-all (3 * min (changeCount q) 65) (drop 2 q) (omega (arith, w)) in
+        ap (λ (t : List ℕ). answerTo p r (nodesIn t) (labelsIn t)) m
+    go false h =
+        let l : 65 < changeCount q = leb-false (changeCount q) 65 h in
+        let k : length (keptList q) ≡ 195 =
+        length-take-le (3 * min (changeCount q) 65) (drop 2 q) (omega (arith, w)) ∙ omega arith in
+        long-refused p r _ _ (omega (arith, nodes-count (keptList q), k))
+        ∙ sym (long-refused p r _ _ (omega (arith, nodes-count (drop 2 q), w)))
 
 -- ---- what taking bytes comes to
 
@@ -153,22 +183,28 @@ byte-kept-open f kept have b out end e = record {
       rw w (put-nothing out end);
 }
 
+-- the line of what the buffer holds of a whole question is the question's
+line-kept : (p r q kept : List ℕ) (have : ℕ) → Held q kept have → isWhole q ≡ true → keptLine p r kept ≡ questionLine p r q
+unfolding keptLine questionLine
+line-kept p r q kept have h w =
+    ap (λ (t : List ℕ). lineOf (answerTo p r (nodesIn t) (labelsIn t))) (list-kept q kept have h w) ∙ ap lineOf (same-answer p r q w)
+
 -- one that does: its line
-pub byte-answered : (s : Session) (x : Lent) (kept : List ℕ) (have b : ℕ) (out : List ℕ) (end : ℕ) (out′ : List ℕ) (end′ : ℕ)
+pub byte-answered : (p r kept : List ℕ) (have b : ℕ) (out : List ℕ) (end : ℕ) (out′ : List ℕ) (end′ : ℕ)
     → eqb (have + 1) (questionLength (set kept have b)) ≡ true → length kept ≡ 197
-    → Put out end (questionLine s x (set kept have b)) out′ end′
-    → Advances (questionLine s x) (b ∷ []) kept have (set kept have b) 0 out end out′ end′
-unfolding openBy openAfter linesBy lineAfter questionLine
-byte-answered s x kept have b out end out′ end′ e r p = record {
+    → Put out end (keptLine p r (set kept have b)) out′ end′
+    → Advances (questionLine p r) (b ∷ []) kept have (set kept have b) 0 out end out′ end′
+unfolding openBy openAfter linesBy lineAfter
+byte-answered p r kept have b out end out′ end′ e l t = record {
   held = λ q h.
       let m = held-more q kept have b h in
       let w = sym (whole-told (q ++ (b ∷ [])) (set kept have b) (have + 1) m) ∙ e in
-      rw w (held-empty (set kept have b) (length-set kept have b ∙ r));
+      rw w (held-empty (set kept have b) (length-set kept have b ∙ l));
   text = λ q h.
       let m = held-more q kept have b h in
       let w = sym (whole-told (q ++ (b ∷ [])) (set kept have b) (have + 1) m) ∙ e in
-      let l = list-kept (q ++ (b ∷ [])) (set kept have b) (have + 1) m w in
-      rw (w, append-nil, ← l) p;
+      let k = line-kept p r (q ++ (b ∷ [])) (set kept have b) (have + 1) m w in
+      rw (w, append-nil, ← k) t;
 }
 
 pub advances-none : (f : List ℕ → List ℕ) (kept : List ℕ) (have : ℕ) (out : List ℕ) (end : ℕ) → Advances f [] kept have kept have out end out end

@@ -1,6 +1,7 @@
 -- Lists of three bytes each: what one turn, and the end, of the loops that take a list of changes apart keep.
 --     ByThree f g    f takes a list apart three by three, and makes g of each three
 --     nodes-by-three, labels-by-three
+--     nodes-count    how many nodes a list has
 --     taken-turn     one more three taken: what is done and what is left to do make the whole
 --     taken-end      less than three are left
 -- Assumes nothing.
@@ -36,6 +37,13 @@ nodes-next a b c l = refl
 
 pub nodes-by-three : ByThree nodesIn nodeOf
 nodes-by-three = record { next = nodes-next; rest = nodes-rest }
+
+pub nodes-count : (l : List ℕ) → length (nodesIn l) ≡ length l / 3
+unfolding nodesIn
+nodes-count [] = omega arith
+nodes-count (a ∷ []) = omega arith
+nodes-count (a ∷ b ∷ []) = omega arith
+nodes-count (a ∷ b ∷ c ∷ l) = omega (arith, nodes-count l)
 
 labels-rest : (l : List ℕ) → length l ≤ 2 → labelsIn l ≡ []
 unfolding labelsIn

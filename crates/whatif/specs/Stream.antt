@@ -1,14 +1,13 @@
 -- The questions as their bytes come, in chunks of any length.
 --
--- keptList q == the list of changes of a question, or the first 65 of them: as many as Start needs to refuse it
--- questionLine s x q == the line of a question, put to the loaded session s on the lends x
+-- questionLine p r q == the line of a question q on the plan p and the rules r
+-- keptList b, keptLine p r b == the list of changes that a buffer holds, or the first 65 of them: as many as it takes to refuse it; its line
 -- isWhole q == whether q is all of a question
--- openAfter q b, openBy q c == of the question that is not yet whole, q is there; then what is there after one more byte b, or a chunk c
+-- openAfter q b, openBy q c == what is there of the question that is not yet whole: q, and then one more byte b or a chunk c
 -- lineAfter f q b, linesBy f q c == the lines that the byte or the chunk completes, f the line of a question
 -- Held q kept have == the buffer holds the first 197 bytes of q, which has `have` bytes; Keeps kept have == it does so of some q
 --
--- Advances f c kept have kept′ have′ out end out′ end′ == what taking the chunk c comes to: the buffer holds the open question then, and the
---   lines are appended
+-- Advances f c .. == what taking the chunk c comes to: the buffer holds the question that is not yet whole then, and the lines are appended
 --
 -- "A question cut short by the end of input or by the questions' length is dropped": no line comes before its last byte.
 -- Assumes nothing.
@@ -18,18 +17,20 @@ use mathlib.Core.Bool.{Bool, cond}
 use mathlib.Core.List.{List, [], _∷_, _++_}
 use lib.Dec.{eqb}
 use lib.ListN.{length, take, drop}
-use Rattle.book.specs.Lends.{Lent}
-use Rattle.session.specs.declared.state.Session.{Session}
 use Rattle.whatif.specs.Question.{changeCount, questionLength, nodesIn, labelsIn}
-use Rattle.whatif.specs.Asked.{askedOn}
+use Rattle.whatif.specs.Cleared.{answerTo}
 use Rattle.whatif.specs.Text.{Put}
 use Rattle.whatif.specs.Line.{lineOf}
 
-abbrev pub keptList : List ℕ → List ℕ
-keptList q = take (3 * min (changeCount q) 65) (drop 2 q)
+-- the line of a question by the definitions alone
+unfoldable pub questionLine : List ℕ → List ℕ → List ℕ → List ℕ
+questionLine p r q = lineOf (answerTo p r (nodesIn (drop 2 q)) (labelsIn (drop 2 q)))
 
-unfoldable pub questionLine : Session → Lent → List ℕ → List ℕ
-questionLine s x q = lineOf (askedOn s x (nodesIn (keptList q)) (labelsIn (keptList q)))
+abbrev pub keptList : List ℕ → List ℕ
+keptList b = take (3 * min (changeCount b) 65) (drop 2 b)
+
+unfoldable pub keptLine : List ℕ → List ℕ → List ℕ → List ℕ
+keptLine p r b = lineOf (answerTo p r (nodesIn (keptList b)) (labelsIn (keptList b)))
 
 abbrev pub isWhole : List ℕ → Bool
 isWhole q = eqb (length q) (questionLength q)

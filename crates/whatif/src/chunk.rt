@@ -12,8 +12,9 @@ ghost use mathlib.Core.List.{[], _∷_};
 ghost use Prim.Native.Nat.{_+_, _*_, _≤_};
 ghost use lib.ListN.{length};
 ghost use Rattle.session.specs.Tests.{lentOf};
+ghost use Rattle.whatif.specs.Cleared.{Cleared};
 ghost use Rattle.whatif.specs.Text.{Put};
-ghost use Rattle.whatif.specs.Stream.{questionLine, Keeps, Advances};
+ghost use Rattle.whatif.specs.Stream.{keptLine, questionLine, Keeps, Advances};
 
 // How many bytes of the question that is not yet whole came, and where the text of the lines ends.
 pub struct Taken {
@@ -34,10 +35,10 @@ fn put_answer(
 ) -> usize
     requires { ⌜ length (now asked) ≡ 197 ⌝ }
     requires { ⌜ end + 37 ≤ length (now out) ⌝ }
+    requires { ⌜ Cleared loaded (lentOf (now plan) (now rules) (now nums) (now bytes)) ⌝ }
     ensures { λ r. ⌜
         Put (now (out .entry)) end
-        (questionLine loaded (lentOf (now (plan .entry)) (now (rules .entry)) (now (nums .entry)) (now (bytes .entry)))
-        (now (asked .entry)))
+        (keptLine (now (plan .entry)) (now (rules .entry)) (now (asked .entry)))
         (now (out .exit)) r ⌝ }
     ensures { λ r. ⌜ r ≤ end + 37 ⌝ }
 {
@@ -65,8 +66,9 @@ fn take_byte(
     requires { ⌜ Keeps (now asked) have ⌝ }
     requires { ⌜ end + 37 ≤ length (now out) ⌝ }
     requires { ⌜ have ≤ 4294967295 ⌝ }
+    requires { ⌜ Cleared loaded (lentOf (now plan) (now rules) (now nums) (now bytes)) ⌝ }
     ensures { λ r. ⌜
-        Advances (questionLine loaded (lentOf (now (plan .entry)) (now (rules .entry)) (now (nums .entry)) (now (bytes .entry))))
+        Advances (questionLine (now (plan .entry)) (now (rules .entry)))
         (b ∷ []) (now (asked .entry)) have (now (asked .exit)) (r .have) (now (out .entry)) end (now (out .exit)) (r .end) ⌝ }
     ensures { λ r. ⌜ (r .end ≤ end + 37) × (r .have ≤ have + 1) ⌝ }
 {
@@ -94,8 +96,9 @@ pub fn take_in(
     requires { ⌜ Keeps (now asked) have ⌝ }
     requires { ⌜ have + length (now chunk) ≤ 4294967295 ⌝ }
     requires { ⌜ 37 * length (now chunk) ≤ length (now out) ⌝ }
+    requires { ⌜ Cleared loaded (lentOf (now plan) (now rules) (now nums) (now bytes)) ⌝ }
     ensures { λ r. ⌜
-        Advances (questionLine loaded (lentOf (now (plan .entry)) (now (rules .entry)) (now (nums .entry)) (now (bytes .entry))))
+        Advances (questionLine (now (plan .entry)) (now (rules .entry)))
         (now (chunk .entry)) (now (asked .entry)) have (now (asked .exit)) (r .have) (now (out .entry)) 0 (now (out .exit)) (r .end) ⌝ }
     ensures { λ r. ⌜ (r .end ≤ 37 * length (now (chunk .entry))) × (r .have ≤ have + length (now (chunk .entry))) ⌝ }
 {

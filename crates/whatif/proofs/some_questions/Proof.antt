@@ -37,11 +37,15 @@ slice-aggregate-take-in-2 c = search needs
 
 take-in-requires : tie.Need-take-in-requires
 take-in-requires c κs =
-    let r = c .before .before .before .before .before .read-some .ensures in (
-      c .before .before .before .before .before .before .before .before .before .before .before .before .before .pre .0,
+    let r = c .before .before .before .before .before .read-some .ensures in
+    let s = c .before .before .before .before .before .before .before .before .before .before .before .before .before in (
+      s .pre .0,
       (
         omega (arith, r .0, r .1 .1 .1),
-        omega (arith, r .1 .0, r .1 .1 .1, c .before .before .before .before .before .before .before .chunk-space .ensures, c .before .before .before .large-buffer .ensures),
+        (
+          omega (arith, r .1 .0, r .1 .1 .1, c .before .before .before .before .before .before .before .chunk-space .ensures, c .before .before .before .large-buffer .ensures),
+          s .pre .1 .1,
+        ),
       ),
     )
 

@@ -1,11 +1,13 @@
 use native.Mathlib.Omega.{arith}
 use borrow.Author.Needs.{needs}
 use Prim.Native.Nat.{ℕ}
-use mathlib.Core.Path.{sym, subst}
+use mathlib.Core.Path.{sym, subst, _∙_}
+use lib.ListN.{take}
 use mathlib.Core.List.{List}
 use Rattle.session.specs.Promises.{readingAnswer}
 use Rattle.session.specs.Tests.{lentOf}
 use Rattle.whatif.specs.Text.{Put}
+use Rattle.whatif.proofs.ClearedTheorem.{cleared-answer}
 use Rattle.whatif.proofs.StreamLaws.{kept-line}
 use lib.Seq.{length-take-le}
 use Rattle.whatif.proofs.chunk.put_answer.Statement.{statement}
@@ -80,15 +82,19 @@ same-length c = search needs
 
 returns : tie.Need-returns
 returns c =
-    let a = c .before .before .before .before .before .before .before .before .before .before .before .before .before .before .before .before .before .before .args in
+    let s = c .before .before .before .before .before .before .before .before .before .before .before .before .before .before .before .before .before .before in
+    let a = s .args in
     let k = c .before .before .before .before .before .before .before .before .before .before .before .kept-changes in
     let n = c .before .before .before .before .before .before .before .before .before .nodes-in in
     let l = c .before .before .before .before .before .before .before .labels-in in
     let q = c .before .before .before .before .ask in
     let p = c .before .before .put-line in
     let x = lentOf (a .plan .now) (a .rules .now) (a .nums .now) (a .bytes .now) in
-    let e = kept-line (a .asked .now) (k .result) (c .before .before .before .before .before .before .before .before .before .before .before .before .before .before .before .before .before .before .pre .0) (k .ensures .0) (a .loaded) x (n .result) (l .result)
-    (readingAnswer (q .result)) (n .ensures .0) (l .ensures .0) (q .ensures) in
+    let v = take (k .result) (n .result) in
+    let b = take (k .result) (l .result) in
+    let e =
+    kept-line (a .asked .now) (k .result) (s .pre .0) (k .ensures .0) (a .plan .now) (a .rules .now) (n .result) (l .result)
+    (readingAnswer (q .result)) (n .ensures .0) (l .ensures .0) (q .ensures ∙ cleared-answer (a .loaded) x v b (s .pre .1 .1)) in
     (subst (λ (t : List ℕ). Put (a .out .now) (a .end) t (p .last .0) (p .result)) e (p .ensures .0), p .ensures .1)
 
 pub put-answer-spec : {M : Type 1} → statement M

@@ -7,10 +7,9 @@ use mathlib.Core.Bool.{true, false}
 use mathlib.Core.List.{List, [], _∷_}
 use lib.Dec.{eqb}
 use lib.ListN.{set}
-use Rattle.session.specs.Tests.{lentOf}
 use Rattle.whatif.specs.Question.{questionLength}
 use Rattle.whatif.specs.Text.{Put}
-use Rattle.whatif.specs.Stream.{questionLine, Advances}
+use Rattle.whatif.specs.Stream.{keptLine, questionLine, Advances}
 use Rattle.whatif.proofs.StreamLaws.{byte-kept-open, byte-answered}
 use Rattle.whatif.proofs.chunk.take_byte.Statement.{statement}
 use Rattle.whatif.proofs.chunk.take_byte.Tie as tie
@@ -36,12 +35,12 @@ returns : tie.Need-returns
 returns c =
     let a = c .before .before .before .before .before .before .before .before .before .before .before .before .before .args in
     let k = c .before .before .before .before .before .keep in
-    let x = lentOf (a .plan .now) (a .rules .now) (a .nums .now) (a .bytes .now) in
     let e : eqb (a .have + 1) (questionLength (set (a .asked .now) (a .have) (a .b))) ≡ false =
-    ap (λ (l : List ℕ). eqb (a .have + 1) (questionLength l)) (sym (k .ensures)) ∙ ne-eqb _ _ (λ z. c .if1 .taken (z ∙ sym (c .before .question-length .ensures))) in (
-      subst (λ (l : List ℕ). Advances (questionLine (a .loaded) x) (a .b ∷ []) (a .asked .now) (a .have) l (a .have + 1) (a .out .now) (a .end)
-          (a .out .now) (a .end)) (sym (k .ensures))
-          (byte-kept-open (questionLine (a .loaded) x) (a .asked .now) (a .have) (a .b) (a .out .now) (a .end) e),
+    ap (λ (l : List ℕ). eqb (a .have + 1) (questionLength l)) (sym (k .ensures))
+    ∙ ne-eqb _ _ (λ z. c .if1 .taken (z ∙ sym (c .before .question-length .ensures))) in
+    let f = questionLine (a .plan .now) (a .rules .now) in (
+      subst (λ (l : List ℕ). Advances f (a .b ∷ []) (a .asked .now) (a .have) l (a .have + 1) (a .out .now) (a .end) (a .out .now) (a .end))
+          (sym (k .ensures)) (byte-kept-open f (a .asked .now) (a .have) (a .b) (a .out .now) (a .end) e),
       (omega arith, omega arith),
     )
 
@@ -56,17 +55,20 @@ same-length-3 c = search needs
 
 returns-2 : tie.Need-returns-2
 returns-2 c =
-    let a = c .before .before .before .before .before .before .before .before .before .before .before .before .before .before .before .before .before .before .args in
+    let s = c .before .before .before .before .before .before .before .before .before .before .before .before .before .before .before .before .before .before in
+    let a = s .args in
     let k = c .before .before .before .before .before .before .before .before .before .before .keep in
-    let x = lentOf (a .plan .now) (a .rules .now) (a .nums .now) (a .bytes .now) in
     let p = c .before .before .put-answer in
     let e : eqb (a .have + 1) (questionLength (set (a .asked .now) (a .have) (a .b))) ≡ true =
-    ap (λ (l : List ℕ). eqb (a .have + 1) (questionLength l)) (sym (k .ensures)) ∙ eq-eqb _ _ (c .before .before .before .before .before .if1 .left ∙ c .before .before .before .before .before .before .question-length .ensures) in (
-      subst (λ (l : List ℕ). Advances (questionLine (a .loaded) x) (a .b ∷ []) (a .asked .now) (a .have) l 0 (a .out .now) (a .end)
-          (p .last .1 .1 .1 .1 .1 .1 .0) (p .result)) (sym (k .ensures))
-          (byte-answered (a .loaded) x (a .asked .now) (a .have) (a .b) (a .out .now) (a .end) _ _ e (c .before .before .before .before .before .before .before .before .before .before .before .before .before .before .before .before .before .before .pre .0 .1 .room)
-          (subst (λ (l : List ℕ). Put (a .out .now) (a .end) (questionLine (a .loaded) x l) (p .last .1 .1 .1 .1 .1 .1 .0) (p .result)) (k .ensures)
-          (p .ensures .0))),
+    ap (λ (l : List ℕ). eqb (a .have + 1) (questionLength l)) (sym (k .ensures))
+    ∙ eq-eqb _ _ (c .before .before .before .before .before .if1 .left ∙ c .before .before .before .before .before .before .question-length .ensures) in
+    let f = questionLine (a .plan .now) (a .rules .now) in
+    let t =
+    subst (λ (l : List ℕ). Put (a .out .now) (a .end) (keptLine (a .plan .now) (a .rules .now) l) (p .last .1 .1 .1 .1 .1 .1 .0) (p .result))
+    (k .ensures) (p .ensures .0) in (
+      subst (λ (l : List ℕ). Advances f (a .b ∷ []) (a .asked .now) (a .have) l 0 (a .out .now) (a .end) (p .last .1 .1 .1 .1 .1 .1 .0)
+          (p .result)) (sym (k .ensures))
+          (byte-answered (a .plan .now) (a .rules .now) (a .asked .now) (a .have) (a .b) (a .out .now) (a .end) _ _ e (s .pre .0 .1 .room) t),
       (p .ensures .1, omega arith),
     )
 

@@ -6,7 +6,6 @@ use mathlib.Core.List.{List, [], _∷_, _++_}
 use native.Mathlib.Numerals.{add-one}
 use lib.ListN.{length, getD, take}
 use lib.Seq.{take-suc, take-all}
-use Rattle.session.specs.Tests.{lentOf}
 use Rattle.whatif.specs.Stream.{questionLine, openBy, Advances}
 use Rattle.whatif.proofs.StreamLaws.{advances-none, advances-then}
 use Rattle.whatif.proofs.chunk.take_in.Statement.{statement}
@@ -18,7 +17,7 @@ use Rattle.whatif.proofs.chunk.take_byte.Reads as take-byte-reads
 abbrev Inv-loop : tie.InvT-loop
 Inv-loop loaded plan rules nums bytes chunk asked₀ have out₀ part₀ end₀ i₀ asked out part end i =
     (i ≤ length chunk) × (end ≤ 37 * i) × (part ≤ have + i)
-    × Advances (questionLine loaded (lentOf plan rules nums bytes)) (take i chunk) asked₀ have asked part out₀ 0 out end
+    × Advances (questionLine plan rules) (take i chunk) asked₀ have asked part out₀ 0 out end
 
 abbrev μ-loop : tie.MeasureT-loop
 μ-loop loaded plan rules nums bytes chunk asked₀ have out₀ part₀ end₀ i₀ asked out part end i = length chunk - i
@@ -32,10 +31,12 @@ shared-slice-read-take-byte c = search needs
 take-byte-requires : tie.Need-take-byte-requires Inv-loop μ-loop
 take-byte-requires c κs =
     let l = c .before .before .before .before .loop in
-    let a = c .before .before .before .before .before .before .before .before .before .before .before .before .args in
-    let k = c .before .before .before .before .before .before .before .before .before .before .before .before .pre .0 in
-    let t = l .inv .3 .text (k .0) (k .1) in
-    ((openBy (k .0) (take (l .i) (a .chunk .now)), l .inv .3 .held (k .0) (k .1)), (omega (arith, t .as-long), omega arith))
+    let s = c .before .before .before .before .before .before .before .before .before .before .before .before in
+    let k = s .pre .0 in
+    let t = l .inv .3 .text (k .0) (k .1) in (
+      (openBy (k .0) (take (l .i) (s .args .chunk .now)), l .inv .3 .held (k .0) (k .1)),
+      (omega (arith, t .as-long), (omega arith, s .pre .1 .1 .1)),
+    )
 
 add-i : tie.Need-add-i Inv-loop μ-loop
 add-i c = search needs
@@ -48,7 +49,7 @@ loop-again c =
     let l = c .before .before .before .before .before .before .before .before .before .loop in
     let a = c .before .before .before .before .before .before .before .before .before .before .before .before .before .before .before .before .before .args in
     let b = c .before .before .before .before .take-byte in
-    let f = questionLine (a .loaded) (lentOf (a .plan .now) (a .rules .now) (a .nums .now) (a .bytes .now)) in
+    let f = questionLine (a .plan .now) (a .rules .now) in
     let e : take (l .i) (a .chunk .now) ++ (getD (a .chunk .now) (l .i) 0 ∷ []) ≡ take (l .i + 1) (a .chunk .now) =
     sym (ap (λ (n : ℕ). take n (a .chunk .now)) (add-one (l .i)) ∙ take-suc (a .chunk .now) (l .i) 0 (omega arith)) in (
       omega arith,
@@ -74,7 +75,7 @@ returns : tie.Need-returns Inv-loop μ-loop
 returns c =
     let l = c .before .loop in
     let a = c .before .before .before .before .before .before .before .before .before .args in
-    let f = questionLine (a .loaded) (lentOf (a .plan .now) (a .rules .now) (a .nums .now) (a .bytes .now)) in (
+    let f = questionLine (a .plan .now) (a .rules .now) in (
       subst (λ (t : List ℕ). Advances f t (a .asked .now) (a .have) (l .asked) (l .part) (a .out .now) 0 (l .out) (l .end))
           (take-all (l .i) (a .chunk .now) (omega arith)) (l .inv .3),
       (omega arith, omega arith),
