@@ -3,18 +3,17 @@
 --     started-on, start-refused                   a Start
 -- Assumes nothing.
 use Prim.Native.Nat.{ℕ, suc}
-use mathlib.Core.Path.{_≡_, refl, ap, sym, _∙_}
+use mathlib.Core.Path.{_≡_, refl, ap, _∙_}
 use mathlib.Core.List.{List}
 use Rattle.book.specs.Lends.{Lent}
-use Rattle.book.specs.Calls.{Answer, start, advance, read}
+use Rattle.book.specs.Calls.{start, advance, read}
 use Rattle.session.specs.declared.state.Session.{Session}
 use Rattle.session.specs.declared.answers.Starting.{Starting}
 use Rattle.session.specs.declared.answers.Starting.the-variants.{Parts, Refused as NotStarted}
 use Rattle.session.specs.declared.answers.Advancing.{Advancing}
 use Rattle.session.specs.declared.answers.Advancing.the-variants.{More, Finished, Refused as NotAdvanced}
-use Rattle.session.specs.declared.answers.Reading.{Reading}
 use Rattle.session.specs.declared.answers.Reading.the-variants.{Refused as NotRead}
-use Rattle.session.specs.Promises.{CallDone, startingAnswer, advancingAnswer, readingAnswer, answerOn, recordOn}
+use Rattle.session.specs.Promises.{CallDone, startingAnswer, advancingAnswer, readingAnswer, answerOn}
 use Rattle.whatif.specs.Asked.{afterAdvance, finishedIn, mostParts, afterStart, askedOn}
 
 module _ (f : ℕ) (s s′ : Session) (x : Lent) (told : Advancing) (done : CallDone s (advance x) (advancingAnswer told) s′) where

@@ -1,6 +1,7 @@
 pub mod AskLaws
-pub mod ClearedTheorem
+pub mod ClearedLaws
 pub mod InputLaws
 pub mod StreamLaws
-pub mod TripleLaws
 pub mod TextLaws
+pub mod Theorems
+pub mod TripleLaws

@@ -4,7 +4,7 @@
 -- askedOn s x vs bs == what it tells of the changes vs to bs: Start's refusal, or the above
 -- mostParts == no question has more parts, so as many advances are enough
 --
--- By the promises of the session's calls (crate session, Promises). What they come to on tables as built is proofs/Cleared.
+-- By the promises of the session's calls (crate session, Promises). What they come to on tables as built is answerTo (Cleared).
 -- Assumes nothing.
 use Prim.Native.Nat.{ℕ, zero, suc}
 use mathlib.Core.List.{List}

@@ -4,7 +4,7 @@
 --   state and the yes or no of a run on the changed plan, the parts, and as links the moves of their climbs
 -- Cleared s x == the session s is the one that an accepted Load left, and x is what was lent then, with the tables that it wrote
 --
--- That the program's calls tell this answer is proofs/ClearedTheorem.
+-- That the program's calls tell this answer is proofs/Theorems.
 -- Assumes nothing.
 use Prim.Native.Nat.{ℕ, zero, suc}
 use mathlib.Core.Path.{_≡_}

@@ -1,9 +1,7 @@
 // The three lengths at the start of the input, the space for what they announce, and a read.
 use libc::STDIN_FILENO;
 ghost use mathlib.Core.Path.{_≡_};
-ghost use mathlib.Core.Bool.{_||_};
 ghost use Prim.Native.Nat.{_≤_, _<_};
-ghost use lib.Dec.{ltb};
 ghost use lib.ListN.{length, getD};
 ghost use Rattle.formats.specs.Bytes.{le32};
 ghost use Rattle.io.specs.Counts.{Counts};

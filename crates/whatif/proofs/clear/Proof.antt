@@ -1,6 +1,5 @@
-use native.Mathlib.Omega.{arith}
 use borrow.Author.Needs.{needs}
-use Rattle.whatif.proofs.ClearedTheorem.{load-cleared}
+use Rattle.whatif.proofs.ClearedLaws.{load-cleared}
 use Rattle.whatif.proofs.clear.Statement.{statement}
 use Rattle.whatif.proofs.clear.Tie as tie
 use Rattle.whatif.proofs.clear.Reads as reads

@@ -42,7 +42,9 @@ loop-less : tie.Need-loop-less Inv-loop μ-loop
 loop-less c = omega (arith, c .before .before .before .before .before .before .some-questions .ensures .1 .0)
 
 loop-again : tie.Need-loop-again Inv-loop μ-loop
-loop-again c = (omega (arith, c .before .before .before .before .before .before .some-questions .ensures .1 .0, c .before .before .before .before .before .before .some-questions .ensures .1 .1), c .before .before .before .before .before .before .some-questions .ensures .0)
+loop-again c =
+    let q = c .before .before .before .before .before .before .some-questions .ensures in
+    (omega (arith, q .1 .0, q .1 .1), q .0)
 
 returns-3 : tie.Need-returns-3 Inv-loop μ-loop
 returns-3 c = search needs

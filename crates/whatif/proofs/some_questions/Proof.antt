@@ -37,25 +37,35 @@ slice-aggregate-take-in-2 c = search needs
 
 take-in-requires : tie.Need-take-in-requires
 take-in-requires c κs =
-    let r = c .before .before .before .before .before .read-some .ensures in
-    let s = c .before .before .before .before .before .before .before .before .before .before .before .before .before in (
+    let l = c .before .before .before in
+    let r = l .before .before in
+    let h = r .before .before in
+    let s = h .before .before .before .before .before .before in
+    let e = r .read-some .ensures in (
       s .pre .0,
       (
-        omega (arith, r .0, r .1 .1 .1),
-        (
-          omega (arith, r .1 .0, r .1 .1 .1, c .before .before .before .before .before .before .before .chunk-space .ensures, c .before .before .before .large-buffer .ensures),
-          s .pre .1 .1,
-        ),
+        omega (arith, e .0, e .1 .1 .1),
+        (omega (arith, e .1 .0, e .1 .1 .1, h .chunk-space .ensures, l .large-buffer .ensures), s .pre .1 .1),
       ),
     )
 
 -- the text ends inside the buffer
 fits : (c : tie.After-take-in) → c .take-in .result .end ≤ length (c .take-in .last .1 .1 .1 .1 .1 .1 .1 .1 .0)
 fits c =
-    let k = c .before .before .before .before .before .before .before .before .before .before .before .before .before .before .pre .0 in
     let t = c .take-in .ensures in
-    let r = c .before .before .before .before .before .before .read-some .ensures in
-    omega (arith, t .1 .0, t .0 .text (k .0) (k .1) .as-long, r .1 .0, r .1 .1 .1, c .before .before .before .before .before .before .before .before .chunk-space .ensures, c .before .before .before .before .large-buffer .ensures)
+    let l = c .before .before .before .before in
+    let r = l .before .before in
+    let h = r .before .before in
+    let k = h .before .before .before .before .before .before .pre .0 in
+    omega (
+      arith,
+      t .1 .0,
+      t .0 .text (k .0) (k .1) .as-long,
+      r .read-some .ensures .1 .0,
+      r .read-some .ensures .1 .1 .1,
+      h .chunk-space .ensures,
+      l .large-buffer .ensures,
+    )
 
 array-share-prefix-out : tie.Need-array-share-prefix-out
 array-share-prefix-out c = fits (c .before .before .before)
@@ -71,10 +81,12 @@ same-length c = search needs
 
 returns : tie.Need-returns
 returns c =
-    let k = c .before .before .before .before .before .before .before .before .before .before .before .before .before .before .before .before .before .before .before .pre .0 in
-    let t = c .before .before .before .before .before .take-in .ensures in
-    let r = c .before .before .before .before .before .before .before .before .before .before .before .read-some .ensures in
-    ((_, t .0 .held (k .0) (k .1)), (r .0, omega (arith, t .1 .1, r .1 .1 .1)))
+    let t = c .before .before .before .before .before in
+    let r = t .before .before .before .before .before .before in
+    let k = r .before .before .before .before .before .before .before .before .pre .0 in
+    let e = r .read-some .ensures in
+    let b = t .take-in .ensures in
+    ((_, b .0 .held (k .0) (k .1)), (e .0, omega (arith, b .1 .1, e .1 .1 .1)))
 
 pub some-questions-spec : {M : Type 1} → statement M
 some-questions-spec =

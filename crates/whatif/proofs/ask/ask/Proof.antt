@@ -1,4 +1,3 @@
-use native.Mathlib.Omega.{arith}
 use borrow.Author.Needs.{needs}
 use mathlib.Core.Path.{sym, _∙_}
 use Rattle.session.specs.Tests.{lentOf}
@@ -21,20 +20,26 @@ finish-requires c κs = search needs
 
 returns : tie.Need-returns
 returns c =
-    let a = c .before .before .before .before .before .before .before .before .before .before .before .args in
+    let e = c .before .before in
+    let d = e .before .before in
+    let a = d .before .before .before .before .before .before .before .args in
     let x = lentOf (a .plan .now) (a .rules .now) (a .nums .now) (a .bytes .now) in
-    let d = c .before .before .before .before .start in
-    c .finish .ensures ∙ sym (started-on (a .loaded) (d .result .rec) x (a .nodes .now) (a .labels .now) (d .result .told) (d .ensures) _ (c .before .before .enum-told .given .1))
+    let o = d .start in
+    c .finish .ensures
+    ∙ sym (started-on (a .loaded) (o .result .rec) x (a .nodes .now) (a .labels .now) (o .result .told) (o .ensures) _
+    (e .enum-told .given .1))
 
 enum-known-told : tie.Need-enum-known-told
 enum-known-told c = search needs
 
 returns-2 : tie.Need-returns-2
 returns-2 c =
-    let a = c .before .before .before .before .before .before .before .before .before .before .args in
+    let d = c .before .before .before in
+    let a = d .before .before .before .before .before .before .before .args in
     let x = lentOf (a .plan .now) (a .rules .now) (a .nums .now) (a .bytes .now) in
-    let d = c .before .before .before .start in
-    sym (start-refused (a .loaded) (d .result .rec) x (a .nodes .now) (a .labels .now) (d .result .told) (d .ensures) _ (c .before .told .given .1))
+    let o = d .start in
+    sym (start-refused (a .loaded) (o .result .rec) x (a .nodes .now) (a .labels .now) (o .result .told) (o .ensures) _
+    (c .before .told .given .1))
 
 pub ask-spec : {M : Type 1} → statement M
 ask-spec =

@@ -7,7 +7,7 @@ use mathlib.Core.List.{List}
 use Rattle.session.specs.Promises.{readingAnswer}
 use Rattle.session.specs.Tests.{lentOf}
 use Rattle.whatif.specs.Text.{Put}
-use Rattle.whatif.proofs.ClearedTheorem.{cleared-answer}
+use Rattle.whatif.proofs.ClearedLaws.{cleared-answer}
 use Rattle.whatif.proofs.StreamLaws.{kept-line}
 use lib.Seq.{length-take-le}
 use Rattle.whatif.proofs.chunk.put_answer.Statement.{statement}

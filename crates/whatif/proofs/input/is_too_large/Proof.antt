@@ -1,4 +1,3 @@
-use native.Mathlib.Omega.{arith}
 use borrow.Author.Tests.{lt-ltb, le-ltb}
 use Rattle.whatif.proofs.input.is_too_large.Statement.{statement}
 use Rattle.whatif.proofs.input.is_too_large.Tie as tie

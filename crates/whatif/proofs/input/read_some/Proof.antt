@@ -1,4 +1,3 @@
-use native.Mathlib.Omega.{arith}
 use borrow.Author.Needs.{needs}
 use mathlib.Core.Path.{sym}
 use mathlib.Core.List.{_++_}
@@ -39,10 +38,12 @@ same-length c = search needs
 
 returns : tie.Need-returns
 returns c =
-    let a = c .before .before .before .before .before .before .before .before .args in
-    let l = c .before .before .before .before .before .before .least in
-    counted (a .most) (l .result) (c .count .result) (c .before .before .before .before .read .last .1 .0 ++ drop (l .result) (a .chunk .now)) (a .chunk .now)
-    (l .ensures .0) (l .ensures .1) (c .count .ensures .0 .0)
+    let r = c .before .before .before .before in
+    let l = r .before .before in
+    let a = l .before .before .args in
+    let n = l .least .result in
+    counted (a .most) n (c .count .result) (r .read .last .1 .0 ++ drop n (a .chunk .now)) (a .chunk .now) (l .least .ensures .0)
+    (l .least .ensures .1) (c .count .ensures .0 .0)
 
 pub read-some-spec : {M : Type 1} → statement M
 read-some-spec =

@@ -1,4 +1,3 @@
-use native.Mathlib.Omega.{arith}
 use borrow.Author.Needs.{needs}
 use mathlib.Core.Path.{sym}
 use lib.Seq.{length-take-le}
@@ -26,7 +25,9 @@ same-length : tie.Need-same-length
 same-length c = search needs
 
 returns : tie.Need-returns
-returns c = counted-front (c .before .before .read-full .result) (c .before .before .read-full .last .1 .0) _ (c .before .before .read-full .ensures .0)
+returns c =
+    let r = c .before .before .read-full in
+    counted-front (r .result) (r .last .1 .0) _ (r .ensures .0)
 
 pub read-whole-spec : {M : Type 1} → statement M
 read-whole-spec =

@@ -1,4 +1,3 @@
-use native.Mathlib.Omega.{arith}
 use borrow.Author.Needs.{needs}
 use Prim.Native.Nat.{ℕ}
 use mathlib.Core.Path.{subst, sym, ap}
@@ -26,9 +25,13 @@ same-length c = search needs
 returns : tie.Need-returns
 unfolding lineOf readingAnswer
 returns c =
-    let a = c .before .before .before .before .before .before .before .before .args in
-    let p = c .before .before .put-told in
-    (subst (λ (t : List ℕ). Put (a .out .now) (a .at) t (p .last .0) (p .result)) (ap (λ (a : Reading). lineOf (readingAnswer a)) (sym (c .before .before .before .before .before .answer .given .1))) (p .ensures .0), p .ensures .1)
+    let p = c .before .before in
+    let m = p .before .before .before in
+    let a = m .before .before .before .args in (
+      subst (λ (t : List ℕ). Put (a .out .now) (a .at) t (p .put-told .last .0) (p .put-told .result))
+          (ap (λ (r : Reading). lineOf (readingAnswer r)) (sym (m .answer .given .1))) (p .put-told .ensures .0),
+      p .put-told .ensures .1,
+    )
 
 enum-known-answer-2 : tie.Need-enum-known-answer-2
 enum-known-answer-2 c = search needs
@@ -42,9 +45,13 @@ same-length-2 c = search needs
 returns-2 : tie.Need-returns-2
 unfolding lineOf readingAnswer
 returns-2 c =
-    let a = c .before .before .before .before .before .before .before .before .args in
-    let p = c .before .before .put-refused in
-    (subst (λ (t : List ℕ). Put (a .out .now) (a .at) t (p .last .0) (p .result)) (ap (λ (a : Reading). lineOf (readingAnswer a)) (sym (c .before .before .before .before .before .answer2 .given .1))) (p .ensures .0), p .ensures .1)
+    let p = c .before .before in
+    let m = p .before .before .before in
+    let a = m .before .before .before .args in (
+      subst (λ (t : List ℕ). Put (a .out .now) (a .at) t (p .put-refused .last .0) (p .put-refused .result))
+          (ap (λ (r : Reading). lineOf (readingAnswer r)) (sym (m .answer2 .given .1))) (p .put-refused .ensures .0),
+      p .put-refused .ensures .1,
+    )
 
 pub put-line-spec : {M : Type 1} → statement M
 put-line-spec =

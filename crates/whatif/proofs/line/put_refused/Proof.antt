@@ -15,7 +15,9 @@ put-word-requires : tie.Need-put-word-requires
 put-word-requires c κs = search needs
 
 put-number-requires : tie.Need-put-number-requires
-put-number-requires c κs = omega (arith, c .before .before .before .put-word .ensures .as-long, c .before .before .before .put-word .ensures .end)
+put-number-requires c κs =
+    let w = c .before .before .before .put-word .ensures in
+    omega (arith, w .as-long, w .end)
 
 slice-aggregate-put-word-2 : tie.Need-slice-aggregate-put-word-2
 slice-aggregate-put-word-2 c = search needs

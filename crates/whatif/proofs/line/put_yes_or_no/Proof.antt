@@ -1,4 +1,3 @@
-use native.Mathlib.Omega.{arith}
 use borrow.Author.Needs.{needs}
 use mathlib.Core.Path.{subst, sym}
 use mathlib.Core.Bool.{Bool}
@@ -21,9 +20,11 @@ same-length c = search needs
 
 returns : tie.Need-returns
 returns c =
-    let a = c .before .before .before .before .before .before .before .args in
-    let p = c .before .before .put-word in
-    subst (λ (y : Bool). Put (a .out .now) (a .at) (yesOrNo y) (p .last .0) (p .result)) (sym (c .before .before .before .before .before .if1 .taken)) (p .ensures)
+    let p = c .before .before in
+    let i = p .before .before .before in
+    let a = i .before .before .args in
+    subst (λ (y : Bool). Put (a .out .now) (a .at) (yesOrNo y) (p .put-word .last .0) (p .put-word .result))
+    (sym (i .if1 .taken)) (p .put-word .ensures)
 
 slice-aggregate-put-word-2 : tie.Need-slice-aggregate-put-word-2
 slice-aggregate-put-word-2 c = search needs
@@ -36,9 +37,11 @@ same-length-2 c = search needs
 
 returns-2 : tie.Need-returns-2
 returns-2 c =
-    let a = c .before .before .before .before .before .before .before .args in
-    let p = c .before .before .put-word2 in
-    subst (λ (y : Bool). Put (a .out .now) (a .at) (yesOrNo y) (p .last .0) (p .result)) (sym (c .before .before .before .before .before .if1 .left)) (p .ensures)
+    let p = c .before .before in
+    let i = p .before .before .before in
+    let a = i .before .before .args in
+    subst (λ (y : Bool). Put (a .out .now) (a .at) (yesOrNo y) (p .put-word2 .last .0) (p .put-word2 .result))
+    (sym (i .if1 .left)) (p .put-word2 .ensures)
 
 pub put-yes-or-no-spec : {M : Type 1} → statement M
 put-yes-or-no-spec =

@@ -59,7 +59,8 @@ loop-again c =
 returns : tie.Need-returns Inv-loop μ-loop
 returns c =
     let l = c .before .loop in
-    (taken-end labelsIn labelOf labels-by-three (c .before .before .args .list .now) (l .labels) (l .i) (omega arith) (l .inv .0) (l .inv .1 .1), l .inv .1 .0)
+    let a = c .before .before .args in
+    (taken-end labelsIn labelOf labels-by-three (a .list .now) (l .labels) (l .i) (omega arith) (l .inv .0) (l .inv .1 .1), l .inv .1 .0)
 
 pub labels-in-spec : {M : Type 1} → statement M
 labels-in-spec =

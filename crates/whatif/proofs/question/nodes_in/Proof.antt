@@ -63,7 +63,8 @@ loop-again c =
 returns : tie.Need-returns Inv-loop μ-loop
 returns c =
     let l = c .before .loop in
-    (taken-end nodesIn nodeOf nodes-by-three (c .before .before .before .args .list .now) (l .nodes) (l .i) (omega arith) (l .inv .0) (l .inv .1 .1), l .inv .1 .0)
+    let a = c .before .before .before .args in
+    (taken-end nodesIn nodeOf nodes-by-three (a .list .now) (l .nodes) (l .i) (omega arith) (l .inv .0) (l .inv .1 .1), l .inv .1 .0)
 
 pub nodes-in-spec : {M : Type 1} → statement M
 nodes-in-spec =

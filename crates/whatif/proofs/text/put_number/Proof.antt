@@ -23,8 +23,10 @@ slice-aggregate-put-word c = search needs
 
 put-word-requires : tie.Need-put-word-requires
 put-word-requires c κs =
-    let d = c .before .before .decimal in
-    omega (arith, d .ensures .0 .1, ten-digits (c .before .before .before .before .before .args .n) (d .result) (d .ensures .1 .0) (omega arith))
+    let d = c .before .before in
+    let a = d .before .before .before .args in
+    let k = ten-digits (a .n) (d .decimal .result) (d .decimal .ensures .1 .0) (omega arith) in
+    omega (arith, d .decimal .ensures .0 .1, k)
 
 same-length : tie.Need-same-length
 same-length c = search needs

@@ -28,8 +28,14 @@ same-length c = search needs
 
 returns : tie.Need-returns
 returns c =
-    let a = c .before .before .before .before .before .before .args in
-    record { text = word-put (a .out .now) (a .word .now) (c .before .before .copy .last .1 .0) _ _ (a .at) (omega arith) (c .before .before .copy .ensures .1); end = refl; as-long = search needs }
+    let p = c .before .before in
+    let a = p .before .before .before .before .args in
+    record {
+      text =
+          word-put (a .out .now) (a .word .now) (p .copy .last .1 .0) _ _ (a .at) (omega arith) (p .copy .ensures .1);
+      end = refl;
+      as-long = search needs;
+    }
 
 pub put-word-spec : {M : Type 1} → statement M
 put-word-spec =

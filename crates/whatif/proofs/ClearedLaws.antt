@@ -10,7 +10,7 @@ use mathlib.Core.List.{List, [], _∷_}
 use native.Mathlib.Omega.{arith}
 use lib.Dec.{eqb}
 use lib.ListN.{length}
-use borrow.Author.Tests.{eqb-true, eqb-false, leb-true}
+use borrow.Author.Tests.{eqb-false}
 use Rattle.formats.specs.Checks.{check, firstNo, listChecks}
 use Rattle.formats.proofs.CheckLaws.{firstNo-yes, and-both, and-left, true-false}
 use Rattle.formats.proofs.ListLaws.{sameList-is}
@@ -19,10 +19,10 @@ use Rattle.formats.specs.Built.{builtLinks, builtStates}
 use Rattle.tables.specs.Answers.{written}
 use Rattle.ready.specs.Parts.{Part}
 use Rattle.book.specs.Lends.{Lent, Sizes, sizesIn, fits, usedNums, usedBytes, sameLinks, sameLent, linksBuilt, bytesBuilt, sound}
-use Rattle.book.specs.Calls.{Call, load, start, advance, read, Answer, refused, accepted, parts, more, finished, Phase, isRunning, isAnswered}
+use Rattle.book.specs.Calls.{Call, load, start, advance, read, Answer, refused, accepted, more, finished, Phase, isRunning, isAnswered}
 use Rattle.book.specs.Calls.{mayStart}
 use Rattle.book.specs.Refusals.{refusal}
-use Rattle.book.specs.Book.{clean, Question, State, Book, settled, phase, newBook, inState, step, decided, proceed, reading}
+use Rattle.book.specs.Book.{Question, State, Book, settled, phase, newBook, inState, step, decided, proceed, reading}
 use Rattle.book.specs.Book.{partCount, freshAnswer, longer, advanced, goesOn, firmly, advancing}
 use Rattle.book.specs.Demand3.{Conforms, after, Agrees}
 use Rattle.book.specs.Model.{Record, idle, freshRecord, act}
