@@ -117,7 +117,9 @@ module _ (z : Sizes) (x : Lent) (long : fits z x ≡ true) where
       → c < partCount q → partCount q ≤ c + f → finishedIn f s x ≡ freshAnswer q
   unfolding goesOn inState finishedIn afterAdvance
   finish-clean zero s q c tr e F l m = absurd (omega arith)
-  finish-clean (suc f) s q c tr e F l m = go (λ G. finish-clean f (recordOn s (advance x)) q (suc c) (longer z (at q c tr) x) e G) (eqb (suc c) (partCount q)) refl
+  finish-clean (suc f) s q c tr e F l m =
+      go (λ G. finish-clean f (recordOn s (advance x)) q (suc c) (longer z (at q c tr) x) e G)
+      (eqb (suc c) (partCount q)) refl
     where
       ps : List Part
       ps = longer z (at q c tr) x

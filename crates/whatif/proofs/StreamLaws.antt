@@ -207,7 +207,8 @@ byte-answered p r kept have b out end out′ end′ e l t = record {
       rw (w, append-nil, ← k) t;
 }
 
-pub advances-none : (f : List ℕ → List ℕ) (kept : List ℕ) (have : ℕ) (out : List ℕ) (end : ℕ) → Advances f [] kept have kept have out end out end
+pub advances-none : (f : List ℕ → List ℕ) (kept : List ℕ) (have : ℕ) (out : List ℕ) (end : ℕ)
+    → Advances f [] kept have kept have out end out end
 unfolding openBy linesBy
 advances-none f kept have out end = record { held = λ q h. h; text = λ q h. put-nothing out end }
 

@@ -58,6 +58,6 @@ linesA =
     ++ (refusedText 51 ++ (refusedText 52 ++ refusedText 53)))))))
 
 sample-lines : linesBy (questionLine planA tableA) [] questionsA ≡ linesA
-unfolding computing planA tableA questionsA linesA linesBy lineAfter openAfter questionLine nodesIn labelsIn answerBy lineOf decimal placesIn
-    toldText refusedText
+unfolding computing planA tableA questionsA linesA linesBy lineAfter openAfter questionLine nodesIn labelsIn answerBy lineOf decimal
+    placesIn toldText refusedText
 sample-lines = refl

@@ -1,12 +1,12 @@
 -- The questions as their bytes come, in chunks of any length.
 --
 -- questionLine p r q == the line of a question q on the plan p and the rules r
--- keptList b, keptLine p r b == the list of changes that a buffer holds, or the first 65 of them: as many as it takes to refuse it; its line
+-- keptList b, keptLine p r b == the list of changes that a buffer holds, or the first 65 of them, as many as it takes to refuse it; and its
+--   line
 -- isWhole q == whether q is all of a question
 -- openAfter q b, openBy q c == what is there of the question that is not yet whole: q, and then one more byte b or a chunk c
 -- lineAfter f q b, linesBy f q c == the lines that the byte or the chunk completes, f the line of a question
 -- Held q kept have == the buffer holds the first 197 bytes of q, which has `have` bytes; Keeps kept have == it does so of some q
---
 -- Advances f c .. == what taking the chunk c comes to: the buffer holds the question that is not yet whole then, and the lines are appended
 --
 -- "A question cut short by the end of input or by the questions' length is dropped": no line comes before its last byte.

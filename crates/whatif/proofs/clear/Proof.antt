@@ -40,13 +40,16 @@ slice-aggregate-put-questions-2 c = search needs
 
 put-questions-requires : tie.Need-put-questions-requires
 put-questions-requires c κs =
-    let s = c .before .before .before .before .before .before .before .before .before .before .before .before .before .before .before in
-    let a = s .args in
-    let d = c .before .before .before .before .before .before .before .load in
-    let f = c .before .before .before .before .before .before .before .before .before .before .fresh in (
+    let m = c .before .before .before in
+    let d = m .before .before .before .before in
+    let f = d .before .before .before in
+    let b = f .before in
+    let n = b .before in
+    let s = n .before .before .before in
+    let a = s .args in (
       s .pre,
-      load-cleared (f .result) (d .result .rec) (a .plan .now) (a .rules .now) (c .before .before .before .before .before .before .before .before .before .before .before .before .nums-space .result)
-          (c .before .before .before .before .before .before .before .before .before .before .before .bytes-space .result) _ _ (d .result .told) (f .ensures) (c .before .before .before .enum-told .given .1) (d .ensures),
+      load-cleared (f .fresh .result) (d .load .result .rec) (a .plan .now) (a .rules .now) (n .nums-space .result)
+          (b .bytes-space .result) _ _ (d .load .result .told) (f .fresh .ensures) (m .enum-told .given .1) (d .load .ensures),
     )
 
 enum-known-told : tie.Need-enum-known-told

@@ -27,7 +27,9 @@ slice-aggregate-some-questions : tie.Need-slice-aggregate-some-questions Inv-loo
 slice-aggregate-some-questions c = search needs
 
 some-questions-requires : tie.Need-some-questions-requires Inv-loop μ-loop
-some-questions-requires c κs = (c .before .before .loop .inv .1, (omega arith, c .before .before .before .before .before .before .before .before .pre .1))
+some-questions-requires c κs =
+    let l = c .before .before in
+    (l .loop .inv .1, (omega arith, l .before .before .before .before .before .before .pre .1))
 
 returns : tie.Need-returns Inv-loop μ-loop
 returns c = search needs

@@ -60,7 +60,8 @@ returns c =
     let e : suc (254 - (l .turns + 1)) ≡ 254 - l .turns = omega arith in
     let f = 254 - (l .turns + 1) in
     let i = ap (λ (n : ℕ). finishedIn n (l .rec) x) e ∙ l .inv .1 in
-    c .read .ensures ∙ (sym (finished-turn f (l .rec) (d .result .rec) x (d .result .told) (d .ensures) (c .before .enum-told2 .given .1)) ∙ i)
+    let t = finished-turn f (l .rec) (d .result .rec) x (d .result .told) (d .ensures) (c .before .enum-told2 .given .1) in
+    c .read .ensures ∙ (sym t ∙ i)
 
 enum-known-told : tie.Need-enum-known-told Inv-loop μ-loop
 enum-known-told c = search needs

@@ -82,13 +82,15 @@ same-length c = search needs
 
 returns : tie.Need-returns
 returns c =
-    let s = c .before .before .before .before .before .before .before .before .before .before .before .before .before .before .before .before .before .before in
-    let a = s .args in
-    let k = c .before .before .before .before .before .before .before .before .before .before .before .kept-changes in
-    let n = c .before .before .before .before .before .before .before .before .before .nodes-in in
-    let l = c .before .before .before .before .before .before .before .labels-in in
-    let q = c .before .before .before .before .ask in
     let p = c .before .before .put-line in
+    let t = c .before .before .before .before in
+    let q = t .ask in
+    let l = t .before .before .before .labels-in in
+    let n = t .before .before .before .before .before .nodes-in in
+    let m = t .before .before .before .before .before .before .before in
+    let k = m .kept-changes in
+    let s = m .before .before .before .before .before .before .before in
+    let a = s .args in
     let x = lentOf (a .plan .now) (a .rules .now) (a .nums .now) (a .bytes .now) in
     let v = take (k .result) (n .result) in
     let b = take (k .result) (l .result) in

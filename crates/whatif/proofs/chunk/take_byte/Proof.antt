@@ -55,20 +55,23 @@ same-length-3 c = search needs
 
 returns-2 : tie.Need-returns-2
 returns-2 c =
-    let s = c .before .before .before .before .before .before .before .before .before .before .before .before .before .before .before .before .before .before in
-    let a = s .args in
-    let k = c .before .before .before .before .before .before .before .before .before .before .keep in
     let p = c .before .before .put-answer in
+    let i = c .before .before .before .before .before in
+    let n = i .before in
+    let k = n .before .before .before .before .keep in
+    let s = n .before .before .before .before .before .before .before .before .before .before .before .before in
+    let a = s .args in
     let e : eqb (a .have + 1) (questionLength (set (a .asked .now) (a .have) (a .b))) ≡ true =
     ap (λ (l : List ℕ). eqb (a .have + 1) (questionLength l)) (sym (k .ensures))
-    ∙ eq-eqb _ _ (c .before .before .before .before .before .if1 .left ∙ c .before .before .before .before .before .before .question-length .ensures) in
+    ∙ eq-eqb _ _ (i .if1 .left ∙ n .question-length .ensures) in
     let f = questionLine (a .plan .now) (a .rules .now) in
+    let o = p .last .1 .1 .1 .1 .1 .1 .0 in
     let t =
-    subst (λ (l : List ℕ). Put (a .out .now) (a .end) (keptLine (a .plan .now) (a .rules .now) l) (p .last .1 .1 .1 .1 .1 .1 .0) (p .result))
-    (k .ensures) (p .ensures .0) in (
-      subst (λ (l : List ℕ). Advances f (a .b ∷ []) (a .asked .now) (a .have) l 0 (a .out .now) (a .end) (p .last .1 .1 .1 .1 .1 .1 .0)
-          (p .result)) (sym (k .ensures))
-          (byte-answered (a .plan .now) (a .rules .now) (a .asked .now) (a .have) (a .b) (a .out .now) (a .end) _ _ e (s .pre .0 .1 .room) t),
+    subst (λ (l : List ℕ). Put (a .out .now) (a .end) (keptLine (a .plan .now) (a .rules .now) l) o (p .result)) (k .ensures)
+    (p .ensures .0) in (
+      subst (λ (l : List ℕ). Advances f (a .b ∷ []) (a .asked .now) (a .have) l 0 (a .out .now) (a .end) o (p .result)) (sym (k .ensures))
+          (byte-answered (a .plan .now) (a .rules .now) (a .asked .now) (a .have) (a .b) (a .out .now) (a .end) _ _ e
+          (s .pre .0 .1 .room) t),
       (p .ensures .1, omega arith),
     )
 

@@ -46,8 +46,9 @@ loop-less c = search needs
 
 loop-again : tie.Need-loop-again Inv-loop μ-loop
 loop-again c =
-    let l = c .before .before .before .before .before .before .before .before .before .loop in
-    let a = c .before .before .before .before .before .before .before .before .before .before .before .before .before .before .before .before .before .args in
+    let i = c .before .before .before .before .before .before .before .before .before in
+    let l = i .loop in
+    let a = i .before .before .before .before .before .before .before .before .args in
     let b = c .before .before .before .before .take-byte in
     let f = questionLine (a .plan .now) (a .rules .now) in
     let e : take (l .i) (a .chunk .now) ++ (getD (a .chunk .now) (l .i) 0 ∷ []) ≡ take (l .i + 1) (a .chunk .now) =
