@@ -1,0 +1,262 @@
+-- The program's calls tell the definition's answer.
+--     load-cleared        a fresh session that accepted a Load is cleared
+--     cleared-answer      on the session and the tables that an accepted Load left, what is told of a question is answerTo
+-- From the theorem over every list of calls: each call is answered as the panel book says, and the book of a clean question says this.
+-- Assumes nothing.
+use Prim.Native.Nat.{ℕ, zero, suc, _+_, _≤_, _<_}
+use mathlib.Core.Path.{_≡_, refl, sym, ap, _∙_, subst}
+use mathlib.Core.Bool.{Bool, true, false, cond}
+use mathlib.Core.List.{List, [], _∷_}
+use native.Mathlib.Omega.{arith}
+use lib.Dec.{eqb}
+use lib.ListN.{length}
+use borrow.Author.Tests.{eqb-false}
+use Rattle.formats.specs.Checks.{check, firstNo, listChecks}
+use Rattle.formats.proofs.CheckLaws.{firstNo-yes, and-both, and-left, true-false}
+use Rattle.formats.proofs.ListLaws.{sameList-is}
+use Rattle.formats.proofs.InputLaws.{list-passes}
+use Rattle.formats.specs.Built.{builtLinks, builtStates}
+use Rattle.tables.specs.Answers.{written}
+use Rattle.ready.specs.Parts.{Part}
+use Rattle.book.specs.Lends.{Lent, Sizes, sizesIn, fits, usedNums, usedBytes, sameLinks, sameLent, linksBuilt, bytesBuilt, sound}
+use Rattle.book.specs.Calls.{Call, load, start, advance, read, Answer, refused, accepted, more, finished, Phase, isRunning, isAnswered}
+use Rattle.book.specs.Calls.{mayStart}
+use Rattle.book.specs.Refusals.{refusal}
+use Rattle.book.specs.Book.{Question, State, Book, settled, phase, newBook, inState, step, decided, proceed, reading}
+use Rattle.book.specs.Book.{partCount, freshAnswer, longer, advanced, goesOn, firmly, advancing}
+use Rattle.book.specs.Demand3.{Conforms, after, Agrees}
+use Rattle.book.specs.Model.{Record, idle, freshRecord, act}
+use Rattle.book.specs.Alone.{isRefused}
+use Rattle.book.specs.Judge.{answersOf}
+use Rattle.book.proofs.Theorems.{session-model}
+use Rattle.book.proofs.LayersHold.{layers}
+use Rattle.book.proofs.Simulation.{book}
+use Rattle.book.proofs.AloneLaws.{at, going, over}
+use Rattle.book.proofs.Ceilings.{Few, ready-count}
+use Rattle.book.proofs.StartSim.{some-part}
+use Rattle.book.proofs.QuestionTheorem.{question}
+use Rattle.book.proofs.WrittenSound.{loaded, written-sound, written-fits, start-written}
+use Rattle.session.specs.declared.state.Session.{Session}
+use Rattle.session.specs.Records.{freshSession}
+use Rattle.session.specs.Tests.{lentOf}
+use Rattle.session.specs.declared.answers.Doing.{Doing}
+use Rattle.session.specs.declared.answers.Doing.the-variants.{Done}
+use Rattle.session.specs.Promises.{CallDone, LoadDone, doingAnswer, answerOn, recordOn, refusalOn}
+use Rattle.session.proofs.Refine.{Seen, fresh-seen, done-refines}
+use Rattle.whatif.specs.Asked.{afterAdvance, finishedIn, mostParts, afterStart, askedOn}
+use Rattle.whatif.specs.Cleared.{answerBy, answerTo, Cleared}
+
+-- the session holds a record whose answers, to any list of calls, agree with the book
+record Follows (s : Session) (b : Book) : Type 0 where
+  pub holds : Record
+  pub seen : Seen s holds
+  pub agrees : (cs : List Call) → Agrees b cs (answersOf holds cs)
+
+fresh-follows : Follows freshSession newBook
+fresh-follows = record { holds = freshRecord; seen = fresh-seen; agrees = session-model }
+
+module _ (s : Session) (b : Book) (F : Follows s b) (c : Call) where
+  does : CallDone s c (answerOn s c) (recordOn s c)
+  does = record { tells = refl; leaves = refl }
+
+  answer-is : answerOn s c ≡ act (F .holds) c .answer
+  answer-is = done-refines s (F .holds) (F .seen) c _ _ does .1 .tells
+
+  conforms : Conforms (step b c) (answerOn s c)
+  unfolding answersOf
+  conforms = subst (λ (a : Answer). Conforms (step b c) a) (sym answer-is) (F .agrees (c ∷ []) .0)
+
+  follows : Follows (recordOn s c) (after (step b c) (answerOn s c))
+  unfolding answersOf
+  follows =
+      let d = done-refines s (F .holds) (F .seen) c _ _ does in
+      record {
+        holds = act (F .holds) c .record′;
+        seen = subst (Seen (recordOn s c)) (d .1 .leaves) (d .2);
+        agrees = λ cs. subst (λ (a : Answer). Agrees (after (step b c) a) cs (answersOf (act (F .holds) c .record′) cs)) (sym answer-is)
+            (F .agrees (c ∷ cs) .1);
+      }
+
+-- a settled call: its answer, and the book then
+module _ (s : Session) (b : Book) (F : Follows s b) (c : Call) (a : Answer) (b′ : Book) (e : step b c ≡ settled a b′) where
+  settled-answer : answerOn s c ≡ a
+  settled-answer =
+      let g : Conforms (settled a b′) (answerOn s c) = subst (λ n. Conforms n (answerOn s c)) e (conforms s b F c) in g
+
+  settled-follows : Follows (recordOn s c) b′
+  settled-follows = subst (λ n. Follows (recordOn s c) (after n (answerOn s c))) e (follows s b F c)
+
+-- ---- a clean question
+
+module _ (z : Sizes) (x : Lent) (long : fits z x ≡ true) where
+  same : sameLent z x x ≡ true
+  unfolding sameLent sameLinks
+  same =
+      and-both _ _ (and-both _ _ (sameList-is (x .plan) (x .plan) refl) (and-both _ _ (sameList-is (x .rules) (x .rules) refl)
+      (sameList-is (usedNums z x) (usedNums z x) refl))) (sameList-is (usedBytes z x) (usedBytes z x) refl)
+
+  advance-allowed : refusal Phase.running z (advance x) ≡ 0
+  unfolding refusal isRunning firstNo
+  advance-allowed = firstNo-yes 17 (fits z x) [] long
+
+  -- an advance goes on
+  advance-step : (q : Question) (c : ℕ) (tr : List Part) → q .lent ≡ x
+      → step (going z q c tr) (advance x) ≡ goesOn (going z q c tr) (at q (suc c) (longer z (at q c tr) x))
+  unfolding step decided phase proceed advancing advanced
+  advance-step q c tr e =
+      ap (λ (n : ℕ). decided n (going z q c tr) (advance x)) advance-allowed
+      ∙ ap (λ (b : Bool). cond b (goesOn (going z q c tr) (at q (suc c) (longer z (at q c tr) x))) (firmly (going z q c tr) x (at q c tr)))
+      (subst (λ (y : Lent). sameLent z y x ≡ true) (sym e) same)
+
+  -- a Read tells the fresh run's answer
+  read-step : (q : Question) (c : ℕ) (tr : List Part) → step (over z q c tr) read ≡ settled (freshAnswer q) (over z q c tr)
+  unfolding step decided phase proceed reading refusal firstNo isAnswered freshAnswer
+  read-step q c tr = refl
+
+  finish-clean : (f : ℕ) (s : Session) (q : Question) (c : ℕ) (tr : List Part) → q .lent ≡ x → Follows s (going z q c tr)
+      → c < partCount q → partCount q ≤ c + f → finishedIn f s x ≡ freshAnswer q
+  unfolding goesOn inState finishedIn afterAdvance
+  finish-clean zero s q c tr e F l m = absurd (omega arith)
+  finish-clean (suc f) s q c tr e F l m =
+      go (λ G. finish-clean f (recordOn s (advance x)) q (suc c) (longer z (at q c tr) x) e G)
+      (eqb (suc c) (partCount q)) refl
+    where
+      ps : List Part
+      ps = longer z (at q c tr) x
+
+      goal : Answer → Type 0
+      goal a = afterAdvance a (answerOn (recordOn s (advance x)) read) (finishedIn f (recordOn s (advance x)) x) ≡ freshAnswer q
+
+      onward : (b : Bool) → eqb (suc c) (partCount q) ≡ b
+          → step (going z q c tr) (advance x)
+          ≡ cond b (settled finished (over z q (suc c) ps)) (settled more (going z q (suc c) ps))
+      onward b h = advance-step q c tr e ∙ ap (λ (t : Bool). cond t (settled finished (over z q (suc c) ps))
+          (settled more (going z q (suc c) ps))) h
+
+      go : (Follows (recordOn s (advance x)) (going z q (suc c) ps) → suc c < partCount q → partCount q ≤ suc c + f
+          → finishedIn f (recordOn s (advance x)) x ≡ freshAnswer q)
+          → (b : Bool) → eqb (suc c) (partCount q) ≡ b → finishedIn (suc f) s x ≡ freshAnswer q
+      go later true h =
+          let G = settled-follows s (going z q c tr) F (advance x) finished _ (onward true h) in
+          subst goal (sym (settled-answer s (going z q c tr) F (advance x) finished _ (onward true h)))
+          (settled-answer (recordOn s (advance x)) (over z q (suc c) ps) G read (freshAnswer q) _ (read-step q (suc c) ps))
+      go later false h =
+          let G = settled-follows s (going z q c tr) F (advance x) more _ (onward false h) in
+          let n : suc c ≡ partCount q → ⊥ = eqb-false (suc c) (partCount q) h in
+          subst goal (sym (settled-answer s (going z q c tr) F (advance x) more _ (onward false h)))
+          (later G (omega (arith, n)) (omega arith))
+
+-- ---- from the Load on
+
+few-parts : (m p : ℕ) → Few m p → m ≤ 64 → p ≤ 254
+few-parts zero p h l = omega (arith, h .one refl)
+few-parts (suc m) p h l = omega (arith, h .few (omega arith))
+
+module _ (y : Lent) (passed : refusal (phase (newBook .state)) (newBook .sizes) (load y) ≡ 0) (s : Session)
+    (F : Follows s (book State.loaded (sizesIn y))) (vs bs : List ℕ) where
+  start-number : refusal Phase.loaded (sizesIn y) (start (loaded y) vs bs) ≡ firstNo (listChecks (sizesIn y .n) (sizesIn y .k) vs bs)
+  unfolding refusal mayStart
+  start-number =
+      firstNo-yes 1 true (check 17 (fits (sizesIn y) (loaded y)) ∷ listChecks (sizesIn y .n) (sizesIn y .k) vs bs) refl
+      ∙ firstNo-yes 17 (fits (sizesIn y) (loaded y)) (listChecks (sizesIn y .n) (sizesIn y .k) vs bs)
+      (written-fits (phase (newBook .state)) (newBook .sizes) y passed)
+
+  told-refused : (n : ℕ) → firstNo (listChecks (sizesIn y .n) (sizesIn y .k) vs bs) ≡ suc n
+      → askedOn s (loaded y) vs bs ≡ refused (suc n)
+  unfolding askedOn afterStart step decided phase
+  told-refused n e =
+      ap (λ (a : Answer). afterStart a (finishedIn mostParts (recordOn s (start (loaded y) vs bs)) (loaded y)))
+      (settled-answer s (book State.loaded (sizesIn y)) F (start (loaded y) vs bs) (refused (suc n)) (book State.loaded (sizesIn y))
+      (ap (λ (k : ℕ). decided k (book State.loaded (sizesIn y)) (start (loaded y) vs bs)) (start-number ∙ e)))
+
+  told-clean : firstNo (listChecks (sizesIn y .n) (sizesIn y .k) vs bs) ≡ 0
+      → askedOn s (loaded y) vs bs ≡ freshAnswer (question (loaded y) vs bs)
+  unfolding askedOn afterStart sound phase mayStart
+  told-clean e =
+      let p = phase (newBook .state) in
+      let q = question (loaded y) vs bs in
+      let w = start-written p (newBook .sizes) y State.loaded vs bs passed refl e in
+      let a = settled-answer s (book State.loaded (sizesIn y)) F (start (loaded y) vs bs) _ _ w in
+      let G = settled-follows s (book State.loaded (sizesIn y)) F (start (loaded y) vs bs) _ _ w in
+      let l = and-left (linksBuilt (sizesIn y) (loaded y)) (bytesBuilt (sizesIn y) (loaded y))
+      (written-sound p (newBook .sizes) y passed) in
+      let k = list-passes (sizesIn y .n) (sizesIn y .k) vs bs e in
+      let few : partCount q ≤ 254 = few-parts (length vs) (partCount q) (ready-count layers (sizesIn y) (loaded y) vs l (k .nodes-below))
+      (k .most) in
+      ap (λ (t : Answer). afterStart t (finishedIn mostParts (recordOn s (start (loaded y) vs bs)) (loaded y))) a
+      ∙ finish-clean (sizesIn y) (loaded y) (written-fits p (newBook .sizes) y passed) mostParts
+      (recordOn s (start (loaded y) vs bs)) q 0 [] refl G (some-part q) (omega arith)
+
+  told : askedOn s (loaded y) vs bs ≡ answerTo (y .plan) (y .rules) vs bs
+  unfolding answerBy loaded freshAnswer
+  told = go (firstNo (listChecks (sizesIn y .n) (sizesIn y .k) vs bs)) refl
+    where
+      go : (n : ℕ) → firstNo (listChecks (sizesIn y .n) (sizesIn y .k) vs bs) ≡ n
+          → askedOn s (loaded y) vs bs ≡ answerBy n (y .plan) (y .rules) vs bs
+      go zero e = told-clean e
+      go (suc n) e = told-refused n e
+
+-- ---- the theorem
+
+-- an accepted Load passed its checks, and leaves the session and the book loaded
+load-passed : (y : Lent) → answerOn freshSession (load y) ≡ accepted → refusal (phase (newBook .state)) (newBook .sizes) (load y) ≡ 0
+unfolding step decided
+load-passed y e =
+    go (refusal (phase (newBook .state)) (newBook .sizes) (load y))
+    (subst (λ (a : Answer). Conforms (step newBook (load y)) a) e (conforms freshSession newBook fresh-follows (load y)))
+  where
+    go : (n : ℕ) → Conforms (decided n newBook (load y)) accepted → n ≡ 0
+    go zero h = refl
+    go (suc n) h = absurd (true-false (sym (ap isRefused h)))
+
+load-follows : (y : Lent) → refusal (phase (newBook .state)) (newBook .sizes) (load y) ≡ 0
+    → Follows (recordOn freshSession (load y)) (book State.loaded (sizesIn y))
+unfolding step decided proceed
+load-follows y e =
+    settled-follows freshSession newBook fresh-follows (load y) accepted (book State.loaded (sizesIn y))
+    (ap (λ (n : ℕ). decided n newBook (load y)) e)
+
+same-lent : (p p′ r r′ n n′ b b′ : List ℕ) → p′ ≡ p → r′ ≡ r → n′ ≡ n → b′ ≡ b → lentOf p r n b ≡ lentOf p′ r′ n′ b′
+same-lent p p′ r r′ n n′ b b′ e f g h = rw (e, f, g, h) refl
+
+lent-is : (s : Session) (x : Lent) (C : Cleared s x) → loaded (C .lent) ≡ x
+unfolding loaded
+lent-is s x C = same-lent _ (x .plan) _ (x .rules) _ (x .nums) _ (x .bytes) (C .plan) (C .rules) (C .nums) (C .bytes)
+
+pub cleared-answer : (s : Session) (x : Lent) (vs bs : List ℕ) → Cleared s x → askedOn s x vs bs ≡ answerTo (x .plan) (x .rules) vs bs
+unfolding loaded
+cleared-answer s x vs bs C =
+    let y = C .lent in
+    let passed = load-passed y (C .taken) in
+    let F = subst (λ (t : Session). Follows t (book State.loaded (sizesIn y))) (sym (C .session)) (load-follows y passed) in
+    subst (λ (t : Lent). askedOn s t vs bs ≡ answerTo (t .plan) (t .rules) vs bs) (lent-is s x C) (told y passed s F vs bs)
+
+-- ---- an accepted Load of a fresh session clears it
+
+fresh-refusal : (y : Lent) → answerOn freshSession (load y) ≡ accepted → refusalOn freshSession (load y) ≡ 0
+unfolding refusalOn freshRecord idle newBook phase
+fresh-refusal y e =
+    rw (fresh-seen .passes)
+    (ap (λ (r : Record). refusal (r .phase) (r .sizes) (load y)) (fresh-seen .holds) ∙ load-passed y e)
+
+fresh-cleared : (s : Session) (p r n b n′ b′ : List ℕ) (t : Doing) → t ≡ Done
+    → LoadDone freshSession (lentOf p r n b) (doingAnswer t) s n′ b′ → Cleared s (lentOf p r n′ b′)
+unfolding doingAnswer
+fresh-cleared s p r n b n′ b′ t e L =
+    let y = lentOf p r n b in
+    let a : answerOn freshSession (load y) ≡ accepted = sym (L .call .tells) ∙ ap doingAnswer e in
+    let z = fresh-refusal y a in
+    record {
+      lent = y;
+      taken = a;
+      session = L .call .leaves;
+      plan = refl;
+      rules = refl;
+      nums = L .links-written ∙ ap (λ (k : ℕ). written k (builtLinks p) n) z;
+      bytes = L .states-written ∙ ap (λ (k : ℕ). written k (builtStates p r) b) z;
+    }
+
+pub load-cleared : (f s : Session) (p r n b n′ b′ : List ℕ) (t : Doing) → f ≡ freshSession → t ≡ Done
+    → LoadDone f (lentOf p r n b) (doingAnswer t) s n′ b′ → Cleared s (lentOf p r n′ b′)
+load-cleared f s p r n b n′ b′ t d e L =
+    fresh-cleared s p r n b n′ b′ t e (subst (λ (g : Session). LoadDone g (lentOf p r n b) (doingAnswer t) s n′ b′) d L)

@@ -1,0 +1,41 @@
+use borrow.Author.Needs.{needs}
+use mathlib.Core.Path.{sym}
+use lib.Seq.{length-take-le}
+use Rattle.whatif.proofs.InputLaws.{counted-front}
+use Rattle.whatif.proofs.input.read_whole.Statement.{statement}
+use Rattle.whatif.proofs.input.read_whole.Tie as tie
+use Rattle.whatif.proofs.input.read_whole.Reads as reads
+use Rattle.whatif.proofs.input.read_whole.Lts as lts
+use Rattle.io.proofs.read_full.Reads as read-full-reads
+use Rattle.whatif.proofs.input.least.Reads as least-reads
+
+least-requires : tie.Need-least-requires
+least-requires c κs = search needs
+
+slice-relend-prefix-read-full : tie.Need-slice-relend-prefix-read-full
+slice-relend-prefix-read-full c = search needs
+
+slice-aggregate-read-full : tie.Need-slice-aggregate-read-full
+slice-aggregate-read-full c = sym (length-take-le _ _ (c .before .least .ensures .1))
+
+read-full-requires : tie.Need-read-full-requires
+read-full-requires c κs = search needs
+
+same-length : tie.Need-same-length
+same-length c = search needs
+
+returns : tie.Need-returns
+returns c =
+    let r = c .before .before .read-full in
+    counted-front (r .result) (r .last .1 .0) _ (r .ensures .0)
+
+pub read-whole-spec : {M : Type 1} → statement M
+read-whole-spec =
+    tie.close
+    (tie.spec
+    least-requires
+    slice-relend-prefix-read-full
+    slice-aggregate-read-full
+    read-full-requires
+    same-length
+    returns)

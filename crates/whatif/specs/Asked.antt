@@ -1,0 +1,43 @@
+-- A question put to a session: the calls that the program makes, and what they tell in the end.
+--
+-- finishedIn f s x == what the session s tells after it is advanced until finished, at most f times, on the lends x, and read
+-- askedOn s x vs bs == what it tells of the changes vs to bs: Start's refusal, or the above
+-- mostParts == no question has more parts, so as many advances are enough
+--
+-- By the promises of the session's calls (crate session, Promises). What they come to on tables as built is answerTo (Cleared).
+-- Assumes nothing.
+use Prim.Native.Nat.{ℕ, zero, suc}
+use mathlib.Core.List.{List}
+use Rattle.book.specs.Lends.{Lent}
+use Rattle.book.specs.Calls.{Answer, refused, accepted, parts, more, finished, told, start, advance, read}
+use Rattle.session.specs.declared.state.Session.{Session}
+use Rattle.session.specs.Promises.{answerOn, recordOn}
+
+-- after an advance that told a: r where it finished, m where there is more
+unfoldable pub afterAdvance : Answer → Answer → Answer → Answer
+afterAdvance (refused n) r m = refused n
+afterAdvance finished r m = r
+afterAdvance more r m = m
+afterAdvance accepted r m = m
+afterAdvance (parts p) r m = m
+afterAdvance (told q y p l) r m = m
+
+unfoldable pub finishedIn : ℕ → Session → Lent → Answer
+finishedIn zero s x = answerOn s read
+finishedIn (suc f) s x =
+    afterAdvance (answerOn s (advance x)) (answerOn (recordOn s (advance x)) read) (finishedIn f (recordOn s (advance x)) x)
+
+abbrev pub mostParts : ℕ
+mostParts = 254
+
+-- after a Start that told a: r where it is accepted
+unfoldable pub afterStart : Answer → Answer → Answer
+afterStart (refused n) r = refused n
+afterStart (parts p) r = r
+afterStart finished r = r
+afterStart more r = r
+afterStart accepted r = r
+afterStart (told q y p l) r = r
+
+unfoldable pub askedOn : Session → Lent → List ℕ → List ℕ → Answer
+askedOn s x vs bs = afterStart (answerOn s (start x vs bs)) (finishedIn mostParts (recordOn s (start x vs bs)) x)

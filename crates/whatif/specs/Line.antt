@@ -1,0 +1,40 @@
+-- The line of an answer.
+--
+-- lineOf a == "One line a question, no header: state, yes or no, parts, links; or `refused` and the number", with single spaces and a
+--   newline; nothing of an answer that ends no question
+--
+-- Assumes nothing.
+use Prim.Native.Nat.{ℕ}
+use mathlib.Core.Bool.{Bool, true, false}
+use mathlib.Core.List.{List, [], _∷_, _++_}
+use Rattle.book.specs.Calls.{Answer, refused, accepted, parts, more, finished, told}
+use Rattle.whatif.specs.Text.{decimal}
+
+-- " yes " or " no "
+abbrev pub yesOrNo : Bool → List ℕ
+yesOrNo true = 32 ∷ 121 ∷ 101 ∷ 115 ∷ 32 ∷ []
+yesOrNo false = 32 ∷ 110 ∷ 111 ∷ 32 ∷ []
+
+abbrev pub space : List ℕ
+space = 32 ∷ []
+
+abbrev pub newline : List ℕ
+newline = 10 ∷ []
+
+-- "refused "
+abbrev pub refusedWord : List ℕ
+refusedWord = 114 ∷ 101 ∷ 102 ∷ 117 ∷ 115 ∷ 101 ∷ 100 ∷ 32 ∷ []
+
+abbrev pub toldLine : ℕ → Bool → ℕ → ℕ → List ℕ
+toldLine q y p l = decimal q ++ (yesOrNo y ++ (decimal p ++ (space ++ (decimal l ++ newline))))
+
+abbrev pub refusedLine : ℕ → List ℕ
+refusedLine n = refusedWord ++ (decimal n ++ newline)
+
+unfoldable pub lineOf : Answer → List ℕ
+lineOf (told q y p l) = toldLine q y p l
+lineOf (refused n) = refusedLine n
+lineOf accepted = []
+lineOf (parts p) = []
+lineOf more = []
+lineOf finished = []

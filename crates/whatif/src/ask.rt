@@ -1,0 +1,64 @@
+// A question put to the session: Start, advances until finished, Read.
+use session::answers::Advancing;
+use session::answers::Reading;
+use session::answers::Starting;
+use session::state::Session;
+ghost use mathlib.Core.Path.{_≡_};
+ghost use Rattle.session.specs.Promises.{readingAnswer};
+ghost use Rattle.session.specs.Tests.{lentOf};
+ghost use Rattle.whatif.specs.Asked.{mostParts, finishedIn, askedOn};
+
+// Advances until finished, and reads.
+fn finish(started: Session, plan: &[u8], rules: &[u8], nums: &[u16], bytes: &[u8]) -> Reading
+    ensures { λ r. ⌜
+        readingAnswer r
+        ≡ finishedIn mostParts started (lentOf (now (plan .entry)) (now (rules .entry)) (now (nums .entry)) (now (bytes .entry))) ⌝ }
+{
+    let mut rec = started;
+    let mut turns: u8 = 0;
+    while turns < 254 {
+        let next = rec.advance(plan, rules, nums, bytes);
+        rec = next.rec;
+        let told = next.told;
+        match told {
+            Advancing::More => {
+                turns += 1;
+            }
+            Advancing::Finished => {
+                return rec.read();
+            }
+            Advancing::Refused(n) => {
+                return Reading::Refused(n);
+            }
+        }
+    }
+    rec.read()
+}
+
+// The answer to a list of changes, from a loaded session: each question starts from the same record.
+pub fn ask(
+    loaded: Session,
+    plan: &[u8],
+    rules: &[u8],
+    nums: &[u16],
+    bytes: &[u8],
+    nodes: &[u16],
+    labels: &[u8],
+) -> Reading
+    ensures { λ r. ⌜
+        readingAnswer r
+        ≡ askedOn loaded (lentOf (now (plan .entry)) (now (rules .entry)) (now (nums .entry)) (now (bytes .entry)))
+        (now (nodes .entry)) (now (labels .entry)) ⌝ }
+{
+    let started = loaded.start(plan, rules, nums, bytes, nodes, labels);
+    let told = started.told;
+    match told {
+        Starting::Parts(_) => {
+            let rec = started.rec;
+            return finish(rec, plan, rules, nums, bytes);
+        }
+        Starting::Refused(n) => {
+            return Reading::Refused(n);
+        }
+    }
+}

@@ -1,0 +1,58 @@
+// The line of an answer.
+use crate::text::put_number;
+use crate::text::put_word;
+use session::answers::Reading;
+ghost use Prim.Native.Nat.{_+_, _≤_};
+ghost use lib.ListN.{length};
+ghost use Rattle.session.specs.Promises.{readingAnswer};
+ghost use Rattle.whatif.specs.Text.{Put};
+ghost use Rattle.whatif.specs.Line.{yesOrNo, toldLine, refusedLine, lineOf};
+
+fn put_yes_or_no(out: &mut [u8], at: usize, yes: bool) -> usize
+    requires { ⌜ at + 5 ≤ length (now out) ⌝ }
+    ensures { λ r. ⌜ Put (now (out .entry)) at (yesOrNo yes) (now (out .exit)) r ⌝ }
+{
+    if yes {
+        return put_word(out, at, b" yes ");
+    }
+    put_word(out, at, b" no ")
+}
+
+fn put_told(out: &mut [u8], at: usize, state: u8, yes: bool, parts: u8, links: u32) -> usize
+    requires { ⌜ at + 37 ≤ length (now out) ⌝ }
+    ensures { λ r. ⌜ Put (now (out .entry)) at (toldLine state yes parts links) (now (out .exit)) r ⌝ }
+    ensures { λ r. ⌜ r ≤ at + 37 ⌝ }
+{
+    let a = put_number(out, at, state as u32);
+    let b = put_yes_or_no(out, a, yes);
+    let c = put_number(out, b, parts as u32);
+    let d = put_word(out, c, b" ");
+    let e = put_number(out, d, links);
+    put_word(out, e, b"\n")
+}
+
+pub fn put_refused(out: &mut [u8], at: usize, n: u8) -> usize
+    requires { ⌜ at + 37 ≤ length (now out) ⌝ }
+    ensures { λ r. ⌜ Put (now (out .entry)) at (refusedLine n) (now (out .exit)) r ⌝ }
+    ensures { λ r. ⌜ r ≤ at + 37 ⌝ }
+{
+    let a = put_word(out, at, b"refused ");
+    let b = put_number(out, a, n as u32);
+    put_word(out, b, b"\n")
+}
+
+// At most 37 bytes, the newline included.
+pub fn put_line(out: &mut [u8], at: usize, answer: Reading) -> usize
+    requires { ⌜ at + 37 ≤ length (now out) ⌝ }
+    ensures { λ r. ⌜ Put (now (out .entry)) at (lineOf (readingAnswer answer)) (now (out .exit)) r ⌝ }
+    ensures { λ r. ⌜ r ≤ at + 37 ⌝ }
+{
+    match answer {
+        Reading::Told(state, yes, parts, links) => {
+            return put_told(out, at, state, yes, parts, links);
+        }
+        Reading::Refused(n) => {
+            return put_refused(out, at, n);
+        }
+    }
+}
