@@ -3,7 +3,7 @@
 --     advance-limits, next-args, handle-args       what the calls below ask
 -- Assumes nothing.
 use Prim.Native.Nat.{ℕ, zero, suc, _+_, _-_, _*_, _≤_, _<_}
-use mathlib.Core.Path.{_≡_, refl, sym, ap, _∙_}
+use mathlib.Core.Path.{_≡_, refl, sym, ap, _∙_, subst}
 use mathlib.Core.Bool.{Bool, true, false, not, cond, _&&_}
 use mathlib.Core.List.{List, [], _∷_}
 use mathlib.Core.Option.{Option, none, some}
@@ -30,10 +30,11 @@ use Rattle.book.specs.Refusals.{refusal}
 use Rattle.book.specs.Model.{Acted, acted, viewBy, stepped, advanceWith, partNext, proceeds}
 use Rattle.session.specs.declared.state.Phase.{Phase}
 use Rattle.session.specs.declared.state.Phase.the-variants.{Running, Answered}
+use Rattle.session.specs.declared.state.Head.{Head}
 use Rattle.session.specs.declared.state.Session.{Session}
 use Rattle.session.specs.declared.answers.Advancing.the-variants.{More, Finished, Refused as NotAdvanced}
 use Rattle.session.specs.declared.answers.Advanced.{Advanced}
-use Rattle.session.specs.Records.{phaseOf, phaseTo, sizesOf, recordOf, sessionOf, risesTo, valid}
+use Rattle.session.specs.Records.{phaseOf, phaseTo, sizesOf, recordOf, headOf, whole, sessionOf, risesTo, valid}
 use Rattle.session.specs.Promises.{CallDone, advancingAnswer}
 use Rattle.session.specs.Tests.{Shaped}
 use Rattle.session.specs.Steps.{NextArgs, HandleArgs, markedIn, steppedOf, handledBy}
@@ -48,6 +49,22 @@ pub mark-at : (rules : List ℕ) (s k p q : ℕ) → p ≡ s * k * s → q < s
     → eqb (getD rules (20 + k + p + q) 0) 1 ≡ markedIn s k rules q
 mark-at rules s k p q e h =
     rw (e, getD-take s (drop (20 + k + s * k * s) rules) q 0 h, getD-drop (20 + k + s * k * s) rules q 0)
+
+-- what the code asks for the next part, of a struct, and of a head that is the struct's with its arrays
+abbrev pub askedOn : Session → Lent → Option Reached
+askedOn s x =
+    partGiven (s .n) (s .s) (s .k) (x .plan) (x .rules) (x .nums) (x .bytes) (take (s .parts) (s .roots))
+    (take (s .handled) (s .states)) (take (s .m) (s .nodes)) (take (s .m) (s .labels))
+
+module _ (s : Session) (h : Head) (e : h ≡ headOf s) where
+  pub next-by : NextArgs s → NextArgs (whole h (s .nodes) (s .labels) (s .roots) (s .states))
+  next-by a = subst (λ (y : Head). NextArgs (whole y (s .nodes) (s .labels) (s .roots) (s .states))) (sym e) a
+
+  pub part-by : (x : Lent) (k : Climbed)
+      → k ≡ toldReached (askedOn (whole h (s .nodes) (s .labels) (s .roots) (s .states)) x)
+      → k ≡ toldReached (askedOn s x)
+  part-by x k f =
+      f ∙ ap (λ (y : Head). toldReached (askedOn (whole y (s .nodes) (s .labels) (s .roots) (s .states)) x)) e
 
 -- the last part, and any other
 module _ (s : Session) (rules : List ℕ) (q l : ℕ) (t : Session) where
@@ -139,7 +156,12 @@ module _ (s : Session) (h : Shaped s) (x : Lent) (b : Bool) (may : b ≡ (valid 
     advance-limits = record { most = Z .nodes-most; few = Z .states-most; labels = Z .labels-most }
 
     pub next-args : NextArgs s
-    next-args = record { few = T .few; few-parts = T .few-parts; few-handled = T .few-handled }
+    next-args = record {
+      few = omega (arith, h .nodes, T .few);
+      few-labels = omega (arith, h .labels, T .few);
+      few-parts = omega (arith, h .roots, T .few-parts);
+      few-handled = omega (arith, h .states, T .few-handled);
+    }
 
     few-handled : s .handled < 254
     unfolding recordOf

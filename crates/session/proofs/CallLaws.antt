@@ -1,6 +1,7 @@
 -- The promise of a call, by what the code has found.
 --     invalid-done, refused-done, unless-done     a refusal: by the struct, by a number, by check 1
 --     proceeds-done                               no check fails
+--     may-by                                      check 1 of a head and the arrays
 --     kept-of                                     what is left to the program has its properties
 -- Assumes nothing.
 use Prim.Native.Nat.{ℕ, suc, _<_}
@@ -19,12 +20,20 @@ use Rattle.book.specs.Kept.{Kept}
 use Rattle.book.proofs.KeptLaws.{refused-keeps, start-kept, advance-kept}
 use Rattle.formats.proofs.TurnLaws.{and-yes}
 use Rattle.session.specs.declared.state.Phase.{Phase}
+use Rattle.session.specs.declared.state.Head.{Head}
 use Rattle.session.specs.declared.state.Session.{Session}
-use Rattle.session.specs.Records.{phaseOf, sizesOf, recordOf, sessionOf, valid}
+use Rattle.session.specs.Records.{phaseOf, sizesOf, recordOf, headOf, whole, sessionOf, valid}
 use Rattle.session.specs.Promises.{CallDone, answerOn, recordOn}
 use Rattle.session.specs.Tests.{Shaped}
 use Rattle.session.proofs.Holds.{holds-of, struct-is}
 use Rattle.session.proofs.ActLaws.{start-sized}
+
+-- check 1 of a head and the arrays, where the head is the struct's
+pub may-by : (f : calls.Phase → Bool) (s : Session) (h : Head) → h ≡ headOf s → (b : Bool)
+    → b ≡ (valid (whole h (s .nodes) (s .labels) (s .roots) (s .states)) && f (phaseOf (h .phase)))
+    → b ≡ (valid s && f (phaseOf (s .phase)))
+may-by f s h e b g =
+    g ∙ ap (λ (x : Head). valid (whole x (s .nodes) (s .labels) (s .roots) (s .states)) && f (phaseOf (x .phase))) e
 
 -- a Start that no check refuses finds a plan loaded
 start-loaded : (s : Session) → Shaped s → valid s ≡ true → (x : Lent) (vs bs : List ℕ)

@@ -3,6 +3,7 @@
 -- recordOf s == the record (crate book, Model) that a struct holds: its arrays cut to their counts
 -- sessionOf r == the struct of a record: "unused entries are zero"
 -- valid s == whether a struct can be a session's: the conditions of docs/LAYOUT.md, all that can be said without plan and rules
+-- headOf s, whole h nodes labels roots states == the record without its arrays, and the record of such a head and four arrays
 -- freshSession == "a fresh session is made with nothing given": all zero
 --
 -- Assumes nothing.
@@ -18,6 +19,7 @@ use Rattle.book.specs.Calls as calls
 use Rattle.book.specs.Model.{Record}
 use Rattle.session.specs.declared.state.Phase.{Phase}
 use Rattle.session.specs.declared.state.Phase.the-variants.{Empty, Loaded, Running, Answered}
+use Rattle.session.specs.declared.state.Head.{Head}
 use Rattle.session.specs.declared.state.Session.{Session}
 
 unfoldable pub phaseOf : Phase → calls.Phase
@@ -66,6 +68,37 @@ sessionOf r = record {
   labels = padded 64 (r .labels);
   roots = padded 254 (r .roots);
   states = padded 254 (r .states);
+}
+
+-- the record without its arrays, and the record of such a head and four arrays
+abbrev pub headOf : Session → Head
+headOf s = record {
+  phase = s .phase;
+  yes = s .yes;
+  n = s .n;
+  s = s .s;
+  k = s .k;
+  m = s .m;
+  parts = s .parts;
+  handled = s .handled;
+  links = s .links;
+}
+
+abbrev pub whole : Head → List ℕ → List ℕ → List ℕ → List ℕ → Session
+whole h nodes labels roots states = record {
+  phase = h .phase;
+  yes = h .yes;
+  n = h .n;
+  s = h .s;
+  k = h .k;
+  m = h .m;
+  parts = h .parts;
+  handled = h .handled;
+  links = h .links;
+  nodes = nodes;
+  labels = labels;
+  roots = roots;
+  states = states;
 }
 
 abbrev pub freshSession : Session

@@ -63,9 +63,10 @@ steppedOf s p q l y = record {
 }
 
 pub record NextArgs (s : Session) : Type 0 where
-  pub few : s .m ≤ 64
-  pub few-parts : s .parts ≤ 254
-  pub few-handled : s .handled ≤ 254
+  pub few : s .m ≤ length (s .nodes)
+  pub few-labels : s .m ≤ length (s .labels)
+  pub few-parts : s .parts ≤ length (s .roots)
+  pub few-handled : s .handled ≤ length (s .states)
 
 pub record StepArgs (s : Session) (l : ℕ) : Type 0 where
   pub room : s .handled < 254

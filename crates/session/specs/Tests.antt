@@ -1,7 +1,8 @@
 -- What the type of a struct says of its arrays, and what the tests of a struct's parts ask.
 --
 -- Shaped s == the four arrays have the layout's lengths
--- Parted s == the plan has a node, and no more parts are handled than there are
+-- ListShaped vs bs, PartsShaped h rs qs == two arrays have these lengths; for parts also: the plan has a node, and no more
+--   parts are handled than there are
 -- lentOf plan rules nums bytes == what a call is lent, as one record
 -- loadedBy n s k, loadedFrom plan rules == the record after a first Load
 -- Headers plan rules == both headers are whole, and N, S and K are at most their limits
@@ -15,6 +16,7 @@ use Rattle.formats.specs.Plan.{nodeCount}
 use Rattle.formats.specs.Rules.{stateCount, labelCount}
 use Rattle.book.specs.Lends.{Lent}
 use Rattle.book.specs.Model.{Record, loadedRecord}
+use Rattle.session.specs.declared.state.Head.{Head}
 use Rattle.session.specs.declared.state.Session.{Session}
 
 pub record Shaped (s : Session) : Type 0 where
@@ -23,9 +25,15 @@ pub record Shaped (s : Session) : Type 0 where
   pub roots : length (s .roots) ≡ 254
   pub states : length (s .states) ≡ 254
 
-pub record Parted (s : Session) : Type 0 where
-  pub some-node : 1 ≤ s .n
-  pub counted : s .handled ≤ s .parts
+pub record ListShaped (vs bs : List ℕ) : Type 0 where
+  pub nodes : length vs ≡ 64
+  pub labels : length bs ≡ 64
+
+pub record PartsShaped (h : Head) (rs qs : List ℕ) : Type 0 where
+  pub roots : length rs ≡ 254
+  pub states : length qs ≡ 254
+  pub some-node : 1 ≤ h .n
+  pub counted : h .handled ≤ h .parts
 
 abbrev pub lentOf : List ℕ → List ℕ → List ℕ → List ℕ → Lent
 lentOf plan rules nums bytes = record { plan = plan; rules = rules; nums = nums; bytes = bytes }

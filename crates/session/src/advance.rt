@@ -2,6 +2,7 @@
 use crate::answers::Advanced;
 use crate::answers::Advancing;
 use crate::may::is_running;
+use crate::state::Head;
 use crate::state::Phase;
 use crate::state::Session;
 use formats::rules::inner_count;
@@ -13,34 +14,41 @@ ghost use lib.ListN.{take};
 ghost use Rattle.questions.specs.PartTold.{toldReached, partGiven};
 ghost use Rattle.book.specs.Calls as calls;
 ghost use Rattle.session.specs.Promises.{CallDone, advancingAnswer};
+ghost use Rattle.session.specs.Records.{whole};
 ghost use Rattle.session.specs.Tests.{lentOf};
 ghost use Rattle.session.specs.Steps.{NextArgs, StepArgs, MarkArgs, HandleArgs, markedIn, steppedOf, handledBy};
 
 // The part that comes next: with the record's lists, without the zeros behind them.
-fn next_part(s: Session, plan: &[u8], rules: &[u8], nums: &[u16], bytes: &[u8]) -> Climbed
-    requires { ⌜ NextArgs s ⌝ }
+fn next_part<'a>(
+    h: Head,
+    plan: &[u8],
+    rules: &[u8],
+    nums: &[u16],
+    bytes: &[u8],
+    nodes: &'a [u16],
+    labels: &'a [u8],
+    roots: &'a [u16],
+    states: &'a [u8],
+) -> Climbed
+    requires { ⌜ NextArgs (whole h (now nodes) (now labels) (now roots) (now states)) ⌝ }
     ensures { λ r. ⌜
-        r ≡ toldReached (partGiven (s .n) (s .s) (s .k) (now (plan .entry)) (now (rules .entry)) (now (nums .entry))
-        (now (bytes .entry)) (take (s .parts) (s .roots)) (take (s .handled) (s .states)) (take (s .m) (s .nodes))
-        (take (s .m) (s .labels))) ⌝ }
+        r ≡ toldReached (partGiven (h .n) (h .s) (h .k) (now (plan .entry)) (now (rules .entry)) (now (nums .entry))
+        (now (bytes .entry)) (take (h .parts) (now (roots .entry))) (take (h .handled) (now (states .entry)))
+        (take (h .m) (now (nodes .entry))) (take (h .m) (now (labels .entry)))) ⌝ }
 {
-    let roots = s.roots;
-    let states = s.states;
-    let nodes = s.nodes;
-    let labels = s.labels;
-    let p = s.parts as usize;
-    let h = s.handled as usize;
-    let m = s.m as usize;
+    let p = h.parts as usize;
+    let done = h.handled as usize;
+    let m = h.m as usize;
     part(
-        s.n as usize,
-        s.s as usize,
-        s.k as usize,
+        h.n as usize,
+        h.s as usize,
+        h.k as usize,
         plan,
         rules,
         nums,
         bytes,
         &roots[..p],
-        &states[..h],
+        &states[..done],
         &nodes[..m],
         &labels[..m],
     )
@@ -110,22 +118,33 @@ impl Session {
             (calls.advance (lentOf (now (plan .entry)) (now (rules .entry)) (now (nums .entry)) (now (bytes .entry))))
             (advancingAnswer (r .told)) (r .rec) ⌝ }
     {
-        if !is_running(self) {
+        let n = self.n as usize;
+        let s = self.s as usize;
+        let k = self.k as usize;
+        let h = self.head();
+        if !is_running(h, &self.nodes, &self.labels, &self.roots, &self.states) {
             return Advanced {
                 told: Advancing::Refused(1),
                 rec: self,
             };
         }
-        let n = self.n as usize;
-        let s = self.s as usize;
-        let k = self.k as usize;
         if !lengths_fit(n, s, k, plan.len(), rules.len(), nums.len(), bytes.len()) {
             return Advanced {
                 told: Advancing::Refused(17),
                 rec: self,
             };
         }
-        match next_part(self, plan, rules, nums, bytes) {
+        match next_part(
+            h,
+            plan,
+            rules,
+            nums,
+            bytes,
+            &self.nodes,
+            &self.labels,
+            &self.roots,
+            &self.states,
+        ) {
             Climbed::Reached(q, links) => {
                 return handled(self, rules, q, links);
             }

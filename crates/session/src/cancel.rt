@@ -15,7 +15,13 @@ impl Session {
     pub fn cancel(self) -> Done
         ensures { λ r. ⌜ CallDone self calls.cancel (doingAnswer (r .told)) (r .rec) ⌝ }
     {
-        if !is_running(self) {
+        if !is_running(
+            self.head(),
+            &self.nodes,
+            &self.labels,
+            &self.roots,
+            &self.states,
+        ) {
             return Done {
                 told: Doing::Refused(1),
                 rec: self,
@@ -32,7 +38,13 @@ impl Session {
     pub fn read(self) -> Reading
         ensures { λ r. ⌜ readingAnswer r ≡ answerOn self calls.read ⌝ }
     {
-        if !is_answered(self) {
+        if !is_answered(
+            self.head(),
+            &self.nodes,
+            &self.labels,
+            &self.roots,
+            &self.states,
+        ) {
             return Reading::Refused(1);
         }
         let states = self.states;

@@ -17,7 +17,13 @@ impl Session {
             (lentOf (now (plan .entry)) (now (rules .entry)) (now (nums .entry)) (now (bytes .entry)))
             (doingAnswer (r .told)) (r .rec) (now (nums .exit)) (now (bytes .exit)) ⌝ }
     {
-        if !may_load(self) {
+        if !may_load(
+            self.head(),
+            &self.nodes,
+            &self.labels,
+            &self.roots,
+            &self.states,
+        ) {
             return Done {
                 told: Doing::Refused(1),
                 rec: self,

@@ -58,15 +58,21 @@ impl Session {
             (now (nodes .entry)) (now (labels .entry)))
             (startingAnswer (r .told)) (r .rec) ⌝ }
     {
-        if !may_start(self) {
+        let n = self.n as usize;
+        let s = self.s as usize;
+        let k = self.k as usize;
+        if !may_start(
+            self.head(),
+            &self.nodes,
+            &self.labels,
+            &self.roots,
+            &self.states,
+        ) {
             return Started {
                 told: Starting::Refused(1),
                 rec: self,
             };
         }
-        let n = self.n as usize;
-        let s = self.s as usize;
-        let k = self.k as usize;
         if !lengths_fit(n, s, k, plan.len(), rules.len(), nums.len(), bytes.len()) {
             return Started {
                 told: Starting::Refused(17),

@@ -1,6 +1,6 @@
 use formats::limits;
 ghost use mathlib.Core.Path.{_≡_};
-ghost use Rattle.session.specs.Records.{freshSession};
+ghost use Rattle.session.specs.Records.{freshSession, headOf};
 
 // Which of the four states a session is in.
 pub enum Phase {
@@ -28,7 +28,20 @@ pub struct Session {
     pub states: [u8; 254],
 }
 
-// The limits of document 01, and a fresh session.
+// The record without its arrays. Tests take it beside the lent arrays, so that the record is not copied for them.
+pub struct Head {
+    pub phase: Phase,
+    pub yes: bool,
+    pub n: u16,
+    pub s: u8,
+    pub k: u8,
+    pub m: u8,
+    pub parts: u8,
+    pub handled: u8,
+    pub links: u32,
+}
+
+// The limits of document 01, a fresh session, and a session's head.
 impl Session {
     pub const NODE_LIMIT: usize = limits::NODE_LIMIT;
 
@@ -56,6 +69,23 @@ impl Session {
             labels: [0u8; 64],
             roots: [0u16; 254],
             states: [0u8; 254],
+        }
+    }
+
+    pub fn head(self) -> Head
+        ensures { λ r. ⌜ r ≡ headOf self ⌝ }
+    {
+        let phase = self.phase;
+        Head {
+            phase,
+            yes: self.yes,
+            n: self.n,
+            s: self.s,
+            k: self.k,
+            m: self.m,
+            parts: self.parts,
+            handled: self.handled,
+            links: self.links,
         }
     }
 }

@@ -2,11 +2,16 @@
 -- Assumes nothing.
 use mathlib.Core.Path.{refl}
 use Rattle.book.specs.Calls.{isAnswered}
-use Rattle.session.specs.Records.{phaseOf}
+use Rattle.session.specs.declared.state.Session.{Session}
+use Rattle.session.specs.Records.{phaseOf, whole}
+use Rattle.session.proofs.ValidLaws.{phase-test}
 use Rattle.session.proofs.CallLaws.{state-yes, state-no}
 use borrow.Author.Needs.{needs}
 use Rattle.session.proofs.may.is_answered.Statement.{statement}
 use Rattle.session.proofs.may.is_answered.Tie as tie
+
+abbrev of : tie.Start → Session
+of a = whole (a .args .h) (a .args .nodes .now) (a .args .labels .now) (a .args .roots .now) (a .args .states .now)
 
 enum-told : tie.Need-enum-told
 enum-told c = search needs
@@ -20,25 +25,30 @@ enum-told-3 c = search needs
 enum-told-4 : tie.Need-enum-told-4
 enum-told-4 c = search needs
 
-valid-requires : tie.Need-valid-requires
-valid-requires c κs = search needs
+answered-fits-requires : tie.Need-answered-fits-requires
+answered-fits-requires c κs = search needs
 
 returns : tie.Need-returns
 unfolding phaseOf isAnswered
-returns c = state-no isAnswered (c .before .before .args .s) _ (c .enum-told .given .1) refl
+returns c =
+    state-no isAnswered (of (c .before .before .before .before .before .before)) _ (c .enum-told .given .1) refl
 
 returns-2 : tie.Need-returns-2
 unfolding phaseOf isAnswered
-returns-2 c = state-no isAnswered (c .before .before .args .s) _ (c .enum-told2 .given .1) refl
+returns-2 c =
+    state-no isAnswered (of (c .before .before .before .before .before .before)) _ (c .enum-told2 .given .1) refl
 
 returns-3 : tie.Need-returns-3
 unfolding phaseOf isAnswered
-returns-3 c = state-no isAnswered (c .before .before .args .s) _ (c .enum-told3 .given .1) refl
+returns-3 c =
+    state-no isAnswered (of (c .before .before .before .before .before .before)) _ (c .enum-told3 .given .1) refl
 
 returns-4 : tie.Need-returns-4
 unfolding phaseOf isAnswered
 returns-4 c =
-    state-yes isAnswered (c .before .before .before .args .s) _ (c .before .enum-told4 .given .1) refl _ (c .valid .ensures)
+    let e = c .before in
+    state-yes isAnswered (of (c .before .before .before .before .before .before .before)) _ (e .enum-told4 .given .1) refl _
+    (phase-test (of (c .before .before .before .before .before .before .before)) _ _ (c .answered-fits .ensures) (e .enum-told4 .given .1))
 
 pub is-answered-spec : {M : Type 1} → statement M
 is-answered-spec =
@@ -48,7 +58,7 @@ is-answered-spec =
     enum-told-2
     enum-told-3
     enum-told-4
-    valid-requires
+    answered-fits-requires
     returns
     returns-2
     returns-3

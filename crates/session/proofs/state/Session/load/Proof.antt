@@ -1,21 +1,33 @@
 -- `session::state::Session::load` meets its contract. Each return cites the law of its answer.
 -- Assumes nothing.
 use Rattle.book.specs.Lends.{Lent}
+use mathlib.Core.Path.{_≡_}
+use mathlib.Core.Bool.{_&&_}
+use Rattle.book.specs.Calls.{mayLoad}
+use Rattle.session.specs.Records.{phaseOf, valid}
 use Rattle.session.specs.Tests.{Shaped, lentOf}
 use Rattle.session.proofs.Shapes.{shaped}
+use Rattle.session.proofs.CallLaws.{may-by}
 use Rattle.session.proofs.LoadLaws.{load-1, load-headers, load-built, load-refused}
 use borrow.Author.Needs.{needs}
 use Rattle.session.proofs.state.Session.load.Statement.{statement}
 use Rattle.session.proofs.state.Session.load.Tie as tie
 
-shape : (c : tie.Start) → Shaped (c .args .self)
-shape c = shaped (c .args .self) (c .good .0)
+shape : (c : tie.Start) → Shaped (c .args .t1)
+shape c = shaped (c .args .t1) (c .good .0)
 
 abbrev lent : tie.Start → Lent
 lent c = lentOf (c .args .plan .now) (c .args .rules .now) (c .args .nums .now) (c .args .bytes .now)
 
 abbrev of : tie.After-may-load → tie.Start
-of a = a .before .before .before .before .before
+of a = a .before .before .before .before .before .before .before .before .before .before .before .before .before .before .before
+
+may : (m : tie.After-may-load) → m .may-load .result
+    ≡ (valid (of m .args .t1) && mayLoad (phaseOf (of m .args .t1 .phase)))
+may m = may-by mayLoad (of m .args .t1) _ (m .before .before .before .before .before .before .before .before .before .before .head .ensures) _ (m .may-load .ensures)
+
+head-requires : tie.Need-head-requires
+head-requires c κs = search needs
 
 may-load-requires : tie.Need-may-load-requires
 may-load-requires c κs = search needs
@@ -23,7 +35,7 @@ may-load-requires c κs = search needs
 returns : tie.Need-returns
 returns c =
     let m = c .before in
-    load-1 (of m .args .self) (shape (of m)) (lent (of m)) _ (m .may-load .ensures) (c .if1 .taken)
+    load-1 (of m .args .t1) (shape (of m)) (lent (of m)) _ (may m) (c .if1 .taken)
 
 build-rules-requires : tie.Need-build-rules-requires
 build-rules-requires c κs = search needs
@@ -36,7 +48,7 @@ loaded-from-requires c κs =
     let b = c .before .before .before .before .before .before in
     let e = b .before .before .before in
     let m = e .before in
-    load-headers (of m .args .self) (shape (of m)) (lent (of m)) _ (m .may-load .ensures) (e .if1 .left) _ _ _
+    load-headers (of m .args .t1) (shape (of m)) (lent (of m)) _ (may m) (e .if1 .left) _ _ _
     (b .build-rules .ensures) (c .enum-told .given .1)
 
 same-length : tie.Need-same-length
@@ -51,7 +63,7 @@ returns-2 c =
     let b = d .before .before .before .before .before .before in
     let e = b .before .before .before in
     let m = e .before in
-    load-built (of m .args .self) (shape (of m)) (lent (of m)) _ (m .may-load .ensures) (e .if1 .left) _ _ _
+    load-built (of m .args .t1) (shape (of m)) (lent (of m)) _ (may m) (e .if1 .left) _ _ _
     (b .build-rules .ensures) (d .enum-told .given .1) _ (c .loaded-from .ensures)
 
 enum-known-n : tie.Need-enum-known-n
@@ -69,13 +81,14 @@ returns-3 c =
     let b = d .before .before .before .before .before .before in
     let e = b .before .before .before in
     let m = e .before in
-    load-refused (of m .args .self) (shape (of m)) (lent (of m)) _ (m .may-load .ensures) (e .if1 .left) _ _ _
+    load-refused (of m .args .t1) (shape (of m)) (lent (of m)) _ (may m) (e .if1 .left) _ _ _
     (b .build-rules .ensures) _ (d .n .given .1)
 
 pub load-spec : {M : Type 1} → statement M
 load-spec =
     tie.close
     (tie.spec
+    head-requires
     may-load-requires
     returns
     build-rules-requires

@@ -1,11 +1,15 @@
 -- `session::state::Session::start` meets its contract. Each return cites the law of its answer.
 -- Assumes nothing.
 use Prim.Native.Nat.{_*_}
-use mathlib.Core.Path.{sym}
 use lib.Seq.{length-take-le}
 use Rattle.book.specs.Lends.{Lent}
+use mathlib.Core.Path.{_≡_, sym}
+use mathlib.Core.Bool.{_&&_}
+use Rattle.book.specs.Calls.{mayStart}
+use Rattle.session.specs.Records.{phaseOf, valid}
 use Rattle.session.specs.Tests.{Shaped, lentOf}
 use Rattle.session.proofs.Shapes.{shaped}
+use Rattle.session.proofs.CallLaws.{may-by}
 use Rattle.session.proofs.StartLaws.{start-1, start-limits, start-17, start-room, start-list, start-listed, start-18}
 use Rattle.session.proofs.StartLaws.{start-count, start-yes}
 use native.Mathlib.Omega.{arith}
@@ -13,14 +17,21 @@ use borrow.Author.Needs.{needs}
 use Rattle.session.proofs.state.Session.start.Statement.{statement}
 use Rattle.session.proofs.state.Session.start.Tie as tie
 
-shape : (c : tie.Start) → Shaped (c .args .self)
-shape c = shaped (c .args .self) (c .good .0)
+shape : (c : tie.Start) → Shaped (c .args .t1)
+shape c = shaped (c .args .t1) (c .good .0)
 
 abbrev lent : tie.Start → Lent
 lent c = lentOf (c .args .plan .now) (c .args .rules .now) (c .args .nums .now) (c .args .bytes .now)
 
 abbrev of : tie.After-may-start → tie.Start
-of a = a .before .before .before .before .before .before .before
+of a = a .before .before .before .before .before .before .before .before .before .before .before .before .before .before .before .before .before
+
+may : (m : tie.After-may-start) → m .may-start .result
+    ≡ (valid (of m .args .t1) && mayStart (phaseOf (of m .args .t1 .phase)))
+may m = may-by mayStart (of m .args .t1) _ (m .before .before .before .before .before .before .before .before .before .before .head .ensures) _ (m .may-start .ensures)
+
+head-requires : tie.Need-head-requires
+head-requires c κs = search needs
 
 may-start-requires : tie.Need-may-start-requires
 may-start-requires c κs = search needs
@@ -28,8 +39,8 @@ may-start-requires c κs = search needs
 returns : tie.Need-returns
 returns c =
     let m = c .before in
-    start-1 (of m .args .self) (shape (of m)) (lent (of m)) (of m .args .nodes .now) (of m .args .labels .now) _
-    (m .may-start .ensures) (c .if1 .taken)
+    start-1 (of m .args .t1) (shape (of m)) (lent (of m)) (of m .args .nodes .now) (of m .args .labels .now) _
+    (may m) (c .if1 .taken)
 
 cast-n : tie.Need-cast-n
 cast-n c = search needs
@@ -42,18 +53,17 @@ cast-k c = search needs
 
 lengths-fit-requires : tie.Need-lengths-fit-requires
 lengths-fit-requires c κs =
-    let e = c .before .before .before in
-    let m = e .before in
-    start-limits (of m .args .self) (shape (of m)) (lent (of m)) (of m .args .nodes .now) (of m .args .labels .now) _
-    (m .may-start .ensures) (e .if1 .left)
+    let m = c .before in
+    start-limits (of m .args .t1) (shape (of m)) (lent (of m)) (of m .args .nodes .now) (of m .args .labels .now) _
+    (may m) (c .if1 .left)
 
 returns-2 : tie.Need-returns-2
 returns-2 c =
     let k = c .before in
-    let e = k .before .before .before .before in
+    let e = k .before in
     let m = e .before in
-    start-17 (of m .args .self) (shape (of m)) (lent (of m)) (of m .args .nodes .now) (of m .args .labels .now) _
-    (m .may-start .ensures)
+    start-17 (of m .args .t1) (shape (of m)) (lent (of m)) (of m .args .nodes .now) (of m .args .labels .now) _
+    (may m)
     (e .if1 .left) _ (k .lengths-fit .ensures) (c .if2 .taken)
 
 check-list-requires : tie.Need-check-list-requires
@@ -64,25 +74,32 @@ returns-3 c =
     let l = c .before in
     let t = l .before in
     let k = t .before in
-    let e = k .before .before .before .before in
+    let e = k .before in
     let m = e .before in
-    start-list (of m .args .self) (shape (of m)) (lent (of m)) (of m .args .nodes .now) (of m .args .labels .now) _
-    (m .may-start .ensures)
+    start-list (of m .args .t1) (shape (of m)) (lent (of m)) (of m .args .nodes .now) (of m .args .labels .now) _
+    (may m)
     (e .if1 .left) _ (k .lengths-fit .ensures) (t .if2 .left) _ (l .check-list .ensures) (c .if3 .taken)
 
 mul-roots : tie.Need-mul-roots
-mul-roots c = search needs
+mul-roots c =
+    let e = c .before .before .before .before in
+    let m = e .before in
+    omega (
+      arith,
+      start-limits (of m .args .t1) (shape (of m)) (lent (of m)) (of m .args .nodes .now) (of m .args .labels .now) _
+          (may m) (e .if1 .left) .most,
+    )
 
 slice-aggregate-roots : tie.Need-slice-aggregate-roots
 slice-aggregate-roots c =
     let t = c .before .before .before in
     let k = t .before in
-    let e = k .before .before .before .before in
+    let e = k .before in
     let m = e .before in
     let h =
-    start-room (of m .args .self) (shape (of m)) (lent (of m)) (of m .args .nodes .now) (of m .args .labels .now) _
-    (m .may-start .ensures) (e .if1 .left) _ (k .lengths-fit .ensures) (t .if2 .left) in
-    sym (length-take-le (of m .args .self .n * 4) (of m .args .nums .now) h)
+    start-room (of m .args .t1) (shape (of m)) (lent (of m)) (of m .args .nodes .now) (of m .args .labels .now) _
+    (may m) (e .if1 .left) _ (k .lengths-fit .ensures) (t .if2 .left) in
+    sym (length-take-le (of m .args .t1 .n * 4) (of m .args .nums .now) h)
 
 roots-requires : tie.Need-roots-requires
 roots-requires c κs = search needs
@@ -94,10 +111,10 @@ returns-4 c =
     let l = u .before in
     let t = l .before in
     let k = t .before in
-    let e = k .before .before .before .before in
+    let e = k .before in
     let m = e .before in
-    start-18 (of m .args .self) (shape (of m)) (lent (of m)) (of m .args .nodes .now) (of m .args .labels .now) _
-    (m .may-start .ensures)
+    start-18 (of m .args .t1) (shape (of m)) (lent (of m)) (of m .args .nodes .now) (of m .args .labels .now) _
+    (may m)
     (e .if1 .left) _ (k .lengths-fit .ensures) (t .if2 .left) _ (l .check-list .ensures) (u .if3 .left) _ (r .roots .ensures .told)
     (c .if4 .taken)
 
@@ -109,12 +126,12 @@ cast-count c =
     let l = u .before in
     let t = l .before in
     let k = t .before in
-    let e = k .before .before .before .before in
+    let e = k .before in
     let m = e .before in
     omega (
       arith,
-      start-count (of m .args .self) (shape (of m)) (lent (of m)) (of m .args .nodes .now) (of m .args .labels .now) _
-          (m .may-start .ensures)
+      start-count (of m .args .t1) (shape (of m)) (lent (of m)) (of m .args .nodes .now) (of m .args .labels .now) _
+          (may m)
           (e .if1 .left) _ (k .lengths-fit .ensures) (t .if2 .left) _ (l .check-list .ensures) (u .if3 .left) _
           (r .roots .ensures .told) (w .if4 .left),
     )
@@ -127,10 +144,10 @@ started-requires c κs =
     let l = u .before in
     let t = l .before in
     let k = t .before in
-    let e = k .before .before .before .before in
+    let e = k .before in
     let m = e .before in
-    start-listed (of m .args .self) (shape (of m)) (lent (of m)) (of m .args .nodes .now) (of m .args .labels .now) _
-    (m .may-start .ensures)
+    start-listed (of m .args .t1) (shape (of m)) (lent (of m)) (of m .args .nodes .now) (of m .args .labels .now) _
+    (may m)
     (e .if1 .left) _ (k .lengths-fit .ensures) (t .if2 .left) _ (l .check-list .ensures) (u .if3 .left)
 
 returns-5 : tie.Need-returns-5
@@ -141,10 +158,10 @@ returns-5 c =
     let l = u .before in
     let t = l .before in
     let k = t .before in
-    let e = k .before .before .before .before in
+    let e = k .before in
     let m = e .before in
-    start-yes (of m .args .self) (shape (of m)) (lent (of m)) (of m .args .nodes .now) (of m .args .labels .now) _
-    (m .may-start .ensures)
+    start-yes (of m .args .t1) (shape (of m)) (lent (of m)) (of m .args .nodes .now) (of m .args .labels .now) _
+    (may m)
     (e .if1 .left) _ (k .lengths-fit .ensures) (t .if2 .left) _ (l .check-list .ensures) (u .if3 .left) _ (r .roots .ensures .told)
     (w .if4 .left)
     _ (c .started .ensures)
@@ -153,11 +170,12 @@ pub start-spec : {M : Type 1} → statement M
 start-spec =
     tie.close
     (tie.spec
-    may-start-requires
-    returns
     cast-n
     cast-s
     cast-k
+    head-requires
+    may-start-requires
+    returns
     lengths-fit-requires
     returns-2
     check-list-requires
