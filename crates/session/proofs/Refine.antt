@@ -1,7 +1,7 @@
 -- The calls' promises refine the model of the session (crate book, Model).
 --     Seen s r         struct s passes its conditions and holds record r
 --     fresh-seen       the fresh session holds the fresh record
---     call-refines, done-refines     a call on such a struct: the model's step, and again such a struct
+--     call-refines     a call on such a struct: the model's step, and again such a struct
 --     read-keeps       Read alters nothing
 --     step-refines     each of the five
 -- Assumes nothing.
@@ -63,7 +63,7 @@ module _ (s : Session) (r : Record) (i : Seen s r) (c : Call) where
     subst (λ (t : Session). Seen t (act r c .record′)) (sym (g ∙ record-is)) after-seen,
   )
 
-  pub done-refines : (a : Answer) (s′ : Session) → CallDone s c a s′ → (r′ : Record) × Does r c a r′ × Seen s′ r′
+  done-refines : (a : Answer) (s′ : Session) → CallDone s c a s′ → (r′ : Record) × Does r c a r′ × Seen s′ r′
   done-refines a s′ d = call-refines a s′ (d .tells) (d .leaves)
 
 -- Read alters nothing

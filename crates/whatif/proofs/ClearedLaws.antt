@@ -41,8 +41,8 @@ use Rattle.session.specs.Records.{freshSession}
 use Rattle.session.specs.Tests.{lentOf}
 use Rattle.session.specs.declared.answers.Doing.{Doing}
 use Rattle.session.specs.declared.answers.Doing.the-variants.{Done}
-use Rattle.session.specs.Promises.{CallDone, LoadDone, doingAnswer, answerOn, recordOn, refusalOn}
-use Rattle.session.proofs.Refine.{Seen, fresh-seen, done-refines}
+use Rattle.session.specs.Promises.{LoadDone, doingAnswer, answerOn, recordOn, refusalOn}
+use Rattle.session.proofs.Refine.{Seen, fresh-seen, call-refines}
 use Rattle.whatif.specs.Asked.{afterAdvance, finishedIn, mostParts, afterStart, askedOn}
 use Rattle.whatif.specs.Cleared.{answerBy, answerTo, Cleared}
 
@@ -56,11 +56,8 @@ fresh-follows : Follows freshSession newBook
 fresh-follows = record { holds = freshRecord; seen = fresh-seen; agrees = session-model }
 
 module _ (s : Session) (b : Book) (F : Follows s b) (c : Call) where
-  does : CallDone s c (answerOn s c) (recordOn s c)
-  does = record { tells = refl; leaves = refl }
-
   answer-is : answerOn s c ≡ act (F .holds) c .answer
-  answer-is = done-refines s (F .holds) (F .seen) c _ _ does .1 .tells
+  answer-is = call-refines s (F .holds) (F .seen) c _ _ refl refl .1 .tells
 
   conforms : Conforms (step b c) (answerOn s c)
   unfolding answersOf
@@ -69,7 +66,7 @@ module _ (s : Session) (b : Book) (F : Follows s b) (c : Call) where
   follows : Follows (recordOn s c) (after (step b c) (answerOn s c))
   unfolding answersOf
   follows =
-      let d = done-refines s (F .holds) (F .seen) c _ _ does in
+      let d = call-refines s (F .holds) (F .seen) c _ _ refl refl in
       record {
         holds = act (F .holds) c .record′;
         seen = subst (Seen (recordOn s c)) (d .1 .leaves) (d .2);
