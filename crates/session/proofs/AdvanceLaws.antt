@@ -14,7 +14,7 @@ use lib.ListN.{length, getD, take, drop}
 use lib.Seq.{length-take-le, getD-take, getD-drop}
 use borrow.Author.Tests.{not-true, not-false, le-leb, lt-ltb, eq-eqb, ne-eqb, eqb-true, ltb-true}
 use Rattle.formats.specs.Checks.{check, firstNo}
-use Rattle.formats.proofs.CheckLaws.{and-both, and-left, and-right, firstNo-yes, firstNo-no}
+use Rattle.formats.proofs.CheckLaws.{true-false, and-both, and-left, and-right, firstNo-yes, firstNo-no}
 use Rattle.questions.specs.declared.answer.Climbed.{Climbed}
 use Rattle.questions.specs.declared.answer.Climbed.the-variants.{Reached as Told, Outside}
 use Rattle.questions.specs.Climbs.{Reached}
@@ -34,10 +34,12 @@ use Rattle.session.specs.declared.state.Head.{Head}
 use Rattle.session.specs.declared.state.Session.{Session}
 use Rattle.session.specs.declared.answers.Advancing.the-variants.{More, Finished, Refused as NotAdvanced}
 use Rattle.session.specs.declared.answers.Advanced.{Advanced}
+use Rattle.session.specs.declared.answers.Step.{Step}
 use Rattle.session.specs.Records.{phaseOf, phaseTo, sizesOf, recordOf, headOf, whole, sessionOf, risesTo, valid}
 use Rattle.session.specs.Promises.{CallDone, advancingAnswer}
 use Rattle.session.specs.Tests.{Shaped}
-use Rattle.session.specs.Steps.{NextArgs, HandleArgs, markedIn, steppedOf, handledBy}
+use Rattle.session.specs.Steps.{NextArgs, HandleArgs, markedIn, steppedOf, handledBy, steppedHead, stepBy}
+use Rattle.session.specs.Steps.{refusedStep, stepOn, StepFound}
 use Rattle.session.proofs.PadLaws.{padded-take, padded-more}
 use Rattle.session.proofs.RecordLaws.{Tails}
 use Rattle.session.proofs.Holds.{Sized, Going, holds-of, tails-of, struct-is}
@@ -50,34 +52,47 @@ pub mark-at : (rules : List ℕ) (s k p q : ℕ) → p ≡ s * k * s → q < s
 mark-at rules s k p q e h =
     rw (e, getD-take s (drop (20 + k + s * k * s) rules) q 0 h, getD-drop (20 + k + s * k * s) rules q 0)
 
--- what the code asks for the next part, of a struct, and of a head that is the struct's with its arrays
-abbrev pub askedOn : Session → Lent → Option Reached
-askedOn s x =
-    partGiven (s .n) (s .s) (s .k) (x .plan) (x .rules) (x .nums) (x .bytes) (take (s .parts) (s .roots))
-    (take (s .handled) (s .states)) (take (s .m) (s .nodes)) (take (s .m) (s .labels))
-
-module _ (s : Session) (h : Head) (e : h ≡ headOf s) where
-  pub next-by : NextArgs s → NextArgs (whole h (s .nodes) (s .labels) (s .roots) (s .states))
-  next-by a = subst (λ (y : Head). NextArgs (whole y (s .nodes) (s .labels) (s .roots) (s .states))) (sym e) a
-
-  pub part-by : (x : Lent) (k : Climbed)
-      → k ≡ toldReached (askedOn (whole h (s .nodes) (s .labels) (s .roots) (s .states)) x)
-      → k ≡ toldReached (askedOn s x)
-  part-by x k f =
-      f ∙ ap (λ (y : Head). toldReached (askedOn (whole y (s .nodes) (s .labels) (s .roots) (s .states)) x)) e
-
 -- the last part, and any other
-module _ (s : Session) (rules : List ℕ) (q l : ℕ) (t : Session) where
-  pub handled-last : s .handled + 1 ≡ s .parts → (y : Bool) → t ≡ steppedOf s Answered q l y
-      → y ≡ markedIn (s .s) (s .k) rules q
-      → _≡_ {A = Advanced} (record { told = Finished; rec = t }) (handledBy s rules q l)
-  unfolding handledBy
-  handled-last e y f g = rw (eq-eqb (s .handled + 1) (s .parts) e, f, g)
+module _ (h : Head) (rules : List ℕ) (q l : ℕ) (t : Head) where
+  pub handled-last : h .handled + 1 ≡ h .parts → (y : Bool) → t ≡ steppedHead h Answered l y
+      → y ≡ markedIn (h .s) (h .k) rules q
+      → _≡_ {A = Step} (record { told = Finished; head = t; made = true; state = q }) (stepBy h rules q l)
+  unfolding stepBy
+  handled-last e y f g = rw (eq-eqb (h .handled + 1) (h .parts) e, f, g)
 
-  pub handled-more : (s .handled + 1 ≡ s .parts → ⊥) → t ≡ steppedOf s Running q l false
-      → _≡_ {A = Advanced} (record { told = More; rec = t }) (handledBy s rules q l)
-  unfolding handledBy
-  handled-more e f = rw (ne-eqb (s .handled + 1) (s .parts) e, f)
+  pub handled-more : (h .handled + 1 ≡ h .parts → ⊥) → t ≡ steppedHead h Running l false
+      → _≡_ {A = Step} (record { told = More; head = t; made = true; state = q }) (stepBy h rules q l)
+  unfolding stepBy
+  handled-more e f = rw (ne-eqb (h .handled + 1) (h .parts) e, f)
+
+-- ---- a step and the record that is made of it
+
+pub step-same : (s : Session) (rules : List ℕ) (q l : ℕ) → stepOn s (stepBy (headOf s) rules q l) ≡ handledBy s rules q l
+unfolding stepBy handledBy
+step-same s rules q l = go (eqb (s .handled + 1) (s .parts))
+  where
+    go : (d : Bool)
+        → stepOn s (cond d
+        (record { told = Finished; head = steppedHead (headOf s) Answered l (markedIn (s .s) (s .k) rules q); made = true; state = q })
+        (record { told = More; head = steppedHead (headOf s) Running l false; made = true; state = q }))
+        ≡ cond d
+        (record { told = Finished; rec = steppedOf s Answered q l (markedIn (s .s) (s .k) rules q) })
+        (record { told = More; rec = steppedOf s Running q l false })
+    go true = refl
+    go false = refl
+
+module _ (s : Session) (c : Call) where
+  pub refused-found : (n : ℕ) (t : Step) → t ≡ refusedStep (headOf s) n → CallDone s c (advancingAnswer (NotAdvanced n)) s
+      → StepFound s c t
+  refused-found n t e d =
+      subst (λ (u : Step). StepFound s c u) (sym e) (record { done = d; room = λ f. absurd (true-false (sym f)) })
+
+  pub found-by : (h : Head) → h ≡ headOf s → (t : Step)
+      → StepFound (whole h (s .nodes) (s .labels) (s .roots) (s .states)) c t → StepFound s c t
+  found-by h e t f = subst (λ (y : Head). StepFound (whole y (s .nodes) (s .labels) (s .roots) (s .states)) c t) e f
+
+  pub step-done : (t : Step) → StepFound s c t → (a : Advanced) → a ≡ stepOn s t → CallDone s c (advancingAnswer (a .told)) (a .rec)
+  step-done t f a e = subst (λ (b : Advanced). CallDone s c (advancingAnswer (b .told)) (b .rec)) (sym e) (f .done)
 
 -- a list that rises to e is nowhere above it
 pub rises-below : (e : ℕ) (l : List ℕ) (i : ℕ) → risesTo e l ≡ true → i < length l → getD l i 0 ≤ e
@@ -291,7 +306,7 @@ module _ (s : Session) (h : Shaped s) (x : Lent) (b : Bool) (may : b ≡ (valid 
             unfolding recordOf
             bounded = part-bounded (viewBy (sizesOf s) x) _ _ _ _ _ (one .0) (one .1)
 
-            pub handle-args : HandleArgs s (x .rules) q l
+            pub handle-args : HandleArgs (headOf s) (x .rules) q l
             unfolding recordOf
             handle-args = record {
               marks = record {
@@ -317,3 +332,9 @@ module _ (s : Session) (h : Shaped s) (x : Lent) (b : Bool) (may : b ≡ (valid 
                 acts (some y) (one .1) (advancingAnswer (t .told)) (t .rec)
                 (ap (λ (w : Advanced). advancingAnswer (w .told)) f ∙ same-step y d .0 ∙ ap (λ (w : Acted). w .answer) (sym m))
                 (ap (λ (w : Advanced). w .rec) f ∙ same-step y d .1 ∙ ap (λ (w : Acted). sessionOf (w .record′)) (sym m))
+
+            pub made-found : (t : Step) → t ≡ stepBy (headOf s) (x .rules) q l → StepFound s C t
+            made-found t e = record {
+              done = advance-yes (stepOn s t) (ap (stepOn s) e ∙ step-same s (x .rules) q l);
+              room = λ f. handle-args .step .room;
+            }
