@@ -1,20 +1,20 @@
 -- Advance, by what the code has found: one law for each answer.
---     advance-1, advance-17, advance-18, advance-yes
+--     advance-1, advance-17, advance-18, made-found
 --     advance-limits, next-args, handle-args       what the calls below ask
 -- Assumes nothing.
 use Prim.Native.Nat.{ℕ, zero, suc, _+_, _-_, _*_, _≤_, _<_}
-use mathlib.Core.Path.{_≡_, refl, sym, ap, _∙_, subst}
+use mathlib.Core.Path.{_≡_, refl, sym, ap, _∙_}
 use mathlib.Core.Bool.{Bool, true, false, not, cond, _&&_}
 use mathlib.Core.List.{List, [], _∷_}
 use mathlib.Core.Option.{Option, none, some}
 use native.Mathlib.Omega.{arith}
 use native.Mathlib.Numerals.{add-one}
 use lib.Dec.{ltb, eqb}
-use lib.ListN.{length, getD, take, drop}
-use lib.Seq.{length-take-le, getD-take, getD-drop}
-use borrow.Author.Tests.{not-true, not-false, le-leb, lt-ltb, eq-eqb, ne-eqb, eqb-true, ltb-true}
+use lib.ListN.{length, getD, take}
+use lib.Seq.{length-take-le}
+use borrow.Author.Tests.{not-true, not-false, le-leb, lt-ltb, eq-eqb, eqb-true, ltb-true}
 use Rattle.formats.specs.Checks.{check, firstNo}
-use Rattle.formats.proofs.CheckLaws.{true-false, and-both, and-left, and-right, firstNo-yes, firstNo-no}
+use Rattle.formats.proofs.CheckLaws.{and-both, and-left, and-right, firstNo-yes, firstNo-no}
 use Rattle.questions.specs.declared.answer.Climbed.{Climbed}
 use Rattle.questions.specs.declared.answer.Climbed.the-variants.{Reached as Told, Outside}
 use Rattle.questions.specs.Climbs.{Reached}
@@ -30,69 +30,20 @@ use Rattle.book.specs.Refusals.{refusal}
 use Rattle.book.specs.Model.{Acted, acted, viewBy, stepped, advanceWith, partNext, proceeds}
 use Rattle.session.specs.declared.state.Phase.{Phase}
 use Rattle.session.specs.declared.state.Phase.the-variants.{Running, Answered}
-use Rattle.session.specs.declared.state.Head.{Head}
 use Rattle.session.specs.declared.state.Session.{Session}
 use Rattle.session.specs.declared.answers.Advancing.the-variants.{More, Finished, Refused as NotAdvanced}
 use Rattle.session.specs.declared.answers.Advanced.{Advanced}
 use Rattle.session.specs.declared.answers.Step.{Step}
-use Rattle.session.specs.Records.{phaseOf, phaseTo, sizesOf, recordOf, headOf, whole, sessionOf, risesTo, valid}
+use Rattle.session.specs.Records.{phaseOf, phaseTo, sizesOf, recordOf, headOf, sessionOf, risesTo, valid}
 use Rattle.session.specs.Promises.{CallDone, advancingAnswer}
 use Rattle.session.specs.Tests.{Shaped}
-use Rattle.session.specs.Steps.{NextArgs, HandleArgs, markedIn, steppedOf, handledBy, steppedHead, stepBy}
-use Rattle.session.specs.Steps.{refusedStep, stepOn, StepFound}
+use Rattle.session.specs.Steps.{NextArgs, HandleArgs, markedIn, stepBy, stepOn, StepFound}
 use Rattle.session.proofs.PadLaws.{padded-take, padded-more}
 use Rattle.session.proofs.RecordLaws.{Tails}
 use Rattle.session.proofs.Holds.{Sized, Going, holds-of, tails-of, struct-is}
 use Rattle.session.proofs.ActLaws.{running-is}
 use Rattle.session.proofs.CallLaws.{unless-done, refused-done, proceeds-done}
-
--- the mark of a state, where the code reads it
-pub mark-at : (rules : List ℕ) (s k p q : ℕ) → p ≡ s * k * s → q < s
-    → eqb (getD rules (20 + k + p + q) 0) 1 ≡ markedIn s k rules q
-mark-at rules s k p q e h =
-    rw (e, getD-take s (drop (20 + k + s * k * s) rules) q 0 h, getD-drop (20 + k + s * k * s) rules q 0)
-
--- the last part, and any other
-module _ (h : Head) (rules : List ℕ) (q l : ℕ) (t : Head) where
-  pub handled-last : h .handled + 1 ≡ h .parts → (y : Bool) → t ≡ steppedHead h Answered l y
-      → y ≡ markedIn (h .s) (h .k) rules q
-      → _≡_ {A = Step} (record { told = Finished; head = t; made = true; state = q }) (stepBy h rules q l)
-  unfolding stepBy
-  handled-last e y f g = rw (eq-eqb (h .handled + 1) (h .parts) e, f, g)
-
-  pub handled-more : (h .handled + 1 ≡ h .parts → ⊥) → t ≡ steppedHead h Running l false
-      → _≡_ {A = Step} (record { told = More; head = t; made = true; state = q }) (stepBy h rules q l)
-  unfolding stepBy
-  handled-more e f = rw (ne-eqb (h .handled + 1) (h .parts) e, f)
-
--- ---- a step and the record that is made of it
-
-pub step-same : (s : Session) (rules : List ℕ) (q l : ℕ) → stepOn s (stepBy (headOf s) rules q l) ≡ handledBy s rules q l
-unfolding stepBy handledBy
-step-same s rules q l = go (eqb (s .handled + 1) (s .parts))
-  where
-    go : (d : Bool)
-        → stepOn s (cond d
-        (record { told = Finished; head = steppedHead (headOf s) Answered l (markedIn (s .s) (s .k) rules q); made = true; state = q })
-        (record { told = More; head = steppedHead (headOf s) Running l false; made = true; state = q }))
-        ≡ cond d
-        (record { told = Finished; rec = steppedOf s Answered q l (markedIn (s .s) (s .k) rules q) })
-        (record { told = More; rec = steppedOf s Running q l false })
-    go true = refl
-    go false = refl
-
-module _ (s : Session) (c : Call) where
-  pub refused-found : (n : ℕ) (t : Step) → t ≡ refusedStep (headOf s) n → CallDone s c (advancingAnswer (NotAdvanced n)) s
-      → StepFound s c t
-  refused-found n t e d =
-      subst (λ (u : Step). StepFound s c u) (sym e) (record { done = d; room = λ f. absurd (true-false (sym f)) })
-
-  pub found-by : (h : Head) → h ≡ headOf s → (t : Step)
-      → StepFound (whole h (s .nodes) (s .labels) (s .roots) (s .states)) c t → StepFound s c t
-  found-by h e t f = subst (λ (y : Head). StepFound (whole y (s .nodes) (s .labels) (s .roots) (s .states)) c t) e f
-
-  pub step-done : (t : Step) → StepFound s c t → (a : Advanced) → a ≡ stepOn s t → CallDone s c (advancingAnswer (a .told)) (a .rec)
-  step-done t f a e = subst (λ (b : Advanced). CallDone s c (advancingAnswer (b .told)) (b .rec)) (sym e) (f .done)
+use Rattle.session.proofs.StepLaws.{steppedOf, handledBy, step-same}
 
 -- a list that rises to e is nowhere above it
 pub rises-below : (e : ℕ) (l : List ℕ) (i : ℕ) → risesTo e l ≡ true → i < length l → getD l i 0 ≤ e
@@ -321,7 +272,7 @@ module _ (s : Session) (h : Shaped s) (x : Lent) (b : Bool) (may : b ≡ (valid 
               };
             }
 
-            pub advance-yes : (t : Advanced) → t ≡ handledBy s (x .rules) q l
+            advance-yes : (t : Advanced) → t ≡ handledBy s (x .rules) q l
                 → CallDone s C (advancingAnswer (t .told)) (t .rec)
             unfolding handledBy advanceWith recordOf
             advance-yes t e =

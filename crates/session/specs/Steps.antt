@@ -2,13 +2,14 @@
 --
 -- ListArgs vs bs == two lists of one length that fit the record
 -- startedOf s vs bs parts roots == session s in running with this question and no part handled
--- steppedOf s p q l y == session s in state p with one more part handled, of state q and l links, and the yes or no y
 -- NextArgs s == the counts are within the arrays
 -- StepArgs h l == there is room for one more state, and the links fit
 -- marksIn s k rules == the accept marks by S and K; markedIn s k rules q == whether that of state q is 1; MarkArgs rules s k q == the
 --   rules' length is exact, and q is a state
--- handledBy s rules q l == what an advance leaves and tells where the part's state is q and its links are l; HandleArgs what it asks
--- steppedHead, stepBy, refusedStep, stepOn == the same in two: what is found by the head alone, and the record that is made of it
+-- steppedHead h p l y == head h in state p with one more part handled, of l links, and the yes or no y
+-- stepBy h rules q l == the step of an advance where the part's state is q and its links are l; HandleArgs what it asks
+-- refusedStep h n == the step of a refusal
+-- stepOn s t == what step t tells, and the record that it makes of s
 -- StepFound s c t == the step is that of call c on struct s
 --
 -- Assumes nothing.
@@ -51,23 +52,6 @@ startedOf s vs bs parts roots = record {
   states = replicate 254 0;
 }
 
-abbrev pub steppedOf : Session → Phase → ℕ → ℕ → Bool → Session
-steppedOf s p q l y = record {
-  phase = p;
-  yes = y;
-  n = s .n;
-  s = s .s;
-  k = s .k;
-  m = s .m;
-  parts = s .parts;
-  handled = s .handled + 1;
-  links = s .links + l;
-  nodes = s .nodes;
-  labels = s .labels;
-  roots = s .roots;
-  states = set (s .states) (s .handled) q;
-}
-
 pub record NextArgs (s : Session) : Type 0 where
   pub few : s .m ≤ length (s .nodes)
   pub few-labels : s .m ≤ length (s .labels)
@@ -93,14 +77,6 @@ markedIn s k rules q = eqb (getD (marksIn s k rules) q 0) 1
 pub record HandleArgs (h : Head) (rules : List ℕ) (q l : ℕ) : Type 0 where
   pub marks : MarkArgs rules (h .s) (h .k) q
   pub step : StepArgs h l
-
-unfoldable pub handledBy : Session → List ℕ → ℕ → ℕ → Advanced
-handledBy s rules q l =
-    cond (eqb (s .handled + 1) (s .parts))
-    (record { told = Finished; rec = steppedOf s Answered q l (markedIn (s .s) (s .k) rules q) })
-    (record { told = More; rec = steppedOf s Running q l false })
-
--- ---- the same in two: what is found by the head, and the record made of it
 
 abbrev pub steppedHead : Head → Phase → ℕ → Bool → Head
 steppedHead h p l y = record {

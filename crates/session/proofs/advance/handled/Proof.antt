@@ -1,6 +1,6 @@
 -- `session::advance::handled` meets its contract. The last part, and any other.
 -- Assumes nothing.
-use Rattle.session.proofs.AdvanceLaws.{handled-last, handled-more}
+use Rattle.session.proofs.StepLaws.{handled-last, handled-more}
 use borrow.Author.Needs.{needs}
 use Rattle.session.proofs.advance.handled.Statement.{statement}
 use Rattle.session.proofs.advance.handled.Tie as tie

@@ -6,7 +6,8 @@ use Rattle.session.specs.declared.state.Session.{Session}
 use Rattle.session.specs.Records.{whole}
 use Rattle.session.specs.Tests.{lentOf}
 use Rattle.session.proofs.AdvanceLaws.{advance-1, advance-limits, advance-17, next-args, handle-args, advance-18}
-use Rattle.session.proofs.AdvanceLaws.{refused-found, made-found}
+use Rattle.session.proofs.AdvanceLaws.{made-found}
+use Rattle.session.proofs.StepLaws.{refused-found}
 use borrow.Author.Needs.{needs}
 use Rattle.session.proofs.advance.next_step.Statement.{statement}
 use Rattle.session.proofs.advance.next_step.Tie as tie

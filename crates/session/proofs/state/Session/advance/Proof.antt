@@ -4,7 +4,7 @@ use Rattle.book.specs.Lends.{Lent}
 use Rattle.book.specs.Calls.{advance}
 use Rattle.session.specs.Tests.{lentOf}
 use Rattle.session.specs.Steps.{StepFound}
-use Rattle.session.proofs.AdvanceLaws.{found-by, step-done}
+use Rattle.session.proofs.StepLaws.{found-by, step-done}
 use borrow.Author.Needs.{needs}
 use Rattle.session.proofs.state.Session.advance.Statement.{statement}
 use Rattle.session.proofs.state.Session.advance.Tie as tie
