@@ -1,18 +1,18 @@
 -- Advance, by what the code has found: one law for each answer.
---     advance-1, advance-17, advance-18, advance-yes
+--     advance-1, advance-17, advance-18, made-found
 --     advance-limits, next-args, handle-args       what the calls below ask
 -- Assumes nothing.
 use Prim.Native.Nat.{ℕ, zero, suc, _+_, _-_, _*_, _≤_, _<_}
-use mathlib.Core.Path.{_≡_, refl, sym, ap, _∙_, subst}
+use mathlib.Core.Path.{_≡_, refl, sym, ap, _∙_}
 use mathlib.Core.Bool.{Bool, true, false, not, cond, _&&_}
 use mathlib.Core.List.{List, [], _∷_}
 use mathlib.Core.Option.{Option, none, some}
 use native.Mathlib.Omega.{arith}
 use native.Mathlib.Numerals.{add-one}
 use lib.Dec.{ltb, eqb}
-use lib.ListN.{length, getD, take, drop}
-use lib.Seq.{length-take-le, getD-take, getD-drop}
-use borrow.Author.Tests.{not-true, not-false, le-leb, lt-ltb, eq-eqb, ne-eqb, eqb-true, ltb-true}
+use lib.ListN.{length, getD, take}
+use lib.Seq.{length-take-le}
+use borrow.Author.Tests.{not-true, not-false, le-leb, lt-ltb, eq-eqb, eqb-true, ltb-true}
 use Rattle.formats.specs.Checks.{check, firstNo}
 use Rattle.formats.proofs.CheckLaws.{and-both, and-left, and-right, firstNo-yes, firstNo-no}
 use Rattle.questions.specs.declared.answer.Climbed.{Climbed}
@@ -30,54 +30,20 @@ use Rattle.book.specs.Refusals.{refusal}
 use Rattle.book.specs.Model.{Acted, acted, viewBy, stepped, advanceWith, partNext, proceeds}
 use Rattle.session.specs.declared.state.Phase.{Phase}
 use Rattle.session.specs.declared.state.Phase.the-variants.{Running, Answered}
-use Rattle.session.specs.declared.state.Head.{Head}
 use Rattle.session.specs.declared.state.Session.{Session}
 use Rattle.session.specs.declared.answers.Advancing.the-variants.{More, Finished, Refused as NotAdvanced}
 use Rattle.session.specs.declared.answers.Advanced.{Advanced}
-use Rattle.session.specs.Records.{phaseOf, phaseTo, sizesOf, recordOf, headOf, whole, sessionOf, risesTo, valid}
+use Rattle.session.specs.declared.answers.Step.{Step}
+use Rattle.session.specs.Records.{phaseOf, phaseTo, sizesOf, recordOf, headOf, sessionOf, risesTo, valid}
 use Rattle.session.specs.Promises.{CallDone, advancingAnswer}
 use Rattle.session.specs.Tests.{Shaped}
-use Rattle.session.specs.Steps.{NextArgs, HandleArgs, markedIn, steppedOf, handledBy}
+use Rattle.session.specs.Steps.{NextArgs, HandleArgs, markedIn, stepBy, stepOn, StepFound}
 use Rattle.session.proofs.PadLaws.{padded-take, padded-more}
 use Rattle.session.proofs.RecordLaws.{Tails}
 use Rattle.session.proofs.Holds.{Sized, Going, holds-of, tails-of, struct-is}
 use Rattle.session.proofs.ActLaws.{running-is}
 use Rattle.session.proofs.CallLaws.{unless-done, refused-done, proceeds-done}
-
--- the mark of a state, where the code reads it
-pub mark-at : (rules : List ℕ) (s k p q : ℕ) → p ≡ s * k * s → q < s
-    → eqb (getD rules (20 + k + p + q) 0) 1 ≡ markedIn s k rules q
-mark-at rules s k p q e h =
-    rw (e, getD-take s (drop (20 + k + s * k * s) rules) q 0 h, getD-drop (20 + k + s * k * s) rules q 0)
-
--- what the code asks for the next part, of a struct, and of a head that is the struct's with its arrays
-abbrev pub askedOn : Session → Lent → Option Reached
-askedOn s x =
-    partGiven (s .n) (s .s) (s .k) (x .plan) (x .rules) (x .nums) (x .bytes) (take (s .parts) (s .roots))
-    (take (s .handled) (s .states)) (take (s .m) (s .nodes)) (take (s .m) (s .labels))
-
-module _ (s : Session) (h : Head) (e : h ≡ headOf s) where
-  pub next-by : NextArgs s → NextArgs (whole h (s .nodes) (s .labels) (s .roots) (s .states))
-  next-by a = subst (λ (y : Head). NextArgs (whole y (s .nodes) (s .labels) (s .roots) (s .states))) (sym e) a
-
-  pub part-by : (x : Lent) (k : Climbed)
-      → k ≡ toldReached (askedOn (whole h (s .nodes) (s .labels) (s .roots) (s .states)) x)
-      → k ≡ toldReached (askedOn s x)
-  part-by x k f =
-      f ∙ ap (λ (y : Head). toldReached (askedOn (whole y (s .nodes) (s .labels) (s .roots) (s .states)) x)) e
-
--- the last part, and any other
-module _ (s : Session) (rules : List ℕ) (q l : ℕ) (t : Session) where
-  pub handled-last : s .handled + 1 ≡ s .parts → (y : Bool) → t ≡ steppedOf s Answered q l y
-      → y ≡ markedIn (s .s) (s .k) rules q
-      → _≡_ {A = Advanced} (record { told = Finished; rec = t }) (handledBy s rules q l)
-  unfolding handledBy
-  handled-last e y f g = rw (eq-eqb (s .handled + 1) (s .parts) e, f, g)
-
-  pub handled-more : (s .handled + 1 ≡ s .parts → ⊥) → t ≡ steppedOf s Running q l false
-      → _≡_ {A = Advanced} (record { told = More; rec = t }) (handledBy s rules q l)
-  unfolding handledBy
-  handled-more e f = rw (ne-eqb (s .handled + 1) (s .parts) e, f)
+use Rattle.session.proofs.StepLaws.{steppedOf, handledBy, step-same}
 
 -- a list that rises to e is nowhere above it
 pub rises-below : (e : ℕ) (l : List ℕ) (i : ℕ) → risesTo e l ≡ true → i < length l → getD l i 0 ≤ e
@@ -291,7 +257,7 @@ module _ (s : Session) (h : Shaped s) (x : Lent) (b : Bool) (may : b ≡ (valid 
             unfolding recordOf
             bounded = part-bounded (viewBy (sizesOf s) x) _ _ _ _ _ (one .0) (one .1)
 
-            pub handle-args : HandleArgs s (x .rules) q l
+            pub handle-args : HandleArgs (headOf s) (x .rules) q l
             unfolding recordOf
             handle-args = record {
               marks = record {
@@ -306,7 +272,7 @@ module _ (s : Session) (h : Shaped s) (x : Lent) (b : Bool) (may : b ≡ (valid 
               };
             }
 
-            pub advance-yes : (t : Advanced) → t ≡ handledBy s (x .rules) q l
+            advance-yes : (t : Advanced) → t ≡ handledBy s (x .rules) q l
                 → CallDone s C (advancingAnswer (t .told)) (t .rec)
             unfolding handledBy advanceWith recordOf
             advance-yes t e =
@@ -317,3 +283,9 @@ module _ (s : Session) (h : Shaped s) (x : Lent) (b : Bool) (may : b ≡ (valid 
                 acts (some y) (one .1) (advancingAnswer (t .told)) (t .rec)
                 (ap (λ (w : Advanced). advancingAnswer (w .told)) f ∙ same-step y d .0 ∙ ap (λ (w : Acted). w .answer) (sym m))
                 (ap (λ (w : Advanced). w .rec) f ∙ same-step y d .1 ∙ ap (λ (w : Acted). sessionOf (w .record′)) (sym m))
+
+            pub made-found : (t : Step) → t ≡ stepBy (headOf s) (x .rules) q l → StepFound s C t
+            made-found t e = record {
+              done = advance-yes (stepOn s t) (ap (stepOn s) e ∙ step-same s (x .rules) q l);
+              room = λ f. handle-args .step .room;
+            }

@@ -11,4 +11,5 @@ pub mod RunLaws
 pub mod SessionTheorem
 pub mod Shapes
 pub mod StartLaws
+pub mod StepLaws
 pub mod ValidLaws

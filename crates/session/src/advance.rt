@@ -1,6 +1,7 @@
 // Advance: checks 1 and 17, then one part; 18 where it has none.
 use crate::answers::Advanced;
 use crate::answers::Advancing;
+use crate::answers::Step;
 use crate::may::is_running;
 use crate::state::Head;
 use crate::state::Phase;
@@ -10,13 +11,16 @@ use questions::answer::Climbed;
 use questions::fits::lengths_fit;
 use questions::part::part;
 ghost use mathlib.Core.Path.{_≡_};
-ghost use lib.ListN.{take};
+ghost use mathlib.Core.Bool.{true, cond};
+ghost use Prim.Native.Nat.{_<_};
+ghost use lib.ListN.{length, take, set};
 ghost use Rattle.questions.specs.PartTold.{toldReached, partGiven};
 ghost use Rattle.book.specs.Calls as calls;
 ghost use Rattle.session.specs.Promises.{CallDone, advancingAnswer};
 ghost use Rattle.session.specs.Records.{whole};
-ghost use Rattle.session.specs.Tests.{lentOf};
-ghost use Rattle.session.specs.Steps.{NextArgs, StepArgs, MarkArgs, HandleArgs, markedIn, steppedOf, handledBy};
+ghost use Rattle.session.specs.Tests.{Shaped, lentOf};
+ghost use Rattle.session.specs.Steps.{NextArgs, StepArgs, MarkArgs, HandleArgs, markedIn, steppedHead, stepBy};
+ghost use Rattle.session.specs.Steps.{refusedStep, stepOn, StepFound};
 
 // The part that comes next: with the record's lists, without the zeros behind them.
 fn next_part<'a>(
@@ -62,52 +66,136 @@ fn is_marked(rules: &[u8], s: usize, k: usize, q: usize) -> bool
     rules[20 + k + inner_count(s, k) + q] == 1
 }
 
-// One more part handled, of state q.
-fn stepped(s: Session, phase: Phase, q: u8, links: u32, yes: bool) -> Session
-    requires { ⌜ StepArgs s links ⌝ }
-    ensures { λ r. ⌜ r ≡ steppedOf s phase q links yes ⌝ }
+// A head with one more part handled.
+fn stepped(h: Head, phase: Phase, links: u32, yes: bool) -> Head
+    requires { ⌜ StepArgs h links ⌝ }
+    ensures { λ r. ⌜ r ≡ steppedHead h phase links yes ⌝ }
+{
+    Head {
+        phase,
+        yes,
+        n: h.n,
+        s: h.s,
+        k: h.k,
+        m: h.m,
+        parts: h.parts,
+        handled: h.handled + 1,
+        links: h.links + links,
+    }
+}
+
+// One more part, of state q: more, or finished at the last part, with its yes or no by the rules lent now.
+fn handled(h: Head, rules: &[u8], q: u8, links: u32) -> Step
+    requires { ⌜ HandleArgs h (now rules) q links ⌝ }
+    ensures { λ r. ⌜ r ≡ stepBy h (now (rules .entry)) q links ⌝ }
+{
+    if h.handled + 1 == h.parts {
+        let yes = is_marked(rules, h.s as usize, h.k as usize, q as usize);
+        let head = stepped(h, Phase::Answered, links, yes);
+        return Step {
+            told: Advancing::Finished,
+            head,
+            made: true,
+            state: q,
+        };
+    }
+    let head = stepped(h, Phase::Running, links, false);
+    Step {
+        told: Advancing::More,
+        head,
+        made: true,
+        state: q,
+    }
+}
+
+// A refusal: nothing is altered.
+fn refused_step(h: Head, number: u8) -> Step
+    ensures { λ r. ⌜ r ≡ refusedStep h number ⌝ }
+{
+    let told = Advancing::Refused(number);
+    Step {
+        told,
+        head: h,
+        made: false,
+        state: 0,
+    }
+}
+
+// What an advance does to a record that is given as its head and its four arrays, lent.
+fn next_step<'a>(
+    h: Head,
+    plan: &[u8],
+    rules: &[u8],
+    nums: &[u16],
+    bytes: &[u8],
+    nodes: &'a [u16],
+    labels: &'a [u8],
+    roots: &'a [u16],
+    states: &'a [u8],
+) -> Step
+    requires { ⌜ Shaped (whole h (now nodes) (now labels) (now roots) (now states)) ⌝ }
+    ensures { λ r. ⌜
+        StepFound (whole h (now (nodes .entry)) (now (labels .entry)) (now (roots .entry)) (now (states .entry)))
+        (calls.advance (lentOf (now (plan .entry)) (now (rules .entry)) (now (nums .entry)) (now (bytes .entry)))) r ⌝ }
+{
+    if !is_running(h, nodes, labels, roots, states) {
+        return refused_step(h, 1);
+    }
+    let n = h.n as usize;
+    let s = h.s as usize;
+    let k = h.k as usize;
+    if !lengths_fit(n, s, k, plan.len(), rules.len(), nums.len(), bytes.len()) {
+        return refused_step(h, 17);
+    }
+    match next_part(h, plan, rules, nums, bytes, nodes, labels, roots, states) {
+        Climbed::Reached(q, links) => {
+            return handled(h, rules, q, links);
+        }
+        Climbed::Outside => {
+            return refused_step(h, 18);
+        }
+    }
+}
+
+// A state is stored where one is found.
+fn put_state(made: bool, states: &mut [u8], at: usize, q: u8)
+    requires { ⌜ (made ≡ true → at < length (now states)) ⌝ }
+    ensures { λ _. ⌜ now (states .exit) ≡ cond made (set (now (states .entry)) at q) (now (states .entry)) ⌝ }
+{
+    if made {
+        states[at] = q;
+    }
+}
+
+// The record after a step. It is made at one place, so that it is copied once.
+fn applied(s: Session, step: Step) -> Advanced
+    requires { ⌜ (step .made ≡ true → s .handled < 254) ⌝ }
+    ensures { λ r. ⌜ r ≡ stepOn s step ⌝ }
 {
     let nodes = s.nodes;
     let labels = s.labels;
     let roots = s.roots;
     let mut states = s.states;
-    let h = s.handled as usize;
-    states[h] = q;
-    Session {
+    put_state(step.made, &mut states, s.handled as usize, step.state);
+    let told = step.told;
+    let head = step.head;
+    let phase = head.phase;
+    let rec = Session {
         phase,
-        yes,
-        n: s.n,
-        s: s.s,
-        k: s.k,
-        m: s.m,
-        parts: s.parts,
-        handled: s.handled + 1,
-        links: s.links + links,
+        yes: head.yes,
+        n: head.n,
+        s: head.s,
+        k: head.k,
+        m: head.m,
+        parts: head.parts,
+        handled: head.handled,
+        links: head.links,
         nodes,
         labels,
         roots,
         states,
-    }
-}
-
-// More, or finished at the last part, with its yes or no by the rules lent now.
-fn handled(s: Session, rules: &[u8], q: u8, links: u32) -> Advanced
-    requires { ⌜ HandleArgs s (now rules) q links ⌝ }
-    ensures { λ r. ⌜ r ≡ handledBy s (now (rules .entry)) q links ⌝ }
-{
-    if s.handled + 1 == s.parts {
-        let yes = is_marked(rules, s.s as usize, s.k as usize, q as usize);
-        let rec = stepped(s, Phase::Answered, q, links, yes);
-        return Advanced {
-            told: Advancing::Finished,
-            rec,
-        };
-    }
-    let rec = stepped(s, Phase::Running, q, links, false);
-    Advanced {
-        told: Advancing::More,
-        rec,
-    }
+    };
+    Advanced { told, rec }
 }
 
 impl Session {
@@ -118,23 +206,8 @@ impl Session {
             (calls.advance (lentOf (now (plan .entry)) (now (rules .entry)) (now (nums .entry)) (now (bytes .entry))))
             (advancingAnswer (r .told)) (r .rec) ⌝ }
     {
-        let n = self.n as usize;
-        let s = self.s as usize;
-        let k = self.k as usize;
         let h = self.head();
-        if !is_running(h, &self.nodes, &self.labels, &self.roots, &self.states) {
-            return Advanced {
-                told: Advancing::Refused(1),
-                rec: self,
-            };
-        }
-        if !lengths_fit(n, s, k, plan.len(), rules.len(), nums.len(), bytes.len()) {
-            return Advanced {
-                told: Advancing::Refused(17),
-                rec: self,
-            };
-        }
-        match next_part(
+        let step = next_step(
             h,
             plan,
             rules,
@@ -144,16 +217,7 @@ impl Session {
             &self.labels,
             &self.roots,
             &self.states,
-        ) {
-            Climbed::Reached(q, links) => {
-                return handled(self, rules, q, links);
-            }
-            Climbed::Outside => {
-                return Advanced {
-                    told: Advancing::Refused(18),
-                    rec: self,
-                };
-            }
-        }
+        );
+        applied(self, step)
     }
 }

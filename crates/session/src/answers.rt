@@ -1,3 +1,4 @@
+use crate::state::Head;
 use crate::state::Session;
 
 // Load and Cancel: done, or a refusal's number.
@@ -39,4 +40,12 @@ pub struct Started {
 pub struct Advanced {
     pub told: Advancing,
     pub rec: Session,
+}
+
+// What an advance finds: its answer, the record's head after it, and whether it stores a state, and which.
+pub struct Step {
+    pub told: Advancing,
+    pub head: Head,
+    pub made: bool,
+    pub state: u8,
 }

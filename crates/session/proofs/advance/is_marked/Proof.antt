@@ -1,6 +1,6 @@
 -- `session::advance::is_marked` meets its contract. The byte that is read is the mark.
 -- Assumes nothing.
-use Rattle.session.proofs.AdvanceLaws.{mark-at}
+use Rattle.session.proofs.StepLaws.{mark-at}
 use borrow.Author.Needs.{needs}
 use Rattle.session.proofs.advance.is_marked.Statement.{statement}
 use Rattle.session.proofs.advance.is_marked.Tie as tie
