@@ -1,6 +1,6 @@
 // The panel session by value: the record, and load, start, advance, cancel and read.
-//     state    the record, its limits and the fresh one
-//     answers  what the calls answer
+//     state    the record, its head, its limits and the fresh one
+//     answers  what the calls answer, and what an advance finds
 //     lists    tests of lists of numbers
 //     valid    whether a struct can be a session's
 //     may      which calls may be made

@@ -72,6 +72,7 @@ impl Session {
         }
     }
 
+    // The record without its arrays.
     pub fn head(self) -> Head
         ensures { λ r. ⌜ r ≡ headOf self ⌝ }
     {
