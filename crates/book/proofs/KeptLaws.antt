@@ -1,5 +1,6 @@
 -- What is left to the program keeps its properties.
 --     refused-keeps     a refusal, 18 too, leaves the record as it is
+--     start-numbers, advance-numbers   18 is no check's number: it is left to the program
 --     start-kept        Start
 --     advance-kept      advance
 --     start-usable      positive control: what an advance asks of usable tables holds after a Start on tables as built
@@ -15,7 +16,7 @@ use lib.ListN.{length, getD, take}
 use Rattle.trees.proofs.MoveLaws.{none-some}
 use Rattle.formats.specs.Bytes.{allBelow, sameList}
 use Rattle.formats.specs.Plan.{planTree}
-use Rattle.formats.specs.Checks.{firstNo, listChecks}
+use Rattle.formats.specs.Checks.{check, firstNo, listChecks}
 use Rattle.formats.proofs.CheckLaws.{and-both, true-false}
 use Rattle.formats.proofs.InputLaws.{ListPasses, list-passes}
 use Rattle.formats.proofs.ListLaws.{sameList-refl}
@@ -27,6 +28,8 @@ use Rattle.questions.specs.Part.{partOn}
 use Rattle.questions.specs.Promises.{RootsAre}
 use Rattle.questions.proofs.RootsLaws.{rootsOn-are}
 use Rattle.questions.proofs.PartBounds.{part-bounded}
+use Rattle.questions.proofs.RootsAstray.{roots-astray}
+use Rattle.questions.proofs.PartAstray.{part-astray}
 use Rattle.book.specs.Lends.{Lent, sameLinks, usedNums, linksBuilt, bytesBelow}
 use Rattle.book.specs.Calls.{Call, load, start, advance, cancel, read, Answer, refused, parts, more, finished, Phase}
 use Rattle.book.specs.Refusals.{refusal}
@@ -69,6 +72,24 @@ refused-keeps r c n = go (refusal (r .phase) (r .sizes) c) c
     go zero cancel e = absurd (let z : _≡_ {A = ℕ} 0 1 = cc in omega arith)
     go zero read e = refl
 
+-- 18 is none of the numbers of the checks
+start-numbers : (a b c d e f : Bool)
+    → firstNo (check 1 a ∷ check 17 b ∷ check 12 c ∷ check 13 d ∷ check 14 e ∷ check 15 f ∷ []) ≡ 18 → ⊥
+unfolding firstNo
+start-numbers false b c d e f i = omega (arith, i)
+start-numbers true false c d e f i = omega (arith, i)
+start-numbers true true false d e f i = omega (arith, i)
+start-numbers true true true false e f i = omega (arith, i)
+start-numbers true true true true false f i = omega (arith, i)
+start-numbers true true true true true false i = omega (arith, i)
+start-numbers true true true true true true i = omega (arith, i)
+
+advance-numbers : (a b : Bool) → firstNo (check 1 a ∷ check 17 b ∷ []) ≡ 18 → ⊥
+unfolding firstNo
+advance-numbers false b i = omega (arith, i)
+advance-numbers true false i = omega (arith, i)
+advance-numbers true true i = omega (arith, i)
+
 -- ---- Start
 
 module _ (r : Record) (x : Lent) (vs bs : List ℕ) where
@@ -84,15 +105,21 @@ module _ (r : Record) (x : Lent) (vs bs : List ℕ) where
   unfolding startWith started
   found e h none q = record {
     few = λ p w. absurd (let z : _≡_ {A = ℕ} 0 1 = cc in omega arith);
+    astray = λ w. roots-astray (r .sizes .n) (usedNums (r .sizes) x) vs h (listed e .nodes-below) q;
     built = λ f l. absurd (none-some (sym q ∙ layers .roots-built (r .sizes) x vs l (listed e .nodes-below)));
   }
   found e h (some l) q = record {
     few = λ p w. (let i : length l ≡ p = cc in i, rootsOn-are (r .sizes .n) (usedNums (r .sizes) x) vs l h (listed e .nodes-below) q);
+    astray = λ w. absurd (let z : _≡_ {A = ℕ} 0 1 = cc in omega arith);
     built = λ f b.
         let i : l ≡ roots (planTree (x .plan)) vs =
         Option·some-injective l (roots (planTree (x .plan)) vs) (sym q ∙ layers .roots-built (r .sizes) x vs b (listed e .nodes-below)) in
         (ap (λ (m : List ℕ). parts (length m)) i, i);
   }
+
+  start-not-18 : refusal (r .phase) (r .sizes) (start x vs bs) ≡ 18 → ⊥
+  unfolding refusal listChecks
+  start-not-18 i = start-numbers _ _ _ _ _ _ i
 
   pub start-kept : (refusal (r .phase) (r .sizes) (start x vs bs) ≡ 0 → 0 < r .sizes .n)
       → StartKept r x vs bs (act r (start x vs bs) .answer) (act r (start x vs bs) .record′)
@@ -104,6 +131,7 @@ module _ (r : Record) (x : Lent) (vs bs : List ℕ) where
       go zero e = found e (h e) R refl
       go (suc n) e = record {
         few = λ p w. absurd (let z : _≡_ {A = ℕ} 0 1 = cc in omega arith);
+        astray = λ w. absurd (start-not-18 (e ∙ (let z : suc n ≡ 18 = cc in z)));
         built = λ f l. absurd (omega (arith, f, e));
       }
 
@@ -167,34 +195,56 @@ module _ (r : Record) (x : Lent) where
       go true = p
       go false = q
 
-  after : refusal (r .phase) (r .sizes) (advance x) ≡ 0 → (o : Option Reached) → partNext r x ≡ o
+  -- a part that is handled is not refused
+  told-not : (y : Reached) → advanceWith r x (some y) .answer ≡ refused 18 → ⊥
+  unfolding advanceWith
+  told-not y = go (eqb (suc (length (r .states))) (length (r .roots)))
+    where
+      go : (b : Bool) → cond b (acted finished (stepped r Phase.answered y (eqb (getD (marksBy (r .sizes) x) (y .state) 0) 1)))
+          (acted more (stepped r Phase.running y false)) .answer ≡ refused 18 → ⊥
+      go true e = let z : _≡_ {A = ℕ} 0 1 = cc in omega arith
+      go false e = let z : _≡_ {A = ℕ} 0 1 = cc in omega arith
+
+  -- the next root is a node
+  abbrev NextInside : Type 0
+  NextInside = refusal (r .phase) (r .sizes) (advance x) ≡ 0 → getD (r .roots) (length (r .states)) 0 < r .sizes .n
+
+  after : NextInside → refusal (r .phase) (r .sizes) (advance x) ≡ 0 → (o : Option Reached) → partNext r x ≡ o
       → AdvanceKept r x (advanceWith r x o .answer) (advanceWith r x o .record′)
   unfolding advanceWith stepped
-  after e none q = record {
+  after h e none q = record {
     stored = λ f. absurd (true-false f);
     counted = λ f. absurd (true-false f);
+    astray = λ w. part-astray (viewBy (r .sizes) x) (r .states) (r .nodes) (r .labels) (take (length (r .states)) (r .roots))
+        (getD (r .roots) (length (r .states)) 0) (h e) q;
     rule = λ ps f U. absurd (none-some (sym q ∙ by-rule ps e U));
   }
-  after e (some y) q =
+  after h e (some y) q =
       let b = bounded y q in
       let l : r .links + y .links ≤ r .links + r .sizes .n = omega (arith, b .1) in
       record {
         stored = λ f. (y .state, either y (λ (t : Record). t .states ≡ r .states ++ (y .state ∷ [])) refl refl, b .0);
         counted = λ f. either y (λ (t : Record). t .links ≤ r .links + r .sizes .n) l l;
+        astray = λ w. absurd (told-not y w);
         rule = λ ps f U.
             let i : some y ≡ some (ruleGives r x ps) = sym q ∙ by-rule ps e U in
             (ap (λ (o : Option Reached). advanceWith r x o .answer) i, ap (λ (o : Option Reached). advanceWith r x o .record′) i);
       }
 
-  pub advance-kept : AdvanceKept r x (act r (advance x) .answer) (act r (advance x) .record′)
+  advance-not-18 : refusal (r .phase) (r .sizes) (advance x) ≡ 18 → ⊥
+  unfolding refusal
+  advance-not-18 i = advance-numbers _ _ i
+
+  pub advance-kept : NextInside → AdvanceKept r x (act r (advance x) .answer) (act r (advance x) .record′)
   unfolding act unless proceeds
-  advance-kept = go (refusal (r .phase) (r .sizes) (advance x)) refl
+  advance-kept h = go (refusal (r .phase) (r .sizes) (advance x)) refl
     where
       go : (n : ℕ) → refusal (r .phase) (r .sizes) (advance x) ≡ n
           → AdvanceKept r x (unless n r (advance x) .answer) (unless n r (advance x) .record′)
-      go zero e = after e (partNext r x) refl
+      go zero e = after h e (partNext r x) refl
       go (suc n) e = record {
         stored = λ f. absurd (true-false f);
         counted = λ f. absurd (true-false f);
+        astray = λ w. absurd (advance-not-18 (e ∙ (let z : suc n ≡ 18 = cc in z)));
         rule = λ ps f U. absurd (omega (arith, f, e));
       }

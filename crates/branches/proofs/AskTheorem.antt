@@ -39,6 +39,7 @@ use Rattle.branches.proofs.AskBuilt.{size-is, fits-built, built-links, 
 use Rattle.branches.proofs.AskBuilt.{label-below, built-step}
 use Rattle.branches.proofs.AskChecks.{ask-number, ask-16, ask-on}
 use Rattle.branches.proofs.AskClimb.{carry-built}
+use Rattle.branches.proofs.AskAstray.{ask-astray}
 
 -- a value that is there is handed on
 on-some : {X Y : Type 0} (o : Option X) (x : X) (f : X → Option Y) → o ≡ some x → andThen o f ≡ f x
@@ -163,6 +164,7 @@ pub ask-done : (p r nums bytes : List ℕ) (u l : ℕ) (answer : Branching) → 
 ask-done p r nums bytes u l answer e = record {
   told = e;
   number = ap branchNumber e ∙ ask-number p r nums bytes u l;
+  astray = λ i. ask-astray p r nums bytes u l (sym (ask-number p r nums bytes u l) ∙ sym (ap branchNumber e) ∙ i);
   built = λ D hu hl A. e ∙ ask-built p r nums bytes D u l hu hl A;
   apart = λ D hu hl never. e ∙ ask-apart p r nums bytes D u l hu hl never;
   few = λ D hu hl. ask-few p r nums bytes D u l hu hl;

@@ -8,14 +8,13 @@
 use Prim.Native.Nat.{ℕ, _+_, _-_, _≤_, _<_}
 use mathlib.Core.Path.{_≡_, refl, sym, ap, _∙_}
 use mathlib.Core.Bool.{Bool, true, false, cond}
-use mathlib.Core.List.{List, [], _∷_}
+use mathlib.Core.List.{List}
 use mathlib.Core.Logic.{inl, inr}
 use mathlib.Core.Option.{Option, none, some}
 use native.Mathlib.Omega.{arith}
-use lib.ListN.{length}
-use Rattle.trees.specs.Climb.{Forest, Move, nextMove, andThen, climb, carry}
+use Rattle.trees.specs.Climb.{Forest, Move, nextMove, andThen}
 use Rattle.trees.proofs.MoveLaws.{next-inside, next-rises}
-use Rattle.trees.proofs.CarryLaws.{carried, carried-done, carried-move, carried-lost, carried-stuck}
+use Rattle.trees.proofs.CarryLaws.{carried, carried-done, carried-move, carried-lost, carried-stuck, counted-climb}
 use Rattle.links.specs.Cells.{cellForest}
 use Rattle.branches.specs.declared.climb.Moved.{Moved}
 use Rattle.branches.specs.Compose.{mapAt, Halves, runMove, Reached, movedBy, MovedTo}
@@ -29,22 +28,6 @@ counted m n = record { map = m; links = n }
 
 abbrev pub countedMove : (Move → List ℕ → Option (List ℕ)) → Move → Counted → Option Counted
 countedMove act i x = andThen (act i (x .map)) (λ m. some (record { map = m; links = x .links + 1 }))
-
-module _ (act : Move → List ℕ → Option (List ℕ)) where
-  counted-carry : (ms : List Move) (m : List ℕ) (c : ℕ)
-      → carry (countedMove act) ms (counted m c) ≡ andThen (carry act ms m) (λ x. some (counted x (c + length ms)))
-  counted-carry [] m c = let e : c ≡ c + 0 = omega arith in ap (λ (k : ℕ). some (counted m k)) e
-  counted-carry (i ∷ ms) m c = go (act i m) (λ x. counted-carry ms x (c + 1))
-    where
-      go : (o : Option (List ℕ))
-          → ((x : List ℕ) → carry (countedMove act) ms (counted x (c + 1))
-          ≡ andThen (carry act ms x) (λ x. some (counted x (c + 1 + length ms))))
-          → andThen (andThen o (λ x. some (counted x (c + 1)))) (carry (countedMove act) ms)
-          ≡ andThen (andThen o (carry act ms)) (λ x. some (counted x (c + length (i ∷ ms))))
-      go none h = refl
-      go (some y) h =
-          let e : c + 1 + length ms ≡ c + length (i ∷ ms) = omega arith in
-          h y ∙ ap (λ (k : ℕ). andThen (carry act ms y) (λ x. some (counted x k))) e
 
 -- ---- the loop
 
@@ -64,16 +47,8 @@ module _ (n s k : ℕ) (ls st nums bytes : List ℕ) (from to : ℕ) (first : Li
 
   composition-carried : whole ≡ onward from (mapAt s first 0) 0
   unfolding composition
-  composition-carried = go (climb forest from to)
-    where
-      go : (o : Option (List Move))
-          → andThen o (λ ms. andThen (carry act ms (mapAt s first 0)) (λ m. some (counted m (length ms))))
-          ≡ andThen o (λ ms. carry (countedMove act) ms (counted (mapAt s first 0) 0))
-      go none = refl
-      go (some ms) =
-          let e : length ms ≡ 0 + length ms = omega arith in
-          ap (λ (c : ℕ). andThen (carry act ms (mapAt s first 0)) (λ m. some (counted m c))) e
-          ∙ sym (counted-carry act ms (mapAt s first 0) 0)
+  composition-carried =
+      counted-climb counted act (countedMove act) (λ m x c. refl) forest from to (mapAt s first 0)
 
   pub record Climbing (maps : List ℕ) (here v c : ℕ) : Type 0 where
     pub halves : Halves s maps here

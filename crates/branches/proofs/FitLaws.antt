@@ -1,5 +1,4 @@
 -- Check 17 of a branch question, part by part.
---     product-most                      a product of numbers within limits
 --     plan-short .. plan-fits-by        what planFits is, question by question; the last decides where the others pass
 --     branch-short .. branch-fits-by    the same for branchFits
 --     lent-plan-no .. lent-fits-by      the same for lentFits, by its parts
@@ -10,7 +9,6 @@ use Prim.Native.Nat.{ℕ, _+_, _*_, _≤_, _<_}
 use mathlib.Core.Path.{_≡_, refl, sym, ap, ap₂, _∙_}
 use mathlib.Core.Bool.{Bool, true, false, _&&_}
 use mathlib.Core.List.{List}
-use native.Mathlib.Nat.{mul-le-mul-right}
 use native.Mathlib.Omega.{arith}
 use lib.Dec.{leb, eqb}
 use lib.ListN.{length}
@@ -19,24 +17,10 @@ use Rattle.formats.specs.Limits.{nodeLimit, stateLimit, labelLimit, within}
 use Rattle.formats.specs.Plan.{nodeCount, planLength}
 use Rattle.formats.specs.Rules.{stateCount, labelCount, branchLength}
 use Rattle.formats.specs.Checks.{linkLength, stateLength}
-use Rattle.formats.proofs.CheckLaws.{and-left, and-right, and-no-left, and-no-right}
-use Rattle.formats.proofs.PlanLaws.{within-low, within-high, is-within}
+use Rattle.formats.proofs.CheckLaws.{and-left, and-right, and-no-left, and-no-right, and-next}
+use Rattle.formats.proofs.PlanLaws.{within-low, within-high, within-no-low, within-no-high, is-within}
 use Rattle.branches.specs.Question.{lentFits}
 use Rattle.branches.specs.Fits.{planFits, branchFits, roomFits}
-
--- the product of two numbers within limits is within the product of the limits
-pub product-most : (a b m n : ℕ) → a ≤ m → b ≤ n → a * b ≤ m * n
-product-most a b m n h l = omega (arith, mul-le-mul-right b h, mul-le-mul-right m l)
-
--- a test that passes leaves the next to decide
-and-yes : (a b : Bool) → a ≡ true → (a && b) ≡ b
-and-yes a b e = rw e
-
-within-no-low : (low high n : ℕ) → n < low → within low high n ≡ false
-within-no-low low high n h = and-no-left (leb low n) (leb n high) (lt-leb low n h)
-
-within-no-high : (low high n : ℕ) → high < n → within low high n ≡ false
-within-no-high low high n h = and-no-right (leb low n) (leb n high) (lt-leb n high h)
 
 -- ---- the plan
 
@@ -64,8 +48,8 @@ module _ (p : List ℕ) where
   plan-fits-end : 12 ≤ length p → 1 ≤ nodeCount p → nodeCount p ≤ 65535 → planFits p ≡ planEnd
   unfolding planFits
   plan-fits-end a b c =
-      and-yes (leb 12 (length p)) (planCount && planEnd) (le-leb 12 (length p) a)
-      ∙ and-yes planCount planEnd (is-within 1 nodeLimit (nodeCount p) b c)
+      and-next (leb 12 (length p)) (planCount && planEnd) (le-leb 12 (length p) a)
+      ∙ and-next planCount planEnd (is-within 1 nodeLimit (nodeCount p) b c)
 
   pub plan-fits-by : (n : ℕ) → n ≡ nodeCount p → 12 ≤ length p → 1 ≤ n → n ≤ 65535
       → eqb (length p) (12 + 2 * n) ≡ planFits p
@@ -138,9 +122,9 @@ module _ (r : List ℕ) where
       → branchFits r ≡ branchEnd
   unfolding branchFits
   branch-fits-end a b c d e =
-      and-yes (leb 16 (length r)) (stateRange && (labelRange && branchEnd)) (le-leb 16 (length r) a)
-      ∙ and-yes stateRange (labelRange && branchEnd) (is-within 1 stateLimit (stateCount r) b c)
-      ∙ and-yes labelRange branchEnd (is-within 1 labelLimit (labelCount r) d e)
+      and-next (leb 16 (length r)) (stateRange && (labelRange && branchEnd)) (le-leb 16 (length r) a)
+      ∙ and-next stateRange (labelRange && branchEnd) (is-within 1 stateLimit (stateCount r) b c)
+      ∙ and-next labelRange branchEnd (is-within 1 labelLimit (labelCount r) d e)
 
   pub branch-fits-by : (s k : ℕ) → s ≡ stateCount r → k ≡ labelCount r → 16 ≤ length r → 1 ≤ s → s ≤ 16 → 1 ≤ k → k ≤ 64
       → eqb (length r) (16 + s * k + s) ≡ branchFits r
@@ -221,8 +205,8 @@ module _ (p r nums bytes : List ℕ) where
       → lentFits p r nums bytes ≡ leb (stateLength (nodeCount p) (stateCount r)) (length bytes)
   unfolding roomFits
   lent-fits-end a b c =
-      lent-parts ∙ and-yes (planFits p) (branchFits r && lentRoom) a ∙ and-yes (branchFits r) lentRoom b
-      ∙ and-yes (leb (linkLength (nodeCount p)) (length nums))
+      lent-parts ∙ and-next (planFits p) (branchFits r && lentRoom) a ∙ and-next (branchFits r) lentRoom b
+      ∙ and-next (leb (linkLength (nodeCount p)) (length nums))
       (leb (stateLength (nodeCount p) (stateCount r)) (length bytes))
       (le-leb (linkLength (nodeCount p)) (length nums) c)
 

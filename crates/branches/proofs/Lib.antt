@@ -11,6 +11,7 @@ pub mod AskChecks
 pub mod WordWalks
 pub mod AskBuilt
 pub mod AskClimb
+pub mod AskAstray
 pub mod AskTheorem
 pub mod StepTurns
 pub mod StepRowTurns

@@ -7,3 +7,4 @@ pub mod Lent
 pub mod Maps
 pub mod Filled
 pub mod Told
+pub mod Astray

@@ -18,6 +18,7 @@ use Rattle.formats.specs.Built.{BranchBuilt}
 use Rattle.branches.specs.declared.answers.Branching.{Branching}
 use Rattle.branches.specs.declared.answers.Branching.the-variants.{Told, Refused}
 use Rattle.branches.specs.Question.{askNumber, askAnswer, branchNumber}
+use Rattle.branches.specs.Astray.{BranchAstray}
 
 unfoldable pub AtOrBelow : Tree → ℕ → ℕ → Type 0
 AtOrBelow t u l = (n : ℕ) × (n ≤ depth t l) × (ancestor t l n ≡ u)
@@ -33,6 +34,8 @@ pub record AskDone (p r nums bytes : List ℕ) (u l : ℕ) (answer : Branching) 
   -- on every input: the first failing check of 17, 13, 16 and 18, or the named result
   pub told : answer ≡ askAnswer p r nums bytes u l
   pub number : branchNumber answer ≡ askNumber p r nums bytes u l
+  -- 18 only where a value leads outside the plan, the states or the labels, or a link does not rise
+  pub astray : branchNumber answer ≡ 18 → BranchAstray p r nums bytes
   -- on tables as built and two nodes of the plan: the word automaton's answer where the lower node is at or below the upper ..
   pub built : BranchBuilt p r nums bytes → u < nodeCount p → l < nodeCount p → AtOrBelow (planTree p) u l → answer ≡ wordAnswer p r u l
   -- .. and 16 where it is not: 18 never

@@ -4,7 +4,7 @@
 --     Numbered cs                   no check has the number 0, so that 0 says that none fails
 --     firstNo-append-zero, -suc     the first no of two lists in a row, from that of the first list; -no the same with no number
 --     firstNo-append-left, -right   where nothing of both fails, nothing of either fails
---     and-both, and-left, and-right what a conjunction of tests tells
+--     and-both, and-left, and-right what a conjunction of tests tells; and-next: a test that passes leaves the next to decide
 -- Assumes nothing.
 use Prim.Native.Nat.{ℕ, suc, _<_}
 use mathlib.Core.Path.{_≡_, refl, sym, _∙_}
@@ -37,6 +37,9 @@ and-no-left false b e = refl
 pub and-no-right : (a b : Bool) → b ≡ false → (a && b) ≡ false
 and-no-right true b e = e
 and-no-right false b e = refl
+
+pub and-next : (a b : Bool) → a ≡ true → (a && b) ≡ b
+and-next a b e = rw e
 
 -- ---- one check
 

@@ -1,19 +1,19 @@
 -- The laws of the tests of lists: what allBelow, holds, distinct and sameList tell, element by element.
 --     allBelow-at, allBelow-all   every element is below, by its place; with 0 < n at every place, past the end too
---     at-allBelow                 and back
+--     at-allBelow                 and back; allBelow-not: else one of them is not
 --     allBelow-cons, allBelow-le  one element more; a greater bound
 --     sameList-true, sameList-refl, sameList-false
 --     holds-at, distinct-at       an element that is held has a place; two places of a distinct list differ; at-distinct back
 -- Assumes nothing.
 use Prim.Native.Nat.{ℕ, zero, suc, _≤_, _<_}
 use mathlib.Core.Path.{_≡_, refl, sym, ap, ap₂, _∙_}
-use mathlib.Core.Bool.{Bool, true, false, not, _||_}
+use mathlib.Core.Bool.{Bool, true, false, not, _&&_, _||_}
 use mathlib.Core.List.{List, [], _∷_}
 use native.Mathlib.Omega.{arith}
 use native.Mathlib.Decide.{decLt}
 use lib.ListN.{length, getD, List·getD-eq-default}
 use lib.Dec.{ltb, eqb}
-use borrow.Author.Tests.{ltb-true, lt-ltb, eqb-true, eq-eqb, ne-eqb, not-true}
+use borrow.Author.Tests.{ltb-true, ltb-false, lt-ltb, eqb-true, eq-eqb, ne-eqb, not-true}
 use Rattle.formats.specs.Bytes.{allBelow, holds, distinct, sameList}
 use Rattle.formats.proofs.CheckLaws.{true-false, and-both, and-left, and-right}
 
@@ -38,6 +38,16 @@ unfolding allBelow
 at-allBelow n [] f = refl
 at-allBelow n (x ∷ l) f =
     and-both (ltb x n) (allBelow n l) (lt-ltb x n (f 0 (omega arith))) (at-allBelow n l (λ j h. f (suc j) (omega arith)))
+
+pub allBelow-not : (n : ℕ) (l : List ℕ) → allBelow n l ≡ false → (j : ℕ) × (j < length l) × (n ≤ getD l j 0)
+unfolding allBelow
+allBelow-not n [] e = absurd (true-false e)
+allBelow-not n (x ∷ l) e = go (ltb x n) refl e (allBelow-not n l)
+  where
+    go : (b : Bool) → ltb x n ≡ b → (b && allBelow n l) ≡ false
+        → (allBelow n l ≡ false → (j : ℕ) × (j < length l) × (n ≤ getD l j 0)) → (j : ℕ) × (j < length (x ∷ l)) × (n ≤ getD (x ∷ l) j 0)
+    go true b i ih = let r = ih i in (suc (r .0), omega (arith, r .1), r .2)
+    go false b i ih = (0, omega arith, ltb-false x n b)
 
 pub allBelow-le : (m n : ℕ) (l : List ℕ) → m ≤ n → allBelow m l ≡ true → allBelow n l ≡ true
 allBelow-le m n l h e = at-allBelow n l (λ j i. omega (arith, allBelow-at m l j e i))

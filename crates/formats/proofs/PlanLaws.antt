@@ -1,19 +1,21 @@
 -- Plans that pass 2 to 5.
 --     PlanPasses p                 what the four checks say of a plan, by name; plan-passes, passes-plan: exactly where none fails
 --     plan-numbered                no check has the number 0
+--     within-low .. within-next    what a test of a range tells; product-most: a product of numbers within limits
 --     length-kindsIn, length-labelsIn, kinds-planTree, labels-planTree, size-planTree
 --                                  the two runs of such a plan and its tree
 --     labels-part, kinds-part      what `&plan[12..12 + n]` and `&plan[12 + n..]` are to a proof
 -- Not here: the numbers that a refusal gives (proofs/plan/check_plan), the way from trees to plans (PlanTheorems).
 -- Assumes nothing.
-use Prim.Native.Nat.{ℕ, _+_, _-_, _≤_}
+use Prim.Native.Nat.{ℕ, _+_, _-_, _*_, _≤_, _<_}
 use mathlib.Core.Path.{_≡_, sym, ap, _∙_}
-use mathlib.Core.Bool.{Bool, true, _&&_}
+use mathlib.Core.Bool.{Bool, true, false, _&&_}
 use mathlib.Core.List.{List}
+use native.Mathlib.Nat.{mul-le-mul-right}
 use native.Mathlib.Omega.{arith}
 use lib.Dec.{leb, eqb}
 use lib.ListN.{length, take, drop}
-use borrow.Author.Tests.{leb-true, le-leb, eqb-true, eq-eqb}
+use borrow.Author.Tests.{leb-true, le-leb, lt-leb, eqb-true, eq-eqb}
 use Rattle.trees.specs.Tree.{size, kindsOf, labelsOf}
 use Rattle.trees.specs.Postorder.{isPostorder}
 use Rattle.trees.proofs.PostorderLaws.{treeOf-kinds, treeOf-labels, treeOf-size}
@@ -21,7 +23,7 @@ use Rattle.formats.specs.Bytes.{le32}
 use Rattle.formats.specs.Limits.{nodeLimit, within}
 use Rattle.formats.specs.Plan.{nodeCount, planLength, labelsIn, kindsIn, planTree}
 use Rattle.formats.specs.Checks.{firstNo, planChecks}
-use Rattle.formats.proofs.CheckLaws.{Numbered, and-both, and-left, and-right}
+use Rattle.formats.proofs.CheckLaws.{Numbered, and-both, and-left, and-right, and-no-left, and-no-right, and-next}
 use Rattle.formats.proofs.PartLaws.{four-pass, pass-four, end-part, run-part, length-part}
 
 pub record PlanPasses (p : List ℕ) : Type 0 where
@@ -43,6 +45,18 @@ within-high low high n e = leb-true n high (and-right (leb low n) (leb n high) e
 
 pub is-within : (low high n : ℕ) → low ≤ n → n ≤ high → within low high n ≡ true
 is-within low high n h i = and-both (leb low n) (leb n high) (le-leb low n h) (le-leb n high i)
+
+pub within-no-low : (low high n : ℕ) → n < low → within low high n ≡ false
+within-no-low low high n h = and-no-left (leb low n) (leb n high) (lt-leb low n h)
+
+pub within-no-high : (low high n : ℕ) → high < n → within low high n ≡ false
+within-no-high low high n h = and-no-right (leb low n) (leb n high) (lt-leb n high h)
+
+pub within-next : (low high n : ℕ) → low ≤ n → within low high n ≡ leb n high
+within-next low high n h = and-next (leb low n) (leb n high) (le-leb low n h)
+
+pub product-most : (a b m n : ℕ) → a ≤ m → b ≤ n → a * b ≤ m * n
+product-most a b m n h l = omega (arith, mul-le-mul-right b h, mul-le-mul-right m l)
 
 pub same-left : (a b : ℕ) (c : Bool) → (eqb a b && c) ≡ true → a ≡ b
 same-left a b c e = eqb-true a b (and-left (eqb a b) c e)

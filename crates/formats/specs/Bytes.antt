@@ -2,6 +2,7 @@
 --
 -- le32 b at == the 32-bit little-endian number that starts at byte `at` of b; a byte past the end counts 0
 -- le32Bytes n == its four bytes
+-- le16 b at, le16Bytes n == the same for 16 bits
 -- allBelow n l == whether every element of l is below n
 -- distinct l == whether no element stands twice in l
 -- sameList l m == whether l and m are the same list
@@ -19,6 +20,12 @@ le32 b at = getD b at 0 + 256 * getD b (at + 1) 0 + 65536 * getD b (at + 2) 0 + 
 
 abbrev pub le32Bytes : ℕ → List ℕ
 le32Bytes n = n % 256 ∷ n / 256 % 256 ∷ n / 65536 % 256 ∷ n / 16777216 % 256 ∷ []
+
+abbrev pub le16 : List ℕ → ℕ → ℕ
+le16 b at = getD b at 0 + 256 * getD b (at + 1) 0
+
+abbrev pub le16Bytes : ℕ → List ℕ
+le16Bytes n = n % 256 ∷ n / 256 % 256 ∷ []
 
 unfoldable pub allBelow : ℕ → List ℕ → Bool
 allBelow n [] = true

@@ -5,3 +5,4 @@ pub mod CheckTurns
 pub mod CheckLaws
 pub mod MoveWays
 pub mod ToldLaws
+pub mod AstrayLaws

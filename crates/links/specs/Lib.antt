@@ -4,3 +4,4 @@ pub mod UpPass
 pub mod DownPass
 pub mod CheckPass
 pub mod ToldMove
+pub mod Astray

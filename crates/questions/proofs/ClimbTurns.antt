@@ -7,14 +7,12 @@
 -- Assumes nothing.
 use Prim.Native.Nat.{ℕ, _+_, _≤_, _<_}
 use mathlib.Core.Path.{_≡_, refl, sym, ap, _∙_}
-use mathlib.Core.List.{List, [], _∷_}
 use mathlib.Core.Logic.{inl, inr}
 use mathlib.Core.Option.{Option, none, some}
 use native.Mathlib.Omega.{arith}
-use lib.ListN.{length}
-use Rattle.trees.specs.Climb.{Forest, Move, andThen, climb, carry}
+use Rattle.trees.specs.Climb.{Forest, Move, andThen}
 use Rattle.trees.proofs.MoveLaws.{next-inside, next-rises}
-use Rattle.trees.proofs.CarryLaws.{carried, carried-done, carried-move, carried-lost, carried-stuck}
+use Rattle.trees.proofs.CarryLaws.{carried, carried-done, carried-move, carried-lost, carried-stuck, counted-climb}
 use Rattle.links.specs.Cells.{cellForest}
 use Rattle.questions.specs.declared.answer.Climbed.the-variants.{Reached as Told, Outside}
 use Rattle.questions.specs.declared.climb.Landed.{Landed}
@@ -27,22 +25,6 @@ use Rattle.questions.proofs.StepLaws.{Went, step-on, step-lost}
 
 abbrev pub countedMove : (Move → ℕ → Option ℕ) → Move → Reached → Option Reached
 countedMove act m x = andThen (act m (x .state)) (λ y. some (reached y (x .links + 1)))
-
-module _ (act : Move → ℕ → Option ℕ) where
-  counted-carry : (ms : List Move) (q c : ℕ)
-      → carry (countedMove act) ms (reached q c) ≡ andThen (carry act ms q) (λ x. some (reached x (c + length ms)))
-  counted-carry [] q c = let e : c ≡ c + 0 = omega arith in ap (λ (k : ℕ). some (reached q k)) e
-  counted-carry (m ∷ ms) q c = go (act m q) (λ x. counted-carry ms x (c + 1))
-    where
-      go : (o : Option ℕ)
-          → ((x : ℕ) → carry (countedMove act) ms (reached x (c + 1))
-          ≡ andThen (carry act ms x) (λ x. some (reached x (c + 1 + length ms))))
-          → andThen (andThen o (λ x. some (reached x (c + 1)))) (carry (countedMove act) ms)
-          ≡ andThen (andThen o (carry act ms)) (λ x. some (reached x (c + length (m ∷ ms))))
-      go none h = refl
-      go (some y) h =
-          let e : c + 1 + length ms ≡ c + length (m ∷ ms) = omega arith in
-          h y ∙ ap (λ (k : ℕ). andThen (carry act ms y) (λ x. some (reached x k))) e
 
 -- ---- the loop
 
@@ -59,16 +41,7 @@ module _ (X : View) (from to q₀ : ℕ) where
 
   pub climb-carried : climbOn X from to q₀ ≡ onward from q₀ 0
   unfolding climbOn
-  climb-carried = go (climb forest from to)
-    where
-      go : (o : Option (List Move))
-          → andThen o (λ ms. andThen (carry (moveOn X) ms q₀) (λ x. some (reached x (length ms))))
-          ≡ andThen o (λ ms. carry act ms (reached q₀ 0))
-      go none = refl
-      go (some ms) =
-          let e : length ms ≡ 0 + length ms = omega arith in
-          ap (λ (c : ℕ). andThen (carry (moveOn X) ms q₀) (λ x. some (reached x c))) e
-          ∙ sym (counted-carry (moveOn X) ms q₀ 0)
+  climb-carried = counted-climb reached (moveOn X) act (λ m x c. refl) forest from to q₀
 
   pub record Climbing (v q c : ℕ) : Type 0 where
     pub inside : v < X .n

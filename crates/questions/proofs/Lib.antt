@@ -26,4 +26,7 @@ pub mod RootsBuilt
 pub mod ClimbBuilt
 pub mod PartBuilt
 pub mod Theorems
+pub mod RootsAstray
+pub mod PartAstray
+pub mod NotAstray
 pub mod Promised

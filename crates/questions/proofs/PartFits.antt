@@ -1,5 +1,4 @@
 -- Whether what is lent and asked for fits, test by test.
---     within-no, within-end                            is a number between two others?
 --     limits-first, limits-second, limits-end          limitsFit by its tests; the last decides where the others pass
 --     plan-no, rules-no, nums-no, lengths-end          the same for lengthsFit
 --     roots-short .. asked-end                         the same for askedFits
@@ -12,7 +11,6 @@ use mathlib.Core.Path.{_≡_, refl, _∙_}
 use mathlib.Core.Bool.{Bool, true, false, _&&_}
 use mathlib.Core.List.{List}
 use native.Mathlib.Omega.{arith}
-use native.Mathlib.Nat.{mul-le-mul-right}
 use lib.Dec.{leb, ltb, eqb}
 use lib.ListN.{length, getD, take}
 use borrow.Author.Tests.{leb-true, ltb-true, eqb-true, le-leb, lt-leb, lt-ltb, le-ltb, eq-eqb, ne-eqb}
@@ -21,51 +19,31 @@ use Rattle.formats.specs.Limits.{nodeLimit, stateLimit, labelLimit, within}
 use Rattle.formats.specs.Plan.{planLength}
 use Rattle.formats.specs.Rules.{ruleLength}
 use Rattle.formats.specs.Checks.{linkLength, stateLength}
+use Rattle.formats.proofs.CheckLaws.{and-no-left, and-next}
+use Rattle.formats.proofs.PlanLaws.{within-low, within-high}
 use Rattle.questions.specs.declared.answer.Climbed.the-variants.{Outside}
 use Rattle.questions.specs.Part.{partOn}
 use Rattle.questions.specs.PartTold.{toldReached, limitsFit, lengthsFit, askedFits, partFits, lentView, partGiven}
 
-pub and-no : (a b : Bool) → a ≡ false → (a && b) ≡ false
-and-no a b e = rw e
-
-pub and-yes : (a b : Bool) → a ≡ true → (a && b) ≡ b
-and-yes a b e = rw e
-
 -- ---- limits
-
-module _ (low high x : ℕ) where
-  pub within-no : x < low → within low high x ≡ false
-  within-no h = and-no (leb low x) (leb x high) (lt-leb low x h)
-
-  pub within-end : low ≤ x → within low high x ≡ leb x high
-  within-end h = and-yes (leb low x) (leb x high) (le-leb low x h)
-
-  within-is : within low high x ≡ true → (low ≤ x) × (x ≤ high)
-  within-is h =
-      let t = both (leb low x) (leb x high) h in
-      (leb-true low x (t .0), leb-true x high (t .1))
-
--- the greatest product of two numbers within limits
-pub product-most : (a b m n : ℕ) → a ≤ m → b ≤ n → a * b ≤ m * n
-product-most a b m n h l = omega (arith, mul-le-mul-right b h, mul-le-mul-right m l)
 
 module _ (n s k : ℕ) where
   pub limits-first : within 1 nodeLimit n ≡ false → limitsFit n s k ≡ false
   unfolding limitsFit
-  limits-first h = and-no (within 1 nodeLimit n) _ h
+  limits-first h = and-no-left (within 1 nodeLimit n) _ h
 
   module _ (f : within 1 nodeLimit n ≡ true) where
     pub limits-second : within 1 stateLimit s ≡ false → limitsFit n s k ≡ false
     unfolding limitsFit
     limits-second h =
-        and-yes (within 1 nodeLimit n) (within 1 stateLimit s && within 1 labelLimit k) f
-        ∙ and-no (within 1 stateLimit s) (within 1 labelLimit k) h
+        and-next (within 1 nodeLimit n) (within 1 stateLimit s && within 1 labelLimit k) f
+        ∙ and-no-left (within 1 stateLimit s) (within 1 labelLimit k) h
 
     pub limits-end : within 1 stateLimit s ≡ true → limitsFit n s k ≡ within 1 labelLimit k
     unfolding limitsFit
     limits-end h =
-        and-yes (within 1 nodeLimit n) (within 1 stateLimit s && within 1 labelLimit k) f
-        ∙ and-yes (within 1 stateLimit s) (within 1 labelLimit k) h
+        and-next (within 1 nodeLimit n) (within 1 stateLimit s && within 1 labelLimit k) f
+        ∙ and-next (within 1 stateLimit s) (within 1 labelLimit k) h
 
   pub record Limits : Type 0 where
     pub nodes : 1 ≤ n
@@ -80,10 +58,14 @@ module _ (n s k : ℕ) where
   limits-are h =
       let one = both (within 1 nodeLimit n) (within 1 stateLimit s && within 1 labelLimit k) h in
       let two = both (within 1 stateLimit s) (within 1 labelLimit k) (one .1) in
-      let a = within-is 1 nodeLimit n (one .0) in
-      let b = within-is 1 stateLimit s (two .0) in
-      let c = within-is 1 labelLimit k (two .1) in
-      record { nodes = a .0; most = a .1; states = b .0; few = b .1; labels = c .0; labels-most = c .1 }
+      record {
+        nodes = within-low 1 nodeLimit n (one .0);
+        most = within-high 1 nodeLimit n (one .0);
+        states = within-low 1 stateLimit s (two .0);
+        few = within-high 1 stateLimit s (two .0);
+        labels = within-low 1 labelLimit k (two .1);
+        labels-most = within-high 1 labelLimit k (two .1);
+      }
 
 -- ---- lengths
 
@@ -93,27 +75,27 @@ module _ (n s k plan rules nums bytes : ℕ) where
 
   pub plan-no : ¬ (plan ≡ planLength n) → lengthsFit n s k plan rules nums bytes ≡ false
   unfolding lengthsFit
-  plan-no h = and-no (eqb plan (planLength n)) (eqb rules (ruleLength s k) && rest) (ne-eqb plan (planLength n) h)
+  plan-no h = and-no-left (eqb plan (planLength n)) (eqb rules (ruleLength s k) && rest) (ne-eqb plan (planLength n) h)
 
   module _ (p : plan ≡ planLength n) where
     from-rules : lengthsFit n s k plan rules nums bytes ≡ (eqb rules (ruleLength s k) && rest)
     unfolding lengthsFit
-    from-rules = and-yes (eqb plan (planLength n)) (eqb rules (ruleLength s k) && rest) (eq-eqb plan (planLength n) p)
+    from-rules = and-next (eqb plan (planLength n)) (eqb rules (ruleLength s k) && rest) (eq-eqb plan (planLength n) p)
 
     pub rules-no : ¬ (rules ≡ ruleLength s k) → lengthsFit n s k plan rules nums bytes ≡ false
-    rules-no h = from-rules ∙ and-no (eqb rules (ruleLength s k)) rest (ne-eqb rules (ruleLength s k) h)
+    rules-no h = from-rules ∙ and-no-left (eqb rules (ruleLength s k)) rest (ne-eqb rules (ruleLength s k) h)
 
     module _ (r : rules ≡ ruleLength s k) where
       from-nums : lengthsFit n s k plan rules nums bytes ≡ rest
-      from-nums = from-rules ∙ and-yes (eqb rules (ruleLength s k)) rest (eq-eqb rules (ruleLength s k) r)
+      from-nums = from-rules ∙ and-next (eqb rules (ruleLength s k)) rest (eq-eqb rules (ruleLength s k) r)
 
       pub nums-no : nums < linkLength n → lengthsFit n s k plan rules nums bytes ≡ false
       nums-no h =
-          from-nums ∙ and-no (leb (linkLength n) nums) (leb (stateLength n s) bytes) (lt-leb (linkLength n) nums h)
+          from-nums ∙ and-no-left (leb (linkLength n) nums) (leb (stateLength n s) bytes) (lt-leb (linkLength n) nums h)
 
       pub lengths-end : linkLength n ≤ nums → lengthsFit n s k plan rules nums bytes ≡ leb (stateLength n s) bytes
       lengths-end h =
-          from-nums ∙ and-yes (leb (linkLength n) nums) (leb (stateLength n s) bytes) (le-leb (linkLength n) nums h)
+          from-nums ∙ and-next (leb (linkLength n) nums) (leb (stateLength n s) bytes) (le-leb (linkLength n) nums h)
 
   pub record Lengths : Type 0 where
     pub plan-is : plan ≡ planLength n
@@ -154,32 +136,32 @@ module _ (n : ℕ) (roots states vs bs : List ℕ) where
 
   pub roots-short : length roots ≤ length states → askedFits n roots states vs bs ≡ false
   unfolding askedFits
-  roots-short h = and-no after (many && (node && (lists && listed))) (le-ltb (length states) (length roots) h)
+  roots-short h = and-no-left after (many && (node && (lists && listed))) (le-ltb (length states) (length roots) h)
 
   module _ (a : length states < length roots) where
     from-many : askedFits n roots states vs bs ≡ (many && (node && (lists && listed)))
     unfolding askedFits
-    from-many = and-yes after (many && (node && (lists && listed))) (lt-ltb (length states) (length roots) a)
+    from-many = and-next after (many && (node && (lists && listed))) (lt-ltb (length states) (length roots) a)
 
     pub roots-many : 65535 < length roots → askedFits n roots states vs bs ≡ false
-    roots-many h = from-many ∙ and-no many (node && (lists && listed)) (lt-leb (length roots) nodeLimit h)
+    roots-many h = from-many ∙ and-no-left many (node && (lists && listed)) (lt-leb (length roots) nodeLimit h)
 
     module _ (m : length roots ≤ 65535) where
       from-node : askedFits n roots states vs bs ≡ (node && (lists && listed))
-      from-node = from-many ∙ and-yes many (node && (lists && listed)) (le-leb (length roots) nodeLimit m)
+      from-node = from-many ∙ and-next many (node && (lists && listed)) (le-leb (length roots) nodeLimit m)
 
       pub root-outside : n ≤ getD roots (length states) 0 → askedFits n roots states vs bs ≡ false
-      root-outside h = from-node ∙ and-no node (lists && listed) (le-ltb (getD roots (length states) 0) n h)
+      root-outside h = from-node ∙ and-no-left node (lists && listed) (le-ltb (getD roots (length states) 0) n h)
 
       module _ (i : getD roots (length states) 0 < n) where
         from-lists : askedFits n roots states vs bs ≡ (lists && listed)
-        from-lists = from-node ∙ and-yes node (lists && listed) (lt-ltb (getD roots (length states) 0) n i)
+        from-lists = from-node ∙ and-next node (lists && listed) (lt-ltb (getD roots (length states) 0) n i)
 
         pub lists-apart : ¬ (length vs ≡ length bs) → askedFits n roots states vs bs ≡ false
-        lists-apart h = from-lists ∙ and-no lists listed (ne-eqb (length vs) (length bs) h)
+        lists-apart h = from-lists ∙ and-no-left lists listed (ne-eqb (length vs) (length bs) h)
 
         pub asked-end : length vs ≡ length bs → askedFits n roots states vs bs ≡ leb (length vs) 65535
-        asked-end h = from-lists ∙ and-yes lists listed (eq-eqb (length vs) (length bs) h)
+        asked-end h = from-lists ∙ and-next lists listed (eq-eqb (length vs) (length bs) h)
 
   pub record Asked : Type 0 where
     pub root : length states < length roots
@@ -220,22 +202,22 @@ module _ (n s k : ℕ) (plan rules nums bytes roots states vs bs : List ℕ) whe
   pub given-limits : limitsFit n s k ≡ false
       → Outside ≡ toldReached (partGiven n s k plan rules nums bytes roots states vs bs)
   unfolding partFits
-  given-limits h = unfit (and-no (limitsFit n s k) (lengths && asked) h)
+  given-limits h = unfit (and-no-left (limitsFit n s k) (lengths && asked) h)
 
   module _ (l : limitsFit n s k ≡ true) where
     pub given-lengths : lengths ≡ false
         → Outside ≡ toldReached (partGiven n s k plan rules nums bytes roots states vs bs)
     unfolding partFits
-    given-lengths h = unfit (and-yes (limitsFit n s k) (lengths && asked) l ∙ and-no lengths asked h)
+    given-lengths h = unfit (and-next (limitsFit n s k) (lengths && asked) l ∙ and-no-left lengths asked h)
 
     module _ (m : lengths ≡ true) where
       pub given-asked : asked ≡ false → Outside ≡ toldReached (partGiven n s k plan rules nums bytes roots states vs bs)
       unfolding partFits
-      given-asked h = unfit (and-yes (limitsFit n s k) (lengths && asked) l ∙ and-yes lengths asked m ∙ h)
+      given-asked h = unfit (and-next (limitsFit n s k) (lengths && asked) l ∙ and-next lengths asked m ∙ h)
 
       pub given-yes : asked ≡ true
           → partGiven n s k plan rules nums bytes roots states vs bs
           ≡ partOn (lentView n s k plan rules nums bytes) (take (length states) roots) states vs bs
           (getD roots (length states) 0)
       unfolding partGiven partFits
-      given-yes h = rw (and-yes (limitsFit n s k) (lengths && asked) l ∙ and-yes lengths asked m ∙ h)
+      given-yes h = rw (and-next (limitsFit n s k) (lengths && asked) l ∙ and-next lengths asked m ∙ h)

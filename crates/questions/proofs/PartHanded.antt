@@ -9,12 +9,12 @@ use mathlib.Core.Bool.{true}
 use mathlib.Core.List.{List}
 use native.Mathlib.Omega.{arith}
 use lib.ListN.{length, getD, take, drop, length-take, length-drop}
+use Rattle.formats.proofs.PlanLaws.{product-most}
 use Rattle.questions.specs.declared.answer.Climbed.{Climbed}
 use Rattle.questions.specs.Part.{partOn}
 use Rattle.questions.specs.PartArgs.{partView, PartArgs}
 use Rattle.questions.specs.PartTold.{toldReached, limitsFit, lengthsFit, askedFits, partGiven}
-use Rattle.questions.proofs.PartFits.{product-most, Limits, limits-are, Lengths}
-use Rattle.questions.proofs.PartFits.{lengths-are, Asked, asked-are, given-yes}
+use Rattle.questions.proofs.PartFits.{Limits, limits-are, Lengths, lengths-are, Asked, asked-are, given-yes}
 
 module _ (n s k : ℕ) (plan rules nums bytes roots states vs bs : List ℕ) where
   pub record Fit : Type 0 where

@@ -18,6 +18,7 @@ use Rattle.trees.specs.Tree.{Tree, size}
 use Rattle.formats.specs.Bytes.{allBelow, holds}
 use Rattle.formats.proofs.CheckLaws.{and-right}
 use Rattle.links.specs.LinkCells.{LinkCells}
+use Rattle.links.specs.Astray.{LinksAstray}
 use Rattle.ready.specs.Members as members
 use Rattle.ready.specs.Parts.{Given, Part, nodesOf, statesOf, partState, partLinks}
 use Rattle.ready.proofs.PartsRun.{Members}
@@ -29,12 +30,16 @@ use Rattle.questions.specs.Part.{partOn}
 use Rattle.questions.specs.Roots.{rootsOn}
 use Rattle.questions.specs.RootsTold.{rootsFit, rootsGiven, rootedOf}
 use Rattle.questions.specs.PartTold.{limitsFit, lengthsFit, askedFits, partFits, partGiven, lentView, toldReached}
+use Rattle.questions.specs.Astray.{Astray}
 use Rattle.questions.specs.Promises.{numberFor, rootedNumber, climbedNumber, RootsDone, Asked, PartDone}
 use Rattle.questions.proofs.FitLaws.{Fit, fit-facts, given-yes, given-are}
 use Rattle.questions.proofs.PartBounds.{partGiven-below, part-links}
+use Rattle.questions.proofs.PartFits as fits
 use Rattle.questions.proofs.PartFits.{asked-are}
 use Rattle.questions.proofs.RootsBuilt.{roots-built}
 use Rattle.questions.proofs.PartBuilt.{part-built}
+use Rattle.questions.proofs.RootsAstray.{roots-astray}
+use Rattle.questions.proofs.PartAstray.{part-astray}
 
 pub all-small : (n : ℕ) (vs : List ℕ) → allBelow n vs ≡ true → (v : ℕ) → List·Memᴰ v vs → v < n
 unfolding allBelow
@@ -59,10 +64,18 @@ module _ (n : ℕ) (nums vs : List ℕ) where
   rooted-number none = refl
   rooted-number (some l) = refl
 
+  roots-18 : rootsFit n (length nums) vs ≡ true → (o : Option (List ℕ)) → rootsGiven n nums vs ≡ o → numberFor o ≡ 18 → LinksAstray n nums
+  unfolding numberFor
+  roots-18 f none g e =
+      let F = fit-facts n (length nums) vs f in
+      roots-astray n nums vs (omega (arith, F .least)) (F .below) (sym (given-yes n nums vs f) ∙ g)
+  roots-18 f (some l) g e = absurd (omega (arith, e))
+
   pub roots-done : (r : Rooted) → r ≡ rootedOf (rootsGiven n nums vs) → RootsDone n nums vs r
   roots-done r e = record {
     told = e;
     number = ap rootedNumber e ∙ rooted-number (rootsGiven n nums vs);
+    astray = λ f i. roots-18 f (rootsGiven n nums vs) refl (sym (rooted-number (rootsGiven n nums vs)) ∙ sym (ap rootedNumber e) ∙ i);
     few = given-are n nums vs;
     built = λ t L m f. e ∙ ap rootedOf (built t L m f);
   }
@@ -77,12 +90,21 @@ module _ (n s k : ℕ) (plan rules nums bytes roots states vs bs : List ℕ) whe
       ap₂ (λ (a b : List ℕ). a ++ b) e (sym (drop-cons roots (length states) 0 l))
       ∙ take-append-drop (length states) roots
 
-  next-is : partFits n s k plan rules nums bytes roots states vs bs ≡ true → length states < length roots
+  asked-of : partFits n s k plan rules nums bytes roots states vs bs ≡ true → fits.Asked n roots states vs bs
   unfolding partFits
-  next-is e =
+  asked-of e =
       let lengths = lengthsFit n s k (length plan) (length rules) (length nums) (length bytes) in
       let asked = askedFits n roots states vs bs in
-      asked-are n roots states vs bs (and-right lengths asked (and-right (limitsFit n s k) (lengths && asked) e)) .root
+      asked-are n roots states vs bs (and-right lengths asked (and-right (limitsFit n s k) (lengths && asked) e))
+
+  part-18 : partFits n s k plan rules nums bytes roots states vs bs ≡ true → (o : Option Reached)
+      → partGiven n s k plan rules nums bytes roots states vs bs ≡ o → numberFor o ≡ 18
+      → Astray (lentView n s k plan rules nums bytes) states vs bs
+  unfolding numberFor partGiven
+  part-18 f none g e =
+      part-astray (lentView n s k plan rules nums bytes) states vs bs (take (length states) roots) (getD roots (length states) 0)
+      (asked-of f .inside) (rw f at g)
+  part-18 f (some x) g e = absurd (omega (arith, e))
 
   by-rule : (G : Given) (ps : List Part) → Asked n s k plan rules nums bytes roots states vs bs G ps
       → partGiven n s k plan rules nums bytes roots states vs bs
@@ -95,7 +117,7 @@ module _ (n s k : ℕ) (plan rules nums bytes roots states vs bs : List ℕ) whe
       rw (A .fits)
       (ap₂ (λ (es qs : List ℕ). partOn (lentView n s k plan rules nums bytes) es qs vs bs v) (sym (A .before)) (sym (A .states-are))
       ∙ part-built (lentView n s k plan rules nums bytes) G (A .reads) w roots M ps v (drop (suc (length states)) roots)
-      (cut ps (A .before) (next-is (A .fits))) (A .below) vs bs (A .labels))
+      (cut ps (A .before) (asked-of (A .fits) .root)) (A .below) vs bs (A .labels))
 
   reached-number : (o : Option Reached) → climbedNumber (toldReached o) ≡ numberFor o
   unfolding climbedNumber toldReached numberFor
@@ -108,6 +130,8 @@ module _ (n s k : ℕ) (plan rules nums bytes roots states vs bs : List ℕ) whe
   part-done r e = record {
     told = e;
     number = ap climbedNumber e ∙ reached-number (partGiven n s k plan rules nums bytes roots states vs bs);
+    astray = λ f i. part-18 f (partGiven n s k plan rules nums bytes roots states vs bs) refl
+        (sym (reached-number (partGiven n s k plan rules nums bytes roots states vs bs)) ∙ sym (ap climbedNumber e) ∙ i);
     state-below = λ x f. partGiven-below n s k plan rules nums bytes roots states vs bs x f;
     links-most = λ x f. part-links n s k plan rules nums bytes roots states vs bs x f;
     rule = λ G ps A. e ∙ ap toldReached (by-rule G ps A);

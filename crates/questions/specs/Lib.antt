@@ -11,3 +11,4 @@ pub mod Steps
 pub mod Scans
 pub mod PartArgs
 pub mod Promises
+pub mod Astray

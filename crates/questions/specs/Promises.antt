@@ -17,6 +17,7 @@ use lib.ListN.{length, getD, take}
 use Rattle.trees.specs.Tree.{Tree, size, labelsOf, kindsOf, labelAt}
 use Rattle.trees.specs.Changes.{changed}
 use Rattle.links.specs.LinkCells.{LinkCells}
+use Rattle.links.specs.Astray.{LinksAstray}
 use Rattle.tables.specs.StateCells.{stateCell, mapCell}
 use Rattle.ready.specs.Members as members
 use Rattle.ready.specs.Parts.{Given, Part, nodesOf, statesOf, stateOf, partState, partLinks}
@@ -27,6 +28,7 @@ use Rattle.questions.specs.Rising.{RisesTo}
 use Rattle.questions.specs.RootsTold.{rootsFit, rootsGiven, rootedOf}
 use Rattle.questions.specs.Climbs.{View, Reached}
 use Rattle.questions.specs.PartTold.{partFits, partGiven, lentView, toldReached}
+use Rattle.questions.specs.Astray.{Astray}
 
 -- "a value read leads outside the plan, the states or the labels, or a climb doesn't rise": 18
 unfoldable pub numberFor : {A : Type 0} → Option A → ℕ
@@ -52,6 +54,8 @@ pub record RootsDone (n : ℕ) (nums vs : List ℕ) (r : Rooted) : Type 0 where
   -- on every input: the named result, or 18
   pub told : r ≡ rootedOf (rootsGiven n nums vs)
   pub number : rootedNumber r ≡ numberFor (rootsGiven n nums vs)
+  -- 18 on what fits: a number leads outside the plan or does not rise
+  pub astray : rootsFit n (length nums) vs ≡ true → rootedNumber r ≡ 18 → LinksAstray n nums
   -- on whatever numbers: rising to the root, and few
   pub few : (l : List ℕ) → rootsGiven n nums vs ≡ some l → RootsAre n (length vs) l
   -- on numbers as built: exactly the ready set, never 18
@@ -89,6 +93,9 @@ pub record PartDone (n s k : ℕ) (plan rules nums bytes roots states vs bs : Li
   -- on every input: the named result, or 18
   pub told : r ≡ toldReached (partGiven n s k plan rules nums bytes roots states vs bs)
   pub number : climbedNumber r ≡ numberFor (partGiven n s k plan rules nums bytes roots states vs bs)
+  -- 18 on what fits: a value leads outside the plan, the states or the labels, or a link does not rise
+  pub astray : partFits n s k plan rules nums bytes roots states vs bs ≡ true → climbedNumber r ≡ 18
+      → Astray (lentView n s k plan rules nums bytes) states vs bs
   -- on whatever is lent: a state, and no more links than a plan has nodes
   pub state-below : (x : Reached) → partGiven n s k plan rules nums bytes roots states vs bs ≡ some x → x .state < s
   pub links-most : (x : Reached) → partGiven n s k plan rules nums bytes roots states vs bs ≡ some x → x .links ≤ 65535

@@ -17,12 +17,12 @@ use lib.ListN.{length, getD, take, drop, set, length-append, drop-of-length-le}
 use lib.Seq.{sets, sets-eq, take-at, drop-at, drop-drop}
 use borrow.Author.Tests.{eq-eqb, ne-eqb, eqb-true, not-true, not-false}
 use Rattle.formats.proofs.CheckLaws.{and-left}
-use Rattle.formats.specs.Bytes.{le32}
+use Rattle.formats.specs.Bytes.{le16, le32}
 use Rattle.session.specs.declared.state.Phase.{Phase}
 use Rattle.session.specs.declared.state.Session.{Session}
 use Rattle.session.specs.Records.{valid}
 use Rattle.records.proofs.NumberLaws.{bytes16-length}
-use Rattle.records.specs.Layout.{le16, numbers16, bytes16, phaseByte, phaseAt, yesByte, headBytes, encoded}
+use Rattle.records.specs.Layout.{numbers16, bytes16, phaseByte, phaseAt, yesByte, headBytes, encoded}
 use Rattle.records.specs.Layout.{run, decoded, laidOut, validBytes, InTypes}
 
 module _ (b : List ℕ) where

@@ -14,7 +14,8 @@ use mathlib.Core.List.{List, [], _∷_, _++_}
 use native.Mathlib.Omega.{arith}
 use lib.ListN.{length, getD}
 use Rattle.formats.proofs.ByteLaws.{last-byte}
-use Rattle.records.specs.Layout.{le16Bytes, numbers16, bytes16, Bytes}
+use Rattle.formats.specs.Bytes.{le16Bytes}
+use Rattle.records.specs.Layout.{numbers16, bytes16, Bytes}
 
 pub bytes-two : (n : ℕ) → n < 65536 → n % 256 + 256 * (n / 256 % 256) ≡ n
 bytes-two n h = omega arith

@@ -19,7 +19,7 @@ use Rattle.session.specs.Records.{sessionOf, recordOf, padded, valid}
 use Rattle.session.specs.Tests.{Shaped}
 use Rattle.session.proofs.PadLaws.{zero-replicate, length-padded}
 use Rattle.session.proofs.Holds.{Sized, Asked, Holds, HoldsIn, holds-of, struct-is}
-use Rattle.session.proofs.AdvanceLaws.{rises-below}
+use Rattle.session.proofs.ActLaws.{rises-below}
 use Rattle.records.specs.Layout.{InTypes}
 
 append-below : (b : ℕ) (l m : List ℕ) → allBelow b l ≡ true → allBelow b m ≡ true → allBelow b (l ++ m) ≡ true

@@ -15,7 +15,6 @@
 --        205    508   roots of the parts, 254 numbers of two bytes
 --        713    254   states of the parts, 254 bytes
 --
--- le16 b at, le16Bytes n == a 16-bit number in bytes, as le32 and le32Bytes (crate formats)
 -- numbers16 b == the 16-bit numbers that b holds, two bytes each; an odd byte at the end is left out
 -- bytes16 l == the bytes of the numbers l, two each
 -- encoded s == the bytes of a struct: headBytes s, the first 13, and restBytes s
@@ -35,7 +34,7 @@ use mathlib.Core.Bool.{Bool, true, false, cond, _&&_}
 use mathlib.Core.List.{List, [], _∷_, _++_}
 use lib.Dec.{leb, eqb}
 use lib.ListN.{length, getD, take, drop}
-use Rattle.formats.specs.Bytes.{le32, le32Bytes}
+use Rattle.formats.specs.Bytes.{le16, le16Bytes, le32, le32Bytes}
 use Rattle.session.specs.declared.state.Phase.{Phase}
 use Rattle.session.specs.declared.state.Phase.the-variants.{Empty, Loaded, Running, Answered}
 use Rattle.session.specs.declared.state.Session.{Session}
@@ -45,12 +44,6 @@ abbrev pub recordLength : ℕ
 recordLength = 967
 
 -- ---- numbers of two bytes
-
-abbrev pub le16 : List ℕ → ℕ → ℕ
-le16 b at = getD b at 0 + 256 * getD b (at + 1) 0
-
-abbrev pub le16Bytes : ℕ → List ℕ
-le16Bytes n = n % 256 ∷ n / 256 % 256 ∷ []
 
 unfoldable pub numbers16 : List ℕ → List ℕ
 numbers16 [] = []

@@ -3,8 +3,8 @@ use formats::bytes::read32;
 ghost use mathlib.Core.Path.{_≡_};
 ghost use Prim.Native.Nat.{_+_, _*_, _/_, _%_, _≤_, _<_};
 ghost use lib.ListN.{length};
-ghost use Rattle.records.specs.Layout.{le16, numbers16, bytes16};
-ghost use Rattle.formats.specs.Bytes.{le32};
+ghost use Rattle.records.specs.Layout.{numbers16, bytes16};
+ghost use Rattle.formats.specs.Bytes.{le16, le32};
 
 // A byte as a wider number.
 fn wide(x: u8) -> u16

@@ -11,9 +11,9 @@ use mathlib.Core.Option.{Option, none, some}
 use native.Mathlib.Omega.{arith}
 use lib.Dec.{leb, ltb, eqb}
 use lib.ListN.{length, getD, length-append}
-use borrow.Author.Tests.{le-leb, lt-ltb, eq-eqb, eqb-true, eqb-false}
+use borrow.Author.Tests.{le-leb, lt-ltb, ltb-true, eq-eqb, eqb-true, eqb-false}
 use Rattle.formats.specs.Bytes.{allBelow}
-use Rattle.formats.proofs.CheckLaws.{and-both, firstNo-head, firstNo-tail, true-false}
+use Rattle.formats.proofs.CheckLaws.{and-both, and-left, and-right, firstNo-head, firstNo-tail, true-false}
 use Rattle.formats.proofs.InputLaws.{ListPasses, list-passes, build-passes}
 use Rattle.questions.specs.Climbs.{Reached}
 use Rattle.questions.specs.Rising.{RisesTo}
@@ -121,6 +121,17 @@ unfolding risesTo
 rises-is e [] t = absurd t
 rises-is e (x ∷ []) t = eq-eqb x e t
 rises-is e (x ∷ y ∷ l) t = and-both (ltb x y) (risesTo e (y ∷ l)) (lt-ltb x y (t .0)) (rises-is e (y ∷ l) (t .1))
+
+-- a list that rises to e is nowhere above it
+pub rises-below : (e : ℕ) (l : List ℕ) (i : ℕ) → risesTo e l ≡ true → i < length l → getD l i 0 ≤ e
+unfolding risesTo
+rises-below e [] i r h = absurd (omega arith)
+rises-below e (x ∷ []) zero r h = omega (arith, eqb-true x e r)
+rises-below e (x ∷ []) (suc i) r h = absurd (omega arith)
+rises-below e (x ∷ y ∷ l) zero r h =
+    let a : x < y = ltb-true x y (and-left (ltb x y) (risesTo e (y ∷ l)) r) in
+    omega (arith, rises-below e (y ∷ l) zero (and-right (ltb x y) (risesTo e (y ∷ l)) r) (omega arith))
+rises-below e (x ∷ y ∷ l) (suc i) r h = rises-below e (y ∷ l) i (and-right (ltb x y) (risesTo e (y ∷ l)) r) (omega arith)
 
 nil-below : (n : ℕ) → allBelow n [] ≡ true
 unfolding allBelow

@@ -2,17 +2,17 @@
 --     advance-1, advance-17, advance-18, made-found
 --     advance-limits, next-args, handle-args       what the calls below ask
 -- Assumes nothing.
-use Prim.Native.Nat.{ℕ, zero, suc, _+_, _-_, _*_, _≤_, _<_}
+use Prim.Native.Nat.{ℕ, suc, _+_, _-_, _*_, _≤_, _<_}
 use mathlib.Core.Path.{_≡_, refl, sym, ap, _∙_}
 use mathlib.Core.Bool.{Bool, true, false, not, cond, _&&_}
 use mathlib.Core.List.{List, [], _∷_}
 use mathlib.Core.Option.{Option, none, some}
 use native.Mathlib.Omega.{arith}
 use native.Mathlib.Numerals.{add-one}
-use lib.Dec.{ltb, eqb}
+use lib.Dec.{eqb}
 use lib.ListN.{length, getD, take}
 use lib.Seq.{length-take-le}
-use borrow.Author.Tests.{not-true, not-false, le-leb, lt-ltb, eq-eqb, eqb-true, ltb-true}
+use borrow.Author.Tests.{not-true, not-false, le-leb, lt-ltb, eq-eqb}
 use Rattle.formats.specs.Checks.{check, firstNo}
 use Rattle.formats.proofs.CheckLaws.{and-both, and-left, and-right, firstNo-yes, firstNo-no}
 use Rattle.questions.specs.declared.answer.Climbed.{Climbed}
@@ -34,27 +34,16 @@ use Rattle.session.specs.declared.state.Session.{Session}
 use Rattle.session.specs.declared.answers.Advancing.the-variants.{More, Finished, Refused as NotAdvanced}
 use Rattle.session.specs.declared.answers.Advanced.{Advanced}
 use Rattle.session.specs.declared.answers.Step.{Step}
-use Rattle.session.specs.Records.{phaseOf, phaseTo, sizesOf, recordOf, headOf, sessionOf, risesTo, valid}
+use Rattle.session.specs.Records.{phaseOf, phaseTo, sizesOf, recordOf, headOf, sessionOf, valid}
 use Rattle.session.specs.Promises.{CallDone, advancingAnswer}
 use Rattle.session.specs.Tests.{Shaped}
 use Rattle.session.specs.Steps.{NextArgs, HandleArgs, markedIn, stepBy, stepOn, StepFound}
 use Rattle.session.proofs.PadLaws.{padded-take, padded-more}
 use Rattle.session.proofs.RecordLaws.{Tails}
 use Rattle.session.proofs.Holds.{Sized, Going, holds-of, tails-of, struct-is}
-use Rattle.session.proofs.ActLaws.{running-is}
+use Rattle.session.proofs.ActLaws.{rises-below, running-is}
 use Rattle.session.proofs.CallLaws.{unless-done, refused-done, proceeds-done}
 use Rattle.session.proofs.StepLaws.{steppedOf, handledBy, step-same}
-
--- a list that rises to e is nowhere above it
-pub rises-below : (e : ℕ) (l : List ℕ) (i : ℕ) → risesTo e l ≡ true → i < length l → getD l i 0 ≤ e
-unfolding risesTo
-rises-below e [] i r h = absurd (omega arith)
-rises-below e (x ∷ []) zero r h = omega (arith, eqb-true x e r)
-rises-below e (x ∷ []) (suc i) r h = absurd (omega arith)
-rises-below e (x ∷ y ∷ l) zero r h =
-    let a : x < y = ltb-true x y (and-left (ltb x y) (risesTo e (y ∷ l)) r) in
-    omega (arith, rises-below e (y ∷ l) zero (and-right (ltb x y) (risesTo e (y ∷ l)) r) (omega arith))
-rises-below e (x ∷ y ∷ l) (suc i) r h = rises-below e (y ∷ l) i (and-right (ltb x y) (risesTo e (y ∷ l)) r) (omega arith)
 
 -- ---- the struct of a record with one more part
 

@@ -4,16 +4,17 @@
 --     may-by                                      check 1 of a head and the arrays
 --     kept-of                                     what is left to the program has its properties
 -- Assumes nothing.
-use Prim.Native.Nat.{ℕ, suc, _<_}
+use Prim.Native.Nat.{ℕ, suc, _-_, _<_}
 use mathlib.Core.Path.{_≡_, refl, sym, ap, _∙_, subst}
 use mathlib.Core.Bool.{Bool, true, false, _&&_}
-use mathlib.Core.List.{List, _∷_}
+use mathlib.Core.List.{List, [], _∷_}
 use native.Mathlib.Omega.{arith}
+use lib.ListN.{length, getD}
 use Rattle.formats.specs.Checks.{Check, check, firstNo, listChecks}
 use Rattle.formats.proofs.CheckLaws.{true-false, firstNo-no, firstNo-head}
 use Rattle.book.specs.Lends.{Lent, fits}
 use Rattle.book.specs.Calls as calls
-use Rattle.book.specs.Calls.{Call, load, start, advance, cancel, read, Answer, refused, mayStart}
+use Rattle.book.specs.Calls.{Call, load, start, advance, cancel, read, Answer, refused, mayStart, isRunning}
 use Rattle.book.specs.Refusals.{refusal}
 use Rattle.book.specs.Model.{Acted, proceeds, unless, act}
 use Rattle.book.specs.Kept.{Kept}
@@ -26,7 +27,7 @@ use Rattle.session.specs.Records.{phaseOf, sizesOf, recordOf, headOf, wh
 use Rattle.session.specs.Promises.{CallDone, answerOn, recordOn}
 use Rattle.session.specs.Tests.{Shaped}
 use Rattle.session.proofs.Holds.{holds-of, struct-is}
-use Rattle.session.proofs.ActLaws.{start-sized}
+use Rattle.session.proofs.ActLaws.{rises-below, start-sized, running-is}
 
 -- check 1 of a head and the arrays, where the head is the struct's
 pub may-by : (f : calls.Phase → Bool) (s : Session) (h : Head) → h ≡ headOf s → (b : Bool)
@@ -44,12 +45,23 @@ start-loaded s h v x vs bs e =
     (omega arith) e in
     start-sized (phaseOf (s .phase)) (recordOf s) m (holds-of s h v) .nodes-least
 
+-- an advance that no check refuses finds a root that is a node
+next-inside : (s : Session) → Shaped s → valid s ≡ true → (x : Lent)
+    → refusal (recordOf s .phase) (recordOf s .sizes) (advance x) ≡ 0
+    → getD (recordOf s .roots) (length (recordOf s .states)) 0 < recordOf s .sizes .n
+unfolding refusal recordOf
+next-inside s h v x e =
+    let m = firstNo-head 1 (isRunning (phaseOf (s .phase))) (check 17 (fits (sizesOf s) x) ∷ []) (omega arith) e in
+    let G = running-is (phaseOf (s .phase)) (recordOf s) m (holds-of s h v) in
+    let below = rises-below (s .n - 1) (recordOf s .roots) (length (recordOf s .states)) (G .asked .rises) (G .handled) in
+    omega (arith, below, G .sizes .nodes-least)
+
 -- the properties of what is left to the program
 kept-of : (s : Session) → Shaped s → valid s ≡ true → (c : Call)
     → Kept (recordOf s) c (act (recordOf s) c .answer) (act (recordOf s) c .record′)
 kept-of s h v (load x) = tt
 kept-of s h v (start x vs bs) = start-kept (recordOf s) x vs bs (start-loaded s h v x vs bs)
-kept-of s h v (advance x) = advance-kept (recordOf s) x
+kept-of s h v (advance x) = advance-kept (recordOf s) x (next-inside s h v x)
 kept-of s h v cancel = tt
 kept-of s h v read = tt
 

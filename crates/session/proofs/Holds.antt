@@ -14,6 +14,7 @@ use lib.ListN.{length, take}
 use lib.Seq.{length-take-le}
 use borrow.Author.Tests.{leb-true, ltb-true, eqb-true, not-true}
 use Rattle.formats.specs.Bytes.{allBelow}
+use Rattle.formats.proofs.PlanLaws.{within-low, within-high}
 use Rattle.book.specs.Lends.{Sizes}
 use Rattle.book.specs.Calls as calls
 use Rattle.book.specs.Model.{Record, idle, freshRecord, loadedRecord}
@@ -95,18 +96,19 @@ record PartsFit (s : Session) : Type 0 where
   few-links : s .links ≤ 65535 * s .handled
 
 module _ (s : Session) where
-  within-is : (low high x : ℕ) → (leb low x && leb x high) ≡ true → (low ≤ x) × (x ≤ high)
-  within-is low high x e = let p = both (leb low x) (leb x high) e in (leb-true low x (p .0), leb-true x high (p .1))
-
   pub sized-of : sizesFit s ≡ true → Sized (sizesOf s)
   unfolding sizesFit
   sized-of e =
       let p = both _ _ e in
       let q = both _ _ (p .1) in
-      let a = within-is 1 65535 (s .n) (p .0) in
-      let b = within-is 1 16 (s .s) (q .0) in
-      let c = within-is 1 64 (s .k) (q .1) in
-      record { nodes-least = a .0; nodes-most = a .1; states-least = b .0; states-most = b .1; labels-least = c .0; labels-most = c .1 }
+      record {
+        nodes-least = within-low 1 65535 (s .n) (p .0);
+        nodes-most = within-high 1 65535 (s .n) (p .0);
+        states-least = within-low 1 16 (s .s) (q .0);
+        states-most = within-high 1 16 (s .s) (q .0);
+        labels-least = within-low 1 64 (s .k) (q .1);
+        labels-most = within-high 1 64 (s .k) (q .1);
+      }
 
   nothing-of : noQuestion s ≡ true → Nothing s
   unfolding noQuestion
@@ -148,10 +150,9 @@ module _ (s : Session) where
       let c = both _ _ (b .1) in
       let d = both _ _ (c .1) in
       let f = both _ _ (d .1) in
-      let w = within-is 1 254 (s .parts) (a .0) in
       record {
-        some-part = w .0;
-        few-parts = w .1;
+        some-part = within-low 1 254 (s .parts) (a .0);
+        few-parts = within-high 1 254 (s .parts) (a .0);
         rises = b .0;
         roots-end = c .0;
         states-below = d .0;

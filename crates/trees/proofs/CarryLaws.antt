@@ -3,12 +3,15 @@
 --     carry-walk    moves that act as their walks do, on every value with P, carry a value as the whole walk does
 --     carried-done, carried-move, carried-lost, carried-stuck
 --                   climb and carry together, move by move, in any forest
+--     counted-carry, counted-climb
+--                   moves that also count what they go over: the count is that of the moves
 -- Assumes nothing.
 use Prim.Native.Nat.{ℕ, _+_, _-_, _≤_, _<_}
 use mathlib.Core.Path.{_≡_, refl, sym, ap, _∙_, subst}
 use mathlib.Core.List.{List, [], _∷_}
 use mathlib.Core.Option.{Option, none, some, Option·some-injective}
 use native.Mathlib.Omega.{arith}
+use lib.ListN.{length}
 use Rattle.trees.specs.Tree.{Tree, size}
 use Rattle.trees.specs.Numbering.{parent, depth, ancestor}
 use Rattle.trees.specs.Jumps.{jump, jumpDepth}
@@ -112,3 +115,38 @@ module _ {X : Type 0} (F : Forest) (act : Move → X → Option X) (v t : ℕ) (
         nothing : (o : Option (List Move)) → andThen {X = List Move} {Y = X} o (λ ms. none) ≡ none
         nothing none = refl
         nothing (some ms) = refl
+
+-- ---- moves that count
+
+-- count x c is x after c moves, and a move of counted is one of act that counts itself
+module _ {X C : Type 0} (count : X → ℕ → C) (act : Move → X → Option X) (counted : Move → C → Option C)
+    (one : (m : Move) (x : X) (c : ℕ) → counted m (count x c) ≡ andThen (act m x) (λ y. some (count y (c + 1)))) where
+  pub counted-carry : (ms : List Move) (x : X) (c : ℕ)
+      → carry counted ms (count x c) ≡ andThen (carry act ms x) (λ y. some (count y (c + length ms)))
+  counted-carry [] x c = let e : c ≡ c + 0 = omega arith in ap (λ (k : ℕ). some (count x k)) e
+  counted-carry (m ∷ ms) x c =
+      ap (λ (o : Option C). andThen o (carry counted ms)) (one m x c)
+      ∙ go (act m x) (λ y. counted-carry ms y (c + 1))
+    where
+      go : (o : Option X)
+          → ((y : X) → carry counted ms (count y (c + 1))
+          ≡ andThen (carry act ms y) (λ z. some (count z (c + 1 + length ms))))
+          → andThen (andThen o (λ y. some (count y (c + 1)))) (carry counted ms)
+          ≡ andThen (andThen o (carry act ms)) (λ z. some (count z (c + length (m ∷ ms))))
+      go none h = refl
+      go (some y) h =
+          let e : c + 1 + length ms ≡ c + length (m ∷ ms) = omega arith in
+          h y ∙ ap (λ (k : ℕ). andThen (carry act ms y) (λ z. some (count z k))) e
+
+  pub counted-climb : (F : Forest) (v t : ℕ) (x : X)
+      → andThen (climb F v t) (λ ms. andThen (carry act ms x) (λ y. some (count y (length ms))))
+      ≡ carried F counted v t (count x 0)
+  counted-climb F v t x = go (climb F v t)
+    where
+      go : (o : Option (List Move))
+          → andThen o (λ ms. andThen (carry act ms x) (λ y. some (count y (length ms))))
+          ≡ andThen o (λ ms. carry counted ms (count x 0))
+      go none = refl
+      go (some ms) =
+          let e : length ms ≡ 0 + length ms = omega arith in
+          ap (λ (c : ℕ). andThen (carry act ms x) (λ y. some (count y c))) e ∙ sym (counted-carry ms x 0)

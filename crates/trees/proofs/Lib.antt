@@ -17,3 +17,4 @@ pub mod RowLaws
 pub mod RunLaws
 pub mod MapLaws
 pub mod BranchMapLaws
+pub mod StrayLaws

@@ -8,10 +8,10 @@
 -- Assumes nothing.
 use Prim.Native.Nat.{ℕ, _+_, _*_}
 use mathlib.Core.List.{List, [], _∷_}
-use lib.ListN.{getD}
+use Rattle.formats.specs.Bytes.{le16}
 
 abbrev pub changeCount : List ℕ → ℕ
-changeCount b = getD b 0 0 + 256 * getD b 1 0
+changeCount b = le16 b 0
 
 abbrev pub questionLength : List ℕ → ℕ
 questionLength b = 2 + 3 * changeCount b

@@ -2,8 +2,9 @@ use native.Mathlib.Omega.{arith}
 use borrow.Author.Needs.{needs}
 use Prim.Native.Nat.{_*_, _≤_}
 use mathlib.Core.Path.{sym}
+use Rattle.formats.proofs.PlanLaws.{product-most}
 use Rattle.branches.proofs.FitLaws.{branch-short, states-none, states-many, labels-none, labels-many}
-use Rattle.branches.proofs.FitLaws.{branch-fits-by, product-most}
+use Rattle.branches.proofs.FitLaws.{branch-fits-by}
 use Rattle.branches.proofs.lent.branch_fits.Statement.{statement}
 use Rattle.branches.proofs.lent.branch_fits.Tie as tie
 use Rattle.branches.proofs.lent.branch_fits.Reads as reads

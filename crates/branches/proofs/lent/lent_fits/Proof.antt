@@ -4,9 +4,10 @@ use Prim.Native.Nat.{_+_, _*_, _≤_}
 use mathlib.Core.Bool.{true}
 use borrow.Author.Tests.{not-true, not-false}
 use mathlib.Core.Path.{_≡_, sym, _∙_}
+use Rattle.formats.proofs.PlanLaws.{product-most}
 use Rattle.branches.specs.Fits.{planFits, branchFits}
 use Rattle.branches.proofs.FitLaws.{lent-plan-no, lent-branch-no, lent-nums-no, lent-fits-by, PlanFits}
-use Rattle.branches.proofs.FitLaws.{BranchFits, plan-fits, branch-fits, product-most}
+use Rattle.branches.proofs.FitLaws.{BranchFits, plan-fits, branch-fits}
 use Rattle.branches.proofs.lent.lent_fits.Statement.{statement}
 use Rattle.branches.proofs.lent.lent_fits.Tie as tie
 use Rattle.branches.proofs.lent.lent_fits.Reads as reads

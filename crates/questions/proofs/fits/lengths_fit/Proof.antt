@@ -3,7 +3,8 @@ use native.Mathlib.Omega.{arith}
 use borrow.Author.Needs.{needs}
 use Prim.Native.Nat.{_+_, _*_, _≤_}
 use mathlib.Core.Path.{sym}
-use Rattle.questions.proofs.PartFits.{product-most, plan-no, rules-no, nums-no, lengths-end}
+use Rattle.formats.proofs.PlanLaws.{product-most}
+use Rattle.questions.proofs.PartFits.{plan-no, rules-no, nums-no, lengths-end}
 use Rattle.questions.proofs.fits.lengths_fit.Statement.{statement}
 use Rattle.questions.proofs.fits.lengths_fit.Tie as tie
 

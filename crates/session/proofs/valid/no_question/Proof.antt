@@ -27,8 +27,8 @@ returns c =
     let d = c .before in
     let b = d .before in
     let a = b .before in
-    question-test (of (a .before .before .before .before .before .before .before .before .before .before)) _ _ _ _ (a .below .ensures) (b .all-below .ensures) (d .below2 .ensures)
-    (c .all-below2 .ensures)
+    let s = a .before .before .before .before .before .before .before .before .before .before in
+    question-test (of s) _ _ _ _ (a .below .ensures) (b .all-below .ensures) (d .below2 .ensures) (c .all-below2 .ensures)
 
 pub no-question-spec : {M : Type 1} → statement M
 no-question-spec =

@@ -15,12 +15,16 @@ use Rattle.session.proofs.state.Session.cancel.Tie as tie
 shape : (c : tie.Start) → Shaped (c .args .t1)
 shape c = shaped (c .args .t1) (c .good .0)
 
+-- where the record's head was read, and the call's beginning
+abbrev headed : tie.After-is-running → tie.After-head
+headed m = m .before .before .before .before .before .before .before .before .before .before
+
 abbrev of : tie.After-is-running → tie.Start
-of a = a .before .before .before .before .before .before .before .before .before .before .before
+of m = headed m .before
 
 may : (m : tie.After-is-running) → m .is-running .result
     ≡ (valid (of m .args .t1) && isRunning (phaseOf (of m .args .t1 .phase)))
-may m = may-by isRunning (of m .args .t1) _ (m .before .before .before .before .before .before .before .before .before .before .head .ensures) _ (m .is-running .ensures)
+may m = may-by isRunning (of m .args .t1) _ (headed m .head .ensures) _ (m .is-running .ensures)
 
 head-requires : tie.Need-head-requires
 head-requires c κs = search needs

@@ -23,12 +23,16 @@ shape c = shaped (c .args .t1) (c .good .0)
 abbrev lent : tie.Start → Lent
 lent c = lentOf (c .args .plan .now) (c .args .rules .now) (c .args .nums .now) (c .args .bytes .now)
 
+-- where the record's head was read, and the call's beginning
+abbrev headed : tie.After-may-start → tie.After-head
+headed m = m .before .before .before .before .before .before .before .before .before .before
+
 abbrev of : tie.After-may-start → tie.Start
-of a = a .before .before .before .before .before .before .before .before .before .before .before .before .before .before .before .before .before
+of m = headed m .before .before .before .before .before .before .before
 
 may : (m : tie.After-may-start) → m .may-start .result
     ≡ (valid (of m .args .t1) && mayStart (phaseOf (of m .args .t1 .phase)))
-may m = may-by mayStart (of m .args .t1) _ (m .before .before .before .before .before .before .before .before .before .before .head .ensures) _ (m .may-start .ensures)
+may m = may-by mayStart (of m .args .t1) _ (headed m .head .ensures) _ (m .may-start .ensures)
 
 head-requires : tie.Need-head-requires
 head-requires c κs = search needs
