@@ -4,6 +4,7 @@
 --     full-checks        yes exactly when the lent tables are what the build writes: local equations leave one table only
 --     climbs             where a climb ends, how many moves it makes, and that it carries what the walk by parents does, for any value
 --     branch-answers     on tables as built a branch answer is the word automaton's
+--     no-branch-astray   18 only where a value leads outside the plan, the states or the labels, or a link does not rise
 --     each-state         each node's state in source document 002's run is that of its subtree; the fresh run tells the root's (its contract)
 --     jump-samples, climb-samples         jumps of depths 1 to 7; climbs from depth 6 to 1 and to 0
 -- The promises of the calls themselves, on every input, are the contracts in src/ (this crate's and those below).
@@ -34,11 +35,13 @@ use Rattle.tables.specs.declared.answers.Checking.the-variants.{Yes}
 use Rattle.tables.specs.Answers.{CheckDone}
 use Rattle.tables.proofs.BuildLaws.{written-as-built}
 use Rattle.tables.proofs.CheckTheorems.{check-yes, yes-check, buildNumber}
-use Rattle.branches.specs.Question.{askAnswer}
+use Rattle.branches.specs.Question.{askNumber, askAnswer}
+use Rattle.branches.specs.Astray.{BranchAstray}
 use Rattle.branches.specs.Promise.{AtOrBelow, wordAnswer}
 use Rattle.branches.proofs.BranchTheorems as branch-theorems
 use Rattle.branches.proofs.BranchTheorems.{written-branch-built}
 use Rattle.branches.proofs.AskTheorem.{ask-built}
+use Rattle.branches.proofs.AskAstray.{ask-astray}
 
 plans : (p : List ℕ) → allBelow 256 p ≡ true → (firstNo (planChecks p) ≡ 0) ↔ ((t : Tree) × (size t ≤ 65535) × (planBytes t ≡ p))
 plans = plan-theorems.plan-decodes
@@ -85,6 +88,9 @@ climbs = carry-walk
 branch-answers : (p r nums bytes : List ℕ) → BranchBuilt p r nums bytes → (u l : ℕ) → u < nodeCount p → l < nodeCount p
     → AtOrBelow (planTree p) u l → askAnswer p r nums bytes u l ≡ wordAnswer p r u l
 branch-answers = ask-built
+
+no-branch-astray : (p r nums bytes : List ℕ) (u l : ℕ) → askNumber p r nums bytes u l ≡ 18 → BranchAstray p r nums bytes
+no-branch-astray = ask-astray
 
 each-state : (A : Automaton) (t : Tree) (v : ℕ) → v < size t → labelAt (run A t) v ≡ state A (sub t v)
 each-state = run-at

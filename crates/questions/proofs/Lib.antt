@@ -25,8 +25,8 @@ pub mod ForksBuilt
 pub mod RootsBuilt
 pub mod ClimbBuilt
 pub mod PartBuilt
-pub mod Theorems
 pub mod RootsAstray
 pub mod PartAstray
 pub mod NotAstray
 pub mod Promised
+pub mod Theorems

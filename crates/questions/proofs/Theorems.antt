@@ -5,19 +5,22 @@
 --     highest-is-one      all members below a child are under the greatest of them: the highest is unique
 --     part-is-the-rule    on numbers as built and any bytes below S a part is what the rule gives on those bytes, never 18
 --     part-is-the-run     on the run's own bytes every part has the changed run's state at its root
+--     no-roots-astray, no-part-astray   18 only where a value leads outside the plan, the states or the labels, or a link does not rise
+--     rule-not-astray     .. and where the rule holds no value does
 -- That answer, parts and links do not depend on the list's order, and each part's links: crate book (OrderLaws, Ceilings).
 -- Assumes nothing.
 use Prim.Native.Nat.{ℕ, _+_, _-_, _*_, _≤_, _<_}
 use mathlib.Core.Path.{_≡_}
 use mathlib.Core.Bool.{Bool, true}
 use mathlib.Core.List.{List, _∷_, _++_, List·Memᴰ}
-use mathlib.Core.Option.{some}
+use mathlib.Core.Option.{none, some}
 use lib.ListN.{length}
 use Rattle.trees.specs.Tree.{Tree, size, labelsOf}
 use Rattle.trees.specs.Automaton.{state}
 use Rattle.trees.specs.Changes.{changed}
 use Rattle.trees.specs.Numbering.{sub}
 use Rattle.formats.specs.Bytes.{allBelow}
+use Rattle.links.specs.Astray.{LinksAstray}
 use Rattle.links.specs.LinkCells.{LinkCells}
 use Rattle.ready.specs.Ready.{Under, Ready, Closed}
 use Rattle.ready.specs.Members.{readyList, roots}
@@ -29,10 +32,14 @@ use Rattle.ready.proofs.PartsRun.{Members, Sound, RunGiven, parts-right}
 use Rattle.questions.specs.Roots.{rootsOn}
 use Rattle.questions.specs.Climbs.{View, reached}
 use Rattle.questions.specs.Part.{partOn}
+use Rattle.questions.specs.Astray.{Astray}
 use Rattle.questions.specs.Promises.{RootsAre, Reads}
 use Rattle.questions.proofs.RootsLaws.{rootsOn-are}
 use Rattle.questions.proofs.RootsBuilt as built
 use Rattle.questions.proofs.PartBuilt.{part-built}
+use Rattle.questions.proofs.RootsAstray.{roots-astray}
+use Rattle.questions.proofs.PartAstray.{part-astray}
+use Rattle.questions.proofs.NotAstray.{reads-not-astray}
 
 ready-is-closed : (w : ℕ → Bool) (t : Tree) → Closed w t (Ready w t)
 ready-is-closed = closed-form.ready-closed
@@ -60,3 +67,13 @@ part-is-the-rule = part-built
 part-is-the-run : (G : Given) (u : Tree) → RunGiven G u → Sound (G .automaton) → (w : ℕ → Bool) → Changes w (G .tree) u → (ms : List ℕ)
     → Members w (G .tree) ms → (v : ℕ) → List·Memᴰ v ms → stateOf (partsOf G ms) v ≡ state (G .automaton) (sub u v)
 part-is-the-run = parts-right
+
+no-roots-astray : (n : ℕ) (nums vs : List ℕ) → 0 < n → allBelow n vs ≡ true → rootsOn n nums vs ≡ none → LinksAstray n nums
+no-roots-astray = roots-astray
+
+no-part-astray : (X : View) (qs vs bs es : List ℕ) (v : ℕ) → v < X .n → partOn X es qs vs bs v ≡ none → Astray X qs vs bs
+no-part-astray = part-astray
+
+rule-not-astray : (X : View) (G : Given) → Reads X G → (qs vs bs : List ℕ) → allBelow (X .s) qs ≡ true
+    → G .labels ≡ changed (labelsOf (G .tree)) vs bs → Astray X qs vs bs → ⊥
+rule-not-astray = reads-not-astray
