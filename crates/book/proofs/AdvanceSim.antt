@@ -17,9 +17,12 @@ use Rattle.formats.specs.Bytes.{allBelow}
 use Rattle.formats.specs.Rules.{ruleAutomaton}
 use Rattle.formats.specs.Checks.{check, firstNo}
 use Rattle.formats.proofs.CheckLaws.{true-false, and-both, and-left, and-right, firstNo-head, firstNo-tail}
+use Rattle.formats.proofs.ListLaws.{allBelow-at}
 use Rattle.ready.specs.Parts.{Given, Part, part, partOf, partsFrom, statesOf}
 use Rattle.questions.specs.Climbs.{Reached}
 use Rattle.questions.specs.Part.{partOn}
+use Rattle.questions.specs.Astray.{Astray}
+use Rattle.questions.proofs.PartAstray.{part-astray}
 use Rattle.trees.proofs.MoveLaws.{none-some}
 use Rattle.ready.proofs.PartsRun.{nodes-more}
 use Rattle.book.specs.Lends.{Lent, Sizes, fits, sameLinks, sameLent, linksBuilt}
@@ -37,7 +40,9 @@ use Rattle.book.proofs.TrailLaws.{below-more, from-more}
 use Rattle.book.proofs.LendLaws.{Built, Same, links-built, same-links, lent-links, same-bytes, marks-built}
 use Rattle.book.proofs.FreshLaws.{part-state, given-same, sound-below}
 use Rattle.book.proofs.PartStates.{part-on-below}
-use Rattle.book.proofs.Relation.{Parted, Counted, Cleanly, SomeParted, Stands, Unended, Marked, Ended, Rel}
+use Rattle.book.proofs.CauseLaws.{advance-cause}
+use Rattle.book.proofs.Relation.{Parted, Counted, Cleanly, SomeParted, Stands, Unended, Marked, Ended}
+use Rattle.book.proofs.Relation.{Asking, Rel}
 use Rattle.book.proofs.Simulation.{Sim, book, Simulates, some-number, by-refusal, does}
 
 pub advance-fits : (p : Phase) (z : Sizes) (x : Lent) → refusal p z (advance x) ≡ 0 → fits z x ≡ true
@@ -169,6 +174,35 @@ module _ (L : Layers) (r : Record) (z : Sizes) (q : Question) (x : Lent) (i : Re
       rw (length-more (r .states) (y .state)) (let b : length (r .states) < partCount q = i .holds .1 h in
       omega (arith, n, d, b))
 
+  asked : Asking r z q
+  asked = i .asks .1
+
+  asking-next : (y : Reached) → y .state < z .s → eqb (suc (length (r .states))) (length (r .roots)) ≡ false
+      → (k : Standing) (tr : List Part) → Asking (stepped r Phase.running y false) z (advanced q k tr)
+  unfolding stepped advanced
+  asking-next y b e k tr =
+      let n : suc (length (r .states)) ≡ length (r .roots)
+      → ⊥ = eqb-false (suc (length (r .states))) (length (r .roots)) e in
+      record {
+        nodes = asked .nodes;
+        labels = asked .labels;
+        roots = asked .roots;
+        next = rw (length-more (r .states) (y .state)) (omega (arith, n, asked .next));
+        states = below-more (z .s) (r .states) (y .state) (asked .states) b;
+      }
+
+  -- 18 has a cause
+  cause-of : partNext r x ≡ none → Astray (viewBy z x) (r .states) (q .nodes) (q .labels)
+  cause-of e =
+      let v : ℕ = getD (r .roots) (length (r .states)) 0 in
+      let inside : v < r .sizes .n =
+      subst (λ (y : Sizes). v < y .n) (sym (i .sizes))
+      (allBelow-at (z .n) (r .roots) (length (r .states)) (asked .roots) (asked .next)) in
+      subst (λ (y : Sizes). Astray (viewBy y x) (r .states) (q .nodes) (q .labels)) (i .sizes)
+      (subst (λ (l : List ℕ). Astray (viewBy (r .sizes) x) (r .states) l (q .labels)) (asked .nodes)
+      (subst (λ (l : List ℕ). Astray (viewBy (r .sizes) x) (r .states) (r .nodes) l) (asked .labels)
+      (part-astray (viewBy (r .sizes) x) (r .states) (r .nodes) (r .labels) (take (length (r .states)) (r .roots)) v inside e)))
+
   -- an advance that goes on as always, to standing k
   goes-on : (k : Standing) → Counted r z q → otherBytes z q x ≡ true
       → ((s : Record) → Counted s z (onward k) → Stands s z (onward k) k)
@@ -215,6 +249,7 @@ module _ (L : Layers) (r : Record) (z : Sizes) (q : Question) (x : Lent) (i : Re
             ends _ marked
                 (eqb-true (suc (q .count)) (partCount q) g),
           );
+          asks = i .asks .0;
         },
       )
       go false false e g h = (
@@ -225,6 +260,11 @@ module _ (L : Layers) (r : Record) (z : Sizes) (q : Question) (x : Lent) (i : Re
           holds = (
             stands _ (counted-next c left-over Phase.running false k),
             unended-next (reachedBy rule) Phase.running false k (longer z q x) h (λ l. c .parted .roots),
+          );
+          asks = (
+            i .asks .0,
+            asking-next (reachedBy rule)
+                (part-state z q (links-built z (q .lent) (c .built)) x (q .trail) (nextRoot q (q .trail))) h k (longer z q x),
           );
         },
       )
@@ -258,14 +298,21 @@ module _ (L : Layers) (r : Record) (z : Sizes) (q : Question) (x : Lent) (i : Re
           )
 
       go : (y : Option Reached) → partNext r x ≡ y → Sim (loosely (book (State.running q) z) x q) (advanceWith r x y)
-      go none e = (not-other e (otherBytes z q x) refl, i)
+      go none e = (
+        advance-cause z x (q .nodes) (q .labels) (r .states) (otherBytes z q x) (not-other e (otherBytes z q x) refl) (asked .states)
+            (cause-of e),
+        i,
+      )
       go (some y) e = then (eqb (suc (length (r .states))) (length (r .roots))) refl
         where
           then : (b : Bool) → eqb (suc (length (r .states))) (length (r .roots)) ≡ b
               → Sim (loosely (book (State.running q) z) x q)
               (cond b (acted finished (stepped r Phase.answered y (eqb (getD (marksBy (r .sizes) x) (y .state) 0) 1)))
               (acted more (stepped r Phase.running y false)))
-          then true g = (refl, record { phases = refl; sizes = i .sizes; holds = (parted y Phase.answered _ e, tt) })
+          then true g = (
+            refl,
+            record { phases = refl; sizes = i .sizes; holds = (parted y Phase.answered _ e, tt); asks = i .asks .0 },
+          )
           then false g = (
             refl,
             record {
@@ -276,6 +323,7 @@ module _ (L : Layers) (r : Record) (z : Sizes) (q : Question) (x : Lent) (i : Re
                 unended-next y Phase.running false loose [] g
                     (λ h. some-parted h .1 .roots),
               );
+              asks = (i .asks .0, asking-next y (part-low r z q x (i .sizes) y e) g loose []);
             },
           )
 

@@ -202,3 +202,21 @@ pub turned-down-loose :
     ≡ true ∷ true ∷ false ∷ false ∷ []
 unfolding judgedLoose
 turned-down-loose = refl
+
+-- 18 without a cause. Numbers that are not as built but lead nowhere outside: node 0's jump to the root, and an advance on another label;
+-- with a cause it is allowed: a jump outside the plan
+unfoldable pub judgedStart : Lent → Answer → Bool
+unfolding computing loadA
+judgedStart x a = agreed newBook (load loadA ∷ start x (0 ∷ []) (0 ∷ []) ∷ []) (Answer.accepted ∷ a ∷ [])
+
+unfoldable pub judgedAdvance : Lent → Answer → Bool
+unfolding computing loadA lentA
+judgedAdvance x a =
+    agreed newBook (load loadA ∷ start lentA (0 ∷ []) (0 ∷ []) ∷ advance x ∷ []) (Answer.accepted ∷ parts 2 ∷ a ∷ [])
+
+pub turned-down-causeless :
+    judgedStart (otherNumber 1 6) (refused 18) ∷ judgedStart (otherNumber 1 6) (parts 2) ∷ judgedStart (otherNumber 1 60000) (refused 18)
+    ∷ judgedAdvance otherLabel (refused 18) ∷ judgedAdvance otherLabel more ∷ judgedAdvance (otherNumber 1 60000) (refused 18) ∷ []
+    ≡ false ∷ true ∷ true ∷ false ∷ true ∷ true ∷ []
+unfolding judgedStart judgedAdvance otherNumber otherLabel lentA
+turned-down-causeless = refl

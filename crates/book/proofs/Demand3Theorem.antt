@@ -25,7 +25,7 @@ simulates L read = on-read
 
 at-first : Rel freshRecord newBook
 unfolding freshRecord newBook idle phase
-at-first = record { phases = refl; sizes = refl; holds = tt }
+at-first = record { phases = refl; sizes = refl; holds = tt; asks = tt }
 
 agrees-from : Layers → (r : Record) (b : Book) (cs : List Call) (xs : List Answer) → Rel r b → History Does r cs xs
     → Agrees b cs xs

@@ -3,6 +3,7 @@ pub mod TrailLaws
 pub mod LendLaws
 pub mod FreshLaws
 pub mod PartStates
+pub mod CauseLaws
 pub mod Relation
 pub mod Simulation
 pub mod StartSim

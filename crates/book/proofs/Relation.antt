@@ -4,6 +4,8 @@
 --     Cleanly z q        the bytes of Start are as built, and the trail was worked out on them
 --     Stands r z q k     what a question of standing k keeps
 --     Unended, Ended     a running question has a part left; an answered one the yes or no of its last state
+--     Asking r z q       of a running question, whatever its standing: its list, roots that are nodes, one of them next, states below S
+--     Asks r z s         a plan is loaded, and a running question is asked so: enough for "18 only with a cause"
 --     Rel r b            record and book agree
 -- In a loose question only the list, the ready set and states below S are kept, and these only where the numbers of
 -- Start were as built: enough for "never 18" on other bytes.
@@ -13,6 +15,7 @@ use mathlib.Core.Path.{_≡_}
 use mathlib.Core.Bool.{true}
 use mathlib.Core.List.{List, []}
 use lib.ListN.{length, take}
+use Rattle.formats.specs.Bytes.{allBelow}
 use Rattle.formats.specs.Rules.{ruleAutomaton}
 use Rattle.formats.specs.Checks.{firstNo, listChecks}
 use Rattle.ready.specs.Parts.{Part, partsFrom, lastState, allLinks}
@@ -68,7 +71,21 @@ Holds r z State.loaded = Unit {0}
 Holds r z (State.running q) = Stands r z q (q .standing) × Unended r z q
 Holds r z (State.answered q) = Stands r z q (q .standing) × Ended r q (q .standing)
 
+pub record Asking (r : Record) (z : Sizes) (q : Question) : Type 0 where
+  pub nodes : r .nodes ≡ q .nodes
+  pub labels : r .labels ≡ q .labels
+  pub roots : allBelow (z .n) (r .roots) ≡ true
+  pub next : length (r .states) < length (r .roots)
+  pub states : allBelow (z .s) (r .states) ≡ true
+
+abbrev pub Asks : Record → Sizes → State → Type 0
+Asks r z State.empty = Unit {0}
+Asks r z State.loaded = 0 < z .n
+Asks r z (State.running q) = (0 < z .n) × Asking r z q
+Asks r z (State.answered q) = 0 < z .n
+
 pub record Rel (r : Record) (b : Book) : Type 0 where
   pub phases : r .phase ≡ phase (b .state)
   pub sizes : r .sizes ≡ b .sizes
   pub holds : Holds r (b .sizes) (b .state)
+  pub asks : Asks r (b .sizes) (b .state)

@@ -37,6 +37,8 @@ use Rattle.book.specs.Calls.{told}
 use Rattle.book.specs.Calls.{mayLoad, mayStart, isRunning, isAnswered}
 use Rattle.book.specs.Refusals.{refusal}
 use Rattle.book.specs.Book.{phase, newBook, inState, givenBy, longer, freshAnswer, ruleAnswer, standingOf}
+use Rattle.book.specs.Causes.{isChildless, isFlat, strays, isApart, linksCause, nodeCause, rulesCause, cause}
+use Rattle.book.specs.Causes.{startCause, advanceCause}
 use Rattle.book.specs.Book.{asked, mayStartWith}
 use Rattle.book.specs.Book.{unlessRefused, starting, advanced, goesOn, otherBytes, mayAdvanceWith, byAnswer}
 use Rattle.book.specs.Book.{loosely, firmly, advancing}
@@ -54,6 +56,7 @@ unfolding split sub parent depth isPostorder treeOf changed jumpIn jump nextMove
     insertRising risingOf wanted withFork withMeet forksOn rootsOn below runOn ruleOn siblingOn parentOn moveOn
     climbOn lastFound labelOn climbFrom runReached ownReached joinOn innerOn leafOn forkOn partOn fits sameLinks
     sameLent namesSizes linksBuilt bytesBuilt sound bytesBelow mayLoad mayStart isRunning isAnswered refusal phase
+    isChildless isFlat strays isApart linksCause nodeCause rulesCause cause startCause advanceCause
     newBook inState givenBy longer freshAnswer ruleAnswer standingOf asked mayStartWith unlessRefused starting
     advanced goesOn otherBytes mayAdvanceWith byAnswer loosely firmly advancing isTold reading proceed decided step
     idle freshRecord started startWith stepped advanceWith lastOf proceeds unless act answersOf flag code sameAnswer

@@ -4,7 +4,7 @@
 --     on-load, on-cancel, on-read     these three
 -- Not here: Start (StartSim) and advance (AdvanceSim).
 -- Assumes nothing.
-use Prim.Native.Nat.{ℕ, zero, suc}
+use Prim.Native.Nat.{ℕ, zero, suc, _<_}
 use mathlib.Core.Path.{_≡_, refl, sym, ap, ap₂, _∙_}
 use mathlib.Core.Bool.{Bool}
 use mathlib.Core.List.{List, []}
@@ -13,10 +13,12 @@ use lib.ListN.{length}
 use lib.Seq.{take-all}
 use Rattle.trees.specs.Automaton.{state}
 use Rattle.formats.specs.Rules.{ruleAutomaton}
-use Rattle.formats.specs.Checks.{firstNo}
+use Rattle.formats.specs.Checks.{firstNo, buildChecks}
+use Rattle.formats.proofs.CheckLaws.{firstNo-tail}
+use Rattle.formats.proofs.InputLaws.{build-passes}
 use Rattle.ready.specs.Parts.{Part, partsFrom, partsOf, lastState, allLinks}
-use Rattle.book.specs.Lends.{Lent, Sizes}
-use Rattle.book.specs.Calls.{Call, load, cancel, read, Answer, refused, told, Phase, isAnswered}
+use Rattle.book.specs.Lends.{Lent, Sizes, sizesIn}
+use Rattle.book.specs.Calls.{Call, load, cancel, read, Answer, refused, told, Phase, mayLoad, isRunning, isAnswered}
 use Rattle.book.specs.Refusals.{refusal}
 use Rattle.book.specs.Book.{Standing, clean, firm, loose, Question, State, Book, Next, phase, inState, step}
 use Rattle.book.specs.Book.{decided, proceed}
@@ -61,19 +63,35 @@ does r r′ b c a d h = rw (d .tells, d .leaves) h
 
 -- ---- Load and Cancel
 
+load-counted : (p : Phase) (z : Sizes) (x : Lent) → refusal p z (load x) ≡ 0 → 0 < sizesIn x .n
+unfolding refusal
+load-counted p z x e =
+    let P = build-passes (x .plan) (x .rules) (length (x .nums)) (length (x .bytes))
+    (firstNo-tail 1 (mayLoad p) (buildChecks (x .plan) (x .rules) (length (x .nums)) (length (x .bytes))) (omega arith) e) in
+    omega (arith, P .0 .least)
+
 pub on-load : (x : Lent) → Simulates (load x)
 unfolding proceed proceeds phase idle
-on-load x r r′ b a i d = does r r′ b (load x) a d (by-refusal r (b .state) (b .sizes) (load x) i (λ h. ok))
+on-load x r r′ b a i d = does r r′ b (load x) a d (by-refusal r (b .state) (b .sizes) (load x) i ok)
   where
-    ok : Sim (proceed b (b .state) (load x)) (proceeds r (load x))
-    ok = (refl, record { phases = refl; sizes = refl; holds = tt })
+    ok : refusal (phase (b .state)) (b .sizes) (load x) ≡ 0 → Sim (proceed b (b .state) (load x)) (proceeds r (load x))
+    ok h = (
+      refl,
+      record { phases = refl; sizes = refl; holds = tt; asks = load-counted (phase (b .state)) (b .sizes) x h },
+    )
+
+cancel-at : (r : Record) (s : State) (z : Sizes) → Rel r (book s z) → refusal (phase s) z cancel ≡ 0
+    → Sim (proceed (book s z) s cancel) (proceeds r cancel)
+unfolding refusal phase firstNo isRunning proceed proceeds inState idle
+cancel-at r State.empty z i h = absurd (some-number h)
+cancel-at r State.loaded z i h = absurd (some-number h)
+cancel-at r (State.running q) z i h =
+    (refl, record { phases = refl; sizes = i .sizes; holds = tt; asks = i .asks .0 })
+cancel-at r (State.answered q) z i h = absurd (some-number h)
 
 pub on-cancel : Simulates cancel
-unfolding proceed proceeds phase inState idle
-on-cancel r r′ b a i d = does r r′ b cancel a d (by-refusal r (b .state) (b .sizes) cancel i (λ h. ok))
-  where
-    ok : Sim (proceed b (b .state) cancel) (proceeds r cancel)
-    ok = (refl, record { phases = refl; sizes = i .sizes; holds = tt })
+on-cancel r r′ b a i d =
+    does r r′ b cancel a d (by-refusal r (b .state) (b .sizes) cancel i (cancel-at r (b .state) (b .sizes) i))
 
 -- ---- Read
 

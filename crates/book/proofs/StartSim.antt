@@ -19,6 +19,8 @@ use Rattle.ready.specs.Members.{roots}
 use Rattle.ready.specs.Parts.{partsFrom, allLinks}
 use Rattle.ready.proofs.ListLaws.{list-last}
 use Rattle.questions.specs.Roots.{rootsOn}
+use Rattle.questions.proofs.RootsLaws.{rootsOn-some, rootsOn-allBelow}
+use Rattle.questions.proofs.RootsAstray.{roots-astray}
 use Rattle.book.specs.Lends.{Lent, Sizes, fits, usedNums, linksBuilt, bytesBuilt, sound}
 use Rattle.book.specs.Calls.{start, Phase, mayStart}
 use Rattle.book.specs.Refusals.{refusal}
@@ -28,8 +30,9 @@ use Rattle.book.specs.Book.{standingOf, asked, starting, mayStartWith, u
 use Rattle.book.specs.Model.{Record, proceeds, started, startWith}
 use Rattle.book.proofs.Facts.{Layers}
 use Rattle.book.proofs.TrailLaws.{length-more}
-use Rattle.book.proofs.Relation.{Parted, Counted, Rel}
-use Rattle.book.proofs.Simulation.{Sim, book, Simulates, by-refusal, does}
+use Rattle.book.proofs.CauseLaws.{start-cause}
+use Rattle.book.proofs.Relation.{Parted, Counted, Asking, Rel}
+use Rattle.book.proofs.Simulation.{Sim, book, Simulates, some-number, by-refusal, does}
 
 -- there is always a part: the plan's root
 pub some-part : (q : Question) → 0 < partCount q
@@ -64,7 +67,7 @@ begins z x = go (linksBuilt z x) (bytesBuilt z x) refl refl
 
 module _ (L : Layers) (r : Record) (s : State) (z : Sizes) (x : Lent) (vs bs : List ℕ)
     (listed : firstNo (listChecks (z .n) (z .k) vs bs) ≡ 0)
-    (i : Rel r (book s z)) where
+    (i : Rel r (book s z)) (counted : 0 < z .n) where
   abbrev opened : Standing → Question
   opened k = record { nodes = vs; labels = bs; lent = x; count = 0; standing = k; trail = [] }
 
@@ -74,8 +77,21 @@ module _ (L : Layers) (r : Record) (s : State) (z : Sizes) (x : Lent) (vs bs : L
   abbrev found : Option (List ℕ)
   found = rootsOn (z .n) (usedNums z x) vs
 
+  below : allBelow (z .n) vs ≡ true
+  below = list-passes (z .n) (z .k) vs bs listed .nodes-below
+
+  asking : (k : Standing) (rs : List ℕ) → found ≡ some rs → Asking (begun rs) z (opened k)
+  unfolding started allBelow
+  asking k rs e = record {
+    nodes = refl;
+    labels = refl;
+    roots = rootsOn-allBelow (z .n) (usedNums z x) vs rs counted below e;
+    next = rootsOn-some (z .n) (usedNums z x) vs rs counted below e;
+    states = refl;
+  }
+
   ready : linksBuilt z x ≡ true → found ≡ some (roots (planTree (x .plan)) vs)
-  ready h = L .roots-built z x vs h (list-passes (z .n) (z .k) vs bs listed .nodes-below)
+  ready h = L .roots-built z x vs h below
 
   parted-first : (k : Standing) → Parted (begun (rootsOf (opened k))) z (opened k) []
   unfolding started allBelow
@@ -107,6 +123,7 @@ module _ (L : Layers) (r : Record) (s : State) (z : Sizes) (x : Lent) (vs bs : L
         phases = refl;
         sizes = i .sizes;
         holds = ((counted-first clean (f .0), record { bytes = f .1; replayed = refl }), λ h. some-part (opened clean));
+        asks = (counted, asking clean (rootsOf (opened clean)) (ready (f .0)));
       })
   start-as firm f =
       start-built firm f (record {
@@ -114,20 +131,31 @@ module _ (L : Layers) (r : Record) (s : State) (z : Sizes) (x : Lent) (vs bs : L
         sizes = i .sizes;
         holds =
             (counted-first firm f, λ h. some-part (opened firm));
+        asks = (counted, asking firm (rootsOf (opened firm)) (ready f));
       })
-  start-as loose f = go found
+  start-as loose f = go found refl
     where
-      go : (o : Option (List ℕ)) → Sim (starting (book s z) (opened loose) loose) (startWith r vs bs o)
-      go none = (refl, i)
-      go (some rs) = (
+      go : (o : Option (List ℕ)) → found ≡ o → Sim (starting (book s z) (opened loose) loose) (startWith r vs bs o)
+      go none e = (start-cause z x (roots-astray (z .n) (usedNums z x) vs counted below e), i)
+      go (some rs) e = (
         refl,
         record {
           phases = refl;
           sizes = i .sizes;
           holds =
               (λ h. absurd (true-false (sym h ∙ f)), λ h. absurd (true-false (sym h ∙ f)));
+          asks = (counted, asking loose rs e);
         },
       )
+
+-- a plan is loaded where a Start may be made
+start-counted : (r : Record) (s : State) (z : Sizes) (x : Lent) (vs bs : List ℕ) → Rel r (book s z)
+    → refusal (phase s) z (start x vs bs) ≡ 0 → 0 < z .n
+unfolding refusal phase firstNo mayStart
+start-counted r State.empty z x vs bs i h = absurd (some-number h)
+start-counted r State.loaded z x vs bs i h = i .asks
+start-counted r (State.running q) z x vs bs i h = absurd (some-number h)
+start-counted r (State.answered q) z x vs bs i h = i .asks
 
 start-at : (L : Layers) (r : Record) (s : State) (z : Sizes) (x : Lent) (vs bs : List ℕ) → Rel r (book s z)
     → refusal (phase s) z (start x vs bs) ≡ 0 → Sim (proceed (book s z) s (start x vs bs)) (proceeds r (start x vs bs))
@@ -135,7 +163,8 @@ unfolding proceed proceeds asked
 start-at L r s z x vs bs i h =
     subst (λ (y : Sizes). Sim (proceed (book s z) s (start x vs bs))
     (startWith r vs bs (rootsOn (y .n) (usedNums y x) vs))) (sym (i .sizes))
-    (start-as L r s z x vs bs (start-list (phase s) z x vs bs h) i (standingOf z x) (begins z x))
+    (start-as L r s z x vs bs (start-list (phase s) z x vs bs h) i (start-counted r s z x vs bs i h) (standingOf z x)
+    (begins z x))
 
 pub on-start : Layers → (x : Lent) (vs bs : List ℕ) → Simulates (start x vs bs)
 on-start L x vs bs r r′ b a i d =

@@ -25,6 +25,7 @@ use Rattle.ready.specs.Parts.{Given, Part, partOf, lastState, allLinks, questio
 use Rattle.book.specs.Lends.{Lent, Sizes, sizesIn, usedBytes, sameLinks, sameLent, linksBuilt, sound, bytesBelow}
 use Rattle.book.specs.Calls.{Call, load, start, advance, cancel, read, Answer, refused, parts, more, finished, told, Phase}
 use Rattle.book.specs.Refusals.{refusal}
+use Rattle.book.specs.Causes.{startCause, advanceCause}
 
 pub data Standing : Type 0 where
   clean : Standing
@@ -115,14 +116,14 @@ standingOf z x = cond (sound z x) clean (cond (linksBuilt z x) firm loose)
 unfoldable pub asked : Sizes → Lent → List ℕ → List ℕ → Question
 asked z x vs bs = record { nodes = vs; labels = bs; lent = x; count = 0; standing = standingOf z x; trail = [] }
 
--- left to the program: 18, or any number of parts
-unfoldable pub mayStartWith : Answer → Bool
-mayStartWith (refused n) = eqb n 18
-mayStartWith (parts p) = true
-mayStartWith Answer.accepted = false
-mayStartWith more = false
-mayStartWith finished = false
-mayStartWith (told s y p l) = false
+-- left to the program: any number of parts, or 18 where the numbers lent give a cause
+unfoldable pub mayStartWith : Bool → Answer → Bool
+mayStartWith caused (refused n) = eqb n 18 && caused
+mayStartWith caused (parts p) = true
+mayStartWith caused Answer.accepted = false
+mayStartWith caused more = false
+mayStartWith caused finished = false
+mayStartWith caused (told s y p l) = false
 
 -- "18 leaves the book as it is"
 unfoldable pub unlessRefused : Book → Book → Answer → Book
@@ -137,7 +138,8 @@ unlessRefused b c (told s y p l) = c
 unfoldable pub starting : Book → Question → Standing → Next
 starting b q clean = settled (parts (partCount q)) (inState b (State.running q))
 starting b q firm = settled (parts (partCount q)) (inState b (State.running q))
-starting b q loose = left mayStartWith (unlessRefused b (inState b (State.running q)))
+starting b q loose =
+    left (mayStartWith (startCause (b .sizes) (q .lent))) (unlessRefused b (inState b (State.running q)))
 
 -- ---- advance
 
@@ -155,14 +157,15 @@ goesOn b q =
 unfoldable pub otherBytes : Sizes → Question → Lent → Bool
 otherBytes z q x = linksBuilt z (q .lent) && (sameLinks z (q .lent) x && bytesBelow z x)
 
--- left to the program: more or finished, and 18 unless the tables are as built and as at Start, or other bytes
-unfoldable pub mayAdvanceWith : Bool → Answer → Bool
-mayAdvanceWith usable (refused n) = eqb n 18 && not usable
-mayAdvanceWith usable more = true
-mayAdvanceWith usable finished = true
-mayAdvanceWith usable (parts p) = false
-mayAdvanceWith usable Answer.accepted = false
-mayAdvanceWith usable (told s y p l) = false
+-- left to the program: more or finished, or 18 where what is lent gives a cause: never where the tables are as built and as at Start, or
+-- other bytes
+unfoldable pub mayAdvanceWith : Bool → Bool → Answer → Bool
+mayAdvanceWith usable caused (refused n) = eqb n 18 && (not usable && caused)
+mayAdvanceWith usable caused more = true
+mayAdvanceWith usable caused finished = true
+mayAdvanceWith usable caused (parts p) = false
+mayAdvanceWith usable caused Answer.accepted = false
+mayAdvanceWith usable caused (told s y p l) = false
 
 -- "an accepted advance makes the question unclean, and its more or finished gives the state"
 unfoldable pub byAnswer : Book → Question → Answer → Book
@@ -174,7 +177,9 @@ byAnswer b q Answer.accepted = b
 byAnswer b q (told s y p l) = b
 
 unfoldable pub loosely : Book → Lent → Question → Next
-loosely b x q = left (mayAdvanceWith (otherBytes (b .sizes) q x)) (byAnswer b (advanced q loose []))
+loosely b x q =
+    left (mayAdvanceWith (otherBytes (b .sizes) q x) (advanceCause (b .sizes) x (q .nodes) (q .labels)))
+    (byAnswer b (advanced q loose []))
 
 unfoldable pub firmly : Book → Lent → Question → Next
 firmly b x q =

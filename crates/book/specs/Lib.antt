@@ -1,6 +1,7 @@
 pub mod Lends
 pub mod Calls
 pub mod Refusals
+pub mod Causes
 pub mod Book
 pub mod Demand3
 pub mod Model

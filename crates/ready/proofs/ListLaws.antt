@@ -19,6 +19,7 @@ use Rattle.trees.proofs.MoveLaws.{both}
 use Rattle.trees.specs.Tree.{Tree, size, kindAt}
 use Rattle.trees.specs.Numbering.{sub, parent}
 use Rattle.trees.proofs.NodeLaws.{Up, up, sub-size, size-pos, parent-root}
+use Rattle.formats.proofs.CheckLaws.{and-both}
 use Rattle.ready.specs.Ready.{Under, leftChild, rightChild, Ready}
 use Rattle.ready.specs.Members.{someIn, someBelow, forksAt, isMember, keep, readyList, Rising}
 use Rattle.ready.proofs.UnderLaws.{left-in, right-in, left-parent, right-parent}
@@ -33,17 +34,13 @@ or-cases : (a b : Bool) → (a || b) ≡ true → (a ≡ true) ⊎ (b ≡ true)
 or-cases true b e = inl refl
 or-cases false b e = inr e
 
-or-first : (a b : Bool) → a ≡ true → (a || b) ≡ true
+pub or-first : (a b : Bool) → a ≡ true → (a || b) ≡ true
 or-first true b e = refl
 or-first false b e = absurd (true-false true refl (sym e))
 
-or-second : (a b : Bool) → b ≡ true → (a || b) ≡ true
+pub or-second : (a b : Bool) → b ≡ true → (a || b) ≡ true
 or-second true b e = refl
 or-second false b e = e
-
-and-both : (a b : Bool) → a ≡ true → b ≡ true → (a && b) ≡ true
-and-both true b p q = q
-and-both false b p q = absurd (true-false true refl (sym p))
 
 -- ---- the tests
 
@@ -56,7 +53,7 @@ module _ (w : ℕ → Bool) where
     | inr b ↦ (let r = some-in n (suc lo) b in (r .0, omega (arith, r .1), omega (arith, r .2), r .3))
   ]
 
-  in-some : (n lo u : ℕ) → lo ≤ u → u < lo + n → w u ≡ true → someIn w lo n ≡ true
+  pub in-some : (n lo u : ℕ) → lo ≤ u → u < lo + n → w u ≡ true → someIn w lo n ≡ true
   unfolding someIn
   in-some zero lo u a b e = absurd (omega arith)
   in-some (suc n) lo u a b e = elim (ℕ-discrete lo u) [

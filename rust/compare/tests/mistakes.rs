@@ -10,7 +10,7 @@ use reference::mistakes::{making, Mistake};
 const SEEDS: std::ops::Range<u64> = 1..201;
 
 /// A mistake, and the rounds that must notice it.
-const NOTICED: [(Mistake, &[&str]); 22] = [
+const NOTICED: [(Mistake, &[&str]); 23] = [
     (Mistake::ChildrenExchanged, &["builds", "fresh runs", "questions", "other bytes", "call lists"]),
     (Mistake::SiblingFromOldRun, &["questions", "other bytes", "damaged lends", "call lists"]),
     (Mistake::ClimbToTheRoot, &["questions", "other bytes", "damaged lends", "call lists"]),
@@ -33,6 +33,7 @@ const NOTICED: [(Mistake, &[&str]); 22] = [
     (Mistake::AnyMarkIsYes, &["damaged tables", "damaged lends"]),
     (Mistake::FirstEntryHolds, &["damaged records"]),
     (Mistake::TailsFree, &["damaged records", "call lists"]),
+    (Mistake::LinksAreNoCause, &["call lists"]),
 ];
 
 /// The first difference in the rounds of a kind, and its seed.

@@ -4,8 +4,10 @@
 //!
 //! What is left to the program, "save what Parts of a question and the closing words on 18 below settle": where plan,
 //! rules and 16-bit numbers are as built and as at Start, a question is `Firm` while the bytes lent with each accepted
-//! advance are below S. The rule settles it then, and never with 18.
+//! advance are below S. The rule settles it then, and never with 18. Elsewhere 18 is allowed where what is lent gives a
+//! cause for it.
 
+use crate::causes;
 use crate::formats::{read_plan, read_rules};
 use crate::fresh::{changed, check_list, fresh_run};
 use crate::mistakes::{made, Mistake};
@@ -135,9 +137,9 @@ impl Book {
         if let Some(parts) = roots {
             return Next::Settled(Answer::Parts(parts as u32), running);
         }
-        let as_is = self.clone();
+        let (as_is, caused) = (self.clone(), causes::in_numbers(self.sizes, &lends));
         Next::Left(Box::new(move |answer| match answer {
-            Answer::Refused(18) => Some(as_is.clone()),
+            Answer::Refused(18) if caused => Some(as_is.clone()),
             Answer::Parts(_) => Some(running.clone()),
             _ => None,
         }))
@@ -149,7 +151,7 @@ impl Book {
         let standing = match question.standing {
             Standing::Clean if same || usable && made(Mistake::CleanForEver) => Standing::Clean,
             Standing::Clean | Standing::Firm if usable => Standing::Firm,
-            _ => return self.advance_left(question, usable),
+            _ => return self.advance_left(question, lends, usable),
         };
         // "the count rises by one. At the number of parts it tells finished and the state is answered; until then it
         // tells more."
@@ -168,14 +170,16 @@ impl Book {
     }
 
     /// "18 leaves the book as it is; an accepted advance makes the question unclean, and its more or finished gives the
-    /// state." No 18 where the tables lent are usable.
-    fn advance_left(&self, question: &Question, usable: bool) -> Next {
+    /// state." No 18 without a cause, nor where the tables lent are usable.
+    fn advance_left(&self, question: &Question, lends: &Lends, usable: bool) -> Next {
         let after =
             Question { standing: Standing::Loose, count: question.count + 1, parts: vec![], ..question.clone() };
         let [more, finished] = [Phase::Running, Phase::Answered].map(|phase| self.with(phase, after.clone()));
+        let start = &question.start;
+        let caused = !usable && causes::anywhere(self.sizes, lends, &start.nodes, &start.labels);
         let as_is = self.clone();
         Next::Left(Box::new(move |answer| match answer {
-            Answer::Refused(18) if !usable => Some(as_is.clone()),
+            Answer::Refused(18) if caused => Some(as_is.clone()),
             Answer::More => Some(more.clone()),
             Answer::Finished => Some(finished.clone()),
             _ => None,

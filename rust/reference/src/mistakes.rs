@@ -49,6 +49,8 @@ pub enum Mistake {
     FirstEntryHolds,
     /// Unused entries of a record may be anything.
     TailsFree,
+    /// A link that leads outside the plan or does not rise is no cause for 18.
+    LinksAreNoCause,
 }
 
 thread_local! {
