@@ -4,7 +4,7 @@
 --     ask-astray                           the answer
 --     built-not-astray                     tables as built lead nowhere outside: there 18 has no cause
 -- Assumes nothing.
-use Prim.Native.Nat.{ℕ, zero, suc, _≤_, _<_}
+use Prim.Native.Nat.{ℕ, _≤_, _<_}
 use mathlib.Core.Path.{_≡_, refl, sym, ap, _∙_, subst}
 use mathlib.Core.Bool.{Bool, true, false, cond, _&&_}
 use mathlib.Core.List.{List, [], _∷_}
@@ -28,15 +28,13 @@ use Rattle.formats.specs.Rules.{stateCount, labelCount, branchAutomaton}
 use Rattle.formats.specs.Checks.{check, firstNo}
 use Rattle.formats.specs.Built.{BranchBuilt}
 use Rattle.formats.proofs.ListLaws.{allBelow-not}
-use Rattle.formats.proofs.CheckLaws.{true-false, and-left}
 use Rattle.links.specs.Cells.{depthCell, cellForest, isBelow}
 use Rattle.links.proofs.AstrayLaws.{cells-not-stray}
 use Rattle.tables.specs.StateCells.{mapCell}
-use Rattle.branches.specs.declared.answers.Branching.the-variants.{Told, Refused}
 use Rattle.branches.specs.Question.{lentFits, follow, moveMap, firstState, branched, branchOn}
-use Rattle.branches.specs.Question.{isSome, askChecks, askNumber, branchNumber, toldBranch, askAnswer}
+use Rattle.branches.specs.Question.{isSome, askChecks, askNumber}
 use Rattle.branches.specs.Astray.{BranchAstray, link, map, step, label}
-use Rattle.branches.proofs.FitLaws.{LentFits, lent-fits}
+use Rattle.branches.proofs.FitLaws.{lent-fits}
 use Rattle.branches.proofs.AskBuilt.{size-is, built-links, label-below, built-step, built-map}
 
 -- a map that can't be followed has an entry that is no state

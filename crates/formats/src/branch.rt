@@ -8,7 +8,7 @@ ghost use Rattle.formats.specs.Checks.{firstNo, branchChecks};
 ghost use Rattle.formats.specs.Leaves.{Counts, Headed, BranchSized, Product, branchShape, branchValues};
 
 // How many steps a branch table has.
-pub fn step_count(s: usize, k: usize) -> usize
+fn step_count(s: usize, k: usize) -> usize
     requires { ⌜ Counts s k ⌝ }
     ensures { λ r. ⌜ Product (s * k) 1024 r ⌝ }
 {

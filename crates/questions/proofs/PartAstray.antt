@@ -4,8 +4,8 @@
 --     side-none, join-none               at a child, and by the rule
 --     part-astray                        a part
 -- Assumes nothing.
-use Prim.Native.Nat.{ℕ, suc, _+_, _-_, _*_, _≤_, _<_}
-use mathlib.Core.Path.{_≡_, refl, sym, ap, _∙_, subst}
+use Prim.Native.Nat.{ℕ, _+_, _-_, _*_, _≤_, _<_}
+use mathlib.Core.Path.{_≡_, refl, sym, _∙_, subst}
 use mathlib.Core.Bool.{Bool, true, false, cond, _&&_}
 use mathlib.Core.List.{List, [], _∷_}
 use mathlib.Core.Logic.{_⊎_, inl, inr}
@@ -16,20 +16,19 @@ use lib.ListN.{length, getD}
 use borrow.Author.Tests.{ltb-true, ltb-false, leb-true, leb-false, eqb-true, eqb-false}
 use Rattle.trees.specs.Climb.{Forest, Move, byJump, toParent, target, andThen, climb, carry}
 use Rattle.trees.proofs.MoveLaws.{none-some, next-inside, next-starts}
-use Rattle.trees.proofs.CarryLaws.{carried}
 use Rattle.trees.proofs.StrayLaws.{Failed, carried-none}
 use Rattle.formats.specs.Bytes.{allBelow}
 use Rattle.formats.proofs.CheckLaws.{and-left, and-right}
 use Rattle.links.specs.Cells.{parentCell, depthCell, sizeCell, cellForest, isBelow}
 use Rattle.links.specs.Astray.{Childless, link, childless}
-use Rattle.tables.specs.StateCells.{stateCell, mapCell}
+use Rattle.tables.specs.StateCells.{stateCell}
 use Rattle.questions.specs.Climbs.{View, below, runOn, ruleOn, siblingOn, parentOn, moveOn, Reached, reached, climbOn}
 use Rattle.questions.specs.Part.{Found, found, lastFound, foundBelow, labelOn, climbFrom, runReached, ownReached}
 use Rattle.questions.specs.Part.{joinOn, leafOn, forkOn, partOn}
 use Rattle.questions.specs.Scans.{sideOn}
 use Rattle.questions.specs.Astray.{Astray, links, children, run, map, leaf, rule, handled, label, changed}
 use Rattle.questions.proofs.LookupLaws.{below-state, below-none}
-use Rattle.questions.proofs.ClimbBounds.{rule-state, move-state}
+use Rattle.questions.proofs.ClimbBounds.{move-state}
 use Rattle.questions.proofs.PartBounds.{inner-sides, side-bounded}
 use Rattle.questions.proofs.RootsAstray.{fork-test}
 

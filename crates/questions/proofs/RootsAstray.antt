@@ -5,7 +5,7 @@
 --     roots-astray           the roots
 -- Assumes nothing.
 use Prim.Native.Nat.{ℕ, zero, suc, _+_, _-_, _≤_, _<_}
-use mathlib.Core.Path.{_≡_, refl, sym, ap, _∙_, subst}
+use mathlib.Core.Path.{_≡_, refl, sym, ap, subst}
 use mathlib.Core.Bool.{Bool, true, false, cond, _&&_}
 use mathlib.Core.List.{List, [], _∷_}
 use mathlib.Core.Logic.{_⊎_, inl, inr}
@@ -20,11 +20,11 @@ use Rattle.trees.proofs.Choice.{by-test, le-or}
 use Rattle.trees.proofs.MoveLaws.{none-some}
 use Rattle.trees.proofs.StrayLaws.{next-stray}
 use Rattle.formats.specs.Bytes.{allBelow}
-use Rattle.links.specs.Cells.{parentCell, jumpCell, depthCell, sizeCell, cellForest, isBelow}
+use Rattle.links.specs.Cells.{sizeCell, cellForest, isBelow}
 use Rattle.links.specs.Astray.{Childless, LinksAstray, link, childless, apart}
 use Rattle.questions.specs.Search.{nextUnless, searchIn, search, meetOn}
 use Rattle.questions.specs.Roots.{insertRising, wanted, withFork, withMeet, forksOn, fromFirst, rootsOn}
-use Rattle.questions.specs.Rising.{RisesTo, AllBelow}
+use Rattle.questions.specs.Rising.{AllBelow}
 use Rattle.questions.proofs.PlaceLaws.{to-below, wanted-to}
 use Rattle.questions.proofs.SearchLaws.{unless, taken}
 

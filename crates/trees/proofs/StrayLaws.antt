@@ -6,7 +6,7 @@
 use Prim.Native.Nat.{ℕ, zero, suc, _+_, _≤_, _<_}
 use mathlib.Core.Path.{_≡_, refl, sym, ap, _∙_, subst}
 use mathlib.Core.Bool.{Bool, true, false, cond, _&&_}
-use mathlib.Core.List.{List, [], _∷_}
+use mathlib.Core.List.{List, []}
 use mathlib.Core.Logic.{_⊎_, inl, inr}
 use mathlib.Core.Option.{Option, none, some}
 use native.Mathlib.Omega.{arith}
@@ -15,7 +15,7 @@ use lib.Dec.{leb, ltb}
 use borrow.Author.Tests.{ltb-true, ltb-false}
 use Rattle.trees.specs.Tree.{Tree, size}
 use Rattle.trees.specs.Numbering.{parent, depth}
-use Rattle.trees.specs.Jumps.{jump, jumpDepth}
+use Rattle.trees.specs.Jumps.{jump}
 use Rattle.trees.specs.Climb.{Forest, forestOf, Move, byJump, toParent, target, rising, nextMove}
 use Rattle.trees.specs.Climb.{andThen, before, climbIn, climb, carry}
 use Rattle.trees.specs.Stray.{Stray, jump-outside, jump-flat, parent-outside, parent-flat}
