@@ -7,7 +7,7 @@
 --     Asking r z q       of a running question, whatever its standing: its list, roots that are nodes, one of them next, states below S
 --     Asks r z s         a plan is loaded, and a running question is asked so: enough for "18 only with a cause"
 --     Rel r b            record and book agree
--- In a loose question only the list, the ready set and states below S are kept, and these only where the numbers of
+-- Of a loose question Stands keeps only the list, the ready set and states below S, and these only where the numbers of
 -- Start were as built: enough for "never 18" on other bytes.
 -- Assumes nothing.
 use Prim.Native.Nat.{_<_}

@@ -1,7 +1,7 @@
 -- Values that lead outside the plan, the states or the labels.
 --
 -- BranchAstray p r nums bytes == such a value of what is lent with a branch question: what 18 means. Tables as built have none
---   (proofs/AstrayLaws).
+--   (proofs/AskAstray).
 --
 -- "18 means that a value read leads outside the plan, the states or the labels, or a climb doesn't rise."
 -- Assumes nothing.
