@@ -1,0 +1,237 @@
+-- An answer of a known case, told as its number, values and record bytes; and the exported calls from the promises of the session's.
+--     done-stored .. read-refused    what is stored and told of each answer
+--     not-laid, laid ..              the exported calls: bytes that are no record, and bytes that are laid out as one
+-- Assumes nothing.
+use Prim.Native.Nat.{ℕ}
+use mathlib.Core.Path.{_≡_, refl, sym, ap, ap₂, _∙_, subst}
+use mathlib.Core.Bool.{Bool, true, false, not, cond, _&&_}
+use mathlib.Core.List.{List}
+use lib.Dec.{eqb}
+use lib.ListN.{length}
+use borrow.Author.Tests.{eq-eqb, eqb-true, not-true, not-false}
+use Rattle.formats.specs.Built.{builtLinks, builtStates}
+use Rattle.formats.proofs.CheckLaws.{true-false, and-left, and-right}
+use Rattle.tables.specs.Answers.{written}
+use Rattle.book.specs.Lends.{Lent}
+use Rattle.book.specs.Calls.{Call, load, read, Answer, refused, accepted, parts, more, finished, told}
+use Rattle.session.specs.declared.answers.Done.{Done}
+use Rattle.session.specs.declared.answers.Started.{Started}
+use Rattle.session.specs.declared.answers.Advanced.{Advanced}
+use Rattle.session.specs.declared.answers.Doing.the-variants.{Done as Made, Refused as NotDone}
+use Rattle.session.specs.declared.answers.Starting.the-variants.{Parts, Refused as NotStarted}
+use Rattle.session.specs.declared.answers.Advancing.the-variants.{More, Finished, Refused as NotAdvanced}
+use Rattle.session.specs.declared.answers.Reading.{Reading}
+use Rattle.session.specs.declared.answers.Reading.the-variants.{Told, Refused as NotRead}
+use Rattle.session.specs.declared.state.Session.{Session}
+use Rattle.book.specs.Model.{act}
+use Rattle.book.specs.Kept.{Kept}
+use Rattle.session.specs.Records.{recordOf, valid}
+use Rattle.session.specs.Promises.{doingAnswer, startingAnswer, advancingAnswer, readingAnswer, answerOn, recordOn, refusalOn, CallDone, LoadDone}
+use Rattle.records.specs.Layout.{recordLength, encoded, decoded, laidOut, validBytes}
+use Rattle.capi_numbers.specs.Numbers.{bitOf}
+use Rattle.capi_session.specs.SessionExported.{answerFor, answerNumber, unlessRefused, recordFor, CallExported, loadNumber, LoadExported, partsOf}
+use Rattle.capi_session.specs.SessionExported.{StartExported, finishedOf, AdvanceExported, Places, toldPlaces, ReadExported}
+use Rattle.capi_session.specs.Stored.{places, Stored, DoneStored, StartStored, AdvanceStored, ReadStored}
+
+-- an accepted answer's bytes, from what encode ensures
+accepted-bytes : (s : Session) (b b′ : List ℕ) → length b ≡ recordLength → b′ ≡ cond (eqb (length b) recordLength) (encoded s) b → b′ ≡ encoded s
+accepted-bytes s b b′ h e = e ∙ rw (eq-eqb (length b) recordLength h)
+
+stored-new : (a : Answer) (s : Session) (b b′ : List ℕ) → answerNumber a ≡ 0 → unlessRefused a (encoded s) b ≡ encoded s
+    → b′ ≡ encoded s → Stored a s b 0 b′
+stored-new a s b b′ n u e = record { number = sym n; left = e ∙ sym u }
+
+pub done-stored : (o : Done) (b b′ : List ℕ) → length b ≡ recordLength → o .told ≡ Made
+    → b′ ≡ cond (eqb (length b) recordLength) (encoded (o .rec)) b → DoneStored o b 0 b′
+unfolding doingAnswer answerNumber unlessRefused
+done-stored o b b′ h e q =
+    stored-new (doingAnswer (o .told)) (o .rec) b b′ (ap (λ (x : _). answerNumber (doingAnswer x)) e)
+    (ap (λ (x : _). unlessRefused (doingAnswer x) (encoded (o .rec)) b) e) (accepted-bytes (o .rec) b b′ h q)
+
+pub done-refused : (o : Done) (b : List ℕ) (n : ℕ) → o .told ≡ NotDone n → DoneStored o b n b
+unfolding doingAnswer answerNumber unlessRefused
+done-refused o b n e = record {
+  number = sym (ap (λ (x : _). answerNumber (doingAnswer x)) e);
+  left = sym (ap (λ (x : _). unlessRefused (doingAnswer x) (encoded (o .rec)) b) e);
+}
+
+pub start-stored : (o : Started) (b b′ : List ℕ) (p k : ℕ) → length b ≡ recordLength → o .told ≡ Parts k
+    → b′ ≡ cond (eqb (length b) recordLength) (encoded (o .rec)) b → StartStored o b p 0 b′ k
+unfolding startingAnswer answerNumber unlessRefused partsOf
+start-stored o b b′ p k h e q = record {
+  stored = stored-new (startingAnswer (o .told)) (o .rec) b b′ (ap (λ (x : _). answerNumber (startingAnswer x)) e)
+      (ap (λ (x : _). unlessRefused (startingAnswer x) (encoded (o .rec)) b) e) (accepted-bytes (o .rec) b b′ h q);
+  parts-told = sym (ap (λ (x : _). partsOf (startingAnswer x) p) e);
+}
+
+pub start-refused : (o : Started) (b : List ℕ) (p n : ℕ) → o .told ≡ NotStarted n → StartStored o b p n b p
+unfolding startingAnswer answerNumber unlessRefused partsOf
+start-refused o b p n e = record {
+  stored = record {
+    number = sym (ap (λ (x : _). answerNumber (startingAnswer x)) e);
+    left = sym (ap (λ (x : _). unlessRefused (startingAnswer x) (encoded (o .rec)) b) e);
+  };
+  parts-told = sym (ap (λ (x : _). partsOf (startingAnswer x) p) e);
+}
+
+pub more-stored : (o : Advanced) (b b′ : List ℕ) (f : ℕ) → length b ≡ recordLength → o .told ≡ More
+    → b′ ≡ cond (eqb (length b) recordLength) (encoded (o .rec)) b → AdvanceStored o b f 0 b′ 0
+unfolding advancingAnswer answerNumber unlessRefused finishedOf
+more-stored o b b′ f h e q = record {
+  stored = stored-new (advancingAnswer (o .told)) (o .rec) b b′ (ap (λ (x : _). answerNumber (advancingAnswer x)) e)
+      (ap (λ (x : _). unlessRefused (advancingAnswer x) (encoded (o .rec)) b) e) (accepted-bytes (o .rec) b b′ h q);
+  finished-told = sym (ap (λ (x : _). finishedOf (advancingAnswer x) f) e);
+}
+
+pub finished-stored : (o : Advanced) (b b′ : List ℕ) (f : ℕ) → length b ≡ recordLength → o .told ≡ Finished
+    → b′ ≡ cond (eqb (length b) recordLength) (encoded (o .rec)) b → AdvanceStored o b f 0 b′ 1
+unfolding advancingAnswer answerNumber unlessRefused finishedOf
+finished-stored o b b′ f h e q = record {
+  stored = stored-new (advancingAnswer (o .told)) (o .rec) b b′ (ap (λ (x : _). answerNumber (advancingAnswer x)) e)
+      (ap (λ (x : _). unlessRefused (advancingAnswer x) (encoded (o .rec)) b) e) (accepted-bytes (o .rec) b b′ h q);
+  finished-told = sym (ap (λ (x : _). finishedOf (advancingAnswer x) f) e);
+}
+
+pub advance-refused : (o : Advanced) (b : List ℕ) (f n : ℕ) → o .told ≡ NotAdvanced n → AdvanceStored o b f n b f
+unfolding advancingAnswer answerNumber unlessRefused finishedOf
+advance-refused o b f n e = record {
+  stored = record {
+    number = sym (ap (λ (x : _). answerNumber (advancingAnswer x)) e);
+    left = sym (ap (λ (x : _). unlessRefused (advancingAnswer x) (encoded (o .rec)) b) e);
+  };
+  finished-told = sym (ap (λ (x : _). finishedOf (advancingAnswer x) f) e);
+}
+
+pub read-told : (a : Reading) (old : Places) (q y p l : ℕ) (m : Bool) → a ≡ Told q m p l → y ≡ bitOf m → ReadStored a old 0 (places q y p l)
+unfolding readingAnswer answerNumber toldPlaces
+read-told a old q y p l m e b = record {
+  number = sym (ap (λ (x : Reading). answerNumber (readingAnswer x)) e);
+  told-to = ap (λ (z : ℕ). places q z p l) b ∙ sym (ap (λ (x : Reading). toldPlaces (readingAnswer x) old) e);
+}
+
+pub read-refused : (a : Reading) (old : Places) (n : ℕ) → a ≡ NotRead n → ReadStored a old n old
+unfolding readingAnswer answerNumber toldPlaces
+read-refused a old n e = record {
+  number = sym (ap (λ (x : Reading). answerNumber (readingAnswer x)) e);
+  told-to = sym (ap (λ (x : Reading). toldPlaces (readingAnswer x) old) e);
+}
+
+-- ---- the exported calls
+
+module _ (b : List ℕ) (c : Call) where
+  answer-laid : laidOut b ≡ true → answerFor b c ≡ answerOn (decoded b) c
+  unfolding answerFor
+  answer-laid h = rw h
+
+  answer-not : laidOut b ≡ false → answerFor b c ≡ refused 1
+  unfolding answerFor
+  answer-not h = rw h
+
+  pub not-laid : laidOut b ≡ false → CallExported b c 1 b
+  unfolding recordFor answerNumber unlessRefused validBytes
+  not-laid h = record {
+    number = sym (ap answerNumber (answer-not h));
+    left = sym (ap (λ (a : Answer). unlessRefused a (encoded (recordOn (decoded b) c)) b) (answer-not h));
+    kept = λ v. absurd (true-false (sym (and-left (laidOut b) (valid (decoded b)) v) ∙ h));
+  }
+
+  pub laid : laidOut b ≡ true → (a : Answer) (s : Session) (r : ℕ) (b′ : List ℕ) → CallDone (decoded b) c a s → Stored a s b r b′
+      → CallExported b c r b′
+  unfolding recordFor validBytes
+  laid h a s r b′ D S =
+      let e : answerFor b c ≡ a = answer-laid h ∙ sym (D .tells) in
+      record {
+        number = S .number ∙ sym (ap answerNumber e);
+        left = S .left ∙ ap₂ (λ (x : Answer) (y : Session). unlessRefused x (encoded y) b) (sym e) (D .leaves);
+        kept = λ v. subst (λ (x : Answer). Kept (recordOf (decoded b)) c x (act (recordOf (decoded b)) c .record′)) (sym e)
+            (D .kept (and-right (laidOut b) (valid (decoded b)) v));
+      }
+
+  pub told-by : laidOut b ≡ true → (a : Answer) → a ≡ answerOn (decoded b) c → answerFor b c ≡ a
+  told-by h a e = answer-laid h ∙ sym e
+
+  pub told-not : laidOut b ≡ false → answerFor b c ≡ refused 1
+  told-not h = answer-not h
+
+-- bytes laid out as a record are as many as a record has
+pub laid-length : (b : List ℕ) → laidOut b ≡ true → length b ≡ recordLength
+unfolding laidOut
+laid-length b h = eqb-true (length b) recordLength (and-left (eqb (length b) recordLength) _ h)
+
+module _ (b : List ℕ) (r : Bool) (e : r ≡ laidOut b) where
+  pub refused-laid : not r ≡ true → laidOut b ≡ false
+  refused-laid h = sym e ∙ not-true r h
+
+  pub passed-laid : not r ≡ false → laidOut b ≡ true
+  passed-laid h = sym e ∙ not-false r h
+
+  pub passed-length : not r ≡ false → length b ≡ recordLength
+  passed-length h = laid-length b (passed-laid h)
+
+-- ---- Load, Start, advance and Read
+
+module _ (b : List ℕ) where
+  pub load-not : (x : Lent) → laidOut b ≡ false → LoadExported b x 1 b (x .nums) (x .bytes)
+  unfolding loadNumber written
+  load-not x h = record {
+    call = not-laid b (load x) h;
+    links-written = sym (ap (λ (t : Bool). written (cond t (refusalOn (decoded b) (load x)) 1) (builtLinks (x .plan)) (x .nums)) h);
+    states-written = sym (ap (λ (t : Bool). written (cond t (refusalOn (decoded b) (load x)) 1) (builtStates (x .plan) (x .rules)) (x .bytes)) h);
+  }
+
+  pub load-laid : (x : Lent) → laidOut b ≡ true → (o : Done) (r : ℕ) (b′ nums′ bytes′ : List ℕ)
+      → LoadDone (decoded b) x (doingAnswer (o .told)) (o .rec) nums′ bytes′ → DoneStored o b r b′ → LoadExported b x r b′ nums′ bytes′
+  unfolding loadNumber
+  load-laid x h o r b′ nums′ bytes′ D S = record {
+    call = laid b (load x) h (doingAnswer (o .told)) (o .rec) r b′ (D .call) S;
+    links-written = D .links-written ∙ sym (ap (λ (t : Bool). written (cond t (refusalOn (decoded b) (load x)) 1) (builtLinks (x .plan)) (x .nums)) h);
+    states-written = D .states-written
+        ∙ sym (ap (λ (t : Bool). written (cond t (refusalOn (decoded b) (load x)) 1) (builtStates (x .plan) (x .rules)) (x .bytes)) h);
+  }
+
+  module _ (c : Call) where
+    pub start-not : (p : ℕ) → laidOut b ≡ false → StartExported b c 1 b p p
+    unfolding partsOf
+    start-not p h = record { call = not-laid b c h; parts-told = sym (ap (λ (a : Answer). partsOf a p) (told-not b c h)) }
+
+    pub start-laid : laidOut b ≡ true → (o : Started) (r : ℕ) (b′ : List ℕ) (p p′ : ℕ)
+        → CallDone (decoded b) c (startingAnswer (o .told)) (o .rec) → StartStored o b p r b′ p′ → StartExported b c r b′ p p′
+    start-laid h o r b′ p p′ D S = record {
+      call = laid b c h (startingAnswer (o .told)) (o .rec) r b′ D (S .stored);
+      parts-told = S .parts-told ∙ sym (ap (λ (a : Answer). partsOf a p) (told-by b c h (startingAnswer (o .told)) (D .tells)));
+    }
+
+    pub advance-not : (f : ℕ) → laidOut b ≡ false → AdvanceExported b c 1 b f f
+    unfolding finishedOf
+    advance-not f h = record { call = not-laid b c h; finished-told = sym (ap (λ (a : Answer). finishedOf a f) (told-not b c h)) }
+
+    pub advance-laid : laidOut b ≡ true → (o : Advanced) (r : ℕ) (b′ : List ℕ) (f f′ : ℕ)
+        → CallDone (decoded b) c (advancingAnswer (o .told)) (o .rec) → AdvanceStored o b f r b′ f′ → AdvanceExported b c r b′ f f′
+    advance-laid h o r b′ f f′ D S = record {
+      call = laid b c h (advancingAnswer (o .told)) (o .rec) r b′ D (S .stored);
+      finished-told = S .finished-told ∙ sym (ap (λ (a : Answer). finishedOf a f) (told-by b c h (advancingAnswer (o .told)) (D .tells)));
+    }
+
+  pub read-not : (old : Places) → laidOut b ≡ false → ReadExported b 1 old old
+  unfolding answerNumber toldPlaces
+  read-not old h = record {
+    number = sym (ap answerNumber (told-not b read h));
+    told-to = sym (ap (λ (a : Answer). toldPlaces a old) (told-not b read h));
+  }
+
+  pub read-laid : laidOut b ≡ true → (a : Reading) (old new : Places) (r : ℕ) → readingAnswer a ≡ answerOn (decoded b) read → ReadStored a old r new
+      → ReadExported b r old new
+  read-laid h a old new r D S =
+      let e : answerFor b read ≡ readingAnswer a = told-by b read h (readingAnswer a) D in
+      record { number = S .number ∙ sym (ap answerNumber e); told-to = S .told-to ∙ sym (ap (λ (x : Answer). toldPlaces x old) e) }
+
+-- a promise on the struct that was decoded
+pub of-decoded : (b : List ℕ) (s : Session) (c : Call) (a : Answer) (s′ : Session) → s ≡ decoded b → CallDone s c a s′ → CallDone (decoded b) c a s′
+of-decoded b s c a s′ e D = subst (λ (z : Session). CallDone z c a s′) e D
+
+pub load-decoded : (b : List ℕ) (s : Session) (x : Lent) (a : Answer) (s′ : Session) (n y : List ℕ) → s ≡ decoded b → LoadDone s x a s′ n y
+    → LoadDone (decoded b) x a s′ n y
+load-decoded b s x a s′ n y e D = subst (λ (z : Session). LoadDone z x a s′ n y) e D
+
+pub read-decoded : (b : List ℕ) (s : Session) (a : Answer) → s ≡ decoded b → a ≡ answerOn s read → a ≡ answerOn (decoded b) read
+read-decoded b s a e q = q ∙ ap (λ (z : Session). answerOn z read) e

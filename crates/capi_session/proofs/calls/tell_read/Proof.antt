@@ -1,0 +1,45 @@
+use Rattle.capi_session.proofs.SessionExportedLaws.{read-told, read-refused}
+use native.Mathlib.Omega.{arith}
+use borrow.Author.Needs.{needs}
+use Rattle.capi_session.proofs.calls.tell_read.Statement.{statement}
+use Rattle.capi_session.proofs.calls.tell_read.Tie as tie
+use Rattle.capi_session.proofs.calls.tell_read.Reads as reads
+use Rattle.capi_session.proofs.calls.tell_read.Lts as lts
+use Rattle.capi_numbers.proofs.numbers.bit.Reads as bit-reads
+
+enum-known-told : tie.Need-enum-known-told
+enum-known-told c = search needs
+
+cast-state : tie.Need-cast-state
+cast-state c = search needs
+
+bit-requires : tie.Need-bit-requires
+bit-requires c κs = search needs
+
+cast-parts : tie.Need-cast-parts
+cast-parts c = search needs
+
+returns : tie.Need-returns
+returns c = read-told _ _ _ _ _ _ _ (c .before .before .told .given .1) (c .bit .ensures)
+
+enum-known-told-2 : tie.Need-enum-known-told-2
+enum-known-told-2 c = search needs
+
+cast-result : tie.Need-cast-result
+cast-result c = search needs
+
+returns-2 : tie.Need-returns-2
+returns-2 c = read-refused _ _ _ (c .before .told2 .given .1)
+
+pub tell-read-spec : {M : Type 1} → statement M
+tell-read-spec =
+    tie.close
+    (tie.spec
+    enum-known-told
+    cast-state
+    bit-requires
+    cast-parts
+    returns
+    enum-known-told-2
+    cast-result
+    returns-2)

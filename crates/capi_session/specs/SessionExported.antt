@@ -1,0 +1,105 @@
+-- What the exported session calls promise: the record as bytes in and out, the answer's number and values.
+--
+-- answerFor b c == the answer of call c on record bytes b: 1 for bytes that are not laid out as a record, else the struct's (crate session)
+-- answerNumber a == document 01's number of an answer: 0 accepted, else the refusal's
+-- recordFor b c == the bytes after it: as they were where it is refused, else those of the struct after the call
+-- partsOf a old, finishedOf a old, stateTold .. == what a place holds afterwards: the answer's value, or what it held
+-- CallExported, StartExported, AdvanceExported, ReadExported, LoadExported == the promises
+--
+-- Assumes nothing.
+use Prim.Native.Nat.{ℕ}
+use mathlib.Core.Path.{_≡_}
+use mathlib.Core.Bool.{Bool, true, cond}
+use mathlib.Core.List.{List}
+use Rattle.formats.specs.Built.{builtLinks, builtStates}
+use Rattle.tables.specs.Answers.{written}
+use Rattle.book.specs.Lends.{Lent}
+use Rattle.book.specs.Calls.{Call, load, start, advance, cancel, read, Answer, refused, accepted, parts, more, finished, told}
+use Rattle.book.specs.Model.{act}
+use Rattle.book.specs.Kept.{Kept}
+use Rattle.session.specs.Records.{recordOf}
+use Rattle.session.specs.Promises.{answerOn, recordOn, refusalOn}
+use Rattle.records.specs.Layout.{encoded, decoded, laidOut, validBytes}
+use Rattle.capi_numbers.specs.Numbers.{bitOf}
+
+-- "bytes that break it get 1"
+unfoldable pub answerFor : List ℕ → Call → Answer
+answerFor b c = cond (laidOut b) (answerOn (decoded b) c) (refused 1)
+
+unfoldable pub answerNumber : Answer → ℕ
+answerNumber (refused n) = n
+answerNumber accepted = 0
+answerNumber (parts p) = 0
+answerNumber more = 0
+answerNumber finished = 0
+answerNumber (told q y p l) = 0
+
+-- "nothing else is returned and nothing is altered"
+unfoldable pub unlessRefused : Answer → List ℕ → List ℕ → List ℕ
+unlessRefused (refused n) new old = old
+unlessRefused accepted new old = new
+unlessRefused (parts p) new old = new
+unlessRefused more new old = new
+unlessRefused finished new old = new
+unlessRefused (told q y p l) new old = new
+
+unfoldable pub recordFor : List ℕ → Call → List ℕ
+recordFor b c = unlessRefused (answerFor b c) (encoded (recordOn (decoded b) c)) b
+
+pub record CallExported (b : List ℕ) (c : Call) (r : ℕ) (b′ : List ℕ) : Type 0 where
+  pub number : r ≡ answerNumber (answerFor b c)
+  pub left : b′ ≡ recordFor b c
+  -- what is left to the program has these properties
+  pub kept : validBytes b ≡ true → Kept (recordOf (decoded b)) c (answerFor b c) (act (recordOf (decoded b)) c .record′)
+
+-- the refusal's number, 18 apart, of a Load on record bytes
+unfoldable pub loadNumber : List ℕ → Lent → ℕ
+loadNumber b x = cond (laidOut b) (refusalOn (decoded b) (load x)) 1
+
+pub record LoadExported (b : List ℕ) (x : Lent) (r : ℕ) (b′ nums′ bytes′ : List ℕ) : Type 0 where
+  pub call : CallExported b (load x) r b′
+  pub links-written : nums′ ≡ written (loadNumber b x) (builtLinks (x .plan)) (x .nums)
+  pub states-written : bytes′ ≡ written (loadNumber b x) (builtStates (x .plan) (x .rules)) (x .bytes)
+
+unfoldable pub partsOf : Answer → ℕ → ℕ
+partsOf (parts p) old = p
+partsOf (refused n) old = old
+partsOf accepted old = old
+partsOf more old = old
+partsOf finished old = old
+partsOf (told q y p l) old = old
+
+pub record StartExported (b : List ℕ) (c : Call) (r : ℕ) (b′ : List ℕ) (parts₀ parts₁ : ℕ) : Type 0 where
+  pub call : CallExported b c r b′
+  pub parts-told : parts₁ ≡ partsOf (answerFor b c) parts₀
+
+unfoldable pub finishedOf : Answer → ℕ → ℕ
+finishedOf more old = 0
+finishedOf finished old = 1
+finishedOf (refused n) old = old
+finishedOf accepted old = old
+finishedOf (parts p) old = old
+finishedOf (told q y p l) old = old
+
+pub record AdvanceExported (b : List ℕ) (c : Call) (r : ℕ) (b′ : List ℕ) (finished₀ finished₁ : ℕ) : Type 0 where
+  pub call : CallExported b c r b′
+  pub finished-told : finished₁ ≡ finishedOf (answerFor b c) finished₀
+
+-- the four values of Read, as one place each
+pub record Places : Type 0 where
+  pub state : ℕ
+  pub yes : ℕ
+  pub parts : ℕ
+  pub links : ℕ
+
+unfoldable pub toldPlaces : Answer → Places → Places
+toldPlaces (told q y p l) old = record { state = q; yes = bitOf y; parts = p; links = l }
+toldPlaces (refused n) old = old
+toldPlaces accepted old = old
+toldPlaces (parts p) old = old
+toldPlaces more old = old
+toldPlaces finished old = old
+
+pub record ReadExported (b : List ℕ) (r : ℕ) (before after : Places) : Type 0 where
+  pub number : r ≡ answerNumber (answerFor b read)
+  pub told-to : after ≡ toldPlaces (answerFor b read) before

@@ -1,0 +1,207 @@
+// The session's five calls on record bytes.
+use capi_numbers::numbers::bit;
+use records::bytes::decode;
+use records::bytes::encode;
+use records::bytes::laid_out;
+use session::answers::Advanced;
+use session::answers::Advancing;
+use session::answers::Doing;
+use session::answers::Done;
+use session::answers::Reading;
+use session::answers::Started;
+use session::answers::Starting;
+ghost use mathlib.Core.Path.{_≡_};
+ghost use lib.ListN.{length};
+ghost use Rattle.book.specs.Calls as calls;
+ghost use Rattle.records.specs.Layout.{recordLength};
+ghost use Rattle.session.specs.Tests.{lentOf};
+ghost use Rattle.capi_session.specs.SessionExported.{CallExported, LoadExported, StartExported, AdvanceExported, ReadExported};
+ghost use Rattle.capi_session.specs.Stored.{DoneStored, StartStored, AdvanceStored, ReadStored, places};
+
+// Stores the record of an accepted Load or Cancel; the answer's number.
+fn store_done(out: Done, rec: &mut [u8]) -> u32
+    requires { ⌜ length (now rec) ≡ recordLength ⌝ }
+    ensures { λ r. ⌜ DoneStored out (now (rec .entry)) r (now (rec .exit)) ⌝ }
+{
+    let told = out.told;
+    match told {
+        Doing::Done => {
+            let next = out.rec;
+            encode(next, rec);
+            return 0;
+        }
+        Doing::Refused(n) => {
+            return n as u32;
+        }
+    }
+}
+
+// Load: a plan and rules for the session, and their tables.
+#[no_mangle]
+pub extern "C" fn whatif_load(
+    rec: &mut [u8],
+    plan: &[u8],
+    rules: &[u8],
+    node_table: &mut [u16],
+    state_table: &mut [u8],
+) -> u32
+    ensures { λ r. ⌜
+        LoadExported (now (rec .entry))
+        (lentOf (now (plan .entry)) (now (rules .entry)) (now («node_table» .entry)) (now («state_table» .entry)))
+        r (now (rec .exit)) (now («node_table» .exit)) (now («state_table» .exit)) ⌝ }
+{
+    if !laid_out(rec) {
+        return 1;
+    }
+    let s = decode(rec);
+    let out = s.load(plan, rules, node_table, state_table);
+    store_done(out, rec)
+}
+
+// Cancel: the question is forgotten.
+#[no_mangle]
+pub extern "C" fn whatif_cancel(rec: &mut [u8]) -> u32
+    ensures { λ r. ⌜ CallExported (now (rec .entry)) calls.cancel r (now (rec .exit)) ⌝ }
+{
+    if !laid_out(rec) {
+        return 1;
+    }
+    let s = decode(rec);
+    let out = s.cancel();
+    store_done(out, rec)
+}
+
+// Stores the record of an accepted Start and tells its parts; the answer's number.
+fn store_started(out: Started, rec: &mut [u8], parts: &mut u32) -> u32
+    requires { ⌜ length (now rec) ≡ recordLength ⌝ }
+    ensures { λ r. ⌜ StartStored out (now (rec .entry)) (now (parts .entry)) r (now (rec .exit)) (now (parts .exit)) ⌝ }
+{
+    let told = out.told;
+    match told {
+        Starting::Parts(p) => {
+            let next = out.rec;
+            encode(next, rec);
+            *parts = p as u32;
+            return 0;
+        }
+        Starting::Refused(n) => {
+            return n as u32;
+        }
+    }
+}
+
+// Start: a question about a list of changes.
+#[no_mangle]
+pub extern "C" fn whatif_start(
+    rec: &mut [u8],
+    plan: &[u8],
+    rules: &[u8],
+    node_table: &[u16],
+    state_table: &[u8],
+    nodes: &[u16],
+    labels: &[u8],
+    parts: &mut u32,
+) -> u32
+    ensures { λ r. ⌜
+        StartExported (now (rec .entry))
+        (calls.start (lentOf (now (plan .entry)) (now (rules .entry)) (now («node_table» .entry)) (now («state_table» .entry)))
+        (now (nodes .entry)) (now (labels .entry)))
+        r (now (rec .exit)) (now (parts .entry)) (now (parts .exit)) ⌝ }
+{
+    if !laid_out(rec) {
+        return 1;
+    }
+    let s = decode(rec);
+    let out = s.start(plan, rules, node_table, state_table, nodes, labels);
+    store_started(out, rec, parts)
+}
+
+// Stores the record of an accepted advance and tells whether it finished; the answer's number.
+fn store_advanced(out: Advanced, rec: &mut [u8], finished: &mut u32) -> u32
+    requires { ⌜ length (now rec) ≡ recordLength ⌝ }
+    ensures { λ r. ⌜ AdvanceStored out (now (rec .entry)) (now (finished .entry)) r (now (rec .exit)) (now (finished .exit)) ⌝ }
+{
+    let told = out.told;
+    match told {
+        Advancing::More => {
+            let next = out.rec;
+            encode(next, rec);
+            *finished = 0;
+            return 0;
+        }
+        Advancing::Finished => {
+            let next = out.rec;
+            encode(next, rec);
+            *finished = 1;
+            return 0;
+        }
+        Advancing::Refused(n) => {
+            return n as u32;
+        }
+    }
+}
+
+// Advance: one more part.
+#[no_mangle]
+pub extern "C" fn whatif_advance(
+    rec: &mut [u8],
+    plan: &[u8],
+    rules: &[u8],
+    node_table: &[u16],
+    state_table: &[u8],
+    finished: &mut u32,
+) -> u32
+    ensures { λ r. ⌜
+        AdvanceExported (now (rec .entry))
+        (calls.advance (lentOf (now (plan .entry)) (now (rules .entry)) (now («node_table» .entry)) (now («state_table» .entry))))
+        r (now (rec .exit)) (now (finished .entry)) (now (finished .exit)) ⌝ }
+{
+    if !laid_out(rec) {
+        return 1;
+    }
+    let s = decode(rec);
+    let out = s.advance(plan, rules, node_table, state_table);
+    store_advanced(out, rec, finished)
+}
+
+// Tells what Read tells; the answer's number.
+fn tell_read(told: Reading, state: &mut u32, yes: &mut u32, parts: &mut u32, links: &mut u32) -> u32
+    ensures { λ r. ⌜
+        ReadStored told (places (now (state .entry)) (now (yes .entry)) (now (parts .entry)) (now (links .entry))) r
+        (places (now (state .exit)) (now (yes .exit)) (now (parts .exit)) (now (links .exit))) ⌝ }
+{
+    match told {
+        Reading::Told(q, marked, p, l) => {
+            *state = q as u32;
+            *yes = bit(marked);
+            *parts = p as u32;
+            *links = l;
+            return 0;
+        }
+        Reading::Refused(n) => {
+            return n as u32;
+        }
+    }
+}
+
+// Read: the answer of a finished question.
+#[no_mangle]
+pub extern "C" fn whatif_read(
+    rec: &[u8],
+    state: &mut u32,
+    yes: &mut u32,
+    parts: &mut u32,
+    links: &mut u32,
+) -> u32
+    ensures { λ r. ⌜
+        ReadExported (now (rec .entry)) r
+        (places (now (state .entry)) (now (yes .entry)) (now (parts .entry)) (now (links .entry)))
+        (places (now (state .exit)) (now (yes .exit)) (now (parts .exit)) (now (links .exit))) ⌝ }
+{
+    if !laid_out(rec) {
+        return 1;
+    }
+    let s = decode(rec);
+    let told = s.read();
+    tell_read(told, state, yes, parts, links)
+}
