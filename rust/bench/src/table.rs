@@ -109,8 +109,8 @@ pub fn text(rows: &[Row]) -> String {
     for row in rows {
         write!(out, "{:<24} {:<10} {:>3}", row.name(), row.shape, row.s).unwrap();
         for at in [SMALL, LARGE] {
-            let (library, plain) = row.times[at];
-            write!(out, " {:>9} {:>9} {:>7.2}", short(library), short(plain), row.ratio(at)).unwrap();
+            let (library, yardstick) = row.times[at];
+            write!(out, " {:>9} {:>9} {:>7.2}", short(library), short(yardstick), row.ratio(at)).unwrap();
         }
         let over = if row.over(SMALL) || row.over(LARGE) { " over" } else { "" };
         writeln!(out, " {:>6}{}", goal_of(row.goal(LARGE)), over).unwrap();
