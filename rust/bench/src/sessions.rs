@@ -148,8 +148,8 @@ impl Set {
 /// What is measured, and how.
 pub type Work = (&'static str, fn(&Set) -> Pair);
 
-/// Rows whose work has this text in its name.
-pub fn rows(wanted: &str) -> Vec<Row> {
+/// Rows whose work has this text in its name, each handed on when it is measured.
+pub fn rows(wanted: &str, keep: &mut dyn FnMut(Row)) {
     let random = &mut Random::new(3);
     let mut sets = each(random, |cases, _| Set::new(cases));
     let works: [Work; 4] = [
@@ -160,15 +160,13 @@ pub fn rows(wanted: &str) -> Vec<Row> {
     ];
     #[cfg(feature = "probes")]
     let works: Vec<Work> = works.into_iter().chain(crate::places::WORKS).collect();
-    let mut rows = Vec::new();
     for m in [0, 1, 8, 64] {
         for (shape, s, both) in &mut sets {
             both.iter_mut().for_each(|set| set.with_changes(m, random));
             for (work, measured) in works.iter().filter(|(work, _)| work.contains(wanted)) {
                 let times = [measured(&both[0]), measured(&both[1])];
-                rows.push(Row { work, m: Some(m), shape, s: *s, times });
+                keep(Row { work, m: Some(m), shape, s: *s, times });
             }
         }
     }
-    rows
 }

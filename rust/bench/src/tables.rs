@@ -155,17 +155,17 @@ impl Set {
     }
 }
 
-/// Rows whose work has this text in its name; the builds always, since what follows needs them.
-pub fn rows(wanted: &str) -> Vec<Row> {
+/// Rows whose work has this text in its name, each handed on when it is measured; the builds always, since what follows
+/// needs them.
+pub fn rows(wanted: &str, keep: &mut dyn FnMut(Row)) {
     let mut sets = each(&mut Random::new(2), Set::new);
-    let mut rows = Vec::new();
     let mut measure = |work: &'static str, m: Option<usize>, measured: &mut dyn FnMut(&mut Set) -> Pair| {
         if !work.contains(wanted) && work != "Load" && work != "branch build" {
             return;
         }
         for (shape, s, [small, large]) in &mut sets {
             let times = [measured(small), measured(large)];
-            rows.push(Row { work, m, shape, s: *s, times });
+            keep(Row { work, m, shape, s: *s, times });
         }
     };
     measure("Load", None, &mut Set::load);
@@ -176,5 +176,4 @@ pub fn rows(wanted: &str) -> Vec<Row> {
     measure("branch build", None, &mut Set::branch_build);
     measure("branch check", None, &mut |set| set.branch_check());
     measure("branch question", None, &mut |set| set.branch_question());
-    rows
 }
