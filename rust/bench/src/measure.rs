@@ -47,7 +47,7 @@ extern "C" {
     fn clock_gettime(clock: i32, time: *mut Timespec) -> i32;
 }
 
-/// Linux's CLOCK_THREAD_CPUTIME_ID, in nanoseconds.
+/// Linux's CLOCK_THREAD_CPUTIME_ID, in nanoseconds. The clock's number and the two 64-bit fields are those of x86-64 Linux.
 fn processor_time() -> i64 {
     let mut now = Timespec { seconds: 0, nanoseconds: 0 };
     // SAFETY: C's function, on a place of this function
