@@ -7,8 +7,9 @@
  * The bytes of plans, tables and records are in LAYOUT.md, the order of the checks of each call in REFUSALS.md: both
  * stand in docs/ of the sources, and beside this file where it is installed.
  *
- * Link with libwhatif.a (x86-64). The library never allocates, keeps nothing between calls and is re-entrant: any
- * number of threads may call it at once, each with buffers that no other thread writes during the call.
+ * Link with libwhatif.a or, where it is installed, with libwhatif.so (x86-64 Linux). The library never allocates, keeps
+ * nothing between calls and is re-entrant: any number of threads may call it at once, each with buffers that no other
+ * thread writes during the call.
  * Stack of a call, as measured on plans of 65,535 nodes: a fresh run at most 40 KiB, a session call at most 4 KiB, any
  * other at most 1 KiB.
  *
@@ -204,7 +205,7 @@ uint32_t whatif_branch(const uint8_t *plan, size_t plan_len, const uint8_t *bran
  *     whatif_read     answered               then answered
  *
  * Any other call gets 1. So does a record that breaks its layout, or that has another length, as those of another
- * layout version have. whatif_session_state tells which it was.
+ * layout version have. whatif_session_state, below, helps to tell which it was.
  */
 
 /*
