@@ -14,7 +14,7 @@ pub fn make(shape: &str, [n, s, m]: [usize; 3]) {
     let one = One::new(Case::new(shape, (n + 1) / 2, s, 64, random));
     for _ in 0..20 {
         let list = list(&one.case, m, random);
-        assert_eq!(one.ask(&list), one.plain_ask(&list), "both tell the same");
+        assert_eq!(one.ask(&list), one.yardstick_ask(&list), "both tell the same");
         fresh_run(&one, &list);
         #[cfg(feature = "probes")]
         crate::places::once(&one, &list);
@@ -23,18 +23,18 @@ pub fn make(shape: &str, [n, s, m]: [usize; 3]) {
 }
 
 fn fresh_run(one: &One, list: &List) {
-    let told = plain::fresh_run(&one.case.plan, &one.case.rules, &list.0, &list.1).expect("accepted");
+    let told = yardstick::fresh_run(&one.case.plan, &one.case.rules, &list.0, &list.1).expect("accepted");
     assert_eq!(one.fresh_run(list), u32::from(told.0), "both tell the same");
 }
 
 fn branch_questions(case: Case, random: &mut Random) {
-    let (mut numbers, mut bytes) = (vec![0; case.numbers_len()], vec![0; case.bytes_len()]);
-    whatif::branch_build(&case.plan, &case.branch, &mut numbers, &mut bytes).expect("accepted");
+    let (mut node_table, mut state_table) = (vec![0; case.node_table_len()], vec![0; case.state_table_len()]);
+    whatif::branch_build(&case.plan, &case.branch, &mut node_table, &mut state_table).expect("accepted");
     let tree = Tree::of(&reference::formats::read_plan(&case.plan).expect("accepted"));
     for _ in 0..20 {
         let (upper, lower) = pair(&tree, random);
-        let told = whatif::branch(&case.plan, &case.branch, &numbers, &bytes, upper, lower).expect("accepted");
-        let want = plain::ask(&case.plan, &case.branch, &numbers, &bytes, upper, lower).expect("accepted");
+        let told = whatif::branch(&case.plan, &case.branch, &node_table, &state_table, upper, lower).expect("accepted");
+        let want = yardstick::ask(&case.plan, &case.branch, &node_table, &state_table, upper, lower).expect("accepted");
         assert_eq!((told.state, told.links), (want.state, want.links), "both tell the same");
     }
 }

@@ -27,8 +27,8 @@ pub struct Question {
 extern "C" {
     fn probe_roots(
         n: usize,
-        numbers: *const u16,
-        numbers_len: usize,
+        node_table: *const u16,
+        node_table_len: usize,
         nodes: *const u16,
         nodes_len: usize,
         out: *mut [u16; 254],
@@ -42,10 +42,10 @@ extern "C" {
         plan_len: usize,
         rules: *const u8,
         rules_len: usize,
-        numbers: *const u16,
-        numbers_len: usize,
-        bytes: *const u8,
-        bytes_len: usize,
+        node_table: *const u16,
+        node_table_len: usize,
+        state_table: *const u8,
+        state_table_len: usize,
         roots: *const u16,
         roots_len: usize,
         states: *const u8,
@@ -64,10 +64,10 @@ extern "C" {
         plan_len: usize,
         rules: *const u8,
         rules_len: usize,
-        numbers: *const u16,
-        numbers_len: usize,
-        bytes: *const u8,
-        bytes_len: usize,
+        node_table: *const u16,
+        node_table_len: usize,
+        state_table: *const u8,
+        state_table_len: usize,
         nodes: *const u16,
         nodes_len: usize,
         labels: *const u8,
@@ -83,10 +83,10 @@ extern "C" {
         plan_len: usize,
         rules: *const u8,
         rules_len: usize,
-        numbers: *const u16,
-        numbers_len: usize,
-        bytes: *const u8,
-        bytes_len: usize,
+        node_table: *const u16,
+        node_table_len: usize,
+        state_table: *const u8,
+        state_table_len: usize,
         nodes: *const u16,
         nodes_len: usize,
         labels: *const u8,
@@ -95,14 +95,14 @@ extern "C" {
 }
 
 pub fn roots(one: &One, nodes: &[u16], out: &mut [u16; 254]) -> usize {
-    let numbers = &one.numbers;
+    let node_table = &one.node_table;
     // SAFETY: each pointer comes with its own slice's length, and `out` is borrowed for writing
-    unsafe { probe_roots(one.case.n, numbers.as_ptr(), numbers.len(), nodes.as_ptr(), nodes.len(), out) }
+    unsafe { probe_roots(one.case.n, node_table.as_ptr(), node_table.len(), nodes.as_ptr(), nodes.len(), out) }
 }
 
 /// The part of the root that comes next after those whose states are given: state and links.
 pub fn part(one: &One, roots: &[u16], states: &[u8], (nodes, labels): &List) -> (u32, u32) {
-    let (case, numbers, bytes) = (&one.case, &one.numbers, &one.bytes);
+    let (case, node_table, state_table) = (&one.case, &one.node_table, &one.state_table);
     // SAFETY: each pointer comes with its own slice's length
     let told = unsafe {
         probe_part(
@@ -113,10 +113,10 @@ pub fn part(one: &One, roots: &[u16], states: &[u8], (nodes, labels): &List) -> 
             case.plan.len(),
             case.rules.as_ptr(),
             case.rules.len(),
-            numbers.as_ptr(),
-            numbers.len(),
-            bytes.as_ptr(),
-            bytes.len(),
+            node_table.as_ptr(),
+            node_table.len(),
+            state_table.as_ptr(),
+            state_table.len(),
             roots.as_ptr(),
             roots.len(),
             states.as_ptr(),
@@ -132,7 +132,7 @@ pub fn part(one: &One, roots: &[u16], states: &[u8], (nodes, labels): &List) -> 
 
 /// Start on a loaded session, then `count` advances.
 pub fn steps(one: &One, (nodes, labels): &List, count: u32) -> Steps {
-    let (case, numbers, bytes) = (&one.case, &one.numbers, &one.bytes);
+    let (case, node_table, state_table) = (&one.case, &one.node_table, &one.state_table);
     // SAFETY: each pointer comes with its own slice's length
     unsafe {
         probe_steps(
@@ -143,10 +143,10 @@ pub fn steps(one: &One, (nodes, labels): &List, count: u32) -> Steps {
             case.plan.len(),
             case.rules.as_ptr(),
             case.rules.len(),
-            numbers.as_ptr(),
-            numbers.len(),
-            bytes.as_ptr(),
-            bytes.len(),
+            node_table.as_ptr(),
+            node_table.len(),
+            state_table.as_ptr(),
+            state_table.len(),
             nodes.as_ptr(),
             nodes.len(),
             labels.as_ptr(),
@@ -158,7 +158,7 @@ pub fn steps(one: &One, (nodes, labels): &List, count: u32) -> Steps {
 
 /// A whole question on a loaded session.
 pub fn question(one: &One, (nodes, labels): &List) -> Question {
-    let (case, numbers, bytes) = (&one.case, &one.numbers, &one.bytes);
+    let (case, node_table, state_table) = (&one.case, &one.node_table, &one.state_table);
     // SAFETY: each pointer comes with its own slice's length
     unsafe {
         probe_question(
@@ -169,10 +169,10 @@ pub fn question(one: &One, (nodes, labels): &List) -> Question {
             case.plan.len(),
             case.rules.as_ptr(),
             case.rules.len(),
-            numbers.as_ptr(),
-            numbers.len(),
-            bytes.as_ptr(),
-            bytes.len(),
+            node_table.as_ptr(),
+            node_table.len(),
+            state_table.as_ptr(),
+            state_table.len(),
             nodes.as_ptr(),
             nodes.len(),
             labels.as_ptr(),

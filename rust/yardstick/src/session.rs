@@ -25,9 +25,15 @@ fn made_in(record: &[u8], phases: &[u8]) -> Result<Head, u32> {
     }
 }
 
-pub fn load(record: &mut [u8], plan: &[u8], rules: &[u8], numbers: &mut [u16], bytes: &mut [u8]) -> Result<(), u32> {
+pub fn load(
+    record: &mut [u8],
+    plan: &[u8],
+    rules: &[u8],
+    node_table: &mut [u16],
+    state_table: &mut [u8],
+) -> Result<(), u32> {
     made_in(record, &[record::EMPTY, LOADED, ANSWERED])?;
-    build(plan, rules, numbers, bytes)?;
+    build(plan, rules, node_table, state_table)?;
     record.fill(0);
     record[0] = LOADED;
     record[2] = number(rules, 0) as u8;
@@ -40,13 +46,13 @@ pub fn start(
     record: &mut [u8],
     plan: &[u8],
     rules: &[u8],
-    numbers: &[u16],
-    bytes: &[u8],
+    node_table: &[u16],
+    state_table: &[u8],
     nodes: &[u16],
     labels: &[u8],
 ) -> Result<u32, u32> {
     let head = made_in(record, &[LOADED, ANSWERED])?;
-    let lent = Lent::new((head.n, head.s, head.k), plan, rules, numbers, bytes)?;
+    let lent = Lent::new((head.n, head.s, head.k), plan, rules, node_table, state_table)?;
     list(nodes, labels, head.n, head.k)?;
     let roots = lent.roots(nodes)?;
     let roots = roots.as_slice();
@@ -68,9 +74,15 @@ fn put_words(bytes: &mut [u8], words: &[u16]) {
 }
 
 /// Whether that was the last part.
-pub fn advance(record: &mut [u8], plan: &[u8], rules: &[u8], numbers: &[u16], bytes: &[u8]) -> Result<bool, u32> {
+pub fn advance(
+    record: &mut [u8],
+    plan: &[u8],
+    rules: &[u8],
+    node_table: &[u16],
+    state_table: &[u8],
+) -> Result<bool, u32> {
     let head = made_in(record, &[RUNNING])?;
-    let lent = Lent::new((head.n, head.s, head.k), plan, rules, numbers, bytes)?;
+    let lent = Lent::new((head.n, head.s, head.k), plan, rules, node_table, state_table)?;
     let v = word(record, ROOTS + 2 * head.handled) as usize;
     let listed = (0..head.m).rev().find(|&i| word(record, NODES + 2 * i) as usize == v);
     let a = listed.map_or(lent.labels[v], |i| record[LABELS + i]) as usize;

@@ -28,8 +28,8 @@ pub struct Session {
 pub struct Lends<'a> {
     pub plan: &'a [u8],
     pub rules: &'a [u8],
-    pub numbers: &'a [u16],
-    pub bytes: &'a [u8],
+    pub node_table: &'a [u16],
+    pub state_table: &'a [u8],
 }
 
 impl Session {
@@ -54,7 +54,7 @@ impl Session {
 
     fn lent<'a>(&self, lends: &Lends<'a>) -> Result<Lent<'a>, u32> {
         let sizes = (self.n as usize, self.s as usize, self.k as usize);
-        Lent::new(sizes, lends.plan, lends.rules, lends.numbers, lends.bytes)
+        Lent::new(sizes, lends.plan, lends.rules, lends.node_table, lends.state_table)
     }
 
     /// The number of parts.

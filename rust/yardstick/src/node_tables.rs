@@ -7,9 +7,9 @@ pub const SIZE: usize = 3;
 
 /// In post-order the right child of inner node v is v - 1, and the left one ends where the right one begins.
 #[inline]
-pub fn children(numbers: &[u16], v: usize) -> (usize, usize) {
+pub fn children(node_table: &[u16], v: usize) -> (usize, usize) {
     let right = v - 1;
-    (right - numbers[4 * right + SIZE] as usize, right)
+    (right - node_table[4 * right + SIZE] as usize, right)
 }
 
 /// A node's jump and depth by its parent p, and whether the jump is far: jump, depth, the parent's jump if far.
@@ -20,10 +20,10 @@ pub struct Jump {
 }
 
 #[inline]
-pub fn jump(numbers: &[u16], p: usize) -> Jump {
-    let j = numbers[4 * p + JUMP] as usize;
-    let jj = numbers[4 * j + JUMP] as usize;
-    let (dp, dj, djj) = (numbers[4 * p + DEPTH], numbers[4 * j + DEPTH], numbers[4 * jj + DEPTH]);
+pub fn jump(node_table: &[u16], p: usize) -> Jump {
+    let j = node_table[4 * p + JUMP] as usize;
+    let jj = node_table[4 * j + JUMP] as usize;
+    let (dp, dj, djj) = (node_table[4 * p + DEPTH], node_table[4 * j + DEPTH], node_table[4 * jj + DEPTH]);
     if dp - dj == dj - djj {
         Jump { to: jj as u16, depth: dp + 1, over: Some(j) }
     } else {

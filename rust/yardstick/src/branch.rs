@@ -1,48 +1,48 @@
 //! Build and full check of branch tables, and the branch question.
 
 use crate::checks::{self, number, Branch, Plan};
-use crate::links::{self, DEPTH, JUMP, PARENT, SIZE};
+use crate::node_tables::{self, DEPTH, JUMP, PARENT, SIZE};
 
-pub fn branch_build(plan: &[u8], branch: &[u8], numbers: &mut [u16], bytes: &mut [u8]) -> Result<(), u32> {
+pub fn branch_build(plan: &[u8], branch: &[u8], node_table: &mut [u16], state_table: &mut [u8]) -> Result<(), u32> {
     let plan = checks::plan(plan)?;
     let branch = checks::branch(branch)?;
     checks::labels(&plan, branch.k)?;
-    checks::buffers(plan.n, branch.s, numbers.len(), bytes.len())?;
+    checks::buffers(plan.n, branch.s, node_table.len(), state_table.len())?;
     let row = branch.s + 1;
-    let (numbers, bytes) = (&mut numbers[..4 * plan.n], &mut bytes[..row * plan.n]);
-    up(&plan, numbers);
+    let (node_table, state_table) = (&mut node_table[..4 * plan.n], &mut state_table[..row * plan.n]);
+    up(&plan, node_table);
     let root = plan.n - 1;
-    numbers[4 * root..4 * root + 3].copy_from_slice(&links::root(plan.n));
-    bytes[row * root] = branch.steps[plan.labels[root] as usize];
+    node_table[4 * root..4 * root + 3].copy_from_slice(&node_tables::root(plan.n));
+    state_table[row * root] = branch.steps[plan.labels[root] as usize];
     for q in 0..branch.s {
-        bytes[row * root + 1 + q] = q as u8;
+        state_table[row * root + 1 + q] = q as u8;
     }
-    down(&plan, &branch, numbers, bytes);
+    down(&plan, &branch, node_table, state_table);
     Ok(())
 }
 
-fn up(plan: &Plan, numbers: &mut [u16]) {
+fn up(plan: &Plan, node_table: &mut [u16]) {
     for v in 0..plan.n {
         if plan.kinds[v] == 0 {
-            numbers[4 * v + SIZE] = 1;
+            node_table[4 * v + SIZE] = 1;
         } else {
-            let (l, r) = links::children(numbers, v);
-            numbers[4 * v + SIZE] = 1 + numbers[4 * l + SIZE] + numbers[4 * r + SIZE];
-            numbers[4 * l + PARENT] = v as u16;
-            numbers[4 * r + PARENT] = v as u16;
+            let (l, r) = node_tables::children(node_table, v);
+            node_table[4 * v + SIZE] = 1 + node_table[4 * l + SIZE] + node_table[4 * r + SIZE];
+            node_table[4 * l + PARENT] = v as u16;
+            node_table[4 * r + PARENT] = v as u16;
         }
     }
 }
 
-fn down(plan: &Plan, branch: &Branch, numbers: &mut [u16], bytes: &mut [u8]) {
+fn down(plan: &Plan, branch: &Branch, node_table: &mut [u16], state_table: &mut [u8]) {
     let row = branch.s + 1;
     for v in (0..plan.n - 1).rev() {
-        let p = numbers[4 * v + PARENT] as usize;
-        let jump = links::jump(numbers, p);
-        numbers[4 * v + JUMP] = jump.to;
-        numbers[4 * v + DEPTH] = jump.depth;
+        let p = node_table[4 * v + PARENT] as usize;
+        let jump = node_tables::jump(node_table, p);
+        node_table[4 * v + JUMP] = jump.to;
+        node_table[4 * v + DEPTH] = jump.depth;
         let steps = &branch.steps[plan.labels[v] as usize..];
-        let (low, high) = bytes.split_at_mut(row * p);
+        let (low, high) = state_table.split_at_mut(row * p);
         low[row * v] = steps[high[0] as usize * branch.k];
         let map = &mut low[row * v + 1..row * v + row];
         match jump.over {
@@ -62,54 +62,57 @@ fn down(plan: &Plan, branch: &Branch, numbers: &mut [u16], bytes: &mut [u8]) {
     }
 }
 
-pub fn branch_check(plan: &[u8], branch: &[u8], numbers: &[u16], bytes: &[u8]) -> Result<bool, u32> {
+pub fn branch_check(plan: &[u8], branch: &[u8], node_table: &[u16], state_table: &[u8]) -> Result<bool, u32> {
     let plan = checks::plan(plan)?;
     let branch = checks::branch(branch)?;
     checks::labels(&plan, branch.k)?;
-    checks::buffers(plan.n, branch.s, numbers.len(), bytes.len())?;
+    checks::buffers(plan.n, branch.s, node_table.len(), state_table.len())?;
     let row = branch.s + 1;
-    let (numbers, bytes) = (&numbers[..4 * plan.n], &bytes[..row * plan.n]);
-    Ok(checked_up(&plan, numbers) && checked_down(&plan, &branch, numbers, bytes))
+    let (node_table, state_table) = (&node_table[..4 * plan.n], &state_table[..row * plan.n]);
+    Ok(checked_up(&plan, node_table) && checked_down(&plan, &branch, node_table, state_table))
 }
 
-fn checked_up(plan: &Plan, numbers: &[u16]) -> bool {
+fn checked_up(plan: &Plan, node_table: &[u16]) -> bool {
     for v in 0..plan.n {
         let mut size = 1;
         if plan.kinds[v] != 0 {
-            let (l, r) = links::children(numbers, v);
-            if numbers[4 * l + PARENT] as usize != v || numbers[4 * r + PARENT] as usize != v {
+            let (l, r) = node_tables::children(node_table, v);
+            if node_table[4 * l + PARENT] as usize != v || node_table[4 * r + PARENT] as usize != v {
                 return false;
             }
-            size += numbers[4 * l + SIZE] + numbers[4 * r + SIZE];
+            size += node_table[4 * l + SIZE] + node_table[4 * r + SIZE];
         }
-        if numbers[4 * v + SIZE] != size {
+        if node_table[4 * v + SIZE] != size {
             return false;
         }
     }
     true
 }
 
-fn checked_down(plan: &Plan, branch: &Branch, numbers: &[u16], bytes: &[u8]) -> bool {
+fn checked_down(plan: &Plan, branch: &Branch, node_table: &[u16], state_table: &[u8]) -> bool {
     let row = branch.s + 1;
     let root = plan.n - 1;
-    if numbers[4 * root..4 * root + 3] != links::root(plan.n)
-        || bytes[row * root] != branch.steps[plan.labels[root] as usize]
-        || (0..branch.s).any(|q| bytes[row * root + 1 + q] != q as u8)
+    if node_table[4 * root..4 * root + 3] != node_tables::root(plan.n)
+        || state_table[row * root] != branch.steps[plan.labels[root] as usize]
+        || (0..branch.s).any(|q| state_table[row * root + 1 + q] != q as u8)
     {
         return false;
     }
     for v in (0..root).rev() {
-        let p = numbers[4 * v + PARENT] as usize;
-        let jump = links::jump(numbers, p);
-        let state = branch.steps[bytes[row * p] as usize * branch.k + plan.labels[v] as usize];
-        if numbers[4 * v + JUMP] != jump.to || numbers[4 * v + DEPTH] != jump.depth || bytes[row * v] != state {
+        let p = node_table[4 * v + PARENT] as usize;
+        let jump = node_tables::jump(node_table, p);
+        let state = branch.steps[state_table[row * p] as usize * branch.k + plan.labels[v] as usize];
+        if node_table[4 * v + JUMP] != jump.to
+            || node_table[4 * v + DEPTH] != jump.depth
+            || state_table[row * v] != state
+        {
             return false;
         }
         let steps = &branch.steps[plan.labels[v] as usize..];
-        let map = &bytes[row * v + 1..row * v + row];
+        let map = &state_table[row * v + 1..row * v + row];
         let same = match jump.over {
             Some(j) => {
-                let (of_p, of_j) = (&bytes[row * p + 1..row * p + row], &bytes[row * j + 1..row * j + row]);
+                let (of_p, of_j) = (&state_table[row * p + 1..row * p + row], &state_table[row * j + 1..row * j + row]);
                 map.iter().zip(of_j).all(|(to, &at_j)| *to == steps[of_p[at_j as usize] as usize * branch.k])
             }
             None => map.iter().enumerate().all(|(q, to)| *to == steps[q * branch.k]),
@@ -129,7 +132,7 @@ pub struct Told {
 }
 
 /// 17: the parts of the lent bytes by the headers' N, S and K.
-fn lent<'a>(plan: &'a [u8], branch: &'a [u8], numbers: usize, bytes: usize) -> Option<(&'a [u8], Branch<'a>)> {
+fn lent<'a>(plan: &'a [u8], branch: &'a [u8], node_table: usize, state_table: usize) -> Option<(&'a [u8], Branch<'a>)> {
     if plan.len() < 12 || branch.len() < 16 {
         return None;
     }
@@ -137,7 +140,7 @@ fn lent<'a>(plan: &'a [u8], branch: &'a [u8], numbers: usize, bytes: usize) -> O
     if !(1..=65_535).contains(&n) || !(1..=16).contains(&s) || !(1..=64).contains(&k) {
         return None;
     }
-    if plan.len() != 12 + 2 * n || branch.len() != 16 + s * k + s || numbers < 4 * n || bytes < (s + 1) * n {
+    if plan.len() != 12 + 2 * n || branch.len() != 16 + s * k + s || node_table < 4 * n || state_table < (s + 1) * n {
         return None;
     }
     let (steps, marks) = branch[16..].split_at(s * k);
@@ -145,33 +148,40 @@ fn lent<'a>(plan: &'a [u8], branch: &'a [u8], numbers: usize, bytes: usize) -> O
 }
 
 /// The branch question. The map carried goes from the node climbed to down to `lower`; each move is put before it.
-pub fn ask(plan: &[u8], branch: &[u8], numbers: &[u16], bytes: &[u8], upper: u32, lower: u32) -> Result<Told, u32> {
-    let (labels, branch) = lent(plan, branch, numbers.len(), bytes.len()).ok_or(17u32)?;
+pub fn ask(
+    plan: &[u8],
+    branch: &[u8],
+    node_table: &[u16],
+    state_table: &[u8],
+    upper: u32,
+    lower: u32,
+) -> Result<Told, u32> {
+    let (labels, branch) = lent(plan, branch, node_table.len(), state_table.len()).ok_or(17u32)?;
     let (n, s, k, row) = (labels.len(), branch.s, branch.k, branch.s + 1);
     let (upper, lower) = (upper as usize, lower as usize);
     if upper >= n || lower >= n {
         return Err(13);
     }
-    if lower > upper || upper >= lower + numbers[4 * upper + SIZE] as usize {
+    if lower > upper || upper >= lower + node_table[4 * upper + SIZE] as usize {
         return Err(16);
     }
-    let depth = |v: usize| numbers[4 * v + DEPTH];
+    let depth = |v: usize| node_table[4 * v + DEPTH];
     let top = depth(upper);
     let mut carried: [u8; 16] = std::array::from_fn(|q| q as u8);
     let (mut v, mut links) = (lower, 0);
     while depth(v) > top {
-        let jump = numbers[4 * v + JUMP] as usize;
+        let jump = node_table[4 * v + JUMP] as usize;
         if jump >= n {
             return Err(18);
         }
         let by_jump = depth(jump) >= top;
-        let next = if by_jump { jump } else { numbers[4 * v + PARENT] as usize };
+        let next = if by_jump { jump } else { node_table[4 * v + PARENT] as usize };
         if next >= n || depth(next) >= depth(v) {
             return Err(18);
         }
         let before = carried;
         if by_jump {
-            for (to, &q) in carried[..s].iter_mut().zip(&bytes[row * v + 1..row * v + row]) {
+            for (to, &q) in carried[..s].iter_mut().zip(&state_table[row * v + 1..row * v + row]) {
                 *to = *before[..s].get(q as usize).ok_or(18u32)?;
             }
         } else {

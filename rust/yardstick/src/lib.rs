@@ -1,6 +1,6 @@
 //! The what-if checker as one would write it in plain fast Rust: the yardstick of the bench.
 //!
-//! Order: `checks` (2 to 11 and the parts of the lent bytes), `links` (the 16-bit numbers), `rules` and `branch` (the
+//! Order: `checks` (2 to 11 and the parts of the lent bytes), `node_tables` (parents, jumps, depths, sizes), `rules` and `branch` (the
 //! bytes, full checks, branch questions), `fresh`; `record` (the session's bytes), `question` (roots and parts),
 //! `layers` (both alone), `session` (the five calls on bytes), `place` (the session as a struct). Each call gives the
 //! same answers as the library's; the comparison tests hold it to the reference implementation as well.
@@ -10,7 +10,7 @@ mod branch;
 mod checks;
 mod fresh;
 pub mod layers;
-mod links;
+mod node_tables;
 pub mod place;
 mod question;
 mod record;

@@ -3,13 +3,13 @@
 use crate::question::Lent;
 
 /// How many roots there are, and the roots with zeros behind them; 0 and zeros where they are refused.
-pub fn roots(n: usize, numbers: &[u16], nodes: &[u16], out: &mut [u16; 254]) -> usize {
+pub fn roots(n: usize, node_table: &[u16], nodes: &[u16], out: &mut [u16; 254]) -> usize {
     out.fill(0);
-    let fits = (1..=65_535).contains(&n) && numbers.len() >= 4 * n && nodes.len() <= 64;
+    let fits = (1..=65_535).contains(&n) && node_table.len() >= 4 * n && nodes.len() <= 64;
     if !fits || nodes.iter().any(|&v| v as usize >= n) {
         return 0;
     }
-    let found = match Lent::numbers_only(n, &numbers[..4 * n]).roots(nodes) {
+    let found = match Lent::node_table_only(n, &node_table[..4 * n]).roots(nodes) {
         Ok(found) => found,
         Err(_) => return 0,
     };
@@ -27,8 +27,8 @@ pub fn part(
     (n, s, k): Sizes,
     plan: &[u8],
     rules: &[u8],
-    numbers: &[u16],
-    bytes: &[u8],
+    node_table: &[u16],
+    state_table: &[u8],
     roots: &[u16],
     states: &[u8],
     nodes: &[u16],
@@ -37,7 +37,7 @@ pub fn part(
     if !(1..=65_535).contains(&n) || !(1..=16).contains(&s) || !(1..=64).contains(&k) || nodes.len() != labels.len() {
         return None;
     }
-    let lent = Lent::new((n, s, k), plan, rules, numbers, bytes).ok()?;
+    let lent = Lent::new((n, s, k), plan, rules, node_table, state_table).ok()?;
     let v = *roots.get(states.len())? as usize;
     if v >= n {
         return None;

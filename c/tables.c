@@ -1,6 +1,6 @@
 /*
  * The sample of document 01 through the C functions: plan A, table A, its nine questions as fresh runs, a branch table,
- * and one refusal of each function. What it prints is held to sample.expected.
+ * and one refusal of each function. What it prints is held to tables.expected.
  */
 #include "sample.h"
 
@@ -9,14 +9,21 @@
 
 #define NODES SAMPLE_NODES
 
-static uint16_t node_table[WHATIF_NODE_TABLE_LEN(NODES) + 1];
-static uint8_t state_table[WHATIF_STATE_TABLE_LEN(NODES, SAMPLE_BRANCH_STATES) + 1];
+/* One element more than the tables need, which no call may touch. */
+#define NODE_TABLE_LEN (WHATIF_NODE_TABLE_LEN(NODES) + 1)
+#define STATE_TABLE_LEN (WHATIF_STATE_TABLE_LEN(NODES, SAMPLE_STATES) + 1)
+#define BRANCH_TABLE_LEN (WHATIF_STATE_TABLE_LEN(NODES, SAMPLE_BRANCH_STATES) + 1)
+static uint16_t node_table[NODE_TABLE_LEN];
+static uint8_t state_table[BRANCH_TABLE_LEN];
+/* What is lent, as each call takes it. */
+#define RULES_LENT plan, sizeof plan, rules, sizeof rules, node_table, NODE_TABLE_LEN, state_table, STATE_TABLE_LEN
+#define BRANCH_LENT plan, sizeof plan, branch, sizeof branch, node_table, NODE_TABLE_LEN, state_table, BRANCH_TABLE_LEN
 
 static const char *word(uint32_t yes) { return yes ? "yes" : "no"; }
 
 /* Both tables, and whether the number and the byte after them are still the 77 that they held. */
 static void print_tables(size_t states) {
-    size_t numbers = WHATIF_NODE_TABLE_LEN(NODES), bytes = WHATIF_STATE_TABLE_LEN(NODES, states);
+    size_t after_nodes = WHATIF_NODE_TABLE_LEN(NODES), after_states = WHATIF_STATE_TABLE_LEN(NODES, states);
     for (size_t v = 0; v < NODES; v++) {
         const uint16_t *n = node_table + 4 * v;
         printf("node %zu: parent %u jump %u depth %u size %u, state", v, n[0], n[1], n[2], n[3]);
@@ -24,7 +31,7 @@ static void print_tables(size_t states) {
             printf("%s %u", i == 1 ? ", map" : "", state_table[(states + 1) * v + i]);
         printf("\n");
     }
-    printf("excess %s\n", node_table[numbers] == 77 && state_table[bytes] == 77 ? "kept" : "WRITTEN");
+    printf("excess %s\n", node_table[after_nodes] == 77 && state_table[after_states] == 77 ? "kept" : "WRITTEN");
 }
 
 static void clear_tables(void) {
@@ -36,12 +43,12 @@ static void clear_tables(void) {
 static void rule_tables(void) {
     uint32_t yes = 9;
     clear_tables();
-    printf("build %u\n", whatif_build(plan, sizeof plan, rules, sizeof rules, node_table, 29, state_table, 22));
+    printf("build %u\n", whatif_build(RULES_LENT));
     print_tables(SAMPLE_STATES);
-    uint32_t answer = whatif_check(plan, sizeof plan, rules, sizeof rules, node_table, 29, state_table, 22, &yes);
+    uint32_t answer = whatif_check(RULES_LENT, &yes);
     printf("check %u %s\n", answer, word(yes));
-    state_table[20] ^= 1;
-    answer = whatif_check(plan, sizeof plan, rules, sizeof rules, node_table, 29, state_table, 22, &yes);
+    state_table[STATE_TABLE_LEN - 2] ^= 1;
+    answer = whatif_check(RULES_LENT, &yes);
     printf("check with the last byte changed %u %s\n", answer, word(yes));
 }
 
@@ -57,8 +64,7 @@ static void fresh_run(const struct question *q) {
 
 static void ask(uint32_t upper, uint32_t lower) {
     uint32_t state = 9, yes = 9, links = 9;
-    uint32_t answer = whatif_branch(plan, sizeof plan, branch, sizeof branch, node_table, 29, state_table, 29, upper,
-                                    lower, &state, &yes, &links);
+    uint32_t answer = whatif_branch(BRANCH_LENT, upper, lower, &state, &yes, &links);
     printf("from %u to %u: ", upper, lower);
     if (answer == WHATIF_ACCEPTED)
         printf("%u %s %u\n", state, word(yes), links);
@@ -69,11 +75,9 @@ static void ask(uint32_t upper, uint32_t lower) {
 static void branch_tables(void) {
     uint32_t yes = 9;
     clear_tables();
-    printf("branch build %u\n",
-           whatif_branch_build(plan, sizeof plan, branch, sizeof branch, node_table, 29, state_table, 29));
+    printf("branch build %u\n", whatif_branch_build(BRANCH_LENT));
     print_tables(SAMPLE_BRANCH_STATES);
-    uint32_t answer =
-        whatif_branch_check(plan, sizeof plan, branch, sizeof branch, node_table, 29, state_table, 29, &yes);
+    uint32_t answer = whatif_branch_check(BRANCH_LENT, &yes);
     printf("branch check %u %s\n", answer, word(yes));
     ask(6, 3);
     ask(6, 0);
@@ -89,10 +93,14 @@ static void branch_tables(void) {
 static void refusals(void) {
     uint32_t yes = 9;
     clear_tables();
-    printf("build %u\n", whatif_build(plan, 11, rules, sizeof rules, node_table, 29, state_table, 22));
-    printf("check %u\n", whatif_check(plan, 25, rules, sizeof rules, node_table, 29, state_table, 22, &yes));
-    printf("branch build %u\n", whatif_branch_build(plan, 26, branch, 25, node_table, 27, state_table, 29));
-    printf("branch check %u\n", whatif_branch_check(plan, 26, branch, 15, node_table, 29, state_table, 29, &yes));
+    printf("build %u\n",
+           whatif_build(plan, 11, rules, sizeof rules, node_table, NODE_TABLE_LEN, state_table, STATE_TABLE_LEN));
+    printf("check %u\n", whatif_check(plan, sizeof plan - 1, rules, sizeof rules, node_table, NODE_TABLE_LEN,
+                                      state_table, STATE_TABLE_LEN, &yes));
+    printf("branch build %u\n", whatif_branch_build(plan, sizeof plan, branch, sizeof branch, node_table,
+                                                    NODE_TABLE_LEN - 2, state_table, BRANCH_TABLE_LEN));
+    printf("branch check %u\n", whatif_branch_check(plan, sizeof plan, branch, 15, node_table, NODE_TABLE_LEN,
+                                                    state_table, BRANCH_TABLE_LEN, &yes));
     printf("no plan %u\n", whatif_build(NULL, 0, NULL, 0, NULL, 0, NULL, 0));
     int kept = yes == 9;
     for (size_t i = 0; i < sizeof node_table / sizeof *node_table; i++)
@@ -103,7 +111,8 @@ static void refusals(void) {
 }
 
 int main(void) {
-    printf("version %s\n", WHATIF_VERSION);
+    printf("version %s, archive %s\n", WHATIF_VERSION,
+           whatif_version() == WHATIF_VERSION_NUMBER ? "the same" : "ANOTHER");
     printf("bytes of plan %zu, rules %zu, branch table %zu\n", sizeof plan, sizeof rules, sizeof branch);
     printf("by the macros %zu %zu %zu, largest rules %zu\n", WHATIF_PLAN_BYTES(NODES), WHATIF_RULES_BYTES(SAMPLE_STATES, 2),
            WHATIF_BRANCH_BYTES(SAMPLE_BRANCH_STATES, 2), WHATIF_RULES_BYTES(WHATIF_MAX_STATES, WHATIF_MAX_LABELS));

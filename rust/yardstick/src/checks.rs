@@ -101,8 +101,8 @@ pub fn labels(plan: &Plan, k: usize) -> Result<(), u32> {
     Ok(())
 }
 
-pub fn buffers(n: usize, s: usize, numbers: usize, bytes: usize) -> Result<(), u32> {
-    if numbers < 4 * n || bytes < (s + 1) * n {
+pub fn buffers(n: usize, s: usize, node_table: usize, state_table: usize) -> Result<(), u32> {
+    if node_table < 4 * n || state_table < (s + 1) * n {
         return Err(11);
     }
     Ok(())
