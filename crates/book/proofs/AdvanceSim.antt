@@ -25,8 +25,8 @@ use Rattle.questions.specs.Astray.{Astray}
 use Rattle.questions.proofs.PartAstray.{part-astray}
 use Rattle.trees.proofs.MoveLaws.{none-some}
 use Rattle.ready.proofs.PartsRun.{nodes-more}
-use Rattle.book.specs.Lends.{Lent, Sizes, fits, sameLinks, sameLent, linksBuilt}
-use Rattle.book.specs.Lends.{bytesBelow}
+use Rattle.formats.specs.Inputs.{Inputs, Sizes, fits, sameNodeInputs, sameInputs, nodeTableBuilt}
+use Rattle.formats.specs.Inputs.{statesBelow}
 use Rattle.book.specs.Calls.{advance, more, finished, Phase, isRunning}
 use Rattle.book.specs.Refusals.{refusal}
 use Rattle.book.specs.Book.{Standing, clean, firm, loose, Question, State, settled, phase, inState}
@@ -37,7 +37,8 @@ use Rattle.book.specs.Model.{Record, acted, viewBy, marksBy, stepped, ad
 use Rattle.book.proofs.Facts.{reachedBy, nextRoot, Layers}
 use Rattle.book.proofs.TrailLaws.{length-states, states-more, length-more, last-more, links-more}
 use Rattle.book.proofs.TrailLaws.{below-more, from-more}
-use Rattle.book.proofs.LendLaws.{Built, Same, links-built, same-links, lent-links, same-bytes, marks-built}
+use Rattle.formats.proofs.InputsLaws.{Built, Same, node-table-built, same-node-inputs, same-inputs-nodes, same-state-table}
+use Rattle.book.proofs.ModelLaws.{marks-built}
 use Rattle.book.proofs.FreshLaws.{part-state, given-same, sound-below}
 use Rattle.book.proofs.PartStates.{part-on-below}
 use Rattle.book.proofs.CauseLaws.{advance-cause}
@@ -45,7 +46,7 @@ use Rattle.book.proofs.Relation.{Parted, Counted, Cleanly, SomeParted, 
 use Rattle.book.proofs.Relation.{Asking, Rel}
 use Rattle.book.proofs.Simulation.{Sim, book, Simulates, some-number, by-refusal, does}
 
-pub advance-fits : (p : Phase) (z : Sizes) (x : Lent) → refusal p z (advance x) ≡ 0 → fits z x ≡ true
+pub advance-fits : (p : Phase) (z : Sizes) (x : Inputs) → refusal p z (advance x) ≡ 0 → fits z x ≡ true
 unfolding refusal
 advance-fits p z x e =
     firstNo-head 17 (fits z x) [] (omega arith)
@@ -53,39 +54,39 @@ advance-fits p z x e =
 
 -- ---- other bytes
 
-module _ (z : Sizes) (q : Question) (x : Lent) where
-  pub other-built : otherBytes z q x ≡ true → linksBuilt z (q .lent) ≡ true
+module _ (z : Sizes) (q : Question) (x : Inputs) where
+  pub other-built : otherBytes z q x ≡ true → nodeTableBuilt z (q .lent) ≡ true
   unfolding otherBytes
-  other-built e = and-left (linksBuilt z (q .lent)) (sameLinks z (q .lent) x && bytesBelow z x) e
+  other-built e = and-left (nodeTableBuilt z (q .lent)) (sameNodeInputs z (q .lent) x && statesBelow z x) e
 
-  pub other-same : otherBytes z q x ≡ true → sameLinks z (q .lent) x ≡ true
+  pub other-same : otherBytes z q x ≡ true → sameNodeInputs z (q .lent) x ≡ true
   unfolding otherBytes
-  other-same e = and-left (sameLinks z (q .lent) x) (bytesBelow z x)
-      (and-right (linksBuilt z (q .lent)) (sameLinks z (q .lent) x && bytesBelow z x) e)
+  other-same e = and-left (sameNodeInputs z (q .lent) x) (statesBelow z x)
+      (and-right (nodeTableBuilt z (q .lent)) (sameNodeInputs z (q .lent) x && statesBelow z x) e)
 
-  pub other-below : otherBytes z q x ≡ true → bytesBelow z x ≡ true
+  pub other-below : otherBytes z q x ≡ true → statesBelow z x ≡ true
   unfolding otherBytes
-  other-below e = and-right (sameLinks z (q .lent) x) (bytesBelow z x)
-      (and-right (linksBuilt z (q .lent)) (sameLinks z (q .lent) x && bytesBelow z x) e)
+  other-below e = and-right (sameNodeInputs z (q .lent) x) (statesBelow z x)
+      (and-right (nodeTableBuilt z (q .lent)) (sameNodeInputs z (q .lent) x && statesBelow z x) e)
 
-  pub is-other : linksBuilt z (q .lent) ≡ true → sameLinks z (q .lent) x ≡ true → bytesBelow z x ≡ true
+  pub is-other : nodeTableBuilt z (q .lent) ≡ true → sameNodeInputs z (q .lent) x ≡ true → statesBelow z x ≡ true
       → otherBytes z q x ≡ true
   unfolding otherBytes
   is-other a b c =
-      and-both (linksBuilt z (q .lent)) (sameLinks z (q .lent) x && bytesBelow z x) a
-      (and-both (sameLinks z (q .lent) x) (bytesBelow z x) b c)
+      and-both (nodeTableBuilt z (q .lent)) (sameNodeInputs z (q .lent) x && statesBelow z x) a
+      (and-both (sameNodeInputs z (q .lent) x) (statesBelow z x) b c)
 
 -- ---- the next part
 
 -- the part that an advance works out, by what it reads
-abbrev partAt : Sizes → Lent → List ℕ → List ℕ → List ℕ → List ℕ → Option Reached
+abbrev partAt : Sizes → Inputs → List ℕ → List ℕ → List ℕ → List ℕ → Option Reached
 partAt z x rs ss vs bs = partOn (viewBy z x) (take (length ss) rs) ss vs bs (getD rs (length ss) 0)
 
-part-same : (y z : Sizes) (x : Lent) (rs rs′ ss ss′ vs vs′ bs bs′ : List ℕ) → y ≡ z → rs ≡ rs′ → ss ≡ ss′
+part-same : (y z : Sizes) (x : Inputs) (rs rs′ ss ss′ vs vs′ bs bs′ : List ℕ) → y ≡ z → rs ≡ rs′ → ss ≡ ss′
     → vs ≡ vs′ → bs ≡ bs′ → partAt y x rs ss vs bs ≡ partAt z x rs′ ss′ vs′ bs′
 part-same y z x rs rs′ ss ss′ vs vs′ bs bs′ e f g h i = rw (e, f, g, h, i)
 
-module _ (r : Record) (z : Sizes) (q : Question) (x : Lent) (sizes : r .sizes ≡ z) where
+module _ (r : Record) (z : Sizes) (q : Question) (x : Inputs) (sizes : r .sizes ≡ z) where
   -- the part that the rule of document 01 gives after ps, on the bytes lent
   abbrev ruled : List Part → Part
   ruled ps = partOf (givenBy z q x) (rootsOf q) ps (nextRoot q ps)
@@ -140,7 +141,7 @@ parted-more r z q ps p l y b f m k tr = record {
 
 -- ---- one advance
 
-module _ (L : Layers) (r : Record) (z : Sizes) (q : Question) (x : Lent) (i : Rel r (book (State.running q) z))
+module _ (L : Layers) (r : Record) (z : Sizes) (q : Question) (x : Inputs) (i : Rel r (book (State.running q) z))
     (room : fits z x ≡ true) where
   abbrev rule : Part
   rule = ruled r z q x (i .sizes) (q .trail)
@@ -156,7 +157,7 @@ module _ (L : Layers) (r : Record) (z : Sizes) (q : Question) (x : Lent) (i : Re
     built = c .built;
     parted =
         parted-more r z q (q .trail) (c .parted) l (reachedBy rule)
-        (part-state z q (links-built z (q .lent) (c .built)) x (q .trail) (nextRoot q (q .trail)))
+        (part-state z q (node-table-built z (q .lent) (c .built)) x (q .trail) (nextRoot q (q .trail)))
         f m k (longer z q x);
     links = ap (λ (n : ℕ). n + rule .links) (c .links) ∙ sym (links-more (q .trail) rule);
     count = ap suc (c .count) ∙ sym (length-more (q .trail) rule);
@@ -165,7 +166,7 @@ module _ (L : Layers) (r : Record) (z : Sizes) (q : Question) (x : Lent) (i : Re
   -- a part is left unless this was the last
   unended-next : (y : Reached) (f : Phase) (m : Bool) (k : Standing) (tr : List Part)
       → eqb (suc (length (r .states))) (length (r .roots)) ≡ false
-      → (linksBuilt z (q .lent) ≡ true → r .roots ≡ rootsOf q) → Unended (stepped r f y m) z (advanced q k tr)
+      → (nodeTableBuilt z (q .lent) ≡ true → r .roots ≡ rootsOf q) → Unended (stepped r f y m) z (advanced q k tr)
   unfolding stepped advanced
   unended-next y f m k tr e roots h =
       let n : suc (length (r .states)) ≡ length (r .roots)
@@ -227,8 +228,8 @@ module _ (L : Layers) (r : Record) (z : Sizes) (q : Question) (x : Lent) (i : Re
 
       marked : Marked (stepped r Phase.answered (reachedBy rule) yes) (onward k)
       marked =
-          let same : Same z (q .lent) x = same-links z (q .lent) x (other-same z q x o) in
-          let B : Built z (q .lent) = links-built z (q .lent) (c .built) in
+          let same : Same z (q .lent) x = same-node-inputs z (q .lent) x (other-same z q x o) in
+          let B : Built z (q .lent) = node-table-built z (q .lent) (c .built) in
           ap (λ (w : List ℕ). eqb (getD w (rule .state) 0) 1)
           (ap (λ (y : Sizes). marksBy y x) (i .sizes) ∙ marks-built z (q .lent) x B (same .rules))
           ∙ ap (ruleAutomaton (q .lent .rules) .accepting) (sym (last-more (q .trail) rule 0))
@@ -264,7 +265,7 @@ module _ (L : Layers) (r : Record) (z : Sizes) (q : Question) (x : Lent) (i : Re
           asks = (
             i .asks .0,
             asking-next (reachedBy rule)
-                (part-state z q (links-built z (q .lent) (c .built)) x (q .trail) (nextRoot q (q .trail))) h k (longer z q x),
+                (part-state z q (node-table-built z (q .lent) (c .built)) x (q .trail) (nextRoot q (q .trail))) h k (longer z q x),
           );
         },
       )
@@ -276,7 +277,7 @@ module _ (L : Layers) (r : Record) (z : Sizes) (q : Question) (x : Lent) (i : Re
   unfolding loosely advanceWith mayAdvanceWith byAnswer advanced inState phase stepped
   advance-loose some-parted = go (partNext r x) refl
     where
-      unended : (ps : List Part) → Parted r z q ps → linksBuilt z (q .lent) ≡ true → length ps < partCount q
+      unended : (ps : List Part) → Parted r z q ps → nodeTableBuilt z (q .lent) ≡ true → length ps < partCount q
       unended ps p h =
           let b : length (r .states) < partCount q = i .holds .1 h in
           let n : length (r .states) ≡ length ps = ap length (p .states) ∙ length-states ps in
@@ -341,14 +342,14 @@ module _ (L : Layers) (r : Record) (z : Sizes) (q : Question) (x : Lent) (i : Re
       go false o = advance-loose (counted-some c)
 
   -- lent as at Start: the trail goes on with the same bytes
-  cleanly-next : Counted r z q → Cleanly z q → sameLent z (q .lent) x ≡ true → length (q .trail) < partCount q
+  cleanly-next : Counted r z q → Cleanly z q → sameInputs z (q .lent) x ≡ true → length (q .trail) < partCount q
       → Cleanly z (onward clean)
   unfolding advanced longer givenBy
   cleanly-next c k e l = record {
     bytes = k .bytes;
     replayed =
         ap (λ (G : Given). q .trail ++ (partOf G (rootsOf q) (q .trail) v ∷ []))
-        (given-same z q x (q .lent) (sym (same-bytes z (q .lent) x e)))
+        (given-same z q x (q .lent) (sym (same-state-table z (q .lent) x e)))
         ∙ ap (λ (ps : List Part). ps ++ (partOf (givenBy z q (q .lent)) (rootsOf q) ps v ∷ [])) (k .replayed)
         ∙ sym (from-more (givenBy z q (q .lent)) (rootsOf q) [] (take (length (q .trail)) (rootsOf q)) v)
         ∙ ap (partsFrom (givenBy z q (q .lent)) (rootsOf q) [])
@@ -361,8 +362,8 @@ module _ (L : Layers) (r : Record) (z : Sizes) (q : Question) (x : Lent) (i : Re
 
   advance-as : (k : Standing) → Stands r z q k
       → Sim (advancing (book (State.running q) z) x q k) (advanceWith r x (partNext r x))
-  unfolding advancing bytesBelow advanced
-  advance-as clean s = go (sameLent z (q .lent) x) refl
+  unfolding advancing statesBelow advanced
+  advance-as clean s = go (sameInputs z (q .lent) x) refl
     where
       left-over : length (q .trail) < partCount q
       left-over =
@@ -371,20 +372,20 @@ module _ (L : Layers) (r : Record) (z : Sizes) (q : Question) (x : Lent) (i : Re
           ∙ length-states (q .trail) in
           omega (arith, b, n)
 
-      go : (b : Bool) → sameLent z (q .lent) x ≡ b
+      go : (b : Bool) → sameInputs z (q .lent) x ≡ b
           → Sim (cond b (goesOn (book (State.running q) z) (onward clean)) (firmly (book (State.running q) z) x q))
           (advanceWith r x (partNext r x))
       go true e =
-          let low : bytesBelow z x ≡ true =
-          ap (allBelow (z .s)) (sym (same-bytes z (q .lent) x e))
-          ∙ sound-below z q (links-built z (q .lent) (s .0 .built)) (s .1 .bytes) in
-          goes-on clean (s .0) (is-other z q x (s .0 .built) (lent-links z (q .lent) x e) low)
+          let low : statesBelow z x ≡ true =
+          ap (allBelow (z .s)) (sym (same-state-table z (q .lent) x e))
+          ∙ sound-below z q (node-table-built z (q .lent) (s .0 .built)) (s .1 .bytes) in
+          goes-on clean (s .0) (is-other z q x (s .0 .built) (same-inputs-nodes z (q .lent) x e) low)
           (λ y d. (d, cleanly-next (s .0) (s .1) e left-over)) (λ y m n. (m, n))
       go false e = advance-firm (s .0)
   advance-as firm s = advance-firm s
   advance-as loose s = advance-loose s
 
-advance-at : (L : Layers) (r : Record) (s : State) (z : Sizes) (x : Lent) → Rel r (book s z)
+advance-at : (L : Layers) (r : Record) (s : State) (z : Sizes) (x : Inputs) → Rel r (book s z)
     → refusal (phase s) z (advance x) ≡ 0
     → Sim (proceed (book s z) s (advance x)) (proceeds r (advance x))
 unfolding refusal phase firstNo isRunning proceed proceeds
@@ -394,7 +395,7 @@ advance-at L r (State.running q) z x i h =
     advance-as L r z q x i (advance-fits Phase.running z x h) (q .standing) (i .holds .0)
 advance-at L r (State.answered q) z x i h = absurd (some-number h)
 
-pub on-advance : Layers → (x : Lent) → Simulates (advance x)
+pub on-advance : Layers → (x : Inputs) → Simulates (advance x)
 on-advance L x r r′ b a i d =
     does r r′ b (advance x) a d (by-refusal r (b .state) (b .sizes) (advance x) i
     (advance-at L r (b .state) (b .sizes) x i))

@@ -18,7 +18,7 @@ use Rattle.formats.specs.Checks.{firstNo}
 use Rattle.formats.proofs.CheckLaws.{true-false}
 use Rattle.ready.specs.Parts.{Part}
 use Rattle.trees.proofs.MoveLaws.{none-some}
-use Rattle.book.specs.Lends.{Lent, Sizes, sameLent}
+use Rattle.formats.specs.Inputs.{Inputs, Sizes, sameInputs}
 use Rattle.book.specs.Calls.{Call, load, start, advance, cancel, read, Answer, refused, parts, more, finished}
 use Rattle.book.specs.Calls.{told, Phase}
 use Rattle.book.specs.Calls.{mayLoad, mayStart, isRunning, isAnswered}
@@ -74,7 +74,7 @@ module _ (z : Sizes) (q : Question) (c : ℕ) (tr : List Part) where
       go true e = true-false (ap isRefused e)
       go false e = true-false (ap isRefused e)
 
-  other-waits : (x : Lent) (n : ℕ) → Conforms (firmly going x (at q c tr)) (refused n)
+  other-waits : (x : Inputs) (n : ℕ) → Conforms (firmly going x (at q c tr)) (refused n)
       → after (firmly going x (at q c tr)) (refused n) ≡ going
   unfolding firmly loosely byAnswer
   other-waits x n e = go (otherBytes z (at q c tr) x) e
@@ -87,8 +87,8 @@ module _ (z : Sizes) (q : Question) (c : ℕ) (tr : List Part) where
       go true e = absurd (not-on onward n e)
       go false e = refl
 
-  turn-other : (x : Lent) (a : Answer) → sameLent z (q .lent) x ≡ false → Conforms (firmly going x (at q c tr)) a
-      → (isRefused a ≡ false → sameLent z (q .lent) x ≡ true) → Turn a (after (firmly going x (at q c tr)) a)
+  turn-other : (x : Inputs) (a : Answer) → sameInputs z (q .lent) x ≡ false → Conforms (firmly going x (at q c tr)) a
+      → (isRefused a ≡ false → sameInputs z (q .lent) x ≡ true) → Turn a (after (firmly going x (at q c tr)) a)
   turn-other x (refused n) h e f = waits n refl (other-waits x n e)
   turn-other x Answer.accepted h e f = absurd (true-false (sym (f refl) ∙ h))
   turn-other x (parts p) h e f = absurd (true-false (sym (f refl) ∙ h))
@@ -96,11 +96,11 @@ module _ (z : Sizes) (q : Question) (c : ℕ) (tr : List Part) where
   turn-other x finished h e f = absurd (true-false (sym (f refl) ∙ h))
   turn-other x (told s y p m) h e f = absurd (true-false (sym (f refl) ∙ h))
 
-  turn-advance : c < partCount q → (x : Lent) (a : Answer) → Turned (advance x) a
+  turn-advance : c < partCount q → (x : Inputs) (a : Answer) → Turned (advance x) a
   unfolding step decided proceed advancing advanced
   turn-advance l x a e f = go (refusal (phase (State.running (at q c tr))) z (advance x)) e
     where
-      both : (b : Bool) → sameLent z (q .lent) x ≡ b
+      both : (b : Bool) → sameInputs z (q .lent) x ≡ b
           → Conforms (cond b (goesOn going (at q (suc c) (longer z (at q c tr) x))) (firmly going x (at q c tr))) a
           → Turn a (after (cond b (goesOn going (at q (suc c) (longer z (at q c tr) x)))
           (firmly going x (at q c tr))) a)
@@ -108,7 +108,7 @@ module _ (z : Sizes) (q : Question) (c : ℕ) (tr : List Part) where
       both false h e = turn-other x a h e f
 
       go : (n : ℕ) → Conforms (decided n going (advance x)) a → Turn a (after (decided n going (advance x)) a)
-      go zero e = both (sameLent z (q .lent) x) refl e
+      go zero e = both (sameInputs z (q .lent) x) refl e
       go (suc n) e = waits (suc n) e refl
 
   -- one call while the question runs

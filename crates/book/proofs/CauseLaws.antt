@@ -22,7 +22,7 @@ use Rattle.ready.proofs.ListLaws.{or-first, or-second, in-some}
 use Rattle.questions.specs.Climbs.{View}
 use Rattle.questions.specs.Part.{labelOn}
 use Rattle.questions.specs.Astray.{Astray, links, children, run, map, leaf, rule, handled, label, changed}
-use Rattle.book.specs.Lends.{Lent, Sizes, usedNums}
+use Rattle.formats.specs.Inputs.{Inputs, Sizes, usedNodeTable}
 use Rattle.book.specs.Calls.{refused}
 use Rattle.book.specs.Causes.{isChildless, isFlat, strays, isApart, linksCause, nodeCause, rulesCause, cause}
 use Rattle.book.specs.Causes.{startCause, advanceCause}
@@ -166,11 +166,11 @@ module _ (X : View) (vs bs : List ℕ) where
 
 -- ---- what the book allows
 
-pub start-cause : (z : Sizes) (x : Lent) → LinksAstray (z .n) (usedNums z x) → mayStartWith (startCause z x) (refused 18) ≡ true
+pub start-cause : (z : Sizes) (x : Inputs) → LinksAstray (z .n) (usedNodeTable z x) → mayStartWith (startCause z x) (refused 18) ≡ true
 unfolding mayStartWith startCause
-start-cause z x a = links-cause (z .n) (usedNums z x) a
+start-cause z x a = links-cause (z .n) (usedNodeTable z x) a
 
-pub advance-cause : (z : Sizes) (x : Lent) (vs bs qs : List ℕ) (usable : Bool) → not usable ≡ true → allBelow (z .s) qs ≡ true
+pub advance-cause : (z : Sizes) (x : Inputs) (vs bs qs : List ℕ) (usable : Bool) → not usable ≡ true → allBelow (z .s) qs ≡ true
     → Astray (viewBy z x) qs vs bs → mayAdvanceWith usable (advanceCause z x vs bs) (refused 18) ≡ true
 unfolding mayAdvanceWith advanceCause
 advance-cause z x vs bs qs usable n g a = and-both (not usable) _ n (view-cause (viewBy z x) vs bs qs g a)

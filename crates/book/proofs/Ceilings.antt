@@ -30,9 +30,9 @@ use Rattle.ready.proofs.PartsRun.{Members}
 use Rattle.ready.proofs.ListLaws.{list-members}
 use Rattle.questions.specs.Promises.{RootsAre}
 use Rattle.questions.proofs.RootsLaws.{rootsOn-are}
-use Rattle.book.specs.Lends.{Lent, Sizes, usedNums, linksBuilt}
+use Rattle.formats.specs.Inputs.{Inputs, Sizes, usedNodeTable, nodeTableBuilt}
 use Rattle.book.proofs.Facts.{Layers}
-use Rattle.book.proofs.LendLaws.{Built, links-built, plan-of}
+use Rattle.formats.proofs.InputsLaws.{Built, node-table-built, plan-of}
 
 -- ---- links
 
@@ -89,11 +89,11 @@ pub record Few (m p : ℕ) : Type 0 where
   pub one : m ≡ 0 → p ≡ 1
   pub few : 1 ≤ m → p ≤ 4 * m - 2
 
-pub ready-count : Layers → (z : Sizes) (x : Lent) (vs : List ℕ) → linksBuilt z x ≡ true → allBelow (z .n) vs ≡ true
+pub ready-count : Layers → (z : Sizes) (x : Inputs) (vs : List ℕ) → nodeTableBuilt z x ≡ true → allBelow (z .n) vs ≡ true
     → Few (length vs) (length (roots (planTree (x .plan)) vs))
 ready-count L z x vs h b =
-    let B : Built z x = links-built z x h in
+    let B : Built z x = node-table-built z x h in
     let some-node : 0 < z .n = omega (arith, B .n-is, plan-of z x B .least) in
     let R : RootsAre (z .n) (length vs) (roots (planTree (x .plan)) vs) =
-    rootsOn-are (z .n) (usedNums z x) vs (roots (planTree (x .plan)) vs) some-node b (L .roots-built z x vs h b) in
+    rootsOn-are (z .n) (usedNodeTable z x) vs (roots (planTree (x .plan)) vs) some-node b (L .roots-built z x vs h b) in
     record { one = R .one; few = λ l. omega (arith, R .few (omega arith)) }

@@ -10,7 +10,7 @@ use mathlib.Core.List.{List, [], _∷_, _++_}
 use mathlib.Core.Option.{Option, none, some}
 use lib.ListN.{set, replicate}
 use Rattle.formats.specs.Built.{builtLinks, builtStates}
-use Rattle.book.specs.Lends.{Lent}
+use Rattle.formats.specs.Inputs.{Inputs}
 use Rattle.book.specs.Calls.{Call, load, start, advance, cancel, read, Answer, refused, parts, more, finished}
 use Rattle.book.specs.Calls.{told}
 use Rattle.book.specs.Book.{newBook}
@@ -25,38 +25,38 @@ all says = record { says = says; agrees = true }
 unfoldable pub planB : List ℕ
 planB = 7 ∷ 0 ∷ 0 ∷ 0 ∷ 12 ∷ 0 ∷ 0 ∷ 0 ∷ 19 ∷ 0 ∷ 0 ∷ 0 ∷ 0 ∷ 0 ∷ 0 ∷ 1 ∷ 0 ∷ 0 ∷ 0 ∷ 0 ∷ 0 ∷ 1 ∷ 0 ∷ 1 ∷ 0 ∷ 1 ∷ []
 
-unfoldable pub lentB : Lent
+unfoldable pub lentB : Inputs
 unfolding planB tableA computing
-lentB = record { plan = planB; rules = tableA; nums = builtLinks planB; bytes = builtStates planB tableA }
+lentB = record { plan = planB; rules = tableA; nodeTable = builtLinks planB; stateTable = builtStates planB tableA }
 
 -- tables with an excess
-abbrev pub longerBy : Lent → List ℕ → Lent
-longerBy x l = record { plan = x .plan; rules = x .rules; nums = x .nums ++ l; bytes = x .bytes ++ l }
+abbrev pub longerBy : Inputs → List ℕ → Inputs
+longerBy x l = record { plan = x .plan; rules = x .rules; nodeTable = x .nodeTable ++ l; stateTable = x .stateTable ++ l }
 
 -- one number, or one byte, of plan A's tables set to another; one label of the plan
-unfoldable pub otherNumber : ℕ → ℕ → Lent
+unfoldable pub otherNumber : ℕ → ℕ → Inputs
 unfolding lentA
 otherNumber i n = record {
   plan = lentA .plan;
   rules = lentA .rules;
-  nums = set (lentA .nums) i n;
-  bytes =
-      lentA .bytes;
+  nodeTable = set (lentA .nodeTable) i n;
+  stateTable =
+      lentA .stateTable;
 }
 
-unfoldable pub otherByte : ℕ → ℕ → Lent
+unfoldable pub otherByte : ℕ → ℕ → Inputs
 unfolding lentA
-otherByte i n = record { plan = lentA .plan; rules = lentA .rules; nums = lentA .nums; bytes = set (lentA .bytes) i n }
+otherByte i n = record { plan = lentA .plan; rules = lentA .rules; nodeTable = lentA .nodeTable; stateTable = set (lentA .stateTable) i n }
 
-unfoldable pub otherLabel : Lent
+unfoldable pub otherLabel : Inputs
 unfolding lentA
-otherLabel = record { plan = set (lentA .plan) 12 0; rules = lentA .rules; nums = lentA .nums; bytes = lentA .bytes }
+otherLabel = record { plan = set (lentA .plan) 12 0; rules = lentA .rules; nodeTable = lentA .nodeTable; stateTable = lentA .stateTable }
 
-abbrev pub nothing : Lent
-nothing = record { plan = []; rules = []; nums = []; bytes = [] }
+abbrev pub nothing : Inputs
+nothing = record { plan = []; rules = []; nodeTable = []; stateTable = [] }
 
 -- a question that lists node 0: Load, Start x, advance y, advance w, Read
-unfoldable pub onNode0 : Lent → Lent → Lent → List Call
+unfoldable pub onNode0 : Inputs → Inputs → Inputs → List Call
 unfolding loadA
 onNode0 x y w = load loadA ∷ start x (0 ∷ []) (0 ∷ []) ∷ advance y ∷ advance w ∷ read ∷ []
 
@@ -205,11 +205,11 @@ turned-down-loose = refl
 
 -- 18 without a cause. Numbers that are not as built but lead nowhere outside: node 0's jump to the root, and an advance on another label;
 -- with a cause it is allowed: a jump outside the plan
-unfoldable pub judgedStart : Lent → Answer → Bool
+unfoldable pub judgedStart : Inputs → Answer → Bool
 unfolding computing loadA
 judgedStart x a = agreed newBook (load loadA ∷ start x (0 ∷ []) (0 ∷ []) ∷ []) (Answer.accepted ∷ a ∷ [])
 
-unfoldable pub judgedAdvance : Lent → Answer → Bool
+unfoldable pub judgedAdvance : Inputs → Answer → Bool
 unfolding computing loadA lentA
 judgedAdvance x a =
     agreed newBook (load loadA ∷ start lentA (0 ∷ []) (0 ∷ []) ∷ advance x ∷ []) (Answer.accepted ∷ parts 2 ∷ a ∷ [])

@@ -20,7 +20,7 @@ use Rattle.ready.specs.Parts.{Part, nodesOf, statesOf, partOf}
 use Rattle.questions.specs.Climbs.{Reached, reached}
 use Rattle.questions.specs.Roots.{rootsOn}
 use Rattle.questions.specs.Part.{partOn}
-use Rattle.book.specs.Lends.{Lent, Sizes, fits, usedNums, sameLinks, linksBuilt, bytesBelow}
+use Rattle.formats.specs.Inputs.{Inputs, Sizes, fits, usedNodeTable, sameNodeInputs, nodeTableBuilt, statesBelow}
 use Rattle.book.specs.Book.{Question, rootsOf, partCount, givenBy}
 use Rattle.book.specs.Model.{viewBy}
 
@@ -29,10 +29,10 @@ reachedBy p = reached (p .state) (p .links)
 
 -- "Where plan and rules name the record's N, S and K and, like the 16-bit numbers, are as at Start and as built, but
 -- run states and maps are any bytes below S"
-pub record Firmly (z : Sizes) (q : Question) (x : Lent) : Type 0 where
-  pub built : linksBuilt z (q .lent) ≡ true
-  pub same : sameLinks z (q .lent) x ≡ true
-  pub below : bytesBelow z x ≡ true
+pub record Firmly (z : Sizes) (q : Question) (x : Inputs) : Type 0 where
+  pub built : nodeTableBuilt z (q .lent) ≡ true
+  pub same : sameNodeInputs z (q .lent) x ≡ true
+  pub below : statesBelow z x ≡ true
   pub room : fits z x ≡ true
   pub listed : firstNo (listChecks (z .n) (z .k) (q .nodes) (q .labels)) ≡ 0
 
@@ -46,10 +46,10 @@ nextRoot q ps = getD (rootsOf q) (length ps) 0
 
 pub record Layers : Type 0 where
   -- a Start on numbers as built finds the ready set
-  pub roots-built : (z : Sizes) (x : Lent) (vs : List ℕ) → linksBuilt z x ≡ true → allBelow (z .n) vs ≡ true
-      → rootsOn (z .n) (usedNums z x) vs ≡ some (roots (planTree (x .plan)) vs)
+  pub roots-built : (z : Sizes) (x : Inputs) (vs : List ℕ) → nodeTableBuilt z x ≡ true → allBelow (z .n) vs ≡ true
+      → rootsOn (z .n) (usedNodeTable z x) vs ≡ some (roots (planTree (x .plan)) vs)
   -- "an advance goes on as always and stores and counts what this rule gives on those bytes"
-  pub part-built : (z : Sizes) (q : Question) (x : Lent) (ps : List Part) → Firmly z q x → Handled z q ps
+  pub part-built : (z : Sizes) (q : Question) (x : Inputs) (ps : List Part) → Firmly z q x → Handled z q ps
       → length ps < partCount q
       → partOn (viewBy z x) (take (length ps) (rootsOf q)) (statesOf ps) (q .nodes) (q .labels) (nextRoot q ps)
       ≡ some (reachedBy (partOf (givenBy z q x) (rootsOf q) ps (nextRoot q ps)))

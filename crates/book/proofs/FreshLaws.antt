@@ -45,11 +45,11 @@ use Rattle.ready.proofs.PartsRun.{Sound, RunGiven, parts-right}
 use Rattle.ready.proofs.SameTrees.{same-count}
 use Rattle.ready.proofs.BelowLaws.{rising-above}
 use Rattle.ready.proofs.ListLaws.{list-members, list-last, list-rising}
-use Rattle.book.specs.Lends.{Lent, Sizes, usedBytes, bytesBuilt, bytesBelow}
+use Rattle.formats.specs.Inputs.{Inputs, Sizes, usedStateTable, stateTableBuilt, statesBelow}
 use Rattle.book.specs.Book.{Question, rootsOf, changedTree, givenBy}
 use Rattle.ready.specs.Parts.{nodesOf}
 use Rattle.book.proofs.TrailLaws.{last-more, from-more, from-nodes, from-links}
-use Rattle.book.proofs.LendLaws.{Built, plan-of, rules-of}
+use Rattle.formats.proofs.InputsLaws.{Built, plan-of, rules-of}
 
 -- ---- the bytes that Load writes
 
@@ -114,7 +114,7 @@ module _ (G : Given) (ms : List ℕ) (ps : List Part) (v : ℕ) (S : Sound (G .a
       (inner-below (leftChild (G .tree) v) (rightChild v))
 
 -- the rule reads the bytes in use alone
-pub given-same : (z : Sizes) (q : Question) (x y : Lent) → usedBytes z x ≡ usedBytes z y → givenBy z q x ≡ givenBy z q y
+pub given-same : (z : Sizes) (q : Question) (x y : Inputs) → usedStateTable z x ≡ usedStateTable z y → givenBy z q x ≡ givenBy z q y
 unfolding givenBy
 given-same z q x y e = rw e
 
@@ -152,7 +152,7 @@ module _ (z : Sizes) (q : Question) (B : Built z (q .lent)) where
   sound-rules : Sound A
   sound-rules = rules-sound (q .lent .rules) (rules-of z (q .lent) B)
 
-  pub part-state : (x : Lent) (ps : List Part) (v : ℕ) → partOf (givenBy z q x) (rootsOf q) ps v .state < z .s
+  pub part-state : (x : Inputs) (ps : List Part) (v : ℕ) → partOf (givenBy z q x) (rootsOf q) ps v .state < z .s
   unfolding givenBy
   part-state x ps v =
       subst (λ (s : ℕ). partOf (givenBy z q x) (rootsOf q) ps v .state < s) (B .s-is)
@@ -189,17 +189,17 @@ module _ (z : Sizes) (q : Question) (B : Built z (q .lent)) where
 
   -- ---- on the bytes that Load writes
 
-  module _ (e : bytesBuilt z (q .lent) ≡ true) where
-    bytes : usedBytes z (q .lent) ≡ stateTable A t
-    unfolding bytesBuilt
-    bytes = sameList-true (usedBytes z (q .lent)) (stateTable A t) e
+  module _ (e : stateTableBuilt z (q .lent) ≡ true) where
+    bytes : usedStateTable z (q .lent) ≡ stateTable A t
+    unfolding stateTableBuilt
+    bytes = sameList-true (usedStateTable z (q .lent)) (stateTable A t) e
 
-    table : take (size t * (A .states + 1)) (usedBytes z (q .lent)) ≡ stateTable A t
+    table : take (size t * (A .states + 1)) (usedStateTable z (q .lent)) ≡ stateTable A t
     table = rw bytes (take-all (size t * (A .states + 1)) (stateTable A t)
         (omega (arith, length-stateTable A sound-rules t)))
 
-    pub sound-below : bytesBelow z (q .lent) ≡ true
-    unfolding bytesBelow
+    pub sound-below : statesBelow z (q .lent) ≡ true
+    unfolding statesBelow
     sound-below = rw (bytes, ← B .s-is) (table-below A sound-rules t)
 
     given-run : RunGiven (givenBy z q (q .lent)) u
@@ -207,12 +207,12 @@ module _ (z : Sizes) (q : Question) (B : Built z (q .lent)) where
     given-run = record {
       labels = sym u-labels;
       states = λ v h.
-          ap (λ (s : ℕ). getD (usedBytes z (q .lent)) (v * (s + 1)) 0) (sym (B .s-is))
-          ∙ stateTable-state A t (usedBytes z (q .lent)) table v h;
+          ap (λ (s : ℕ). getD (usedStateTable z (q .lent)) (v * (s + 1)) 0) (sym (B .s-is))
+          ∙ stateTable-state A t (usedStateTable z (q .lent)) table v h;
       maps = λ v x h l.
           let i : v * (z .s + 1) + (1 + x) ≡ v * (A .states + 1) + 1 + x =
           omega (arith, ap (λ (s : ℕ). v * (s + 1)) (B .s-is)) in
-          ap (λ (j : ℕ). getD (usedBytes z (q .lent)) j 0) i ∙ stateTable-map A t (usedBytes z (q .lent)) table v h x l;
+          ap (λ (j : ℕ). getD (usedStateTable z (q .lent)) j 0) i ∙ stateTable-map A t (usedStateTable z (q .lent)) table v h x l;
     }
 
     abbrev G : Given
@@ -246,6 +246,6 @@ module _ (z : Sizes) (q : Question) (B : Built z (q .lent)) where
         ∙ all-right v member
         ∙ ap (state A) (sub-root u v end)
 
-  pub whole-links : (x : Lent) → allLinks (partsOf (givenBy z q x) (rootsOf q)) ≡ questionLinks t (rootsOf q)
+  pub whole-links : (x : Inputs) → allLinks (partsOf (givenBy z q x) (rootsOf q)) ≡ questionLinks t (rootsOf q)
   unfolding partsOf questionLinks givenBy allLinks
   whole-links x = from-links (givenBy z q x) (rootsOf q) [] (rootsOf q) ∙ (omega arith)

@@ -30,7 +30,7 @@ use Rattle.questions.proofs.RootsLaws.{rootsOn-are}
 use Rattle.questions.proofs.PartBounds.{part-bounded}
 use Rattle.questions.proofs.RootsAstray.{roots-astray}
 use Rattle.questions.proofs.PartAstray.{part-astray}
-use Rattle.book.specs.Lends.{Lent, sameLinks, usedNums, linksBuilt, bytesBelow}
+use Rattle.formats.specs.Inputs.{Inputs, sameNodeInputs, usedNodeTable, nodeTableBuilt, statesBelow}
 use Rattle.book.specs.Calls.{Call, load, start, advance, cancel, read, Answer, refused, parts, more, finished, Phase}
 use Rattle.book.specs.Refusals.{refusal}
 use Rattle.book.specs.Book.{rootsOf, givenBy}
@@ -58,7 +58,7 @@ refused-keeps r c n = go (refusal (r .phase) (r .sizes) c) c
     either true f g e = absurd (let z : _≡_ {A = ℕ} 0 1 = cc in omega arith)
     either false f g e = absurd (let z : _≡_ {A = ℕ} 0 1 = cc in omega arith)
 
-    advanced-keeps : (x : Lent) (o : Option Reached) → advanceWith r x o .answer ≡ refused n → advanceWith r x o .record′ ≡ r
+    advanced-keeps : (x : Inputs) (o : Option Reached) → advanceWith r x o .answer ≡ refused n → advanceWith r x o .record′ ≡ r
     advanced-keeps x none e = refl
     advanced-keeps x (some y) e =
         either (eqb (suc (length (r .states))) (length (r .roots)))
@@ -67,7 +67,7 @@ refused-keeps r c n = go (refusal (r .phase) (r .sizes) c) c
     go : (k : ℕ) (c : Call) → unless k r c .answer ≡ refused n → unless k r c .record′ ≡ r
     go (suc k) c e = refl
     go zero (load x) e = absurd (let z : _≡_ {A = ℕ} 0 1 = cc in omega arith)
-    go zero (start x vs bs) e = started-keeps vs bs (rootsOn (r .sizes .n) (usedNums (r .sizes) x) vs) e
+    go zero (start x vs bs) e = started-keeps vs bs (rootsOn (r .sizes .n) (usedNodeTable (r .sizes) x) vs) e
     go zero (advance x) e = advanced-keeps x (partNext r x) e
     go zero cancel e = absurd (let z : _≡_ {A = ℕ} 0 1 = cc in omega arith)
     go zero read e = refl
@@ -92,9 +92,9 @@ advance-numbers true true i = omega (arith, i)
 
 -- ---- Start
 
-module _ (r : Record) (x : Lent) (vs bs : List ℕ) where
+module _ (r : Record) (x : Inputs) (vs bs : List ℕ) where
   abbrev R : Option (List ℕ)
-  R = rootsOn (r .sizes .n) (usedNums (r .sizes) x) vs
+  R = rootsOn (r .sizes .n) (usedNodeTable (r .sizes) x) vs
 
   listed : refusal (r .phase) (r .sizes) (start x vs bs) ≡ 0 → ListPasses (r .sizes .n) (r .sizes .k) vs bs
   listed e = list-passes (r .sizes .n) (r .sizes .k) vs bs (start-list (r .phase) (r .sizes) x vs bs e)
@@ -105,11 +105,11 @@ module _ (r : Record) (x : Lent) (vs bs : List ℕ) where
   unfolding startWith started
   found e h none q = record {
     few = λ p w. absurd (let z : _≡_ {A = ℕ} 0 1 = cc in omega arith);
-    astray = λ w. roots-astray (r .sizes .n) (usedNums (r .sizes) x) vs h (listed e .nodes-below) q;
+    astray = λ w. roots-astray (r .sizes .n) (usedNodeTable (r .sizes) x) vs h (listed e .nodes-below) q;
     built = λ f l. absurd (none-some (sym q ∙ layers .roots-built (r .sizes) x vs l (listed e .nodes-below)));
   }
   found e h (some l) q = record {
-    few = λ p w. (let i : length l ≡ p = cc in i, rootsOn-are (r .sizes .n) (usedNums (r .sizes) x) vs l h (listed e .nodes-below) q);
+    few = λ p w. (let i : length l ≡ p = cc in i, rootsOn-are (r .sizes .n) (usedNodeTable (r .sizes) x) vs l h (listed e .nodes-below) q);
     astray = λ w. absurd (let z : _≡_ {A = ℕ} 0 1 = cc in omega arith);
     built = λ f b.
         let i : l ≡ roots (planTree (x .plan)) vs =
@@ -136,8 +136,8 @@ module _ (r : Record) (x : Lent) (vs bs : List ℕ) where
       }
 
 -- after a Start on numbers as built, tables with any bytes below S are usable: the premise of `rule` can be met
-pub start-usable : (r : Record) (x : Lent) (vs bs : List ℕ) → refusal (r .phase) (r .sizes) (start x vs bs) ≡ 0
-    → linksBuilt (r .sizes) x ≡ true → bytesBelow (r .sizes) x ≡ true → Usable (act r (start x vs bs) .record′) x []
+pub start-usable : (r : Record) (x : Inputs) (vs bs : List ℕ) → refusal (r .phase) (r .sizes) (start x vs bs) ≡ 0
+    → nodeTableBuilt (r .sizes) x ≡ true → statesBelow (r .sizes) x ≡ true → Usable (act r (start x vs bs) .record′) x []
 unfolding act unless proceeds startWith started allBelow
 start-usable r x vs bs e l b =
     let found = layers .roots-built (r .sizes) x vs l (listed r x vs bs e .nodes-below) in
@@ -155,17 +155,17 @@ start-usable r x vs bs e l b =
 
 -- ---- advance
 
-module _ (r : Record) (x : Lent) where
+module _ (r : Record) (x : Inputs) where
   -- on usable tables the part that comes next is the rule's
   by-rule : (ps : List Part) → refusal (r .phase) (r .sizes) (advance x) ≡ 0 → Usable r x ps → partNext r x ≡ some (ruleGives r x ps)
-  unfolding partOf sameLinks givenBy
+  unfolding partOf sameNodeInputs givenBy
   by-rule ps e U =
       let q = questionOf r x in
       let n : length ps ≡ length (r .states) = sym (length-states ps) ∙ ap length (U .states) in
       let F : Firmly (r .sizes) q x = record {
         built = U .links;
         same = and-both (sameList (x .plan) (x .plan)) _ (sameList-refl (x .plan))
-            (and-both (sameList (x .rules) (x .rules)) _ (sameList-refl (x .rules)) (sameList-refl (usedNums (r .sizes) x)));
+            (and-both (sameList (x .rules) (x .rules)) _ (sameList-refl (x .rules)) (sameList-refl (usedNodeTable (r .sizes) x)));
         below = U .bytes;
         room = advance-fits (r .phase) (r .sizes) x e;
         listed = U .listed;

@@ -39,32 +39,32 @@ use Rattle.questions.specs.Promises.{Reads}
 use Rattle.questions.proofs.Promised.{all-small}
 use Rattle.questions.proofs.RootsBuilt as roots-theorem
 use Rattle.questions.proofs.PartBuilt as part-theorem
-use Rattle.book.specs.Lends.{Lent, Sizes, usedNums, usedBytes, linksBuilt, bytesBelow}
+use Rattle.formats.specs.Inputs.{Inputs, Sizes, usedNodeTable, usedStateTable, nodeTableBuilt, statesBelow}
 use Rattle.book.specs.Book.{Question, rootsOf, partCount, givenBy}
 use Rattle.book.specs.Model.{viewBy}
 use Rattle.book.proofs.Facts.{Firmly, Handled, nextRoot, reachedBy, Layers}
-use Rattle.book.proofs.LendLaws.{Built, links-built, plan-of, rules-of, labels-of, Same, same-links}
+use Rattle.formats.proofs.InputsLaws.{Built, node-table-built, plan-of, rules-of, labels-of, Same, same-node-inputs}
 
 -- ---- Start
 
-module _ (z : Sizes) (x : Lent) (B : Built z x) where
+module _ (z : Sizes) (x : Inputs) (B : Built z x) where
   tree-size : z .n ≡ size (planTree (x .plan))
   tree-size = sym (size-planTree (x .plan) (plan-of z x B) ∙ B .n-is)
 
   -- the numbers in use are the table, so their cells are the tree's
-  cells : LinkCells (planTree (x .plan)) (usedNums z x)
+  cells : LinkCells (planTree (x .plan)) (usedNodeTable z x)
   cells =
-      link-cells (planTree (x .plan)) (size (planTree (x .plan))) (usedNums z x) refl
-      (take-all (linkLength (size (planTree (x .plan)))) (usedNums z x)
-      (let e : length (usedNums z x) ≡ size (planTree (x .plan)) * 4 = ap length (B .nums) ∙ length-linkTable (planTree (x .plan)) in omega arith)
-      ∙ B .nums)
+      link-cells (planTree (x .plan)) (size (planTree (x .plan))) (usedNodeTable z x) refl
+      (take-all (linkLength (size (planTree (x .plan)))) (usedNodeTable z x)
+      (let e : length (usedNodeTable z x) ≡ size (planTree (x .plan)) * 4 = ap length (B .nodeTable) ∙ length-linkTable (planTree (x .plan)) in omega arith)
+      ∙ B .nodeTable)
 
-start-fact : (z : Sizes) (x : Lent) (vs : List ℕ) → linksBuilt z x ≡ true → allBelow (z .n) vs ≡ true
-    → rootsOn (z .n) (usedNums z x) vs ≡ some (roots (planTree (x .plan)) vs)
+start-fact : (z : Sizes) (x : Inputs) (vs : List ℕ) → nodeTableBuilt z x ≡ true → allBelow (z .n) vs ≡ true
+    → rootsOn (z .n) (usedNodeTable z x) vs ≡ some (roots (planTree (x .plan)) vs)
 start-fact z x vs l a =
-    let B : Built z x = links-built z x l in
-    ap (λ (n : ℕ). rootsOn n (usedNums z x) vs) (tree-size z x B)
-    ∙ roots-theorem.roots-built (planTree (x .plan)) (usedNums z x) (cells z x B) vs
+    let B : Built z x = node-table-built z x l in
+    ap (λ (n : ℕ). rootsOn n (usedNodeTable z x) vs) (tree-size z x B)
+    ∙ roots-theorem.roots-built (planTree (x .plan)) (usedNodeTable z x) (cells z x B) vs
     (λ v m. omega (arith, tree-size z x B, all-small (z .n) vs a v m))
 
 -- ---- advance
@@ -100,12 +100,12 @@ states-small s (p ∷ ps) h e x = go (ltb (p .state) s) refl e (states-small s p
         either false = ih f x
     go false q f ih = absurd (let z : _≡_ {A = ℕ} 0 1 = cc in omega arith)
 
-module _ (z : Sizes) (q : Question) (x : Lent) (F : Firmly z q x) where
+module _ (z : Sizes) (q : Question) (x : Inputs) (F : Firmly z q x) where
   B : Built z (q .lent)
-  B = links-built z (q .lent) (F .built)
+  B = node-table-built z (q .lent) (F .built)
 
   S : Same z (q .lent) x
-  S = same-links z (q .lent) x (F .same)
+  S = same-node-inputs z (q .lent) x (F .same)
 
   t : Tree
   t = planTree (q .lent .plan)
@@ -136,9 +136,9 @@ module _ (z : Sizes) (q : Question) (x : Lent) (F : Firmly z q x) where
   inner-same : (p a y : ℕ) → ruled p a y (stateCount (q .lent .rules)) (labelCount (q .lent .rules)) (q .lent .rules) ≡ ruled p a y (z .s) (z .k) (x .rules)
   inner-same p a y = ap₂ (λ (m l : ℕ). ruled p a y m l (q .lent .rules)) (B .s-is) (B .k-is) ∙ ap (ruled p a y (z .s) (z .k)) (S .rules)
 
-  bytes-small : (j : ℕ) → getD (usedBytes z x) j 0 < z .s
-  unfolding bytesBelow
-  bytes-small j = allBelow-all (z .s) (usedBytes z x) (F .below) s-pos j
+  bytes-small : (j : ℕ) → getD (usedStateTable z x) j 0 < z .s
+  unfolding statesBelow
+  bytes-small j = allBelow-all (z .s) (usedStateTable z x) (F .below) s-pos j
 
   reads : Reads (viewBy z x) (givenBy z q x)
   unfolding givenBy ruled
@@ -146,7 +146,7 @@ module _ (z : Sizes) (q : Question) (x : Lent) (F : Firmly z q x) where
     count = tree-size z (q .lent) B;
     labels = ap₂ (λ (n : ℕ) (p : List ℕ). take n (drop 12 p)) (sym (B .n-is)) (sym (S .plan)) ∙ sym (labels-planTree (q .lent .plan) pp);
     kinds = ap₂ (λ (n : ℕ) (p : List ℕ). take n (drop (12 + n) p)) (sym (B .n-is)) (sym (S .plan)) ∙ sym (kinds-planTree (q .lent .plan) pp);
-    cells = subst (λ (l : List ℕ). LinkCells (planTree (q .lent .plan)) l) (S .nums) (cells z (q .lent) B);
+    cells = subst (λ (l : List ℕ). LinkCells (planTree (q .lent .plan)) l) (S .nodeTable) (cells z (q .lent) B);
     states = B .s-is;
     leaf = λ a. ap₂ (λ (k : ℕ) (r : List ℕ). getD (take k (drop 20 r)) a 0) (B .k-is) (S .rules);
     inner = λ p a y. inner-same p a y;

@@ -1,6 +1,6 @@
 pub mod Facts
 pub mod TrailLaws
-pub mod LendLaws
+pub mod ModelLaws
 pub mod FreshLaws
 pub mod PartStates
 pub mod CauseLaws

@@ -20,7 +20,7 @@ use Rattle.formats.specs.Checks.{firstNo}
 use Rattle.runs.proofs.OrderLaws.{keys-zip, keys-perm, length-perm, holds-perm, changed-order, list-order}
 use Rattle.ready.specs.Members.{readyList, roots}
 use Rattle.ready.specs.Parts.{questionLinks}
-use Rattle.book.specs.Lends.{Lent, Sizes, fits}
+use Rattle.formats.specs.Inputs.{Inputs, Sizes, fits}
 use Rattle.book.specs.Calls.{told, start, Phase, mayStart}
 use Rattle.book.specs.Refusals.{refusal}
 use Rattle.book.specs.Book.{Question, rootsOf, partCount, changedTree, freshAnswer}
@@ -37,7 +37,7 @@ module _ (vs bs ws cs : List ℕ) (g : length vs ≡ length bs) (h : length ws �
   unfolding roots
   roots-order t = ap (λ (w : ℕ → Bool). readyList w t) (fun-ext same-nodes)
 
-  pub start-order : (p : Phase) (z : Sizes) (x : Lent) → refusal p z (start x vs bs) ≡ refusal p z (start x ws cs)
+  pub start-order : (p : Phase) (z : Sizes) (x : Inputs) → refusal p z (start x vs bs) ≡ refusal p z (start x ws cs)
   unfolding refusal firstNo
   start-order p z x =
       ap (λ (n : ℕ). cond (mayStart p) (cond (fits z x) n 17) 1) (list-order vs bs ws cs g h d (z .n) (z .k))
@@ -47,7 +47,7 @@ module _ (vs bs ws cs : List ℕ) (g : length vs ≡ length bs) (h : length ws �
       (kb : k .labels ≡ cs) where
     roots-same : rootsOf q ≡ rootsOf k
     roots-same =
-        ap₂ (λ (x : Lent) (l : List ℕ). roots (planTree (x .plan)) l) same qv
+        ap₂ (λ (x : Inputs) (l : List ℕ). roots (planTree (x .plan)) l) same qv
         ∙ roots-order (planTree (k .lent .plan))
         ∙ ap (roots (planTree (k .lent .plan))) (sym kv)
 
@@ -60,17 +60,17 @@ module _ (vs bs ws cs : List ℕ) (g : length vs ≡ length bs) (h : length ws �
     labels-same u =
         ap₂ (λ (l m : List ℕ). changed (labelsIn (q .lent .plan)) l m) qv qb
         ∙ changed-order vs bs ws cs g h d u (labelsIn (q .lent .plan))
-        ∙ ap (λ (x : Lent). changed (labelsIn (x .plan)) ws cs) same
+        ∙ ap (λ (x : Inputs). changed (labelsIn (x .plan)) ws cs) same
         ∙ sym (ap₂ (λ (l m : List ℕ). changed (labelsIn (k .lent .plan)) l m) kv kb)
 
     tree-same : distinct vs ≡ true → changedTree q ≡ changedTree k
-    tree-same u = ap₂ (λ (x : Lent) (l : List ℕ). treeOf (kindsIn (x .plan)) l) same (labels-same u)
+    tree-same u = ap₂ (λ (x : Inputs) (l : List ℕ). treeOf (kindsIn (x .plan)) l) same (labels-same u)
 
     pub fresh-order : distinct vs ≡ true → freshAnswer q ≡ freshAnswer k
     unfolding freshAnswer
     fresh-order u =
-        ap₂ (λ (x : Lent) (t : Tree). told (state (ruleAutomaton (x .rules)) t) (accepts (ruleAutomaton (x .rules)) t)
+        ap₂ (λ (x : Inputs) (t : Tree). told (state (ruleAutomaton (x .rules)) t) (accepts (ruleAutomaton (x .rules)) t)
         (partCount q) (questionLinks (planTree (q .lent .plan)) (rootsOf q))) same (tree-same u)
-        ∙ ap₂ (λ (x : Lent) (ms : List ℕ). told (state (ruleAutomaton (k .lent .rules)) (changedTree k))
+        ∙ ap₂ (λ (x : Inputs) (ms : List ℕ). told (state (ruleAutomaton (k .lent .rules)) (changedTree k))
         (accepts (ruleAutomaton (k .lent .rules)) (changedTree k))
         (length ms) (questionLinks (planTree (x .plan)) ms)) same roots-same

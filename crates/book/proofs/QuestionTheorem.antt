@@ -21,7 +21,7 @@ use Rattle.formats.specs.Plan.{planTree}
 use Rattle.formats.specs.Checks.{firstNo, listChecks}
 use Rattle.formats.proofs.CheckLaws.{true-false, and-left}
 use Rattle.formats.proofs.InputLaws.{list-passes}
-use Rattle.book.specs.Lends.{Lent, Sizes, linksBuilt, bytesBuilt, sound}
+use Rattle.formats.specs.Inputs.{Inputs, Sizes, nodeTableBuilt, stateTableBuilt, sound}
 use Rattle.book.specs.Calls.{Call, start, Answer, refused, parts, more, finished, told}
 use Rattle.book.specs.Refusals.{refusal}
 use Rattle.book.specs.Book.{Standing, clean, Question, State, Book, Next, phase, inState, newBook}
@@ -37,11 +37,11 @@ use Rattle.book.proofs.Ceilings.{Few, ready-count, question-links}
 use Rattle.book.proofs.AloneLaws.{going, Alone, agrees-split, left-alone}
 use Rattle.book.proofs.OrderLaws.{length-order, parts-order, fresh-order}
 
-abbrev pub question : Lent → List ℕ → List ℕ → Question
+abbrev pub question : Inputs → List ℕ → List ℕ → Question
 question x vs bs = record { nodes = vs; labels = bs; lent = x; count = 0; standing = clean; trail = [] }
 
 -- n is what Start told, ys are the answers of the calls after it
-pub record CleanlyTold (x : Lent) (vs bs : List ℕ) (n : ℕ) (ys : List Answer) : Type 0 where
+pub record CleanlyTold (x : Inputs) (vs bs : List ℕ) (n : ℕ) (ys : List Answer) : Type 0 where
   -- Start tells the size of the ready set
   pub parts-are : n ≡ partCount (question x vs bs)
   -- at most 4 m - 2 parts for m changes, 1 for none
@@ -57,14 +57,14 @@ pub record CleanlyTold (x : Lent) (vs bs : List ℕ) (n : ℕ) (ys : List Answer
 
 -- the same for any form of the calls: cs and xs are the calls and answers before the Start, ds and ys those after it
 abbrev pub QuestionsTold : {Record : Type 0} → Record → (Record → Call → Answer → Record → Type 0) → Type 0
-QuestionsTold fresh Step = (cs : List Call) (xs : List Answer) (x : Lent) (vs bs : List ℕ) (n : ℕ) (ds : List Call) (ys : List Answer)
+QuestionsTold fresh Step = (cs : List Call) (xs : List Answer) (x : Inputs) (vs bs : List ℕ) (n : ℕ) (ds : List Call) (ys : List Answer)
     → length cs ≡ length xs → History Step fresh (cs ++ (start x vs bs ∷ ds)) (xs ++ (parts n ∷ ys))
     → sound (bookAt newBook cs xs .sizes) x ≡ true → LeftAlone (bookAt newBook cs xs .sizes) x ds ys
     → CleanlyTold x vs bs n ys
 
 -- ---- the Start
 
-module _ (z : Sizes) (s : State) (x : Lent) (vs bs : List ℕ) (n : ℕ) (sounds : sound z x ≡ true) where
+module _ (z : Sizes) (s : State) (x : Inputs) (vs bs : List ℕ) (n : ℕ) (sounds : sound z x ≡ true) where
   abbrev b : Book
   b = record { state = s; sizes = z }
 
@@ -142,7 +142,7 @@ fresh-few q = question-links (planTree (q .lent .plan)) (q .nodes)
 
 -- ---- the statements
 
-module _ (L : Layers) (cs : List Call) (xs : List Answer) (x : Lent) (vs bs : List ℕ) (n : ℕ) (ds : List Call)
+module _ (L : Layers) (cs : List Call) (xs : List Answer) (x : Inputs) (vs bs : List ℕ) (n : ℕ) (ds : List Call)
     (ys : List Answer) where
   -- the N, S and K of the last accepted Load before this Start
   abbrev pub sizesBefore : Sizes
@@ -156,8 +156,8 @@ module _ (L : Layers) (cs : List Call) (xs : List Answer) (x : Lent) (vs bs : Li
       let A = agrees-split newBook cs (start x vs bs ∷ ds) xs (parts n ∷ ys) same (demand-3 L _ _ h) in
       let B = begun sizesBefore (bookAt newBook cs xs .state) x vs bs n sounds (A .0) in
       let l = listed sizesBefore (bookAt newBook cs xs .state) x vs bs n sounds (A .0) in
-      let built : linksBuilt sizesBefore x ≡ true =
-      and-left (linksBuilt sizesBefore x) (bytesBuilt sizesBefore x) sounds in
+      let built : nodeTableBuilt sizesBefore x ≡ true =
+      and-left (nodeTableBuilt sizesBefore x) (stateTableBuilt sizesBefore x) sounds in
       let K : Alone (question x vs bs) 0 ys =
       left-alone sizesBefore (question x vs bs) 0 [] (some-part (question x vs bs)) ds ys
       (subst (λ (b : Book). Agrees b ds ys) (B .1) (A .1)) alone in
@@ -174,7 +174,7 @@ module _ (L : Layers) (cs : List Call) (xs : List Answer) (x : Lent) (vs bs : Li
       }
 
 -- "whatever the order of the list": where no node is listed twice, what is told of one order is what is told of another
-pub told-order : (x : Lent) (vs bs ws cs : List ℕ) → length vs ≡ length bs → length ws ≡ length cs
+pub told-order : (x : Inputs) (vs bs ws cs : List ℕ) → length vs ≡ length bs → length ws ≡ length cs
     → List·Permᴰ (zip vs bs) (zip ws cs)
     → distinct vs ≡ true → (n : ℕ) (ys : List Answer) → CleanlyTold x vs bs n ys → CleanlyTold x ws cs n ys
 told-order x vs bs ws cs g h d u n ys T = record {

@@ -19,7 +19,7 @@ use Rattle.formats.specs.Bytes.{allBelow}
 use Rattle.formats.specs.Rules.{ruleAutomaton}
 use Rattle.formats.specs.Checks.{firstNo, listChecks}
 use Rattle.ready.specs.Parts.{Part, partsFrom, lastState, allLinks}
-use Rattle.book.specs.Lends.{Sizes, linksBuilt, bytesBuilt}
+use Rattle.formats.specs.Inputs.{Sizes, nodeTableBuilt, stateTableBuilt}
 use Rattle.book.specs.Book.{Standing, clean, firm, loose, Question, State, Book, phase, rootsOf, partCount}
 use Rattle.book.specs.Book.{givenBy}
 use Rattle.book.specs.Model.{Record}
@@ -35,18 +35,18 @@ pub record Parted (r : Record) (z : Sizes) (q : Question) (ps : List Part) : Typ
   pub handled : Handled z q ps
 
 pub record Counted (r : Record) (z : Sizes) (q : Question) : Type 0 where
-  pub built : linksBuilt z (q .lent) ≡ true
+  pub built : nodeTableBuilt z (q .lent) ≡ true
   pub parted : Parted r z q (q .trail)
   pub links : r .links ≡ allLinks (q .trail)
   pub count : q .count ≡ length (q .trail)
 
 pub record Cleanly (z : Sizes) (q : Question) : Type 0 where
-  pub bytes : bytesBuilt z (q .lent) ≡ true
+  pub bytes : stateTableBuilt z (q .lent) ≡ true
   pub replayed : q .trail ≡ partsFrom (givenBy z q (q .lent)) (rootsOf q) [] (take (length (q .trail)) (rootsOf q))
 
 -- some parts were handled, whatever their states
 abbrev pub SomeParted : Record → Sizes → Question → Type 0
-SomeParted r z q = linksBuilt z (q .lent) ≡ true → (ps : List Part) × Parted r z q ps
+SomeParted r z q = nodeTableBuilt z (q .lent) ≡ true → (ps : List Part) × Parted r z q ps
 
 abbrev pub Stands : Record → Sizes → Question → Standing → Type 0
 Stands r z q clean = Counted r z q × Cleanly z q
@@ -54,7 +54,7 @@ Stands r z q firm = Counted r z q
 Stands r z q loose = SomeParted r z q
 
 abbrev pub Unended : Record → Sizes → Question → Type 0
-Unended r z q = linksBuilt z (q .lent) ≡ true → length (r .states) < partCount q
+Unended r z q = nodeTableBuilt z (q .lent) ≡ true → length (r .states) < partCount q
 
 -- the yes or no of the last state
 abbrev pub Marked : Record → Question → Type 0

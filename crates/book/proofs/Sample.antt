@@ -30,8 +30,8 @@ use Rattle.questions.specs.Roots.{insertRising, risingOf, wanted, withFork, wit
 use Rattle.questions.specs.Climbs.{below, runOn, ruleOn, siblingOn, parentOn, moveOn, climbOn}
 use Rattle.questions.specs.Part.{lastFound, labelOn, climbFrom, runReached, ownReached, joinOn, innerOn, leafOn}
 use Rattle.questions.specs.Part.{forkOn, partOn}
-use Rattle.book.specs.Lends.{Lent, fits, sameLinks, sameLent, namesSizes, linksBuilt, bytesBuilt, sound}
-use Rattle.book.specs.Lends.{bytesBelow}
+use Rattle.formats.specs.Inputs.{Inputs, fits, sameNodeInputs, sameInputs, namesSizes, nodeTableBuilt, stateTableBuilt, sound}
+use Rattle.formats.specs.Inputs.{statesBelow}
 use Rattle.book.specs.Calls.{Call, load, start, advance, read, Answer, refused}
 use Rattle.book.specs.Calls.{told}
 use Rattle.book.specs.Calls.{mayLoad, mayStart, isRunning, isAnswered}
@@ -54,8 +54,8 @@ unfolding split sub parent depth isPostorder treeOf changed jumpIn jump nextMove
     lastBelow moveState climbMoves climbedLinks innerLinks partLinks sumOf questionLinks stateOf climbedState
     innerState partState partOf partsFrom partsOf lastState allLinks isBelow nextUnless searchIn search meetOn
     insertRising risingOf wanted withFork withMeet forksOn rootsOn below runOn ruleOn siblingOn parentOn moveOn
-    climbOn lastFound labelOn climbFrom runReached ownReached joinOn innerOn leafOn forkOn partOn fits sameLinks
-    sameLent namesSizes linksBuilt bytesBuilt sound bytesBelow mayLoad mayStart isRunning isAnswered refusal phase
+    climbOn lastFound labelOn climbFrom runReached ownReached joinOn innerOn leafOn forkOn partOn fits sameNodeInputs
+    sameInputs namesSizes nodeTableBuilt stateTableBuilt sound statesBelow mayLoad mayStart isRunning isAnswered refusal phase
     isChildless isFlat strays isApart linksCause nodeCause rulesCause cause startCause advanceCause
     newBook inState givenBy longer freshAnswer ruleAnswer standingOf asked mayStartWith unlessRefused starting
     advanced goesOn otherBytes mayAdvanceWith byAnswer loosely firmly advancing isTold reading proceed decided step
@@ -73,16 +73,16 @@ tableA =
     2 ∷ 0 ∷ 0 ∷ 0 ∷ 2 ∷ 0 ∷ 0 ∷ 0 ∷ 20 ∷ 0 ∷ 0 ∷ 0 ∷ 22 ∷ 0 ∷ 0 ∷ 0 ∷ 30 ∷ 0 ∷ 0 ∷ 0
     ∷ 0 ∷ 1 ∷ 0 ∷ 1 ∷ 0 ∷ 0 ∷ 1 ∷ 1 ∷ 0 ∷ 1 ∷ 0 ∷ 1 ∷ []
 
-unfoldable pub loadA : Lent
+unfoldable pub loadA : Inputs
 unfolding planA tableA
-loadA = record { plan = planA; rules = tableA; nums = replicate 28 9; bytes = replicate 21 9 }
+loadA = record { plan = planA; rules = tableA; nodeTable = replicate 28 9; stateTable = replicate 21 9 }
 
-unfoldable pub lentA : Lent
+unfoldable pub lentA : Inputs
 unfolding planA tableA computing
-lentA = record { plan = planA; rules = tableA; nums = builtLinks planA; bytes = builtStates planA tableA }
+lentA = record { plan = planA; rules = tableA; nodeTable = builtLinks planA; stateTable = builtStates planA tableA }
 
 pub tables-A :
-    (lentA .nums ≡ 2 ∷ 2 ∷ 2 ∷ 1 ∷ 2 ∷ 2 ∷ 2 ∷ 1 ∷ 6 ∷ 6 ∷ 1 ∷ 3 ∷ 5 ∷ 5 ∷ 2 ∷ 1 ∷ 5 ∷ 5 ∷ 2 ∷ 1 ∷ 6 ∷ 6 ∷ 1 ∷ 3 ∷ 6
+    (lentA .nodeTable ≡ 2 ∷ 2 ∷ 2 ∷ 1 ∷ 2 ∷ 2 ∷ 2 ∷ 1 ∷ 6 ∷ 6 ∷ 1 ∷ 3 ∷ 5 ∷ 5 ∷ 2 ∷ 1 ∷ 5 ∷ 5 ∷ 2 ∷ 1 ∷ 6 ∷ 6 ∷ 1 ∷ 3 ∷ 6
     ∷ 6 ∷ 0 ∷ 7 ∷ [])
     × (sound (record { n = 7; s = 2; k = 2 }) lentA ≡ true)
 unfolding lentA
@@ -90,7 +90,7 @@ tables-A = (refl, refl)
 
 -- ---- lists of calls
 
-unfoldable pub advancesOn : ℕ → Lent → List Call
+unfoldable pub advancesOn : ℕ → Inputs → List Call
 advancesOn zero x = []
 advancesOn (suc n) x = advance x ∷ advancesOn n x
 

@@ -17,7 +17,7 @@ use Rattle.formats.specs.Checks.{firstNo, buildChecks}
 use Rattle.formats.proofs.CheckLaws.{firstNo-tail}
 use Rattle.formats.proofs.InputLaws.{build-passes}
 use Rattle.ready.specs.Parts.{Part, partsFrom, partsOf, lastState, allLinks}
-use Rattle.book.specs.Lends.{Lent, Sizes, sizesIn}
+use Rattle.formats.specs.Inputs.{Inputs, Sizes, sizesIn}
 use Rattle.book.specs.Calls.{Call, load, cancel, read, Answer, refused, told, Phase, mayLoad, isRunning, isAnswered}
 use Rattle.book.specs.Refusals.{refusal}
 use Rattle.book.specs.Book.{Standing, clean, firm, loose, Question, State, Book, Next, phase, inState, step}
@@ -26,7 +26,7 @@ use Rattle.book.specs.Book.{rootsOf, partCount, changedTree, givenBy, fr
 use Rattle.book.specs.Demand3.{Conforms, after}
 use Rattle.book.specs.Model.{Record, Acted, acted, idle, act, unless, proceeds, Does, toldBy, lastOf}
 use Rattle.book.proofs.TrailLaws.{last-states}
-use Rattle.book.proofs.LendLaws.{links-built}
+use Rattle.formats.proofs.InputsLaws.{node-table-built}
 use Rattle.book.proofs.FreshLaws.{whole-state, whole-links}
 use Rattle.book.proofs.Relation.{Counted, Cleanly, Stands, Marked, Ended, Rel}
 
@@ -63,14 +63,14 @@ does r r′ b c a d h = rw (d .tells, d .leaves) h
 
 -- ---- Load and Cancel
 
-load-counted : (p : Phase) (z : Sizes) (x : Lent) → refusal p z (load x) ≡ 0 → 0 < sizesIn x .n
+load-counted : (p : Phase) (z : Sizes) (x : Inputs) → refusal p z (load x) ≡ 0 → 0 < sizesIn x .n
 unfolding refusal
 load-counted p z x e =
-    let P = build-passes (x .plan) (x .rules) (length (x .nums)) (length (x .bytes))
-    (firstNo-tail 1 (mayLoad p) (buildChecks (x .plan) (x .rules) (length (x .nums)) (length (x .bytes))) (omega arith) e) in
+    let P = build-passes (x .plan) (x .rules) (length (x .nodeTable)) (length (x .stateTable))
+    (firstNo-tail 1 (mayLoad p) (buildChecks (x .plan) (x .rules) (length (x .nodeTable)) (length (x .stateTable))) (omega arith) e) in
     omega (arith, P .0 .least)
 
-pub on-load : (x : Lent) → Simulates (load x)
+pub on-load : (x : Inputs) → Simulates (load x)
 unfolding proceed proceeds phase idle
 on-load x r r′ b a i d = does r r′ b (load x) a d (by-refusal r (b .state) (b .sizes) (load x) i ok)
   where
@@ -113,7 +113,7 @@ rule-fresh : (r : Record) (z : Sizes) (q : Question) → Counted r z q → Clean
 unfolding ruleAnswer freshAnswer partsOf
 rule-fresh r z q c k e =
     told-same _ _ _ _ _ _ _ _ s (ap (ruleAutomaton (q .lent .rules) .accepting) s) refl
-    (ap allLinks whole ∙ whole-links z q (links-built z (q .lent) (c .built)) (q .lent))
+    (ap allLinks whole ∙ whole-links z q (node-table-built z (q .lent) (c .built)) (q .lent))
   where
     whole : q .trail ≡ partsOf (givenBy z q (q .lent)) (rootsOf q)
     whole =
@@ -122,7 +122,7 @@ rule-fresh r z q c k e =
         (take-all (length (q .trail)) (rootsOf q) (omega (arith, e, c .count)))
 
     s : lastState (q .trail) 0 ≡ state (ruleAutomaton (q .lent .rules)) (changedTree q)
-    s = ap (λ (l : List Part). lastState l 0) whole ∙ whole-state z q (links-built z (q .lent) (c .built)) (k .bytes)
+    s = ap (λ (l : List Part). lastState l 0) whole ∙ whole-state z q (node-table-built z (q .lent) (c .built)) (k .bytes)
 
 read-as : (r : Record) (z : Sizes) (q : Question) (k : Standing) → Stands r z q k → Ended r q k
     → Rel r (book (State.answered q) z)

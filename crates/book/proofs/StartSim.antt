@@ -21,7 +21,7 @@ use Rattle.ready.proofs.ListLaws.{list-last}
 use Rattle.questions.specs.Roots.{rootsOn}
 use Rattle.questions.proofs.RootsLaws.{rootsOn-some, rootsOn-allBelow}
 use Rattle.questions.proofs.RootsAstray.{roots-astray}
-use Rattle.book.specs.Lends.{Lent, Sizes, fits, usedNums, linksBuilt, bytesBuilt, sound}
+use Rattle.formats.specs.Inputs.{Inputs, Sizes, fits, usedNodeTable, nodeTableBuilt, stateTableBuilt, sound}
 use Rattle.book.specs.Calls.{start, Phase, mayStart}
 use Rattle.book.specs.Refusals.{refusal}
 use Rattle.book.specs.Book.{Standing, clean, firm, loose, Question, State, phase, inState, rootsOf}
@@ -43,7 +43,7 @@ some-part q =
     let L = list-last (λ v. holds v (q .nodes)) t (size t - 1) top in
     rw (L .1) (omega (arith, length-more (L .0) (size t - 1)))
 
-pub start-list : (p : Phase) (z : Sizes) (x : Lent) (vs bs : List ℕ) → refusal p z (start x vs bs) ≡ 0
+pub start-list : (p : Phase) (z : Sizes) (x : Inputs) (vs bs : List ℕ) → refusal p z (start x vs bs) ≡ 0
     → firstNo (listChecks (z .n) (z .k) vs bs) ≡ 0
 unfolding refusal
 start-list p z x vs bs e =
@@ -51,21 +51,21 @@ start-list p z x vs bs e =
     (firstNo-tail 1 (mayStart p) (check 17 (fits z x) ∷ listChecks (z .n) (z .k) vs bs) (omega arith) e)
 
 -- what a standing at Start says of the lends
-abbrev Begins : Sizes → Lent → Standing → Type 0
-Begins z x clean = (linksBuilt z x ≡ true) × (bytesBuilt z x ≡ true)
-Begins z x firm = linksBuilt z x ≡ true
-Begins z x loose = linksBuilt z x ≡ false
+abbrev Begins : Sizes → Inputs → Standing → Type 0
+Begins z x clean = (nodeTableBuilt z x ≡ true) × (stateTableBuilt z x ≡ true)
+Begins z x firm = nodeTableBuilt z x ≡ true
+Begins z x loose = nodeTableBuilt z x ≡ false
 
-begins : (z : Sizes) (x : Lent) → Begins z x (standingOf z x)
+begins : (z : Sizes) (x : Inputs) → Begins z x (standingOf z x)
 unfolding standingOf sound
-begins z x = go (linksBuilt z x) (bytesBuilt z x) refl refl
+begins z x = go (nodeTableBuilt z x) (stateTableBuilt z x) refl refl
   where
-    go : (l b : Bool) → linksBuilt z x ≡ l → bytesBuilt z x ≡ b → Begins z x (cond (l && b) clean (cond l firm loose))
+    go : (l b : Bool) → nodeTableBuilt z x ≡ l → stateTableBuilt z x ≡ b → Begins z x (cond (l && b) clean (cond l firm loose))
     go true true h i = (h, i)
     go true false h i = h
     go false b h i = h
 
-module _ (L : Layers) (r : Record) (s : State) (z : Sizes) (x : Lent) (vs bs : List ℕ)
+module _ (L : Layers) (r : Record) (s : State) (z : Sizes) (x : Inputs) (vs bs : List ℕ)
     (listed : firstNo (listChecks (z .n) (z .k) vs bs) ≡ 0)
     (i : Rel r (book s z)) (counted : 0 < z .n) where
   abbrev opened : Standing → Question
@@ -75,7 +75,7 @@ module _ (L : Layers) (r : Record) (s : State) (z : Sizes) (x : Lent) (vs bs : L
   begun rs = started (r .sizes) vs bs rs
 
   abbrev found : Option (List ℕ)
-  found = rootsOn (z .n) (usedNums z x) vs
+  found = rootsOn (z .n) (usedNodeTable z x) vs
 
   below : allBelow (z .n) vs ≡ true
   below = list-passes (z .n) (z .k) vs bs listed .nodes-below
@@ -85,12 +85,12 @@ module _ (L : Layers) (r : Record) (s : State) (z : Sizes) (x : Lent) (vs bs : L
   asking k rs e = record {
     nodes = refl;
     labels = refl;
-    roots = rootsOn-allBelow (z .n) (usedNums z x) vs rs counted below e;
-    next = rootsOn-some (z .n) (usedNums z x) vs rs counted below e;
+    roots = rootsOn-allBelow (z .n) (usedNodeTable z x) vs rs counted below e;
+    next = rootsOn-some (z .n) (usedNodeTable z x) vs rs counted below e;
     states = refl;
   }
 
-  ready : linksBuilt z x ≡ true → found ≡ some (roots (planTree (x .plan)) vs)
+  ready : nodeTableBuilt z x ≡ true → found ≡ some (roots (planTree (x .plan)) vs)
   ready h = L .roots-built z x vs h below
 
   parted-first : (k : Standing) → Parted (begun (rootsOf (opened k))) z (opened k) []
@@ -104,12 +104,12 @@ module _ (L : Layers) (r : Record) (s : State) (z : Sizes) (x : Lent) (vs bs : L
     handled = record { nodes = refl; states = refl };
   }
 
-  counted-first : (k : Standing) → linksBuilt z x ≡ true → Counted (begun (rootsOf (opened k))) z (opened k)
+  counted-first : (k : Standing) → nodeTableBuilt z x ≡ true → Counted (begun (rootsOf (opened k))) z (opened k)
   unfolding started allLinks
   counted-first k h = record { built = h; parted = parted-first k; links = refl; count = refl }
 
   -- a question that Start settles
-  start-built : (k : Standing) → linksBuilt z x ≡ true
+  start-built : (k : Standing) → nodeTableBuilt z x ≡ true
       → Rel (begun (rootsOf (opened k))) (book (State.running (opened k)) z)
       → Sim (starting (book s z) (opened k) firm) (startWith r vs bs found)
   unfolding starting startWith inState
@@ -136,7 +136,7 @@ module _ (L : Layers) (r : Record) (s : State) (z : Sizes) (x : Lent) (vs bs : L
   start-as loose f = go found refl
     where
       go : (o : Option (List ℕ)) → found ≡ o → Sim (starting (book s z) (opened loose) loose) (startWith r vs bs o)
-      go none e = (start-cause z x (roots-astray (z .n) (usedNums z x) vs counted below e), i)
+      go none e = (start-cause z x (roots-astray (z .n) (usedNodeTable z x) vs counted below e), i)
       go (some rs) e = (
         refl,
         record {
@@ -149,7 +149,7 @@ module _ (L : Layers) (r : Record) (s : State) (z : Sizes) (x : Lent) (vs bs : L
       )
 
 -- a plan is loaded where a Start may be made
-start-counted : (r : Record) (s : State) (z : Sizes) (x : Lent) (vs bs : List ℕ) → Rel r (book s z)
+start-counted : (r : Record) (s : State) (z : Sizes) (x : Inputs) (vs bs : List ℕ) → Rel r (book s z)
     → refusal (phase s) z (start x vs bs) ≡ 0 → 0 < z .n
 unfolding refusal phase firstNo mayStart
 start-counted r State.empty z x vs bs i h = absurd (some-number h)
@@ -157,16 +157,16 @@ start-counted r State.loaded z x vs bs i h = i .asks
 start-counted r (State.running q) z x vs bs i h = absurd (some-number h)
 start-counted r (State.answered q) z x vs bs i h = i .asks
 
-start-at : (L : Layers) (r : Record) (s : State) (z : Sizes) (x : Lent) (vs bs : List ℕ) → Rel r (book s z)
+start-at : (L : Layers) (r : Record) (s : State) (z : Sizes) (x : Inputs) (vs bs : List ℕ) → Rel r (book s z)
     → refusal (phase s) z (start x vs bs) ≡ 0 → Sim (proceed (book s z) s (start x vs bs)) (proceeds r (start x vs bs))
 unfolding proceed proceeds asked
 start-at L r s z x vs bs i h =
     subst (λ (y : Sizes). Sim (proceed (book s z) s (start x vs bs))
-    (startWith r vs bs (rootsOn (y .n) (usedNums y x) vs))) (sym (i .sizes))
+    (startWith r vs bs (rootsOn (y .n) (usedNodeTable y x) vs))) (sym (i .sizes))
     (start-as L r s z x vs bs (start-list (phase s) z x vs bs h) i (start-counted r s z x vs bs i h) (standingOf z x)
     (begins z x))
 
-pub on-start : Layers → (x : Lent) (vs bs : List ℕ) → Simulates (start x vs bs)
+pub on-start : Layers → (x : Inputs) (vs bs : List ℕ) → Simulates (start x vs bs)
 on-start L x vs bs r r′ b a i d =
     does r r′ b (start x vs bs) a d
     (by-refusal r (b .state) (b .sizes) (start x vs bs) i (start-at L r (b .state) (b .sizes) x vs bs i))

@@ -25,32 +25,33 @@ use Rattle.formats.proofs.PlanLaws.{size-planTree}
 use Rattle.formats.proofs.InputLaws.{rule-table-passes, build-table}
 use Rattle.tables.specs.Answers.{written}
 use Rattle.links.proofs.CellLaws.{length-linkTable}
-use Rattle.book.specs.Lends.{Lent, Sizes, sizesIn, fits, usedNums, usedBytes, linksBuilt, bytesBuilt, sound}
+use Rattle.formats.specs.Inputs.{Inputs, Sizes, sizesIn, fits, usedNodeTable, usedStateTable, nodeTableBuilt, stateTableBuilt}
+use Rattle.formats.specs.Inputs.{sound}
 use Rattle.book.specs.Calls.{Phase, load, start, parts, mayLoad, mayStart}
 use Rattle.book.specs.Refusals.{refusal}
 use Rattle.book.specs.Book.{clean, firm, loose, Question, State, settled, phase, inState, step}
 use Rattle.book.specs.Book.{decided, proceed}
 use Rattle.book.specs.Book.{partCount, standingOf, asked, starting}
-use Rattle.book.proofs.LendLaws.{built-links}
+use Rattle.formats.proofs.InputsLaws.{built-node-table}
 use Rattle.book.proofs.FreshLaws.{rules-sound, length-stateTable}
 use Rattle.book.proofs.Simulation.{book}
 use Rattle.book.proofs.QuestionTheorem.{question}
 
 -- plan and rules as they were, and what Load leaves in the two buffers
-unfoldable pub loaded : Lent → Lent
+unfoldable pub loaded : Inputs → Inputs
 loaded x = record {
   plan = x .plan;
   rules = x .rules;
-  nums = written 0 (builtLinks (x .plan)) (x .nums);
-  bytes = written 0 (builtStates (x .plan) (x .rules)) (x .bytes);
+  nodeTable = written 0 (builtLinks (x .plan)) (x .nodeTable);
+  stateTable = written 0 (builtStates (x .plan) (x .rules)) (x .stateTable);
 }
 
-load-passes : (p : Phase) (z : Sizes) (x : Lent) → refusal p z (load x) ≡ 0
+load-passes : (p : Phase) (z : Sizes) (x : Inputs) → refusal p z (load x) ≡ 0
     → firstNo (ruleTableChecks (x .plan) (x .rules)) ≡ 0
 unfolding refusal
 load-passes p z x e =
-    build-table (x .plan) (x .rules) (length (x .nums)) (length (x .bytes))
-    (firstNo-tail 1 (mayLoad p) (buildChecks (x .plan) (x .rules) (length (x .nums)) (length (x .bytes)))
+    build-table (x .plan) (x .rules) (length (x .nodeTable)) (length (x .stateTable))
+    (firstNo-tail 1 (mayLoad p) (buildChecks (x .plan) (x .rules) (length (x .nodeTable)) (length (x .stateTable)))
     (omega arith) e)
 
 fits-all : (a b c d e f g h : ℕ) → a ≡ b → c ≡ d → e ≤ f → g ≤ h → (eqb a b && (eqb c d && (leb e f && leb g h))) ≡ true
@@ -59,7 +60,7 @@ fits-all a b c d e f g h i j k l =
     (and-both (eqb c d) (leb e f && leb g h) (eq-eqb c d j)
     (and-both (leb e f) (leb g h) (le-leb e f k) (le-leb g h l)))
 
-module _ (x : Lent) (passed : firstNo (ruleTableChecks (x .plan) (x .rules)) ≡ 0) where
+module _ (x : Inputs) (passed : firstNo (ruleTableChecks (x .plan) (x .rules)) ≡ 0) where
   count : size (planTree (x .plan)) ≡ nodeCount (x .plan)
   count = size-planTree (x .plan) (rule-table-passes (x .plan) (x .rules) passed .0)
 
@@ -69,32 +70,32 @@ module _ (x : Lent) (passed : firstNo (ruleTableChecks (x .plan) (x .rules)) ≡
       (rules-sound (x .rules) (rule-table-passes (x .plan) (x .rules) passed .1)) (planTree (x .plan))
       ∙ ap (λ (n : ℕ). stateLength n (stateCount (x .rules))) count
 
-  nums-written : usedNums (sizesIn x) (loaded x) ≡ builtLinks (x .plan)
+  node-table-written : usedNodeTable (sizesIn x) (loaded x) ≡ builtLinks (x .plan)
   unfolding loaded written
-  nums-written =
-      take-at (builtLinks (x .plan)) (drop (length (builtLinks (x .plan))) (x .nums)) (linkLength (nodeCount (x .plan)))
+  node-table-written =
+      take-at (builtLinks (x .plan)) (drop (length (builtLinks (x .plan))) (x .nodeTable)) (linkLength (nodeCount (x .plan)))
       (length-linkTable (planTree (x .plan)) ∙ ap linkLength count)
 
-  bytes-written : usedBytes (sizesIn x) (loaded x) ≡ builtStates (x .plan) (x .rules)
+  state-table-written : usedStateTable (sizesIn x) (loaded x) ≡ builtStates (x .plan) (x .rules)
   unfolding loaded written
-  bytes-written =
-      take-at (builtStates (x .plan) (x .rules)) (drop (length (builtStates (x .plan) (x .rules))) (x .bytes))
+  state-table-written =
+      take-at (builtStates (x .plan) (x .rules)) (drop (length (builtStates (x .plan) (x .rules))) (x .stateTable))
       (stateLength (nodeCount (x .plan)) (stateCount (x .rules)))
       bytes-length
 
-  pub written-links : linksBuilt (sizesIn x) (loaded x) ≡ true
+  pub written-links : nodeTableBuilt (sizesIn x) (loaded x) ≡ true
   unfolding loaded
   written-links =
-      built-links (sizesIn x) (loaded x)
-      (record { passed = passed; n-is = refl; s-is = refl; k-is = refl; nums = nums-written })
+      built-node-table (sizesIn x) (loaded x)
+      (record { passed = passed; n-is = refl; s-is = refl; k-is = refl; nodeTable = node-table-written })
 
-  written-bytes : bytesBuilt (sizesIn x) (loaded x) ≡ true
-  unfolding bytesBuilt loaded
-  written-bytes = sameList-is (usedBytes (sizesIn x) (loaded x)) (builtStates (x .plan) (x .rules)) bytes-written
+  written-bytes : stateTableBuilt (sizesIn x) (loaded x) ≡ true
+  unfolding stateTableBuilt loaded
+  written-bytes = sameList-is (usedStateTable (sizesIn x) (loaded x)) (builtStates (x .plan) (x .rules)) state-table-written
 
   pub passed-sound : sound (sizesIn x) (loaded x) ≡ true
   unfolding sound
-  passed-sound = and-both (linksBuilt (sizesIn x) (loaded x)) (bytesBuilt (sizesIn x) (loaded x)) written-links
+  passed-sound = and-both (nodeTableBuilt (sizesIn x) (loaded x)) (stateTableBuilt (sizesIn x) (loaded x)) written-links
       written-bytes
 
   -- and they are long enough: check 17
@@ -112,30 +113,30 @@ module _ (x : Lent) (passed : firstNo (ruleTableChecks (x .plan) (x .rules)) ≡
         length-linkTable (planTree (x .plan)),
         ap linkLength count,
         length-append (builtLinks (x .plan))
-            (drop (length (builtLinks (x .plan))) (x .nums)),
+            (drop (length (builtLinks (x .plan))) (x .nodeTable)),
       ))
       (omega (
         arith,
         bytes-length,
         length-append (builtStates (x .plan) (x .rules))
-            (drop (length (builtStates (x .plan) (x .rules))) (x .bytes)),
+            (drop (length (builtStates (x .plan) (x .rules))) (x .stateTable)),
       ))
     where
       nums′ : List ℕ
-      nums′ = builtLinks (x .plan) ++ drop (length (builtLinks (x .plan))) (x .nums)
+      nums′ = builtLinks (x .plan) ++ drop (length (builtLinks (x .plan))) (x .nodeTable)
 
       bytes′ : List ℕ
-      bytes′ = builtStates (x .plan) (x .rules) ++ drop (length (builtStates (x .plan) (x .rules))) (x .bytes)
+      bytes′ = builtStates (x .plan) (x .rules) ++ drop (length (builtStates (x .plan) (x .rules))) (x .stateTable)
 
 -- whatever the buffers held, and however long they are
-pub written-sound : (p : Phase) (z : Sizes) (x : Lent) → refusal p z (load x) ≡ 0 → sound (sizesIn x) (loaded x) ≡ true
+pub written-sound : (p : Phase) (z : Sizes) (x : Inputs) → refusal p z (load x) ≡ 0 → sound (sizesIn x) (loaded x) ≡ true
 written-sound p z x e = passed-sound x (load-passes p z x e)
 
-pub written-fits : (p : Phase) (z : Sizes) (x : Lent) → refusal p z (load x) ≡ 0 → fits (sizesIn x) (loaded x) ≡ true
+pub written-fits : (p : Phase) (z : Sizes) (x : Inputs) → refusal p z (load x) ≡ 0 → fits (sizesIn x) (loaded x) ≡ true
 written-fits p z x e = passed-fits x (load-passes p z x e)
 
 -- so a Start on what an accepted Load left is accepted with any list that passes 12 to 15, and tells its parts
-pub start-written : (p : Phase) (z : Sizes) (x : Lent) (s : State) (vs bs : List ℕ) → refusal p z (load x) ≡ 0
+pub start-written : (p : Phase) (z : Sizes) (x : Inputs) (s : State) (vs bs : List ℕ) → refusal p z (load x) ≡ 0
     → mayStart (phase s) ≡ true
     → firstNo (listChecks (sizesIn x .n) (sizesIn x .k) vs bs) ≡ 0
     → step (book s (sizesIn x)) (start (loaded x) vs bs)
@@ -149,7 +150,7 @@ start-written p z x s vs bs e m l =
     ∙ firstNo-yes 17 (fits (sizesIn x) (loaded x)) (listChecks (sizesIn x .n) (sizesIn x .k) vs bs)
     (written-fits p z x e) ∙ l)
     ∙ ap (λ (b : Bool). starting (book s (sizesIn x)) (opened b)
-    (cond b clean (cond (linksBuilt (sizesIn x) (loaded x)) firm loose))) (written-sound p z x e)
+    (cond b clean (cond (nodeTableBuilt (sizesIn x) (loaded x)) firm loose))) (written-sound p z x e)
   where
     opened : Bool → Question
     opened b = record {
@@ -157,6 +158,6 @@ start-written p z x s vs bs e m l =
       labels = bs;
       lent = loaded x;
       count = 0;
-      standing = cond b clean (cond (linksBuilt (sizesIn x) (loaded x)) firm loose);
+      standing = cond b clean (cond (nodeTableBuilt (sizesIn x) (loaded x)) firm loose);
       trail = [];
     }

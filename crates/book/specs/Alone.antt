@@ -13,7 +13,7 @@ use mathlib.Core.Path.{_≡_}
 use mathlib.Core.Bool.{Bool, true, false}
 use mathlib.Core.List.{List, [], _∷_}
 use mathlib.Core.Option.{Option, none, some}
-use Rattle.book.specs.Lends.{Lent, Sizes, sameLent}
+use Rattle.formats.specs.Inputs.{Inputs, Sizes, sameInputs}
 use Rattle.book.specs.Calls.{Call, load, start, advance, cancel, read, Answer, refused, parts, more, finished}
 use Rattle.book.specs.Calls.{told}
 use Rattle.book.specs.Book.{Book, step}
@@ -54,14 +54,14 @@ bookAt b [] xs = b
 bookAt b (c ∷ cs) [] = b
 bookAt b (c ∷ cs) (a ∷ xs) = bookAt (after (step b c) a) cs xs
 
-abbrev pub AloneBy : Sizes → Lent → Call → Answer → Type 0
+abbrev pub AloneBy : Sizes → Inputs → Call → Answer → Type 0
 AloneBy z y (load x) a = isRefused a ≡ true
 AloneBy z y (start x vs bs) a = isRefused a ≡ true
-AloneBy z y (advance x) a = isRefused a ≡ false → sameLent z y x ≡ true
+AloneBy z y (advance x) a = isRefused a ≡ false → sameInputs z y x ≡ true
 AloneBy z y cancel a = isRefused a ≡ true
 AloneBy z y read a = Unit {0}
 
-abbrev pub LeftAlone : Sizes → Lent → List Call → List Answer → Type 0
+abbrev pub LeftAlone : Sizes → Inputs → List Call → List Answer → Type 0
 LeftAlone z y [] xs = Unit {0}
 LeftAlone z y (c ∷ cs) [] = Unit {0}
 LeftAlone z y (c ∷ cs) (a ∷ xs) = AloneBy z y c a × LeftAlone z y cs xs

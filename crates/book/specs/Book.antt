@@ -22,7 +22,8 @@ use Rattle.tables.specs.StateCells.{stateCell, mapCell}
 use Rattle.runs.specs.FreshRun as fresh-run
 use Rattle.ready.specs.Members.{roots}
 use Rattle.ready.specs.Parts.{Given, Part, partOf, lastState, allLinks, questionLinks}
-use Rattle.book.specs.Lends.{Lent, Sizes, sizesIn, usedBytes, sameLinks, sameLent, linksBuilt, sound, bytesBelow}
+use Rattle.formats.specs.Inputs.{Inputs, Sizes, sizesIn, usedStateTable, sameNodeInputs, sameInputs, nodeTableBuilt, sound}
+use Rattle.formats.specs.Inputs.{statesBelow}
 use Rattle.book.specs.Calls.{Call, load, start, advance, cancel, read, Answer, refused, parts, more, finished, told, Phase}
 use Rattle.book.specs.Refusals.{refusal}
 use Rattle.book.specs.Causes.{startCause, advanceCause}
@@ -35,7 +36,7 @@ pub data Standing : Type 0 where
 pub record Question : Type 0 where
   pub nodes : List ℕ
   pub labels : List ℕ
-  pub lent : Lent
+  pub lent : Inputs
   pub count : ℕ
   pub standing : Standing
   pub trail : List Part
@@ -82,17 +83,17 @@ abbrev pub changedTree : Question → Tree
 changedTree q = fresh-run.changedTree (q .lent .plan) (q .nodes) (q .labels)
 
 -- what the rule reads: Start's plan and rules, and the bytes of this advance
-unfoldable pub givenBy : Sizes → Question → Lent → Given
+unfoldable pub givenBy : Sizes → Question → Inputs → Given
 givenBy z q x = record {
   tree = planTree (q .lent .plan);
   automaton = ruleAutomaton (q .lent .rules);
   labels = changed (labelsIn (q .lent .plan)) (q .nodes) (q .labels);
-  runState = stateCell (z .s) (usedBytes z x);
-  mapState = mapCell (z .s) (usedBytes z x);
+  runState = stateCell (z .s) (usedStateTable z x);
+  mapState = mapCell (z .s) (usedStateTable z x);
 }
 
 -- one more part by the rule
-unfoldable pub longer : Sizes → Question → Lent → List Part
+unfoldable pub longer : Sizes → Question → Inputs → List Part
 longer z q x = q .trail ++ (partOf (givenBy z q x) (rootsOf q) (q .trail) (getD (rootsOf q) (length (q .trail)) 0) ∷ [])
 
 -- "the root state, and its yes or no, of a fresh run (source document 002's, on Start's plan with the listed labels changed), the
@@ -110,10 +111,10 @@ ruleAnswer q =
 
 -- ---- Start
 
-unfoldable pub standingOf : Sizes → Lent → Standing
-standingOf z x = cond (sound z x) clean (cond (linksBuilt z x) firm loose)
+unfoldable pub standingOf : Sizes → Inputs → Standing
+standingOf z x = cond (sound z x) clean (cond (nodeTableBuilt z x) firm loose)
 
-unfoldable pub asked : Sizes → Lent → List ℕ → List ℕ → Question
+unfoldable pub asked : Sizes → Inputs → List ℕ → List ℕ → Question
 asked z x vs bs = record { nodes = vs; labels = bs; lent = x; count = 0; standing = standingOf z x; trail = [] }
 
 -- left to the program: any number of parts, or 18 where the numbers lent give a cause
@@ -154,8 +155,8 @@ goesOn b q =
 
 -- "Where plan and rules name the record's N, S and K and, like the 16-bit numbers, are as at Start and as built, but run states and
 -- maps are any bytes below S, an advance goes on as always and stores and counts what this rule gives on those bytes."
-unfoldable pub otherBytes : Sizes → Question → Lent → Bool
-otherBytes z q x = linksBuilt z (q .lent) && (sameLinks z (q .lent) x && bytesBelow z x)
+unfoldable pub otherBytes : Sizes → Question → Inputs → Bool
+otherBytes z q x = nodeTableBuilt z (q .lent) && (sameNodeInputs z (q .lent) x && statesBelow z x)
 
 -- left to the program: more or finished, or 18 where what is lent gives a cause: never where the tables are as built and as at Start, or
 -- other bytes
@@ -176,18 +177,18 @@ byAnswer b q (parts p) = b
 byAnswer b q Answer.accepted = b
 byAnswer b q (told s y p l) = b
 
-unfoldable pub loosely : Book → Lent → Question → Next
+unfoldable pub loosely : Book → Inputs → Question → Next
 loosely b x q =
     left (mayAdvanceWith (otherBytes (b .sizes) q x) (advanceCause (b .sizes) x (q .nodes) (q .labels)))
     (byAnswer b (advanced q loose []))
 
-unfoldable pub firmly : Book → Lent → Question → Next
+unfoldable pub firmly : Book → Inputs → Question → Next
 firmly b x q =
     cond (otherBytes (b .sizes) q x) (goesOn b (advanced q firm (longer (b .sizes) q x))) (loosely b x q)
 
-unfoldable pub advancing : Book → Lent → Question → Standing → Next
+unfoldable pub advancing : Book → Inputs → Question → Standing → Next
 advancing b x q clean =
-    cond (sameLent (b .sizes) (q .lent) x) (goesOn b (advanced q clean (longer (b .sizes) q x))) (firmly b x q)
+    cond (sameInputs (b .sizes) (q .lent) x) (goesOn b (advanced q clean (longer (b .sizes) q x))) (firmly b x q)
 advancing b x q firm = firmly b x q
 advancing b x q loose = loosely b x q
 

@@ -9,13 +9,13 @@
 use Prim.Native.Nat.{ℕ}
 use mathlib.Core.Bool.{Bool, true, false}
 use mathlib.Core.List.{List}
-use Rattle.book.specs.Lends.{Lent}
+use Rattle.formats.specs.Inputs.{Inputs}
 
 pub data Call : Type 0 where
-  load : Lent → Call
+  load : Inputs → Call
   -- the listed nodes and their labels, as two lists: 12 asks whether they are of one length
-  start : Lent → List ℕ → List ℕ → Call
-  advance : Lent → Call
+  start : Inputs → List ℕ → List ℕ → Call
+  advance : Inputs → Call
   cancel : Call
   read : Call
 

@@ -23,7 +23,7 @@ use Rattle.tables.specs.StateCells.{stateCell, mapCell}
 use Rattle.ready.specs.Members.{someIn}
 use Rattle.questions.specs.Climbs.{View, viewOf}
 use Rattle.questions.specs.Part.{labelOn}
-use Rattle.book.specs.Lends.{Lent, Sizes, usedNums, usedBytes}
+use Rattle.formats.specs.Inputs.{Inputs, Sizes, usedNodeTable, usedStateTable}
 
 unfoldable pub isChildless : List ℕ → ℕ → Bool
 isChildless b x = eqb x 0 || ltb (x - 1) (sizeCell b (x - 1))
@@ -61,9 +61,9 @@ rulesCause X =
 unfoldable pub cause : View → List ℕ → List ℕ → Bool
 cause X vs bs = linksCause (X .n) (X .nums) || (someIn (nodeCause X vs bs) 0 (X .n) || rulesCause X)
 
-unfoldable pub startCause : Sizes → Lent → Bool
-startCause z x = linksCause (z .n) (usedNums z x)
+unfoldable pub startCause : Sizes → Inputs → Bool
+startCause z x = linksCause (z .n) (usedNodeTable z x)
 
-unfoldable pub advanceCause : Sizes → Lent → List ℕ → List ℕ → Bool
+unfoldable pub advanceCause : Sizes → Inputs → List ℕ → List ℕ → Bool
 advanceCause z x vs bs =
-    cause (viewOf (z .n) (z .s) (z .k) (x .plan) (x .rules) (usedNums z x) (usedBytes z x)) vs bs
+    cause (viewOf (z .n) (z .s) (z .k) (x .plan) (x .rules) (usedNodeTable z x) (usedStateTable z x)) vs bs

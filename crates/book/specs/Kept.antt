@@ -25,26 +25,26 @@ use Rattle.ready.specs.Parts.{Part, nodesOf, statesOf, partState, partLinks}
 use Rattle.questions.specs.Climbs.{Reached, reached}
 use Rattle.questions.specs.Astray.{Astray}
 use Rattle.questions.specs.Promises.{RootsAre}
-use Rattle.book.specs.Lends.{Lent, usedNums, linksBuilt, bytesBelow}
+use Rattle.formats.specs.Inputs.{Inputs, usedNodeTable, nodeTableBuilt, statesBelow}
 use Rattle.book.specs.Calls.{Call, load, start, advance, cancel, read, Answer, refused, parts}
 use Rattle.book.specs.Refusals.{refusal}
 use Rattle.book.specs.Book.{Question, firm, givenBy}
 use Rattle.book.specs.Model.{Record, advanceWith, viewBy}
 use Rattle.book.specs.Alone.{isRefused}
 
-pub record StartKept (r : Record) (x : Lent) (vs bs : List ℕ) (a : Answer) (r′ : Record) : Type 0 where
+pub record StartKept (r : Record) (x : Inputs) (vs bs : List ℕ) (a : Answer) (r′ : Record) : Type 0 where
   pub few : (p : ℕ) → a ≡ parts p → (length (r′ .roots) ≡ p) × RootsAre (r .sizes .n) (length vs) (r′ .roots)
-  pub astray : a ≡ refused 18 → LinksAstray (r .sizes .n) (usedNums (r .sizes) x)
-  pub built : refusal (r .phase) (r .sizes) (start x vs bs) ≡ 0 → linksBuilt (r .sizes) x ≡ true
+  pub astray : a ≡ refused 18 → LinksAstray (r .sizes .n) (usedNodeTable (r .sizes) x)
+  pub built : refusal (r .phase) (r .sizes) (start x vs bs) ≡ 0 → nodeTableBuilt (r .sizes) x ≡ true
       → (a ≡ parts (length (roots (planTree (x .plan)) vs))) × (r′ .roots ≡ roots (planTree (x .plan)) vs)
 
-abbrev pub questionOf : Record → Lent → Question
+abbrev pub questionOf : Record → Inputs → Question
 questionOf r x =
     record { nodes = r .nodes; labels = r .labels; lent = x; count = length (r .states); standing = firm; trail = [] }
 
-pub record Usable (r : Record) (x : Lent) (ps : List Part) : Type 0 where
-  pub links : linksBuilt (r .sizes) x ≡ true
-  pub bytes : bytesBelow (r .sizes) x ≡ true
+pub record Usable (r : Record) (x : Inputs) (ps : List Part) : Type 0 where
+  pub links : nodeTableBuilt (r .sizes) x ≡ true
+  pub bytes : statesBelow (r .sizes) x ≡ true
   pub listed : firstNo (listChecks (r .sizes .n) (r .sizes .k) (r .nodes) (r .labels)) ≡ 0
   pub ready : r .roots ≡ roots (planTree (x .plan)) (r .nodes)
   pub before : nodesOf ps ≡ take (length (r .states)) (r .roots)
@@ -53,12 +53,12 @@ pub record Usable (r : Record) (x : Lent) (ps : List Part) : Type 0 where
   pub next : length (r .states) < length (r .roots)
 
 -- "an advance goes on as always and stores and counts what this rule gives on those bytes"
-abbrev pub ruleGives : Record → Lent → List Part → Reached
+abbrev pub ruleGives : Record → Inputs → List Part → Reached
 ruleGives r x ps =
     reached (partState (givenBy (r .sizes) (questionOf r x) x) (r .roots) ps (getD (r .roots) (length (r .states)) 0))
     (partLinks (planTree (x .plan)) (r .roots) (getD (r .roots) (length (r .states)) 0))
 
-pub record AdvanceKept (r : Record) (x : Lent) (a : Answer) (r′ : Record) : Type 0 where
+pub record AdvanceKept (r : Record) (x : Inputs) (a : Answer) (r′ : Record) : Type 0 where
   pub stored : isRefused a ≡ false → (q : ℕ) × (r′ .states ≡ r .states ++ (q ∷ [])) × (q < r .sizes .s)
   pub counted : isRefused a ≡ false → r′ .links ≤ r .links + r .sizes .n
   pub astray : a ≡ refused 18 → Astray (viewBy (r .sizes) x) (r .states) (r .nodes) (r .labels)

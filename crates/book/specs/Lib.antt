@@ -1,4 +1,3 @@
-pub mod Lends
 pub mod Calls
 pub mod Refusals
 pub mod Causes

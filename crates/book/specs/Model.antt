@@ -17,7 +17,7 @@ use lib.ListN.{length, getD, take, drop}
 use Rattle.questions.specs.Climbs.{View, viewOf, Reached}
 use Rattle.questions.specs.Roots.{rootsOn}
 use Rattle.questions.specs.Part.{partOn}
-use Rattle.book.specs.Lends.{Lent, Sizes, sizesIn, usedNums, usedBytes}
+use Rattle.formats.specs.Inputs.{Inputs, Sizes, sizesIn, usedNodeTable, usedStateTable}
 use Rattle.book.specs.Calls.{Call, load, start, advance, cancel, read, Answer, refused, parts, more, finished, told, Phase}
 use Rattle.book.specs.Refusals.{refusal}
 
@@ -51,11 +51,11 @@ abbrev pub loadedRecord : Sizes → Record
 loadedRecord z = idle Phase.loaded z
 
 -- what the calls read of the lends: by the record's N, S and K, excess aside
-abbrev pub viewBy : Sizes → Lent → View
-viewBy z x = viewOf (z .n) (z .s) (z .k) (x .plan) (x .rules) (usedNums z x) (usedBytes z x)
+abbrev pub viewBy : Sizes → Inputs → View
+viewBy z x = viewOf (z .n) (z .s) (z .k) (x .plan) (x .rules) (usedNodeTable z x) (usedStateTable z x)
 
 -- the accept marks by the record's S and K
-abbrev pub marksBy : Sizes → Lent → List ℕ
+abbrev pub marksBy : Sizes → Inputs → List ℕ
 marksBy z x = take (z .s) (drop (20 + z .k + z .s * z .k * z .s) (x .rules))
 
 -- ---- Start: "running", no part state, no link
@@ -82,7 +82,7 @@ stepped r p x y = record {
   yes = y;
 }
 
-unfoldable pub advanceWith : Record → Lent → Option Reached → Acted
+unfoldable pub advanceWith : Record → Inputs → Option Reached → Acted
 advanceWith r x none = acted (refused 18) r
 advanceWith r x (some y) =
     cond (eqb (suc (length (r .states))) (length (r .roots)))
@@ -90,7 +90,7 @@ advanceWith r x (some y) =
     (acted more (stepped r Phase.running y false))
 
 -- the next part of a record: its root, and the roots before it
-abbrev pub partNext : Record → Lent → Option Reached
+abbrev pub partNext : Record → Inputs → Option Reached
 partNext r x =
     partOn (viewBy (r .sizes) x) (take (length (r .states)) (r .roots)) (r .states) (r .nodes) (r .labels)
     (getD (r .roots) (length (r .states)) 0)
@@ -108,7 +108,7 @@ toldBy r = told (lastOf (r .states) 0) (r .yes) (length (r .roots)) (r .links)
 
 unfoldable pub proceeds : Record → Call → Acted
 proceeds r (load x) = acted Answer.accepted (loadedRecord (sizesIn x))
-proceeds r (start x vs bs) = startWith r vs bs (rootsOn (r .sizes .n) (usedNums (r .sizes) x) vs)
+proceeds r (start x vs bs) = startWith r vs bs (rootsOn (r .sizes .n) (usedNodeTable (r .sizes) x) vs)
 proceeds r (advance x) = advanceWith r x (partNext r x)
 proceeds r cancel = acted Answer.accepted (loadedRecord (r .sizes))
 proceeds r read = acted (toldBy r) r

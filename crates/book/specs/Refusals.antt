@@ -8,15 +8,15 @@ use Prim.Native.Nat.{ℕ}
 use mathlib.Core.List.{List, [], _∷_}
 use lib.ListN.{length}
 use Rattle.formats.specs.Checks.{Check, check, firstNo, buildChecks, listChecks}
-use Rattle.book.specs.Lends.{Sizes, Lent, fits}
+use Rattle.formats.specs.Inputs.{Sizes, Inputs, fits}
 use Rattle.book.specs.Calls.{Call, load, start, advance, cancel, read, Phase, mayLoad, mayStart, isRunning, isAnswered}
 
 -- "Any session call: may it be made in this state? 1. Load and the builds go on: .." (2 to 11)
-abbrev pub loadChecks : Phase → Lent → List Check
-loadChecks p x = check 1 (mayLoad p) ∷ buildChecks (x .plan) (x .rules) (length (x .nums)) (length (x .bytes))
+abbrev pub loadChecks : Phase → Inputs → List Check
+loadChecks p x = check 1 (mayLoad p) ∷ buildChecks (x .plan) (x .rules) (length (x .nodeTable)) (length (x .stateTable))
 
 -- "Start: .. 17; .. 12; .. 13; .. 14; .. 15"
-abbrev pub startChecks : Phase → Sizes → Lent → List ℕ → List ℕ → List Check
+abbrev pub startChecks : Phase → Sizes → Inputs → List ℕ → List ℕ → List Check
 startChecks p z x vs bs = check 1 (mayStart p) ∷ check 17 (fits z x) ∷ listChecks (z .n) (z .k) vs bs
 
 unfoldable pub refusal : Phase → Sizes → Call → ℕ

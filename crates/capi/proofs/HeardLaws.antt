@@ -9,7 +9,7 @@ use mathlib.Core.List.{List}
 use lib.Dec.{eqb}
 use lib.ListN.{length, getD}
 use Rattle.questions.specs.Climbs.{Reached}
-use Rattle.book.specs.Lends.{Lent}
+use Rattle.formats.specs.Inputs.{Inputs}
 use Rattle.book.specs.Calls.{Call, load, start, advance, cancel, read, Answer, more, finished, told, Phase}
 use Rattle.book.specs.Refusals.{refusal}
 use Rattle.book.specs.Model.{Record, Acted, acted, stepped, marksBy, lastOf, proceeds, unless, act, startWith, advanceWith}
@@ -29,7 +29,7 @@ abbrev ReadHeard : Places → Answer → Type 0
 ReadHeard q a = heardRead (answerNumber a) (toldPlaces a q) ≡ a
 
 module _ (r : Record) where
-  pub heard-load : (x : Lent) → DoneHeard (act r (load x) .answer)
+  pub heard-load : (x : Inputs) → DoneHeard (act r (load x) .answer)
   unfolding act unless proceeds heardDone answerNumber
   heard-load x = go (refusal (r .phase) (r .sizes) (load x))
     where
@@ -50,7 +50,7 @@ module _ (r : Record) where
   started p vs bs none = refl
   started p vs bs (some rs) = refl
 
-  pub heard-start : (p : ℕ) (x : Lent) (vs bs : List ℕ) → StartHeard p (act r (start x vs bs) .answer)
+  pub heard-start : (p : ℕ) (x : Inputs) (vs bs : List ℕ) → StartHeard p (act r (start x vs bs) .answer)
   unfolding act unless proceeds heardStart answerNumber partsOf
   heard-start p x vs bs = go (refusal (r .phase) (r .sizes) (start x vs bs))
     where
@@ -63,7 +63,7 @@ module _ (r : Record) where
   either f true u v e g = e
   either f false u v e g = g
 
-  advanced : (f : ℕ) (x : Lent) (o : Option Reached) → AdvanceHeard f (advanceWith r x o .answer)
+  advanced : (f : ℕ) (x : Inputs) (o : Option Reached) → AdvanceHeard f (advanceWith r x o .answer)
   unfolding advanceWith heardAdvance answerNumber finishedOf
   advanced f x none = refl
   advanced f x (some y) =
@@ -71,7 +71,7 @@ module _ (r : Record) where
       (acted finished (stepped r Phase.answered y (eqb (getD (marksBy (r .sizes) x) (y .state) 0) 1)))
       (acted more (stepped r Phase.running y false)) refl refl
 
-  pub heard-advance : (f : ℕ) (x : Lent) → AdvanceHeard f (act r (advance x) .answer)
+  pub heard-advance : (f : ℕ) (x : Inputs) → AdvanceHeard f (act r (advance x) .answer)
   unfolding act unless proceeds heardAdvance answerNumber finishedOf
   heard-advance f x = go (refusal (r .phase) (r .sizes) (advance x))
     where

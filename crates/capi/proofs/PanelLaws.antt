@@ -12,7 +12,7 @@ use borrow.Author.Tests.{eq-eqb, eqb-true, not-true, not-false}
 use Rattle.formats.specs.Built.{builtLinks, builtStates}
 use Rattle.formats.proofs.CheckLaws.{true-false, and-left, and-right}
 use Rattle.tables.specs.Answers.{written}
-use Rattle.book.specs.Lends.{Lent}
+use Rattle.formats.specs.Inputs.{Inputs}
 use Rattle.book.specs.Calls.{Call, load, read, Answer, refused, accepted, parts, more, finished, told}
 use Rattle.session.specs.declared.answers.Done.{Done}
 use Rattle.session.specs.declared.answers.Started.{Started}
@@ -171,22 +171,22 @@ module _ (b : List ℕ) (r : Bool) (e : r ≡ laidOut b) where
 -- ---- Load, Start, advance and Read
 
 module _ (b : List ℕ) where
-  pub load-not : (x : Lent) → laidOut b ≡ false → LoadExported b x 1 b (x .nums) (x .bytes)
+  pub load-not : (x : Inputs) → laidOut b ≡ false → LoadExported b x 1 b (x .nodeTable) (x .stateTable)
   unfolding loadNumber written
   load-not x h = record {
     call = not-laid b (load x) h;
-    links-written = sym (ap (λ (t : Bool). written (cond t (refusalOn (decoded b) (load x)) 1) (builtLinks (x .plan)) (x .nums)) h);
-    states-written = sym (ap (λ (t : Bool). written (cond t (refusalOn (decoded b) (load x)) 1) (builtStates (x .plan) (x .rules)) (x .bytes)) h);
+    links-written = sym (ap (λ (t : Bool). written (cond t (refusalOn (decoded b) (load x)) 1) (builtLinks (x .plan)) (x .nodeTable)) h);
+    states-written = sym (ap (λ (t : Bool). written (cond t (refusalOn (decoded b) (load x)) 1) (builtStates (x .plan) (x .rules)) (x .stateTable)) h);
   }
 
-  pub load-laid : (x : Lent) → laidOut b ≡ true → (o : Done) (r : ℕ) (b′ nums′ bytes′ : List ℕ)
+  pub load-laid : (x : Inputs) → laidOut b ≡ true → (o : Done) (r : ℕ) (b′ nums′ bytes′ : List ℕ)
       → LoadDone (decoded b) x (doingAnswer (o .told)) (o .rec) nums′ bytes′ → DoneStored o b r b′ → LoadExported b x r b′ nums′ bytes′
   unfolding loadNumber
   load-laid x h o r b′ nums′ bytes′ D S = record {
     call = laid b (load x) h (doingAnswer (o .told)) (o .rec) r b′ (D .call) S;
-    links-written = D .links-written ∙ sym (ap (λ (t : Bool). written (cond t (refusalOn (decoded b) (load x)) 1) (builtLinks (x .plan)) (x .nums)) h);
+    links-written = D .links-written ∙ sym (ap (λ (t : Bool). written (cond t (refusalOn (decoded b) (load x)) 1) (builtLinks (x .plan)) (x .nodeTable)) h);
     states-written = D .states-written
-        ∙ sym (ap (λ (t : Bool). written (cond t (refusalOn (decoded b) (load x)) 1) (builtStates (x .plan) (x .rules)) (x .bytes)) h);
+        ∙ sym (ap (λ (t : Bool). written (cond t (refusalOn (decoded b) (load x)) 1) (builtStates (x .plan) (x .rules)) (x .stateTable)) h);
   }
 
   module _ (c : Call) where
@@ -229,7 +229,7 @@ module _ (b : List ℕ) where
 pub of-decoded : (b : List ℕ) (s : Session) (c : Call) (a : Answer) (s′ : Session) → s ≡ decoded b → CallDone s c a s′ → CallDone (decoded b) c a s′
 of-decoded b s c a s′ e D = subst (λ (z : Session). CallDone z c a s′) e D
 
-pub load-decoded : (b : List ℕ) (s : Session) (x : Lent) (a : Answer) (s′ : Session) (n y : List ℕ) → s ≡ decoded b → LoadDone s x a s′ n y
+pub load-decoded : (b : List ℕ) (s : Session) (x : Inputs) (a : Answer) (s′ : Session) (n y : List ℕ) → s ≡ decoded b → LoadDone s x a s′ n y
     → LoadDone (decoded b) x a s′ n y
 load-decoded b s x a s′ n y e D = subst (λ (z : Session). LoadDone z x a s′ n y) e D
 

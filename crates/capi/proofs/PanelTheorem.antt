@@ -14,7 +14,7 @@ use lib.Dec.{eqb}
 use lib.ListN.{length, getD, replicate}
 use Rattle.formats.proofs.CheckLaws.{and-left}
 use Rattle.questions.specs.Climbs.{Reached}
-use Rattle.book.specs.Lends.{Lent}
+use Rattle.formats.specs.Inputs.{Inputs}
 use Rattle.book.specs.Calls.{Call, load, start, advance, cancel, read, Answer, more, finished, Phase}
 use Rattle.book.specs.Refusals.{refusal}
 use Rattle.book.specs.Demand3.{Demand3}
@@ -65,7 +65,7 @@ module _ (r : Record) where
   on-start vs bs none = refl
   on-start vs bs (some rs) = refl
 
-  on-advance : (x : Lent) (o : Option Reached) → Settled r (advanceWith r x o)
+  on-advance : (x : Inputs) (o : Option Reached) → Settled r (advanceWith r x o)
   unfolding advanceWith unlessRefused
   on-advance x none = refl
   on-advance x (some y) =

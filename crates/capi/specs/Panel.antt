@@ -13,7 +13,7 @@ use mathlib.Core.Bool.{Bool, true, cond}
 use mathlib.Core.List.{List}
 use Rattle.formats.specs.Built.{builtLinks, builtStates}
 use Rattle.tables.specs.Answers.{written}
-use Rattle.book.specs.Lends.{Lent}
+use Rattle.formats.specs.Inputs.{Inputs}
 use Rattle.book.specs.Calls.{Call, load, start, advance, cancel, read, Answer, refused, accepted, parts, more, finished, told}
 use Rattle.book.specs.Model.{act}
 use Rattle.book.specs.Kept.{Kept}
@@ -53,13 +53,13 @@ pub record CallExported (b : List ℕ) (c : Call) (r : ℕ) (b′ : List ℕ) : 
   pub kept : validBytes b ≡ true → Kept (recordOf (decoded b)) c (answerFor b c) (act (recordOf (decoded b)) c .record′)
 
 -- the refusal's number, 18 apart, of a Load on record bytes
-unfoldable pub loadNumber : List ℕ → Lent → ℕ
+unfoldable pub loadNumber : List ℕ → Inputs → ℕ
 loadNumber b x = cond (laidOut b) (refusalOn (decoded b) (load x)) 1
 
-pub record LoadExported (b : List ℕ) (x : Lent) (r : ℕ) (b′ nums′ bytes′ : List ℕ) : Type 0 where
+pub record LoadExported (b : List ℕ) (x : Inputs) (r : ℕ) (b′ nums′ bytes′ : List ℕ) : Type 0 where
   pub call : CallExported b (load x) r b′
-  pub links-written : nums′ ≡ written (loadNumber b x) (builtLinks (x .plan)) (x .nums)
-  pub states-written : bytes′ ≡ written (loadNumber b x) (builtStates (x .plan) (x .rules)) (x .bytes)
+  pub links-written : nums′ ≡ written (loadNumber b x) (builtLinks (x .plan)) (x .nodeTable)
+  pub states-written : bytes′ ≡ written (loadNumber b x) (builtStates (x .plan) (x .rules)) (x .stateTable)
 
 unfoldable pub partsOf : Answer → ℕ → ℕ
 partsOf (parts p) old = p

@@ -19,7 +19,7 @@ use mathlib.Core.List.{List}
 use Rattle.questions.specs.declared.answer.Climbed.{Climbed}
 use Rattle.questions.specs.declared.answer.Climbed.the-variants.{Reached, Outside}
 use Rattle.questions.specs.declared.roots.Rooted.{Rooted}
-use Rattle.book.specs.Lends.{Lent}
+use Rattle.formats.specs.Inputs.{Inputs}
 use Rattle.book.specs.Calls.{start, advance, read, Answer, refused, accepted, parts, more, finished, told}
 use Rattle.session.specs.declared.state.Session.{Session}
 use Rattle.session.specs.Promises.{answerOn, recordOn}
@@ -42,7 +42,7 @@ partTold (Reached q l) = record { state = q; links = l }
 abbrev pub loadedWith : ℕ → ℕ → ℕ → Session
 loadedWith n s k = sessionOf (loadedBy n s k)
 
-unfoldable pub advanced : ℕ → Lent → Session → Session
+unfoldable pub advanced : ℕ → Inputs → Session → Session
 advanced zero x s = s
 advanced (suc i) x s = advanced i x (recordOn s (advance x))
 
@@ -54,13 +54,13 @@ partsTold more = 0
 partsTold finished = 0
 partsTold (told q y p l) = 0
 
-unfoldable pub after : Lent → List ℕ → List ℕ → ℕ → Session → Session
+unfoldable pub after : Inputs → List ℕ → List ℕ → ℕ → Session → Session
 after x vs bs i s = advanced i x (recordOn s (start x vs bs))
 
-unfoldable pub startParts : Lent → List ℕ → List ℕ → Session → ℕ
+unfoldable pub startParts : Inputs → List ℕ → List ℕ → Session → ℕ
 startParts x vs bs s = partsTold (answerOn s (start x vs bs))
 
-unfoldable pub stepsTold : Lent → List ℕ → List ℕ → ℕ → Session → Steps
+unfoldable pub stepsTold : Inputs → List ℕ → List ℕ → ℕ → Session → Steps
 stepsTold x vs bs i s = record { parts = startParts x vs bs s; links = after x vs bs i s .links }
 
 abbrev pub nothingTold : Question
@@ -74,5 +74,5 @@ readTold (parts p) = nothingTold
 readTold more = nothingTold
 readTold finished = nothingTold
 
-unfoldable pub questionTold : Lent → List ℕ → List ℕ → Session → Question
+unfoldable pub questionTold : Inputs → List ℕ → List ℕ → Session → Question
 questionTold x vs bs s = readTold (answerOn (after x vs bs (startParts x vs bs s) s) read)

@@ -12,7 +12,7 @@ use native.Mathlib.Omega.{arith}
 use lib.ListN.{length, getD}
 use Rattle.formats.specs.Checks.{Check, check, firstNo, listChecks}
 use Rattle.formats.proofs.CheckLaws.{true-false, firstNo-no, firstNo-head}
-use Rattle.book.specs.Lends.{Lent, fits}
+use Rattle.formats.specs.Inputs.{Inputs, fits}
 use Rattle.book.specs.Calls as calls
 use Rattle.book.specs.Calls.{Call, load, start, advance, cancel, read, Answer, refused, mayStart, isRunning}
 use Rattle.book.specs.Refusals.{refusal}
@@ -37,7 +37,7 @@ may-by f s h e b g =
     g ∙ ap (λ (x : Head). valid (whole x (s .nodes) (s .labels) (s .roots) (s .states)) && f (phaseOf (x .phase))) e
 
 -- a Start that no check refuses finds a plan loaded
-start-loaded : (s : Session) → Shaped s → valid s ≡ true → (x : Lent) (vs bs : List ℕ)
+start-loaded : (s : Session) → Shaped s → valid s ≡ true → (x : Inputs) (vs bs : List ℕ)
     → refusal (recordOf s .phase) (recordOf s .sizes) (start x vs bs) ≡ 0 → 0 < recordOf s .sizes .n
 unfolding refusal recordOf
 start-loaded s h v x vs bs e =
@@ -46,7 +46,7 @@ start-loaded s h v x vs bs e =
     start-sized (phaseOf (s .phase)) (recordOf s) m (holds-of s h v) .nodes-least
 
 -- an advance that no check refuses finds a root that is a node
-next-inside : (s : Session) → Shaped s → valid s ≡ true → (x : Lent)
+next-inside : (s : Session) → Shaped s → valid s ≡ true → (x : Inputs)
     → refusal (recordOf s .phase) (recordOf s .sizes) (advance x) ≡ 0
     → getD (recordOf s .roots) (length (recordOf s .states)) 0 < recordOf s .sizes .n
 unfolding refusal recordOf

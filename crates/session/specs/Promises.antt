@@ -13,7 +13,7 @@ use mathlib.Core.Bool.{true, cond}
 use mathlib.Core.List.{List}
 use Rattle.formats.specs.Built.{builtLinks, builtStates}
 use Rattle.tables.specs.Answers.{written}
-use Rattle.book.specs.Lends.{Lent}
+use Rattle.formats.specs.Inputs.{Inputs}
 use Rattle.book.specs.Calls.{Call, load, Answer, refused, accepted, parts, more, finished, told}
 use Rattle.book.specs.Refusals.{refusal}
 use Rattle.book.specs.Model.{act}
@@ -67,7 +67,7 @@ pub record CallDone (s : Session) (c : Call) (a : Answer) (s′ : Session) : Typ
   pub kept : valid s ≡ true → Kept (recordOf s) c a (act (recordOf s) c .record′)
 
 -- Load's besides: the tables of the definition in the lent buffers, excess untouched; as at entry where it is refused
-pub record LoadDone (s : Session) (x : Lent) (a : Answer) (s′ : Session) (nums′ bytes′ : List ℕ) : Type 0 where
+pub record LoadDone (s : Session) (x : Inputs) (a : Answer) (s′ : Session) (nums′ bytes′ : List ℕ) : Type 0 where
   pub call : CallDone s (load x) a s′
-  pub links-written : nums′ ≡ written (refusalOn s (load x)) (builtLinks (x .plan)) (x .nums)
-  pub states-written : bytes′ ≡ written (refusalOn s (load x)) (builtStates (x .plan) (x .rules)) (x .bytes)
+  pub links-written : nums′ ≡ written (refusalOn s (load x)) (builtLinks (x .plan)) (x .nodeTable)
+  pub states-written : bytes′ ≡ written (refusalOn s (load x)) (builtStates (x .plan) (x .rules)) (x .stateTable)

@@ -14,7 +14,7 @@ use lib.Dec.{leb, ltb, eqb}
 use lib.ListN.{length, take, drop, replicate}
 use Rattle.formats.specs.Bytes.{allBelow}
 use Rattle.formats.specs.Limits.{nodeLimit, stateLimit, labelLimit, changeLimit, within}
-use Rattle.book.specs.Lends.{Sizes}
+use Rattle.formats.specs.Inputs.{Sizes}
 use Rattle.book.specs.Calls as calls
 use Rattle.book.specs.Model.{Record}
 use Rattle.session.specs.declared.state.Phase.{Phase}

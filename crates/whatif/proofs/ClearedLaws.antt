@@ -18,7 +18,8 @@ use Rattle.formats.proofs.InputLaws.{list-passes}
 use Rattle.formats.specs.Built.{builtLinks, builtStates}
 use Rattle.tables.specs.Answers.{written}
 use Rattle.ready.specs.Parts.{Part}
-use Rattle.book.specs.Lends.{Lent, Sizes, sizesIn, fits, usedNums, usedBytes, sameLinks, sameLent, linksBuilt, bytesBuilt, sound}
+use Rattle.formats.specs.Inputs.{Inputs, Sizes, sizesIn, fits, usedNodeTable, usedStateTable, sameNodeInputs, sameInputs}
+use Rattle.formats.specs.Inputs.{nodeTableBuilt, stateTableBuilt, sound}
 use Rattle.book.specs.Calls.{Call, load, start, advance, read, Answer, refused, accepted, more, finished, Phase, isRunning, isAnswered}
 use Rattle.book.specs.Calls.{mayStart}
 use Rattle.book.specs.Refusals.{refusal}
@@ -38,7 +39,7 @@ use Rattle.book.proofs.QuestionTheorem.{question}
 use Rattle.book.proofs.WrittenSound.{loaded, written-sound, written-fits, start-written}
 use Rattle.session.specs.declared.state.Session.{Session}
 use Rattle.session.specs.Records.{freshSession}
-use Rattle.session.specs.Tests.{lentOf}
+use Rattle.formats.specs.Inputs.{inputsOf}
 use Rattle.session.specs.declared.answers.Doing.{Doing}
 use Rattle.session.specs.declared.answers.Doing.the-variants.{Done}
 use Rattle.session.specs.Promises.{LoadDone, doingAnswer, answerOn, recordOn, refusalOn}
@@ -85,12 +86,12 @@ module _ (s : Session) (b : Book) (F : Follows s b) (c : Call) (a : Answer) (b�
 
 -- ---- a clean question
 
-module _ (z : Sizes) (x : Lent) (long : fits z x ≡ true) where
-  same : sameLent z x x ≡ true
-  unfolding sameLent sameLinks
+module _ (z : Sizes) (x : Inputs) (long : fits z x ≡ true) where
+  same : sameInputs z x x ≡ true
+  unfolding sameInputs sameNodeInputs
   same =
       and-both _ _ (and-both _ _ (sameList-is (x .plan) (x .plan) refl) (and-both _ _ (sameList-is (x .rules) (x .rules) refl)
-      (sameList-is (usedNums z x) (usedNums z x) refl))) (sameList-is (usedBytes z x) (usedBytes z x) refl)
+      (sameList-is (usedNodeTable z x) (usedNodeTable z x) refl))) (sameList-is (usedStateTable z x) (usedStateTable z x) refl)
 
   advance-allowed : refusal Phase.running z (advance x) ≡ 0
   unfolding refusal isRunning firstNo
@@ -103,7 +104,7 @@ module _ (z : Sizes) (x : Lent) (long : fits z x ≡ true) where
   advance-step q c tr e =
       ap (λ (n : ℕ). decided n (going z q c tr) (advance x)) advance-allowed
       ∙ ap (λ (b : Bool). cond b (goesOn (going z q c tr) (at q (suc c) (longer z (at q c tr) x))) (firmly (going z q c tr) x (at q c tr)))
-      (subst (λ (y : Lent). sameLent z y x ≡ true) (sym e) same)
+      (subst (λ (y : Inputs). sameInputs z y x ≡ true) (sym e) same)
 
   -- a Read tells the fresh run's answer
   read-step : (q : Question) (c : ℕ) (tr : List Part) → step (over z q c tr) read ≡ settled (freshAnswer q) (over z q c tr)
@@ -149,7 +150,7 @@ few-parts : (m p : ℕ) → Few m p → m ≤ 64 → p ≤ 254
 few-parts zero p h l = omega (arith, h .one refl)
 few-parts (suc m) p h l = omega (arith, h .few (omega arith))
 
-module _ (y : Lent) (passed : refusal (phase (newBook .state)) (newBook .sizes) (load y) ≡ 0) (s : Session)
+module _ (y : Inputs) (passed : refusal (phase (newBook .state)) (newBook .sizes) (load y) ≡ 0) (s : Session)
     (F : Follows s (book State.loaded (sizesIn y))) (vs bs : List ℕ) where
   start-number : refusal Phase.loaded (sizesIn y) (start (loaded y) vs bs) ≡ firstNo (listChecks (sizesIn y .n) (sizesIn y .k) vs bs)
   unfolding refusal mayStart
@@ -175,7 +176,7 @@ module _ (y : Lent) (passed : refusal (phase (newBook .state)) (newBook .sizes) 
       let w = start-written p (newBook .sizes) y State.loaded vs bs passed refl e in
       let a = settled-answer s (book State.loaded (sizesIn y)) F (start (loaded y) vs bs) _ _ w in
       let G = settled-follows s (book State.loaded (sizesIn y)) F (start (loaded y) vs bs) _ _ w in
-      let l = and-left (linksBuilt (sizesIn y) (loaded y)) (bytesBuilt (sizesIn y) (loaded y))
+      let l = and-left (nodeTableBuilt (sizesIn y) (loaded y)) (stateTableBuilt (sizesIn y) (loaded y))
       (written-sound p (newBook .sizes) y passed) in
       let k = list-passes (sizesIn y .n) (sizesIn y .k) vs bs e in
       let few : partCount q ≤ 254 = few-parts (length vs) (partCount q) (ready-count layers (sizesIn y) (loaded y) vs l (k .nodes-below))
@@ -196,7 +197,7 @@ module _ (y : Lent) (passed : refusal (phase (newBook .state)) (newBook .sizes) 
 -- ---- the theorem
 
 -- an accepted Load passed its checks, and leaves the session and the book loaded
-load-passed : (y : Lent) → answerOn freshSession (load y) ≡ accepted → refusal (phase (newBook .state)) (newBook .sizes) (load y) ≡ 0
+load-passed : (y : Inputs) → answerOn freshSession (load y) ≡ accepted → refusal (phase (newBook .state)) (newBook .sizes) (load y) ≡ 0
 unfolding step decided
 load-passed y e =
     go (refusal (phase (newBook .state)) (newBook .sizes) (load y))
@@ -206,41 +207,41 @@ load-passed y e =
     go zero h = refl
     go (suc n) h = absurd (true-false (sym (ap isRefused h)))
 
-load-follows : (y : Lent) → refusal (phase (newBook .state)) (newBook .sizes) (load y) ≡ 0
+load-follows : (y : Inputs) → refusal (phase (newBook .state)) (newBook .sizes) (load y) ≡ 0
     → Follows (recordOn freshSession (load y)) (book State.loaded (sizesIn y))
 unfolding step decided proceed
 load-follows y e =
     settled-follows freshSession newBook fresh-follows (load y) accepted (book State.loaded (sizesIn y))
     (ap (λ (n : ℕ). decided n newBook (load y)) e)
 
-same-lent : (p p′ r r′ n n′ b b′ : List ℕ) → p′ ≡ p → r′ ≡ r → n′ ≡ n → b′ ≡ b → lentOf p r n b ≡ lentOf p′ r′ n′ b′
+same-lent : (p p′ r r′ n n′ b b′ : List ℕ) → p′ ≡ p → r′ ≡ r → n′ ≡ n → b′ ≡ b → inputsOf p r n b ≡ inputsOf p′ r′ n′ b′
 same-lent p p′ r r′ n n′ b b′ e f g h = rw (e, f, g, h) refl
 
-lent-is : (s : Session) (x : Lent) (C : Cleared s x) → loaded (C .lent) ≡ x
+lent-is : (s : Session) (x : Inputs) (C : Cleared s x) → loaded (C .lent) ≡ x
 unfolding loaded
-lent-is s x C = same-lent _ (x .plan) _ (x .rules) _ (x .nums) _ (x .bytes) (C .plan) (C .rules) (C .nums) (C .bytes)
+lent-is s x C = same-lent _ (x .plan) _ (x .rules) _ (x .nodeTable) _ (x .stateTable) (C .plan) (C .rules) (C .nums) (C .bytes)
 
-pub cleared-answer : (s : Session) (x : Lent) (vs bs : List ℕ) → Cleared s x → askedOn s x vs bs ≡ answerTo (x .plan) (x .rules) vs bs
+pub cleared-answer : (s : Session) (x : Inputs) (vs bs : List ℕ) → Cleared s x → askedOn s x vs bs ≡ answerTo (x .plan) (x .rules) vs bs
 unfolding loaded
 cleared-answer s x vs bs C =
     let y = C .lent in
     let passed = load-passed y (C .taken) in
     let F = subst (λ (t : Session). Follows t (book State.loaded (sizesIn y))) (sym (C .session)) (load-follows y passed) in
-    subst (λ (t : Lent). askedOn s t vs bs ≡ answerTo (t .plan) (t .rules) vs bs) (lent-is s x C) (told y passed s F vs bs)
+    subst (λ (t : Inputs). askedOn s t vs bs ≡ answerTo (t .plan) (t .rules) vs bs) (lent-is s x C) (told y passed s F vs bs)
 
 -- ---- an accepted Load of a fresh session clears it
 
-fresh-refusal : (y : Lent) → answerOn freshSession (load y) ≡ accepted → refusalOn freshSession (load y) ≡ 0
+fresh-refusal : (y : Inputs) → answerOn freshSession (load y) ≡ accepted → refusalOn freshSession (load y) ≡ 0
 unfolding refusalOn freshRecord idle newBook phase
 fresh-refusal y e =
     rw (fresh-seen .passes)
     (ap (λ (r : Record). refusal (r .phase) (r .sizes) (load y)) (fresh-seen .holds) ∙ load-passed y e)
 
 fresh-cleared : (s : Session) (p r n b n′ b′ : List ℕ) (t : Doing) → t ≡ Done
-    → LoadDone freshSession (lentOf p r n b) (doingAnswer t) s n′ b′ → Cleared s (lentOf p r n′ b′)
+    → LoadDone freshSession (inputsOf p r n b) (doingAnswer t) s n′ b′ → Cleared s (inputsOf p r n′ b′)
 unfolding doingAnswer
 fresh-cleared s p r n b n′ b′ t e L =
-    let y = lentOf p r n b in
+    let y = inputsOf p r n b in
     let a : answerOn freshSession (load y) ≡ accepted = sym (L .call .tells) ∙ ap doingAnswer e in
     let z = fresh-refusal y a in
     record {
@@ -249,11 +250,11 @@ fresh-cleared s p r n b n′ b′ t e L =
       session = L .call .leaves;
       plan = refl;
       rules = refl;
-      nums = L .links-written ∙ ap (λ (k : ℕ). written k (builtLinks p) n) z;
-      bytes = L .states-written ∙ ap (λ (k : ℕ). written k (builtStates p r) b) z;
+      nodeTable = L .links-written ∙ ap (λ (k : ℕ). written k (builtLinks p) n) z;
+      stateTable = L .states-written ∙ ap (λ (k : ℕ). written k (builtStates p r) b) z;
     }
 
 pub load-cleared : (f s : Session) (p r n b n′ b′ : List ℕ) (t : Doing) → f ≡ freshSession → t ≡ Done
-    → LoadDone f (lentOf p r n b) (doingAnswer t) s n′ b′ → Cleared s (lentOf p r n′ b′)
+    → LoadDone f (inputsOf p r n b) (doingAnswer t) s n′ b′ → Cleared s (inputsOf p r n′ b′)
 load-cleared f s p r n b n′ b′ t d e L =
-    fresh-cleared s p r n b n′ b′ t e (subst (λ (g : Session). LoadDone g (lentOf p r n b) (doingAnswer t) s n′ b′) d L)
+    fresh-cleared s p r n b n′ b′ t e (subst (λ (g : Session). LoadDone g (inputsOf p r n b) (doingAnswer t) s n′ b′) d L)

@@ -8,7 +8,7 @@
 -- Assumes nothing.
 use Prim.Native.Nat.{ℕ, zero, suc}
 use mathlib.Core.List.{List}
-use Rattle.book.specs.Lends.{Lent}
+use Rattle.formats.specs.Inputs.{Inputs}
 use Rattle.book.specs.Calls.{Answer, refused, accepted, parts, more, finished, told, start, advance, read}
 use Rattle.session.specs.declared.state.Session.{Session}
 use Rattle.session.specs.Promises.{answerOn, recordOn}
@@ -22,7 +22,7 @@ afterAdvance accepted r m = m
 afterAdvance (parts p) r m = m
 afterAdvance (told q y p l) r m = m
 
-unfoldable pub finishedIn : ℕ → Session → Lent → Answer
+unfoldable pub finishedIn : ℕ → Session → Inputs → Answer
 finishedIn zero s x = answerOn s read
 finishedIn (suc f) s x =
     afterAdvance (answerOn s (advance x)) (answerOn (recordOn s (advance x)) read) (finishedIn f (recordOn s (advance x)) x)
@@ -39,5 +39,5 @@ afterStart more r = r
 afterStart accepted r = r
 afterStart (told q y p l) r = r
 
-unfoldable pub askedOn : Session → Lent → List ℕ → List ℕ → Answer
+unfoldable pub askedOn : Session → Inputs → List ℕ → List ℕ → Answer
 askedOn s x vs bs = afterStart (answerOn s (start x vs bs)) (finishedIn mostParts (recordOn s (start x vs bs)) x)
