@@ -10,9 +10,11 @@ use lib.Dec.{eqb}
 use lib.ListN.{length, getD}
 use Rattle.questions.specs.Climbs.{Reached}
 use Rattle.formats.specs.Inputs.{Inputs}
-use Rattle.book.specs.Calls.{Call, load, start, advance, cancel, read, Answer, more, finished, told, Phase}
-use Rattle.book.specs.Refusals.{refusal}
-use Rattle.book.specs.Model.{Record, Acted, acted, stepped, marksBy, lastOf, proceeds, unless, act, startWith, advanceWith}
+use Rattle.model.specs.Calls.{Call, load, start, advance, cancel, read, Answer, more, finished, told}
+use Rattle.model.specs.Calls.{Phase}
+use Rattle.model.specs.Refusals.{refusal}
+use Rattle.model.specs.Model.{Record, Acted, acted, stepped, marksBy, lastOf, proceeds, unless, act}
+use Rattle.model.specs.Model.{startWith, advanceWith}
 use Rattle.capi.specs.Panel.{answerNumber, partsOf, finishedOf, Places, toldPlaces}
 use Rattle.capi.specs.Heard.{heardDone, heardStart, heardAdvance, heardRead}
 

@@ -13,7 +13,7 @@ use Rattle.formats.specs.Built.{builtLinks, builtStates}
 use Rattle.formats.proofs.CheckLaws.{true-false, and-left, and-right}
 use Rattle.tables.specs.Answers.{written}
 use Rattle.formats.specs.Inputs.{Inputs}
-use Rattle.book.specs.Calls.{Call, load, read, Answer, refused, accepted, parts, more, finished, told}
+use Rattle.model.specs.Calls.{Call, load, read, Answer, refused, accepted, parts, more, finished, told}
 use Rattle.session.specs.declared.answers.Done.{Done}
 use Rattle.session.specs.declared.answers.Started.{Started}
 use Rattle.session.specs.declared.answers.Advanced.{Advanced}
@@ -23,8 +23,8 @@ use Rattle.session.specs.declared.answers.Advancing.the-variants.{More, Finishe
 use Rattle.session.specs.declared.answers.Reading.{Reading}
 use Rattle.session.specs.declared.answers.Reading.the-variants.{Told, Refused as NotRead}
 use Rattle.session.specs.declared.state.Session.{Session}
-use Rattle.book.specs.Model.{act}
-use Rattle.book.specs.Kept.{Kept}
+use Rattle.model.specs.Model.{act}
+use Rattle.model.specs.LeftOpen.{Kept}
 use Rattle.session.specs.Records.{recordOf, valid}
 use Rattle.session.specs.Promises.{doingAnswer, startingAnswer, advancingAnswer, readingAnswer, answerOn, recordOn, refusalOn, CallDone, LoadDone}
 use Rattle.records.specs.Layout.{recordLength, encoded, decoded, laidOut, validBytes}

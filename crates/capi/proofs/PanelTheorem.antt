@@ -15,13 +15,15 @@ use lib.ListN.{length, getD, replicate}
 use Rattle.formats.proofs.CheckLaws.{and-left}
 use Rattle.questions.specs.Climbs.{Reached}
 use Rattle.formats.specs.Inputs.{Inputs}
-use Rattle.book.specs.Calls.{Call, load, start, advance, cancel, read, Answer, more, finished, Phase}
-use Rattle.book.specs.Refusals.{refusal}
-use Rattle.book.specs.Demand3.{Demand3}
-use Rattle.book.specs.Model.{Record, Acted, acted, stepped, marksBy, freshRecord, proceeds, unless, act, startWith, advanceWith, Does}
-use Rattle.book.proofs.Demand3Theorem.{Refines, demand-3, demand-3-of}
-use Rattle.book.proofs.LayersHold.{layers}
-use Rattle.book.proofs.QuestionTheorem.{QuestionsTold, question-told, questions-of}
+use Rattle.model.specs.Calls.{Call, load, start, advance, cancel, read, Answer, more, finished, Phase}
+use Rattle.model.specs.Refusals.{refusal}
+use Rattle.reference.specs.Demand3.{Demand3}
+use Rattle.model.specs.Model.{Record, Acted, acted, stepped, marksBy, freshRecord, proceeds, unless, act}
+use Rattle.model.specs.Model.{startWith, advanceWith, Does}
+use Rattle.model.proofs.Refinement.{Refines}
+use Rattle.reference.proofs.Demand3Theorem.{demand-3, demand-3-of}
+use Rattle.model.proofs.LayersHold.{layers}
+use Rattle.reference.proofs.QuestionTheorem.{QuestionsTold, question-told, questions-of}
 use Rattle.session.specs.declared.state.Session.{Session}
 use Rattle.session.specs.Records.{recordOf, sessionOf, valid, freshSession}
 use Rattle.session.specs.Promises.{answerOn, recordOn}

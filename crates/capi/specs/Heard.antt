@@ -10,7 +10,8 @@ use mathlib.Core.Bool.{cond}
 use mathlib.Core.List.{List}
 use lib.Dec.{eqb}
 use Rattle.formats.specs.Inputs.{Inputs}
-use Rattle.book.specs.Calls.{Call, load, start, advance, cancel, read, Answer, refused, accepted, parts, more, finished, told}
+use Rattle.model.specs.Calls.{Call, load, start, advance, cancel, read, Answer, refused, accepted, parts}
+use Rattle.model.specs.Calls.{more, finished, told}
 use Rattle.capi.specs.Panel.{CallExported, LoadExported, StartExported, AdvanceExported, ReadExported, Places}
 
 unfoldable pub heardDone : ℕ → Answer

@@ -14,9 +14,10 @@ use mathlib.Core.List.{List}
 use Rattle.formats.specs.Built.{builtLinks, builtStates}
 use Rattle.tables.specs.Answers.{written}
 use Rattle.formats.specs.Inputs.{Inputs}
-use Rattle.book.specs.Calls.{Call, load, start, advance, cancel, read, Answer, refused, accepted, parts, more, finished, told}
-use Rattle.book.specs.Model.{act}
-use Rattle.book.specs.Kept.{Kept}
+use Rattle.model.specs.Calls.{Call, load, start, advance, cancel, read, Answer, refused, accepted, parts}
+use Rattle.model.specs.Calls.{more, finished, told}
+use Rattle.model.specs.Model.{act}
+use Rattle.model.specs.LeftOpen.{Kept}
 use Rattle.session.specs.Records.{recordOf}
 use Rattle.session.specs.Promises.{answerOn, recordOn, refusalOn}
 use Rattle.records.specs.Layout.{encoded, decoded, laidOut, validBytes}

@@ -12,7 +12,7 @@ use session::answers::Started;
 use session::answers::Starting;
 ghost use mathlib.Core.Path.{_≡_};
 ghost use lib.ListN.{length};
-ghost use Rattle.book.specs.Calls as calls;
+ghost use Rattle.model.specs.Calls as calls;
 ghost use Rattle.records.specs.Layout.{recordLength};
 ghost use Rattle.formats.specs.Inputs.{inputsOf};
 ghost use Rattle.capi.specs.Panel.{CallExported, LoadExported, StartExported, AdvanceExported, ReadExported};

@@ -8,7 +8,7 @@ use Prim.Native.Nat.{ℕ}
 use mathlib.Core.Path.{_≡_}
 use mathlib.Core.List.{List}
 use Rattle.formats.specs.Inputs.{Inputs}
-use Rattle.book.specs.Calls.{Call, load, start, advance, cancel, read, Answer}
+use Rattle.model.specs.Calls.{Call, load, start, advance, cancel, read, Answer}
 use Rattle.session.specs.declared.state.Session.{Session}
 use Rattle.session.specs.declared.answers.Doing.{Doing}
 use Rattle.session.specs.declared.answers.Starting.{Starting}

@@ -7,7 +7,7 @@ use session::answers::Reading;
 use session::answers::Starting;
 use session::state::Session;
 ghost use mathlib.Core.Path.{_≡_};
-ghost use Rattle.book.specs.Calls as calls;
+ghost use Rattle.model.specs.Calls as calls;
 ghost use Rattle.session.specs.Promises.{CallDone, LoadDone, doingAnswer, startingAnswer, advancingAnswer, readingAnswer, answerOn};
 ghost use Rattle.formats.specs.Inputs.{inputsOf};
 

@@ -9,7 +9,7 @@ use Rattle.questions.specs.declared.answer.Climbed.{Climbed}
 use Rattle.questions.specs.declared.answer.Climbed.the-variants.{Reached, Outside}
 use Rattle.questions.specs.declared.roots.Rooted.{Rooted}
 use Rattle.formats.specs.Inputs.{Inputs}
-use Rattle.book.specs.Calls.{start, advance, read}
+use Rattle.model.specs.Calls.{start, advance, read}
 use Rattle.session.specs.declared.answers.Started.{Started}
 use Rattle.session.specs.declared.answers.Starting.{Starting}
 use Rattle.session.specs.declared.answers.Starting.the-variants.{Parts, Refused as NotStarted}

@@ -20,7 +20,8 @@ use Rattle.questions.specs.declared.answer.Climbed.{Climbed}
 use Rattle.questions.specs.declared.answer.Climbed.the-variants.{Reached, Outside}
 use Rattle.questions.specs.declared.roots.Rooted.{Rooted}
 use Rattle.formats.specs.Inputs.{Inputs}
-use Rattle.book.specs.Calls.{start, advance, read, Answer, refused, accepted, parts, more, finished, told}
+use Rattle.model.specs.Calls.{start, advance, read, Answer, refused, accepted, parts, more, finished}
+use Rattle.model.specs.Calls.{told}
 use Rattle.session.specs.declared.state.Session.{Session}
 use Rattle.session.specs.Promises.{answerOn, recordOn}
 use Rattle.session.specs.Records.{sessionOf}

@@ -22,13 +22,14 @@ use Rattle.questions.proofs.ClimbBounds.{Bounded}
 use Rattle.questions.proofs.PartBounds.{part-bounded}
 use Rattle.questions.proofs.RootsLaws.{rootsOn-some, rootsOn-fits, rootsOn-rises-to}
 use Rattle.formats.specs.Inputs.{Inputs, Sizes, sizesIn, fits, usedNodeTable}
-use Rattle.book.specs.Calls as calls
-use Rattle.book.specs.Calls.{Call, load, start, advance, cancel, read, mayLoad, mayStart, isRunning}
-use Rattle.book.specs.Refusals.{refusal}
-use Rattle.book.specs.Model.{Record, idle, freshRecord, loadedRecord, viewBy, marksBy, started, startWith, stepped}
-use Rattle.book.specs.Model.{advanceWith}
-use Rattle.book.specs.Model.{partNext, acted, proceeds, unless, act}
-use Rattle.book.proofs.TrailLaws.{below-more}
+use Rattle.model.specs.Calls as calls
+use Rattle.model.specs.Calls.{Call, load, start, advance, cancel, read, mayLoad, mayStart, isRunning}
+use Rattle.model.specs.Refusals.{refusal}
+use Rattle.model.specs.Model.{Record, idle, freshRecord, loadedRecord, viewBy, marksBy, started}
+use Rattle.model.specs.Model.{startWith, stepped}
+use Rattle.model.specs.Model.{advanceWith}
+use Rattle.model.specs.Model.{partNext, acted, proceeds, unless, act}
+use Rattle.model.proofs.ResultLaws.{below-more}
 use Rattle.session.specs.declared.state.Phase.the-variants.{Empty}
 use Rattle.session.specs.declared.state.Session.{Session}
 use Rattle.session.specs.Records.{phaseTo, recordOf, sessionOf, padded, zeroFrom, risesTo}

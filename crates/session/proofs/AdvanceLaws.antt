@@ -24,10 +24,10 @@ use Rattle.questions.proofs.PartFits.{Lengths, lengths-are, given-yes}
 use Rattle.questions.proofs.ClimbBounds.{Bounded}
 use Rattle.questions.proofs.PartBounds.{part-bounded}
 use Rattle.formats.specs.Inputs.{Inputs, fits}
-use Rattle.book.specs.Calls as calls
-use Rattle.book.specs.Calls.{Call, advance, isRunning}
-use Rattle.book.specs.Refusals.{refusal}
-use Rattle.book.specs.Model.{Acted, acted, viewBy, stepped, advanceWith, partNext, proceeds}
+use Rattle.model.specs.Calls as calls
+use Rattle.model.specs.Calls.{Call, advance, isRunning}
+use Rattle.model.specs.Refusals.{refusal}
+use Rattle.model.specs.Model.{Acted, acted, viewBy, stepped, advanceWith, partNext, proceeds}
 use Rattle.session.specs.declared.state.Phase.{Phase}
 use Rattle.session.specs.declared.state.Phase.the-variants.{Running, Answered}
 use Rattle.session.specs.declared.state.Session.{Session}

@@ -13,12 +13,13 @@ use lib.ListN.{length, getD}
 use Rattle.formats.specs.Checks.{Check, check, firstNo, listChecks}
 use Rattle.formats.proofs.CheckLaws.{true-false, firstNo-no, firstNo-head}
 use Rattle.formats.specs.Inputs.{Inputs, fits}
-use Rattle.book.specs.Calls as calls
-use Rattle.book.specs.Calls.{Call, load, start, advance, cancel, read, Answer, refused, mayStart, isRunning}
-use Rattle.book.specs.Refusals.{refusal}
-use Rattle.book.specs.Model.{Acted, proceeds, unless, act}
-use Rattle.book.specs.Kept.{Kept}
-use Rattle.book.proofs.KeptLaws.{refused-keeps, start-kept, advance-kept}
+use Rattle.model.specs.Calls as calls
+use Rattle.model.specs.Calls.{Call, load, start, advance, cancel, read, Answer, refused, mayStart}
+use Rattle.model.specs.Calls.{isRunning}
+use Rattle.model.specs.Refusals.{refusal}
+use Rattle.model.specs.Model.{Acted, proceeds, unless, act}
+use Rattle.model.specs.LeftOpen.{Kept}
+use Rattle.model.proofs.LeftOpenLaws.{refused-keeps, start-kept, advance-kept}
 use Rattle.formats.proofs.TurnLaws.{and-yes}
 use Rattle.session.specs.declared.state.Phase.{Phase}
 use Rattle.session.specs.declared.state.Head.{Head}

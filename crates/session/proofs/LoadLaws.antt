@@ -20,10 +20,10 @@ use Rattle.tables.specs.declared.answers.Building.{Building}
 use Rattle.tables.specs.declared.answers.Building.the-variants.{Built, Refused}
 use Rattle.tables.specs.Answers.{numberOf, toldBuild, written, BuildDone}
 use Rattle.formats.specs.Inputs.{Inputs}
-use Rattle.book.specs.Calls as calls
-use Rattle.book.specs.Calls.{load, mayLoad}
-use Rattle.book.specs.Refusals.{refusal}
-use Rattle.book.specs.Model.{proceeds}
+use Rattle.model.specs.Calls as calls
+use Rattle.model.specs.Calls.{load, mayLoad}
+use Rattle.model.specs.Refusals.{refusal}
+use Rattle.model.specs.Model.{proceeds}
 use Rattle.session.specs.declared.state.Session.{Session}
 use Rattle.session.specs.declared.answers.Doing.the-variants.{Done as Made, Refused as NotDone}
 use Rattle.session.specs.Records.{phaseOf, sizesOf, recordOf, sessionOf, valid}

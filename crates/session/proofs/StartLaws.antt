@@ -23,10 +23,10 @@ use Rattle.questions.proofs.PartFits.{lengths-are}
 use Rattle.questions.proofs.FitLaws.{fit-all, given-yes}
 use Rattle.questions.proofs.RootsLaws.{rootsOn-fits}
 use Rattle.formats.specs.Inputs.{Inputs, fits}
-use Rattle.book.specs.Calls as calls
-use Rattle.book.specs.Calls.{Call, start, mayStart}
-use Rattle.book.specs.Refusals.{refusal}
-use Rattle.book.specs.Model.{startWith, started, proceeds}
+use Rattle.model.specs.Calls as calls
+use Rattle.model.specs.Calls.{Call, start, mayStart}
+use Rattle.model.specs.Refusals.{refusal}
+use Rattle.model.specs.Model.{startWith, started, proceeds}
 use Rattle.session.specs.declared.state.Session.{Session}
 use Rattle.session.specs.declared.answers.Starting.the-variants.{Parts, Refused as NotStarted}
 use Rattle.session.specs.Records.{phaseOf, phaseTo, sizesOf, recordOf, sessionOf, padded, valid}

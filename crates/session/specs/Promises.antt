@@ -14,10 +14,10 @@ use mathlib.Core.List.{List}
 use Rattle.formats.specs.Built.{builtLinks, builtStates}
 use Rattle.tables.specs.Answers.{written}
 use Rattle.formats.specs.Inputs.{Inputs}
-use Rattle.book.specs.Calls.{Call, load, Answer, refused, accepted, parts, more, finished, told}
-use Rattle.book.specs.Refusals.{refusal}
-use Rattle.book.specs.Model.{act}
-use Rattle.book.specs.Kept.{Kept}
+use Rattle.model.specs.Calls.{Call, load, Answer, refused, accepted, parts, more, finished, told}
+use Rattle.model.specs.Refusals.{refusal}
+use Rattle.model.specs.Model.{act}
+use Rattle.model.specs.LeftOpen.{Kept}
 use Rattle.session.specs.declared.state.Session.{Session}
 use Rattle.session.specs.declared.answers.Doing.{Doing}
 use Rattle.session.specs.declared.answers.Doing.the-variants.{Done as Made, Refused as NotDone}

@@ -13,7 +13,7 @@ use mathlib.Core.List.{List}
 use lib.ListN.{length}
 use Rattle.formats.specs.Plan.{nodeCount}
 use Rattle.formats.specs.Rules.{stateCount, labelCount}
-use Rattle.book.specs.Model.{Record, loadedRecord}
+use Rattle.model.specs.Model.{Record, loadedRecord}
 use Rattle.session.specs.declared.state.Head.{Head}
 use Rattle.session.specs.declared.state.Session.{Session}
 

@@ -15,7 +15,7 @@ ghost use mathlib.Core.Bool.{true, cond};
 ghost use Prim.Native.Nat.{_<_};
 ghost use lib.ListN.{length, take, set};
 ghost use Rattle.questions.specs.PartTold.{toldReached, partGiven};
-ghost use Rattle.book.specs.Calls as calls;
+ghost use Rattle.model.specs.Calls as calls;
 ghost use Rattle.session.specs.Promises.{CallDone, advancingAnswer};
 ghost use Rattle.session.specs.Records.{whole};
 ghost use Rattle.session.specs.Tests.{Shaped};

@@ -10,7 +10,7 @@ use formats::lists::check_list;
 use questions::fits::lengths_fit;
 use questions::roots::roots;
 ghost use mathlib.Core.Path.{_≡_};
-ghost use Rattle.book.specs.Calls as calls;
+ghost use Rattle.model.specs.Calls as calls;
 ghost use Rattle.session.specs.Promises.{CallDone, startingAnswer};
 ghost use Rattle.formats.specs.Inputs.{inputsOf};
 ghost use Rattle.session.specs.Steps.{ListArgs, startedOf};

@@ -6,7 +6,7 @@ use Prim.Native.Nat.{ℕ, suc}
 use mathlib.Core.Path.{_≡_, refl, ap, _∙_}
 use mathlib.Core.List.{List}
 use Rattle.formats.specs.Inputs.{Inputs}
-use Rattle.book.specs.Calls.{start, advance, read}
+use Rattle.model.specs.Calls.{start, advance, read}
 use Rattle.session.specs.declared.state.Session.{Session}
 use Rattle.session.specs.declared.answers.Starting.{Starting}
 use Rattle.session.specs.declared.answers.Starting.the-variants.{Parts, Refused as NotStarted}

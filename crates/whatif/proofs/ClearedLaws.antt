@@ -20,23 +20,25 @@ use Rattle.tables.specs.Answers.{written}
 use Rattle.ready.specs.Parts.{Part}
 use Rattle.formats.specs.Inputs.{Inputs, Sizes, sizesIn, fits, usedNodeTable, usedStateTable, sameNodeInputs, sameInputs}
 use Rattle.formats.specs.Inputs.{nodeTableBuilt, stateTableBuilt, sound}
-use Rattle.book.specs.Calls.{Call, load, start, advance, read, Answer, refused, accepted, more, finished, Phase, isRunning, isAnswered}
-use Rattle.book.specs.Calls.{mayStart}
-use Rattle.book.specs.Refusals.{refusal}
-use Rattle.book.specs.Book.{Question, State, Book, settled, phase, newBook, inState, step, decided, proceed, reading}
-use Rattle.book.specs.Book.{partCount, freshAnswer, longer, advanced, goesOn, firmly, advancing}
-use Rattle.book.specs.Demand3.{Conforms, after, Agrees}
-use Rattle.book.specs.Model.{Record, idle, freshRecord, act}
-use Rattle.book.specs.Alone.{isRefused}
-use Rattle.book.specs.Judge.{answersOf}
-use Rattle.book.proofs.Theorems.{session-model}
-use Rattle.book.proofs.LayersHold.{layers}
-use Rattle.book.proofs.Simulation.{book}
-use Rattle.book.proofs.AloneLaws.{at, going, over}
-use Rattle.book.proofs.Ceilings.{Few, ready-count}
-use Rattle.book.proofs.StartSim.{some-part}
-use Rattle.book.proofs.QuestionTheorem.{question}
-use Rattle.book.proofs.WrittenSound.{loaded, written-sound, written-fits, start-written}
+use Rattle.model.specs.Calls.{Call, load, start, advance, read, Answer, refused, accepted, more}
+use Rattle.model.specs.Calls.{finished, Phase, isRunning, isAnswered}
+use Rattle.model.specs.Calls.{mayStart}
+use Rattle.model.specs.Refusals.{refusal}
+use Rattle.reference.specs.Reference.{Question, State, Book, settled, phase, newBook, inState, step, decided}
+use Rattle.reference.specs.Reference.{proceed, reading}
+use Rattle.reference.specs.Reference.{partCount, freshAnswer, longer, advanced, goesOn, firmly, advancing}
+use Rattle.reference.specs.Demand3.{Conforms, after, Agrees}
+use Rattle.model.specs.Model.{Record, idle, freshRecord, act}
+use Rattle.model.specs.Calls.{isRefused}
+use Rattle.reference.specs.AgreementTest.{answersOf}
+use Rattle.reference.proofs.Theorems.{session-model}
+use Rattle.model.proofs.LayersHold.{layers}
+use Rattle.reference.proofs.Simulation.{book}
+use Rattle.reference.proofs.UndisturbedLaws.{at, going, over}
+use Rattle.reference.proofs.Ceilings.{Few, ready-count}
+use Rattle.reference.proofs.StartSimulation.{some-part}
+use Rattle.reference.proofs.QuestionTheorem.{question}
+use Rattle.reference.proofs.WrittenSound.{loaded, written-sound, written-fits, start-written}
 use Rattle.session.specs.declared.state.Session.{Session}
 use Rattle.session.specs.Records.{freshSession}
 use Rattle.formats.specs.Inputs.{inputsOf}

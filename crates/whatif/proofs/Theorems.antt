@@ -7,7 +7,7 @@ use Prim.Native.Nat.{ℕ}
 use mathlib.Core.Path.{_≡_, refl}
 use mathlib.Core.List.{List, [], _∷_, _++_}
 use Rattle.formats.specs.Inputs.{Inputs}
-use Rattle.book.proofs.Sample.{computing, planA, tableA}
+use Rattle.reference.proofs.Sample.{computing, planA, tableA}
 use Rattle.session.specs.declared.state.Session.{Session}
 use Rattle.whatif.specs.Question.{nodesIn, labelsIn}
 use Rattle.whatif.specs.Asked.{askedOn}

@@ -9,7 +9,8 @@
 use Prim.Native.Nat.{ℕ, zero, suc}
 use mathlib.Core.List.{List}
 use Rattle.formats.specs.Inputs.{Inputs}
-use Rattle.book.specs.Calls.{Answer, refused, accepted, parts, more, finished, told, start, advance, read}
+use Rattle.model.specs.Calls.{Answer, refused, accepted, parts, more, finished, told, start, advance}
+use Rattle.model.specs.Calls.{read}
 use Rattle.session.specs.declared.state.Session.{Session}
 use Rattle.session.specs.Promises.{answerOn, recordOn}
 

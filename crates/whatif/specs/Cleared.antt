@@ -22,7 +22,7 @@ use Rattle.tables.specs.Answers.{written}
 use Rattle.ready.specs.Members.{roots}
 use Rattle.ready.specs.Parts.{questionLinks}
 use Rattle.formats.specs.Inputs.{Inputs}
-use Rattle.book.specs.Calls.{load, Answer, refused, accepted, told}
+use Rattle.model.specs.Calls.{load, Answer, refused, accepted, told}
 use Rattle.session.specs.declared.state.Session.{Session}
 use Rattle.session.specs.Records.{freshSession}
 use Rattle.session.specs.Promises.{answerOn, recordOn}

@@ -7,7 +7,7 @@
 use Prim.Native.Nat.{ℕ}
 use mathlib.Core.Bool.{Bool, true, false}
 use mathlib.Core.List.{List, [], _∷_, _++_}
-use Rattle.book.specs.Calls.{Answer, refused, accepted, parts, more, finished, told}
+use Rattle.model.specs.Calls.{Answer, refused, accepted, parts, more, finished, told}
 use Rattle.whatif.specs.Text.{decimal}
 
 -- " yes " or " no "

@@ -38,7 +38,7 @@ use denote.Triple.Entry.{Args, onEntry}
 use denote.Triple.Spec.{tripleOf}
 use denote.Triple.Table.{entered, cited}
 use denote.Triple.Clauses.{AtExit, atExit, Lasts, lasts, ensured}
-use Rattle.book.specs.Calls as calls
+use Rattle.model.specs.Calls as calls
 use Rattle.session.specs.Promises.{CallDone, advancingAnswer}
 use Rattle.formats.specs.Inputs.{inputsOf}
 use Rattle.session.specs.declared.state.Session.{Session}

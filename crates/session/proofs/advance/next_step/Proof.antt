@@ -1,7 +1,7 @@
 -- `session::advance::next_step` meets its contract. Each return cites the law of its answer.
 -- Assumes nothing.
 use Rattle.formats.specs.Inputs.{Inputs}
-use Rattle.book.specs.Calls.{Call, advance}
+use Rattle.model.specs.Calls.{Call, advance}
 use Rattle.session.specs.declared.state.Session.{Session}
 use Rattle.session.specs.Records.{whole}
 use Rattle.formats.specs.Inputs.{inputsOf}

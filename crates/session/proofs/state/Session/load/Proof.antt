@@ -3,7 +3,7 @@
 use Rattle.formats.specs.Inputs.{Inputs}
 use mathlib.Core.Path.{_≡_}
 use mathlib.Core.Bool.{_&&_}
-use Rattle.book.specs.Calls.{mayLoad}
+use Rattle.model.specs.Calls.{mayLoad}
 use Rattle.session.specs.Records.{phaseOf, valid}
 use Rattle.session.specs.Tests.{Shaped}
 use Rattle.formats.specs.Inputs.{inputsOf}

@@ -5,7 +5,7 @@ use lib.Seq.{length-take-le}
 use Rattle.formats.specs.Inputs.{Inputs}
 use mathlib.Core.Path.{_≡_, sym}
 use mathlib.Core.Bool.{_&&_}
-use Rattle.book.specs.Calls.{mayStart}
+use Rattle.model.specs.Calls.{mayStart}
 use Rattle.session.specs.Records.{phaseOf, valid}
 use Rattle.session.specs.Tests.{Shaped}
 use Rattle.formats.specs.Inputs.{inputsOf}

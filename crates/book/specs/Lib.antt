@@ -1,9 +1,0 @@
-pub mod Calls
-pub mod Refusals
-pub mod Causes
-pub mod Book
-pub mod Demand3
-pub mod Model
-pub mod Alone
-pub mod Judge
-pub mod Kept

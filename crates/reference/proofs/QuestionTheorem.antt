@@ -1,0 +1,200 @@
+-- The further statements of demand 3, about what the calls tell of one question.
+--     question x vs bs    the question that a Start on sound lends x puts
+--     CleanlyTold         of a question that Start accepted on sound lends and that was left alone: the parts that
+--                         Start told, after how many accepted advances finished is told, what Reads tell, ceilings
+--     question-told       it holds in every history from a fresh record
+--     questions-of        and passes on to every form of the calls
+--     told-order          and does not depend on the order of the list
+-- Refused calls may come between; a Cancel may not.
+-- Assumes nothing.
+use Prim.Native.Nat.{ℕ, zero, suc, _+_, _*_, _≤_, _<_}
+use mathlib.Core.Path.{_≡_, refl, sym, ap, _∙_, subst}
+use mathlib.Core.Bool.{true}
+use mathlib.Core.List.{List, [], _∷_, _++_, zip, List·Permᴰ}
+use mathlib.Core.Option.{none, some}
+use native.Mathlib.Omega.{arith}
+use lib.ListN.{length}
+use Rattle.trees.specs.Tree.{height}
+use Rattle.trees.specs.Climb.{digits}
+use Rattle.formats.specs.Bytes.{distinct}
+use Rattle.formats.specs.Plan.{planTree}
+use Rattle.formats.specs.Checks.{firstNo, listChecks}
+use Rattle.formats.proofs.CheckLaws.{true-false, and-left}
+use Rattle.formats.proofs.InputLaws.{list-passes}
+use Rattle.formats.specs.Inputs.{Inputs, Sizes, nodeTableBuilt, stateTableBuilt, sound}
+use Rattle.model.specs.Calls.{Call, start, Answer, refused, parts, more, finished, told}
+use Rattle.model.specs.Refusals.{refusal}
+use Rattle.reference.specs.Reference.{Standing, clean, Question, State, Book, Next, phase, inState, newBook}
+use Rattle.reference.specs.Reference.{step, decided, proceed}
+use Rattle.reference.specs.Reference.{partCount, freshAnswer, standingOf, asked, starting}
+use Rattle.reference.specs.Demand3.{Conforms, after, Agrees}
+use Rattle.model.specs.History.{History}
+use Rattle.model.specs.Model.{freshRecord, Does}
+use Rattle.model.specs.Calls.{isRefused}
+use Rattle.reference.specs.Undisturbed.{advances, finishedAfter, bookAt, LeftAlone, EveryTold, OnlyTold}
+use Rattle.model.proofs.Facts.{Layers}
+use Rattle.reference.proofs.StartSimulation.{some-part}
+use Rattle.model.proofs.ModelLaws.{start-list}
+use Rattle.reference.proofs.Demand3Theorem.{demand-3}
+use Rattle.model.proofs.Refinement.{Refines, refines}
+use Rattle.reference.proofs.Ceilings.{Few, ready-count, question-links}
+use Rattle.reference.proofs.UndisturbedLaws.{going, Alone, agrees-split, left-alone}
+use Rattle.reference.proofs.OrderLaws.{length-order, parts-order, fresh-order}
+
+abbrev pub question : Inputs → List ℕ → List ℕ → Question
+question x vs bs = record { nodes = vs; labels = bs; lent = x; count = 0; standing = clean; trail = [] }
+
+-- n is what Start told, ys are the answers of the calls after it
+pub record CleanlyTold (x : Inputs) (vs bs : List ℕ) (n : ℕ) (ys : List Answer) : Type 0 where
+  -- Start tells the size of the ready set
+  pub parts-are : n ≡ partCount (question x vs bs)
+  -- at most 4 m - 2 parts for m changes, 1 for none
+  pub few : Few (length vs) n
+  -- finished by exactly as many accepted advances as there are parts
+  pub exact : (m : ℕ) → finishedAfter ys ≡ some m → m ≡ n
+  pub unfinished : finishedAfter ys ≡ none → advances ys < n
+  pub most : advances ys ≤ n
+  -- Read tells the fresh run's state and yes or no, the parts, and the moves of their climbs
+  pub only : OnlyTold (freshAnswer (question x vs bs)) ys
+  -- at most three links for each binary digit of the plan's height, for each part told
+  pub links : EveryTold (λ s y p l. l ≤ p * (3 * digits (height (planTree (x .plan))))) ys
+
+-- the same for any form of the calls: cs and xs are the calls and answers before the Start, ds and ys those after it
+abbrev pub QuestionsTold : {Record : Type 0} → Record → (Record → Call → Answer → Record → Type 0) → Type 0
+QuestionsTold fresh Step = (cs : List Call) (xs : List Answer) (x : Inputs) (vs bs : List ℕ) (n : ℕ) (ds : List Call) (ys : List Answer)
+    → length cs ≡ length xs → History Step fresh (cs ++ (start x vs bs ∷ ds)) (xs ++ (parts n ∷ ys))
+    → sound (bookAt newBook cs xs .sizes) x ≡ true → LeftAlone (bookAt newBook cs xs .sizes) x ds ys
+    → CleanlyTold x vs bs n ys
+
+-- ---- the Start
+
+module _ (z : Sizes) (s : State) (x : Inputs) (vs bs : List ℕ) (n : ℕ) (sounds : sound z x ≡ true) where
+  abbrev b : Book
+  b = record { state = s; sizes = z }
+
+  begins-clean : standingOf z x ≡ clean
+  unfolding standingOf
+  begins-clean = rw sounds
+
+  parts-told : (m : ℕ) → parts n ≡ parts m → n ≡ m
+  parts-told m e = cc
+
+  abbrev opened : Standing → Question
+  opened k = record { nodes = vs; labels = bs; lent = x; count = 0; standing = k; trail = [] }
+
+  -- n is the number of parts, and the question runs
+  abbrev Begins : Next → Type 0
+  Begins r = Conforms r (parts n)
+      → (n ≡ partCount (question x vs bs)) × (after r (parts n) ≡ going z (question x vs bs) 0 [])
+
+  begins-at : Begins (starting b (opened (standingOf z x)) (standingOf z x))
+  unfolding starting inState
+  begins-at =
+      subst (λ (k : Standing). Begins (starting b (opened k) k)) (sym begins-clean)
+      (λ e. (parts-told (partCount (question x vs bs)) e, refl))
+
+  begun : Begins (step b (start x vs bs))
+  unfolding step decided proceed asked
+  begun = go (refusal (phase s) z (start x vs bs))
+    where
+      go : (m : ℕ) → Begins (decided m b (start x vs bs))
+      go zero e = begins-at e
+      go (suc m) e = absurd (true-false (sym (ap isRefused e)))
+
+  listed : Conforms (step b (start x vs bs)) (parts n) → firstNo (listChecks (z .n) (z .k) vs bs) ≡ 0
+  unfolding step decided
+  listed e = start-list (phase s) z x vs bs (go (refusal (phase s) z (start x vs bs)) e)
+    where
+      go : (m : ℕ) → Conforms (decided m b (start x vs bs)) (parts n) → m ≡ 0
+      go zero e = refl
+      go (suc m) e = absurd (true-false (sym (ap isRefused e)))
+
+-- ---- what Reads tell
+
+linksIn : Answer → ℕ
+linksIn (told s y p l) = l
+linksIn (refused n) = 0
+linksIn Answer.accepted = 0
+linksIn (parts p) = 0
+linksIn more = 0
+linksIn finished = 0
+
+partsIn : Answer → ℕ
+partsIn (told s y p l) = p
+partsIn (refused n) = 0
+partsIn Answer.accepted = 0
+partsIn (parts p) = 0
+partsIn more = 0
+partsIn finished = 0
+
+few-links : (d : ℕ) (a : Answer) → linksIn a ≤ partsIn a * d → (ys : List Answer) → OnlyTold a ys
+    → EveryTold (λ s y p l. l ≤ p * d) ys
+unfolding linksIn partsIn
+few-links d a h [] o = tt
+few-links d a h (refused n ∷ ys) o = few-links d a h ys o
+few-links d a h (Answer.accepted ∷ ys) o = few-links d a h ys o
+few-links d a h (parts p ∷ ys) o = few-links d a h ys o
+few-links d a h (more ∷ ys) o = few-links d a h ys o
+few-links d a h (finished ∷ ys) o = few-links d a h ys o
+few-links d a h (told s y p l ∷ ys) o =
+    (subst (λ (c : Answer). linksIn c ≤ partsIn c * d) (sym (o .0)) h, few-links d a h ys (o .1))
+
+fresh-few : (q : Question) → linksIn (freshAnswer q) ≤ partsIn
+    (freshAnswer q) * (3 * digits (height (planTree (q .lent .plan))))
+unfolding linksIn partsIn freshAnswer
+fresh-few q = question-links (planTree (q .lent .plan)) (q .nodes)
+
+-- ---- the statements
+
+module _ (L : Layers) (cs : List Call) (xs : List Answer) (x : Inputs) (vs bs : List ℕ) (n : ℕ) (ds : List Call)
+    (ys : List Answer) where
+  -- the N, S and K of the last accepted Load before this Start
+  abbrev pub sizesBefore : Sizes
+  sizesBefore = bookAt newBook cs xs .sizes
+
+  pub question-told : length cs ≡ length xs
+      → History Does freshRecord (cs ++ (start x vs bs ∷ ds)) (xs ++ (parts n ∷ ys))
+      → sound sizesBefore x ≡ true → LeftAlone sizesBefore x ds ys → CleanlyTold x vs bs n ys
+  unfolding sound
+  question-told same h sounds alone =
+      let A = agrees-split newBook cs (start x vs bs ∷ ds) xs (parts n ∷ ys) same (demand-3 L _ _ h) in
+      let B = begun sizesBefore (bookAt newBook cs xs .state) x vs bs n sounds (A .0) in
+      let l = listed sizesBefore (bookAt newBook cs xs .state) x vs bs n sounds (A .0) in
+      let built : nodeTableBuilt sizesBefore x ≡ true =
+      and-left (nodeTableBuilt sizesBefore x) (stateTableBuilt sizesBefore x) sounds in
+      let K : Alone (question x vs bs) 0 ys =
+      left-alone sizesBefore (question x vs bs) 0 [] (some-part (question x vs bs)) ds ys
+      (subst (λ (b : Book). Agrees b ds ys) (B .1) (A .1)) alone in
+      record {
+        parts-are = B .0;
+        few = subst (Few (length vs)) (sym (B .0))
+            (ready-count L sizesBefore x vs built (list-passes _ _ vs bs l .nodes-below));
+        exact = λ m e. omega (arith, K .exact m e, B .0);
+        unfinished = λ e. omega (arith, K .unfinished e, B .0);
+        most = omega (arith, K .most, B .0);
+        only = K .only;
+        links = few-links (3 * digits (height (planTree (x .plan)))) (freshAnswer (question x vs bs))
+            (fresh-few (question x vs bs)) ys (K .only);
+      }
+
+-- "whatever the order of the list": where no node is listed twice, what is told of one order is what is told of another
+pub told-order : (x : Inputs) (vs bs ws cs : List ℕ) → length vs ≡ length bs → length ws ≡ length cs
+    → List·Permᴰ (zip vs bs) (zip ws cs)
+    → distinct vs ≡ true → (n : ℕ) (ys : List Answer) → CleanlyTold x vs bs n ys → CleanlyTold x ws cs n ys
+told-order x vs bs ws cs g h d u n ys T = record {
+  parts-are = T .parts-are ∙ parts-order vs bs ws cs g h d (question x vs bs) (question x ws cs) refl refl refl refl
+      refl;
+  few = subst (λ (m : ℕ). Few m n) (length-order vs bs ws cs g h d) (T .few);
+  exact = T .exact;
+  unfinished = T .unfinished;
+  most = T .most;
+  only =
+      subst (λ (a : Answer). OnlyTold a ys)
+      (fresh-order vs bs ws cs g h d (question x vs bs) (question x ws cs) refl refl refl refl refl u) (T .only);
+  links = T .links;
+}
+
+-- it passes on to every form of the calls that refines this one
+module _ {A B : Type 0} (StepA : A → Call → Answer → A → Type 0) (StepB : B → Call → Answer → B → Type 0) (Seen : A → B → Type 0) where
+  pub questions-of : Refines StepA StepB Seen → (a : A) (b : B) → Seen a b → QuestionsTold b StepB → QuestionsTold a StepA
+  questions-of f a b i q cs xs x vs bs n ds ys l h = q cs xs x vs bs n ds ys l (refines StepA StepB Seen f a b _ _ i h)
