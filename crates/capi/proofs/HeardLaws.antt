@@ -10,11 +10,10 @@ use lib.Dec.{eqb}
 use lib.ListN.{length, getD}
 use Rattle.questions.specs.Climbs.{Reached}
 use Rattle.formats.specs.Inputs.{Inputs}
-use Rattle.model.specs.Calls.{Call, load, start, advance, cancel, read, Answer, more, finished, told}
-use Rattle.model.specs.Calls.{Phase}
+use Rattle.model.specs.Calls.{load, start, advance, cancel, read, Answer, more, finished, readAnswer, Phase}
 use Rattle.model.specs.Refusals.{refusal}
-use Rattle.model.specs.Model.{Record, Acted, acted, stepped, marksBy, lastOf, proceeds, unless, act}
-use Rattle.model.specs.Model.{startWith, advanceWith}
+use Rattle.model.specs.Model.{stageOf, Record, Acted, acted, stepped, marksBy, lastOf, proceeds, unless, act, startWith}
+use Rattle.model.specs.Model.{advanceWith}
 use Rattle.capi.specs.Panel.{answerNumber, partsOf, finishedOf, Places, toldPlaces}
 use Rattle.capi.specs.Heard.{heardDone, heardStart, heardAdvance, heardRead}
 
@@ -33,7 +32,7 @@ ReadHeard q a = heardRead (answerNumber a) (toldPlaces a q) ≡ a
 module _ (r : Record) where
   pub heard-load : (x : Inputs) → DoneHeard (act r (load x) .answer)
   unfolding act unless proceeds heardDone answerNumber
-  heard-load x = go (refusal (r .phase) (r .sizes) (load x))
+  heard-load x = go (refusal (stageOf r) (load x))
     where
       go : (n : ℕ) → DoneHeard (unless n r (load x) .answer)
       go zero = refl
@@ -41,7 +40,7 @@ module _ (r : Record) where
 
   pub heard-cancel : DoneHeard (act r cancel .answer)
   unfolding act unless proceeds heardDone answerNumber
-  heard-cancel = go (refusal (r .phase) (r .sizes) cancel)
+  heard-cancel = go (refusal (stageOf r) cancel)
     where
       go : (n : ℕ) → DoneHeard (unless n r cancel .answer)
       go zero = refl
@@ -54,7 +53,7 @@ module _ (r : Record) where
 
   pub heard-start : (p : ℕ) (x : Inputs) (vs bs : List ℕ) → StartHeard p (act r (start x vs bs) .answer)
   unfolding act unless proceeds heardStart answerNumber partsOf
-  heard-start p x vs bs = go (refusal (r .phase) (r .sizes) (start x vs bs))
+  heard-start p x vs bs = go (refusal (stageOf r) (start x vs bs))
     where
       go : (n : ℕ) → StartHeard p (unless n r (start x vs bs) .answer)
       go zero = started p vs bs _
@@ -75,20 +74,20 @@ module _ (r : Record) where
 
   pub heard-advance : (f : ℕ) (x : Inputs) → AdvanceHeard f (act r (advance x) .answer)
   unfolding act unless proceeds heardAdvance answerNumber finishedOf
-  heard-advance f x = go (refusal (r .phase) (r .sizes) (advance x))
+  heard-advance f x = go (refusal (stageOf r) (advance x))
     where
       go : (n : ℕ) → AdvanceHeard f (unless n r (advance x) .answer)
       go zero = advanced f x _
       go (suc n) = refl
 
-  reading : (q : Places) (s p l : ℕ) (y : Bool) → ReadHeard q (told s y p l)
+  reading : (q : Places) (s p l : ℕ) (y : Bool) → ReadHeard q (readAnswer s y p l)
   unfolding heardRead answerNumber toldPlaces
   reading q s p l true = refl
   reading q s p l false = refl
 
   pub heard-read : (q : Places) → ReadHeard q (act r read .answer)
   unfolding act unless proceeds heardRead answerNumber toldPlaces
-  heard-read q = go (refusal (r .phase) (r .sizes) read)
+  heard-read q = go (refusal (stageOf r) read)
     where
       go : (n : ℕ) → ReadHeard q (unless n r read .answer)
       go zero = reading q (lastOf (r .states) 0) (length (r .roots)) (r .links) (r .yes)

@@ -13,7 +13,7 @@ use Rattle.formats.specs.Built.{builtLinks, builtStates}
 use Rattle.formats.proofs.CheckLaws.{true-false, and-left, and-right}
 use Rattle.tables.specs.Answers.{written}
 use Rattle.formats.specs.Inputs.{Inputs}
-use Rattle.model.specs.Calls.{Call, load, read, Answer, refused, accepted, parts, more, finished, told}
+use Rattle.model.specs.Calls.{Call, load, read, Answer, refused}
 use Rattle.session.specs.declared.answers.Done.{Done}
 use Rattle.session.specs.declared.answers.Started.{Started}
 use Rattle.session.specs.declared.answers.Advanced.{Advanced}

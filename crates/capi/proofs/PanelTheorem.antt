@@ -17,9 +17,9 @@ use Rattle.questions.specs.Climbs.{Reached}
 use Rattle.formats.specs.Inputs.{Inputs}
 use Rattle.model.specs.Calls.{Call, load, start, advance, cancel, read, Answer, more, finished, Phase}
 use Rattle.model.specs.Refusals.{refusal}
-use Rattle.reference.specs.Demand3.{Demand3}
-use Rattle.model.specs.Model.{Record, Acted, acted, stepped, marksBy, freshRecord, proceeds, unless, act}
+use Rattle.model.specs.Model.{stageOf, Record, Acted, acted, stepped, marksBy, freshRecord, proceeds, unless, act}
 use Rattle.model.specs.Model.{startWith, advanceWith, Does}
+use Rattle.reference.specs.Demand3.{Demand3}
 use Rattle.model.proofs.Refinement.{Refines}
 use Rattle.reference.proofs.Demand3Theorem.{demand-3, demand-3-of}
 use Rattle.model.proofs.LayersHold.{layers}
@@ -85,7 +85,7 @@ module _ (r : Record) where
 
   settled : (c : Call) → Settled r (act r c)
   unfolding act unless unlessRefused
-  settled c = go (refusal (r .phase) (r .sizes) c)
+  settled c = go (refusal (stageOf r) c)
     where
       go : (n : ℕ) → Settled r (unless n r c)
       go zero = on-call c

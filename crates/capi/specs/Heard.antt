@@ -10,8 +10,8 @@ use mathlib.Core.Bool.{cond}
 use mathlib.Core.List.{List}
 use lib.Dec.{eqb}
 use Rattle.formats.specs.Inputs.{Inputs}
-use Rattle.model.specs.Calls.{Call, load, start, advance, cancel, read, Answer, refused, accepted, parts}
-use Rattle.model.specs.Calls.{more, finished, told}
+use Rattle.model.specs.Calls.{Call, load, start, advance, cancel, read, Answer, refused, accepted, parts, more}
+use Rattle.model.specs.Calls.{finished, readAnswer}
 use Rattle.capi.specs.Panel.{CallExported, LoadExported, StartExported, AdvanceExported, ReadExported, Places}
 
 unfoldable pub heardDone : ℕ → Answer
@@ -27,7 +27,7 @@ heardAdvance zero f = cond (eqb f 0) more finished
 heardAdvance (suc n) f = refused (suc n)
 
 unfoldable pub heardRead : ℕ → Places → Answer
-heardRead zero q = told (q .state) (eqb (q .yes) 1) (q .parts) (q .links)
+heardRead zero q = readAnswer (q .state) (eqb (q .yes) 1) (q .parts) (q .links)
 heardRead (suc n) q = refused (suc n)
 
 pub data Exports : List ℕ → Call → Answer → List ℕ → Type 0 where

@@ -14,8 +14,7 @@ use mathlib.Core.List.{List}
 use Rattle.formats.specs.Built.{builtLinks, builtStates}
 use Rattle.tables.specs.Answers.{written}
 use Rattle.formats.specs.Inputs.{Inputs}
-use Rattle.model.specs.Calls.{Call, load, start, advance, cancel, read, Answer, refused, accepted, parts}
-use Rattle.model.specs.Calls.{more, finished, told}
+use Rattle.model.specs.Calls.{Call, load, read, Answer, refused, parts, onRefused, onParts, onAdvance, onOutcome}
 use Rattle.model.specs.Model.{act}
 use Rattle.model.specs.LeftOpen.{Kept}
 use Rattle.session.specs.Records.{recordOf}
@@ -28,21 +27,11 @@ unfoldable pub answerFor : List ℕ → Call → Answer
 answerFor b c = cond (laidOut b) (answerOn (decoded b) c) (refused 1)
 
 unfoldable pub answerNumber : Answer → ℕ
-answerNumber (refused n) = n
-answerNumber accepted = 0
-answerNumber (parts p) = 0
-answerNumber more = 0
-answerNumber finished = 0
-answerNumber (told q y p l) = 0
+answerNumber a = onRefused (λ n. n) 0 a
 
 -- "nothing else is returned and nothing is altered"
 unfoldable pub unlessRefused : Answer → List ℕ → List ℕ → List ℕ
-unlessRefused (refused n) new old = old
-unlessRefused accepted new old = new
-unlessRefused (parts p) new old = new
-unlessRefused more new old = new
-unlessRefused finished new old = new
-unlessRefused (told q y p l) new old = new
+unlessRefused a new old = onRefused (λ n. old) new a
 
 unfoldable pub recordFor : List ℕ → Call → List ℕ
 recordFor b c = unlessRefused (answerFor b c) (encoded (recordOn (decoded b) c)) b
@@ -63,24 +52,14 @@ pub record LoadExported (b : List ℕ) (x : Inputs) (r : ℕ) (b′ nums′ byte
   pub states-written : bytes′ ≡ written (loadNumber b x) (builtStates (x .plan) (x .rules)) (x .stateTable)
 
 unfoldable pub partsOf : Answer → ℕ → ℕ
-partsOf (parts p) old = p
-partsOf (refused n) old = old
-partsOf accepted old = old
-partsOf more old = old
-partsOf finished old = old
-partsOf (told q y p l) old = old
+partsOf a old = onParts (λ p. p) old a
 
 pub record StartExported (b : List ℕ) (c : Call) (r : ℕ) (b′ : List ℕ) (parts₀ parts₁ : ℕ) : Type 0 where
   pub call : CallExported b c r b′
   pub parts-told : parts₁ ≡ partsOf (answerFor b c) parts₀
 
 unfoldable pub finishedOf : Answer → ℕ → ℕ
-finishedOf more old = 0
-finishedOf finished old = 1
-finishedOf (refused n) old = old
-finishedOf accepted old = old
-finishedOf (parts p) old = old
-finishedOf (told q y p l) old = old
+finishedOf a old = onAdvance 0 1 old a
 
 pub record AdvanceExported (b : List ℕ) (c : Call) (r : ℕ) (b′ : List ℕ) (finished₀ finished₁ : ℕ) : Type 0 where
   pub call : CallExported b c r b′
@@ -94,12 +73,8 @@ pub record Places : Type 0 where
   pub links : ℕ
 
 unfoldable pub toldPlaces : Answer → Places → Places
-toldPlaces (told q y p l) old = record { state = q; yes = bitOf y; parts = p; links = l }
-toldPlaces (refused n) old = old
-toldPlaces accepted old = old
-toldPlaces (parts p) old = old
-toldPlaces more old = old
-toldPlaces finished old = old
+toldPlaces a old =
+    onOutcome (λ o. record { state = o .state; yes = bitOf (o .yes); parts = o .parts; links = o .links }) old a
 
 pub record ReadExported (b : List ℕ) (r : ℕ) (before after : Places) : Type 0 where
   pub number : r ≡ answerNumber (answerFor b read)

@@ -31,26 +31,21 @@ use Rattle.questions.proofs.PartBounds.{part-bounded}
 use Rattle.questions.proofs.RootsAstray.{roots-astray}
 use Rattle.questions.proofs.PartAstray.{part-astray}
 use Rattle.formats.specs.Inputs.{Inputs, sameNodeInputs, usedNodeTable, nodeTableBuilt, statesBelow}
-use Rattle.model.specs.Calls.{Call, load, start, advance, cancel, read, Answer, refused, parts, more}
-use Rattle.model.specs.Calls.{finished, Phase}
+use Rattle.model.specs.Calls.{Call, load, start, advance, cancel, read, refused, parts, more, finished, Phase}
 use Rattle.model.specs.Refusals.{refusal}
-use Rattle.model.specs.Model.{Record, acted, startWith, started, stepped, advanceWith, partNext, marksBy}
-use Rattle.model.specs.Model.{viewBy}
+use Rattle.model.specs.Model.{Record, stageOf, acted, startWith, started, stepped, advanceWith, partNext, marksBy, viewBy}
 use Rattle.model.specs.Model.{proceeds, unless, act}
 use Rattle.model.specs.PartInputs.{givenOf}
-use Rattle.model.specs.Calls.{isRefused}
 use Rattle.model.specs.LeftOpen.{StartKept, Usable, ruleGives, AdvanceKept}
-use Rattle.model.proofs.Facts.{SettledInputs, Handled, rootsIn, reachedBy}
+use Rattle.model.proofs.Facts.{SettledInputs, Handled, rootsIn}
 use Rattle.model.proofs.LayersHold.{layers}
-use Rattle.model.proofs.ModelLaws.{some-root}
+use Rattle.model.proofs.ModelLaws.{some-root, start-list, advance-fits}
 use Rattle.model.proofs.ResultLaws.{length-states}
-use Rattle.model.proofs.ModelLaws.{start-list}
-use Rattle.model.proofs.ModelLaws.{advance-fits}
 
 -- "a refusal alters nothing"
 pub refused-keeps : (r : Record) (c : Call) (n : ℕ) → act r c .answer ≡ refused n → act r c .record′ ≡ r
 unfolding act unless proceeds startWith advanceWith
-refused-keeps r c n = go (refusal (r .phase) (r .sizes) c) c
+refused-keeps r c n = go (refusal (stageOf r) c) c
   where
     started-keeps : (vs bs : List ℕ) (o : Option (List ℕ)) → startWith r vs bs o .answer ≡ refused n → startWith r vs bs o .record′ ≡ r
     started-keeps vs bs none e = refl
@@ -99,11 +94,11 @@ module _ (r : Record) (x : Inputs) (vs bs : List ℕ) where
   abbrev R : Option (List ℕ)
   R = rootsOn (r .sizes .n) (usedNodeTable (r .sizes) x) vs
 
-  listed : refusal (r .phase) (r .sizes) (start x vs bs) ≡ 0 → ListPasses (r .sizes .n) (r .sizes .k) vs bs
-  listed e = list-passes (r .sizes .n) (r .sizes .k) vs bs (start-list (r .phase) (r .sizes) x vs bs e)
+  listed : refusal (stageOf r) (start x vs bs) ≡ 0 → ListPasses (r .sizes .n) (r .sizes .k) vs bs
+  listed e = list-passes (r .sizes .n) (r .sizes .k) vs bs (start-list (stageOf r) x vs bs e)
 
   -- the roots that were found, o, are those of the definition
-  found : refusal (r .phase) (r .sizes) (start x vs bs) ≡ 0 → 0 < r .sizes .n → (o : Option (List ℕ)) → R ≡ o
+  found : refusal (stageOf r) (start x vs bs) ≡ 0 → 0 < r .sizes .n → (o : Option (List ℕ)) → R ≡ o
       → StartKept r x vs bs (startWith r vs bs o .answer) (startWith r vs bs o .record′)
   unfolding startWith started
   found e h none q = record {
@@ -120,16 +115,16 @@ module _ (r : Record) (x : Inputs) (vs bs : List ℕ) where
         (ap (λ (m : List ℕ). parts (length m)) i, i);
   }
 
-  start-not-18 : refusal (r .phase) (r .sizes) (start x vs bs) ≡ 18 → ⊥
+  start-not-18 : refusal (stageOf r) (start x vs bs) ≡ 18 → ⊥
   unfolding refusal listChecks
   start-not-18 i = start-numbers _ _ _ _ _ _ i
 
-  pub start-kept : (refusal (r .phase) (r .sizes) (start x vs bs) ≡ 0 → 0 < r .sizes .n)
+  pub start-kept : (refusal (stageOf r) (start x vs bs) ≡ 0 → 0 < r .sizes .n)
       → StartKept r x vs bs (act r (start x vs bs) .answer) (act r (start x vs bs) .record′)
   unfolding act unless proceeds
-  start-kept h = go (refusal (r .phase) (r .sizes) (start x vs bs)) refl
+  start-kept h = go (refusal (stageOf r) (start x vs bs)) refl
     where
-      go : (n : ℕ) → refusal (r .phase) (r .sizes) (start x vs bs) ≡ n
+      go : (n : ℕ) → refusal (stageOf r) (start x vs bs) ≡ n
           → StartKept r x vs bs (unless n r (start x vs bs) .answer) (unless n r (start x vs bs) .record′)
       go zero e = found e (h e) R refl
       go (suc n) e = record {
@@ -139,7 +134,7 @@ module _ (r : Record) (x : Inputs) (vs bs : List ℕ) where
       }
 
 -- after a Start on numbers as built, tables with any bytes below S are usable: the premise of `rule` can be met
-pub start-usable : (r : Record) (x : Inputs) (vs bs : List ℕ) → refusal (r .phase) (r .sizes) (start x vs bs) ≡ 0
+pub start-usable : (r : Record) (x : Inputs) (vs bs : List ℕ) → refusal (stageOf r) (start x vs bs) ≡ 0
     → nodeTableBuilt (r .sizes) x ≡ true → statesBelow (r .sizes) x ≡ true → Usable (act r (start x vs bs) .record′) x []
 unfolding act unless proceeds startWith started allBelow
 start-usable r x vs bs e l b =
@@ -148,7 +143,7 @@ start-usable r x vs bs e l b =
     (record {
       nodeTable = l;
       stateTable = b;
-      listed = start-list (r .phase) (r .sizes) x vs bs e;
+      listed = start-list (stageOf r) x vs bs e;
       ready = refl;
       before = refl;
       states = refl;
@@ -160,7 +155,7 @@ start-usable r x vs bs e l b =
 
 module _ (r : Record) (x : Inputs) where
   -- on usable tables the part that comes next is the rule's
-  by-rule : (ps : List Part) → refusal (r .phase) (r .sizes) (advance x) ≡ 0 → Usable r x ps → partNext r x ≡ some (ruleGives r x ps)
+  by-rule : (ps : List Part) → refusal (stageOf r) (advance x) ≡ 0 → Usable r x ps → partNext r x ≡ some (ruleGives r x ps)
   unfolding partOf sameNodeInputs givenOf
   by-rule ps e U =
       let n : length ps ≡ length (r .states) = sym (length-states ps) ∙ ap length (U .states) in
@@ -169,7 +164,7 @@ module _ (r : Record) (x : Inputs) where
         same = and-both (sameList (x .plan) (x .plan)) _ (sameList-refl (x .plan))
             (and-both (sameList (x .rules) (x .rules)) _ (sameList-refl (x .rules)) (sameList-refl (usedNodeTable (r .sizes) x)));
         below = U .stateTable;
-        room = advance-fits (r .phase) (r .sizes) x e;
+        room = advance-fits (stageOf r) x e;
         listed = U .listed;
       } in
       let H : Handled (r .sizes .s) (rootsIn x (r .nodes)) ps = record {
@@ -209,9 +204,9 @@ module _ (r : Record) (x : Inputs) where
 
   -- the next root is a node
   abbrev NextInside : Type 0
-  NextInside = refusal (r .phase) (r .sizes) (advance x) ≡ 0 → getD (r .roots) (length (r .states)) 0 < r .sizes .n
+  NextInside = refusal (stageOf r) (advance x) ≡ 0 → getD (r .roots) (length (r .states)) 0 < r .sizes .n
 
-  after : NextInside → refusal (r .phase) (r .sizes) (advance x) ≡ 0 → (o : Option Reached) → partNext r x ≡ o
+  after : NextInside → refusal (stageOf r) (advance x) ≡ 0 → (o : Option Reached) → partNext r x ≡ o
       → AdvanceKept r x (advanceWith r x o .answer) (advanceWith r x o .record′)
   unfolding advanceWith stepped
   after h e none q = record {
@@ -233,15 +228,15 @@ module _ (r : Record) (x : Inputs) where
             (ap (λ (o : Option Reached). advanceWith r x o .answer) i, ap (λ (o : Option Reached). advanceWith r x o .record′) i);
       }
 
-  advance-not-18 : refusal (r .phase) (r .sizes) (advance x) ≡ 18 → ⊥
+  advance-not-18 : refusal (stageOf r) (advance x) ≡ 18 → ⊥
   unfolding refusal
   advance-not-18 i = advance-numbers _ _ i
 
   pub advance-kept : NextInside → AdvanceKept r x (act r (advance x) .answer) (act r (advance x) .record′)
   unfolding act unless proceeds
-  advance-kept h = go (refusal (r .phase) (r .sizes) (advance x)) refl
+  advance-kept h = go (refusal (stageOf r) (advance x)) refl
     where
-      go : (n : ℕ) → refusal (r .phase) (r .sizes) (advance x) ≡ n
+      go : (n : ℕ) → refusal (stageOf r) (advance x) ≡ n
           → AdvanceKept r x (unless n r (advance x) .answer) (unless n r (advance x) .record′)
       go zero e = after h e (partNext r x) refl
       go (suc n) e = record {

@@ -23,28 +23,29 @@ use Rattle.formats.proofs.InputsLaws.{Built}
 use Rattle.ready.specs.Members.{roots}
 use Rattle.ready.proofs.ListLaws.{list-last}
 use Rattle.model.specs.Calls.{load, start, advance, Phase, mayLoad, mayStart, isRunning}
-use Rattle.model.specs.Refusals.{refusal}
+use Rattle.model.specs.Refusals.{Stage, stage, refusal}
 use Rattle.model.specs.Model.{marksBy}
 use Rattle.model.proofs.Facts.{rootsIn}
 use Rattle.model.proofs.ResultLaws.{length-more}
 
 -- "Load is allowed unless running"
-pub load-running : (z : Sizes) (x : Inputs) → refusal Phase.running z (load x) ≡ 1
+pub load-running : (z : Sizes) (x : Inputs) → refusal (stage Phase.running z) (load x) ≡ 1
 unfolding refusal firstNo mayLoad
 load-running z x = refl
 
-pub start-list : (p : Phase) (z : Sizes) (x : Inputs) (vs bs : List ℕ) → refusal p z (start x vs bs) ≡ 0
-    → firstNo (listChecks (z .n) (z .k) vs bs) ≡ 0
+pub start-list : (t : Stage) (x : Inputs) (vs bs : List ℕ) → refusal t (start x vs bs) ≡ 0
+    → firstNo (listChecks (t .sizes .n) (t .sizes .k) vs bs) ≡ 0
 unfolding refusal
-start-list p z x vs bs e =
-    firstNo-tail 17 (fits z x) (listChecks (z .n) (z .k) vs bs) (omega arith)
-    (firstNo-tail 1 (mayStart p) (check 17 (fits z x) ∷ listChecks (z .n) (z .k) vs bs) (omega arith) e)
+start-list t x vs bs e =
+    let list = listChecks (t .sizes .n) (t .sizes .k) vs bs in
+    firstNo-tail 17 (fits (t .sizes) x) list (omega arith)
+    (firstNo-tail 1 (mayStart (t .phase)) (check 17 (fits (t .sizes) x) ∷ list) (omega arith) e)
 
-pub advance-fits : (p : Phase) (z : Sizes) (x : Inputs) → refusal p z (advance x) ≡ 0 → fits z x ≡ true
+pub advance-fits : (t : Stage) (x : Inputs) → refusal t (advance x) ≡ 0 → fits (t .sizes) x ≡ true
 unfolding refusal
-advance-fits p z x e =
-    firstNo-head 17 (fits z x) [] (omega arith)
-    (firstNo-tail 1 (isRunning p) (check 17 (fits z x) ∷ []) (omega arith) e)
+advance-fits t x e =
+    firstNo-head 17 (fits (t .sizes) x) [] (omega arith)
+    (firstNo-tail 1 (isRunning (t .phase)) (check 17 (fits (t .sizes) x) ∷ []) (omega arith) e)
 
 pub some-root : (y : Inputs) (vs : List ℕ) → 0 < length (rootsIn y vs)
 unfolding roots

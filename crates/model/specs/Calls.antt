@@ -2,6 +2,9 @@
 --
 -- Call == a call with what is lent beside the record; Cancel and Read need only the record
 -- Answer == "Compared are acceptance, refusal numbers and what Start, advance and Read tell."
+-- Outcome == what Read tells; readAnswer s y p l == the answer with these four values
+-- onRefused f d a, onParts f d a, onOutcome f d a == f of what a refusal, a Start's parts, a Read's outcome carries; d of any other answer
+-- onAdvance m f d a == m of more, f of finished; d of any other answer
 -- isRefused a == whether an answer is a refusal
 -- Phase == which of the four states a session is in
 -- mayLoad .. isAnswered == in which states a call may be made
@@ -20,22 +23,60 @@ pub data Call : Type 0 where
   cancel : Call
   read : Call
 
+-- "state, yes or no, parts, links"
+pub record Outcome : Type 0 where
+  pub state : ℕ
+  pub yes : Bool
+  pub parts : ℕ
+  pub links : ℕ
+
 pub data Answer : Type 0 where
   refused : ℕ → Answer
   accepted : Answer
   parts : ℕ → Answer
   more : Answer
   finished : Answer
-  -- state, yes, parts, links
-  told : ℕ → Bool → ℕ → ℕ → Answer
+  outcome : Outcome → Answer
+
+abbrev pub readAnswer : ℕ → Bool → ℕ → ℕ → Answer
+readAnswer s y p l = outcome (record { state = s; yes = y; parts = p; links = l })
+
+-- ---- cases of an answer, each said once
+
+abbrev pub onRefused : {A : Type 0} → (ℕ → A) → A → Answer → A
+onRefused f d (refused n) = f n
+onRefused f d accepted = d
+onRefused f d (parts p) = d
+onRefused f d more = d
+onRefused f d finished = d
+onRefused f d (outcome o) = d
+
+abbrev pub onParts : {A : Type 0} → (ℕ → A) → A → Answer → A
+onParts f d (refused n) = d
+onParts f d accepted = d
+onParts f d (parts p) = f p
+onParts f d more = d
+onParts f d finished = d
+onParts f d (outcome o) = d
+
+abbrev pub onAdvance : {A : Type 0} → A → A → A → Answer → A
+onAdvance m f d (refused n) = d
+onAdvance m f d accepted = d
+onAdvance m f d (parts p) = d
+onAdvance m f d more = m
+onAdvance m f d finished = f
+onAdvance m f d (outcome o) = d
+
+abbrev pub onOutcome : {A : Type 0} → (Outcome → A) → A → Answer → A
+onOutcome f d (refused n) = d
+onOutcome f d accepted = d
+onOutcome f d (parts p) = d
+onOutcome f d more = d
+onOutcome f d finished = d
+onOutcome f d (outcome o) = f o
 
 abbrev pub isRefused : Answer → Bool
-isRefused (refused n) = true
-isRefused accepted = false
-isRefused (parts p) = false
-isRefused more = false
-isRefused finished = false
-isRefused (told s y p l) = false
+isRefused a = onRefused (λ n. true) false a
 
 pub data Phase : Type 0 where
   empty : Phase

@@ -27,13 +27,13 @@ use Rattle.questions.specs.Promises.{RootsAre}
 use Rattle.formats.specs.Inputs.{Inputs, usedNodeTable, nodeTableBuilt, statesBelow}
 use Rattle.model.specs.Calls.{Call, load, start, advance, cancel, read, Answer, refused, parts, isRefused}
 use Rattle.model.specs.Refusals.{refusal}
-use Rattle.model.specs.Model.{Record, advanceWith, viewBy}
+use Rattle.model.specs.Model.{Record, stageOf, advanceWith, viewBy}
 use Rattle.model.specs.PartInputs.{givenOf}
 
 pub record StartKept (r : Record) (x : Inputs) (vs bs : List ℕ) (a : Answer) (r′ : Record) : Type 0 where
   pub few : (p : ℕ) → a ≡ parts p → (length (r′ .roots) ≡ p) × RootsAre (r .sizes .n) (length vs) (r′ .roots)
   pub astray : a ≡ refused 18 → LinksAstray (r .sizes .n) (usedNodeTable (r .sizes) x)
-  pub built : refusal (r .phase) (r .sizes) (start x vs bs) ≡ 0 → nodeTableBuilt (r .sizes) x ≡ true
+  pub built : refusal (stageOf r) (start x vs bs) ≡ 0 → nodeTableBuilt (r .sizes) x ≡ true
       → (a ≡ parts (length (roots (planTree (x .plan)) vs))) × (r′ .roots ≡ roots (planTree (x .plan)) vs)
 
 pub record Usable (r : Record) (x : Inputs) (ps : List Part) : Type 0 where
@@ -56,7 +56,7 @@ pub record AdvanceKept (r : Record) (x : Inputs) (a : Answer) (r′ : Record) : 
   pub stored : isRefused a ≡ false → (q : ℕ) × (r′ .states ≡ r .states ++ (q ∷ [])) × (q < r .sizes .s)
   pub counted : isRefused a ≡ false → r′ .links ≤ r .links + r .sizes .n
   pub astray : a ≡ refused 18 → Astray (viewBy (r .sizes) x) (r .states) (r .nodes) (r .labels)
-  pub rule : (ps : List Part) → refusal (r .phase) (r .sizes) (advance x) ≡ 0 → Usable r x ps
+  pub rule : (ps : List Part) → refusal (stageOf r) (advance x) ≡ 0 → Usable r x ps
       → (a ≡ advanceWith r x (some (ruleGives r x ps)) .answer) × (r′ ≡ advanceWith r x (some (ruleGives r x ps)) .record′)
 
 abbrev pub Kept : Record → Call → Answer → Record → Type 0

@@ -2,6 +2,7 @@
 --
 -- Record == document 01's session record
 -- freshRecord == that of a fresh session; loadedRecord z == that after a first Load
+-- stageOf r == its stage, as the refusals ask for it
 -- act r c == a call on a record: the answer and the record then
 -- Does r c a r′ == the same as a relation
 --
@@ -18,9 +19,9 @@ use Rattle.questions.specs.Climbs.{View, viewOf, Reached}
 use Rattle.questions.specs.Roots.{rootsOn}
 use Rattle.questions.specs.Part.{partOn}
 use Rattle.formats.specs.Inputs.{Inputs, Sizes, sizesIn, usedNodeTable, usedStateTable}
-use Rattle.model.specs.Calls.{Call, load, start, advance, cancel, read, Answer, refused, parts, more}
-use Rattle.model.specs.Calls.{finished, told, Phase}
-use Rattle.model.specs.Refusals.{refusal}
+use Rattle.model.specs.Calls.{Call, load, start, advance, cancel, read, Answer, refused, parts, more, finished}
+use Rattle.model.specs.Calls.{outcome, Phase}
+use Rattle.model.specs.Refusals.{Stage, stage, refusal}
 
 -- "The record holds which of the four states it is in, N, S, K, the changes as listed, the root nodes of the parts, the states of parts
 -- handled so far and their number, the links so far and, once answered, the yes or no"
@@ -33,6 +34,10 @@ pub record Record : Type 0 where
   pub states : List ℕ
   pub links : ℕ
   pub yes : Bool
+
+-- what the checks ask of it
+abbrev pub stageOf : Record → Stage
+stageOf r = stage (r .phase) (r .sizes)
 
 pub record Acted : Type 0 where
   pub answer : Answer
@@ -103,7 +108,8 @@ lastOf [] q = q
 lastOf (x ∷ xs) q = lastOf xs x
 
 abbrev pub toldBy : Record → Answer
-toldBy r = told (lastOf (r .states) 0) (r .yes) (length (r .roots)) (r .links)
+toldBy r =
+    outcome (record { state = lastOf (r .states) 0; yes = r .yes; parts = length (r .roots); links = r .links })
 
 -- ---- the calls
 
@@ -120,7 +126,7 @@ unless zero r c = proceeds r c
 unless (suc n) r c = acted (refused (suc n)) r
 
 unfoldable pub act : Record → Call → Acted
-act r c = unless (refusal (r .phase) (r .sizes) c) r c
+act r c = unless (refusal (stageOf r) c) r c
 
 pub record Does (r : Record) (c : Call) (a : Answer) (r′ : Record) : Type 0 where
   pub tells : a ≡ act r c .answer

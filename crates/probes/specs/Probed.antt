@@ -20,8 +20,7 @@ use Rattle.questions.specs.declared.answer.Climbed.{Climbed}
 use Rattle.questions.specs.declared.answer.Climbed.the-variants.{Reached, Outside}
 use Rattle.questions.specs.declared.roots.Rooted.{Rooted}
 use Rattle.formats.specs.Inputs.{Inputs}
-use Rattle.model.specs.Calls.{start, advance, read, Answer, refused, accepted, parts, more, finished}
-use Rattle.model.specs.Calls.{told}
+use Rattle.model.specs.Calls.{start, advance, read, Answer, parts, onParts, onOutcome}
 use Rattle.session.specs.declared.state.Session.{Session}
 use Rattle.session.specs.Promises.{answerOn, recordOn}
 use Rattle.session.specs.Records.{sessionOf}
@@ -48,12 +47,7 @@ advanced zero x s = s
 advanced (suc i) x s = advanced i x (recordOn s (advance x))
 
 unfoldable pub partsTold : Answer → ℕ
-partsTold (parts p) = p
-partsTold (refused n) = 0
-partsTold accepted = 0
-partsTold more = 0
-partsTold finished = 0
-partsTold (told q y p l) = 0
+partsTold a = onParts (λ p. p) 0 a
 
 unfoldable pub after : Inputs → List ℕ → List ℕ → ℕ → Session → Session
 after x vs bs i s = advanced i x (recordOn s (start x vs bs))
@@ -68,12 +62,8 @@ abbrev pub nothingTold : Question
 nothingTold = record { state = 16; yes = false; parts = 0; links = 0 }
 
 unfoldable pub readTold : Answer → Question
-readTold (told q y p l) = record { state = q; yes = y; parts = p; links = l }
-readTold (refused n) = nothingTold
-readTold accepted = nothingTold
-readTold (parts p) = nothingTold
-readTold more = nothingTold
-readTold finished = nothingTold
+readTold a =
+    onOutcome (λ o. record { state = o .state; yes = o .yes; parts = o .parts; links = o .links }) nothingTold a
 
 unfoldable pub questionTold : Inputs → List ℕ → List ℕ → Session → Question
 questionTold x vs bs s = readTold (answerOn (after x vs bs (startParts x vs bs s) s) read)

@@ -25,23 +25,20 @@ use Rattle.questions.proofs.PartAstray.{part-astray}
 use Rattle.questions.proofs.PartBounds.{part-bounded}
 use Rattle.trees.proofs.MoveLaws.{none-some}
 use Rattle.ready.proofs.PartsRun.{nodes-more}
-use Rattle.formats.specs.Inputs.{Inputs, Sizes, fits, sameNodeInputs, sameInputs, nodeTableBuilt}
-use Rattle.formats.specs.Inputs.{statesBelow}
+use Rattle.formats.specs.Inputs.{Inputs, Sizes, fits, sameNodeInputs, sameInputs, nodeTableBuilt, statesBelow}
 use Rattle.model.specs.Calls.{advance, more, finished, Phase, isRunning}
-use Rattle.model.specs.Refusals.{refusal}
+use Rattle.model.specs.Refusals.{Stage, stage, refusal}
 use Rattle.model.specs.PartInputs.{givenOf}
 use Rattle.reference.specs.Reference.{Standing, clean, firm, loose, Question, State, settled, phase, inState}
-use Rattle.reference.specs.Reference.{rootsOf, partCount}
-use Rattle.reference.specs.Reference.{givenBy, longer, advanced, goesOn, otherBytes, mayAdvanceWith, byAnswer}
-use Rattle.reference.specs.Reference.{loosely}
-use Rattle.reference.specs.Reference.{firmly, advancing, proceed}
+use Rattle.reference.specs.Reference.{rootsOf, partCount, givenBy, longer, advanced, goesOn, otherBytes}
+use Rattle.reference.specs.Reference.{mayAdvanceWith, byAnswer, loosely, firmly, advancing, proceed}
 use Rattle.model.specs.Model.{Record, acted, viewBy, marksBy, stepped, advanceWith, partNext, proceeds}
-use Rattle.model.proofs.ModelLaws.{advance-fits}
+use Rattle.model.proofs.ModelLaws.{advance-fits, marks-built}
 use Rattle.model.proofs.Facts.{reachedBy, nextRoot, Layers}
-use Rattle.model.proofs.ResultLaws.{length-states, states-more, length-more, last-more, links-more}
-use Rattle.model.proofs.ResultLaws.{below-more, from-more}
-use Rattle.formats.proofs.InputsLaws.{Built, Same, node-table-built, same-node-inputs, same-inputs-nodes, same-state-table}
-use Rattle.model.proofs.ModelLaws.{marks-built}
+use Rattle.model.proofs.ResultLaws.{length-states, states-more, length-more, last-more, links-more, below-more}
+use Rattle.model.proofs.ResultLaws.{from-more}
+use Rattle.formats.proofs.InputsLaws.{Built, Same, node-table-built, same-node-inputs, same-inputs-nodes}
+use Rattle.formats.proofs.InputsLaws.{same-state-table}
 use Rattle.reference.proofs.FreshLaws.{part-state, given-same, sound-below}
 use Rattle.reference.proofs.CauseLaws.{advance-cause}
 use Rattle.reference.proofs.Relation.{Parted, Counted, Cleanly, SomeParted, Stands, Unended, Marked, Ended}
@@ -382,13 +379,13 @@ module _ (L : Layers) (r : Record) (z : Sizes) (q : Question) (x : Inputs) (i : 
   advance-as loose s = advance-loose s
 
 advance-at : (L : Layers) (r : Record) (s : State) (z : Sizes) (x : Inputs) → Rel r (book s z)
-    → refusal (phase s) z (advance x) ≡ 0
+    → refusal (stage (phase s) z) (advance x) ≡ 0
     → Sim (proceed (book s z) s (advance x)) (proceeds r (advance x))
 unfolding refusal phase firstNo isRunning proceed proceeds
 advance-at L r State.empty z x i h = absurd (some-number h)
 advance-at L r State.loaded z x i h = absurd (some-number h)
 advance-at L r (State.running q) z x i h =
-    advance-as L r z q x i (advance-fits Phase.running z x h) (q .standing) (i .holds .0)
+    advance-as L r z q x i (advance-fits (stage Phase.running z) x h) (q .standing) (i .holds .0)
 advance-at L r (State.answered q) z x i h = absurd (some-number h)
 
 pub on-advance : Layers → (x : Inputs) → Simulates (advance x)

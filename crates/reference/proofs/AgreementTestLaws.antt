@@ -4,12 +4,12 @@
 -- Assumes nothing.
 use Prim.Native.Nat.{ℕ, zero, suc}
 use mathlib.Core.Path.{_≡_, refl, sym, ap, _∙_}
-use mathlib.Core.Bool.{true, false}
+use mathlib.Core.Bool.{Bool, true, false}
 use mathlib.Core.List.{List, [], _∷_}
 use lib.Dec.{eqb}
 use Rattle.formats.proofs.CheckLaws.{true-false, and-left, and-right}
 use Rattle.formats.proofs.ListLaws.{sameList-true}
-use Rattle.model.specs.Calls.{Call, Answer, refused, parts, more, finished, told}
+use Rattle.model.specs.Calls.{Call, Answer, refused, parts, more, finished, outcome, readAnswer}
 use Rattle.reference.specs.Reference.{Book, Next, settled, left, step}
 use Rattle.reference.specs.Demand3.{Conforms, after, Agrees}
 use Rattle.model.specs.History.{History, done, call}
@@ -30,7 +30,12 @@ decode (suc (suc (suc (suc (suc n)))) ∷ []) = more
 decode (suc (suc (suc (suc (suc n)))) ∷ s ∷ []) = more
 decode (suc (suc (suc (suc (suc n)))) ∷ s ∷ y ∷ []) = more
 decode (suc (suc (suc (suc (suc n)))) ∷ s ∷ y ∷ p ∷ []) = more
-decode (suc (suc (suc (suc (suc n)))) ∷ s ∷ y ∷ p ∷ l ∷ ns) = told s (eqb y 1) p l
+decode (suc (suc (suc (suc (suc n)))) ∷ s ∷ y ∷ p ∷ l ∷ ns) = readAnswer s (eqb y 1) p l
+
+flag-bool : (y : Bool) → eqb (flag y) 1 ≡ y
+unfolding flag
+flag-bool true = refl
+flag-bool false = refl
 
 decode-code : (a : Answer) → decode (code a) ≡ a
 unfolding decode code flag
@@ -39,8 +44,7 @@ decode-code Answer.accepted = refl
 decode-code (parts p) = refl
 decode-code more = refl
 decode-code finished = refl
-decode-code (told s true p l) = refl
-decode-code (told s false p l) = refl
+decode-code (outcome o) = ap (λ (y : Bool). readAnswer (o .state) y (o .parts) (o .links)) (flag-bool (o .yes))
 
 conforms-is : (n : Next) (x : Answer) → conforms n x ≡ true → Conforms n x
 unfolding conforms sameAnswer

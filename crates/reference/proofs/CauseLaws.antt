@@ -24,8 +24,7 @@ use Rattle.questions.specs.Part.{labelOn}
 use Rattle.questions.specs.Astray.{Astray, links, children, run, map, leaf, rule, handled, label, changed}
 use Rattle.formats.specs.Inputs.{Inputs, Sizes, usedNodeTable}
 use Rattle.model.specs.Calls.{refused}
-use Rattle.reference.specs.Causes.{isChildless, isFlat, strays, isApart, linksCause, nodeCause, rulesCause}
-use Rattle.reference.specs.Causes.{cause}
+use Rattle.reference.specs.Causes.{isChildless, isFlat, strays, isApart, linksCause, nodeCause, rulesCause, cause}
 use Rattle.reference.specs.Causes.{startCause, advanceCause}
 use Rattle.reference.specs.Reference.{mayStartWith, mayAdvanceWith}
 use Rattle.model.specs.Model.{viewBy}

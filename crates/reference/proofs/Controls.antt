@@ -11,9 +11,8 @@ use mathlib.Core.Option.{Option, none, some}
 use lib.ListN.{set, replicate}
 use Rattle.formats.specs.Built.{builtLinks, builtStates}
 use Rattle.formats.specs.Inputs.{Inputs}
-use Rattle.model.specs.Calls.{Call, load, start, advance, cancel, read, Answer, refused, parts, more}
-use Rattle.model.specs.Calls.{finished}
-use Rattle.model.specs.Calls.{told}
+use Rattle.model.specs.Calls.{Call, load, start, advance, cancel, read, Answer, refused, parts, more, finished}
+use Rattle.model.specs.Calls.{readAnswer}
 use Rattle.reference.specs.Reference.{newBook}
 use Rattle.reference.specs.AgreementTest.{agreed}
 use Rattle.reference.proofs.Sample.{computing, tableA, loadA, lentA, Seen, seen, asking}
@@ -64,20 +63,20 @@ onNode0 x y w = load loadA ∷ start x (0 ∷ []) (0 ∷ []) ∷ advance y ∷ a
 -- ---- settled
 
 pub clean-list : seen (asking [] [] 1)
-    ≡ all (some Answer.accepted ∷ some (parts 1) ∷ some finished ∷ some (told 1 true 1 0) ∷ [])
+    ≡ all (some Answer.accepted ∷ some (parts 1) ∷ some finished ∷ some (readAnswer 1 true 1 0) ∷ [])
 unfolding seen asking
 clean-list = refl
 
 -- "Plan, rules and tables are the panel's to alter or exchange": plan A was loaded and plan B is
 -- asked, with a changing excess
 pub exchanged-plan : seen (onNode0 (longerBy lentB (5 ∷ [])) (longerBy lentB (7 ∷ 8 ∷ 9 ∷ [])) lentB)
-    ≡ all (some Answer.accepted ∷ some (parts 2) ∷ some more ∷ some finished ∷ some (told 1 true 2 2) ∷ [])
+    ≡ all (some Answer.accepted ∷ some (parts 2) ∷ some more ∷ some finished ∷ some (readAnswer 1 true 2 2) ∷ [])
 unfolding seen onNode0 lentA lentB
 exchanged-plan = refl
 
 -- "lent the same, excess aside"
 pub changed-excess : seen (onNode0 (longerBy lentA (5 ∷ [])) (longerBy lentA (7 ∷ 8 ∷ 9 ∷ [])) lentA)
-    ≡ all (some Answer.accepted ∷ some (parts 2) ∷ some more ∷ some finished ∷ some (told 0 false 2 1) ∷ [])
+    ≡ all (some Answer.accepted ∷ some (parts 2) ∷ some more ∷ some finished ∷ some (readAnswer 0 false 2 1) ∷ [])
 unfolding seen onNode0 lentA
 changed-excess = refl
 
@@ -87,22 +86,22 @@ pub restored : seen (load loadA ∷ start lentA (0 ∷ []) (0 ∷ []) ∷ advanc
     ∷ advance nothing
     ∷ advance lentA ∷ read ∷ [])
     ≡ all (some Answer.accepted ∷ some (parts 2) ∷ some more ∷ none ∷ some (refused 17) ∷ some finished
-    ∷ some (told 0 false 2 1) ∷ [])
+    ∷ some (readAnswer 0 false 2 1) ∷ [])
 unfolding seen otherNumber loadA lentA
 restored = refl
 
 -- other bytes below S: settled by the rule, on those bytes. Byte 1 is node 0's map at state 0; a fresh run has 0 no
 pub other-bytes : seen (onNode0 lentA lentA (otherByte 1 1))
-    ≡ all (some Answer.accepted ∷ some (parts 2) ∷ some more ∷ some finished ∷ some (told 1 true 2 1) ∷ [])
+    ≡ all (some Answer.accepted ∷ some (parts 2) ∷ some more ∷ some finished ∷ some (readAnswer 1 true 2 1) ∷ [])
 unfolding seen onNode0 lentA otherByte
 other-bytes = refl
 
 -- other bytes at Start already, below S or not: what is lent to the advances decides
 pub other-at-start :
     (seen (onNode0 (otherByte 1 1) (otherByte 1 1) lentA)
-    ≡ all (some Answer.accepted ∷ some (parts 2) ∷ some more ∷ some finished ∷ some (told 0 false 2 1) ∷ []))
+    ≡ all (some Answer.accepted ∷ some (parts 2) ∷ some more ∷ some finished ∷ some (readAnswer 0 false 2 1) ∷ []))
     × (seen (onNode0 (otherByte 1 2) lentA lentA)
-    ≡ all (some Answer.accepted ∷ some (parts 2) ∷ some more ∷ some finished ∷ some (told 0 false 2 1) ∷ []))
+    ≡ all (some Answer.accepted ∷ some (parts 2) ∷ some more ∷ some finished ∷ some (readAnswer 0 false 2 1) ∷ []))
 unfolding seen onNode0 lentA otherByte
 other-at-start = (refl, refl)
 
@@ -112,7 +111,7 @@ pub wrong-state : seen (read ∷ cancel ∷ load loadA ∷ advance lentA ∷ sta
     ∷ start lentA [] [] ∷ advance lentA ∷ read ∷ start lentA (6 ∷ []) (0 ∷ []) ∷ read ∷ [])
     ≡ all (some (refused 1) ∷ some (refused 1) ∷ some Answer.accepted ∷ some (refused 1) ∷ some (parts 1)
     ∷ some (refused 1)
-    ∷ some (refused 1) ∷ some Answer.accepted ∷ some (parts 1) ∷ some finished ∷ some (told 1 true 1 0)
+    ∷ some (refused 1) ∷ some Answer.accepted ∷ some (parts 1) ∷ some finished ∷ some (readAnswer 1 true 1 0)
     ∷ some (parts 1) ∷ some (refused 1) ∷ [])
 unfolding seen loadA lentA
 wrong-state = refl
@@ -128,8 +127,8 @@ first-no = refl
 
 -- a Start refused with 18 leaves the old question, still clean. Number 13 is node 3's jump
 pub refused-start : seen (asking [] [] 1 ++ (start (otherNumber 13 60000) (0 ∷ 3 ∷ []) (0 ∷ 0 ∷ []) ∷ read ∷ []))
-    ≡ all (some Answer.accepted ∷ some (parts 1) ∷ some finished ∷ some (told 1 true 1 0) ∷ none
-    ∷ some (told 1 true 1 0) ∷ [])
+    ≡ all (some Answer.accepted ∷ some (parts 1) ∷ some finished ∷ some (readAnswer 1 true 1 0) ∷ none
+    ∷ some (readAnswer 1 true 1 0) ∷ [])
 unfolding seen asking otherNumber loadA lentA
 refused-start = refl
 
@@ -165,11 +164,11 @@ judged xs = agreed newBook (onNode0 lentA lentA lentA) xs
 -- the answers; a state, links, parts that are not so; finished told early; 18 on sound lends; a Load turned
 -- down; an answer missing
 pub turned-down :
-    judged (Answer.accepted ∷ parts 2 ∷ more ∷ finished ∷ told 0 false 2 1 ∷ [])
-    ∷ judged (Answer.accepted ∷ parts 2 ∷ more ∷ finished ∷ told 1 true 2 1 ∷ [])
-    ∷ judged (Answer.accepted ∷ parts 2 ∷ more ∷ finished ∷ told 0 false 2 0 ∷ [])
-    ∷ judged (Answer.accepted ∷ parts 1 ∷ more ∷ finished ∷ told 0 false 1 1 ∷ [])
-    ∷ judged (Answer.accepted ∷ parts 2 ∷ finished ∷ refused 1 ∷ told 0 false 2 1 ∷ [])
+    judged (Answer.accepted ∷ parts 2 ∷ more ∷ finished ∷ readAnswer 0 false 2 1 ∷ [])
+    ∷ judged (Answer.accepted ∷ parts 2 ∷ more ∷ finished ∷ readAnswer 1 true 2 1 ∷ [])
+    ∷ judged (Answer.accepted ∷ parts 2 ∷ more ∷ finished ∷ readAnswer 0 false 2 0 ∷ [])
+    ∷ judged (Answer.accepted ∷ parts 1 ∷ more ∷ finished ∷ readAnswer 0 false 1 1 ∷ [])
+    ∷ judged (Answer.accepted ∷ parts 2 ∷ finished ∷ refused 1 ∷ readAnswer 0 false 2 1 ∷ [])
     ∷ judged (Answer.accepted ∷ refused 18 ∷ refused 1 ∷ refused 1 ∷ refused 1 ∷ [])
     ∷ judged (refused 2 ∷ refused 1 ∷ refused 1 ∷ refused 1 ∷ refused 1 ∷ [])
     ∷ judged (Answer.accepted ∷ parts 2 ∷ more ∷ finished ∷ [])
@@ -184,8 +183,8 @@ unfolding computing onNode0 lentA otherByte
 judgedBytes xs = agreed newBook (onNode0 lentA lentA (otherByte 1 1)) (Answer.accepted ∷ parts 2 ∷ more ∷ xs)
 
 pub turned-down-bytes :
-    judgedBytes (finished ∷ told 1 true 2 1 ∷ []) ∷ judgedBytes (finished ∷ told 0 false 2 1 ∷ [])
-    ∷ judgedBytes (finished ∷ told 1 true 2 0 ∷ []) ∷ judgedBytes (refused 18 ∷ refused 1 ∷ []) ∷ []
+    judgedBytes (finished ∷ readAnswer 1 true 2 1 ∷ []) ∷ judgedBytes (finished ∷ readAnswer 0 false 2 1 ∷ [])
+    ∷ judgedBytes (finished ∷ readAnswer 1 true 2 0 ∷ []) ∷ judgedBytes (refused 18 ∷ refused 1 ∷ []) ∷ []
     ≡ true ∷ false ∷ false ∷ false ∷ []
 unfolding judgedBytes
 turned-down-bytes = refl
@@ -197,7 +196,7 @@ unfolding computing onNode0 lentA otherLabel
 judgedLoose xs = agreed newBook (onNode0 lentA otherLabel lentA) (Answer.accepted ∷ parts 2 ∷ more ∷ xs)
 
 pub turned-down-loose :
-    judgedLoose (finished ∷ told 1 true 9 9 ∷ []) ∷ judgedLoose (more ∷ refused 1 ∷ []) ∷ judgedLoose
+    judgedLoose (finished ∷ readAnswer 1 true 9 9 ∷ []) ∷ judgedLoose (more ∷ refused 1 ∷ []) ∷ judgedLoose
     (refused 18 ∷ refused 1 ∷ [])
     ∷ judgedLoose (refused 17 ∷ refused 1 ∷ []) ∷ []
     ≡ true ∷ true ∷ false ∷ false ∷ []

@@ -21,8 +21,8 @@ use Rattle.runs.proofs.OrderLaws.{keys-zip, keys-perm, length-perm, holds-perm,
 use Rattle.ready.specs.Members.{readyList, roots}
 use Rattle.ready.specs.Parts.{questionLinks}
 use Rattle.formats.specs.Inputs.{Inputs, Sizes, fits}
-use Rattle.model.specs.Calls.{told, start, Phase, mayStart}
-use Rattle.model.specs.Refusals.{refusal}
+use Rattle.model.specs.Calls.{readAnswer, start, Phase, mayStart}
+use Rattle.model.specs.Refusals.{Stage, stage, refusal}
 use Rattle.reference.specs.Reference.{Question, rootsOf, partCount, changedTree, freshAnswer}
 
 module _ (vs bs ws cs : List ℕ) (g : length vs ≡ length bs) (h : length ws ≡ length cs)
@@ -37,10 +37,11 @@ module _ (vs bs ws cs : List ℕ) (g : length vs ≡ length bs) (h : length ws �
   unfolding roots
   roots-order t = ap (λ (w : ℕ → Bool). readyList w t) (fun-ext same-nodes)
 
-  pub start-order : (p : Phase) (z : Sizes) (x : Inputs) → refusal p z (start x vs bs) ≡ refusal p z (start x ws cs)
+  pub start-order : (t : Stage) (x : Inputs) → refusal t (start x vs bs) ≡ refusal t (start x ws cs)
   unfolding refusal firstNo
-  start-order p z x =
-      ap (λ (n : ℕ). cond (mayStart p) (cond (fits z x) n 17) 1) (list-order vs bs ws cs g h d (z .n) (z .k))
+  start-order t x =
+      ap (λ (n : ℕ). cond (mayStart (t .phase)) (cond (fits (t .sizes) x) n 17) 1)
+      (list-order vs bs ws cs g h d (t .sizes .n) (t .sizes .k))
 
   -- two questions on the same lends
   module _ (q k : Question) (same : q .lent ≡ k .lent) (qv : q .nodes ≡ vs) (qb : q .labels ≡ bs) (kv : k .nodes ≡ ws)
@@ -69,8 +70,8 @@ module _ (vs bs ws cs : List ℕ) (g : length vs ≡ length bs) (h : length ws �
     pub fresh-order : distinct vs ≡ true → freshAnswer q ≡ freshAnswer k
     unfolding freshAnswer
     fresh-order u =
-        ap₂ (λ (x : Inputs) (t : Tree). told (state (ruleAutomaton (x .rules)) t) (accepts (ruleAutomaton (x .rules)) t)
+        ap₂ (λ (x : Inputs) (t : Tree). readAnswer (state (ruleAutomaton (x .rules)) t) (accepts (ruleAutomaton (x .rules)) t)
         (partCount q) (questionLinks (planTree (q .lent .plan)) (rootsOf q))) same (tree-same u)
-        ∙ ap₂ (λ (x : Inputs) (ms : List ℕ). told (state (ruleAutomaton (k .lent .rules)) (changedTree k))
+        ∙ ap₂ (λ (x : Inputs) (ms : List ℕ). readAnswer (state (ruleAutomaton (k .lent .rules)) (changedTree k))
         (accepts (ruleAutomaton (k .lent .rules)) (changedTree k))
         (length ms) (questionLinks (planTree (x .plan)) ms)) same roots-same

@@ -22,16 +22,14 @@ use Rattle.formats.specs.Checks.{firstNo, listChecks}
 use Rattle.formats.proofs.CheckLaws.{true-false, and-left}
 use Rattle.formats.proofs.InputLaws.{list-passes}
 use Rattle.formats.specs.Inputs.{Inputs, Sizes, nodeTableBuilt, stateTableBuilt, sound}
-use Rattle.model.specs.Calls.{Call, start, Answer, refused, parts, more, finished, told}
-use Rattle.model.specs.Refusals.{refusal}
-use Rattle.reference.specs.Reference.{Standing, clean, Question, State, Book, Next, phase, inState, newBook}
-use Rattle.reference.specs.Reference.{step, decided, proceed}
-use Rattle.reference.specs.Reference.{partCount, freshAnswer, standingOf, asked, starting}
+use Rattle.model.specs.Calls.{Call, start, Answer, refused, parts, more, finished, outcome, onOutcome, isRefused}
+use Rattle.model.specs.Refusals.{Stage, stage, refusal}
+use Rattle.reference.specs.Reference.{Standing, clean, Question, State, Book, Next, phase, inState, newBook, step}
+use Rattle.reference.specs.Reference.{decided, proceed, partCount, freshAnswer, standingOf, asked, starting}
 use Rattle.reference.specs.Demand3.{Conforms, after, Agrees}
 use Rattle.model.specs.History.{History}
 use Rattle.model.specs.Model.{freshRecord, Does}
-use Rattle.model.specs.Calls.{isRefused}
-use Rattle.reference.specs.Undisturbed.{advances, finishedAfter, bookAt, LeftAlone, EveryTold, OnlyTold}
+use Rattle.reference.specs.Undisturbed.{advances, finishedAfter, bookAt, LeftAlone, OutcomeHas, EveryTold, OnlyTold}
 use Rattle.model.proofs.Facts.{Layers}
 use Rattle.reference.proofs.StartSimulation.{some-part}
 use Rattle.model.proofs.ModelLaws.{start-list}
@@ -57,7 +55,7 @@ pub record CleanlyTold (x : Inputs) (vs bs : List ℕ) (n : ℕ) (ys : List Answ
   -- Read tells the fresh run's state and yes or no, the parts, and the moves of their climbs
   pub only : OnlyTold (freshAnswer (question x vs bs)) ys
   -- at most three links for each binary digit of the plan's height, for each part told
-  pub links : EveryTold (λ s y p l. l ≤ p * (3 * digits (height (planTree (x .plan))))) ys
+  pub links : EveryTold (λ o. o .links ≤ o .parts * (3 * digits (height (planTree (x .plan))))) ys
 
 -- the same for any form of the calls: cs and xs are the calls and answers before the Start, ds and ys those after it
 abbrev pub QuestionsTold : {Record : Type 0} → Record → (Record → Call → Answer → Record → Type 0) → Type 0
@@ -95,7 +93,7 @@ module _ (z : Sizes) (s : State) (x : Inputs) (vs bs : List ℕ) (n : ℕ) (soun
 
   begun : Begins (step b (start x vs bs))
   unfolding step decided proceed asked
-  begun = go (refusal (phase s) z (start x vs bs))
+  begun = go (refusal (stage (phase s) z) (start x vs bs))
     where
       go : (m : ℕ) → Begins (decided m b (start x vs bs))
       go zero e = begins-at e
@@ -103,7 +101,7 @@ module _ (z : Sizes) (s : State) (x : Inputs) (vs bs : List ℕ) (n : ℕ) (soun
 
   listed : Conforms (step b (start x vs bs)) (parts n) → firstNo (listChecks (z .n) (z .k) vs bs) ≡ 0
   unfolding step decided
-  listed e = start-list (phase s) z x vs bs (go (refusal (phase s) z (start x vs bs)) e)
+  listed e = start-list (stage (phase s) z) x vs bs (go (refusal (stage (phase s) z) (start x vs bs)) e)
     where
       go : (m : ℕ) → Conforms (decided m b (start x vs bs)) (parts n) → m ≡ 0
       go zero e = refl
@@ -112,32 +110,24 @@ module _ (z : Sizes) (s : State) (x : Inputs) (vs bs : List ℕ) (n : ℕ) (soun
 -- ---- what Reads tell
 
 linksIn : Answer → ℕ
-linksIn (told s y p l) = l
-linksIn (refused n) = 0
-linksIn Answer.accepted = 0
-linksIn (parts p) = 0
-linksIn more = 0
-linksIn finished = 0
+linksIn a = onOutcome (λ o. o .links) 0 a
 
 partsIn : Answer → ℕ
-partsIn (told s y p l) = p
-partsIn (refused n) = 0
-partsIn Answer.accepted = 0
-partsIn (parts p) = 0
-partsIn more = 0
-partsIn finished = 0
+partsIn a = onOutcome (λ o. o .parts) 0 a
 
 few-links : (d : ℕ) (a : Answer) → linksIn a ≤ partsIn a * d → (ys : List Answer) → OnlyTold a ys
-    → EveryTold (λ s y p l. l ≤ p * d) ys
+    → EveryTold (λ o. o .links ≤ o .parts * d) ys
 unfolding linksIn partsIn
 few-links d a h [] o = tt
-few-links d a h (refused n ∷ ys) o = few-links d a h ys o
-few-links d a h (Answer.accepted ∷ ys) o = few-links d a h ys o
-few-links d a h (parts p ∷ ys) o = few-links d a h ys o
-few-links d a h (more ∷ ys) o = few-links d a h ys o
-few-links d a h (finished ∷ ys) o = few-links d a h ys o
-few-links d a h (told s y p l ∷ ys) o =
-    (subst (λ (c : Answer). linksIn c ≤ partsIn c * d) (sym (o .0)) h, few-links d a h ys (o .1))
+few-links d a h (y ∷ ys) o = (one y (o .0), few-links d a h ys (o .1))
+  where
+    one : (y : Answer) → OutcomeHas (λ r. outcome r ≡ a) y → OutcomeHas (λ r. r .links ≤ r .parts * d) y
+    one (refused n) e = tt
+    one Answer.accepted e = tt
+    one (parts p) e = tt
+    one more e = tt
+    one finished e = tt
+    one (outcome r) e = subst (λ (c : Answer). linksIn c ≤ partsIn c * d) (sym e) h
 
 fresh-few : (q : Question) → linksIn (freshAnswer q) ≤ partsIn
     (freshAnswer q) * (3 * digits (height (planTree (q .lent .plan))))

@@ -21,8 +21,7 @@ use Rattle.formats.specs.Checks.{firstNo, listChecks}
 use Rattle.ready.specs.Parts.{Part, partsFrom, lastState, allLinks}
 use Rattle.formats.specs.Inputs.{Sizes, nodeTableBuilt, stateTableBuilt}
 use Rattle.reference.specs.Reference.{Standing, clean, firm, loose, Question, State, Book, phase, rootsOf}
-use Rattle.reference.specs.Reference.{partCount}
-use Rattle.reference.specs.Reference.{givenBy}
+use Rattle.reference.specs.Reference.{partCount, givenBy}
 use Rattle.model.specs.Model.{Record}
 use Rattle.ready.specs.Parts.{statesOf}
 use Rattle.model.proofs.Facts.{Handled}

@@ -30,27 +30,22 @@ use Rattle.questions.specs.Roots.{insertRising, risingOf, wanted, withFork, wit
 use Rattle.questions.specs.Climbs.{below, runOn, ruleOn, siblingOn, parentOn, moveOn, climbOn}
 use Rattle.questions.specs.Part.{lastFound, labelOn, climbFrom, runReached, ownReached, joinOn, innerOn, leafOn}
 use Rattle.questions.specs.Part.{forkOn, partOn}
-use Rattle.formats.specs.Inputs.{Inputs, fits, sameNodeInputs, sameInputs, namesSizes, nodeTableBuilt, stateTableBuilt, sound}
-use Rattle.formats.specs.Inputs.{statesBelow}
-use Rattle.model.specs.Calls.{Call, load, start, advance, read, Answer, refused}
-use Rattle.model.specs.Calls.{told}
-use Rattle.model.specs.Calls.{mayLoad, mayStart, isRunning, isAnswered}
+use Rattle.formats.specs.Inputs.{Inputs, fits, sameNodeInputs, sameInputs, namesSizes, nodeTableBuilt, stateTableBuilt}
+use Rattle.formats.specs.Inputs.{sound, statesBelow}
+use Rattle.model.specs.Calls.{Call, load, start, advance, read, Answer, refused, readAnswer, mayLoad, mayStart}
+use Rattle.model.specs.Calls.{isRunning, isAnswered}
 use Rattle.model.specs.Refusals.{refusal}
 use Rattle.model.specs.PartInputs.{givenOf}
-use Rattle.reference.specs.Reference.{phase, newBook, inState, longer, freshAnswer, ruleAnswer}
-use Rattle.reference.specs.Reference.{standingOf}
-use Rattle.reference.specs.Causes.{isChildless, isFlat, strays, isApart, linksCause, nodeCause, rulesCause}
-use Rattle.reference.specs.Causes.{cause}
+use Rattle.reference.specs.Reference.{phase, newBook, inState, longer, freshAnswer, ruleAnswer, standingOf, asked}
+use Rattle.reference.specs.Reference.{mayStartWith, unlessRefused, starting, advanced, goesOn, otherBytes}
+use Rattle.reference.specs.Reference.{mayAdvanceWith, byAnswer, loosely, firmly, advancing, isTold, reading}
+use Rattle.reference.specs.Reference.{proceed, decided, step}
+use Rattle.reference.specs.Causes.{isChildless, isFlat, strays, isApart, linksCause, nodeCause, rulesCause, cause}
 use Rattle.reference.specs.Causes.{startCause, advanceCause}
-use Rattle.reference.specs.Reference.{asked, mayStartWith}
-use Rattle.reference.specs.Reference.{unlessRefused, starting, advanced, goesOn, otherBytes, mayAdvanceWith}
-use Rattle.reference.specs.Reference.{byAnswer}
-use Rattle.reference.specs.Reference.{loosely, firmly, advancing}
-use Rattle.reference.specs.Reference.{isTold, reading, proceed, decided, step}
-use Rattle.model.specs.Model.{idle, freshRecord, started, startWith, stepped, advanceWith, lastOf}
-use Rattle.model.specs.Model.{proceeds}
-use Rattle.model.specs.Model.{unless, act}
-use Rattle.reference.specs.AgreementTest.{answersOf, flag, code, sameAnswer, conforms, agreed, settledIn, foretold}
+use Rattle.model.specs.Model.{idle, freshRecord, started, startWith, stepped, advanceWith, lastOf, proceeds, unless}
+use Rattle.model.specs.Model.{act}
+use Rattle.reference.specs.AgreementTest.{answersOf, flag, code, sameAnswer, conforms, agreed, settledIn}
+use Rattle.reference.specs.AgreementTest.{foretold}
 
 unfoldable pub computing : ℕ
 unfolding split sub parent depth isPostorder treeOf changed jumpIn jump nextMove climbIn climb walk tabulate
@@ -135,8 +130,8 @@ pub sample-rows :
     row [] [] 1 ∷ row (0 ∷ []) (0 ∷ []) 2 ∷ row (0 ∷ 2 ∷ []) (0 ∷ 0 ∷ []) 3 ∷ row (0 ∷ 3 ∷ []) (0 ∷ 1 ∷ []) 5
     ∷ row (4 ∷ []) (0 ∷ []) 2 ∷ row (6 ∷ []) (0 ∷ []) 1
     ∷ startRow (7 ∷ []) (0 ∷ []) ∷ startRow (0 ∷ []) (2 ∷ []) ∷ startRow (0 ∷ 0 ∷ []) (0 ∷ 1 ∷ []) ∷ []
-    ≡ some (told 1 true 1 0) ∷ some (told 0 false 2 1) ∷ some (told 1 true 3 0) ∷ some (told 0 false 5 0)
-    ∷ some (told 0 false 2 1) ∷ some (told 1 true 1 0)
+    ≡ some (readAnswer 1 true 1 0) ∷ some (readAnswer 0 false 2 1) ∷ some (readAnswer 1 true 3 0) ∷ some (readAnswer 0 false 5 0)
+    ∷ some (readAnswer 0 false 2 1) ∷ some (readAnswer 1 true 1 0)
     ∷ some (refused 13) ∷ some (refused 14) ∷ some (refused 15) ∷ []
 unfolding row startRow
 sample-rows = refl

@@ -18,16 +18,14 @@ use Rattle.formats.proofs.CheckLaws.{firstNo-tail}
 use Rattle.formats.proofs.InputLaws.{build-passes}
 use Rattle.ready.specs.Parts.{Part, partsFrom, partsOf, lastState, allLinks}
 use Rattle.formats.specs.Inputs.{Inputs, Sizes, sizesIn}
-use Rattle.model.specs.Calls.{Call, load, cancel, read, Answer, refused, told, Phase, mayLoad, isRunning}
+use Rattle.model.specs.Calls.{Call, load, cancel, read, Answer, refused, readAnswer, Phase, mayLoad, isRunning}
 use Rattle.model.specs.Calls.{isAnswered}
-use Rattle.model.specs.Refusals.{refusal}
+use Rattle.model.specs.Refusals.{Stage, stage, refusal}
 use Rattle.reference.specs.Reference.{Standing, clean, firm, loose, Question, State, Book, Next, phase, inState}
-use Rattle.reference.specs.Reference.{step}
-use Rattle.reference.specs.Reference.{decided, proceed}
-use Rattle.reference.specs.Reference.{rootsOf, partCount, changedTree, givenBy, freshAnswer, ruleAnswer, reading}
-use Rattle.reference.specs.Reference.{isTold}
+use Rattle.reference.specs.Reference.{stageOf, step, decided, proceed, rootsOf, partCount, changedTree, givenBy}
+use Rattle.reference.specs.Reference.{freshAnswer, ruleAnswer, reading, isTold}
 use Rattle.reference.specs.Demand3.{Conforms, after}
-use Rattle.model.specs.Model.{Record, Acted, acted, idle, act, unless, proceeds, Does, toldBy, lastOf}
+use Rattle.model.specs.Model.{Record, stageOf as recordStage, Acted, acted, idle, act, unless, proceeds, Does, toldBy, lastOf}
 use Rattle.model.proofs.ResultLaws.{last-states}
 use Rattle.formats.proofs.InputsLaws.{node-table-built}
 use Rattle.reference.proofs.FreshLaws.{whole-state, whole-links}
@@ -48,13 +46,13 @@ pub some-number : {n : ℕ} → suc n ≡ 0 → ⊥
 some-number e = omega arith
 
 pub by-refusal : (r : Record) (s : State) (z : Sizes) (c : Call) → Rel r (book s z)
-    → (refusal (phase s) z c ≡ 0 → Sim (proceed (book s z) s c) (proceeds r c)) → Sim (step (book s z) c) (act r c)
+    → (refusal (stage (phase s) z) c ≡ 0 → Sim (proceed (book s z) s c) (proceeds r c)) → Sim (step (book s z) c) (act r c)
 unfolding step act decided unless
 by-refusal r s z c i f =
-    go (refusal (r .phase) (r .sizes) c) (refusal (phase s) z c)
-    (ap₂ (λ (p : Phase) (y : Sizes). refusal p y c) (i .phases) (i .sizes)) refl
+    go (refusal (recordStage r) c) (refusal (stage (phase s) z) c)
+    (ap₂ (λ (p : Phase) (y : Sizes). refusal (stage p y) c) (i .phases) (i .sizes)) refl
   where
-    go : (m n : ℕ) → m ≡ n → refusal (phase s) z c ≡ n → Sim (decided n (book s z) c) (unless m r c)
+    go : (m n : ℕ) → m ≡ n → refusal (stage (phase s) z) c ≡ n → Sim (decided n (book s z) c) (unless m r c)
     go zero zero e h = f h
     go zero (suc n) e h = absurd (some-number (sym e))
     go (suc m) zero e h = absurd (some-number e)
@@ -66,24 +64,24 @@ does r r′ b c a d h = rw (d .tells, d .leaves) h
 
 -- ---- Load and Cancel
 
-load-counted : (p : Phase) (z : Sizes) (x : Inputs) → refusal p z (load x) ≡ 0 → 0 < sizesIn x .n
+load-counted : (t : Stage) (x : Inputs) → refusal t (load x) ≡ 0 → 0 < sizesIn x .n
 unfolding refusal
-load-counted p z x e =
+load-counted t x e =
     let P = build-passes (x .plan) (x .rules) (length (x .nodeTable)) (length (x .stateTable))
-    (firstNo-tail 1 (mayLoad p) (buildChecks (x .plan) (x .rules) (length (x .nodeTable)) (length (x .stateTable))) (omega arith) e) in
+    (firstNo-tail 1 (mayLoad (t .phase)) (buildChecks (x .plan) (x .rules) (length (x .nodeTable)) (length (x .stateTable))) (omega arith) e) in
     omega (arith, P .0 .least)
 
 pub on-load : (x : Inputs) → Simulates (load x)
 unfolding proceed proceeds phase idle
 on-load x r r′ b a i d = does r r′ b (load x) a d (by-refusal r (b .state) (b .sizes) (load x) i ok)
   where
-    ok : refusal (phase (b .state)) (b .sizes) (load x) ≡ 0 → Sim (proceed b (b .state) (load x)) (proceeds r (load x))
+    ok : refusal (stageOf b) (load x) ≡ 0 → Sim (proceed b (b .state) (load x)) (proceeds r (load x))
     ok h = (
       refl,
-      record { phases = refl; sizes = refl; holds = tt; asks = load-counted (phase (b .state)) (b .sizes) x h },
+      record { phases = refl; sizes = refl; holds = tt; asks = load-counted (stageOf b) x h },
     )
 
-cancel-at : (r : Record) (s : State) (z : Sizes) → Rel r (book s z) → refusal (phase s) z cancel ≡ 0
+cancel-at : (r : Record) (s : State) (z : Sizes) → Rel r (book s z) → refusal (stage (phase s) z) cancel ≡ 0
     → Sim (proceed (book s z) s cancel) (proceeds r cancel)
 unfolding refusal phase firstNo isRunning proceed proceeds inState idle
 cancel-at r State.empty z i h = absurd (some-number h)
@@ -99,7 +97,7 @@ on-cancel r r′ b a i d =
 -- ---- Read
 
 told-same : (q q′ : ℕ) (y y′ : Bool) (p p′ l l′ : ℕ) → q ≡ q′ → y ≡ y′ → p ≡ p′ → l ≡ l′
-    → told q y p l ≡ told q′ y′ p′ l′
+    → readAnswer q y p l ≡ readAnswer q′ y′ p′ l′
 told-same q q′ y y′ p p′ l l′ e f g h = cc
 
 -- a question that is counted: what the rule gave
@@ -135,7 +133,7 @@ read-as r z q clean s e i = (tells-rule r z q (s .0) (e .0) ∙ rule-fresh r z q
 read-as r z q firm s e i = (tells-rule r z q s e, i)
 read-as r z q loose s e i = (refl, i)
 
-read-at : (r : Record) (s : State) (z : Sizes) → Rel r (book s z) → refusal (phase s) z read ≡ 0
+read-at : (r : Record) (s : State) (z : Sizes) → Rel r (book s z) → refusal (stage (phase s) z) read ≡ 0
     → Sim (proceed (book s z) s read) (proceeds r read)
 unfolding refusal phase firstNo isAnswered proceed proceeds
 read-at r State.empty z i h = absurd (some-number h)

@@ -21,16 +21,15 @@ use Rattle.ready.proofs.ListLaws.{list-last}
 use Rattle.questions.specs.Roots.{rootsOn}
 use Rattle.questions.proofs.RootsLaws.{rootsOn-some, rootsOn-allBelow}
 use Rattle.questions.proofs.RootsAstray.{roots-astray}
-use Rattle.formats.specs.Inputs.{Inputs, Sizes, fits, usedNodeTable, nodeTableBuilt, stateTableBuilt, sound}
-use Rattle.model.specs.Calls.{start, Phase, mayStart}
-use Rattle.model.specs.Refusals.{refusal}
+use Rattle.formats.specs.Inputs.{Inputs, Sizes, usedNodeTable, nodeTableBuilt, stateTableBuilt, sound}
+use Rattle.model.specs.Calls.{start, mayStart}
+use Rattle.model.specs.Refusals.{Stage, stage, refusal}
 use Rattle.reference.specs.Reference.{Standing, clean, firm, loose, Question, State, phase, inState, rootsOf}
-use Rattle.reference.specs.Reference.{partCount, proceed}
-use Rattle.reference.specs.Reference.{standingOf, asked, starting, mayStartWith, unlessRefused}
+use Rattle.reference.specs.Reference.{partCount, proceed, standingOf, asked, starting, mayStartWith}
+use Rattle.reference.specs.Reference.{unlessRefused}
 use Rattle.model.specs.Model.{Record, proceeds, started, startWith}
 use Rattle.model.proofs.Facts.{Layers}
 use Rattle.model.proofs.ModelLaws.{some-root, start-list}
-use Rattle.model.proofs.ResultLaws.{length-more}
 use Rattle.reference.proofs.CauseLaws.{start-cause}
 use Rattle.reference.proofs.Relation.{Parted, Counted, Asking, Rel}
 use Rattle.reference.proofs.Simulation.{Sim, book, Simulates, some-number, by-refusal, does}
@@ -139,7 +138,7 @@ module _ (L : Layers) (r : Record) (s : State) (z : Sizes) (x : Inputs) (vs bs :
 
 -- a plan is loaded where a Start may be made
 start-counted : (r : Record) (s : State) (z : Sizes) (x : Inputs) (vs bs : List ℕ) → Rel r (book s z)
-    → refusal (phase s) z (start x vs bs) ≡ 0 → 0 < z .n
+    → refusal (stage (phase s) z) (start x vs bs) ≡ 0 → 0 < z .n
 unfolding refusal phase firstNo mayStart
 start-counted r State.empty z x vs bs i h = absurd (some-number h)
 start-counted r State.loaded z x vs bs i h = i .asks
@@ -147,12 +146,12 @@ start-counted r (State.running q) z x vs bs i h = absurd (some-number h)
 start-counted r (State.answered q) z x vs bs i h = i .asks
 
 start-at : (L : Layers) (r : Record) (s : State) (z : Sizes) (x : Inputs) (vs bs : List ℕ) → Rel r (book s z)
-    → refusal (phase s) z (start x vs bs) ≡ 0 → Sim (proceed (book s z) s (start x vs bs)) (proceeds r (start x vs bs))
+    → refusal (stage (phase s) z) (start x vs bs) ≡ 0 → Sim (proceed (book s z) s (start x vs bs)) (proceeds r (start x vs bs))
 unfolding proceed proceeds asked
 start-at L r s z x vs bs i h =
     subst (λ (y : Sizes). Sim (proceed (book s z) s (start x vs bs))
     (startWith r vs bs (rootsOn (y .n) (usedNodeTable y x) vs))) (sym (i .sizes))
-    (start-as L r s z x vs bs (start-list (phase s) z x vs bs h) i (start-counted r s z x vs bs i h) (standingOf z x)
+    (start-as L r s z x vs bs (start-list (stage (phase s) z) x vs bs h) i (start-counted r s z x vs bs i h) (standingOf z x)
     (begins z x))
 
 pub on-start : Layers → (x : Inputs) (vs bs : List ℕ) → Simulates (start x vs bs)

@@ -19,19 +19,14 @@ use Rattle.formats.proofs.CheckLaws.{true-false}
 use Rattle.ready.specs.Parts.{Part}
 use Rattle.trees.proofs.MoveLaws.{none-some}
 use Rattle.formats.specs.Inputs.{Inputs, Sizes, sameInputs}
-use Rattle.model.specs.Calls.{Call, load, start, advance, cancel, read, Answer, refused, parts, more}
-use Rattle.model.specs.Calls.{finished}
-use Rattle.model.specs.Calls.{told, Phase}
-use Rattle.model.specs.Calls.{mayLoad, mayStart, isRunning, isAnswered}
-use Rattle.model.specs.Refusals.{refusal}
+use Rattle.model.specs.Calls.{Call, load, start, advance, cancel, read, Answer, refused, parts, more, finished}
+use Rattle.model.specs.Calls.{outcome, Phase, mayLoad, mayStart, isRunning, isAnswered, isRefused}
+use Rattle.model.specs.Refusals.{Stage, stage, refusal}
 use Rattle.reference.specs.Reference.{Standing, clean, firm, loose, Question, State, Book, settled, phase}
-use Rattle.reference.specs.Reference.{inState}
-use Rattle.reference.specs.Reference.{step, decided, proceed}
-use Rattle.reference.specs.Reference.{partCount, freshAnswer, standingOf, asked, starting, unlessRefused, longer}
-use Rattle.reference.specs.Reference.{advanced, goesOn, otherBytes}
-use Rattle.reference.specs.Reference.{byAnswer, loosely, firmly, advancing, reading}
+use Rattle.reference.specs.Reference.{inState, step, decided, proceed, partCount, freshAnswer, standingOf, asked}
+use Rattle.reference.specs.Reference.{starting, unlessRefused, longer, advanced, goesOn, otherBytes, byAnswer}
+use Rattle.reference.specs.Reference.{loosely, firmly, advancing, reading}
 use Rattle.reference.specs.Demand3.{Conforms, after, Agrees}
-use Rattle.model.specs.Calls.{isRefused}
 use Rattle.reference.specs.Undisturbed.{advances, oneMore, finishedAfter, bookAt, AloneBy, LeftAlone, OnlyTold}
 use Rattle.reference.proofs.Simulation.{book}
 
@@ -97,11 +92,11 @@ module _ (z : Sizes) (q : Question) (c : ℕ) (tr : List Part) where
   turn-other x (parts p) h e f = absurd (true-false (sym (f refl) ∙ h))
   turn-other x more h e f = absurd (true-false (sym (f refl) ∙ h))
   turn-other x finished h e f = absurd (true-false (sym (f refl) ∙ h))
-  turn-other x (told s y p m) h e f = absurd (true-false (sym (f refl) ∙ h))
+  turn-other x (outcome o) h e f = absurd (true-false (sym (f refl) ∙ h))
 
   turn-advance : c < partCount q → (x : Inputs) (a : Answer) → Turned (advance x) a
   unfolding step decided proceed advancing advanced
-  turn-advance l x a e f = go (refusal (phase (State.running (at q c tr))) z (advance x)) e
+  turn-advance l x a e f = go (refusal (stage (phase (State.running (at q c tr))) z) (advance x)) e
     where
       both : (b : Bool) → sameInputs z (q .lent) x ≡ b
           → Conforms (cond b (goesOn going (at q (suc c) (longer z (at q c tr) x))) (firmly going x (at q c tr))) a
@@ -146,16 +141,16 @@ module _ (z : Sizes) (q : Question) (c : ℕ) (tr : List Part) where
   rest-start k loose (parts p) e f = absurd (true-false (sym f))
   rest-start k loose more e f = absurd (true-false (sym f))
   rest-start k loose finished e f = absurd (true-false (sym f))
-  rest-start k loose (told s y p m) e f = absurd (true-false (sym f))
+  rest-start k loose (outcome o) e f = absurd (true-false (sym f))
 
   pub rest : (k : Call) (a : Answer) → Rested k a
   unfolding step decided proceed refusal phase firstNo isRunning isAnswered reading freshAnswer
-  rest (load x) a e f = go (refusal Phase.answered z (load x)) e
+  rest (load x) a e f = go (refusal (stage Phase.answered z) (load x)) e
     where
       go : (n : ℕ) → Conforms (decided n over (load x)) a → Rest a (after (decided n over (load x)) a)
       go zero e = absurd (true-false (sym f ∙ ap isRefused e))
       go (suc n) e = rests (suc n) e refl
-  rest (start x vs bs) a e f = go (refusal Phase.answered z (start x vs bs)) e
+  rest (start x vs bs) a e f = go (refusal (stage Phase.answered z) (start x vs bs)) e
     where
       go : (n : ℕ) → Conforms (decided n over (start x vs bs)) a → Rest a (after (decided n over (start x vs bs)) a)
       go zero e = rest-start (asked z x vs bs) (standingOf z x) a e f
@@ -203,7 +198,8 @@ resting z q c tr (k ∷ cs) (a ∷ xs) h f =
     go : (Agrees (over z q c tr) cs xs → (advances xs ≡ 0) × OnlyTold (freshAnswer q) xs)
         → Rest z q c tr a (after (step (over z q c tr) k) a)
         → (advances (a ∷ xs) ≡ 0) × OnlyTold (freshAnswer q) (a ∷ xs)
-    go later (rests n e d) = rw e (later (subst (λ (b : Book). Agrees b cs xs) d (h .1)))
+    go later (rests n e d) =
+        let r = later (subst (λ (b : Book). Agrees b cs xs) d (h .1)) in rw e (r .0, (tt, r .1))
     go later (reads e d) =
         let r = later (subst (λ (b : Book). Agrees b cs xs) d (h .1)) in
         subst (λ (x : Answer). (advances (x ∷ xs) ≡ 0) × OnlyTold (freshAnswer q) (x ∷ xs)) (sym e) (r .0, (refl, r .1))
@@ -223,7 +219,7 @@ left-alone z q c tr l (k ∷ cs) (a ∷ xs) h f =
     go later (waits n e d) =
         let A : Alone q c xs = later c tr l (subst (λ (b : Book). Agrees b cs xs) d (h .1)) in
         subst (λ (x : Answer). Alone q c (x ∷ xs)) (sym e)
-        (record { exact = A .exact; unfinished = A .unfinished; most = A .most; only = A .only })
+        (record { exact = A .exact; unfinished = A .unfinished; most = A .most; only = (tt, A .only) })
     go later (goes ps e m d) =
         let A : Alone q (suc c) xs = later (suc c) ps m (subst (λ (b : Book). Agrees b cs xs) d (h .1)) in
         subst (λ (x : Answer). Alone q c (x ∷ xs)) (sym e)
@@ -231,7 +227,7 @@ left-alone z q c tr l (k ∷ cs) (a ∷ xs) h f =
           exact = λ j i. let n = more-after (finishedAfter xs) j i in omega (arith, A .exact (n .0) (n .1), n .2);
           unfinished = λ i. omega (arith, A .unfinished (more-none (finishedAfter xs) i));
           most = omega (arith, A .most);
-          only = A .only;
+          only = (tt, A .only);
         })
     go later (ends ps e m d) =
         let r = resting z q (suc c) ps cs xs (subst (λ (b : Book). Agrees b cs xs) d (h .1)) (f .1) in
@@ -240,5 +236,5 @@ left-alone z q c tr l (k ∷ cs) (a ∷ xs) h f =
           exact = λ j i. omega (arith, Option·some-injective 1 j i, m);
           unfinished = λ i. absurd (none-some (sym i));
           most = omega (arith, r .0, m);
-          only = r .1;
+          only = (tt, r .1);
         })

@@ -25,13 +25,12 @@ use Rattle.formats.proofs.PlanLaws.{size-planTree}
 use Rattle.formats.proofs.InputLaws.{rule-table-passes, build-table}
 use Rattle.tables.specs.Answers.{written}
 use Rattle.links.proofs.CellLaws.{length-linkTable}
-use Rattle.formats.specs.Inputs.{Inputs, Sizes, sizesIn, fits, usedNodeTable, usedStateTable, nodeTableBuilt, stateTableBuilt}
-use Rattle.formats.specs.Inputs.{sound}
+use Rattle.formats.specs.Inputs.{Inputs, Sizes, sizesIn, fits, usedNodeTable, usedStateTable, nodeTableBuilt}
+use Rattle.formats.specs.Inputs.{stateTableBuilt, sound}
 use Rattle.model.specs.Calls.{Phase, load, start, parts, mayLoad, mayStart}
-use Rattle.model.specs.Refusals.{refusal}
-use Rattle.reference.specs.Reference.{clean, firm, loose, Question, State, settled, phase, inState, step}
-use Rattle.reference.specs.Reference.{decided, proceed}
-use Rattle.reference.specs.Reference.{partCount, standingOf, asked, starting}
+use Rattle.model.specs.Refusals.{Stage, stage, refusal}
+use Rattle.reference.specs.Reference.{clean, firm, loose, Question, State, settled, phase, inState, step, decided}
+use Rattle.reference.specs.Reference.{proceed, partCount, standingOf, asked, starting}
 use Rattle.formats.proofs.InputsLaws.{built-node-table}
 use Rattle.reference.proofs.FreshLaws.{rules-sound, length-stateTable}
 use Rattle.reference.proofs.Simulation.{book}
@@ -46,12 +45,12 @@ loaded x = record {
   stateTable = written 0 (builtStates (x .plan) (x .rules)) (x .stateTable);
 }
 
-load-passes : (p : Phase) (z : Sizes) (x : Inputs) → refusal p z (load x) ≡ 0
+load-passes : (t : Stage) (x : Inputs) → refusal t (load x) ≡ 0
     → firstNo (ruleTableChecks (x .plan) (x .rules)) ≡ 0
 unfolding refusal
-load-passes p z x e =
+load-passes t x e =
     build-table (x .plan) (x .rules) (length (x .nodeTable)) (length (x .stateTable))
-    (firstNo-tail 1 (mayLoad p) (buildChecks (x .plan) (x .rules) (length (x .nodeTable)) (length (x .stateTable)))
+    (firstNo-tail 1 (mayLoad (t .phase)) (buildChecks (x .plan) (x .rules) (length (x .nodeTable)) (length (x .stateTable)))
     (omega arith) e)
 
 fits-all : (a b c d e f g h : ℕ) → a ≡ b → c ≡ d → e ≤ f → g ≤ h → (eqb a b && (eqb c d && (leb e f && leb g h))) ≡ true
@@ -129,28 +128,28 @@ module _ (x : Inputs) (passed : firstNo (ruleTableChecks (x .plan) (x .rules)) �
       bytes′ = builtStates (x .plan) (x .rules) ++ drop (length (builtStates (x .plan) (x .rules))) (x .stateTable)
 
 -- whatever the buffers held, and however long they are
-pub written-sound : (p : Phase) (z : Sizes) (x : Inputs) → refusal p z (load x) ≡ 0 → sound (sizesIn x) (loaded x) ≡ true
-written-sound p z x e = passed-sound x (load-passes p z x e)
+pub written-sound : (t : Stage) (x : Inputs) → refusal t (load x) ≡ 0 → sound (sizesIn x) (loaded x) ≡ true
+written-sound t x e = passed-sound x (load-passes t x e)
 
-pub written-fits : (p : Phase) (z : Sizes) (x : Inputs) → refusal p z (load x) ≡ 0 → fits (sizesIn x) (loaded x) ≡ true
-written-fits p z x e = passed-fits x (load-passes p z x e)
+pub written-fits : (t : Stage) (x : Inputs) → refusal t (load x) ≡ 0 → fits (sizesIn x) (loaded x) ≡ true
+written-fits t x e = passed-fits x (load-passes t x e)
 
 -- so a Start on what an accepted Load left is accepted with any list that passes 12 to 15, and tells its parts
-pub start-written : (p : Phase) (z : Sizes) (x : Inputs) (s : State) (vs bs : List ℕ) → refusal p z (load x) ≡ 0
+pub start-written : (t : Stage) (x : Inputs) (s : State) (vs bs : List ℕ) → refusal t (load x) ≡ 0
     → mayStart (phase s) ≡ true
     → firstNo (listChecks (sizesIn x .n) (sizesIn x .k) vs bs) ≡ 0
     → step (book s (sizesIn x)) (start (loaded x) vs bs)
     ≡ settled (parts (partCount (question (loaded x) vs bs)))
     (book (State.running (question (loaded x) vs bs)) (sizesIn x))
 unfolding step decided refusal proceed asked starting inState standingOf
-start-written p z x s vs bs e m l =
+start-written t x s vs bs e m l =
     ap (λ (n : ℕ). decided n (book s (sizesIn x)) (start (loaded x) vs bs))
     (firstNo-yes 1 (mayStart (phase s))
     (check 17 (fits (sizesIn x) (loaded x)) ∷ listChecks (sizesIn x .n) (sizesIn x .k) vs bs) m
     ∙ firstNo-yes 17 (fits (sizesIn x) (loaded x)) (listChecks (sizesIn x .n) (sizesIn x .k) vs bs)
-    (written-fits p z x e) ∙ l)
+    (written-fits t x e) ∙ l)
     ∙ ap (λ (b : Bool). starting (book s (sizesIn x)) (opened b)
-    (cond b clean (cond (nodeTableBuilt (sizesIn x) (loaded x)) firm loose))) (written-sound p z x e)
+    (cond b clean (cond (nodeTableBuilt (sizesIn x) (loaded x)) firm loose))) (written-sound t x e)
   where
     opened : Bool → Question
     opened b = record {

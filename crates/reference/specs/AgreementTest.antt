@@ -12,7 +12,7 @@ use mathlib.Core.Bool.{Bool, true, false, _&&_}
 use mathlib.Core.List.{List, [], _∷_}
 use mathlib.Core.Option.{Option, none, some}
 use Rattle.formats.specs.Bytes.{sameList}
-use Rattle.model.specs.Calls.{Call, Answer, refused, parts, more, finished, told}
+use Rattle.model.specs.Calls.{Call, Answer, refused, parts, more, finished, outcome}
 use Rattle.reference.specs.Reference.{Book, Next, settled, left, step}
 use Rattle.reference.specs.Demand3.{after}
 use Rattle.model.specs.Model.{Record, act}
@@ -32,7 +32,7 @@ code Answer.accepted = 1 ∷ []
 code (parts p) = 2 ∷ p ∷ []
 code more = 3 ∷ []
 code finished = 4 ∷ []
-code (told s y p l) = 5 ∷ s ∷ flag y ∷ p ∷ l ∷ []
+code (outcome o) = 5 ∷ o .state ∷ flag (o .yes) ∷ o .parts ∷ o .links ∷ []
 
 unfoldable pub sameAnswer : Answer → Answer → Bool
 sameAnswer a b = sameList (code a) (code b)

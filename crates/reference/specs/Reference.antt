@@ -20,11 +20,10 @@ use Rattle.formats.specs.Rules.{ruleAutomaton}
 use Rattle.runs.specs.FreshRun as fresh-run
 use Rattle.ready.specs.Members.{roots}
 use Rattle.ready.specs.Parts.{Given, Part, partOf, lastState, allLinks, questionLinks}
-use Rattle.formats.specs.Inputs.{Inputs, Sizes, sizesIn, sameNodeInputs, sameInputs, nodeTableBuilt, sound}
-use Rattle.formats.specs.Inputs.{statesBelow}
-use Rattle.model.specs.Calls.{Call, load, start, advance, cancel, read, Answer, refused, parts, more}
-use Rattle.model.specs.Calls.{finished, told, Phase}
-use Rattle.model.specs.Refusals.{refusal}
+use Rattle.formats.specs.Inputs.{Inputs, Sizes, sizesIn, sameNodeInputs, sameInputs, nodeTableBuilt, sound, statesBelow}
+use Rattle.model.specs.Calls.{Call, load, start, advance, cancel, read, Answer, refused, parts, more, finished}
+use Rattle.model.specs.Calls.{readAnswer, onRefused, onParts, onAdvance, onOutcome, Phase}
+use Rattle.model.specs.Refusals.{Stage, stage, refusal}
 use Rattle.model.specs.PartInputs.{givenOf}
 use Rattle.reference.specs.Causes.{startCause, advanceCause}
 
@@ -62,6 +61,10 @@ phase State.loaded = Phase.loaded
 phase (State.running q) = Phase.running
 phase (State.answered q) = Phase.answered
 
+-- what the checks ask of it
+abbrev pub stageOf : Book → Stage
+stageOf b = stage (phase (b .state)) (b .sizes)
+
 -- "It starts empty"
 unfoldable pub newBook : Book
 newBook = record { state = State.empty; sizes = record { n = 0; s = 0; k = 0 } }
@@ -94,14 +97,14 @@ longer z q x = q .trail ++ (partOf (givenBy z q x) (rootsOf q) (q .trail) (getD 
 -- parts, and as links the moves of its parts' climbs"
 unfoldable pub freshAnswer : Question → Answer
 freshAnswer q =
-    told (fresh-run.rootState (q .lent .plan) (q .lent .rules) (q .nodes) (q .labels))
+    readAnswer (fresh-run.rootState (q .lent .plan) (q .lent .rules) (q .nodes) (q .labels))
     (fresh-run.rootAccepted (q .lent .plan) (q .lent .rules) (q .nodes) (q .labels))
     (partCount q) (questionLinks (planTree (q .lent .plan)) (rootsOf q))
 
 -- what the rule of "Parts of a question" gave on the bytes that were lent
 unfoldable pub ruleAnswer : Question → Answer
 ruleAnswer q =
-    told (lastState (q .trail) 0) (ruleAutomaton (q .lent .rules) .accepting (lastState (q .trail) 0)) (partCount q) (allLinks (q .trail))
+    readAnswer (lastState (q .trail) 0) (ruleAutomaton (q .lent .rules) .accepting (lastState (q .trail) 0)) (partCount q) (allLinks (q .trail))
 
 -- ---- Start
 
@@ -113,21 +116,11 @@ asked z x vs bs = record { nodes = vs; labels = bs; lent = x; count = 0; standin
 
 -- left to the program: any number of parts, or 18 where the numbers lent give a cause
 unfoldable pub mayStartWith : Bool → Answer → Bool
-mayStartWith caused (refused n) = eqb n 18 && caused
-mayStartWith caused (parts p) = true
-mayStartWith caused Answer.accepted = false
-mayStartWith caused more = false
-mayStartWith caused finished = false
-mayStartWith caused (told s y p l) = false
+mayStartWith caused a = onParts (λ p. true) (onRefused (λ n. eqb n 18 && caused) false a) a
 
 -- "18 leaves the book as it is"
 unfoldable pub unlessRefused : Book → Book → Answer → Book
-unlessRefused b c (refused n) = b
-unlessRefused b c (parts p) = c
-unlessRefused b c Answer.accepted = c
-unlessRefused b c more = c
-unlessRefused b c finished = c
-unlessRefused b c (told s y p l) = c
+unlessRefused b c a = onRefused (λ n. b) c a
 
 -- "Start: running, count 0, clean if sound; clean, it tells the number of parts."
 unfoldable pub starting : Book → Question → Standing → Next
@@ -155,21 +148,12 @@ otherBytes z q x = nodeTableBuilt z (q .lent) && (sameNodeInputs z (q .lent) x &
 -- left to the program: more or finished, or 18 where what is lent gives a cause: never where the tables are as built and as at Start, or
 -- other bytes
 unfoldable pub mayAdvanceWith : Bool → Bool → Answer → Bool
-mayAdvanceWith usable caused (refused n) = eqb n 18 && (not usable && caused)
-mayAdvanceWith usable caused more = true
-mayAdvanceWith usable caused finished = true
-mayAdvanceWith usable caused (parts p) = false
-mayAdvanceWith usable caused Answer.accepted = false
-mayAdvanceWith usable caused (told s y p l) = false
+mayAdvanceWith usable caused a =
+    onAdvance true true (onRefused (λ n. eqb n 18 && (not usable && caused)) false a) a
 
 -- "an accepted advance makes the question unclean, and its more or finished gives the state"
 unfoldable pub byAnswer : Book → Question → Answer → Book
-byAnswer b q (refused n) = b
-byAnswer b q more = inState b (State.running q)
-byAnswer b q finished = inState b (State.answered q)
-byAnswer b q (parts p) = b
-byAnswer b q Answer.accepted = b
-byAnswer b q (told s y p l) = b
+byAnswer b q a = onAdvance (inState b (State.running q)) (inState b (State.answered q)) b a
 
 unfoldable pub loosely : Book → Inputs → Question → Next
 loosely b x q =
@@ -189,12 +173,7 @@ advancing b x q loose = loosely b x q
 -- ---- Read
 
 unfoldable pub isTold : Answer → Bool
-isTold (told s y p l) = true
-isTold (refused n) = false
-isTold (parts p) = false
-isTold Answer.accepted = false
-isTold more = false
-isTold finished = false
+isTold a = onOutcome (λ o. true) false a
 
 unfoldable pub reading : Book → Question → Standing → Next
 reading b q clean = settled (freshAnswer q) b
@@ -223,4 +202,4 @@ decided zero b c = proceed b (b .state) c
 decided (suc n) b c = settled (refused (suc n)) b
 
 unfoldable pub step : Book → Call → Next
-step b c = decided (refusal (phase (b .state)) (b .sizes) c) b c
+step b c = decided (refusal (stageOf b) c) b c

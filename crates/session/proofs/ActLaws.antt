@@ -25,10 +25,8 @@ use Rattle.formats.specs.Inputs.{Inputs, Sizes, sizesIn, fits, usedNodeTable}
 use Rattle.model.specs.Calls as calls
 use Rattle.model.specs.Calls.{Call, load, start, advance, cancel, read, mayLoad, mayStart, isRunning}
 use Rattle.model.specs.Refusals.{refusal}
-use Rattle.model.specs.Model.{Record, idle, freshRecord, loadedRecord, viewBy, marksBy, started}
-use Rattle.model.specs.Model.{startWith, stepped}
-use Rattle.model.specs.Model.{advanceWith}
-use Rattle.model.specs.Model.{partNext, acted, proceeds, unless, act}
+use Rattle.model.specs.Model.{stageOf, Record, idle, freshRecord, loadedRecord, viewBy, marksBy, started, startWith}
+use Rattle.model.specs.Model.{stepped, advanceWith, partNext, acted, proceeds, unless, act}
 use Rattle.model.proofs.ResultLaws.{below-more}
 use Rattle.session.specs.declared.state.Phase.the-variants.{Empty}
 use Rattle.session.specs.declared.state.Session.{Session}
@@ -154,7 +152,7 @@ running-is calls.Phase.running r e H = H
 running-is calls.Phase.answered r e H = absurd (true-false (sym e))
 
 module _ (r : Record) (H : Holds r) where
-  load-holds : (x : Inputs) → refusal (r .phase) (r .sizes) (load x) ≡ 0 → Holds (loadedRecord (sizesIn x))
+  load-holds : (x : Inputs) → refusal (stageOf r) (load x) ≡ 0 → Holds (loadedRecord (sizesIn x))
   unfolding refusal idle
   load-holds x e =
       let b = build-passes (x .plan) (x .rules) (length (x .nodeTable)) (length (x .stateTable))
@@ -170,7 +168,7 @@ module _ (r : Record) (H : Holds r) where
         refl,
       )
 
-  module _ (x : Inputs) (vs bs : List ℕ) (e : refusal (r .phase) (r .sizes) (start x vs bs) ≡ 0) where
+  module _ (x : Inputs) (vs bs : List ℕ) (e : refusal (stageOf r) (start x vs bs) ≡ 0) where
     list-is : ListPasses (r .sizes .n) (r .sizes .k) vs bs
     unfolding refusal
     list-is =
@@ -206,7 +204,7 @@ module _ (r : Record) (H : Holds r) where
           no-yes = refl;
         }
 
-  module _ (x : Inputs) (e : refusal (r .phase) (r .sizes) (advance x) ≡ 0) where
+  module _ (x : Inputs) (e : refusal (stageOf r) (advance x) ≡ 0) where
     going : Going r
     unfolding refusal
     going = running-is (r .phase) r (firstNo-head 1 (isRunning (r .phase)) _ (omega arith) e) H
@@ -264,11 +262,11 @@ module _ (r : Record) (H : Holds r) where
         advance-holds y q (eqb (suc (length (r .states))) (length (r .roots))) refl
         (eqb (getD (marksBy (r .sizes) x) (y .state) 0) 1)
 
-  cancel-holds : refusal (r .phase) (r .sizes) cancel ≡ 0 → Holds (loadedRecord (r .sizes))
+  cancel-holds : refusal (stageOf r) cancel ≡ 0 → Holds (loadedRecord (r .sizes))
   unfolding refusal idle
   cancel-holds f = (running-is (r .phase) r (firstNo-head 1 (isRunning (r .phase)) _ (omega arith) f) H .sizes, refl)
 
-  proceeds-holds : (c : Call) → refusal (r .phase) (r .sizes) c ≡ 0 → Holds (proceeds r c .record′)
+  proceeds-holds : (c : Call) → refusal (stageOf r) c ≡ 0 → Holds (proceeds r c .record′)
   unfolding proceeds
   proceeds-holds (load x) e = load-holds x e
   proceeds-holds (start x vs bs) e = start-holds x vs bs e (rootsOn (r .sizes .n) (usedNodeTable (r .sizes) x) vs) refl
@@ -278,9 +276,9 @@ module _ (r : Record) (H : Holds r) where
 
   pub act-holds : (c : Call) → Holds (act r c .record′)
   unfolding act unless
-  act-holds c = go (refusal (r .phase) (r .sizes) c) refl
+  act-holds c = go (refusal (stageOf r) c) refl
     where
-      go : (n : ℕ) → refusal (r .phase) (r .sizes) c ≡ n → Holds (unless n r c .record′)
+      go : (n : ℕ) → refusal (stageOf r) c ≡ n → Holds (unless n r c .record′)
       go zero e = proceeds-holds c e
       go (suc n) e = H
 

@@ -26,7 +26,7 @@ use Rattle.questions.proofs.PartBounds.{part-bounded}
 use Rattle.formats.specs.Inputs.{Inputs, fits}
 use Rattle.model.specs.Calls as calls
 use Rattle.model.specs.Calls.{Call, advance, isRunning}
-use Rattle.model.specs.Refusals.{refusal}
+use Rattle.model.specs.Refusals.{refusal, stage}
 use Rattle.model.specs.Model.{Acted, acted, viewBy, stepped, advanceWith, partNext, proceeds}
 use Rattle.session.specs.declared.state.Phase.{Phase}
 use Rattle.session.specs.declared.state.Phase.the-variants.{Running, Answered}
@@ -148,7 +148,7 @@ module _ (s : Session) (h : Shaped s) (x : Inputs) (b : Bool) (may : b ≡ (vali
     unfolding recordOf
     last-same = rw (L .2, L .3, add-one (s .handled))
 
-    on : refusal (phaseOf (s .phase)) (sizesOf s) C ≡ firstNo (check 17 (fits (sizesOf s) x) ∷ [])
+    on : refusal (stage (phaseOf (s .phase)) (sizesOf s)) C ≡ firstNo (check 17 (fits (sizesOf s) x) ∷ [])
     unfolding refusal
     on = firstNo-yes 1 (isRunning (phaseOf (s .phase))) (check 17 (fits (sizesOf s) x) ∷ []) r
 
@@ -163,7 +163,7 @@ module _ (s : Session) (h : Shaped s) (x : Inputs) (b : Bool) (may : b ≡ (vali
       advance-17 g = refused-done s C h v 16 (on ∙ firstNo-no 17 (fits (sizesOf s) x) [] (fits-is ∙ not-true f g))
 
       module _ (yes : not f ≡ false) where
-        no-refusal : refusal (phaseOf (s .phase)) (sizesOf s) C ≡ 0
+        no-refusal : refusal (stage (phaseOf (s .phase)) (sizesOf s)) C ≡ 0
         unfolding firstNo
         no-refusal = on ∙ firstNo-yes 17 (fits (sizesOf s) x) [] (fits-is ∙ not-false f yes)
 

@@ -14,10 +14,9 @@ use Rattle.formats.specs.Checks.{Check, check, firstNo, listChecks}
 use Rattle.formats.proofs.CheckLaws.{true-false, firstNo-no, firstNo-head}
 use Rattle.formats.specs.Inputs.{Inputs, fits}
 use Rattle.model.specs.Calls as calls
-use Rattle.model.specs.Calls.{Call, load, start, advance, cancel, read, Answer, refused, mayStart}
-use Rattle.model.specs.Calls.{isRunning}
-use Rattle.model.specs.Refusals.{refusal}
-use Rattle.model.specs.Model.{Acted, proceeds, unless, act}
+use Rattle.model.specs.Calls.{Call, load, start, advance, cancel, read, Answer, refused, mayStart, isRunning}
+use Rattle.model.specs.Refusals.{refusal, stage}
+use Rattle.model.specs.Model.{stageOf, Acted, proceeds, unless, act}
 use Rattle.model.specs.LeftOpen.{Kept}
 use Rattle.model.proofs.LeftOpenLaws.{refused-keeps, start-kept, advance-kept}
 use Rattle.formats.proofs.TurnLaws.{and-yes}
@@ -39,7 +38,7 @@ may-by f s h e b g =
 
 -- a Start that no check refuses finds a plan loaded
 start-loaded : (s : Session) → Shaped s → valid s ≡ true → (x : Inputs) (vs bs : List ℕ)
-    → refusal (recordOf s .phase) (recordOf s .sizes) (start x vs bs) ≡ 0 → 0 < recordOf s .sizes .n
+    → refusal (stageOf (recordOf s)) (start x vs bs) ≡ 0 → 0 < recordOf s .sizes .n
 unfolding refusal recordOf
 start-loaded s h v x vs bs e =
     let m = firstNo-head 1 (mayStart (phaseOf (s .phase))) (check 17 (fits (sizesOf s) x) ∷ listChecks (s .n) (s .k) vs bs)
@@ -48,7 +47,7 @@ start-loaded s h v x vs bs e =
 
 -- an advance that no check refuses finds a root that is a node
 next-inside : (s : Session) → Shaped s → valid s ≡ true → (x : Inputs)
-    → refusal (recordOf s .phase) (recordOf s .sizes) (advance x) ≡ 0
+    → refusal (stageOf (recordOf s)) (advance x) ≡ 0
     → getD (recordOf s .roots) (length (recordOf s .states)) 0 < recordOf s .sizes .n
 unfolding refusal recordOf
 next-inside s h v x e =
@@ -83,21 +82,21 @@ module _ (s : Session) (c : Call) where
       kept = λ w. subst (λ (b : Answer). Kept (recordOf s) c b (act (recordOf s) c .record′)) (sym f) (kept-of s h v c);
     }
 
-    act-refused : (n : ℕ) → refusal (phaseOf (s .phase)) (sizesOf s) c ≡ suc n
+    act-refused : (n : ℕ) → refusal (stage (phaseOf (s .phase)) (sizesOf s)) c ≡ suc n
         → (refused (suc n) ≡ act (recordOf s) c .answer) × (recordOf s ≡ act (recordOf s) c .record′)
     unfolding act unless recordOf
     act-refused n e = (rw e, rw e)
 
-    pub refused-done : (n : ℕ) → refusal (phaseOf (s .phase)) (sizesOf s) c ≡ suc n → CallDone s c (refused (suc n)) s
+    pub refused-done : (n : ℕ) → refusal (stage (phaseOf (s .phase)) (sizesOf s)) c ≡ suc n → CallDone s c (refused (suc n)) s
     refused-done n e =
         let a = act-refused n e in
         model-done (refused (suc n)) s (a .0) (sym (struct-is s h v) ∙ ap sessionOf (a .1))
 
-    act-proceeds : refusal (phaseOf (s .phase)) (sizesOf s) c ≡ 0 → proceeds (recordOf s) c ≡ act (recordOf s) c
+    act-proceeds : refusal (stage (phaseOf (s .phase)) (sizesOf s)) c ≡ 0 → proceeds (recordOf s) c ≡ act (recordOf s) c
     unfolding act unless recordOf
     act-proceeds e = rw e
 
-    pub proceeds-done : refusal (phaseOf (s .phase)) (sizesOf s) c ≡ 0 → (a : Answer) (t : Session)
+    pub proceeds-done : refusal (stage (phaseOf (s .phase)) (sizesOf s)) c ≡ 0 → (a : Answer) (t : Session)
         → a ≡ proceeds (recordOf s) c .answer
         → t ≡ sessionOf (proceeds (recordOf s) c .record′) → CallDone s c a t
     proceeds-done e a t f g =
@@ -105,7 +104,7 @@ module _ (s : Session) (c : Call) where
 
   -- check 1 says no
   pub unless-done : Shaped s → (b : Bool) (cs : List Check)
-      → refusal (phaseOf (s .phase)) (sizesOf s) c ≡ firstNo (check 1 b ∷ cs)
+      → refusal (stage (phaseOf (s .phase)) (sizesOf s)) c ≡ firstNo (check 1 b ∷ cs)
       → (valid s && b) ≡ false → CallDone s c (refused 1) s
   unless-done h b cs e f = go (valid s) refl f
     where

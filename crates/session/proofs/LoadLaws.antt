@@ -22,7 +22,7 @@ use Rattle.tables.specs.Answers.{numberOf, toldBuild, written, BuildDone}
 use Rattle.formats.specs.Inputs.{Inputs}
 use Rattle.model.specs.Calls as calls
 use Rattle.model.specs.Calls.{load, mayLoad}
-use Rattle.model.specs.Refusals.{refusal}
+use Rattle.model.specs.Refusals.{refusal, stage}
 use Rattle.model.specs.Model.{proceeds}
 use Rattle.session.specs.declared.state.Session.{Session}
 use Rattle.session.specs.declared.answers.Doing.the-variants.{Done as Made, Refused as NotDone}
@@ -68,7 +68,7 @@ module _ (s : Session) (h : Shaped s) (x : Inputs) (b : Bool) (may : b ≡ (vali
     v : valid s ≡ true
     v = and-left (valid s) (mayLoad (phaseOf (s .phase))) passes
 
-    on : refusal (phaseOf (s .phase)) (sizesOf s) (load x) ≡ firstNo checks
+    on : refusal (stage (phaseOf (s .phase)) (sizesOf s)) (load x) ≡ firstNo checks
     unfolding refusal
     on = firstNo-yes 1 (mayLoad (phaseOf (s .phase))) checks (and-right (valid s) (mayLoad (phaseOf (s .phase))) passes)
 

@@ -25,7 +25,7 @@ use Rattle.questions.proofs.RootsLaws.{rootsOn-fits}
 use Rattle.formats.specs.Inputs.{Inputs, fits}
 use Rattle.model.specs.Calls as calls
 use Rattle.model.specs.Calls.{Call, start, mayStart}
-use Rattle.model.specs.Refusals.{refusal}
+use Rattle.model.specs.Refusals.{refusal, stage}
 use Rattle.model.specs.Model.{startWith, started, proceeds}
 use Rattle.session.specs.declared.state.Session.{Session}
 use Rattle.session.specs.declared.answers.Starting.the-variants.{Parts, Refused as NotStarted}
@@ -66,7 +66,7 @@ module _ (s : Session) (h : Shaped s) (x : Inputs) (vs bs : List ℕ) (b : Bool)
     start-limits = record { most = sized .nodes-most; few = sized .states-most; labels = sized .labels-most }
 
     -- past check 1
-    on : refusal (phaseOf (s .phase)) (sizesOf s) C ≡ firstNo (check 17 (fits (sizesOf s) x) ∷ listChecks (s .n) (s .k) vs bs)
+    on : refusal (stage (phaseOf (s .phase)) (sizesOf s)) C ≡ firstNo (check 17 (fits (sizesOf s) x) ∷ listChecks (s .n) (s .k) vs bs)
     unfolding refusal
     on = firstNo-yes 1 (mayStart (phaseOf (s .phase))) (check 17 (fits (sizesOf s) x) ∷ listChecks (s .n) (s .k) vs bs) m
 
@@ -88,7 +88,7 @@ module _ (s : Session) (h : Shaped s) (x : Inputs) (vs bs : List ℕ) (b : Bool)
             lengths-are (s .n) (s .s) (s .k) (length (x .plan)) (length (x .rules)) (length (x .nodeTable)) (length (x .stateTable))
             (sym fit ∙ not-false f yes) .nums-room
 
-        onward : refusal (phaseOf (s .phase)) (sizesOf s) C ≡ firstNo (listChecks (s .n) (s .k) vs bs)
+        onward : refusal (stage (phaseOf (s .phase)) (sizesOf s)) C ≡ firstNo (listChecks (s .n) (s .k) vs bs)
         onward = on ∙ firstNo-yes 17 (fits (sizesOf s) x) (listChecks (s .n) (s .k) vs bs) (fits-is ∙ not-false f yes)
 
         module _ (q : ℕ) (list : q ≡ firstNo (listChecks (s .n) (s .k) vs bs)) where
@@ -96,7 +96,7 @@ module _ (s : Session) (h : Shaped s) (x : Inputs) (vs bs : List ℕ) (b : Bool)
           unfolding startingAnswer
           start-list g = go q (onward ∙ sym list) g
             where
-              go : (n : ℕ) → refusal (phaseOf (s .phase)) (sizesOf s) C ≡ n → (n ≡ 0 → ⊥)
+              go : (n : ℕ) → refusal (stage (phaseOf (s .phase)) (sizesOf s)) C ≡ n → (n ≡ 0 → ⊥)
                   → CallDone s C (calls.Answer.refused n) s
               go zero e i = absurd (i refl)
               go (suc n) e i = refused-done s C h v n e
@@ -108,7 +108,7 @@ module _ (s : Session) (h : Shaped s) (x : Inputs) (vs bs : List ℕ) (b : Bool)
             pub start-listed : ListArgs vs bs
             start-listed = record { few = list-is .most; few-labels = omega (arith, list-is .most, list-is .lengths) }
 
-            no-refusal : refusal (phaseOf (s .phase)) (sizesOf s) C ≡ 0
+            no-refusal : refusal (stage (phaseOf (s .phase)) (sizesOf s)) C ≡ 0
             no-refusal = onward ∙ sym list ∙ none-fails
 
             cut : length (take (s .n * 4) (x .nodeTable)) ≡ s .n * 4

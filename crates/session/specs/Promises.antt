@@ -14,9 +14,9 @@ use mathlib.Core.List.{List}
 use Rattle.formats.specs.Built.{builtLinks, builtStates}
 use Rattle.tables.specs.Answers.{written}
 use Rattle.formats.specs.Inputs.{Inputs}
-use Rattle.model.specs.Calls.{Call, load, Answer, refused, accepted, parts, more, finished, told}
+use Rattle.model.specs.Calls.{Call, load, Answer, refused, accepted, parts, more, finished, readAnswer}
 use Rattle.model.specs.Refusals.{refusal}
-use Rattle.model.specs.Model.{act}
+use Rattle.model.specs.Model.{stageOf, act}
 use Rattle.model.specs.LeftOpen.{Kept}
 use Rattle.session.specs.declared.state.Session.{Session}
 use Rattle.session.specs.declared.answers.Doing.{Doing}
@@ -43,7 +43,7 @@ advancingAnswer Finished = finished
 advancingAnswer (NotAdvanced n) = refused n
 
 unfoldable pub readingAnswer : Reading → Answer
-readingAnswer (Told q y p l) = told q y p l
+readingAnswer (Told q y p l) = readAnswer q y p l
 readingAnswer (NotRead n) = refused n
 
 -- the answer and the record of a call on a struct
@@ -55,7 +55,7 @@ recordOn s c = cond (valid s) (sessionOf (act (recordOf s) c .record′)) s
 
 -- the number of the refusal of a call on a struct, 18 apart
 unfoldable pub refusalOn : Session → Call → ℕ
-refusalOn s c = cond (valid s) (refusal (recordOf s .phase) (recordOf s .sizes) c) 1
+refusalOn s c = cond (valid s) (refusal (stageOf (recordOf s)) c) 1
 
 pub record CallDone (s : Session) (c : Call) (a : Answer) (s′ : Session) : Type 0 where
   -- what is told and the whole record after

@@ -18,18 +18,15 @@ use Rattle.formats.proofs.InputLaws.{list-passes}
 use Rattle.formats.specs.Built.{builtLinks, builtStates}
 use Rattle.tables.specs.Answers.{written}
 use Rattle.ready.specs.Parts.{Part}
-use Rattle.formats.specs.Inputs.{Inputs, Sizes, sizesIn, fits, usedNodeTable, usedStateTable, sameNodeInputs, sameInputs}
-use Rattle.formats.specs.Inputs.{nodeTableBuilt, stateTableBuilt, sound}
-use Rattle.model.specs.Calls.{Call, load, start, advance, read, Answer, refused, accepted, more}
-use Rattle.model.specs.Calls.{finished, Phase, isRunning, isAnswered}
-use Rattle.model.specs.Calls.{mayStart}
-use Rattle.model.specs.Refusals.{refusal}
-use Rattle.reference.specs.Reference.{Question, State, Book, settled, phase, newBook, inState, step, decided}
-use Rattle.reference.specs.Reference.{proceed, reading}
-use Rattle.reference.specs.Reference.{partCount, freshAnswer, longer, advanced, goesOn, firmly, advancing}
+use Rattle.formats.specs.Inputs.{Inputs, Sizes, sizesIn, fits, usedNodeTable, usedStateTable, sameNodeInputs}
+use Rattle.formats.specs.Inputs.{sameInputs, nodeTableBuilt, stateTableBuilt, sound, inputsOf}
+use Rattle.model.specs.Calls.{Call, load, start, advance, read, Answer, refused, accepted, more, finished, Phase}
+use Rattle.model.specs.Calls.{isRunning, isAnswered, mayStart, isRefused}
+use Rattle.model.specs.Refusals.{refusal, stage}
+use Rattle.model.specs.Model.{stageOf, Record, idle, freshRecord, act}
+use Rattle.reference.specs.Reference.{Question, State, Book, settled, phase, newBook, inState, step, decided, proceed}
+use Rattle.reference.specs.Reference.{reading, partCount, freshAnswer, longer, advanced, goesOn, firmly, advancing}
 use Rattle.reference.specs.Demand3.{Conforms, after, Agrees}
-use Rattle.model.specs.Model.{Record, idle, freshRecord, act}
-use Rattle.model.specs.Calls.{isRefused}
 use Rattle.reference.specs.AgreementTest.{answersOf}
 use Rattle.reference.proofs.Theorems.{session-model}
 use Rattle.model.proofs.LayersHold.{layers}
@@ -41,7 +38,6 @@ use Rattle.reference.proofs.QuestionTheorem.{question}
 use Rattle.reference.proofs.WrittenSound.{loaded, written-sound, written-fits, start-written}
 use Rattle.session.specs.declared.state.Session.{Session}
 use Rattle.session.specs.Records.{freshSession}
-use Rattle.formats.specs.Inputs.{inputsOf}
 use Rattle.session.specs.declared.answers.Doing.{Doing}
 use Rattle.session.specs.declared.answers.Doing.the-variants.{Done}
 use Rattle.session.specs.Promises.{LoadDone, doingAnswer, answerOn, recordOn, refusalOn}
@@ -95,7 +91,7 @@ module _ (z : Sizes) (x : Inputs) (long : fits z x ≡ true) where
       and-both _ _ (and-both _ _ (sameList-is (x .plan) (x .plan) refl) (and-both _ _ (sameList-is (x .rules) (x .rules) refl)
       (sameList-is (usedNodeTable z x) (usedNodeTable z x) refl))) (sameList-is (usedStateTable z x) (usedStateTable z x) refl)
 
-  advance-allowed : refusal Phase.running z (advance x) ≡ 0
+  advance-allowed : refusal (stage Phase.running z) (advance x) ≡ 0
   unfolding refusal isRunning firstNo
   advance-allowed = firstNo-yes 17 (fits z x) [] long
 
@@ -152,14 +148,14 @@ few-parts : (m p : ℕ) → Few m p → m ≤ 64 → p ≤ 254
 few-parts zero p h l = omega (arith, h .one refl)
 few-parts (suc m) p h l = omega (arith, h .few (omega arith))
 
-module _ (y : Inputs) (passed : refusal (phase (newBook .state)) (newBook .sizes) (load y) ≡ 0) (s : Session)
+module _ (y : Inputs) (passed : refusal (stage (phase (newBook .state)) (newBook .sizes)) (load y) ≡ 0) (s : Session)
     (F : Follows s (book State.loaded (sizesIn y))) (vs bs : List ℕ) where
-  start-number : refusal Phase.loaded (sizesIn y) (start (loaded y) vs bs) ≡ firstNo (listChecks (sizesIn y .n) (sizesIn y .k) vs bs)
+  start-number : refusal (stage Phase.loaded (sizesIn y)) (start (loaded y) vs bs) ≡ firstNo (listChecks (sizesIn y .n) (sizesIn y .k) vs bs)
   unfolding refusal mayStart
   start-number =
       firstNo-yes 1 true (check 17 (fits (sizesIn y) (loaded y)) ∷ listChecks (sizesIn y .n) (sizesIn y .k) vs bs) refl
       ∙ firstNo-yes 17 (fits (sizesIn y) (loaded y)) (listChecks (sizesIn y .n) (sizesIn y .k) vs bs)
-      (written-fits (phase (newBook .state)) (newBook .sizes) y passed)
+      (written-fits (stage (phase (newBook .state)) (newBook .sizes)) y passed)
 
   told-refused : (n : ℕ) → firstNo (listChecks (sizesIn y .n) (sizesIn y .k) vs bs) ≡ suc n
       → askedOn s (loaded y) vs bs ≡ refused (suc n)
@@ -175,16 +171,16 @@ module _ (y : Inputs) (passed : refusal (phase (newBook .state)) (newBook .sizes
   told-clean e =
       let p = phase (newBook .state) in
       let q = question (loaded y) vs bs in
-      let w = start-written p (newBook .sizes) y State.loaded vs bs passed refl e in
+      let w = start-written (stage p (newBook .sizes)) y State.loaded vs bs passed refl e in
       let a = settled-answer s (book State.loaded (sizesIn y)) F (start (loaded y) vs bs) _ _ w in
       let G = settled-follows s (book State.loaded (sizesIn y)) F (start (loaded y) vs bs) _ _ w in
       let l = and-left (nodeTableBuilt (sizesIn y) (loaded y)) (stateTableBuilt (sizesIn y) (loaded y))
-      (written-sound p (newBook .sizes) y passed) in
+      (written-sound (stage p (newBook .sizes)) y passed) in
       let k = list-passes (sizesIn y .n) (sizesIn y .k) vs bs e in
       let few : partCount q ≤ 254 = few-parts (length vs) (partCount q) (ready-count layers (sizesIn y) (loaded y) vs l (k .nodes-below))
       (k .most) in
       ap (λ (t : Answer). afterStart t (finishedIn mostParts (recordOn s (start (loaded y) vs bs)) (loaded y))) a
-      ∙ finish-clean (sizesIn y) (loaded y) (written-fits p (newBook .sizes) y passed) mostParts
+      ∙ finish-clean (sizesIn y) (loaded y) (written-fits (stage p (newBook .sizes)) y passed) mostParts
       (recordOn s (start (loaded y) vs bs)) q 0 [] refl G (some-part q) (omega arith)
 
   told : askedOn s (loaded y) vs bs ≡ answerTo (y .plan) (y .rules) vs bs
@@ -199,17 +195,17 @@ module _ (y : Inputs) (passed : refusal (phase (newBook .state)) (newBook .sizes
 -- ---- the theorem
 
 -- an accepted Load passed its checks, and leaves the session and the book loaded
-load-passed : (y : Inputs) → answerOn freshSession (load y) ≡ accepted → refusal (phase (newBook .state)) (newBook .sizes) (load y) ≡ 0
+load-passed : (y : Inputs) → answerOn freshSession (load y) ≡ accepted → refusal (stage (phase (newBook .state)) (newBook .sizes)) (load y) ≡ 0
 unfolding step decided
 load-passed y e =
-    go (refusal (phase (newBook .state)) (newBook .sizes) (load y))
+    go (refusal (stage (phase (newBook .state)) (newBook .sizes)) (load y))
     (subst (λ (a : Answer). Conforms (step newBook (load y)) a) e (conforms freshSession newBook fresh-follows (load y)))
   where
     go : (n : ℕ) → Conforms (decided n newBook (load y)) accepted → n ≡ 0
     go zero h = refl
     go (suc n) h = absurd (true-false (sym (ap isRefused h)))
 
-load-follows : (y : Inputs) → refusal (phase (newBook .state)) (newBook .sizes) (load y) ≡ 0
+load-follows : (y : Inputs) → refusal (stage (phase (newBook .state)) (newBook .sizes)) (load y) ≡ 0
     → Follows (recordOn freshSession (load y)) (book State.loaded (sizesIn y))
 unfolding step decided proceed
 load-follows y e =
@@ -237,7 +233,7 @@ fresh-refusal : (y : Inputs) → answerOn freshSession (load y) ≡ accepted →
 unfolding refusalOn freshRecord idle newBook phase
 fresh-refusal y e =
     rw (fresh-seen .passes)
-    (ap (λ (r : Record). refusal (r .phase) (r .sizes) (load y)) (fresh-seen .holds) ∙ load-passed y e)
+    (ap (λ (r : Record). refusal (stageOf r) (load y)) (fresh-seen .holds) ∙ load-passed y e)
 
 fresh-cleared : (s : Session) (p r n b n′ b′ : List ℕ) (t : Doing) → t ≡ Done
     → LoadDone freshSession (inputsOf p r n b) (doingAnswer t) s n′ b′ → Cleared s (inputsOf p r n′ b′)

@@ -1,10 +1,9 @@
 -- `session::advance::next_step` meets its contract. Each return cites the law of its answer.
 -- Assumes nothing.
-use Rattle.formats.specs.Inputs.{Inputs}
-use Rattle.model.specs.Calls.{Call, advance}
+use Rattle.formats.specs.Inputs.{Inputs, inputsOf}
+use Rattle.model.specs.Calls.{advance}
 use Rattle.session.specs.declared.state.Session.{Session}
 use Rattle.session.specs.Records.{whole}
-use Rattle.formats.specs.Inputs.{inputsOf}
 use Rattle.session.proofs.AdvanceLaws.{advance-1, advance-limits, advance-17, next-args, handle-args, advance-18}
 use Rattle.session.proofs.AdvanceLaws.{made-found}
 use Rattle.session.proofs.StepLaws.{refused-found}

@@ -1,8 +1,7 @@
 -- `session::state::Session::advance` meets its contract: its step is found by the record's head and arrays.
 -- Assumes nothing.
-use Rattle.formats.specs.Inputs.{Inputs}
+use Rattle.formats.specs.Inputs.{Inputs, inputsOf}
 use Rattle.model.specs.Calls.{advance}
-use Rattle.formats.specs.Inputs.{inputsOf}
 use Rattle.session.specs.Steps.{StepFound}
 use Rattle.session.proofs.StepLaws.{found-by, step-done}
 use borrow.Author.Needs.{needs}

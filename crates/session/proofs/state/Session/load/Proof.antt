@@ -1,12 +1,11 @@
 -- `session::state::Session::load` meets its contract. Each return cites the law of its answer.
 -- Assumes nothing.
-use Rattle.formats.specs.Inputs.{Inputs}
+use Rattle.formats.specs.Inputs.{Inputs, inputsOf}
 use mathlib.Core.Path.{_≡_}
 use mathlib.Core.Bool.{_&&_}
 use Rattle.model.specs.Calls.{mayLoad}
 use Rattle.session.specs.Records.{phaseOf, valid}
 use Rattle.session.specs.Tests.{Shaped}
-use Rattle.formats.specs.Inputs.{inputsOf}
 use Rattle.session.proofs.Shapes.{shaped}
 use Rattle.session.proofs.CallLaws.{may-by}
 use Rattle.session.proofs.LoadLaws.{load-1, load-headers, load-built, load-refused}

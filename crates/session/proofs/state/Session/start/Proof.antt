@@ -2,13 +2,12 @@
 -- Assumes nothing.
 use Prim.Native.Nat.{_*_}
 use lib.Seq.{length-take-le}
-use Rattle.formats.specs.Inputs.{Inputs}
+use Rattle.formats.specs.Inputs.{Inputs, inputsOf}
 use mathlib.Core.Path.{_≡_, sym}
 use mathlib.Core.Bool.{_&&_}
 use Rattle.model.specs.Calls.{mayStart}
 use Rattle.session.specs.Records.{phaseOf, valid}
 use Rattle.session.specs.Tests.{Shaped}
-use Rattle.formats.specs.Inputs.{inputsOf}
 use Rattle.session.proofs.Shapes.{shaped}
 use Rattle.session.proofs.CallLaws.{may-by}
 use Rattle.session.proofs.StartLaws.{start-1, start-limits, start-17, start-room, start-list, start-listed, start-18}
