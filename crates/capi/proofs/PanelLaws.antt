@@ -24,7 +24,7 @@ use Rattle.session.specs.declared.answers.Reading.{Reading}
 use Rattle.session.specs.declared.answers.Reading.the-variants.{Told, Refused as NotRead}
 use Rattle.session.specs.declared.state.Session.{Session}
 use Rattle.model.specs.Model.{act}
-use Rattle.model.specs.LeftOpen.{Kept}
+use Rattle.model.specs.LeftOpen.{LeftOpen}
 use Rattle.session.specs.Records.{recordOf, valid}
 use Rattle.session.specs.Promises.{doingAnswer, startingAnswer, advancingAnswer, readingAnswer, answerOn, recordOn, refusalOn, CallDone, LoadDone}
 use Rattle.records.specs.Layout.{recordLength, encoded, decoded, laidOut, validBytes}
@@ -132,7 +132,7 @@ module _ (b : List ℕ) (c : Call) where
   not-laid h = record {
     number = sym (ap answerNumber (answer-not h));
     left = sym (ap (λ (a : Answer). unlessRefused a (encoded (recordOn (decoded b) c)) b) (answer-not h));
-    kept = λ v. absurd (true-false (sym (and-left (laidOut b) (valid (decoded b)) v) ∙ h));
+    properties = λ v. absurd (true-false (sym (and-left (laidOut b) (valid (decoded b)) v) ∙ h));
   }
 
   pub laid : laidOut b ≡ true → (a : Answer) (s : Session) (r : ℕ) (b′ : List ℕ) → CallDone (decoded b) c a s → Stored a s b r b′
@@ -143,8 +143,8 @@ module _ (b : List ℕ) (c : Call) where
       record {
         number = S .number ∙ sym (ap answerNumber e);
         left = S .left ∙ ap₂ (λ (x : Answer) (y : Session). unlessRefused x (encoded y) b) (sym e) (D .leaves);
-        kept = λ v. subst (λ (x : Answer). Kept (recordOf (decoded b)) c x (act (recordOf (decoded b)) c .record′)) (sym e)
-            (D .kept (and-right (laidOut b) (valid (decoded b)) v));
+        properties = λ v. subst (λ (x : Answer). LeftOpen (recordOf (decoded b)) c x (act (recordOf (decoded b)) c .record′)) (sym e)
+            (D .properties (and-right (laidOut b) (valid (decoded b)) v));
       }
 
   pub told-by : laidOut b ≡ true → (a : Answer) → a ≡ answerOn (decoded b) c → answerFor b c ≡ a

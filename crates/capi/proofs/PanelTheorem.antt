@@ -23,7 +23,7 @@ use Rattle.reference.specs.Demand3.{Demand3}
 use Rattle.model.proofs.Refinement.{Refines}
 use Rattle.reference.proofs.Demand3Theorem.{demand-3, demand-3-of}
 use Rattle.model.proofs.LayersHold.{layers}
-use Rattle.reference.proofs.QuestionTheorem.{QuestionsTold, question-told, questions-of}
+use Rattle.reference.proofs.QuestionTheorem.{QuestionsAnswered, question-answered, questions-of}
 use Rattle.session.specs.declared.state.Session.{Session}
 use Rattle.session.specs.Records.{recordOf, sessionOf, valid, freshSession}
 use Rattle.session.specs.Promises.{answerOn, recordOn}
@@ -178,8 +178,8 @@ pub panel-demand-3 : Demand3 (replicate 967 0) Exports
 panel-demand-3 = demand-3-of Exports Does Held panel-refines (replicate 967 0) freshRecord fresh-held (demand-3 layers)
 
 -- a question on sound tables left alone
-pub panel-questions : QuestionsTold (replicate 967 0) Exports
-panel-questions = questions-of Exports Does Held panel-refines (replicate 967 0) freshRecord fresh-held (question-told layers)
+pub panel-questions : QuestionsAnswered (replicate 967 0) Exports
+panel-questions = questions-of Exports Does Held panel-refines (replicate 967 0) freshRecord fresh-held (question-answered layers)
 
 -- ---- every record that a call leaves is a record again
 

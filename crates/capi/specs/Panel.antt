@@ -16,7 +16,7 @@ use Rattle.tables.specs.Answers.{written}
 use Rattle.formats.specs.Inputs.{Inputs}
 use Rattle.model.specs.Calls.{Call, load, read, Answer, refused, parts, onRefused, onParts, onAdvance, onOutcome}
 use Rattle.model.specs.Model.{act}
-use Rattle.model.specs.LeftOpen.{Kept}
+use Rattle.model.specs.LeftOpen.{LeftOpen}
 use Rattle.session.specs.Records.{recordOf}
 use Rattle.session.specs.Promises.{answerOn, recordOn, refusalOn}
 use Rattle.records.specs.Layout.{encoded, decoded, laidOut, validBytes}
@@ -40,7 +40,7 @@ pub record CallExported (b : List ℕ) (c : Call) (r : ℕ) (b′ : List ℕ) : 
   pub number : r ≡ answerNumber (answerFor b c)
   pub left : b′ ≡ recordFor b c
   -- what is left to the program has these properties
-  pub kept : validBytes b ≡ true → Kept (recordOf (decoded b)) c (answerFor b c) (act (recordOf (decoded b)) c .record′)
+  pub properties : validBytes b ≡ true → LeftOpen (recordOf (decoded b)) c (answerFor b c) (act (recordOf (decoded b)) c .record′)
 
 -- the refusal's number, 18 apart, of a Load on record bytes
 unfoldable pub loadNumber : List ℕ → Inputs → ℕ

@@ -1,9 +1,9 @@
--- What is left to the program keeps its properties.
---     refused-keeps     a refusal, 18 too, leaves the record as it is
---     start-numbers, advance-numbers   18 is no check's number: it is left to the program
---     start-kept        Start
---     advance-kept      advance
---     start-usable      positive control: what an advance asks of usable tables holds after a Start on tables as built
+-- What is left to the program has its properties.
+--     refused-unchanged    a refusal, 18 too, leaves the record as it is
+--     start-numbers, advance-numbers    18 is no check's number: it is left to the program
+--     start-properties     Start
+--     advance-properties   advance
+--     start-usable         positive control: what an advance asks of usable tables holds after a Start on tables as built
 -- Assumes nothing.
 use Prim.Native.Nat.{ℕ, zero, suc, _+_, _≤_, _<_}
 use mathlib.Core.Path.{_≡_, refl, sym, ap, ap₂, _∙_, subst}
@@ -33,19 +33,19 @@ use Rattle.questions.proofs.PartAstray.{part-astray}
 use Rattle.formats.specs.Inputs.{Inputs, sameNodeInputs, usedNodeTable, nodeTableBuilt, statesBelow}
 use Rattle.model.specs.Calls.{Call, load, start, advance, cancel, read, refused, parts, more, finished, Phase}
 use Rattle.model.specs.Refusals.{refusal}
-use Rattle.model.specs.Model.{Record, stageOf, acted, startWith, started, stepped, advanceWith, partNext, marksBy, viewBy}
-use Rattle.model.specs.Model.{proceeds, unless, act}
+use Rattle.model.specs.Model.{Record, stageOf, acted, startWith, started, stepped, advanceWith, partNext, marksBy}
+use Rattle.model.specs.Model.{viewBy, proceeds, unless, act}
 use Rattle.model.specs.PartInputs.{givenOf}
-use Rattle.model.specs.LeftOpen.{StartKept, Usable, ruleGives, AdvanceKept}
+use Rattle.model.specs.LeftOpen.{StartProperties, Usable, ruleGives, AdvanceProperties}
 use Rattle.model.proofs.Facts.{SettledInputs, Handled, rootsIn}
 use Rattle.model.proofs.LayersHold.{layers}
 use Rattle.model.proofs.ModelLaws.{some-root, start-list, advance-fits}
 use Rattle.model.proofs.ResultLaws.{length-states}
 
 -- "a refusal alters nothing"
-pub refused-keeps : (r : Record) (c : Call) (n : ℕ) → act r c .answer ≡ refused n → act r c .record′ ≡ r
+pub refused-unchanged : (r : Record) (c : Call) (n : ℕ) → act r c .answer ≡ refused n → act r c .record′ ≡ r
 unfolding act unless proceeds startWith advanceWith
-refused-keeps r c n = go (refusal (stageOf r) c) c
+refused-unchanged r c n = go (refusal (stageOf r) c) c
   where
     started-keeps : (vs bs : List ℕ) (o : Option (List ℕ)) → startWith r vs bs o .answer ≡ refused n → startWith r vs bs o .record′ ≡ r
     started-keeps vs bs none e = refl
@@ -99,16 +99,16 @@ module _ (r : Record) (x : Inputs) (vs bs : List ℕ) where
 
   -- the roots that were found, o, are those of the definition
   found : refusal (stageOf r) (start x vs bs) ≡ 0 → 0 < r .sizes .n → (o : Option (List ℕ)) → R ≡ o
-      → StartKept r x vs bs (startWith r vs bs o .answer) (startWith r vs bs o .record′)
+      → StartProperties r x vs bs (startWith r vs bs o .answer) (startWith r vs bs o .record′)
   unfolding startWith started
   found e h none q = record {
     few = λ p w. absurd (let z : _≡_ {A = ℕ} 0 1 = cc in omega arith);
-    astray = λ w. roots-astray (r .sizes .n) (usedNodeTable (r .sizes) x) vs h (listed e .nodes-below) q;
+    out-of-range = λ w. roots-astray (r .sizes .n) (usedNodeTable (r .sizes) x) vs h (listed e .nodes-below) q;
     built = λ f l. absurd (none-some (sym q ∙ layers .roots-built (r .sizes) x vs l (listed e .nodes-below)));
   }
   found e h (some l) q = record {
     few = λ p w. (let i : length l ≡ p = cc in i, rootsOn-are (r .sizes .n) (usedNodeTable (r .sizes) x) vs l h (listed e .nodes-below) q);
-    astray = λ w. absurd (let z : _≡_ {A = ℕ} 0 1 = cc in omega arith);
+    out-of-range = λ w. absurd (let z : _≡_ {A = ℕ} 0 1 = cc in omega arith);
     built = λ f b.
         let i : l ≡ roots (planTree (x .plan)) vs =
         Option·some-injective l (roots (planTree (x .plan)) vs) (sym q ∙ layers .roots-built (r .sizes) x vs b (listed e .nodes-below)) in
@@ -119,21 +119,21 @@ module _ (r : Record) (x : Inputs) (vs bs : List ℕ) where
   unfolding refusal listChecks
   start-not-18 i = start-numbers _ _ _ _ _ _ i
 
-  pub start-kept : (refusal (stageOf r) (start x vs bs) ≡ 0 → 0 < r .sizes .n)
-      → StartKept r x vs bs (act r (start x vs bs) .answer) (act r (start x vs bs) .record′)
+  pub start-properties : (refusal (stageOf r) (start x vs bs) ≡ 0 → 0 < r .sizes .n)
+      → StartProperties r x vs bs (act r (start x vs bs) .answer) (act r (start x vs bs) .record′)
   unfolding act unless proceeds
-  start-kept h = go (refusal (stageOf r) (start x vs bs)) refl
+  start-properties h = go (refusal (stageOf r) (start x vs bs)) refl
     where
       go : (n : ℕ) → refusal (stageOf r) (start x vs bs) ≡ n
-          → StartKept r x vs bs (unless n r (start x vs bs) .answer) (unless n r (start x vs bs) .record′)
+          → StartProperties r x vs bs (unless n r (start x vs bs) .answer) (unless n r (start x vs bs) .record′)
       go zero e = found e (h e) R refl
       go (suc n) e = record {
         few = λ p w. absurd (let z : _≡_ {A = ℕ} 0 1 = cc in omega arith);
-        astray = λ w. absurd (start-not-18 (e ∙ (let z : suc n ≡ 18 = cc in z)));
+        out-of-range = λ w. absurd (start-not-18 (e ∙ (let z : suc n ≡ 18 = cc in z)));
         built = λ f l. absurd (omega (arith, f, e));
       }
 
--- after a Start on numbers as built, tables with any bytes below S are usable: the premise of `rule` can be met
+-- after a Start on a node table as built, tables with any bytes below S are usable: the premise of `rule` can be met
 pub start-usable : (r : Record) (x : Inputs) (vs bs : List ℕ) → refusal (stageOf r) (start x vs bs) ≡ 0
     → nodeTableBuilt (r .sizes) x ≡ true → statesBelow (r .sizes) x ≡ true → Usable (act r (start x vs bs) .record′) x []
 unfolding act unless proceeds startWith started allBelow
@@ -193,9 +193,9 @@ module _ (r : Record) (x : Inputs) where
       go false = q
 
   -- a part that is handled is not refused
-  told-not : (y : Reached) → advanceWith r x (some y) .answer ≡ refused 18 → ⊥
+  accepted-not : (y : Reached) → advanceWith r x (some y) .answer ≡ refused 18 → ⊥
   unfolding advanceWith
-  told-not y = go (eqb (suc (length (r .states))) (length (r .roots)))
+  accepted-not y = go (eqb (suc (length (r .states))) (length (r .roots)))
     where
       go : (b : Bool) → cond b (acted finished (stepped r Phase.answered y (eqb (getD (marksBy (r .sizes) x) (y .state) 0) 1)))
           (acted more (stepped r Phase.running y false)) .answer ≡ refused 18 → ⊥
@@ -207,12 +207,12 @@ module _ (r : Record) (x : Inputs) where
   NextInside = refusal (stageOf r) (advance x) ≡ 0 → getD (r .roots) (length (r .states)) 0 < r .sizes .n
 
   after : NextInside → refusal (stageOf r) (advance x) ≡ 0 → (o : Option Reached) → partNext r x ≡ o
-      → AdvanceKept r x (advanceWith r x o .answer) (advanceWith r x o .record′)
+      → AdvanceProperties r x (advanceWith r x o .answer) (advanceWith r x o .record′)
   unfolding advanceWith stepped
   after h e none q = record {
     stored = λ f. absurd (true-false f);
     counted = λ f. absurd (true-false f);
-    astray = λ w. part-astray (viewBy (r .sizes) x) (r .states) (r .nodes) (r .labels) (take (length (r .states)) (r .roots))
+    out-of-range = λ w. part-astray (viewBy (r .sizes) x) (r .states) (r .nodes) (r .labels) (take (length (r .states)) (r .roots))
         (getD (r .roots) (length (r .states)) 0) (h e) q;
     rule = λ ps f U. absurd (none-some (sym q ∙ by-rule ps e U));
   }
@@ -222,7 +222,7 @@ module _ (r : Record) (x : Inputs) where
       record {
         stored = λ f. (y .state, either y (λ (t : Record). t .states ≡ r .states ++ (y .state ∷ [])) refl refl, b .0);
         counted = λ f. either y (λ (t : Record). t .links ≤ r .links + r .sizes .n) l l;
-        astray = λ w. absurd (told-not y w);
+        out-of-range = λ w. absurd (accepted-not y w);
         rule = λ ps f U.
             let i : some y ≡ some (ruleGives r x ps) = sym q ∙ by-rule ps e U in
             (ap (λ (o : Option Reached). advanceWith r x o .answer) i, ap (λ (o : Option Reached). advanceWith r x o .record′) i);
@@ -232,16 +232,16 @@ module _ (r : Record) (x : Inputs) where
   unfolding refusal
   advance-not-18 i = advance-numbers _ _ i
 
-  pub advance-kept : NextInside → AdvanceKept r x (act r (advance x) .answer) (act r (advance x) .record′)
+  pub advance-properties : NextInside → AdvanceProperties r x (act r (advance x) .answer) (act r (advance x) .record′)
   unfolding act unless proceeds
-  advance-kept h = go (refusal (stageOf r) (advance x)) refl
+  advance-properties h = go (refusal (stageOf r) (advance x)) refl
     where
       go : (n : ℕ) → refusal (stageOf r) (advance x) ≡ n
-          → AdvanceKept r x (unless n r (advance x) .answer) (unless n r (advance x) .record′)
+          → AdvanceProperties r x (unless n r (advance x) .answer) (unless n r (advance x) .record′)
       go zero e = after h e (partNext r x) refl
       go (suc n) e = record {
         stored = λ f. absurd (true-false f);
         counted = λ f. absurd (true-false f);
-        astray = λ w. absurd (advance-not-18 (e ∙ (let z : suc n ≡ 18 = cc in z)));
+        out-of-range = λ w. absurd (advance-not-18 (e ∙ (let z : suc n ≡ 18 = cc in z)));
         rule = λ ps f U. absurd (omega (arith, f, e));
       }

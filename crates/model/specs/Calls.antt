@@ -1,9 +1,10 @@
--- The five calls of the panel session and their answers, as they are compared.
+-- The five calls of the session and their answers, as they are compared.
 --
--- Call == a call with what is lent beside the record; Cancel and Read need only the record
+-- Call == a call with its inputs beside the record; Cancel and Read need only the record
 -- Answer == "Compared are acceptance, refusal numbers and what Start, advance and Read tell."
 -- Outcome == what Read tells; readAnswer s y p l == the answer with these four values
--- onRefused f d a, onParts f d a, onOutcome f d a == f of what a refusal, a Start's parts, a Read's outcome carries; d of any other answer
+-- onRefused f d a, onParts f d a, onOutcome f d a == f of a refusal's number, of Start's parts, of Read's outcome; d of any other
+--   answer
 -- onAdvance m f d a == m of more, f of finished; d of any other answer
 -- isRefused a == whether an answer is a refusal
 -- Phase == which of the four states a session is in

@@ -1,12 +1,14 @@
--- What holds of a Start and an advance on whatever is lent: the properties of what is left to the program.
+-- What holds of a Start and an advance whatever their inputs: the properties of what document 01 leaves to the program.
 --
--- StartKept r x vs bs a r′ == of Start's answer a and record r′: roots that rise to the plan's root and are few; 18 only where a number
---   leads astray; on numbers as built the ready set, never 18
--- Usable r x ps == "plan and rules name the record's N, S and K and, like the 16-bit numbers, are .. as built, but run states and maps are
---   any bytes below S"; the record's roots are the plan's, and ps the parts handled so far
--- AdvanceKept r x a r′ == of an advance's: one state more, below S, and the links of one climb; 18 only where a value leads astray; on
---   usable tables the rule's, never 18
--- Kept r c a r′ == of a call's; Load, Cancel and Read leave nothing to the program
+-- StartProperties r x vs bs a r′ == of Start's answer a and record r′: roots that rise to the plan's root and are few; 18 only where a
+--   value of the node table leads out of range (01: leads outside the plan, or does not rise); on a node table as built the ready set,
+--   never 18
+-- Usable r x ps == "plan and rules name the record's N, S and K and, like the 16-bit numbers, are .. as built, but run states and maps
+--   are any bytes below S"; the record's roots are the plan's, and ps the parts handled so far
+-- ruleGives r x ps == the state and links that the rule of document 01 gives for the next part
+-- AdvanceProperties r x a r′ == of an advance's: one state more, below S, and the links of one climb; 18 only where a value leads out of
+--   range; on usable tables the rule's, never 18
+-- LeftOpen r c a r′ == of a call's; Load, Cancel and Read leave nothing to the program
 --
 -- Assumes nothing.
 use Prim.Native.Nat.{ℕ, _+_, _≤_, _<_}
@@ -30,9 +32,9 @@ use Rattle.model.specs.Refusals.{refusal}
 use Rattle.model.specs.Model.{Record, stageOf, advanceWith, viewBy}
 use Rattle.model.specs.PartInputs.{givenOf}
 
-pub record StartKept (r : Record) (x : Inputs) (vs bs : List ℕ) (a : Answer) (r′ : Record) : Type 0 where
+pub record StartProperties (r : Record) (x : Inputs) (vs bs : List ℕ) (a : Answer) (r′ : Record) : Type 0 where
   pub few : (p : ℕ) → a ≡ parts p → (length (r′ .roots) ≡ p) × RootsAre (r .sizes .n) (length vs) (r′ .roots)
-  pub astray : a ≡ refused 18 → LinksAstray (r .sizes .n) (usedNodeTable (r .sizes) x)
+  pub out-of-range : a ≡ refused 18 → LinksAstray (r .sizes .n) (usedNodeTable (r .sizes) x)
   pub built : refusal (stageOf r) (start x vs bs) ≡ 0 → nodeTableBuilt (r .sizes) x ≡ true
       → (a ≡ parts (length (roots (planTree (x .plan)) vs))) × (r′ .roots ≡ roots (planTree (x .plan)) vs)
 
@@ -52,16 +54,16 @@ ruleGives r x ps =
     reached (partState (givenOf (r .sizes) x x (r .nodes) (r .labels)) (r .roots) ps (getD (r .roots) (length (r .states)) 0))
     (partLinks (planTree (x .plan)) (r .roots) (getD (r .roots) (length (r .states)) 0))
 
-pub record AdvanceKept (r : Record) (x : Inputs) (a : Answer) (r′ : Record) : Type 0 where
+pub record AdvanceProperties (r : Record) (x : Inputs) (a : Answer) (r′ : Record) : Type 0 where
   pub stored : isRefused a ≡ false → (q : ℕ) × (r′ .states ≡ r .states ++ (q ∷ [])) × (q < r .sizes .s)
   pub counted : isRefused a ≡ false → r′ .links ≤ r .links + r .sizes .n
-  pub astray : a ≡ refused 18 → Astray (viewBy (r .sizes) x) (r .states) (r .nodes) (r .labels)
+  pub out-of-range : a ≡ refused 18 → Astray (viewBy (r .sizes) x) (r .states) (r .nodes) (r .labels)
   pub rule : (ps : List Part) → refusal (stageOf r) (advance x) ≡ 0 → Usable r x ps
       → (a ≡ advanceWith r x (some (ruleGives r x ps)) .answer) × (r′ ≡ advanceWith r x (some (ruleGives r x ps)) .record′)
 
-abbrev pub Kept : Record → Call → Answer → Record → Type 0
-Kept r (load x) a r′ = Unit {0}
-Kept r (start x vs bs) a r′ = StartKept r x vs bs a r′
-Kept r (advance x) a r′ = AdvanceKept r x a r′
-Kept r cancel a r′ = Unit {0}
-Kept r read a r′ = Unit {0}
+abbrev pub LeftOpen : Record → Call → Answer → Record → Type 0
+LeftOpen r (load x) a r′ = Unit {0}
+LeftOpen r (start x vs bs) a r′ = StartProperties r x vs bs a r′
+LeftOpen r (advance x) a r′ = AdvanceProperties r x a r′
+LeftOpen r cancel a r′ = Unit {0}
+LeftOpen r read a r′ = Unit {0}

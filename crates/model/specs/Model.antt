@@ -56,7 +56,7 @@ freshRecord = idle Phase.empty (record { n = 0; s = 0; k = 0 })
 abbrev pub loadedRecord : Sizes → Record
 loadedRecord z = idle Phase.loaded z
 
--- what the calls read of the lends: by the record's N, S and K, excess aside
+-- what the calls read of the inputs: by the record's N, S and K, excess aside
 abbrev pub viewBy : Sizes → Inputs → View
 viewBy z x = viewOf (z .n) (z .s) (z .k) (x .plan) (x .rules) (usedNodeTable z x) (usedStateTable z x)
 
@@ -107,8 +107,8 @@ unfoldable pub lastOf : List ℕ → ℕ → ℕ
 lastOf [] q = q
 lastOf (x ∷ xs) q = lastOf xs x
 
-abbrev pub toldBy : Record → Answer
-toldBy r =
+abbrev pub outcomeOf : Record → Answer
+outcomeOf r =
     outcome (record { state = lastOf (r .states) 0; yes = r .yes; parts = length (r .roots); links = r .links })
 
 -- ---- the calls
@@ -118,7 +118,7 @@ proceeds r (load x) = acted Answer.accepted (loadedRecord (sizesIn x))
 proceeds r (start x vs bs) = startWith r vs bs (rootsOn (r .sizes .n) (usedNodeTable (r .sizes) x) vs)
 proceeds r (advance x) = advanceWith r x (partNext r x)
 proceeds r cancel = acted Answer.accepted (loadedRecord (r .sizes))
-proceeds r read = acted (toldBy r) r
+proceeds r read = acted (outcomeOf r) r
 
 -- "The first no gives its number; nothing else is returned and nothing is altered."
 unfoldable pub unless : ℕ → Record → Call → Acted

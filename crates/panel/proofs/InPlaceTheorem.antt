@@ -12,7 +12,7 @@ use Rattle.model.proofs.Refinement.{Refines, refines}
 use Rattle.session.specs.declared.state.Session.{Session}
 use Rattle.session.specs.Records.{freshSession}
 use Rattle.session.specs.CallSteps as by-value
-use Rattle.reference.proofs.QuestionTheorem.{QuestionsTold, questions-of}
+use Rattle.reference.proofs.QuestionTheorem.{QuestionsAnswered, questions-of}
 use Rattle.session.proofs.SessionTheorem.{session-demand-3, session-questions}
 use Rattle.panel.specs.CallsInPlace.{StepInPlace, loads, starts, advances, cancels, reads}
 
@@ -34,6 +34,6 @@ in-place-history cs xs h = refines StepInPlace by-value.Step (_≡_ {A = Session
 pub in-place-demand-3 : Demand3 freshSession StepInPlace
 in-place-demand-3 cs xs h = session-demand-3 cs xs (in-place-history cs xs h)
 
-pub in-place-questions : QuestionsTold freshSession StepInPlace
+pub in-place-questions : QuestionsAnswered freshSession StepInPlace
 in-place-questions =
     questions-of StepInPlace by-value.Step (_≡_ {A = Session}) same-record freshSession freshSession refl session-questions

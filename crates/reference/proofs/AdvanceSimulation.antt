@@ -1,6 +1,6 @@
--- Advance on record and book.
+-- Advance on record and reference model.
 --     parted-more      one more part, whatever its state below S
---     on-advance       what advance tells conforms, and record and book stay related
+--     on-advance       what advance tells conforms, and record and reference model stay related
 -- Assumes nothing.
 use Prim.Native.Nat.{ℕ, suc, _+_, _<_}
 use mathlib.Core.Path.{_≡_, refl, sym, ap, ap₂, _∙_, subst}
@@ -27,11 +27,12 @@ use Rattle.trees.proofs.MoveLaws.{none-some}
 use Rattle.ready.proofs.PartsRun.{nodes-more}
 use Rattle.formats.specs.Inputs.{Inputs, Sizes, fits, sameNodeInputs, sameInputs, nodeTableBuilt, statesBelow}
 use Rattle.model.specs.Calls.{advance, more, finished, Phase, isRunning}
-use Rattle.model.specs.Refusals.{Stage, stage, refusal}
+use Rattle.model.specs.Refusals.{stage, refusal}
 use Rattle.model.specs.PartInputs.{givenOf}
-use Rattle.reference.specs.Reference.{Standing, clean, firm, loose, Question, State, settled, phase, inState}
-use Rattle.reference.specs.Reference.{rootsOf, partCount, givenBy, longer, advanced, goesOn, otherBytes}
-use Rattle.reference.specs.Reference.{mayAdvanceWith, byAnswer, loosely, firmly, advancing, proceed}
+use Rattle.reference.specs.Reference.{Settlement, clean, byRule, byProgram, Question, State, settled, phase}
+use Rattle.reference.specs.Reference.{inState, rootsOf, partCount, givenBy, longer, advanced, goesOn, otherStates}
+use Rattle.reference.specs.Reference.{mayAdvanceWith, byAnswer, advancingByProgram, advancingByRule, advancing}
+use Rattle.reference.specs.Reference.{proceed}
 use Rattle.model.specs.Model.{Record, acted, viewBy, marksBy, stepped, advanceWith, partNext, proceeds}
 use Rattle.model.proofs.ModelLaws.{advance-fits, marks-built}
 use Rattle.model.proofs.Facts.{reachedBy, nextRoot, Layers}
@@ -41,33 +42,33 @@ use Rattle.formats.proofs.InputsLaws.{Built, Same, node-table-built, same-node-
 use Rattle.formats.proofs.InputsLaws.{same-state-table}
 use Rattle.reference.proofs.FreshLaws.{part-state, given-same, sound-below}
 use Rattle.reference.proofs.CauseLaws.{advance-cause}
-use Rattle.reference.proofs.Relation.{Parted, Counted, Cleanly, SomeParted, Stands, Unended, Marked, Ended}
+use Rattle.reference.proofs.Relation.{Parted, Counted, Cleanly, SomeParted, SettledAs, Unended, Marked, Ended}
 use Rattle.reference.proofs.Relation.{Asking, Rel}
-use Rattle.reference.proofs.Simulation.{Sim, book, Simulates, some-number, by-refusal, does}
+use Rattle.reference.proofs.Simulation.{Sim, referenceOf, Simulates, some-number, by-refusal, does}
 
 -- ---- other bytes
 
 module _ (z : Sizes) (q : Question) (x : Inputs) where
-  pub other-built : otherBytes z q x ≡ true → nodeTableBuilt z (q .lent) ≡ true
-  unfolding otherBytes
-  other-built e = and-left (nodeTableBuilt z (q .lent)) (sameNodeInputs z (q .lent) x && statesBelow z x) e
+  pub other-built : otherStates z q x ≡ true → nodeTableBuilt z (q .inputs) ≡ true
+  unfolding otherStates
+  other-built e = and-left (nodeTableBuilt z (q .inputs)) (sameNodeInputs z (q .inputs) x && statesBelow z x) e
 
-  pub other-same : otherBytes z q x ≡ true → sameNodeInputs z (q .lent) x ≡ true
-  unfolding otherBytes
-  other-same e = and-left (sameNodeInputs z (q .lent) x) (statesBelow z x)
-      (and-right (nodeTableBuilt z (q .lent)) (sameNodeInputs z (q .lent) x && statesBelow z x) e)
+  pub other-same : otherStates z q x ≡ true → sameNodeInputs z (q .inputs) x ≡ true
+  unfolding otherStates
+  other-same e = and-left (sameNodeInputs z (q .inputs) x) (statesBelow z x)
+      (and-right (nodeTableBuilt z (q .inputs)) (sameNodeInputs z (q .inputs) x && statesBelow z x) e)
 
-  pub other-below : otherBytes z q x ≡ true → statesBelow z x ≡ true
-  unfolding otherBytes
-  other-below e = and-right (sameNodeInputs z (q .lent) x) (statesBelow z x)
-      (and-right (nodeTableBuilt z (q .lent)) (sameNodeInputs z (q .lent) x && statesBelow z x) e)
+  pub other-below : otherStates z q x ≡ true → statesBelow z x ≡ true
+  unfolding otherStates
+  other-below e = and-right (sameNodeInputs z (q .inputs) x) (statesBelow z x)
+      (and-right (nodeTableBuilt z (q .inputs)) (sameNodeInputs z (q .inputs) x && statesBelow z x) e)
 
-  pub is-other : nodeTableBuilt z (q .lent) ≡ true → sameNodeInputs z (q .lent) x ≡ true → statesBelow z x ≡ true
-      → otherBytes z q x ≡ true
-  unfolding otherBytes
+  pub is-other : nodeTableBuilt z (q .inputs) ≡ true → sameNodeInputs z (q .inputs) x ≡ true → statesBelow z x ≡ true
+      → otherStates z q x ≡ true
+  unfolding otherStates
   is-other a b c =
-      and-both (nodeTableBuilt z (q .lent)) (sameNodeInputs z (q .lent) x && statesBelow z x) a
-      (and-both (sameNodeInputs z (q .lent) x) (statesBelow z x) b c)
+      and-both (nodeTableBuilt z (q .inputs)) (sameNodeInputs z (q .inputs) x && statesBelow z x) a
+      (and-both (sameNodeInputs z (q .inputs) x) (statesBelow z x) b c)
 
 -- ---- the next part
 
@@ -80,18 +81,18 @@ part-same : (y z : Sizes) (x : Inputs) (rs rs′ ss ss′ vs vs′ bs bs′ : Li
 part-same y z x rs rs′ ss ss′ vs vs′ bs bs′ e f g h i = rw (e, f, g, h, i)
 
 module _ (r : Record) (z : Sizes) (q : Question) (x : Inputs) (sizes : r .sizes ≡ z) where
-  -- the part that the rule of document 01 gives after ps, on the bytes lent
+  -- the part that the rule of document 01 gives after ps, on the state table given
   abbrev ruled : List Part → Part
   ruled ps = partOf (givenBy z q x) (rootsOf q) ps (nextRoot (rootsOf q) ps)
 
-  part-next : Layers → (ps : List Part) → Parted r z q ps → length ps < partCount q → otherBytes z q x ≡ true
+  part-next : Layers → (ps : List Part) → Parted r z q ps → length ps < partCount q → otherStates z q x ≡ true
       → fits z x ≡ true → partNext r x ≡ some (reachedBy (ruled ps))
   part-next L ps p l o f =
       part-same (r .sizes) z x (r .roots) (rootsOf q) (r .states) (statesOf ps) (r .nodes) (q .nodes)
       (r .labels) (q .labels) sizes (p .roots) (p .states) (p .nodes) (p .labels)
       ∙ ap (λ (n : ℕ). partOn (viewBy z x) (take n (rootsOf q)) (statesOf ps) (q .nodes) (q .labels)
       (getD (rootsOf q) n 0)) (length-states ps)
-      ∙ L .part-built z (q .lent) (q .nodes) (q .labels) x ps
+      ∙ L .part-built z (q .inputs) (q .nodes) (q .labels) x ps
       (record {
         built = other-built z q x o;
         same = other-same z q x o;
@@ -109,7 +110,7 @@ module _ (r : Record) (z : Sizes) (q : Question) (x : Inputs) (sizes : r .sizes 
 
 -- one more part, whatever its state below S
 pub parted-more : (r : Record) (z : Sizes) (q : Question) (ps : List Part) → Parted r z q ps → length ps < partCount q
-    → (y : Reached) → y .state < z .s → (f : Phase) (m : Bool) (k : Standing) (tr : List Part)
+    → (y : Reached) → y .state < z .s → (f : Phase) (m : Bool) (k : Settlement) (tr : List Part)
     → Parted (stepped r f y m) z (advanced q k tr) (ps ++ (part (nextRoot (rootsOf q) ps) (y .state) (y .links) ∷ []))
 unfolding stepped advanced
 parted-more r z q ps p l y b f m k tr = record {
@@ -134,32 +135,32 @@ parted-more r z q ps p l y b f m k tr = record {
 
 -- ---- one advance
 
-module _ (L : Layers) (r : Record) (z : Sizes) (q : Question) (x : Inputs) (i : Rel r (book (State.running q) z))
+module _ (L : Layers) (r : Record) (z : Sizes) (q : Question) (x : Inputs) (i : Rel r (referenceOf (State.running q) z))
     (room : fits z x ≡ true) where
   abbrev rule : Part
-  rule = ruled r z q x (i .sizes) (q .trail)
+  rule = ruled r z q x (i .sizes) (q .results)
 
   -- the question after an advance that the rule settles
-  abbrev onward : Standing → Question
+  abbrev onward : Settlement → Question
   onward k = advanced q k (longer z q x)
 
-  counted-next : (c : Counted r z q) → length (q .trail) < partCount q → (f : Phase) (m : Bool) (k : Standing)
+  counted-next : (c : Counted r z q) → length (q .results) < partCount q → (f : Phase) (m : Bool) (k : Settlement)
       → Counted (stepped r f (reachedBy rule) m) z (onward k)
   unfolding stepped advanced longer partOf
   counted-next c l f m k = record {
     built = c .built;
     parted =
-        parted-more r z q (q .trail) (c .parted) l (reachedBy rule)
-        (part-state z q (node-table-built z (q .lent) (c .built)) x (q .trail) (nextRoot (rootsOf q) (q .trail)))
+        parted-more r z q (q .results) (c .parted) l (reachedBy rule)
+        (part-state z q (node-table-built z (q .inputs) (c .built)) x (q .results) (nextRoot (rootsOf q) (q .results)))
         f m k (longer z q x);
-    links = ap (λ (n : ℕ). n + rule .links) (c .links) ∙ sym (links-more (q .trail) rule);
-    count = ap suc (c .count) ∙ sym (length-more (q .trail) rule);
+    links = ap (λ (n : ℕ). n + rule .links) (c .links) ∙ sym (links-more (q .results) rule);
+    count = ap suc (c .count) ∙ sym (length-more (q .results) rule);
   }
 
   -- a part is left unless this was the last
-  unended-next : (y : Reached) (f : Phase) (m : Bool) (k : Standing) (tr : List Part)
+  unended-next : (y : Reached) (f : Phase) (m : Bool) (k : Settlement) (tr : List Part)
       → eqb (suc (length (r .states))) (length (r .roots)) ≡ false
-      → (nodeTableBuilt z (q .lent) ≡ true → r .roots ≡ rootsOf q) → Unended (stepped r f y m) z (advanced q k tr)
+      → (nodeTableBuilt z (q .inputs) ≡ true → r .roots ≡ rootsOf q) → Unended (stepped r f y m) z (advanced q k tr)
   unfolding stepped advanced
   unended-next y f m k tr e roots h =
       let n : suc (length (r .states)) ≡ length (r .roots)
@@ -172,7 +173,7 @@ module _ (L : Layers) (r : Record) (z : Sizes) (q : Question) (x : Inputs) (i : 
   asked = i .asks .1
 
   asking-next : (y : Reached) → y .state < z .s → eqb (suc (length (r .states))) (length (r .roots)) ≡ false
-      → (k : Standing) (tr : List Part) → Asking (stepped r Phase.running y false) z (advanced q k tr)
+      → (k : Settlement) (tr : List Part) → Asking (stepped r Phase.running y false) z (advanced q k tr)
   unfolding stepped advanced
   asking-next y b e k tr =
       let n : suc (length (r .states)) ≡ length (r .roots)
@@ -197,23 +198,23 @@ module _ (L : Layers) (r : Record) (z : Sizes) (q : Question) (x : Inputs) (i : 
       (subst (λ (l : List ℕ). Astray (viewBy (r .sizes) x) (r .states) (r .nodes) l) (asked .labels)
       (part-astray (viewBy (r .sizes) x) (r .states) (r .nodes) (r .labels) (take (length (r .states)) (r .roots)) v inside e)))
 
-  -- an advance that goes on as always, to standing k
-  goes-on : (k : Standing) → Counted r z q → otherBytes z q x ≡ true
-      → ((s : Record) → Counted s z (onward k) → Stands s z (onward k) k)
+  -- an advance that goes on as always, to settlement k
+  goes-on : (k : Settlement) → Counted r z q → otherStates z q x ≡ true
+      → ((s : Record) → Counted s z (onward k) → SettledAs s z (onward k) k)
       → ((s : Record) → Marked s (onward k) → suc (q .count) ≡ partCount q → Ended s (onward k) k)
-      → Sim (goesOn (book (State.running q) z) (onward k)) (advanceWith r x (partNext r x))
+      → Sim (goesOn (referenceOf (State.running q) z) (onward k)) (advanceWith r x (partNext r x))
   unfolding goesOn advanceWith inState phase advanced stepped longer
   goes-on k c o stands ends =
-      subst (λ (y : Option Reached). Sim (goesOn (book (State.running q) z) (onward k)) (advanceWith r x y))
-      (sym (part-next r z q x (i .sizes) L (q .trail) (c .parted) left-over o room))
+      subst (λ (y : Option Reached). Sim (goesOn (referenceOf (State.running q) z) (onward k)) (advanceWith r x y))
+      (sym (part-next r z q x (i .sizes) L (q .results) (c .parted) left-over o room))
       (go (eqb (suc (q .count)) (partCount q)) (eqb (suc (length (r .states))) (length (r .roots)))
-      (ap₂ (λ (m n : ℕ). eqb (suc m) n) (ap length (c .parted .states) ∙ length-states (q .trail)
+      (ap₂ (λ (m n : ℕ). eqb (suc m) n) (ap length (c .parted .states) ∙ length-states (q .results)
       ∙ sym (c .count)) (ap length (c .parted .roots))) refl refl)
     where
-      left-over : length (q .trail) < partCount q
+      left-over : length (q .results) < partCount q
       left-over =
           let b : length (r .states) < partCount q = i .holds .1 (c .built) in
-          let n : length (r .states) ≡ length (q .trail) = ap length (c .parted .states) ∙ length-states (q .trail) in
+          let n : length (r .states) ≡ length (q .results) = ap length (c .parted .states) ∙ length-states (q .results) in
           omega (arith, b, n)
 
       yes : Bool
@@ -221,16 +222,16 @@ module _ (L : Layers) (r : Record) (z : Sizes) (q : Question) (x : Inputs) (i : 
 
       marked : Marked (stepped r Phase.answered (reachedBy rule) yes) (onward k)
       marked =
-          let same : Same z (q .lent) x = same-node-inputs z (q .lent) x (other-same z q x o) in
-          let B : Built z (q .lent) = node-table-built z (q .lent) (c .built) in
+          let same : Same z (q .inputs) x = same-node-inputs z (q .inputs) x (other-same z q x o) in
+          let B : Built z (q .inputs) = node-table-built z (q .inputs) (c .built) in
           ap (λ (w : List ℕ). eqb (getD w (rule .state) 0) 1)
-          (ap (λ (y : Sizes). marksBy y x) (i .sizes) ∙ marks-built z (q .lent) x B (same .rules))
-          ∙ ap (ruleAutomaton (q .lent .rules) .accepting) (sym (last-more (q .trail) rule 0))
+          (ap (λ (y : Sizes). marksBy y x) (i .sizes) ∙ marks-built z (q .inputs) x B (same .rules))
+          ∙ ap (ruleAutomaton (q .inputs .rules) .accepting) (sym (last-more (q .results) rule 0))
 
       go : (b d : Bool) → d ≡ b → eqb (suc (q .count)) (partCount q) ≡ b
           → eqb (suc (length (r .states))) (length (r .roots)) ≡ d
-          → Sim (cond b (settled finished (book (State.answered (onward k)) z))
-          (settled more (book (State.running (onward k)) z)))
+          → Sim (cond b (settled finished (referenceOf (State.answered (onward k)) z))
+          (settled more (referenceOf (State.running (onward k)) z)))
           (cond d (acted finished (stepped r Phase.answered (reachedBy rule) yes))
           (acted more (stepped r Phase.running (reachedBy rule) false)))
       go true true e g h = (
@@ -258,7 +259,7 @@ module _ (L : Layers) (r : Record) (z : Sizes) (q : Question) (x : Inputs) (i : 
           asks = (
             i .asks .0,
             asking-next (reachedBy rule)
-                (part-state z q (node-table-built z (q .lent) (c .built)) x (q .trail) (nextRoot (rootsOf q) (q .trail))) h k (longer z q x),
+                (part-state z q (node-table-built z (q .inputs) (c .built)) x (q .results) (nextRoot (rootsOf q) (q .results))) h k (longer z q x),
           );
         },
       )
@@ -266,17 +267,17 @@ module _ (L : Layers) (r : Record) (z : Sizes) (q : Question) (x : Inputs) (i : 
       go false true e g h = absurd (true-false e)
 
   -- left to the program, save that other bytes never get 18
-  advance-loose : SomeParted r z q → Sim (loosely (book (State.running q) z) x q) (advanceWith r x (partNext r x))
-  unfolding loosely advanceWith mayAdvanceWith byAnswer advanced inState phase stepped
-  advance-loose some-parted = go (partNext r x) refl
+  advance-by-program : SomeParted r z q → Sim (advancingByProgram (referenceOf (State.running q) z) x q) (advanceWith r x (partNext r x))
+  unfolding advancingByProgram advanceWith mayAdvanceWith byAnswer advanced inState phase stepped
+  advance-by-program some-parted = go (partNext r x) refl
     where
-      unended : (ps : List Part) → Parted r z q ps → nodeTableBuilt z (q .lent) ≡ true → length ps < partCount q
+      unended : (ps : List Part) → Parted r z q ps → nodeTableBuilt z (q .inputs) ≡ true → length ps < partCount q
       unended ps p h =
           let b : length (r .states) < partCount q = i .holds .1 h in
           let n : length (r .states) ≡ length ps = ap length (p .states) ∙ length-states ps in
           omega (arith, b, n)
 
-      not-other : partNext r x ≡ none → (b : Bool) → otherBytes z q x ≡ b → not b ≡ true
+      not-other : partNext r x ≡ none → (b : Bool) → otherStates z q x ≡ b → not b ≡ true
       not-other e true o =
           let s = some-parted (other-built z q x o) in
           absurd (none-some (sym e ∙ part-next r z q x (i .sizes) L (s .0) (s .1)
@@ -284,23 +285,23 @@ module _ (L : Layers) (r : Record) (z : Sizes) (q : Question) (x : Inputs) (i : 
       not-other e false o = refl
 
       parted : (y : Reached) (f : Phase) (m : Bool) → partNext r x ≡ some y
-          → SomeParted (stepped r f y m) z (advanced q loose [])
+          → SomeParted (stepped r f y m) z (advanced q byProgram [])
       parted y f m e h =
           let s = some-parted h in (
             s .0 ++ (part (nextRoot (rootsOf q) (s .0)) (y .state) (y .links) ∷ []),
-            parted-more r z q (s .0) (s .1) (unended (s .0) (s .1) h) y (part-low r z q x (i .sizes) y e) f m loose [],
+            parted-more r z q (s .0) (s .1) (unended (s .0) (s .1) h) y (part-low r z q x (i .sizes) y e) f m byProgram [],
           )
 
-      go : (y : Option Reached) → partNext r x ≡ y → Sim (loosely (book (State.running q) z) x q) (advanceWith r x y)
+      go : (y : Option Reached) → partNext r x ≡ y → Sim (advancingByProgram (referenceOf (State.running q) z) x q) (advanceWith r x y)
       go none e = (
-        advance-cause z x (q .nodes) (q .labels) (r .states) (otherBytes z q x) (not-other e (otherBytes z q x) refl) (asked .states)
+        advance-cause z x (q .nodes) (q .labels) (r .states) (otherStates z q x) (not-other e (otherStates z q x) refl) (asked .states)
             (cause-of e),
         i,
       )
       go (some y) e = then (eqb (suc (length (r .states))) (length (r .roots))) refl
         where
           then : (b : Bool) → eqb (suc (length (r .states))) (length (r .roots)) ≡ b
-              → Sim (loosely (book (State.running q) z) x q)
+              → Sim (advancingByProgram (referenceOf (State.running q) z) x q)
               (cond b (acted finished (stepped r Phase.answered y (eqb (getD (marksBy (r .sizes) x) (y .state) 0) 1)))
               (acted more (stepped r Phase.running y false)))
           then true g = (
@@ -314,78 +315,78 @@ module _ (L : Layers) (r : Record) (z : Sizes) (q : Question) (x : Inputs) (i : 
               sizes = i .sizes;
               holds = (
                 parted y Phase.running false e,
-                unended-next y Phase.running false loose [] g
+                unended-next y Phase.running false byProgram [] g
                     (λ h. some-parted h .1 .roots),
               );
-              asks = (i .asks .0, asking-next y (part-low r z q x (i .sizes) y e) g loose []);
+              asks = (i .asks .0, asking-next y (part-low r z q x (i .sizes) y e) g byProgram []);
             },
           )
 
   counted-some : Counted r z q → SomeParted r z q
-  counted-some c h = (q .trail, c .parted)
+  counted-some c h = (q .results, c .parted)
 
-  advance-firm : Counted r z q → Sim (firmly (book (State.running q) z) x q) (advanceWith r x (partNext r x))
-  unfolding firmly
-  advance-firm c = go (otherBytes z q x) refl
+  advance-by-rule : Counted r z q → Sim (advancingByRule (referenceOf (State.running q) z) x q) (advanceWith r x (partNext r x))
+  unfolding advancingByRule
+  advance-by-rule c = go (otherStates z q x) refl
     where
-      go : (b : Bool) → otherBytes z q x ≡ b
-          → Sim (cond b (goesOn (book (State.running q) z) (onward firm)) (loosely (book (State.running q) z) x q))
+      go : (b : Bool) → otherStates z q x ≡ b
+          → Sim (cond b (goesOn (referenceOf (State.running q) z) (onward byRule)) (advancingByProgram (referenceOf (State.running q) z) x q))
           (advanceWith r x (partNext r x))
-      go true o = goes-on firm c o (λ s d. d) (λ s m e. m)
-      go false o = advance-loose (counted-some c)
+      go true o = goes-on byRule c o (λ s d. d) (λ s m e. m)
+      go false o = advance-by-program (counted-some c)
 
-  -- lent as at Start: the trail goes on with the same bytes
-  cleanly-next : Counted r z q → Cleanly z q → sameInputs z (q .lent) x ≡ true → length (q .trail) < partCount q
+  -- given as at Start: the results go on with the same state table
+  cleanly-next : Counted r z q → Cleanly z q → sameInputs z (q .inputs) x ≡ true → length (q .results) < partCount q
       → Cleanly z (onward clean)
   unfolding advanced longer givenOf
   cleanly-next c k e l = record {
     bytes = k .bytes;
     replayed =
-        ap (λ (G : Given). q .trail ++ (partOf G (rootsOf q) (q .trail) v ∷ []))
-        (given-same z q x (q .lent) (sym (same-state-table z (q .lent) x e)))
-        ∙ ap (λ (ps : List Part). ps ++ (partOf (givenBy z q (q .lent)) (rootsOf q) ps v ∷ [])) (k .replayed)
-        ∙ sym (from-more (givenBy z q (q .lent)) (rootsOf q) [] (take (length (q .trail)) (rootsOf q)) v)
-        ∙ ap (partsFrom (givenBy z q (q .lent)) (rootsOf q) [])
-        (sym (take-suc (rootsOf q) (length (q .trail)) 0 l)
-        ∙ ap (λ (n : ℕ). take n (rootsOf q)) (sym (length-more (q .trail) rule)));
+        ap (λ (G : Given). q .results ++ (partOf G (rootsOf q) (q .results) v ∷ []))
+        (given-same z q x (q .inputs) (sym (same-state-table z (q .inputs) x e)))
+        ∙ ap (λ (ps : List Part). ps ++ (partOf (givenBy z q (q .inputs)) (rootsOf q) ps v ∷ [])) (k .replayed)
+        ∙ sym (from-more (givenBy z q (q .inputs)) (rootsOf q) [] (take (length (q .results)) (rootsOf q)) v)
+        ∙ ap (partsFrom (givenBy z q (q .inputs)) (rootsOf q) [])
+        (sym (take-suc (rootsOf q) (length (q .results)) 0 l)
+        ∙ ap (λ (n : ℕ). take n (rootsOf q)) (sym (length-more (q .results) rule)));
   }
     where
       v : ℕ
-      v = nextRoot (rootsOf q) (q .trail)
+      v = nextRoot (rootsOf q) (q .results)
 
-  advance-as : (k : Standing) → Stands r z q k
-      → Sim (advancing (book (State.running q) z) x q k) (advanceWith r x (partNext r x))
+  advance-as : (k : Settlement) → SettledAs r z q k
+      → Sim (advancing (referenceOf (State.running q) z) x q k) (advanceWith r x (partNext r x))
   unfolding advancing statesBelow advanced
-  advance-as clean s = go (sameInputs z (q .lent) x) refl
+  advance-as clean s = go (sameInputs z (q .inputs) x) refl
     where
-      left-over : length (q .trail) < partCount q
+      left-over : length (q .results) < partCount q
       left-over =
           let b : length (r .states) < partCount q = i .holds .1 (s .0 .built) in
-          let n : length (r .states) ≡ length (q .trail) = ap length (s .0 .parted .states)
-          ∙ length-states (q .trail) in
+          let n : length (r .states) ≡ length (q .results) = ap length (s .0 .parted .states)
+          ∙ length-states (q .results) in
           omega (arith, b, n)
 
-      go : (b : Bool) → sameInputs z (q .lent) x ≡ b
-          → Sim (cond b (goesOn (book (State.running q) z) (onward clean)) (firmly (book (State.running q) z) x q))
+      go : (b : Bool) → sameInputs z (q .inputs) x ≡ b
+          → Sim (cond b (goesOn (referenceOf (State.running q) z) (onward clean)) (advancingByRule (referenceOf (State.running q) z) x q))
           (advanceWith r x (partNext r x))
       go true e =
           let low : statesBelow z x ≡ true =
-          ap (allBelow (z .s)) (sym (same-state-table z (q .lent) x e))
-          ∙ sound-below z q (node-table-built z (q .lent) (s .0 .built)) (s .1 .bytes) in
-          goes-on clean (s .0) (is-other z q x (s .0 .built) (same-inputs-nodes z (q .lent) x e) low)
+          ap (allBelow (z .s)) (sym (same-state-table z (q .inputs) x e))
+          ∙ sound-below z q (node-table-built z (q .inputs) (s .0 .built)) (s .1 .bytes) in
+          goes-on clean (s .0) (is-other z q x (s .0 .built) (same-inputs-nodes z (q .inputs) x e) low)
           (λ y d. (d, cleanly-next (s .0) (s .1) e left-over)) (λ y m n. (m, n))
-      go false e = advance-firm (s .0)
-  advance-as firm s = advance-firm s
-  advance-as loose s = advance-loose s
+      go false e = advance-by-rule (s .0)
+  advance-as byRule s = advance-by-rule s
+  advance-as byProgram s = advance-by-program s
 
-advance-at : (L : Layers) (r : Record) (s : State) (z : Sizes) (x : Inputs) → Rel r (book s z)
+advance-at : (L : Layers) (r : Record) (s : State) (z : Sizes) (x : Inputs) → Rel r (referenceOf s z)
     → refusal (stage (phase s) z) (advance x) ≡ 0
-    → Sim (proceed (book s z) s (advance x)) (proceeds r (advance x))
+    → Sim (proceed (referenceOf s z) s (advance x)) (proceeds r (advance x))
 unfolding refusal phase firstNo isRunning proceed proceeds
 advance-at L r State.empty z x i h = absurd (some-number h)
 advance-at L r State.loaded z x i h = absurd (some-number h)
 advance-at L r (State.running q) z x i h =
-    advance-as L r z q x i (advance-fits (stage Phase.running z) x h) (q .standing) (i .holds .0)
+    advance-as L r z q x i (advance-fits (stage Phase.running z) x h) (q .settlement) (i .holds .0)
 advance-at L r (State.answered q) z x i h = absurd (some-number h)
 
 pub on-advance : Layers → (x : Inputs) → Simulates (advance x)

@@ -10,7 +10,7 @@ use lib.Dec.{eqb}
 use Rattle.formats.proofs.CheckLaws.{true-false, and-left, and-right}
 use Rattle.formats.proofs.ListLaws.{sameList-true}
 use Rattle.model.specs.Calls.{Call, Answer, refused, parts, more, finished, outcome, readAnswer}
-use Rattle.reference.specs.Reference.{Book, Next, settled, left, step}
+use Rattle.reference.specs.Reference.{Reference, Reply, settled, unsettled, step}
 use Rattle.reference.specs.Demand3.{Conforms, after, Agrees}
 use Rattle.model.specs.History.{History, done, call}
 use Rattle.model.specs.Model.{Record, act, Does}
@@ -46,12 +46,12 @@ decode-code more = refl
 decode-code finished = refl
 decode-code (outcome o) = ap (λ (y : Bool). readAnswer (o .state) y (o .parts) (o .links)) (flag-bool (o .yes))
 
-conforms-is : (n : Next) (x : Answer) → conforms n x ≡ true → Conforms n x
+conforms-is : (n : Reply) (x : Answer) → conforms n x ≡ true → Conforms n x
 unfolding conforms sameAnswer
 conforms-is (settled a b) x e = sym (decode-code x) ∙ ap decode (sameList-true (code x) (code a) e) ∙ decode-code a
-conforms-is (left ok f) x e = e
+conforms-is (unsettled ok f) x e = e
 
-pub agreed-is : (b : Book) (cs : List Call) (xs : List Answer) → agreed b cs xs ≡ true → Agrees b cs xs
+pub agreed-is : (b : Reference) (cs : List Call) (xs : List Answer) → agreed b cs xs ≡ true → Agrees b cs xs
 unfolding agreed
 agreed-is b [] [] e = tt
 agreed-is b [] (x ∷ xs) e = true-false (sym e)

@@ -1,6 +1,6 @@
--- A value that leads astray is a cause for 18, as the book asks for one.
---     links-cause, view-cause      of the 16-bit numbers, and of all that an advance reads
---     start-cause, advance-cause   so 18 is an answer that the book allows
+-- A value that leads out of range is a cause for 18, as the reference model asks for one.
+--     links-cause, view-cause      of the node table, and of all that an advance reads
+--     start-cause, advance-cause   so 18 is an answer that the reference model allows
 -- Assumes nothing.
 use Prim.Native.Nat.{ℕ, _+_, _-_, _*_, _<_}
 use mathlib.Core.Path.{_≡_, refl, sym, ap, _∙_, subst}
@@ -29,7 +29,7 @@ use Rattle.reference.specs.Causes.{startCause, advanceCause}
 use Rattle.reference.specs.Reference.{mayStartWith, mayAdvanceWith}
 use Rattle.model.specs.Model.{viewBy}
 
--- ---- the 16-bit numbers
+-- ---- the node table
 
 pub bare : (b : List ℕ) (x : ℕ) → Childless b x → isChildless b x ≡ true
 unfolding isChildless
@@ -164,7 +164,7 @@ module _ (X : View) (vs bs : List ℕ) where
       after-map v h (noLabel v || (noChange v || noChild v))
       (or-second (noLabel v) (noChange v || noChild v) (or-first (noChange v) (noChild v) (le-leb (X .k) (labelOn X vs bs v) e))) refl
 
--- ---- what the book allows
+-- ---- what the reference model allows
 
 pub start-cause : (z : Sizes) (x : Inputs) → LinksAstray (z .n) (usedNodeTable z x) → mayStartWith (startCause z x) (refused 18) ≡ true
 unfolding mayStartWith startCause

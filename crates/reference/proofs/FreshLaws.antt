@@ -1,8 +1,8 @@
--- A clean question: its parts, worked out on the bytes that Load writes, give the fresh run.
+-- A clean question: its parts, worked out on the state table that Load writes, give the fresh run.
 --     table-below      every byte that Load writes is below S
---     sound-below      so sound lends have bytes below S
+--     sound-below      so sound inputs have bytes below S
 --     part-below       whatever the bytes, the state of a part is below S
---     given-same       the rule reads no more of the lends than the bytes in use
+--     given-same       the rule reads no more of the inputs than the state table in use
 --     whole-state      the last part has the root state of a fresh run on Start's plan with the listed labels changed
 --     whole-links      the links in all are the moves of the parts' climbs
 -- Assumes nothing.
@@ -52,7 +52,7 @@ use Rattle.ready.specs.Parts.{nodesOf}
 use Rattle.model.proofs.ResultLaws.{last-more, from-more, from-nodes, from-links}
 use Rattle.formats.proofs.InputsLaws.{Built, plan-of, rules-of}
 
--- ---- the bytes that Load writes
+-- ---- the state table that Load writes
 
 module _ (A : Automaton) (S : Sound A) (t : Tree) where
   row-below : (v k : ℕ) → k < A .states + 1 → getD (stateRow A t v) k 0 < A .states
@@ -114,7 +114,7 @@ module _ (G : Given) (ms : List ℕ) (ps : List Part) (v : ℕ) (S : Sound (G .a
       (innerState G ms ps v (leftChild (G .tree) v) (rightChild v)) (S .init _)
       (inner-below (leftChild (G .tree) v) (rightChild v))
 
--- the rule reads the bytes in use alone
+-- the rule reads the state table in use alone
 pub given-same : (z : Sizes) (q : Question) (x y : Inputs) → usedStateTable z x ≡ usedStateTable z y → givenBy z q x ≡ givenBy z q y
 unfolding givenOf
 given-same z q x y e = rw e
@@ -137,12 +137,12 @@ state-last (x ∷ ps) p n =
 
 -- ---- a clean question
 
-module _ (z : Sizes) (q : Question) (B : Built z (q .lent)) where
+module _ (z : Sizes) (q : Question) (B : Built z (q .inputs)) where
   abbrev A : Automaton
-  A = ruleAutomaton (q .lent .rules)
+  A = ruleAutomaton (q .inputs .rules)
 
   abbrev t : Tree
-  t = planTree (q .lent .plan)
+  t = planTree (q .inputs .plan)
 
   abbrev u : Tree
   u = changedTree q
@@ -151,7 +151,7 @@ module _ (z : Sizes) (q : Question) (B : Built z (q .lent)) where
   w v = holds v (q .nodes)
 
   sound-rules : Sound A
-  sound-rules = rules-sound (q .lent .rules) (rules-of z (q .lent) B)
+  sound-rules = rules-sound (q .inputs .rules) (rules-of z (q .inputs) B)
 
   pub part-state : (x : Inputs) (ps : List Part) (v : ℕ) → partOf (givenBy z q x) (rootsOf q) ps v .state < z .s
   unfolding givenOf
@@ -161,63 +161,63 @@ module _ (z : Sizes) (q : Question) (B : Built z (q .lent)) where
 
   -- ---- the changed tree
 
-  labels-length : length (changed (labelsIn (q .lent .plan)) (q .nodes) (q .labels)) ≡ length (kindsIn (q .lent .plan))
+  labels-length : length (changed (labelsIn (q .inputs .plan)) (q .nodes) (q .labels)) ≡ length (kindsIn (q .inputs .plan))
   labels-length =
-      length-changed (labelsIn (q .lent .plan)) (q .nodes) (q .labels)
-      ∙ labels-as-kinds (q .lent .plan) (plan-of z (q .lent) B)
+      length-changed (labelsIn (q .inputs .plan)) (q .nodes) (q .labels)
+      ∙ labels-as-kinds (q .inputs .plan) (plan-of z (q .inputs) B)
 
-  u-kinds : kindsOf u ≡ kindsIn (q .lent .plan)
-  u-kinds = treeOf-kinds (kindsIn (q .lent .plan)) _ labels-length (plan-of z (q .lent) B .postorder)
+  u-kinds : kindsOf u ≡ kindsIn (q .inputs .plan)
+  u-kinds = treeOf-kinds (kindsIn (q .inputs .plan)) _ labels-length (plan-of z (q .inputs) B .postorder)
 
-  u-labels : labelsOf u ≡ changed (labelsIn (q .lent .plan)) (q .nodes) (q .labels)
-  u-labels = treeOf-labels (kindsIn (q .lent .plan)) _ labels-length (plan-of z (q .lent) B .postorder)
+  u-labels : labelsOf u ≡ changed (labelsIn (q .inputs .plan)) (q .nodes) (q .labels)
+  u-labels = treeOf-labels (kindsIn (q .inputs .plan)) _ labels-length (plan-of z (q .inputs) B .postorder)
 
   same-label : (v : ℕ) → w v ≡ false → labelAt t v ≡ labelAt u v
-  same-label v e = elim (decLt v (length (labelsIn (q .lent .plan)))) [
-    | yes h ↦ ap (λ (l : List ℕ). getD l v 0) (labels-planTree (q .lent .plan) (plan-of z (q .lent) B))
+  same-label v e = elim (decLt v (length (labelsIn (q .inputs .plan)))) [
+    | yes h ↦ ap (λ (l : List ℕ). getD l v 0) (labels-planTree (q .inputs .plan) (plan-of z (q .inputs) B))
         ∙ sym (ap (λ (l : List ℕ). getD l v 0) u-labels
-        ∙ label-changed (labelsIn (q .lent .plan)) (q .nodes) (q .labels) v h
-        ∙ label-unlisted (getD (labelsIn (q .lent .plan)) v 0) (q .nodes) (q .labels) v e)
-    | no h ↦ ap (λ (l : List ℕ). getD l v 0) (labels-planTree (q .lent .plan) (plan-of z (q .lent) B))
-        ∙ List·getD-eq-default (labelsIn (q .lent .plan)) 0 {n = v} (omega arith)
+        ∙ label-changed (labelsIn (q .inputs .plan)) (q .nodes) (q .labels) v h
+        ∙ label-unlisted (getD (labelsIn (q .inputs .plan)) v 0) (q .nodes) (q .labels) v e)
+    | no h ↦ ap (λ (l : List ℕ). getD l v 0) (labels-planTree (q .inputs .plan) (plan-of z (q .inputs) B))
+        ∙ List·getD-eq-default (labelsIn (q .inputs .plan)) 0 {n = v} (omega arith)
         ∙ sym (ap (λ (l : List ℕ). getD l v 0) u-labels
-        ∙ List·getD-eq-default (changed (labelsIn (q .lent .plan)) (q .nodes) (q .labels)) 0 {n = v}
-        (omega (arith, length-changed (labelsIn (q .lent .plan)) (q .nodes) (q .labels))))
+        ∙ List·getD-eq-default (changed (labelsIn (q .inputs .plan)) (q .nodes) (q .labels)) 0 {n = v}
+        (omega (arith, length-changed (labelsIn (q .inputs .plan)) (q .nodes) (q .labels))))
   ]
 
   changes : Changes w t u
-  changes = record { kinds = kinds-planTree (q .lent .plan) (plan-of z (q .lent) B) ∙ sym u-kinds; labels = same-label }
+  changes = record { kinds = kinds-planTree (q .inputs .plan) (plan-of z (q .inputs) B) ∙ sym u-kinds; labels = same-label }
 
-  -- ---- on the bytes that Load writes
+  -- ---- on the state table that Load writes
 
-  module _ (e : stateTableBuilt z (q .lent) ≡ true) where
-    bytes : usedStateTable z (q .lent) ≡ stateTable A t
+  module _ (e : stateTableBuilt z (q .inputs) ≡ true) where
+    bytes : usedStateTable z (q .inputs) ≡ stateTable A t
     unfolding stateTableBuilt
-    bytes = sameList-true (usedStateTable z (q .lent)) (stateTable A t) e
+    bytes = sameList-true (usedStateTable z (q .inputs)) (stateTable A t) e
 
-    table : take (size t * (A .states + 1)) (usedStateTable z (q .lent)) ≡ stateTable A t
+    table : take (size t * (A .states + 1)) (usedStateTable z (q .inputs)) ≡ stateTable A t
     table = rw bytes (take-all (size t * (A .states + 1)) (stateTable A t)
         (omega (arith, length-stateTable A sound-rules t)))
 
-    pub sound-below : statesBelow z (q .lent) ≡ true
+    pub sound-below : statesBelow z (q .inputs) ≡ true
     unfolding statesBelow
     sound-below = rw (bytes, ← B .s-is) (table-below A sound-rules t)
 
-    given-run : RunGiven (givenBy z q (q .lent)) u
+    given-run : RunGiven (givenBy z q (q .inputs)) u
     unfolding givenOf
     given-run = record {
       labels = sym u-labels;
       states = λ v h.
-          ap (λ (s : ℕ). getD (usedStateTable z (q .lent)) (v * (s + 1)) 0) (sym (B .s-is))
-          ∙ stateTable-state A t (usedStateTable z (q .lent)) table v h;
+          ap (λ (s : ℕ). getD (usedStateTable z (q .inputs)) (v * (s + 1)) 0) (sym (B .s-is))
+          ∙ stateTable-state A t (usedStateTable z (q .inputs)) table v h;
       maps = λ v x h l.
           let i : v * (z .s + 1) + (1 + x) ≡ v * (A .states + 1) + 1 + x =
           omega (arith, ap (λ (s : ℕ). v * (s + 1)) (B .s-is)) in
-          ap (λ (j : ℕ). getD (usedStateTable z (q .lent)) j 0) i ∙ stateTable-map A t (usedStateTable z (q .lent)) table v h x l;
+          ap (λ (j : ℕ). getD (usedStateTable z (q .inputs)) j 0) i ∙ stateTable-map A t (usedStateTable z (q .inputs)) table v h x l;
     }
 
     abbrev G : Given
-    G = givenBy z q (q .lent)
+    G = givenBy z q (q .inputs)
 
     abbrev ms : List ℕ
     ms = rootsOf q

@@ -1,4 +1,4 @@
--- The order of a list of changes does not matter to the book.
+-- The order of a list of changes does not matter to the reference model.
 --     roots-order      the roots of the parts go by the listed nodes alone
 --     start-order      nor does the refusal of a Start
 --     parts-order, fresh-order    the number of parts, and the answer of a clean question
@@ -20,9 +20,9 @@ use Rattle.formats.specs.Checks.{firstNo}
 use Rattle.runs.proofs.OrderLaws.{keys-zip, keys-perm, length-perm, holds-perm, changed-order, list-order}
 use Rattle.ready.specs.Members.{readyList, roots}
 use Rattle.ready.specs.Parts.{questionLinks}
-use Rattle.formats.specs.Inputs.{Inputs, Sizes, fits}
-use Rattle.model.specs.Calls.{readAnswer, start, Phase, mayStart}
-use Rattle.model.specs.Refusals.{Stage, stage, refusal}
+use Rattle.formats.specs.Inputs.{Inputs, fits}
+use Rattle.model.specs.Calls.{readAnswer, start, mayStart}
+use Rattle.model.specs.Refusals.{Stage, refusal}
 use Rattle.reference.specs.Reference.{Question, rootsOf, partCount, changedTree, freshAnswer}
 
 module _ (vs bs ws cs : List ℕ) (g : length vs ≡ length bs) (h : length ws ≡ length cs)
@@ -43,26 +43,26 @@ module _ (vs bs ws cs : List ℕ) (g : length vs ≡ length bs) (h : length ws �
       ap (λ (n : ℕ). cond (mayStart (t .phase)) (cond (fits (t .sizes) x) n 17) 1)
       (list-order vs bs ws cs g h d (t .sizes .n) (t .sizes .k))
 
-  -- two questions on the same lends
-  module _ (q k : Question) (same : q .lent ≡ k .lent) (qv : q .nodes ≡ vs) (qb : q .labels ≡ bs) (kv : k .nodes ≡ ws)
+  -- two questions on the same inputs
+  module _ (q k : Question) (same : q .inputs ≡ k .inputs) (qv : q .nodes ≡ vs) (qb : q .labels ≡ bs) (kv : k .nodes ≡ ws)
       (kb : k .labels ≡ cs) where
     roots-same : rootsOf q ≡ rootsOf k
     roots-same =
         ap₂ (λ (x : Inputs) (l : List ℕ). roots (planTree (x .plan)) l) same qv
-        ∙ roots-order (planTree (k .lent .plan))
-        ∙ ap (roots (planTree (k .lent .plan))) (sym kv)
+        ∙ roots-order (planTree (k .inputs .plan))
+        ∙ ap (roots (planTree (k .inputs .plan))) (sym kv)
 
     pub parts-order : partCount q ≡ partCount k
     parts-order = ap length roots-same
 
     labels-same : distinct vs ≡ true
-        → changed (labelsIn (q .lent .plan)) (q .nodes) (q .labels) ≡ changed (labelsIn (k .lent .plan)) (k .nodes)
+        → changed (labelsIn (q .inputs .plan)) (q .nodes) (q .labels) ≡ changed (labelsIn (k .inputs .plan)) (k .nodes)
         (k .labels)
     labels-same u =
-        ap₂ (λ (l m : List ℕ). changed (labelsIn (q .lent .plan)) l m) qv qb
-        ∙ changed-order vs bs ws cs g h d u (labelsIn (q .lent .plan))
+        ap₂ (λ (l m : List ℕ). changed (labelsIn (q .inputs .plan)) l m) qv qb
+        ∙ changed-order vs bs ws cs g h d u (labelsIn (q .inputs .plan))
         ∙ ap (λ (x : Inputs). changed (labelsIn (x .plan)) ws cs) same
-        ∙ sym (ap₂ (λ (l m : List ℕ). changed (labelsIn (k .lent .plan)) l m) kv kb)
+        ∙ sym (ap₂ (λ (l m : List ℕ). changed (labelsIn (k .inputs .plan)) l m) kv kb)
 
     tree-same : distinct vs ≡ true → changedTree q ≡ changedTree k
     tree-same u = ap₂ (λ (x : Inputs) (l : List ℕ). treeOf (kindsIn (x .plan)) l) same (labels-same u)
@@ -71,7 +71,7 @@ module _ (vs bs ws cs : List ℕ) (g : length vs ≡ length bs) (h : length ws �
     unfolding freshAnswer
     fresh-order u =
         ap₂ (λ (x : Inputs) (t : Tree). readAnswer (state (ruleAutomaton (x .rules)) t) (accepts (ruleAutomaton (x .rules)) t)
-        (partCount q) (questionLinks (planTree (q .lent .plan)) (rootsOf q))) same (tree-same u)
-        ∙ ap₂ (λ (x : Inputs) (ms : List ℕ). readAnswer (state (ruleAutomaton (k .lent .rules)) (changedTree k))
-        (accepts (ruleAutomaton (k .lent .rules)) (changedTree k))
+        (partCount q) (questionLinks (planTree (q .inputs .plan)) (rootsOf q))) same (tree-same u)
+        ∙ ap₂ (λ (x : Inputs) (ms : List ℕ). readAnswer (state (ruleAutomaton (k .inputs .rules)) (changedTree k))
+        (accepts (ruleAutomaton (k .inputs .rules)) (changedTree k))
         (length ms) (questionLinks (planTree (x .plan)) ms)) same roots-same

@@ -1,10 +1,10 @@
 -- The further statements of demand 3, about what the calls tell of one question.
---     question x vs bs    the question that a Start on sound lends x puts
---     CleanlyTold         of a question that Start accepted on sound lends and that was left alone: the parts that
+--     question x vs bs    the question that a Start on sound inputs x puts
+--     CleanOutcomes       of a question that Start accepted on sound inputs and that was undisturbed: the parts that
 --                         Start told, after how many accepted advances finished is told, what Reads tell, ceilings
---     question-told       it holds in every history from a fresh record
+--     question-answered   it holds in every history from a fresh record
 --     questions-of        and passes on to every form of the calls
---     told-order          and does not depend on the order of the list
+--     outcome-order       and does not depend on the order of the list
 -- Refused calls may come between; a Cancel may not.
 -- Assumes nothing.
 use Prim.Native.Nat.{ℕ, zero, suc, _+_, _*_, _≤_, _<_}
@@ -23,27 +23,29 @@ use Rattle.formats.proofs.CheckLaws.{true-false, and-left}
 use Rattle.formats.proofs.InputLaws.{list-passes}
 use Rattle.formats.specs.Inputs.{Inputs, Sizes, nodeTableBuilt, stateTableBuilt, sound}
 use Rattle.model.specs.Calls.{Call, start, Answer, refused, parts, more, finished, outcome, onOutcome, isRefused}
-use Rattle.model.specs.Refusals.{Stage, stage, refusal}
-use Rattle.reference.specs.Reference.{Standing, clean, Question, State, Book, Next, phase, inState, newBook, step}
-use Rattle.reference.specs.Reference.{decided, proceed, partCount, freshAnswer, standingOf, asked, starting}
+use Rattle.model.specs.Refusals.{stage, refusal}
+use Rattle.reference.specs.Reference.{Settlement, clean, Question, State, Reference, Reply, phase, inState}
+use Rattle.reference.specs.Reference.{newReference, step, decided, proceed, partCount, freshAnswer, settlementOf}
+use Rattle.reference.specs.Reference.{asked, starting}
 use Rattle.reference.specs.Demand3.{Conforms, after, Agrees}
 use Rattle.model.specs.History.{History}
 use Rattle.model.specs.Model.{freshRecord, Does}
-use Rattle.reference.specs.Undisturbed.{advances, finishedAfter, bookAt, LeftAlone, OutcomeHas, EveryTold, OnlyTold}
+use Rattle.reference.specs.Undisturbed.{advances, finishedAfter, referenceAt, Undisturbed, OutcomeHas}
+use Rattle.reference.specs.Undisturbed.{EveryOutcome, OnlyOutcome}
 use Rattle.model.proofs.Facts.{Layers}
 use Rattle.reference.proofs.StartSimulation.{some-part}
 use Rattle.model.proofs.ModelLaws.{start-list}
 use Rattle.reference.proofs.Demand3Theorem.{demand-3}
 use Rattle.model.proofs.Refinement.{Refines, refines}
 use Rattle.reference.proofs.Ceilings.{Few, ready-count, question-links}
-use Rattle.reference.proofs.UndisturbedLaws.{going, Alone, agrees-split, left-alone}
+use Rattle.reference.proofs.UndisturbedLaws.{going, UndisturbedFrom, agrees-split, undisturbed}
 use Rattle.reference.proofs.OrderLaws.{length-order, parts-order, fresh-order}
 
 abbrev pub question : Inputs → List ℕ → List ℕ → Question
-question x vs bs = record { nodes = vs; labels = bs; lent = x; count = 0; standing = clean; trail = [] }
+question x vs bs = record { nodes = vs; labels = bs; inputs = x; count = 0; settlement = clean; results = [] }
 
 -- n is what Start told, ys are the answers of the calls after it
-pub record CleanlyTold (x : Inputs) (vs bs : List ℕ) (n : ℕ) (ys : List Answer) : Type 0 where
+pub record CleanOutcomes (x : Inputs) (vs bs : List ℕ) (n : ℕ) (ys : List Answer) : Type 0 where
   -- Start tells the size of the ready set
   pub parts-are : n ≡ partCount (question x vs bs)
   -- at most 4 m - 2 parts for m changes, 1 for none
@@ -53,42 +55,42 @@ pub record CleanlyTold (x : Inputs) (vs bs : List ℕ) (n : ℕ) (ys : List Answ
   pub unfinished : finishedAfter ys ≡ none → advances ys < n
   pub most : advances ys ≤ n
   -- Read tells the fresh run's state and yes or no, the parts, and the moves of their climbs
-  pub only : OnlyTold (freshAnswer (question x vs bs)) ys
+  pub only : OnlyOutcome (freshAnswer (question x vs bs)) ys
   -- at most three links for each binary digit of the plan's height, for each part told
-  pub links : EveryTold (λ o. o .links ≤ o .parts * (3 * digits (height (planTree (x .plan))))) ys
+  pub links : EveryOutcome (λ o. o .links ≤ o .parts * (3 * digits (height (planTree (x .plan))))) ys
 
 -- the same for any form of the calls: cs and xs are the calls and answers before the Start, ds and ys those after it
-abbrev pub QuestionsTold : {Record : Type 0} → Record → (Record → Call → Answer → Record → Type 0) → Type 0
-QuestionsTold fresh Step = (cs : List Call) (xs : List Answer) (x : Inputs) (vs bs : List ℕ) (n : ℕ) (ds : List Call) (ys : List Answer)
+abbrev pub QuestionsAnswered : {Record : Type 0} → Record → (Record → Call → Answer → Record → Type 0) → Type 0
+QuestionsAnswered fresh Step = (cs : List Call) (xs : List Answer) (x : Inputs) (vs bs : List ℕ) (n : ℕ) (ds : List Call) (ys : List Answer)
     → length cs ≡ length xs → History Step fresh (cs ++ (start x vs bs ∷ ds)) (xs ++ (parts n ∷ ys))
-    → sound (bookAt newBook cs xs .sizes) x ≡ true → LeftAlone (bookAt newBook cs xs .sizes) x ds ys
-    → CleanlyTold x vs bs n ys
+    → sound (referenceAt newReference cs xs .sizes) x ≡ true → Undisturbed (referenceAt newReference cs xs .sizes) x ds ys
+    → CleanOutcomes x vs bs n ys
 
 -- ---- the Start
 
 module _ (z : Sizes) (s : State) (x : Inputs) (vs bs : List ℕ) (n : ℕ) (sounds : sound z x ≡ true) where
-  abbrev b : Book
+  abbrev b : Reference
   b = record { state = s; sizes = z }
 
-  begins-clean : standingOf z x ≡ clean
-  unfolding standingOf
+  begins-clean : settlementOf z x ≡ clean
+  unfolding settlementOf
   begins-clean = rw sounds
 
   parts-told : (m : ℕ) → parts n ≡ parts m → n ≡ m
   parts-told m e = cc
 
-  abbrev opened : Standing → Question
-  opened k = record { nodes = vs; labels = bs; lent = x; count = 0; standing = k; trail = [] }
+  abbrev opened : Settlement → Question
+  opened k = record { nodes = vs; labels = bs; inputs = x; count = 0; settlement = k; results = [] }
 
   -- n is the number of parts, and the question runs
-  abbrev Begins : Next → Type 0
+  abbrev Begins : Reply → Type 0
   Begins r = Conforms r (parts n)
       → (n ≡ partCount (question x vs bs)) × (after r (parts n) ≡ going z (question x vs bs) 0 [])
 
-  begins-at : Begins (starting b (opened (standingOf z x)) (standingOf z x))
+  begins-at : Begins (starting b (opened (settlementOf z x)) (settlementOf z x))
   unfolding starting inState
   begins-at =
-      subst (λ (k : Standing). Begins (starting b (opened k) k)) (sym begins-clean)
+      subst (λ (k : Settlement). Begins (starting b (opened k) k)) (sym begins-clean)
       (λ e. (parts-told (partCount (question x vs bs)) e, refl))
 
   begun : Begins (step b (start x vs bs))
@@ -115,8 +117,8 @@ linksIn a = onOutcome (λ o. o .links) 0 a
 partsIn : Answer → ℕ
 partsIn a = onOutcome (λ o. o .parts) 0 a
 
-few-links : (d : ℕ) (a : Answer) → linksIn a ≤ partsIn a * d → (ys : List Answer) → OnlyTold a ys
-    → EveryTold (λ o. o .links ≤ o .parts * d) ys
+few-links : (d : ℕ) (a : Answer) → linksIn a ≤ partsIn a * d → (ys : List Answer) → OnlyOutcome a ys
+    → EveryOutcome (λ o. o .links ≤ o .parts * d) ys
 unfolding linksIn partsIn
 few-links d a h [] o = tt
 few-links d a h (y ∷ ys) o = (one y (o .0), few-links d a h ys (o .1))
@@ -130,9 +132,9 @@ few-links d a h (y ∷ ys) o = (one y (o .0), few-links d a h ys (o .1))
     one (outcome r) e = subst (λ (c : Answer). linksIn c ≤ partsIn c * d) (sym e) h
 
 fresh-few : (q : Question) → linksIn (freshAnswer q) ≤ partsIn
-    (freshAnswer q) * (3 * digits (height (planTree (q .lent .plan))))
+    (freshAnswer q) * (3 * digits (height (planTree (q .inputs .plan))))
 unfolding linksIn partsIn freshAnswer
-fresh-few q = question-links (planTree (q .lent .plan)) (q .nodes)
+fresh-few q = question-links (planTree (q .inputs .plan)) (q .nodes)
 
 -- ---- the statements
 
@@ -140,21 +142,21 @@ module _ (L : Layers) (cs : List Call) (xs : List Answer) (x : Inputs) (vs bs : 
     (ys : List Answer) where
   -- the N, S and K of the last accepted Load before this Start
   abbrev pub sizesBefore : Sizes
-  sizesBefore = bookAt newBook cs xs .sizes
+  sizesBefore = referenceAt newReference cs xs .sizes
 
-  pub question-told : length cs ≡ length xs
+  pub question-answered : length cs ≡ length xs
       → History Does freshRecord (cs ++ (start x vs bs ∷ ds)) (xs ++ (parts n ∷ ys))
-      → sound sizesBefore x ≡ true → LeftAlone sizesBefore x ds ys → CleanlyTold x vs bs n ys
+      → sound sizesBefore x ≡ true → Undisturbed sizesBefore x ds ys → CleanOutcomes x vs bs n ys
   unfolding sound
-  question-told same h sounds alone =
-      let A = agrees-split newBook cs (start x vs bs ∷ ds) xs (parts n ∷ ys) same (demand-3 L _ _ h) in
-      let B = begun sizesBefore (bookAt newBook cs xs .state) x vs bs n sounds (A .0) in
-      let l = listed sizesBefore (bookAt newBook cs xs .state) x vs bs n sounds (A .0) in
+  question-answered same h sounds alone =
+      let A = agrees-split newReference cs (start x vs bs ∷ ds) xs (parts n ∷ ys) same (demand-3 L _ _ h) in
+      let B = begun sizesBefore (referenceAt newReference cs xs .state) x vs bs n sounds (A .0) in
+      let l = listed sizesBefore (referenceAt newReference cs xs .state) x vs bs n sounds (A .0) in
       let built : nodeTableBuilt sizesBefore x ≡ true =
       and-left (nodeTableBuilt sizesBefore x) (stateTableBuilt sizesBefore x) sounds in
-      let K : Alone (question x vs bs) 0 ys =
-      left-alone sizesBefore (question x vs bs) 0 [] (some-part (question x vs bs)) ds ys
-      (subst (λ (b : Book). Agrees b ds ys) (B .1) (A .1)) alone in
+      let K : UndisturbedFrom (question x vs bs) 0 ys =
+      undisturbed sizesBefore (question x vs bs) 0 [] (some-part (question x vs bs)) ds ys
+      (subst (λ (b : Reference). Agrees b ds ys) (B .1) (A .1)) alone in
       record {
         parts-are = B .0;
         few = subst (Few (length vs)) (sym (B .0))
@@ -168,10 +170,10 @@ module _ (L : Layers) (cs : List Call) (xs : List Answer) (x : Inputs) (vs bs : 
       }
 
 -- "whatever the order of the list": where no node is listed twice, what is told of one order is what is told of another
-pub told-order : (x : Inputs) (vs bs ws cs : List ℕ) → length vs ≡ length bs → length ws ≡ length cs
+pub outcome-order : (x : Inputs) (vs bs ws cs : List ℕ) → length vs ≡ length bs → length ws ≡ length cs
     → List·Permᴰ (zip vs bs) (zip ws cs)
-    → distinct vs ≡ true → (n : ℕ) (ys : List Answer) → CleanlyTold x vs bs n ys → CleanlyTold x ws cs n ys
-told-order x vs bs ws cs g h d u n ys T = record {
+    → distinct vs ≡ true → (n : ℕ) (ys : List Answer) → CleanOutcomes x vs bs n ys → CleanOutcomes x ws cs n ys
+outcome-order x vs bs ws cs g h d u n ys T = record {
   parts-are = T .parts-are ∙ parts-order vs bs ws cs g h d (question x vs bs) (question x ws cs) refl refl refl refl
       refl;
   few = subst (λ (m : ℕ). Few m n) (length-order vs bs ws cs g h d) (T .few);
@@ -179,12 +181,12 @@ told-order x vs bs ws cs g h d u n ys T = record {
   unfinished = T .unfinished;
   most = T .most;
   only =
-      subst (λ (a : Answer). OnlyTold a ys)
+      subst (λ (a : Answer). OnlyOutcome a ys)
       (fresh-order vs bs ws cs g h d (question x vs bs) (question x ws cs) refl refl refl refl refl u) (T .only);
   links = T .links;
 }
 
 -- it passes on to every form of the calls that refines this one
 module _ {A B : Type 0} (StepA : A → Call → Answer → A → Type 0) (StepB : B → Call → Answer → B → Type 0) (Seen : A → B → Type 0) where
-  pub questions-of : Refines StepA StepB Seen → (a : A) (b : B) → Seen a b → QuestionsTold b StepB → QuestionsTold a StepA
+  pub questions-of : Refines StepA StepB Seen → (a : A) (b : B) → Seen a b → QuestionsAnswered b StepB → QuestionsAnswered a StepA
   questions-of f a b i q cs xs x vs bs n ds ys l h = q cs xs x vs bs n ds ys l (refines StepA StepB Seen f a b _ _ i h)

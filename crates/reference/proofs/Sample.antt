@@ -1,7 +1,7 @@
--- Document 01's sample clearance through the calls and the book, computed.
+-- Document 01's sample clearance through the calls and the reference model, computed.
 --     computing        opens every definition that a sample runs through
---     planA, tableA, lentA    plan A, table A and their tables; loadA: buffers with other contents, before Load
---     seen cs          what the book settles of the calls cs, and whether the model's answers agree
+--     planA, tableA, inputsA    plan A, table A and their tables; loadA: buffers with other contents, before Load
+--     seen cs          what the reference model settles of the calls cs, and whether the model's answers agree
 --     sample-rows      the nine rows
 -- Assumes nothing.
 use Prim.Native.Nat.{ℕ, zero, suc}
@@ -36,16 +36,16 @@ use Rattle.model.specs.Calls.{Call, load, start, advance, read, Answer, refused
 use Rattle.model.specs.Calls.{isRunning, isAnswered}
 use Rattle.model.specs.Refusals.{refusal}
 use Rattle.model.specs.PartInputs.{givenOf}
-use Rattle.reference.specs.Reference.{phase, newBook, inState, longer, freshAnswer, ruleAnswer, standingOf, asked}
-use Rattle.reference.specs.Reference.{mayStartWith, unlessRefused, starting, advanced, goesOn, otherBytes}
-use Rattle.reference.specs.Reference.{mayAdvanceWith, byAnswer, loosely, firmly, advancing, isTold, reading}
-use Rattle.reference.specs.Reference.{proceed, decided, step}
+use Rattle.reference.specs.Reference.{phase, newReference, inState, longer, freshAnswer, ruleAnswer, settlementOf}
+use Rattle.reference.specs.Reference.{asked, mayStartWith, unlessRefused, starting, advanced, goesOn, otherStates}
+use Rattle.reference.specs.Reference.{mayAdvanceWith, byAnswer, advancingByProgram, advancingByRule, advancing}
+use Rattle.reference.specs.Reference.{isOutcome, reading, proceed, decided, step}
 use Rattle.reference.specs.Causes.{isChildless, isFlat, strays, isApart, linksCause, nodeCause, rulesCause, cause}
 use Rattle.reference.specs.Causes.{startCause, advanceCause}
 use Rattle.model.specs.Model.{idle, freshRecord, started, startWith, stepped, advanceWith, lastOf, proceeds, unless}
 use Rattle.model.specs.Model.{act}
 use Rattle.reference.specs.AgreementTest.{answersOf, flag, code, sameAnswer, conforms, agreed, settledIn}
-use Rattle.reference.specs.AgreementTest.{foretold}
+use Rattle.reference.specs.AgreementTest.{settledAnswers}
 
 unfoldable pub computing : ℕ
 unfolding split sub parent depth isPostorder treeOf changed jumpIn jump nextMove climbIn climb walk tabulate
@@ -57,10 +57,10 @@ unfolding split sub parent depth isPostorder treeOf changed jumpIn jump nextMove
     climbOn lastFound labelOn climbFrom runReached ownReached joinOn innerOn leafOn forkOn partOn fits sameNodeInputs
     sameInputs namesSizes nodeTableBuilt stateTableBuilt sound statesBelow mayLoad mayStart isRunning isAnswered refusal phase
     isChildless isFlat strays isApart linksCause nodeCause rulesCause cause startCause advanceCause
-    newBook inState givenOf longer freshAnswer ruleAnswer standingOf asked mayStartWith unlessRefused starting
-    advanced goesOn otherBytes mayAdvanceWith byAnswer loosely firmly advancing isTold reading proceed decided step
+    newReference inState givenOf longer freshAnswer ruleAnswer settlementOf asked mayStartWith unlessRefused starting
+    advanced goesOn otherStates mayAdvanceWith byAnswer advancingByProgram advancingByRule advancing isOutcome reading proceed decided step
     idle freshRecord started startWith stepped advanceWith lastOf proceeds unless act answersOf flag code sameAnswer
-    conforms agreed settledIn foretold
+    conforms agreed settledIn settledAnswers
 computing = 0
 
 -- "Plan A: N 7, labels 1 1 1 0 1 0 1, kinds 0 0 1 0 0 1 1"
@@ -77,15 +77,15 @@ unfoldable pub loadA : Inputs
 unfolding planA tableA
 loadA = record { plan = planA; rules = tableA; nodeTable = replicate 28 9; stateTable = replicate 21 9 }
 
-unfoldable pub lentA : Inputs
+unfoldable pub inputsA : Inputs
 unfolding planA tableA computing
-lentA = record { plan = planA; rules = tableA; nodeTable = builtLinks planA; stateTable = builtStates planA tableA }
+inputsA = record { plan = planA; rules = tableA; nodeTable = builtLinks planA; stateTable = builtStates planA tableA }
 
 pub tables-A :
-    (lentA .nodeTable ≡ 2 ∷ 2 ∷ 2 ∷ 1 ∷ 2 ∷ 2 ∷ 2 ∷ 1 ∷ 6 ∷ 6 ∷ 1 ∷ 3 ∷ 5 ∷ 5 ∷ 2 ∷ 1 ∷ 5 ∷ 5 ∷ 2 ∷ 1 ∷ 6 ∷ 6 ∷ 1 ∷ 3 ∷ 6
+    (inputsA .nodeTable ≡ 2 ∷ 2 ∷ 2 ∷ 1 ∷ 2 ∷ 2 ∷ 2 ∷ 1 ∷ 6 ∷ 6 ∷ 1 ∷ 3 ∷ 5 ∷ 5 ∷ 2 ∷ 1 ∷ 5 ∷ 5 ∷ 2 ∷ 1 ∷ 6 ∷ 6 ∷ 1 ∷ 3 ∷ 6
     ∷ 6 ∷ 0 ∷ 7 ∷ [])
-    × (sound (record { n = 7; s = 2; k = 2 }) lentA ≡ true)
-unfolding lentA
+    × (sound (record { n = 7; s = 2; k = 2 }) inputsA ≡ true)
+unfolding inputsA
 tables-A = (refl, refl)
 
 -- ---- lists of calls
@@ -94,10 +94,10 @@ unfoldable pub advancesOn : ℕ → Inputs → List Call
 advancesOn zero x = []
 advancesOn (suc n) x = advance x ∷ advancesOn n x
 
--- a Load, then a question with p advances and a Read, all on plan A left alone
+-- a Load, then a question with p advances and a Read, all on plan A undisturbed
 unfoldable pub asking : List ℕ → List ℕ → ℕ → List Call
-unfolding advancesOn loadA lentA
-asking vs bs p = load loadA ∷ start lentA vs bs ∷ (advancesOn p lentA ++ (read ∷ []))
+unfolding advancesOn loadA inputsA
+asking vs bs p = load loadA ∷ start inputsA vs bs ∷ (advancesOn p inputsA ++ (read ∷ []))
 
 pub record Seen : Type 0 where
   pub says : List (Option Answer)
@@ -106,12 +106,12 @@ pub record Seen : Type 0 where
 unfoldable pub seen : List Call → Seen
 unfolding computing
 seen cs = record {
-  says = foretold newBook cs (answersOf freshRecord cs);
+  says = settledAnswers newReference cs (answersOf freshRecord cs);
   agrees =
-      agreed newBook cs (answersOf freshRecord cs);
+      agreed newReference cs (answersOf freshRecord cs);
 }
 
--- the last answer that the book settles; for answers that all agree
+-- the last answer that the reference model settles; for answers that all agree
 unfoldable pub closing : List (Option Answer) → Option Answer
 closing [] = none
 closing (a ∷ []) = a
@@ -122,10 +122,10 @@ unfolding asking seen closing
 row vs bs p = closing (seen (asking vs bs p) .says)
 
 unfoldable pub startRow : List ℕ → List ℕ → Option Answer
-unfolding seen loadA lentA closing
-startRow vs bs = closing (seen (load loadA ∷ start lentA vs bs ∷ []) .says)
+unfolding seen loadA inputsA closing
+startRow vs bs = closing (seen (load loadA ∷ start inputsA vs bs ∷ []) .says)
 
--- the book settles each row, from the calls alone
+-- the reference model settles each row, from the calls alone
 pub sample-rows :
     row [] [] 1 ∷ row (0 ∷ []) (0 ∷ []) 2 ∷ row (0 ∷ 2 ∷ []) (0 ∷ 0 ∷ []) 3 ∷ row (0 ∷ 3 ∷ []) (0 ∷ 1 ∷ []) 5
     ∷ row (4 ∷ []) (0 ∷ []) 2 ∷ row (6 ∷ []) (0 ∷ []) 1

@@ -1,7 +1,7 @@
 -- "It may lend what Load wrote": whatever Load accepts, what it leaves in the buffers is sound for that plan's N, S
--- and K, longer buffers and their excess included. So every plan and rule table can meet the premise of the book's
+-- and K, longer buffers and their excess included. So every plan and rule table can meet the premise of the reference model's
 -- clean lines.
---     loaded x          the lends after an accepted Load
+--     loaded x          the inputs after an accepted Load
 --     written-sound, written-fits     they are sound, and long enough
 --     start-written     so a Start on them is accepted with any list that passes 12 to 15
 -- Assumes nothing.
@@ -25,15 +25,15 @@ use Rattle.formats.proofs.PlanLaws.{size-planTree}
 use Rattle.formats.proofs.InputLaws.{rule-table-passes, build-table}
 use Rattle.tables.specs.Answers.{written}
 use Rattle.links.proofs.CellLaws.{length-linkTable}
-use Rattle.formats.specs.Inputs.{Inputs, Sizes, sizesIn, fits, usedNodeTable, usedStateTable, nodeTableBuilt}
-use Rattle.formats.specs.Inputs.{stateTableBuilt, sound}
-use Rattle.model.specs.Calls.{Phase, load, start, parts, mayLoad, mayStart}
-use Rattle.model.specs.Refusals.{Stage, stage, refusal}
-use Rattle.reference.specs.Reference.{clean, firm, loose, Question, State, settled, phase, inState, step, decided}
-use Rattle.reference.specs.Reference.{proceed, partCount, standingOf, asked, starting}
+use Rattle.formats.specs.Inputs.{Inputs, sizesIn, fits, usedNodeTable, usedStateTable, nodeTableBuilt, stateTableBuilt}
+use Rattle.formats.specs.Inputs.{sound}
+use Rattle.model.specs.Calls.{load, start, parts, mayLoad, mayStart}
+use Rattle.model.specs.Refusals.{Stage, refusal}
+use Rattle.reference.specs.Reference.{clean, byRule, byProgram, Question, State, settled, phase, inState, step}
+use Rattle.reference.specs.Reference.{decided, proceed, partCount, settlementOf, asked, starting}
 use Rattle.formats.proofs.InputsLaws.{built-node-table}
 use Rattle.reference.proofs.FreshLaws.{rules-sound, length-stateTable}
-use Rattle.reference.proofs.Simulation.{book}
+use Rattle.reference.proofs.Simulation.{referenceOf}
 use Rattle.reference.proofs.QuestionTheorem.{question}
 
 -- plan and rules as they were, and what Load leaves in the two buffers
@@ -138,25 +138,25 @@ written-fits t x e = passed-fits x (load-passes t x e)
 pub start-written : (t : Stage) (x : Inputs) (s : State) (vs bs : List ℕ) → refusal t (load x) ≡ 0
     → mayStart (phase s) ≡ true
     → firstNo (listChecks (sizesIn x .n) (sizesIn x .k) vs bs) ≡ 0
-    → step (book s (sizesIn x)) (start (loaded x) vs bs)
+    → step (referenceOf s (sizesIn x)) (start (loaded x) vs bs)
     ≡ settled (parts (partCount (question (loaded x) vs bs)))
-    (book (State.running (question (loaded x) vs bs)) (sizesIn x))
-unfolding step decided refusal proceed asked starting inState standingOf
+    (referenceOf (State.running (question (loaded x) vs bs)) (sizesIn x))
+unfolding step decided refusal proceed asked starting inState settlementOf
 start-written t x s vs bs e m l =
-    ap (λ (n : ℕ). decided n (book s (sizesIn x)) (start (loaded x) vs bs))
+    ap (λ (n : ℕ). decided n (referenceOf s (sizesIn x)) (start (loaded x) vs bs))
     (firstNo-yes 1 (mayStart (phase s))
     (check 17 (fits (sizesIn x) (loaded x)) ∷ listChecks (sizesIn x .n) (sizesIn x .k) vs bs) m
     ∙ firstNo-yes 17 (fits (sizesIn x) (loaded x)) (listChecks (sizesIn x .n) (sizesIn x .k) vs bs)
     (written-fits t x e) ∙ l)
-    ∙ ap (λ (b : Bool). starting (book s (sizesIn x)) (opened b)
-    (cond b clean (cond (nodeTableBuilt (sizesIn x) (loaded x)) firm loose))) (written-sound t x e)
+    ∙ ap (λ (b : Bool). starting (referenceOf s (sizesIn x)) (opened b)
+    (cond b clean (cond (nodeTableBuilt (sizesIn x) (loaded x)) byRule byProgram))) (written-sound t x e)
   where
     opened : Bool → Question
     opened b = record {
       nodes = vs;
       labels = bs;
-      lent = loaded x;
+      inputs = loaded x;
       count = 0;
-      standing = cond b clean (cond (nodeTableBuilt (sizesIn x) (loaded x)) firm loose);
-      trail = [];
+      settlement = cond b clean (cond (nodeTableBuilt (sizesIn x) (loaded x)) byRule byProgram);
+      results = [];
     }

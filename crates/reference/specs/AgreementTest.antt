@@ -2,8 +2,8 @@
 --
 -- answersOf r cs == what the model answers to the calls cs, from record r on
 -- sameAnswer a b == whether two answers are the same
--- agreed b cs xs == whether the answers xs agree with the book; that it says what Agrees says is proofs/JudgeLaws
--- foretold b cs xs == what the book settles of each call; none where it is left to the program: only there are the
+-- agreed b cs xs == whether the answers xs agree with the reference model; it says what Agrees says: proofs/AgreementTestLaws
+-- settledAnswers b cs xs == what the reference model settles of each call; none where it is left to the program: only there are the
 --   answers xs looked at
 --
 -- Assumes nothing.
@@ -13,7 +13,7 @@ use mathlib.Core.List.{List, [], _∷_}
 use mathlib.Core.Option.{Option, none, some}
 use Rattle.formats.specs.Bytes.{sameList}
 use Rattle.model.specs.Calls.{Call, Answer, refused, parts, more, finished, outcome}
-use Rattle.reference.specs.Reference.{Book, Next, settled, left, step}
+use Rattle.reference.specs.Reference.{Reference, Reply, settled, unsettled, step}
 use Rattle.reference.specs.Demand3.{after}
 use Rattle.model.specs.Model.{Record, act}
 
@@ -37,21 +37,21 @@ code (outcome o) = 5 ∷ o .state ∷ flag (o .yes) ∷ o .parts ∷ o .links �
 unfoldable pub sameAnswer : Answer → Answer → Bool
 sameAnswer a b = sameList (code a) (code b)
 
-unfoldable pub conforms : Next → Answer → Bool
+unfoldable pub conforms : Reply → Answer → Bool
 conforms (settled a b) x = sameAnswer x a
-conforms (left ok f) x = ok x
+conforms (unsettled ok f) x = ok x
 
-unfoldable pub agreed : Book → List Call → List Answer → Bool
+unfoldable pub agreed : Reference → List Call → List Answer → Bool
 agreed b [] [] = true
 agreed b [] (x ∷ xs) = false
 agreed b (c ∷ cs) [] = false
 agreed b (c ∷ cs) (x ∷ xs) = conforms (step b c) x && agreed (after (step b c) x) cs xs
 
-unfoldable pub settledIn : Next → Option Answer
+unfoldable pub settledIn : Reply → Option Answer
 settledIn (settled a b) = some a
-settledIn (left ok f) = none
+settledIn (unsettled ok f) = none
 
-unfoldable pub foretold : Book → List Call → List Answer → List (Option Answer)
-foretold b [] xs = []
-foretold b (c ∷ cs) [] = []
-foretold b (c ∷ cs) (x ∷ xs) = settledIn (step b c) ∷ foretold (after (step b c) x) cs xs
+unfoldable pub settledAnswers : Reference → List Call → List Answer → List (Option Answer)
+settledAnswers b [] xs = []
+settledAnswers b (c ∷ cs) [] = []
+settledAnswers b (c ∷ cs) (x ∷ xs) = settledIn (step b c) ∷ settledAnswers (after (step b c) x) cs xs

@@ -1,15 +1,15 @@
--- Whether what is lent gives a cause for 18.
+-- Whether the inputs give a cause for 18.
 --
 -- "18 means that a value read leads outside the plan, the states or the labels, or a climb doesn't rise."
 --
--- isChildless b x == by the numbers b a child of node x would lie outside the plan
+-- isChildless b x == by the node table b a child of node x would lie outside the plan
 -- strays n b v, isApart n b v == the links of node v lead outside the plan, do not rise or lead to a node without children; node v is at
 --   the top, and not above all
--- linksCause n b == some number of the n nodes does so: of what a Start reads
+-- linksCause n b == some value of the n nodes does so: of what a Start reads
 -- nodeCause X vs bs v == a state, a label or the kind of node v leads outside, with the labels as the list changes them
 -- rulesCause X == a rule gives no state
 -- cause X vs bs == one of these: of what an advance reads
--- startCause z x, advanceCause z x vs bs == of what is lent with them, excess aside
+-- startCause z x, advanceCause z x vs bs == of the inputs, excess aside
 --
 -- The same as data, with the value's place: LinksAstray (crate links) and Astray (crate questions); proofs/CauseLaws.
 -- Assumes nothing.

@@ -17,8 +17,8 @@ use Rattle.model.specs.Calls as calls
 use Rattle.model.specs.Calls.{Call, load, start, advance, cancel, read, Answer, refused, mayStart, isRunning}
 use Rattle.model.specs.Refusals.{refusal, stage}
 use Rattle.model.specs.Model.{stageOf, Acted, proceeds, unless, act}
-use Rattle.model.specs.LeftOpen.{Kept}
-use Rattle.model.proofs.LeftOpenLaws.{refused-keeps, start-kept, advance-kept}
+use Rattle.model.specs.LeftOpen.{LeftOpen}
+use Rattle.model.proofs.LeftOpenLaws.{refused-unchanged, start-properties, advance-properties}
 use Rattle.formats.proofs.TurnLaws.{and-yes}
 use Rattle.session.specs.declared.state.Phase.{Phase}
 use Rattle.session.specs.declared.state.Head.{Head}
@@ -57,18 +57,18 @@ next-inside s h v x e =
     omega (arith, below, G .sizes .nodes-least)
 
 -- the properties of what is left to the program
-kept-of : (s : Session) → Shaped s → valid s ≡ true → (c : Call)
-    → Kept (recordOf s) c (act (recordOf s) c .answer) (act (recordOf s) c .record′)
-kept-of s h v (load x) = tt
-kept-of s h v (start x vs bs) = start-kept (recordOf s) x vs bs (start-loaded s h v x vs bs)
-kept-of s h v (advance x) = advance-kept (recordOf s) x (next-inside s h v x)
-kept-of s h v cancel = tt
-kept-of s h v read = tt
+properties-of : (s : Session) → Shaped s → valid s ≡ true → (c : Call)
+    → LeftOpen (recordOf s) c (act (recordOf s) c .answer) (act (recordOf s) c .record′)
+properties-of s h v (load x) = tt
+properties-of s h v (start x vs bs) = start-properties (recordOf s) x vs bs (start-loaded s h v x vs bs)
+properties-of s h v (advance x) = advance-properties (recordOf s) x (next-inside s h v x)
+properties-of s h v cancel = tt
+properties-of s h v read = tt
 
 module _ (s : Session) (c : Call) where
   pub invalid-done : valid s ≡ false → CallDone s c (refused 1) s
   unfolding answerOn recordOn
-  invalid-done e = record { tells = rw e; leaves = rw e; keeps = λ n f. refl; kept = λ v. absurd (true-false (sym v ∙ e)) }
+  invalid-done e = record { tells = rw e; leaves = rw e; unchanged = λ n f. refl; properties = λ v. absurd (true-false (sym v ∙ e)) }
 
   module _ (h : Shaped s) (v : valid s ≡ true) where
     -- a valid struct: answer and record are the model's
@@ -78,8 +78,8 @@ module _ (s : Session) (c : Call) where
     model-done a t f g = record {
       tells = rw v f;
       leaves = rw v g;
-      keeps = λ n e. g ∙ ap sessionOf (refused-keeps (recordOf s) c n (sym f ∙ e)) ∙ struct-is s h v;
-      kept = λ w. subst (λ (b : Answer). Kept (recordOf s) c b (act (recordOf s) c .record′)) (sym f) (kept-of s h v c);
+      unchanged = λ n e. g ∙ ap sessionOf (refused-unchanged (recordOf s) c n (sym f ∙ e)) ∙ struct-is s h v;
+      properties = λ w. subst (λ (b : Answer). LeftOpen (recordOf s) c b (act (recordOf s) c .record′)) (sym f) (properties-of s h v c);
     }
 
     act-refused : (n : ℕ) → refusal (stage (phaseOf (s .phase)) (sizesOf s)) c ≡ suc n

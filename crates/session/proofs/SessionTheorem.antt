@@ -12,7 +12,7 @@ use Rattle.model.specs.Model.{freshRecord, Does}
 use Rattle.reference.proofs.Demand3Theorem.{demand-3, demand-3-of}
 use Rattle.model.proofs.Refinement.{refines}
 use Rattle.model.proofs.LayersHold.{layers}
-use Rattle.reference.proofs.QuestionTheorem.{QuestionsTold, question-told, questions-of}
+use Rattle.reference.proofs.QuestionTheorem.{QuestionsAnswered, question-answered, questions-of}
 use Rattle.session.specs.Records.{freshSession}
 use Rattle.session.specs.CallSteps.{Step}
 use Rattle.session.proofs.Refine.{Seen, fresh-seen, step-refines}
@@ -23,5 +23,5 @@ session-history cs xs h = refines Step Does Seen step-refines freshSession fresh
 pub session-demand-3 : Demand3 freshSession Step
 session-demand-3 = demand-3-of Step Does Seen step-refines freshSession freshRecord fresh-seen (demand-3 layers)
 
-pub session-questions : QuestionsTold freshSession Step
-session-questions = questions-of Step Does Seen step-refines freshSession freshRecord fresh-seen (question-told layers)
+pub session-questions : QuestionsAnswered freshSession Step
+session-questions = questions-of Step Does Seen step-refines freshSession freshRecord fresh-seen (question-answered layers)

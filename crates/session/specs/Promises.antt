@@ -17,7 +17,7 @@ use Rattle.formats.specs.Inputs.{Inputs}
 use Rattle.model.specs.Calls.{Call, load, Answer, refused, accepted, parts, more, finished, readAnswer}
 use Rattle.model.specs.Refusals.{refusal}
 use Rattle.model.specs.Model.{stageOf, act}
-use Rattle.model.specs.LeftOpen.{Kept}
+use Rattle.model.specs.LeftOpen.{LeftOpen}
 use Rattle.session.specs.declared.state.Session.{Session}
 use Rattle.session.specs.declared.answers.Doing.{Doing}
 use Rattle.session.specs.declared.answers.Doing.the-variants.{Done as Made, Refused as NotDone}
@@ -62,9 +62,9 @@ pub record CallDone (s : Session) (c : Call) (a : Answer) (s′ : Session) : Typ
   pub tells : a ≡ answerOn s c
   pub leaves : s′ ≡ recordOn s c
   -- "nothing else is returned and nothing is altered"
-  pub keeps : (n : ℕ) → a ≡ refused n → s′ ≡ s
+  pub unchanged : (n : ℕ) → a ≡ refused n → s′ ≡ s
   -- what is left to the program has these properties
-  pub kept : valid s ≡ true → Kept (recordOf s) c a (act (recordOf s) c .record′)
+  pub properties : valid s ≡ true → LeftOpen (recordOf s) c a (act (recordOf s) c .record′)
 
 -- Load's besides: the tables of the definition in the lent buffers, excess untouched; as at entry where it is refused
 pub record LoadDone (s : Session) (x : Inputs) (a : Answer) (s′ : Session) (nums′ bytes′ : List ℕ) : Type 0 where
