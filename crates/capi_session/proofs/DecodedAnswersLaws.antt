@@ -9,10 +9,14 @@ use mathlib.Core.List.{List}
 use lib.Dec.{eqb}
 use lib.ListN.{length, getD}
 use Rattle.questions.specs.Climbs.{Reached}
-use Rattle.book.specs.Lends.{Lent}
-use Rattle.book.specs.Calls.{Call, load, start, advance, cancel, read, Answer, more, finished, told, Phase}
-use Rattle.book.specs.Refusals.{refusal}
-use Rattle.book.specs.Model.{Record, Acted, acted, stepped, marksBy, lastOf, proceeds, unless, act, startWith, advanceWith}
+use Rattle.formats.specs.Inputs.{Inputs}
+use Rattle.model.specs.Calls.{Call, load, start, advance, cancel, read, Answer, more, finished}
+use Rattle.model.specs.Calls.{readAnswer}
+use Rattle.model.specs.Calls.{Phase}
+use Rattle.model.specs.Refusals.{refusal}
+use Rattle.model.specs.Model.{stageOf}
+use Rattle.model.specs.Model.{Record, Acted, acted, stepped, marksBy, lastOf, proceeds, unless, act}
+use Rattle.model.specs.Model.{startWith, advanceWith}
 use Rattle.capi_session.specs.SessionExported.{answerNumber, partsOf, finishedOf, Places, toldPlaces}
 use Rattle.capi_session.specs.DecodedAnswers.{decodedDone, decodedStart, decodedAdvance, decodedRead}
 
@@ -29,9 +33,9 @@ abbrev ReadDecoded : Places → Answer → Type 0
 ReadDecoded q a = decodedRead (answerNumber a) (toldPlaces a q) ≡ a
 
 module _ (r : Record) where
-  pub decoded-load : (x : Lent) → DoneDecoded (act r (load x) .answer)
+  pub decoded-load : (x : Inputs) → DoneDecoded (act r (load x) .answer)
   unfolding act unless proceeds decodedDone answerNumber
-  decoded-load x = go (refusal (r .phase) (r .sizes) (load x))
+  decoded-load x = go (refusal (stageOf r) (load x))
     where
       go : (n : ℕ) → DoneDecoded (unless n r (load x) .answer)
       go zero = refl
@@ -39,7 +43,7 @@ module _ (r : Record) where
 
   pub decoded-cancel : DoneDecoded (act r cancel .answer)
   unfolding act unless proceeds decodedDone answerNumber
-  decoded-cancel = go (refusal (r .phase) (r .sizes) cancel)
+  decoded-cancel = go (refusal (stageOf r) cancel)
     where
       go : (n : ℕ) → DoneDecoded (unless n r cancel .answer)
       go zero = refl
@@ -50,9 +54,9 @@ module _ (r : Record) where
   started p vs bs none = refl
   started p vs bs (some rs) = refl
 
-  pub decoded-start : (p : ℕ) (x : Lent) (vs bs : List ℕ) → StartDecoded p (act r (start x vs bs) .answer)
+  pub decoded-start : (p : ℕ) (x : Inputs) (vs bs : List ℕ) → StartDecoded p (act r (start x vs bs) .answer)
   unfolding act unless proceeds decodedStart answerNumber partsOf
-  decoded-start p x vs bs = go (refusal (r .phase) (r .sizes) (start x vs bs))
+  decoded-start p x vs bs = go (refusal (stageOf r) (start x vs bs))
     where
       go : (n : ℕ) → StartDecoded p (unless n r (start x vs bs) .answer)
       go zero = started p vs bs _
@@ -63,7 +67,7 @@ module _ (r : Record) where
   either f true u v e g = e
   either f false u v e g = g
 
-  advanced : (f : ℕ) (x : Lent) (o : Option Reached) → AdvanceDecoded f (advanceWith r x o .answer)
+  advanced : (f : ℕ) (x : Inputs) (o : Option Reached) → AdvanceDecoded f (advanceWith r x o .answer)
   unfolding advanceWith decodedAdvance answerNumber finishedOf
   advanced f x none = refl
   advanced f x (some y) =
@@ -71,22 +75,22 @@ module _ (r : Record) where
       (acted finished (stepped r Phase.answered y (eqb (getD (marksBy (r .sizes) x) (y .state) 0) 1)))
       (acted more (stepped r Phase.running y false)) refl refl
 
-  pub decoded-advance : (f : ℕ) (x : Lent) → AdvanceDecoded f (act r (advance x) .answer)
+  pub decoded-advance : (f : ℕ) (x : Inputs) → AdvanceDecoded f (act r (advance x) .answer)
   unfolding act unless proceeds decodedAdvance answerNumber finishedOf
-  decoded-advance f x = go (refusal (r .phase) (r .sizes) (advance x))
+  decoded-advance f x = go (refusal (stageOf r) (advance x))
     where
       go : (n : ℕ) → AdvanceDecoded f (unless n r (advance x) .answer)
       go zero = advanced f x _
       go (suc n) = refl
 
-  reading : (q : Places) (s p l : ℕ) (y : Bool) → ReadDecoded q (told s y p l)
+  reading : (q : Places) (s p l : ℕ) (y : Bool) → ReadDecoded q (readAnswer s y p l)
   unfolding decodedRead answerNumber toldPlaces
   reading q s p l true = refl
   reading q s p l false = refl
 
   pub decoded-read : (q : Places) → ReadDecoded q (act r read .answer)
   unfolding act unless proceeds decodedRead answerNumber toldPlaces
-  decoded-read q = go (refusal (r .phase) (r .sizes) read)
+  decoded-read q = go (refusal (stageOf r) read)
     where
       go : (n : ℕ) → ReadDecoded q (unless n r read .answer)
       go zero = reading q (lastOf (r .states) 0) (length (r .roots)) (r .links) (r .yes)

@@ -15,11 +15,13 @@ use lib.Dec.{eqb}
 use lib.ListN.{length, getD, replicate}
 use Rattle.formats.proofs.CheckLaws.{and-left}
 use Rattle.questions.specs.Climbs.{Reached}
-use Rattle.book.specs.Lends.{Lent}
-use Rattle.book.specs.Calls.{Call, load, start, advance, cancel, read, Answer, more, finished, Phase}
-use Rattle.book.specs.Refusals.{refusal}
-use Rattle.book.specs.Model.{Record, Acted, acted, stepped, marksBy, freshRecord, proceeds, unless, act, startWith, advanceWith, Does}
-use Rattle.book.proofs.Demand3Theorem.{Refines}
+use Rattle.formats.specs.Inputs.{Inputs}
+use Rattle.model.specs.Calls.{Call, load, start, advance, cancel, read, Answer, more, finished, Phase}
+use Rattle.model.specs.Refusals.{refusal}
+use Rattle.model.specs.Model.{stageOf}
+use Rattle.model.specs.Model.{Record, Acted, acted, stepped, marksBy, freshRecord, proceeds, unless, act}
+use Rattle.model.specs.Model.{startWith, advanceWith, Does}
+use Rattle.model.proofs.Refinement.{Refines}
 use Rattle.session.specs.declared.state.Session.{Session}
 use Rattle.session.specs.Records.{recordOf, sessionOf, valid, freshSession}
 use Rattle.session.specs.Promises.{answerOn, recordOn}
@@ -63,7 +65,7 @@ module _ (r : Record) where
   on-start vs bs none = refl
   on-start vs bs (some rs) = refl
 
-  on-advance : (x : Lent) (o : Option Reached) → Settled r (advanceWith r x o)
+  on-advance : (x : Inputs) (o : Option Reached) → Settled r (advanceWith r x o)
   unfolding advanceWith unlessRefused
   on-advance x none = refl
   on-advance x (some y) =
@@ -81,7 +83,7 @@ module _ (r : Record) where
 
   settled : (c : Call) → Settled r (act r c)
   unfolding act unless unlessRefused
-  settled c = go (refusal (r .phase) (r .sizes) c)
+  settled c = go (refusal (stageOf r) c)
     where
       go : (n : ℕ) → Settled r (unless n r c)
       go zero = on-call c

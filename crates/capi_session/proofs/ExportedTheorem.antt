@@ -4,11 +4,11 @@
 --     exported-questions   a question on sound tables left alone: parts, advances, what Reads tell, ceilings (CleanlyTold, crate book)
 -- Assumes nothing.
 use lib.ListN.{replicate}
-use Rattle.book.specs.Demand3.{Demand3}
-use Rattle.book.specs.Model.{freshRecord, Does}
-use Rattle.book.proofs.Demand3Theorem.{demand-3, demand-3-of}
-use Rattle.book.proofs.LayersHold.{layers}
-use Rattle.book.proofs.QuestionTheorem.{QuestionsTold, question-told, questions-of}
+use Rattle.reference.specs.Demand3.{Demand3}
+use Rattle.model.specs.Model.{freshRecord, Does}
+use Rattle.reference.proofs.Demand3Theorem.{demand-3, demand-3-of}
+use Rattle.model.proofs.LayersHold.{layers}
+use Rattle.reference.proofs.QuestionTheorem.{QuestionsAnswered, question-answered, questions-of}
 use Rattle.capi_session.specs.DecodedAnswers.{Exports}
 use Rattle.capi_session.proofs.ExportedRefines.{Held, exported-refines, fresh-held}
 
@@ -16,5 +16,5 @@ pub exported-demand-3 : Demand3 (replicate 967 0) Exports
 exported-demand-3 = demand-3-of Exports Does Held exported-refines (replicate 967 0) freshRecord fresh-held (demand-3 layers)
 
 -- a question on sound tables left alone
-pub exported-questions : QuestionsTold (replicate 967 0) Exports
-exported-questions = questions-of Exports Does Held exported-refines (replicate 967 0) freshRecord fresh-held (question-told layers)
+pub exported-questions : QuestionsAnswered (replicate 967 0) Exports
+exported-questions = questions-of Exports Does Held exported-refines (replicate 967 0) freshRecord fresh-held (question-answered layers)

@@ -12,8 +12,9 @@ use borrow.Author.Tests.{eq-eqb, eqb-true, not-true, not-false}
 use Rattle.formats.specs.Built.{builtLinks, builtStates}
 use Rattle.formats.proofs.CheckLaws.{true-false, and-left, and-right}
 use Rattle.tables.specs.Answers.{written}
-use Rattle.book.specs.Lends.{Lent}
-use Rattle.book.specs.Calls.{Call, load, read, Answer, refused, accepted, parts, more, finished, told}
+use Rattle.formats.specs.Inputs.{Inputs}
+use Rattle.model.specs.Calls.{Call, load, read, Answer, refused, accepted, parts, more, finished}
+use Rattle.model.specs.Calls.{readAnswer}
 use Rattle.session.specs.declared.answers.Done.{Done}
 use Rattle.session.specs.declared.answers.Started.{Started}
 use Rattle.session.specs.declared.answers.Advanced.{Advanced}
@@ -23,8 +24,8 @@ use Rattle.session.specs.declared.answers.Advancing.the-variants.{More, Finishe
 use Rattle.session.specs.declared.answers.Reading.{Reading}
 use Rattle.session.specs.declared.answers.Reading.the-variants.{Told, Refused as NotRead}
 use Rattle.session.specs.declared.state.Session.{Session}
-use Rattle.book.specs.Model.{act}
-use Rattle.book.specs.Kept.{Kept}
+use Rattle.model.specs.Model.{act}
+use Rattle.model.specs.LeftOpen.{LeftOpen}
 use Rattle.session.specs.Records.{recordOf, valid}
 use Rattle.session.specs.Promises.{doingAnswer, startingAnswer, advancingAnswer, readingAnswer, answerOn, recordOn, refusalOn, CallDone, LoadDone}
 use Rattle.records.specs.Layout.{recordLength, encoded, decoded, laidOut, validBytes}
@@ -143,7 +144,7 @@ module _ (b : List ℕ) (c : Call) where
       record {
         number = S .number ∙ sym (ap answerNumber e);
         left = S .left ∙ ap₂ (λ (x : Answer) (y : Session). unlessRefused x (encoded y) b) (sym e) (D .leaves);
-        kept = λ v. subst (λ (x : Answer). Kept (recordOf (decoded b)) c x (act (recordOf (decoded b)) c .record′)) (sym e)
+        kept = λ v. subst (λ (x : Answer). LeftOpen (recordOf (decoded b)) c x (act (recordOf (decoded b)) c .record′)) (sym e)
             (D .kept (and-right (laidOut b) (valid (decoded b)) v));
       }
 
@@ -171,22 +172,22 @@ module _ (b : List ℕ) (r : Bool) (e : r ≡ laidOut b) where
 -- ---- Load, Start, advance and Read
 
 module _ (b : List ℕ) where
-  pub load-not : (x : Lent) → laidOut b ≡ false → LoadExported b x 1 b (x .nums) (x .bytes)
+  pub load-not : (x : Inputs) → laidOut b ≡ false → LoadExported b x 1 b (x .nodeTable) (x .stateTable)
   unfolding loadNumber written
   load-not x h = record {
     call = not-laid b (load x) h;
-    links-written = sym (ap (λ (t : Bool). written (cond t (refusalOn (decoded b) (load x)) 1) (builtLinks (x .plan)) (x .nums)) h);
-    states-written = sym (ap (λ (t : Bool). written (cond t (refusalOn (decoded b) (load x)) 1) (builtStates (x .plan) (x .rules)) (x .bytes)) h);
+    links-written = sym (ap (λ (t : Bool). written (cond t (refusalOn (decoded b) (load x)) 1) (builtLinks (x .plan)) (x .nodeTable)) h);
+    states-written = sym (ap (λ (t : Bool). written (cond t (refusalOn (decoded b) (load x)) 1) (builtStates (x .plan) (x .rules)) (x .stateTable)) h);
   }
 
-  pub load-laid : (x : Lent) → laidOut b ≡ true → (o : Done) (r : ℕ) (b′ nums′ bytes′ : List ℕ)
+  pub load-laid : (x : Inputs) → laidOut b ≡ true → (o : Done) (r : ℕ) (b′ nums′ bytes′ : List ℕ)
       → LoadDone (decoded b) x (doingAnswer (o .told)) (o .rec) nums′ bytes′ → DoneStored o b r b′ → LoadExported b x r b′ nums′ bytes′
   unfolding loadNumber
   load-laid x h o r b′ nums′ bytes′ D S = record {
     call = laid b (load x) h (doingAnswer (o .told)) (o .rec) r b′ (D .call) S;
-    links-written = D .links-written ∙ sym (ap (λ (t : Bool). written (cond t (refusalOn (decoded b) (load x)) 1) (builtLinks (x .plan)) (x .nums)) h);
+    links-written = D .links-written ∙ sym (ap (λ (t : Bool). written (cond t (refusalOn (decoded b) (load x)) 1) (builtLinks (x .plan)) (x .nodeTable)) h);
     states-written = D .states-written
-        ∙ sym (ap (λ (t : Bool). written (cond t (refusalOn (decoded b) (load x)) 1) (builtStates (x .plan) (x .rules)) (x .bytes)) h);
+        ∙ sym (ap (λ (t : Bool). written (cond t (refusalOn (decoded b) (load x)) 1) (builtStates (x .plan) (x .rules)) (x .stateTable)) h);
   }
 
   module _ (c : Call) where
@@ -229,7 +230,7 @@ module _ (b : List ℕ) where
 pub of-decoded : (b : List ℕ) (s : Session) (c : Call) (a : Answer) (s′ : Session) → s ≡ decoded b → CallDone s c a s′ → CallDone (decoded b) c a s′
 of-decoded b s c a s′ e D = subst (λ (z : Session). CallDone z c a s′) e D
 
-pub load-decoded : (b : List ℕ) (s : Session) (x : Lent) (a : Answer) (s′ : Session) (n y : List ℕ) → s ≡ decoded b → LoadDone s x a s′ n y
+pub load-decoded : (b : List ℕ) (s : Session) (x : Inputs) (a : Answer) (s′ : Session) (n y : List ℕ) → s ≡ decoded b → LoadDone s x a s′ n y
     → LoadDone (decoded b) x a s′ n y
 load-decoded b s x a s′ n y e D = subst (λ (z : Session). LoadDone z x a s′ n y) e D
 

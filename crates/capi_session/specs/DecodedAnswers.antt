@@ -9,8 +9,9 @@ use Prim.Native.Nat.{ℕ, zero, suc}
 use mathlib.Core.Bool.{cond}
 use mathlib.Core.List.{List}
 use lib.Dec.{eqb}
-use Rattle.book.specs.Lends.{Lent}
-use Rattle.book.specs.Calls.{Call, load, start, advance, cancel, read, Answer, refused, accepted, parts, more, finished, told}
+use Rattle.formats.specs.Inputs.{Inputs}
+use Rattle.model.specs.Calls.{Call, load, start, advance, cancel, read, Answer, refused, accepted, parts}
+use Rattle.model.specs.Calls.{more, finished, readAnswer}
 use Rattle.capi_session.specs.SessionExported.{CallExported, LoadExported, StartExported, AdvanceExported, ReadExported, Places}
 
 unfoldable pub decodedDone : ℕ → Answer
@@ -26,15 +27,15 @@ decodedAdvance zero f = cond (eqb f 0) more finished
 decodedAdvance (suc n) f = refused (suc n)
 
 unfoldable pub decodedRead : ℕ → Places → Answer
-decodedRead zero q = told (q .state) (eqb (q .yes) 1) (q .parts) (q .links)
+decodedRead zero q = readAnswer (q .state) (eqb (q .yes) 1) (q .parts) (q .links)
 decodedRead (suc n) q = refused (suc n)
 
 pub data Exports : List ℕ → Call → Answer → List ℕ → Type 0 where
-  loads : {b b′ : List ℕ} {x : Lent} (r : ℕ) (nums bytes : List ℕ) → LoadExported b x r b′ nums bytes
+  loads : {b b′ : List ℕ} {x : Inputs} (r : ℕ) (nums bytes : List ℕ) → LoadExported b x r b′ nums bytes
       → Exports b (load x) (decodedDone r) b′
-  starts : {b b′ : List ℕ} {x : Lent} {vs bs : List ℕ} (r p₀ p₁ : ℕ) → StartExported b (start x vs bs) r b′ p₀ p₁
+  starts : {b b′ : List ℕ} {x : Inputs} {vs bs : List ℕ} (r p₀ p₁ : ℕ) → StartExported b (start x vs bs) r b′ p₀ p₁
       → Exports b (start x vs bs) (decodedStart r p₁) b′
-  advances : {b b′ : List ℕ} {x : Lent} (r f₀ f₁ : ℕ) → AdvanceExported b (advance x) r b′ f₀ f₁
+  advances : {b b′ : List ℕ} {x : Inputs} (r f₀ f₁ : ℕ) → AdvanceExported b (advance x) r b′ f₀ f₁
       → Exports b (advance x) (decodedAdvance r f₁) b′
   cancels : {b b′ : List ℕ} (r : ℕ) → CallExported b cancel r b′ → Exports b cancel (decodedDone r) b′
   reads : {b : List ℕ} (r : ℕ) (before after : Places) → ReadExported b r before after → Exports b read (decodedRead r after) b

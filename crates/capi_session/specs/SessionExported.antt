@@ -13,10 +13,11 @@ use mathlib.Core.Bool.{Bool, true, cond}
 use mathlib.Core.List.{List}
 use Rattle.formats.specs.Built.{builtLinks, builtStates}
 use Rattle.tables.specs.Answers.{written}
-use Rattle.book.specs.Lends.{Lent}
-use Rattle.book.specs.Calls.{Call, load, start, advance, cancel, read, Answer, refused, accepted, parts, more, finished, told}
-use Rattle.book.specs.Model.{act}
-use Rattle.book.specs.Kept.{Kept}
+use Rattle.formats.specs.Inputs.{Inputs}
+use Rattle.model.specs.Calls.{Call, load, start, advance, cancel, read, Answer, refused, accepted, parts}
+use Rattle.model.specs.Calls.{more, finished, readAnswer}
+use Rattle.model.specs.Model.{act}
+use Rattle.model.specs.LeftOpen.{LeftOpen}
 use Rattle.session.specs.Records.{recordOf}
 use Rattle.session.specs.Promises.{answerOn, recordOn, refusalOn}
 use Rattle.records.specs.Layout.{encoded, decoded, laidOut, validBytes}
@@ -32,7 +33,7 @@ answerNumber accepted = 0
 answerNumber (parts p) = 0
 answerNumber more = 0
 answerNumber finished = 0
-answerNumber (told q y p l) = 0
+answerNumber (readAnswer q y p l) = 0
 
 -- "nothing else is returned and nothing is altered"
 unfoldable pub unlessRefused : Answer → List ℕ → List ℕ → List ℕ
@@ -41,7 +42,7 @@ unlessRefused accepted new old = new
 unlessRefused (parts p) new old = new
 unlessRefused more new old = new
 unlessRefused finished new old = new
-unlessRefused (told q y p l) new old = new
+unlessRefused (readAnswer q y p l) new old = new
 
 unfoldable pub recordFor : List ℕ → Call → List ℕ
 recordFor b c = unlessRefused (answerFor b c) (encoded (recordOn (decoded b) c)) b
@@ -50,16 +51,16 @@ pub record CallExported (b : List ℕ) (c : Call) (r : ℕ) (b′ : List ℕ) : 
   pub number : r ≡ answerNumber (answerFor b c)
   pub left : b′ ≡ recordFor b c
   -- what is left to the program has these properties
-  pub kept : validBytes b ≡ true → Kept (recordOf (decoded b)) c (answerFor b c) (act (recordOf (decoded b)) c .record′)
+  pub kept : validBytes b ≡ true → LeftOpen (recordOf (decoded b)) c (answerFor b c) (act (recordOf (decoded b)) c .record′)
 
 -- the refusal's number, 18 apart, of a Load on record bytes
-unfoldable pub loadNumber : List ℕ → Lent → ℕ
+unfoldable pub loadNumber : List ℕ → Inputs → ℕ
 loadNumber b x = cond (laidOut b) (refusalOn (decoded b) (load x)) 1
 
-pub record LoadExported (b : List ℕ) (x : Lent) (r : ℕ) (b′ nums′ bytes′ : List ℕ) : Type 0 where
+pub record LoadExported (b : List ℕ) (x : Inputs) (r : ℕ) (b′ nums′ bytes′ : List ℕ) : Type 0 where
   pub call : CallExported b (load x) r b′
-  pub links-written : nums′ ≡ written (loadNumber b x) (builtLinks (x .plan)) (x .nums)
-  pub states-written : bytes′ ≡ written (loadNumber b x) (builtStates (x .plan) (x .rules)) (x .bytes)
+  pub links-written : nums′ ≡ written (loadNumber b x) (builtLinks (x .plan)) (x .nodeTable)
+  pub states-written : bytes′ ≡ written (loadNumber b x) (builtStates (x .plan) (x .rules)) (x .stateTable)
 
 unfoldable pub partsOf : Answer → ℕ → ℕ
 partsOf (parts p) old = p
@@ -67,7 +68,7 @@ partsOf (refused n) old = old
 partsOf accepted old = old
 partsOf more old = old
 partsOf finished old = old
-partsOf (told q y p l) old = old
+partsOf (readAnswer q y p l) old = old
 
 pub record StartExported (b : List ℕ) (c : Call) (r : ℕ) (b′ : List ℕ) (parts₀ parts₁ : ℕ) : Type 0 where
   pub call : CallExported b c r b′
@@ -79,7 +80,7 @@ finishedOf finished old = 1
 finishedOf (refused n) old = old
 finishedOf accepted old = old
 finishedOf (parts p) old = old
-finishedOf (told q y p l) old = old
+finishedOf (readAnswer q y p l) old = old
 
 pub record AdvanceExported (b : List ℕ) (c : Call) (r : ℕ) (b′ : List ℕ) (finished₀ finished₁ : ℕ) : Type 0 where
   pub call : CallExported b c r b′
@@ -93,7 +94,7 @@ pub record Places : Type 0 where
   pub links : ℕ
 
 unfoldable pub toldPlaces : Answer → Places → Places
-toldPlaces (told q y p l) old = record { state = q; yes = bitOf y; parts = p; links = l }
+toldPlaces (readAnswer q y p l) old = record { state = q; yes = bitOf y; parts = p; links = l }
 toldPlaces (refused n) old = old
 toldPlaces accepted old = old
 toldPlaces (parts p) old = old

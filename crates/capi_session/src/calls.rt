@@ -12,9 +12,9 @@ use session::answers::Started;
 use session::answers::Starting;
 ghost use mathlib.Core.Path.{_≡_};
 ghost use lib.ListN.{length};
-ghost use Rattle.book.specs.Calls as calls;
+ghost use Rattle.model.specs.Calls as calls;
 ghost use Rattle.records.specs.Layout.{recordLength};
-ghost use Rattle.session.specs.Tests.{lentOf};
+ghost use Rattle.formats.specs.Inputs.{inputsOf};
 ghost use Rattle.capi_session.specs.SessionExported.{CallExported, LoadExported, StartExported, AdvanceExported, ReadExported};
 ghost use Rattle.capi_session.specs.Stored.{DoneStored, StartStored, AdvanceStored, ReadStored, places};
 
@@ -47,7 +47,7 @@ pub extern "C" fn whatif_load(
 ) -> u32
     ensures { λ r. ⌜
         LoadExported (now (rec .entry))
-        (lentOf (now (plan .entry)) (now (rules .entry)) (now («node_table» .entry)) (now («state_table» .entry)))
+        (inputsOf (now (plan .entry)) (now (rules .entry)) (now («node_table» .entry)) (now («state_table» .entry)))
         r (now (rec .exit)) (now («node_table» .exit)) (now («state_table» .exit)) ⌝ }
 {
     if !laid_out(rec) {
@@ -104,7 +104,7 @@ pub extern "C" fn whatif_start(
 ) -> u32
     ensures { λ r. ⌜
         StartExported (now (rec .entry))
-        (calls.start (lentOf (now (plan .entry)) (now (rules .entry)) (now («node_table» .entry)) (now («state_table» .entry)))
+        (calls.start (inputsOf (now (plan .entry)) (now (rules .entry)) (now («node_table» .entry)) (now («state_table» .entry)))
         (now (nodes .entry)) (now (labels .entry)))
         r (now (rec .exit)) (now (parts .entry)) (now (parts .exit)) ⌝ }
 {
@@ -153,7 +153,7 @@ pub extern "C" fn whatif_advance(
 ) -> u32
     ensures { λ r. ⌜
         AdvanceExported (now (rec .entry))
-        (calls.advance (lentOf (now (plan .entry)) (now (rules .entry)) (now («node_table» .entry)) (now («state_table» .entry))))
+        (calls.advance (inputsOf (now (plan .entry)) (now (rules .entry)) (now («node_table» .entry)) (now («state_table» .entry))))
         r (now (rec .exit)) (now (finished .entry)) (now (finished .exit)) ⌝ }
 {
     if !laid_out(rec) {

@@ -5,3 +5,4 @@ pub mod Rules
 pub mod Checks
 pub mod Built
 pub mod Leaves
+pub mod Inputs

@@ -5,13 +5,14 @@
 -- Assumes nothing.
 use mathlib.Core.Path.{_≡_, refl, subst}
 use mathlib.Core.List.{List}
-use Rattle.book.specs.Calls.{Call, Answer}
-use Rattle.book.specs.Demand3.{History, Demand3}
-use Rattle.book.proofs.Demand3Theorem.{Refines, refines}
+use Rattle.model.specs.Calls.{Call, Answer}
+use Rattle.model.specs.History.{History}
+use Rattle.reference.specs.Demand3.{Demand3}
+use Rattle.model.proofs.Refinement.{Refines, refines}
 use Rattle.session.specs.declared.state.Session.{Session}
 use Rattle.session.specs.Records.{freshSession}
 use Rattle.session.specs.CallSteps as by-value
-use Rattle.book.proofs.QuestionTheorem.{QuestionsTold, questions-of}
+use Rattle.reference.proofs.QuestionTheorem.{QuestionsAnswered, questions-of}
 use Rattle.session.proofs.SessionTheorem.{session-demand-3, session-questions}
 use Rattle.panel.specs.CallsInPlace.{StepInPlace, loads, starts, advances, cancels, reads}
 
@@ -33,6 +34,6 @@ in-place-history cs xs h = refines StepInPlace by-value.Step (_≡_ {A = Session
 pub in-place-demand-3 : Demand3 freshSession StepInPlace
 in-place-demand-3 cs xs h = session-demand-3 cs xs (in-place-history cs xs h)
 
-pub in-place-questions : QuestionsTold freshSession StepInPlace
+pub in-place-questions : QuestionsAnswered freshSession StepInPlace
 in-place-questions =
     questions-of StepInPlace by-value.Step (_≡_ {A = Session}) same-record freshSession freshSession refl session-questions

@@ -7,15 +7,15 @@ use session::answers::Reading;
 use session::answers::Starting;
 use session::state::Session;
 ghost use mathlib.Core.Path.{_≡_};
-ghost use Rattle.book.specs.Calls as calls;
+ghost use Rattle.model.specs.Calls as calls;
 ghost use Rattle.session.specs.Promises.{CallDone, LoadDone, doingAnswer, startingAnswer, advancingAnswer, readingAnswer, answerOn};
-ghost use Rattle.session.specs.Tests.{lentOf};
+ghost use Rattle.formats.specs.Inputs.{inputsOf};
 
 // Builds the tables of a plan and rules into the lent buffers.
 pub fn load(s: &mut Session, plan: &[u8], rules: &[u8], nums: &mut [u16], bytes: &mut [u8]) -> Doing
     ensures { λ r. ⌜
         LoadDone (now (s .entry))
-        (lentOf (now (plan .entry)) (now (rules .entry)) (now (nums .entry)) (now (bytes .entry)))
+        (inputsOf (now (plan .entry)) (now (rules .entry)) (now (nums .entry)) (now (bytes .entry)))
         (doingAnswer r) (now (s .exit)) (now (nums .exit)) (now (bytes .exit)) ⌝ }
 {
     let old = *s;
@@ -36,7 +36,7 @@ pub fn start(
 ) -> Starting
     ensures { λ r. ⌜
         CallDone (now (s .entry))
-        (calls.start (lentOf (now (plan .entry)) (now (rules .entry)) (now (nums .entry)) (now (bytes .entry)))
+        (calls.start (inputsOf (now (plan .entry)) (now (rules .entry)) (now (nums .entry)) (now (bytes .entry)))
         (now (nodes .entry)) (now (labels .entry)))
         (startingAnswer r) (now (s .exit)) ⌝ }
 {
@@ -50,7 +50,7 @@ pub fn start(
 pub fn advance(s: &mut Session, plan: &[u8], rules: &[u8], nums: &[u16], bytes: &[u8]) -> Advancing
     ensures { λ r. ⌜
         CallDone (now (s .entry))
-        (calls.advance (lentOf (now (plan .entry)) (now (rules .entry)) (now (nums .entry)) (now (bytes .entry))))
+        (calls.advance (inputsOf (now (plan .entry)) (now (rules .entry)) (now (nums .entry)) (now (bytes .entry))))
         (advancingAnswer r) (now (s .exit)) ⌝ }
 {
     let old = *s;

@@ -8,8 +8,8 @@ use native.Mathlib.Omega.{arith}
 use Rattle.questions.specs.declared.answer.Climbed.{Climbed}
 use Rattle.questions.specs.declared.answer.Climbed.the-variants.{Reached, Outside}
 use Rattle.questions.specs.declared.roots.Rooted.{Rooted}
-use Rattle.book.specs.Lends.{Lent}
-use Rattle.book.specs.Calls.{start, advance, read}
+use Rattle.formats.specs.Inputs.{Inputs}
+use Rattle.model.specs.Calls.{start, advance, read}
 use Rattle.session.specs.declared.answers.Started.{Started}
 use Rattle.session.specs.declared.answers.Starting.{Starting}
 use Rattle.session.specs.declared.answers.Starting.the-variants.{Parts, Refused as NotStarted}
@@ -49,7 +49,7 @@ pub read-none : (a : Reading) (n : ℕ) → a ≡ NotRead n → nothingTold ≡ 
 unfolding readTold readingAnswer
 read-none a n e = sym (ap (λ (x : Reading). readTold (readingAnswer x)) e)
 
-module _ (x : Lent) (u end : Session) (left : ℕ) (o : advanced left x u ≡ end) where
+module _ (x : Inputs) (u end : Session) (left : ℕ) (o : advanced left x u ≡ end) where
   pub once-more : (r : Session) → 0 < left → r ≡ recordOn u (advance x) → advanced (left - 1) x r ≡ end
   unfolding advanced
   once-more r h e =
@@ -66,7 +66,7 @@ abbrev stepsOf : ℕ → ℕ → Steps
 stepsOf p l = record { parts = p; links = l }
 
 -- Start on a session, and advances after it
-module _ (x : Lent) (vs bs : List ℕ) (s before : Session) (o : Started) (is : before ≡ s)
+module _ (x : Inputs) (vs bs : List ℕ) (s before : Session) (o : Started) (is : before ≡ s)
     (D : CallDone before (start x vs bs) (startingAnswer (o .told)) (o .rec)) where
   started : CallDone s (start x vs bs) (startingAnswer (o .told)) (o .rec)
   started = subst (λ (z : Session). CallDone z (start x vs bs) (startingAnswer (o .told)) (o .rec)) is D

@@ -19,8 +19,8 @@ use mathlib.Core.List.{List}
 use Rattle.questions.specs.declared.answer.Climbed.{Climbed}
 use Rattle.questions.specs.declared.answer.Climbed.the-variants.{Reached, Outside}
 use Rattle.questions.specs.declared.roots.Rooted.{Rooted}
-use Rattle.book.specs.Lends.{Lent}
-use Rattle.book.specs.Calls.{start, advance, read, Answer, refused, accepted, parts, more, finished, told}
+use Rattle.formats.specs.Inputs.{Inputs}
+use Rattle.model.specs.Calls.{start, advance, read, Answer, parts, onParts, onOutcome}
 use Rattle.session.specs.declared.state.Session.{Session}
 use Rattle.session.specs.Promises.{answerOn, recordOn}
 use Rattle.session.specs.Records.{sessionOf}
@@ -42,37 +42,28 @@ partTold (Reached q l) = record { state = q; links = l }
 abbrev pub loadedWith : ℕ → ℕ → ℕ → Session
 loadedWith n s k = sessionOf (loadedBy n s k)
 
-unfoldable pub advanced : ℕ → Lent → Session → Session
+unfoldable pub advanced : ℕ → Inputs → Session → Session
 advanced zero x s = s
 advanced (suc i) x s = advanced i x (recordOn s (advance x))
 
 unfoldable pub partsTold : Answer → ℕ
-partsTold (parts p) = p
-partsTold (refused n) = 0
-partsTold accepted = 0
-partsTold more = 0
-partsTold finished = 0
-partsTold (told q y p l) = 0
+partsTold a = onParts (λ p. p) 0 a
 
-unfoldable pub after : Lent → List ℕ → List ℕ → ℕ → Session → Session
+unfoldable pub after : Inputs → List ℕ → List ℕ → ℕ → Session → Session
 after x vs bs i s = advanced i x (recordOn s (start x vs bs))
 
-unfoldable pub startParts : Lent → List ℕ → List ℕ → Session → ℕ
+unfoldable pub startParts : Inputs → List ℕ → List ℕ → Session → ℕ
 startParts x vs bs s = partsTold (answerOn s (start x vs bs))
 
-unfoldable pub stepsTold : Lent → List ℕ → List ℕ → ℕ → Session → Steps
+unfoldable pub stepsTold : Inputs → List ℕ → List ℕ → ℕ → Session → Steps
 stepsTold x vs bs i s = record { parts = startParts x vs bs s; links = after x vs bs i s .links }
 
 abbrev pub nothingTold : Question
 nothingTold = record { state = 16; yes = false; parts = 0; links = 0 }
 
 unfoldable pub readTold : Answer → Question
-readTold (told q y p l) = record { state = q; yes = y; parts = p; links = l }
-readTold (refused n) = nothingTold
-readTold accepted = nothingTold
-readTold (parts p) = nothingTold
-readTold more = nothingTold
-readTold finished = nothingTold
+readTold a =
+    onOutcome (λ o. record { state = o .state; yes = o .yes; parts = o .parts; links = o .links }) nothingTold a
 
-unfoldable pub questionTold : Lent → List ℕ → List ℕ → Session → Question
+unfoldable pub questionTold : Inputs → List ℕ → List ℕ → Session → Question
 questionTold x vs bs s = readTold (answerOn (after x vs bs (startParts x vs bs s) s) read)

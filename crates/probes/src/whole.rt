@@ -5,7 +5,7 @@ use session::state::Phase;
 use session::state::Session;
 ghost use mathlib.Core.Path.{_≡_};
 ghost use Rattle.session.specs.Promises.{startingAnswer, readingAnswer};
-ghost use Rattle.session.specs.Tests.{lentOf};
+ghost use Rattle.formats.specs.Inputs.{inputsOf};
 ghost use Rattle.probes.specs.Probed.{loadedWith, partsTold, advanced, stepsTold, readTold, questionTold};
 
 // A question's parts, and its links so far.
@@ -69,7 +69,7 @@ fn advance_by(
     bytes: &[u8],
 ) -> Session
     ensures { λ r. ⌜ r
-        ≡ advanced count (lentOf (now (plan .entry)) (now (rules .entry)) (now (nums .entry)) (now (bytes .entry))) s ⌝ }
+        ≡ advanced count (inputsOf (now (plan .entry)) (now (rules .entry)) (now (nums .entry)) (now (bytes .entry))) s ⌝ }
 {
     let mut u = s;
     let mut left = count;
@@ -96,7 +96,7 @@ pub extern "C" fn probe_steps(
     count: u32,
 ) -> Steps
     ensures { λ r. ⌜ r
-        ≡ stepsTold (lentOf (now (plan .entry)) (now (rules .entry)) (now (nums .entry)) (now (bytes .entry)))
+        ≡ stepsTold (inputsOf (now (plan .entry)) (now (rules .entry)) (now (nums .entry)) (now (bytes .entry)))
         (now (nodes .entry)) (now (labels .entry)) count (loadedWith n s k) ⌝ }
 {
     let before = loaded(n, s, k);
@@ -149,7 +149,7 @@ pub extern "C" fn probe_question(
     labels: &[u8],
 ) -> Question
     ensures { λ r. ⌜ r
-        ≡ questionTold (lentOf (now (plan .entry)) (now (rules .entry)) (now (nums .entry)) (now (bytes .entry)))
+        ≡ questionTold (inputsOf (now (plan .entry)) (now (rules .entry)) (now (nums .entry)) (now (bytes .entry)))
         (now (nodes .entry)) (now (labels .entry)) (loadedWith n s k) ⌝ }
 {
     let before = loaded(n, s, k);

@@ -12,8 +12,8 @@ use lib.ListN.{length, getD, replicate}
 use Rattle.formats.specs.Bytes.{allBelow}
 use Rattle.formats.proofs.CheckLaws.{and-left, and-right, and-both}
 use Rattle.formats.proofs.ListLaws.{allBelow-all, allBelow-le, at-allBelow}
-use Rattle.book.specs.Calls as calls
-use Rattle.book.specs.Model.{Record, idle, freshRecord, loadedRecord}
+use Rattle.model.specs.Calls as calls
+use Rattle.model.specs.Model.{Record, idle, freshRecord}
 use Rattle.session.specs.declared.state.Session.{Session}
 use Rattle.session.specs.Records.{sessionOf, recordOf, padded, valid}
 use Rattle.session.specs.Tests.{Shaped}

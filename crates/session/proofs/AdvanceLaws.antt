@@ -23,11 +23,11 @@ use Rattle.questions.specs.PartTold.{toldReached, limitsFit, lengthsFit, askedF
 use Rattle.questions.proofs.PartFits.{Lengths, lengths-are, given-yes}
 use Rattle.questions.proofs.ClimbBounds.{Bounded}
 use Rattle.questions.proofs.PartBounds.{part-bounded}
-use Rattle.book.specs.Lends.{Lent, fits}
-use Rattle.book.specs.Calls as calls
-use Rattle.book.specs.Calls.{Call, advance, isRunning}
-use Rattle.book.specs.Refusals.{refusal}
-use Rattle.book.specs.Model.{Acted, acted, viewBy, stepped, advanceWith, partNext, proceeds}
+use Rattle.formats.specs.Inputs.{Inputs, fits}
+use Rattle.model.specs.Calls as calls
+use Rattle.model.specs.Calls.{Call, advance, isRunning}
+use Rattle.model.specs.Refusals.{refusal, stage}
+use Rattle.model.specs.Model.{Acted, acted, viewBy, stepped, advanceWith, partNext, proceeds}
 use Rattle.session.specs.declared.state.Phase.{Phase}
 use Rattle.session.specs.declared.state.Phase.the-variants.{Running, Answered}
 use Rattle.session.specs.declared.state.Session.{Session}
@@ -73,7 +73,7 @@ module _ (s : Session) (h : Shaped s) (T : Tails s) where
         padded-take 254 (s .parts) (s .roots) (h .roots) (T .roots-end),
       )
 
-module _ (s : Session) (h : Shaped s) (x : Lent) (b : Bool) (may : b ≡ (valid s && isRunning (phaseOf (s .phase)))) where
+module _ (s : Session) (h : Shaped s) (x : Inputs) (b : Bool) (may : b ≡ (valid s && isRunning (phaseOf (s .phase)))) where
   abbrev C : Call
   C = advance x
 
@@ -148,12 +148,12 @@ module _ (s : Session) (h : Shaped s) (x : Lent) (b : Bool) (may : b ≡ (valid 
     unfolding recordOf
     last-same = rw (L .2, L .3, add-one (s .handled))
 
-    on : refusal (phaseOf (s .phase)) (sizesOf s) C ≡ firstNo (check 17 (fits (sizesOf s) x) ∷ [])
+    on : refusal (stage (phaseOf (s .phase)) (sizesOf s)) C ≡ firstNo (check 17 (fits (sizesOf s) x) ∷ [])
     unfolding refusal
     on = firstNo-yes 1 (isRunning (phaseOf (s .phase))) (check 17 (fits (sizesOf s) x) ∷ []) r
 
     module _ (f : Bool)
-        (fit : f ≡ lengthsFit (s .n) (s .s) (s .k) (length (x .plan)) (length (x .rules)) (length (x .nums)) (length (x .bytes))) where
+        (fit : f ≡ lengthsFit (s .n) (s .s) (s .k) (length (x .plan)) (length (x .rules)) (length (x .nodeTable)) (length (x .stateTable))) where
       fits-is : fits (sizesOf s) x ≡ f
       unfolding fits lengthsFit
       fits-is = sym fit
@@ -163,13 +163,13 @@ module _ (s : Session) (h : Shaped s) (x : Lent) (b : Bool) (may : b ≡ (valid 
       advance-17 g = refused-done s C h v 16 (on ∙ firstNo-no 17 (fits (sizesOf s) x) [] (fits-is ∙ not-true f g))
 
       module _ (yes : not f ≡ false) where
-        no-refusal : refusal (phaseOf (s .phase)) (sizesOf s) C ≡ 0
+        no-refusal : refusal (stage (phaseOf (s .phase)) (sizesOf s)) C ≡ 0
         unfolding firstNo
         no-refusal = on ∙ firstNo-yes 17 (fits (sizesOf s) x) [] (fits-is ∙ not-false f yes)
 
-        long : Lengths (s .n) (s .s) (s .k) (length (x .plan)) (length (x .rules)) (length (x .nums)) (length (x .bytes))
+        long : Lengths (s .n) (s .s) (s .k) (length (x .plan)) (length (x .rules)) (length (x .nodeTable)) (length (x .stateTable))
         long =
-            lengths-are (s .n) (s .s) (s .k) (length (x .plan)) (length (x .rules)) (length (x .nums)) (length (x .bytes))
+            lengths-are (s .n) (s .s) (s .k) (length (x .plan)) (length (x .rules)) (length (x .nodeTable)) (length (x .stateTable))
             (sym fit ∙ not-false f yes)
 
         limits-yes : limitsFit (s .n) (s .s) (s .k) ≡ true
@@ -192,11 +192,11 @@ module _ (s : Session) (h : Shaped s) (x : Lent) (b : Bool) (may : b ≡ (valid 
             (and-both _ _ (eq-eqb (length (take (s .m) (s .nodes))) (length (take (s .m) (s .labels))) (sym (A .same)))
             (le-leb (length (take (s .m) (s .nodes))) 65535 (omega (arith, A .few))))))
 
-        given : partGiven (s .n) (s .s) (s .k) (x .plan) (x .rules) (x .nums) (x .bytes) (take (s .parts) (s .roots))
+        given : partGiven (s .n) (s .s) (s .k) (x .plan) (x .rules) (x .nodeTable) (x .stateTable) (take (s .parts) (s .roots))
             (take (s .handled) (s .states)) (take (s .m) (s .nodes)) (take (s .m) (s .labels)) ≡ partNext (recordOf s) x
         unfolding recordOf
         given =
-            given-yes (s .n) (s .s) (s .k) (x .plan) (x .rules) (x .nums) (x .bytes) (take (s .parts) (s .roots))
+            given-yes (s .n) (s .s) (s .k) (x .plan) (x .rules) (x .nodeTable) (x .stateTable) (take (s .parts) (s .roots))
             (take (s .handled) (s .states)) (take (s .m) (s .nodes)) (take (s .m) (s .labels)) limits-yes
             (sym fit ∙ not-false f yes) asked-yes
 
@@ -210,7 +210,7 @@ module _ (s : Session) (h : Shaped s) (x : Lent) (b : Bool) (may : b ≡ (valid 
             (j ∙ ap (λ (z : Option Reached). sessionOf (advanceWith (recordOf s) x z .record′)) (sym e))
 
         module _ (K : Climbed)
-            (found : K ≡ toldReached (partGiven (s .n) (s .s) (s .k) (x .plan) (x .rules) (x .nums) (x .bytes)
+            (found : K ≡ toldReached (partGiven (s .n) (s .s) (s .k) (x .plan) (x .rules) (x .nodeTable) (x .stateTable)
             (take (s .parts) (s .roots)) (take (s .handled) (s .states)) (take (s .m) (s .nodes))
             (take (s .m) (s .labels)))) where
           pub advance-18 : K ≡ Outside → CallDone s C (advancingAnswer (NotAdvanced 18)) s

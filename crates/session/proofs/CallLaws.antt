@@ -12,13 +12,13 @@ use native.Mathlib.Omega.{arith}
 use lib.ListN.{length, getD}
 use Rattle.formats.specs.Checks.{Check, check, firstNo, listChecks}
 use Rattle.formats.proofs.CheckLaws.{true-false, firstNo-no, firstNo-head}
-use Rattle.book.specs.Lends.{Lent, fits}
-use Rattle.book.specs.Calls as calls
-use Rattle.book.specs.Calls.{Call, load, start, advance, cancel, read, Answer, refused, mayStart, isRunning}
-use Rattle.book.specs.Refusals.{refusal}
-use Rattle.book.specs.Model.{Acted, proceeds, unless, act}
-use Rattle.book.specs.Kept.{Kept}
-use Rattle.book.proofs.KeptLaws.{refused-keeps, start-kept, advance-kept}
+use Rattle.formats.specs.Inputs.{Inputs, fits}
+use Rattle.model.specs.Calls as calls
+use Rattle.model.specs.Calls.{Call, load, start, advance, cancel, read, Answer, refused, mayStart, isRunning}
+use Rattle.model.specs.Refusals.{refusal, stage}
+use Rattle.model.specs.Model.{stageOf, Acted, proceeds, unless, act}
+use Rattle.model.specs.LeftOpen.{LeftOpen}
+use Rattle.model.proofs.LeftOpenLaws.{refused-unchanged, start-properties, advance-properties}
 use Rattle.formats.proofs.TurnLaws.{and-yes}
 use Rattle.session.specs.declared.state.Phase.{Phase}
 use Rattle.session.specs.declared.state.Head.{Head}
@@ -37,8 +37,8 @@ may-by f s h e b g =
     g ∙ ap (λ (x : Head). valid (whole x (s .nodes) (s .labels) (s .roots) (s .states)) && f (phaseOf (x .phase))) e
 
 -- a Start that no check refuses finds a plan loaded
-start-loaded : (s : Session) → Shaped s → valid s ≡ true → (x : Lent) (vs bs : List ℕ)
-    → refusal (recordOf s .phase) (recordOf s .sizes) (start x vs bs) ≡ 0 → 0 < recordOf s .sizes .n
+start-loaded : (s : Session) → Shaped s → valid s ≡ true → (x : Inputs) (vs bs : List ℕ)
+    → refusal (stageOf (recordOf s)) (start x vs bs) ≡ 0 → 0 < recordOf s .sizes .n
 unfolding refusal recordOf
 start-loaded s h v x vs bs e =
     let m = firstNo-head 1 (mayStart (phaseOf (s .phase))) (check 17 (fits (sizesOf s) x) ∷ listChecks (s .n) (s .k) vs bs)
@@ -46,8 +46,8 @@ start-loaded s h v x vs bs e =
     start-sized (phaseOf (s .phase)) (recordOf s) m (holds-of s h v) .nodes-least
 
 -- an advance that no check refuses finds a root that is a node
-next-inside : (s : Session) → Shaped s → valid s ≡ true → (x : Lent)
-    → refusal (recordOf s .phase) (recordOf s .sizes) (advance x) ≡ 0
+next-inside : (s : Session) → Shaped s → valid s ≡ true → (x : Inputs)
+    → refusal (stageOf (recordOf s)) (advance x) ≡ 0
     → getD (recordOf s .roots) (length (recordOf s .states)) 0 < recordOf s .sizes .n
 unfolding refusal recordOf
 next-inside s h v x e =
@@ -57,18 +57,18 @@ next-inside s h v x e =
     omega (arith, below, G .sizes .nodes-least)
 
 -- the properties of what is left to the program
-kept-of : (s : Session) → Shaped s → valid s ≡ true → (c : Call)
-    → Kept (recordOf s) c (act (recordOf s) c .answer) (act (recordOf s) c .record′)
-kept-of s h v (load x) = tt
-kept-of s h v (start x vs bs) = start-kept (recordOf s) x vs bs (start-loaded s h v x vs bs)
-kept-of s h v (advance x) = advance-kept (recordOf s) x (next-inside s h v x)
-kept-of s h v cancel = tt
-kept-of s h v read = tt
+properties-of : (s : Session) → Shaped s → valid s ≡ true → (c : Call)
+    → LeftOpen (recordOf s) c (act (recordOf s) c .answer) (act (recordOf s) c .record′)
+properties-of s h v (load x) = tt
+properties-of s h v (start x vs bs) = start-properties (recordOf s) x vs bs (start-loaded s h v x vs bs)
+properties-of s h v (advance x) = advance-properties (recordOf s) x (next-inside s h v x)
+properties-of s h v cancel = tt
+properties-of s h v read = tt
 
 module _ (s : Session) (c : Call) where
   pub invalid-done : valid s ≡ false → CallDone s c (refused 1) s
   unfolding answerOn recordOn
-  invalid-done e = record { tells = rw e; leaves = rw e; keeps = λ n f. refl; kept = λ v. absurd (true-false (sym v ∙ e)) }
+  invalid-done e = record { tells = rw e; leaves = rw e; unchanged = λ n f. refl; properties = λ v. absurd (true-false (sym v ∙ e)) }
 
   module _ (h : Shaped s) (v : valid s ≡ true) where
     -- a valid struct: answer and record are the model's
@@ -78,25 +78,25 @@ module _ (s : Session) (c : Call) where
     model-done a t f g = record {
       tells = rw v f;
       leaves = rw v g;
-      keeps = λ n e. g ∙ ap sessionOf (refused-keeps (recordOf s) c n (sym f ∙ e)) ∙ struct-is s h v;
-      kept = λ w. subst (λ (b : Answer). Kept (recordOf s) c b (act (recordOf s) c .record′)) (sym f) (kept-of s h v c);
+      unchanged = λ n e. g ∙ ap sessionOf (refused-unchanged (recordOf s) c n (sym f ∙ e)) ∙ struct-is s h v;
+      properties = λ w. subst (λ (b : Answer). LeftOpen (recordOf s) c b (act (recordOf s) c .record′)) (sym f) (properties-of s h v c);
     }
 
-    act-refused : (n : ℕ) → refusal (phaseOf (s .phase)) (sizesOf s) c ≡ suc n
+    act-refused : (n : ℕ) → refusal (stage (phaseOf (s .phase)) (sizesOf s)) c ≡ suc n
         → (refused (suc n) ≡ act (recordOf s) c .answer) × (recordOf s ≡ act (recordOf s) c .record′)
     unfolding act unless recordOf
     act-refused n e = (rw e, rw e)
 
-    pub refused-done : (n : ℕ) → refusal (phaseOf (s .phase)) (sizesOf s) c ≡ suc n → CallDone s c (refused (suc n)) s
+    pub refused-done : (n : ℕ) → refusal (stage (phaseOf (s .phase)) (sizesOf s)) c ≡ suc n → CallDone s c (refused (suc n)) s
     refused-done n e =
         let a = act-refused n e in
         model-done (refused (suc n)) s (a .0) (sym (struct-is s h v) ∙ ap sessionOf (a .1))
 
-    act-proceeds : refusal (phaseOf (s .phase)) (sizesOf s) c ≡ 0 → proceeds (recordOf s) c ≡ act (recordOf s) c
+    act-proceeds : refusal (stage (phaseOf (s .phase)) (sizesOf s)) c ≡ 0 → proceeds (recordOf s) c ≡ act (recordOf s) c
     unfolding act unless recordOf
     act-proceeds e = rw e
 
-    pub proceeds-done : refusal (phaseOf (s .phase)) (sizesOf s) c ≡ 0 → (a : Answer) (t : Session)
+    pub proceeds-done : refusal (stage (phaseOf (s .phase)) (sizesOf s)) c ≡ 0 → (a : Answer) (t : Session)
         → a ≡ proceeds (recordOf s) c .answer
         → t ≡ sessionOf (proceeds (recordOf s) c .record′) → CallDone s c a t
     proceeds-done e a t f g =
@@ -104,7 +104,7 @@ module _ (s : Session) (c : Call) where
 
   -- check 1 says no
   pub unless-done : Shaped s → (b : Bool) (cs : List Check)
-      → refusal (phaseOf (s .phase)) (sizesOf s) c ≡ firstNo (check 1 b ∷ cs)
+      → refusal (stage (phaseOf (s .phase)) (sizesOf s)) c ≡ firstNo (check 1 b ∷ cs)
       → (valid s && b) ≡ false → CallDone s c (refused 1) s
   unless-done h b cs e f = go (valid s) refl f
     where

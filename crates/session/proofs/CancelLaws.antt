@@ -10,10 +10,10 @@ use lib.Seq.{length-take-le, getD-take}
 use borrow.Author.Tests.{not-true, not-false}
 use Rattle.formats.specs.Checks.{firstNo}
 use Rattle.formats.proofs.CheckLaws.{and-left, and-right, true-false}
-use Rattle.book.specs.Calls as calls
-use Rattle.book.specs.Calls.{cancel, read, isRunning, isAnswered}
-use Rattle.book.specs.Refusals.{refusal}
-use Rattle.book.specs.Model.{Record, proceeds, unless, act, lastOf}
+use Rattle.model.specs.Calls as calls
+use Rattle.model.specs.Calls.{cancel, read, isRunning, isAnswered}
+use Rattle.model.specs.Refusals.{refusal}
+use Rattle.model.specs.Model.{Record, proceeds, unless, act, lastOf}
 use Rattle.session.specs.declared.state.Session.{Session}
 use Rattle.session.specs.declared.answers.Doing.the-variants.{Done as Made, Refused as NotDone}
 use Rattle.session.specs.declared.answers.Reading.the-variants.{Told, Refused as NotRead}

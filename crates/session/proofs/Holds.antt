@@ -14,9 +14,9 @@ use lib.Seq.{length-take-le}
 use borrow.Author.Tests.{leb-true, ltb-true, eqb-true, not-true}
 use Rattle.formats.specs.Bytes.{allBelow}
 use Rattle.formats.proofs.PlanLaws.{within-low, within-high}
-use Rattle.book.specs.Lends.{Sizes}
-use Rattle.book.specs.Calls as calls
-use Rattle.book.specs.Model.{Record, idle, freshRecord, loadedRecord}
+use Rattle.formats.specs.Inputs.{Sizes}
+use Rattle.model.specs.Calls as calls
+use Rattle.model.specs.Model.{Record, idle, freshRecord, loadedRecord}
 use Rattle.trees.proofs.MoveLaws.{both}
 use Rattle.session.specs.declared.state.Phase.{Phase}
 use Rattle.session.specs.declared.state.Phase.the-variants.{Empty, Loaded, Running, Answered}

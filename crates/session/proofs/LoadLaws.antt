@@ -19,11 +19,11 @@ use Rattle.formats.proofs.InputLaws.{build-passes}
 use Rattle.tables.specs.declared.answers.Building.{Building}
 use Rattle.tables.specs.declared.answers.Building.the-variants.{Built, Refused}
 use Rattle.tables.specs.Answers.{numberOf, toldBuild, written, BuildDone}
-use Rattle.book.specs.Lends.{Lent}
-use Rattle.book.specs.Calls as calls
-use Rattle.book.specs.Calls.{load, mayLoad}
-use Rattle.book.specs.Refusals.{refusal}
-use Rattle.book.specs.Model.{proceeds}
+use Rattle.formats.specs.Inputs.{Inputs}
+use Rattle.model.specs.Calls as calls
+use Rattle.model.specs.Calls.{load, mayLoad}
+use Rattle.model.specs.Refusals.{refusal, stage}
+use Rattle.model.specs.Model.{proceeds}
 use Rattle.session.specs.declared.state.Session.{Session}
 use Rattle.session.specs.declared.answers.Doing.the-variants.{Done as Made, Refused as NotDone}
 use Rattle.session.specs.Records.{phaseOf, sizesOf, recordOf, sessionOf, valid}
@@ -37,9 +37,9 @@ pub loaded-same : (plan rules : List ℕ) (n s k : ℕ) (t : Session) → t ≡ 
     → k ≡ labelCount rules → t ≡ sessionOf (loadedFrom plan rules)
 loaded-same plan rules n s k t e a b c = rw (← a, ← b, ← c) e
 
-module _ (s : Session) (h : Shaped s) (x : Lent) (b : Bool) (may : b ≡ (valid s && mayLoad (phaseOf (s .phase)))) where
+module _ (s : Session) (h : Shaped s) (x : Inputs) (b : Bool) (may : b ≡ (valid s && mayLoad (phaseOf (s .phase)))) where
   abbrev checks : List Check
-  checks = buildChecks (x .plan) (x .rules) (length (x .nums)) (length (x .bytes))
+  checks = buildChecks (x .plan) (x .rules) (length (x .nodeTable)) (length (x .stateTable))
 
   -- the number that a refusal gives
   no-number : (valid s && mayLoad (phaseOf (s .phase))) ≡ false → refusalOn s (load x) ≡ 1
@@ -51,7 +51,7 @@ module _ (s : Session) (h : Shaped s) (x : Lent) (b : Bool) (may : b ≡ (valid 
       go true v f = firstNo-no 1 (mayLoad (phaseOf (s .phase))) checks f
       go false v f = refl
 
-  pub load-1 : not b ≡ true → LoadDone s x (doingAnswer (NotDone 1)) s (x .nums) (x .bytes)
+  pub load-1 : not b ≡ true → LoadDone s x (doingAnswer (NotDone 1)) s (x .nodeTable) (x .stateTable)
   unfolding doingAnswer refusal written
   load-1 f =
       let n : refusalOn s (load x) ≡ 1 = no-number (sym may ∙ not-true b f) in
@@ -68,7 +68,7 @@ module _ (s : Session) (h : Shaped s) (x : Lent) (b : Bool) (may : b ≡ (valid 
     v : valid s ≡ true
     v = and-left (valid s) (mayLoad (phaseOf (s .phase))) passes
 
-    on : refusal (phaseOf (s .phase)) (sizesOf s) (load x) ≡ firstNo checks
+    on : refusal (stage (phaseOf (s .phase)) (sizesOf s)) (load x) ≡ firstNo checks
     unfolding refusal
     on = firstNo-yes 1 (mayLoad (phaseOf (s .phase))) checks (and-right (valid s) (mayLoad (phaseOf (s .phase))) passes)
 
@@ -77,12 +77,12 @@ module _ (s : Session) (h : Shaped s) (x : Lent) (b : Bool) (may : b ≡ (valid 
     number = rw v on
 
     module _ (a : Building) (nums′ bytes′ : List ℕ)
-        (D : BuildDone (firstNo checks) (builtLinks (x .plan)) (builtStates (x .plan) (x .rules)) (x .nums) (x .bytes) a nums′ bytes′) where
+        (D : BuildDone (firstNo checks) (builtLinks (x .plan)) (builtStates (x .plan) (x .rules)) (x .nodeTable) (x .stateTable) a nums′ bytes′) where
       done : (k : calls.Answer) (t : Session) → CallDone s (load x) k t → LoadDone s x k t nums′ bytes′
       done k t c = record {
         call = c;
-        links-written = D .links-written ∙ ap (λ (i : ℕ). written i (builtLinks (x .plan)) (x .nums)) (sym number);
-        states-written = D .states-written ∙ ap (λ (i : ℕ). written i (builtStates (x .plan) (x .rules)) (x .bytes))
+        links-written = D .links-written ∙ ap (λ (i : ℕ). written i (builtLinks (x .plan)) (x .nodeTable)) (sym number);
+        states-written = D .states-written ∙ ap (λ (i : ℕ). written i (builtStates (x .plan) (x .rules)) (x .stateTable))
             (sym number);
       }
 
@@ -93,7 +93,7 @@ module _ (s : Session) (h : Shaped s) (x : Lent) (b : Bool) (may : b ≡ (valid 
 
         pub load-headers : Headers (x .plan) (x .rules)
         load-headers =
-            let p = build-passes (x .plan) (x .rules) (length (x .nums)) (length (x .bytes)) none-fails in
+            let p = build-passes (x .plan) (x .rules) (length (x .nodeTable)) (length (x .stateTable)) none-fails in
             record {
               plan-head = p .0 .long;
               rules-head = p .1 .long;

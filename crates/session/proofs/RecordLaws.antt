@@ -11,8 +11,8 @@ use mathlib.Core.Bool.{true}
 use native.Mathlib.Omega.{arith}
 use lib.ListN.{length, take}
 use lib.Seq.{length-take-le}
-use Rattle.book.specs.Calls as calls
-use Rattle.book.specs.Model.{Record}
+use Rattle.model.specs.Calls as calls
+use Rattle.model.specs.Model.{Record}
 use Rattle.session.specs.declared.state.Phase.{Phase}
 use Rattle.session.specs.declared.state.Phase.the-variants.{Empty, Loaded, Running, Answered}
 use Rattle.session.specs.declared.state.Session.{Session}

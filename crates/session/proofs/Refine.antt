@@ -8,10 +8,10 @@
 use Prim.Native.Nat.{ℕ, zero, suc}
 use mathlib.Core.Path.{_≡_, refl, sym, ap, _∙_, subst}
 use mathlib.Core.Bool.{true}
-use Rattle.book.specs.Calls.{Call, read, Answer}
-use Rattle.book.specs.Refusals.{refusal}
-use Rattle.book.specs.Model.{Record, freshRecord, idle, proceeds, unless, act, Does}
-use Rattle.book.proofs.Demand3Theorem.{Refines}
+use Rattle.model.specs.Calls.{Call, read, Answer}
+use Rattle.model.specs.Refusals.{refusal}
+use Rattle.model.specs.Model.{stageOf, Record, freshRecord, idle, proceeds, unless, act, Does}
+use Rattle.model.proofs.Refinement.{Refines}
 use Rattle.session.specs.declared.state.Session.{Session}
 use Rattle.session.specs.Records.{phaseTo, recordOf, sessionOf, freshSession, valid}
 use Rattle.session.specs.Promises.{CallDone, answerOn, recordOn}
@@ -69,7 +69,7 @@ module _ (s : Session) (r : Record) (i : Seen s r) (c : Call) where
 -- Read alters nothing
 pub read-keeps : (r : Record) → act r read .record′ ≡ r
 unfolding act unless proceeds
-read-keeps r = go (refusal (r .phase) (r .sizes) read)
+read-keeps r = go (refusal (stageOf r) read)
   where
     go : (n : ℕ) → unless n r read .record′ ≡ r
     go zero = refl

@@ -5,12 +5,14 @@
 --     session-history      a history of these calls is one of the model's, so what is proved of those holds of it
 -- Assumes nothing.
 use mathlib.Core.List.{List}
-use Rattle.book.specs.Calls.{Call, Answer}
-use Rattle.book.specs.Demand3.{History, Demand3}
-use Rattle.book.specs.Model.{freshRecord, Does}
-use Rattle.book.proofs.Demand3Theorem.{demand-3, refines, demand-3-of}
-use Rattle.book.proofs.LayersHold.{layers}
-use Rattle.book.proofs.QuestionTheorem.{QuestionsTold, question-told, questions-of}
+use Rattle.model.specs.Calls.{Call, Answer}
+use Rattle.model.specs.History.{History}
+use Rattle.reference.specs.Demand3.{Demand3}
+use Rattle.model.specs.Model.{freshRecord, Does}
+use Rattle.reference.proofs.Demand3Theorem.{demand-3, demand-3-of}
+use Rattle.model.proofs.Refinement.{refines}
+use Rattle.model.proofs.LayersHold.{layers}
+use Rattle.reference.proofs.QuestionTheorem.{QuestionsAnswered, question-answered, questions-of}
 use Rattle.session.specs.Records.{freshSession}
 use Rattle.session.specs.CallSteps.{Step}
 use Rattle.session.proofs.Refine.{Seen, fresh-seen, step-refines}
@@ -21,5 +23,5 @@ session-history cs xs h = refines Step Does Seen step-refines freshSession fresh
 pub session-demand-3 : Demand3 freshSession Step
 session-demand-3 = demand-3-of Step Does Seen step-refines freshSession freshRecord fresh-seen (demand-3 layers)
 
-pub session-questions : QuestionsTold freshSession Step
-session-questions = questions-of Step Does Seen step-refines freshSession freshRecord fresh-seen (question-told layers)
+pub session-questions : QuestionsAnswered freshSession Step
+session-questions = questions-of Step Does Seen step-refines freshSession freshRecord fresh-seen (question-answered layers)

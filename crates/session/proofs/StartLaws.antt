@@ -22,11 +22,11 @@ use Rattle.questions.specs.RootsTold.{rootsGiven, rootedOf}
 use Rattle.questions.proofs.PartFits.{lengths-are}
 use Rattle.questions.proofs.FitLaws.{fit-all, given-yes}
 use Rattle.questions.proofs.RootsLaws.{rootsOn-fits}
-use Rattle.book.specs.Lends.{Lent, fits}
-use Rattle.book.specs.Calls as calls
-use Rattle.book.specs.Calls.{Call, start, mayStart}
-use Rattle.book.specs.Refusals.{refusal}
-use Rattle.book.specs.Model.{startWith, started, proceeds}
+use Rattle.formats.specs.Inputs.{Inputs, fits}
+use Rattle.model.specs.Calls as calls
+use Rattle.model.specs.Calls.{Call, start, mayStart}
+use Rattle.model.specs.Refusals.{refusal, stage}
+use Rattle.model.specs.Model.{startWith, started, proceeds}
 use Rattle.session.specs.declared.state.Session.{Session}
 use Rattle.session.specs.declared.answers.Starting.the-variants.{Parts, Refused as NotStarted}
 use Rattle.session.specs.Records.{phaseOf, phaseTo, sizesOf, recordOf, sessionOf, padded, valid}
@@ -37,7 +37,7 @@ use Rattle.session.proofs.Holds.{Sized, holds-of, struct-is}
 use Rattle.session.proofs.ActLaws.{start-sized}
 use Rattle.session.proofs.CallLaws.{unless-done, refused-done, proceeds-done}
 
-module _ (s : Session) (h : Shaped s) (x : Lent) (vs bs : List ℕ) (b : Bool)
+module _ (s : Session) (h : Shaped s) (x : Inputs) (vs bs : List ℕ) (b : Bool)
     (may : b ≡ (valid s && mayStart (phaseOf (s .phase)))) where
   abbrev C : Call
   C = start x vs bs
@@ -66,12 +66,12 @@ module _ (s : Session) (h : Shaped s) (x : Lent) (vs bs : List ℕ) (b : Bool)
     start-limits = record { most = sized .nodes-most; few = sized .states-most; labels = sized .labels-most }
 
     -- past check 1
-    on : refusal (phaseOf (s .phase)) (sizesOf s) C ≡ firstNo (check 17 (fits (sizesOf s) x) ∷ listChecks (s .n) (s .k) vs bs)
+    on : refusal (stage (phaseOf (s .phase)) (sizesOf s)) C ≡ firstNo (check 17 (fits (sizesOf s) x) ∷ listChecks (s .n) (s .k) vs bs)
     unfolding refusal
     on = firstNo-yes 1 (mayStart (phaseOf (s .phase))) (check 17 (fits (sizesOf s) x) ∷ listChecks (s .n) (s .k) vs bs) m
 
     module _ (f : Bool)
-        (fit : f ≡ lengthsFit (s .n) (s .s) (s .k) (length (x .plan)) (length (x .rules)) (length (x .nums)) (length (x .bytes))) where
+        (fit : f ≡ lengthsFit (s .n) (s .s) (s .k) (length (x .plan)) (length (x .rules)) (length (x .nodeTable)) (length (x .stateTable))) where
       fits-is : fits (sizesOf s) x ≡ f
       unfolding fits lengthsFit
       fits-is = sym fit
@@ -83,12 +83,12 @@ module _ (s : Session) (h : Shaped s) (x : Lent) (vs bs : List ℕ) (b : Bool)
           (on ∙ firstNo-no 17 (fits (sizesOf s) x) (listChecks (s .n) (s .k) vs bs) (fits-is ∙ not-true f g))
 
       module _ (yes : not f ≡ false) where
-        pub start-room : s .n * 4 ≤ length (x .nums)
+        pub start-room : s .n * 4 ≤ length (x .nodeTable)
         start-room =
-            lengths-are (s .n) (s .s) (s .k) (length (x .plan)) (length (x .rules)) (length (x .nums)) (length (x .bytes))
+            lengths-are (s .n) (s .s) (s .k) (length (x .plan)) (length (x .rules)) (length (x .nodeTable)) (length (x .stateTable))
             (sym fit ∙ not-false f yes) .nums-room
 
-        onward : refusal (phaseOf (s .phase)) (sizesOf s) C ≡ firstNo (listChecks (s .n) (s .k) vs bs)
+        onward : refusal (stage (phaseOf (s .phase)) (sizesOf s)) C ≡ firstNo (listChecks (s .n) (s .k) vs bs)
         onward = on ∙ firstNo-yes 17 (fits (sizesOf s) x) (listChecks (s .n) (s .k) vs bs) (fits-is ∙ not-false f yes)
 
         module _ (q : ℕ) (list : q ≡ firstNo (listChecks (s .n) (s .k) vs bs)) where
@@ -96,7 +96,7 @@ module _ (s : Session) (h : Shaped s) (x : Lent) (vs bs : List ℕ) (b : Bool)
           unfolding startingAnswer
           start-list g = go q (onward ∙ sym list) g
             where
-              go : (n : ℕ) → refusal (phaseOf (s .phase)) (sizesOf s) C ≡ n → (n ≡ 0 → ⊥)
+              go : (n : ℕ) → refusal (stage (phaseOf (s .phase)) (sizesOf s)) C ≡ n → (n ≡ 0 → ⊥)
                   → CallDone s C (calls.Answer.refused n) s
               go zero e i = absurd (i refl)
               go (suc n) e i = refused-done s C h v n e
@@ -108,21 +108,21 @@ module _ (s : Session) (h : Shaped s) (x : Lent) (vs bs : List ℕ) (b : Bool)
             pub start-listed : ListArgs vs bs
             start-listed = record { few = list-is .most; few-labels = omega (arith, list-is .most, list-is .lengths) }
 
-            no-refusal : refusal (phaseOf (s .phase)) (sizesOf s) C ≡ 0
+            no-refusal : refusal (stage (phaseOf (s .phase)) (sizesOf s)) C ≡ 0
             no-refusal = onward ∙ sym list ∙ none-fails
 
-            cut : length (take (s .n * 4) (x .nums)) ≡ s .n * 4
-            cut = length-take-le (s .n * 4) (x .nums) start-room
+            cut : length (take (s .n * 4) (x .nodeTable)) ≡ s .n * 4
+            cut = length-take-le (s .n * 4) (x .nodeTable) start-room
 
-            given : rootsGiven (s .n) (take (s .n * 4) (x .nums)) vs ≡ rootsOn (s .n) (take (s .n * 4) (x .nums)) vs
+            given : rootsGiven (s .n) (take (s .n * 4) (x .nodeTable)) vs ≡ rootsOn (s .n) (take (s .n * 4) (x .nodeTable)) vs
             given =
-                given-yes (s .n) (take (s .n * 4) (x .nums)) vs
-                (sym (fit-all (s .n) (length (take (s .n * 4) (x .nums))) vs (sized .nodes-least) (sized .nodes-most) (omega (arith, cut))
+                given-yes (s .n) (take (s .n * 4) (x .nodeTable)) vs
+                (sym (fit-all (s .n) (length (take (s .n * 4) (x .nodeTable))) vs (sized .nodes-least) (sized .nodes-most) (omega (arith, cut))
                 (list-is .most))
                 ∙ list-is .nodes-below)
 
             -- what Start does with the roots found, or none
-            acts : (o : Option (List ℕ)) → rootsOn (s .n) (take (s .n * 4) (x .nums)) vs ≡ o
+            acts : (o : Option (List ℕ)) → rootsOn (s .n) (take (s .n * 4) (x .nodeTable)) vs ≡ o
                 → (a : calls.Answer) (t : Session) → a ≡ startWith (recordOf s) vs bs o .answer
                 → t ≡ sessionOf (startWith (recordOf s) vs bs o .record′) → CallDone s C a t
             unfolding proceeds recordOf
@@ -131,13 +131,13 @@ module _ (s : Session) (h : Shaped s) (x : Lent) (vs bs : List ℕ) (b : Bool)
                 (i ∙ ap (λ (z : Option (List ℕ)). startWith (recordOf s) vs bs z .answer) (sym e))
                 (j ∙ ap (λ (z : Option (List ℕ)). sessionOf (startWith (recordOf s) vs bs z .record′)) (sym e))
 
-            module _ (R : Rooted) (found : R ≡ rootedOf (rootsGiven (s .n) (take (s .n * 4) (x .nums)) vs)) where
+            module _ (R : Rooted) (found : R ≡ rootedOf (rootsGiven (s .n) (take (s .n * 4) (x .nodeTable)) vs)) where
               pub start-18 : not (R .ok) ≡ true → CallDone s C (startingAnswer (NotStarted 18)) s
               unfolding startingAnswer startWith
-              start-18 g = go (rootsOn (s .n) (take (s .n * 4) (x .nums)) vs) refl (found ∙ ap rootedOf given)
+              start-18 g = go (rootsOn (s .n) (take (s .n * 4) (x .nodeTable)) vs) refl (found ∙ ap rootedOf given)
                 where
-                  go : (o : Option (List ℕ)) → rootsOn (s .n) (take (s .n * 4) (x .nums)) vs ≡ o
-                      → R ≡ rootedOf (rootsOn (s .n) (take (s .n * 4) (x .nums)) vs)
+                  go : (o : Option (List ℕ)) → rootsOn (s .n) (take (s .n * 4) (x .nodeTable)) vs ≡ o
+                      → R ≡ rootedOf (rootsOn (s .n) (take (s .n * 4) (x .nodeTable)) vs)
                       → CallDone s C (calls.Answer.refused 18) s
                   go none e i = acts none e (calls.Answer.refused 18) s refl (sym (struct-is s h v))
                   go (some rs) e i =
@@ -146,11 +146,11 @@ module _ (s : Session) (h : Shaped s) (x : Lent) (vs bs : List ℕ) (b : Bool)
 
               module _ (ok : not (R .ok) ≡ false) where
                 -- the roots
-                one : (rs : List ℕ) × (rootsOn (s .n) (take (s .n * 4) (x .nums)) vs ≡ some rs) × (R ≡ rootedOf (some rs))
-                one = go (rootsOn (s .n) (take (s .n * 4) (x .nums)) vs) refl
+                one : (rs : List ℕ) × (rootsOn (s .n) (take (s .n * 4) (x .nodeTable)) vs ≡ some rs) × (R ≡ rootedOf (some rs))
+                one = go (rootsOn (s .n) (take (s .n * 4) (x .nodeTable)) vs) refl
                   where
-                    go : (o : Option (List ℕ)) → rootsOn (s .n) (take (s .n * 4) (x .nums)) vs ≡ o
-                        → (rs : List ℕ) × (rootsOn (s .n) (take (s .n * 4) (x .nums)) vs ≡ some rs) × (R ≡ rootedOf (some rs))
+                    go : (o : Option (List ℕ)) → rootsOn (s .n) (take (s .n * 4) (x .nodeTable)) vs ≡ o
+                        → (rs : List ℕ) × (rootsOn (s .n) (take (s .n * 4) (x .nodeTable)) vs ≡ some rs) × (R ≡ rootedOf (some rs))
                     go none e =
                         let k : R .ok ≡ false = ap (λ (z : Rooted). z .ok) (found ∙ ap rootedOf (given ∙ e)) in
                         absurd (true-false (sym (not-false (R .ok) ok) ∙ k))
@@ -161,7 +161,7 @@ module _ (s : Session) (h : Shaped s) (x : Lent) (vs bs : List ℕ) (b : Bool)
                     let k : R .count ≡ length (one .0) = ap (λ (z : Rooted). z .count) (one .2) in
                     omega (
                       arith,
-                      rootsOn-fits (s .n) (take (s .n * 4) (x .nums)) vs (one .0) (omega (arith, sized .nodes-least))
+                      rootsOn-fits (s .n) (take (s .n * 4) (x .nodeTable)) vs (one .0) (omega (arith, sized .nodes-least))
                           (list-is .nodes-below)
                           (one .1) (list-is .most),
                     )

@@ -7,8 +7,8 @@
 use Prim.Native.Nat.{ℕ}
 use mathlib.Core.Path.{_≡_}
 use mathlib.Core.List.{List}
-use Rattle.book.specs.Lends.{Lent}
-use Rattle.book.specs.Calls.{Call, load, start, advance, cancel, read, Answer}
+use Rattle.formats.specs.Inputs.{Inputs}
+use Rattle.model.specs.Calls.{Call, load, start, advance, cancel, read, Answer}
 use Rattle.session.specs.declared.state.Session.{Session}
 use Rattle.session.specs.declared.answers.Done.{Done}
 use Rattle.session.specs.declared.answers.Started.{Started}
@@ -17,11 +17,11 @@ use Rattle.session.specs.declared.answers.Reading.{Reading}
 use Rattle.session.specs.Promises.{CallDone, LoadDone, doingAnswer, startingAnswer, advancingAnswer, readingAnswer, answerOn}
 
 pub data Step : Session → Call → Answer → Session → Type 0 where
-  loads : {s : Session} {x : Lent} (o : Done) (nums bytes : List ℕ) → LoadDone s x (doingAnswer (o .told)) (o .rec) nums bytes
+  loads : {s : Session} {x : Inputs} (o : Done) (nums bytes : List ℕ) → LoadDone s x (doingAnswer (o .told)) (o .rec) nums bytes
       → Step s (load x) (doingAnswer (o .told)) (o .rec)
-  starts : {s : Session} {x : Lent} {vs bs : List ℕ} (o : Started) → CallDone s (start x vs bs) (startingAnswer (o .told)) (o .rec)
+  starts : {s : Session} {x : Inputs} {vs bs : List ℕ} (o : Started) → CallDone s (start x vs bs) (startingAnswer (o .told)) (o .rec)
       → Step s (start x vs bs) (startingAnswer (o .told)) (o .rec)
-  advances : {s : Session} {x : Lent} (o : Advanced) → CallDone s (advance x) (advancingAnswer (o .told)) (o .rec)
+  advances : {s : Session} {x : Inputs} (o : Advanced) → CallDone s (advance x) (advancingAnswer (o .told)) (o .rec)
       → Step s (advance x) (advancingAnswer (o .told)) (o .rec)
   cancels : {s : Session} (o : Done) → CallDone s cancel (doingAnswer (o .told)) (o .rec) → Step s cancel (doingAnswer (o .told)) (o .rec)
   reads : {s : Session} (a : Reading) → readingAnswer a ≡ answerOn s read → Step s read (readingAnswer a) s

@@ -14,9 +14,9 @@ use lib.Dec.{leb, ltb, eqb}
 use lib.ListN.{length, take, drop, replicate}
 use Rattle.formats.specs.Bytes.{allBelow}
 use Rattle.formats.specs.Limits.{nodeLimit, stateLimit, labelLimit, changeLimit, within}
-use Rattle.book.specs.Lends.{Sizes}
-use Rattle.book.specs.Calls as calls
-use Rattle.book.specs.Model.{Record}
+use Rattle.formats.specs.Inputs.{Sizes}
+use Rattle.model.specs.Calls as calls
+use Rattle.model.specs.Model.{Record}
 use Rattle.session.specs.declared.state.Phase.{Phase}
 use Rattle.session.specs.declared.state.Phase.the-variants.{Empty, Loaded, Running, Answered}
 use Rattle.session.specs.declared.state.Head.{Head}

@@ -28,7 +28,7 @@ use Rattle.session.specs.declared.answers.Step.{Step}
 use Rattle.session.specs.declared.state.Head.{Head}
 use Rattle.session.specs.declared.state.Session.{Session}
 use Rattle.session.specs.Records.{whole, padded}
-use Rattle.book.specs.Calls.{Call}
+use Rattle.model.specs.Calls.{Call}
 use Rattle.session.specs.Promises.{CallDone, advancingAnswer}
 
 pub record ListArgs (vs bs : List ℕ) : Type 0 where

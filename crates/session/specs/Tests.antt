@@ -3,7 +3,6 @@
 -- Shaped s == the four arrays have the layout's lengths
 -- ListShaped vs bs, PartsShaped h rs qs == two arrays have these lengths; for parts also: the plan has a node, and no more
 --   parts are handled than there are
--- lentOf plan rules nums bytes == what a call is lent, as one record
 -- loadedBy n s k, loadedFrom plan rules == the record after a first Load
 -- Headers plan rules == both headers are whole, and N, S and K are at most their limits
 --
@@ -14,8 +13,7 @@ use mathlib.Core.List.{List}
 use lib.ListN.{length}
 use Rattle.formats.specs.Plan.{nodeCount}
 use Rattle.formats.specs.Rules.{stateCount, labelCount}
-use Rattle.book.specs.Lends.{Lent}
-use Rattle.book.specs.Model.{Record, loadedRecord}
+use Rattle.model.specs.Model.{Record, loadedRecord}
 use Rattle.session.specs.declared.state.Head.{Head}
 use Rattle.session.specs.declared.state.Session.{Session}
 
@@ -34,9 +32,6 @@ pub record PartsShaped (h : Head) (rs qs : List ℕ) : Type 0 where
   pub states : length qs ≡ 254
   pub some-node : 1 ≤ h .n
   pub counted : h .handled ≤ h .parts
-
-abbrev pub lentOf : List ℕ → List ℕ → List ℕ → List ℕ → Lent
-lentOf plan rules nums bytes = record { plan = plan; rules = rules; nums = nums; bytes = bytes }
 
 -- the record after a first Load of N, S and K, and of a plan and rules
 abbrev pub loadedBy : ℕ → ℕ → ℕ → Record

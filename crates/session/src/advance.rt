@@ -15,10 +15,11 @@ ghost use mathlib.Core.Bool.{true, cond};
 ghost use Prim.Native.Nat.{_<_};
 ghost use lib.ListN.{length, take, set};
 ghost use Rattle.questions.specs.PartTold.{toldReached, partGiven};
-ghost use Rattle.book.specs.Calls as calls;
+ghost use Rattle.model.specs.Calls as calls;
 ghost use Rattle.session.specs.Promises.{CallDone, advancingAnswer};
 ghost use Rattle.session.specs.Records.{whole};
-ghost use Rattle.session.specs.Tests.{Shaped, lentOf};
+ghost use Rattle.session.specs.Tests.{Shaped};
+ghost use Rattle.formats.specs.Inputs.{inputsOf};
 ghost use Rattle.session.specs.Steps.{NextArgs, StepArgs, MarkArgs, HandleArgs, markedIn, steppedHead, stepBy};
 ghost use Rattle.session.specs.Steps.{refusedStep, stepOn, StepFound};
 
@@ -136,7 +137,7 @@ fn next_step<'a>(
     requires { ⌜ Shaped (whole h (now nodes) (now labels) (now roots) (now states)) ⌝ }
     ensures { λ r. ⌜
         StepFound (whole h (now (nodes .entry)) (now (labels .entry)) (now (roots .entry)) (now (states .entry)))
-        (calls.advance (lentOf (now (plan .entry)) (now (rules .entry)) (now (nums .entry)) (now (bytes .entry)))) r ⌝ }
+        (calls.advance (inputsOf (now (plan .entry)) (now (rules .entry)) (now (nums .entry)) (now (bytes .entry)))) r ⌝ }
 {
     if !is_running(h, nodes, labels, roots, states) {
         return refused_step(h, 1);
@@ -203,7 +204,7 @@ impl Session {
     pub fn advance(self, plan: &[u8], rules: &[u8], nums: &[u16], bytes: &[u8]) -> Advanced
         ensures { λ r. ⌜
             CallDone self
-            (calls.advance (lentOf (now (plan .entry)) (now (rules .entry)) (now (nums .entry)) (now (bytes .entry))))
+            (calls.advance (inputsOf (now (plan .entry)) (now (rules .entry)) (now (nums .entry)) (now (bytes .entry))))
             (advancingAnswer (r .told)) (r .rec) ⌝ }
     {
         let h = self.head();

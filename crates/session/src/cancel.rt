@@ -7,7 +7,7 @@ use crate::may::is_answered;
 use crate::may::is_running;
 use crate::state::Session;
 ghost use mathlib.Core.Path.{_≡_};
-ghost use Rattle.book.specs.Calls as calls;
+ghost use Rattle.model.specs.Calls as calls;
 ghost use Rattle.session.specs.Promises.{CallDone, doingAnswer, readingAnswer, answerOn};
 
 impl Session {

@@ -7,14 +7,14 @@ use crate::state::Session;
 use tables::answers::Building;
 use tables::build::build_rules;
 ghost use Rattle.session.specs.Promises.{LoadDone, doingAnswer};
-ghost use Rattle.session.specs.Tests.{lentOf};
+ghost use Rattle.formats.specs.Inputs.{inputsOf};
 
 impl Session {
     // Builds the tables of a plan and rules into the lent buffers.
     pub fn load(self, plan: &[u8], rules: &[u8], nums: &mut [u16], bytes: &mut [u8]) -> Done
         ensures { λ r. ⌜
             LoadDone self
-            (lentOf (now (plan .entry)) (now (rules .entry)) (now (nums .entry)) (now (bytes .entry)))
+            (inputsOf (now (plan .entry)) (now (rules .entry)) (now (nums .entry)) (now (bytes .entry)))
             (doingAnswer (r .told)) (r .rec) (now (nums .exit)) (now (bytes .exit)) ⌝ }
     {
         if !may_load(

@@ -8,7 +8,7 @@ use crate::valid::loaded_fits;
 use crate::valid::running_fits;
 ghost use mathlib.Core.Path.{_≡_};
 ghost use mathlib.Core.Bool.{_&&_};
-ghost use Rattle.book.specs.Calls.{mayLoad, mayStart, isRunning, isAnswered};
+ghost use Rattle.model.specs.Calls.{mayLoad, mayStart, isRunning, isAnswered};
 ghost use Rattle.session.specs.Records.{phaseOf, whole, valid};
 ghost use Rattle.session.specs.Tests.{Shaped};
 

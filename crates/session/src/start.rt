@@ -10,9 +10,9 @@ use formats::lists::check_list;
 use questions::fits::lengths_fit;
 use questions::roots::roots;
 ghost use mathlib.Core.Path.{_≡_};
-ghost use Rattle.book.specs.Calls as calls;
+ghost use Rattle.model.specs.Calls as calls;
 ghost use Rattle.session.specs.Promises.{CallDone, startingAnswer};
-ghost use Rattle.session.specs.Tests.{lentOf};
+ghost use Rattle.formats.specs.Inputs.{inputsOf};
 ghost use Rattle.session.specs.Steps.{ListArgs, startedOf};
 
 // A running session with its question and no part handled. Nothing of an earlier question is left.
@@ -54,7 +54,7 @@ impl Session {
     ) -> Started
         ensures { λ r. ⌜
             CallDone self
-            (calls.start (lentOf (now (plan .entry)) (now (rules .entry)) (now (nums .entry)) (now (bytes .entry)))
+            (calls.start (inputsOf (now (plan .entry)) (now (rules .entry)) (now (nums .entry)) (now (bytes .entry)))
             (now (nodes .entry)) (now (labels .entry)))
             (startingAnswer (r .told)) (r .rec) ⌝ }
     {

@@ -5,8 +5,8 @@
 use Prim.Native.Nat.{ℕ, suc}
 use mathlib.Core.Path.{_≡_, refl, ap, _∙_}
 use mathlib.Core.List.{List}
-use Rattle.book.specs.Lends.{Lent}
-use Rattle.book.specs.Calls.{start, advance, read}
+use Rattle.formats.specs.Inputs.{Inputs}
+use Rattle.model.specs.Calls.{start, advance, read}
 use Rattle.session.specs.declared.state.Session.{Session}
 use Rattle.session.specs.declared.answers.Starting.{Starting}
 use Rattle.session.specs.declared.answers.Starting.the-variants.{Parts, Refused as NotStarted}
@@ -16,7 +16,7 @@ use Rattle.session.specs.declared.answers.Reading.the-variants.{Refused as NotR
 use Rattle.session.specs.Promises.{CallDone, startingAnswer, advancingAnswer, readingAnswer, answerOn}
 use Rattle.whatif.specs.Asked.{afterAdvance, finishedIn, mostParts, afterStart, askedOn}
 
-module _ (f : ℕ) (s s′ : Session) (x : Lent) (told : Advancing) (done : CallDone s (advance x) (advancingAnswer told) s′) where
+module _ (f : ℕ) (s s′ : Session) (x : Inputs) (told : Advancing) (done : CallDone s (advance x) (advancingAnswer told) s′) where
   -- what the definition makes of the answer that was told
   unfolded : finishedIn (suc f) s x ≡ afterAdvance (advancingAnswer told) (answerOn s′ read) (finishedIn f s′ x)
   unfolding finishedIn
@@ -35,7 +35,7 @@ module _ (f : ℕ) (s s′ : Session) (x : Lent) (told : Advancing) (done : Call
   refused-turn n e =
       unfolded ∙ ap (λ (t : Advancing). afterAdvance (advancingAnswer t) (answerOn s′ read) (finishedIn f s′ x)) e
 
-module _ (s s′ : Session) (x : Lent) (vs bs : List ℕ) (told : Starting)
+module _ (s s′ : Session) (x : Inputs) (vs bs : List ℕ) (told : Starting)
     (done : CallDone s (start x vs bs) (startingAnswer told) s′) where
   begun : askedOn s x vs bs ≡ afterStart (startingAnswer told) (finishedIn mostParts s′ x)
   unfolding askedOn

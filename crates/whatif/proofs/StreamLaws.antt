@@ -18,7 +18,7 @@ use lib.ListN.{length, getD, take, drop, set, length-append, length-drop, length
 use lib.Seq.{take-all, take-take, take-add, drop-at, take-suc-set, set-out, take-append-le, getD-take, length-take-le}
 use borrow.Author.Tests.{leb-true, leb-false, lt-leb, ne-eqb, eqb-true}
 use Rattle.formats.specs.Checks.{firstNo, listChecks}
-use Rattle.book.specs.Calls.{Answer, refused}
+use Rattle.model.specs.Calls.{Answer, refused}
 use Rattle.whatif.specs.Text.{Put}
 use Rattle.whatif.specs.Line.{lineOf}
 use Rattle.whatif.specs.Cleared.{answerBy, answerTo}

@@ -6,8 +6,8 @@
 use Prim.Native.Nat.{ℕ}
 use mathlib.Core.Path.{_≡_, refl}
 use mathlib.Core.List.{List, [], _∷_, _++_}
-use Rattle.book.specs.Lends.{Lent}
-use Rattle.book.proofs.Sample.{computing, planA, tableA}
+use Rattle.formats.specs.Inputs.{Inputs}
+use Rattle.reference.proofs.Sample.{computing, planA, tableA}
 use Rattle.session.specs.declared.state.Session.{Session}
 use Rattle.whatif.specs.Question.{nodesIn, labelsIn}
 use Rattle.whatif.specs.Asked.{askedOn}
@@ -18,7 +18,7 @@ use Rattle.whatif.specs.Stream.{questionLine, openAfter, openBy, lineAft
 use Rattle.whatif.proofs.ClearedLaws.{cleared-answer}
 use Rattle.whatif.proofs.StreamLaws.{lines-chunks}
 
-pub calls-tell : (s : Session) (x : Lent) (vs bs : List ℕ) → Cleared s x → askedOn s x vs bs ≡ answerTo (x .plan) (x .rules) vs bs
+pub calls-tell : (s : Session) (x : Inputs) (vs bs : List ℕ) → Cleared s x → askedOn s x vs bs ≡ answerTo (x .plan) (x .rules) vs bs
 calls-tell = cleared-answer
 
 pub chunks-alike : (f : List ℕ → List ℕ) (q c d : List ℕ) → linesBy f q (c ++ d) ≡ linesBy f q c ++ linesBy f (openBy q c) d

@@ -5,14 +5,14 @@ use session::answers::Starting;
 use session::state::Session;
 ghost use mathlib.Core.Path.{_≡_};
 ghost use Rattle.session.specs.Promises.{readingAnswer};
-ghost use Rattle.session.specs.Tests.{lentOf};
+ghost use Rattle.formats.specs.Inputs.{inputsOf};
 ghost use Rattle.whatif.specs.Asked.{mostParts, finishedIn, askedOn};
 
 // Advances until finished, and reads.
 fn finish(started: Session, plan: &[u8], rules: &[u8], nums: &[u16], bytes: &[u8]) -> Reading
     ensures { λ r. ⌜
         readingAnswer r
-        ≡ finishedIn mostParts started (lentOf (now (plan .entry)) (now (rules .entry)) (now (nums .entry)) (now (bytes .entry))) ⌝ }
+        ≡ finishedIn mostParts started (inputsOf (now (plan .entry)) (now (rules .entry)) (now (nums .entry)) (now (bytes .entry))) ⌝ }
 {
     let mut rec = started;
     let mut turns: u8 = 0;
@@ -47,7 +47,7 @@ pub fn ask(
 ) -> Reading
     ensures { λ r. ⌜
         readingAnswer r
-        ≡ askedOn loaded (lentOf (now (plan .entry)) (now (rules .entry)) (now (nums .entry)) (now (bytes .entry)))
+        ≡ askedOn loaded (inputsOf (now (plan .entry)) (now (rules .entry)) (now (nums .entry)) (now (bytes .entry)))
         (now (nodes .entry)) (now (labels .entry)) ⌝ }
 {
     let started = loaded.start(plan, rules, nums, bytes, nodes, labels);

@@ -11,7 +11,7 @@ ghost use mathlib.Core.Path.{_≡_};
 ghost use mathlib.Core.List.{[], _∷_};
 ghost use Prim.Native.Nat.{_+_, _*_, _≤_};
 ghost use lib.ListN.{length};
-ghost use Rattle.session.specs.Tests.{lentOf};
+ghost use Rattle.formats.specs.Inputs.{inputsOf};
 ghost use Rattle.whatif.specs.Cleared.{Cleared};
 ghost use Rattle.whatif.specs.Text.{Put};
 ghost use Rattle.whatif.specs.Stream.{keptLine, questionLine, Keeps, Advances};
@@ -35,7 +35,7 @@ fn put_answer(
 ) -> usize
     requires { ⌜ length (now asked) ≡ 197 ⌝ }
     requires { ⌜ end + 37 ≤ length (now out) ⌝ }
-    requires { ⌜ Cleared loaded (lentOf (now plan) (now rules) (now nums) (now bytes)) ⌝ }
+    requires { ⌜ Cleared loaded (inputsOf (now plan) (now rules) (now nums) (now bytes)) ⌝ }
     ensures { λ r. ⌜
         Put (now (out .entry)) end
         (keptLine (now (plan .entry)) (now (rules .entry)) (now (asked .entry)))
@@ -66,7 +66,7 @@ fn take_byte(
     requires { ⌜ Keeps (now asked) have ⌝ }
     requires { ⌜ end + 37 ≤ length (now out) ⌝ }
     requires { ⌜ have ≤ 4294967295 ⌝ }
-    requires { ⌜ Cleared loaded (lentOf (now plan) (now rules) (now nums) (now bytes)) ⌝ }
+    requires { ⌜ Cleared loaded (inputsOf (now plan) (now rules) (now nums) (now bytes)) ⌝ }
     ensures { λ r. ⌜
         Advances (questionLine (now (plan .entry)) (now (rules .entry)))
         (b ∷ []) (now (asked .entry)) have (now (asked .exit)) (r .have) (now (out .entry)) end (now (out .exit)) (r .end) ⌝ }
@@ -96,7 +96,7 @@ pub fn take_in(
     requires { ⌜ Keeps (now asked) have ⌝ }
     requires { ⌜ have + length (now chunk) ≤ 4294967295 ⌝ }
     requires { ⌜ 37 * length (now chunk) ≤ length (now out) ⌝ }
-    requires { ⌜ Cleared loaded (lentOf (now plan) (now rules) (now nums) (now bytes)) ⌝ }
+    requires { ⌜ Cleared loaded (inputsOf (now plan) (now rules) (now nums) (now bytes)) ⌝ }
     ensures { λ r. ⌜
         Advances (questionLine (now (plan .entry)) (now (rules .entry)))
         (now (chunk .entry)) (now (asked .entry)) have (now (asked .exit)) (r .have) (now (out .entry)) 0 (now (out .exit)) (r .end) ⌝ }

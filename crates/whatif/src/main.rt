@@ -29,7 +29,7 @@ use line::put_refused;
 use session::answers::Doing;
 use session::state::Session;
 ghost use Prim.Native.Nat.{_+_, _≤_};
-ghost use Rattle.session.specs.Tests.{lentOf};
+ghost use Rattle.formats.specs.Inputs.{inputsOf};
 ghost use Rattle.whatif.specs.Cleared.{Cleared};
 ghost use Rattle.whatif.specs.Stream.{Keeps};
 
@@ -54,7 +54,7 @@ fn some_questions(
 ) -> Turn
     requires { ⌜ Keeps (now asked) have ⌝ }
     requires { ⌜ have + left ≤ 4294967295 ⌝ }
-    requires { ⌜ Cleared loaded (lentOf (now plan) (now rules) (now nums) (now bytes)) ⌝ }
+    requires { ⌜ Cleared loaded (inputsOf (now plan) (now rules) (now nums) (now bytes)) ⌝ }
     ensures { λ r. ⌜ Keeps (now (asked .exit)) (r .have) ⌝ }
     ensures { λ r. ⌜ (r .came ≤ left) × (r .have ≤ have + r .came) ⌝ }
 {
@@ -91,7 +91,7 @@ fn put_questions(
     stated: usize,
 )
     requires { ⌜ stated ≤ 4294967295 ⌝ }
-    requires { ⌜ Cleared loaded (lentOf (now plan) (now rules) (now nums) (now bytes)) ⌝ }
+    requires { ⌜ Cleared loaded (inputsOf (now plan) (now rules) (now nums) (now bytes)) ⌝ }
 {
     let mut asked = asked_space();
     let mut have = 0;

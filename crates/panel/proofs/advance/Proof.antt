@@ -38,9 +38,9 @@ use denote.Triple.Entry.{Args, onEntry}
 use denote.Triple.Spec.{tripleOf}
 use denote.Triple.Table.{entered, cited}
 use denote.Triple.Clauses.{AtExit, atExit, Lasts, lasts, ensured}
-use Rattle.book.specs.Calls as calls
+use Rattle.model.specs.Calls as calls
 use Rattle.session.specs.Promises.{CallDone, advancingAnswer}
-use Rattle.session.specs.Tests.{lentOf}
+use Rattle.formats.specs.Inputs.{inputsOf}
 use Rattle.session.specs.declared.state.Session.{Session}
 use Rattle.session.specs.declared.answers.Advanced.{Advanced}
 use Rattle.session.specs.declared.answers.Advancing.{Advancing}
@@ -66,7 +66,7 @@ lends = shared 1 tt u8 ∷ shared 2 tt u8 ∷ shared 3 tt u16 ∷ shared 4 tt u8
 
 abbrev Promised : (κs : Lfts 5) (a : Args this.signature κs) → Advancing → AtExit this.ended κs → Type 0
 Promised κs a r e =
-    CallDone (now (a .0)) (calls.advance (lentOf (now (a .1 .0)) (now (a .1 .1 .0)) (now (a .1 .1 .1 .0)) (now (a .1 .1 .1 .1 .0))))
+    CallDone (now (a .0)) (calls.advance (inputsOf (now (a .1 .0)) (now (a .1 .1 .0)) (now (a .1 .1 .1 .0)) (now (a .1 .1 .1 .1 .0))))
     (advancingAnswer r) (now (e .0))
 
 told-is : (r : Advanced) (v : Val) → Is O.the-row r (v ∷ []) → Is E.the-row (r .told) (EL.vals E.the-type E′.the-laws (r .told))

@@ -37,7 +37,7 @@ use denote.Triple.Entry.{Args, onEntry}
 use denote.Triple.Spec.{tripleOf}
 use denote.Triple.Table.{entered, cited}
 use denote.Triple.Clauses.{AtExit, atExit, Lasts, lasts, ensured}
-use Rattle.book.specs.Calls as calls
+use Rattle.model.specs.Calls as calls
 use Rattle.session.specs.Promises.{CallDone, doingAnswer}
 use Rattle.session.specs.declared.state.Session.{Session}
 use Rattle.session.specs.declared.answers.Done.{Done}

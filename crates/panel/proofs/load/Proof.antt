@@ -39,7 +39,7 @@ use denote.Triple.Spec.{tripleOf}
 use denote.Triple.Table.{entered, cited}
 use denote.Triple.Clauses.{AtExit, atExit, Lasts, lasts, ensured}
 use Rattle.session.specs.Promises.{LoadDone, doingAnswer}
-use Rattle.session.specs.Tests.{lentOf}
+use Rattle.formats.specs.Inputs.{inputsOf}
 use Rattle.session.specs.declared.state.Session.{Session}
 use Rattle.session.specs.declared.answers.Done.{Done}
 use Rattle.session.specs.declared.answers.Doing.{Doing}
@@ -65,7 +65,7 @@ lends = shared 1 tt u8 ∷ shared 2 tt u8 ∷ written 3 tt u16 ∷ written 4 tt 
 
 abbrev Promised : (κs : Lfts 5) (a : Args this.signature κs) → Doing → AtExit this.ended κs → Type 0
 Promised κs a r e =
-    LoadDone (now (a .0)) (lentOf (now (a .1 .0)) (now (a .1 .1 .0)) (now (a .1 .1 .1 .0)) (now (a .1 .1 .1 .1 .0)))
+    LoadDone (now (a .0)) (inputsOf (now (a .1 .0)) (now (a .1 .1 .0)) (now (a .1 .1 .1 .0)) (now (a .1 .1 .1 .1 .0)))
     (doingAnswer r) (now (e .0)) (now (e .1 .1 .1 .0)) (now (e .1 .1 .1 .1 .0))
 
 told-is : (r : Done) (v : Val) → Is O.the-row r (v ∷ []) → Is E.the-row (r .told) (EL.vals E.the-type E′.the-laws (r .told))

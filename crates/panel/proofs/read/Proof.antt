@@ -38,7 +38,7 @@ use denote.Triple.Table.{entered, cited}
 use denote.Triple.Walked.{says, Stays, stay-dropped, goes-dropped, walkOf, ends-at, walked, walk-meets}
 use denote.Triple.Clauses.{lasts, ensured}
 use denote.Exit.{yes}
-use Rattle.book.specs.Calls as calls
+use Rattle.model.specs.Calls as calls
 use Rattle.session.specs.Promises.{readingAnswer, answerOn}
 use Rattle.session.specs.declared.state.Session.{Session}
 use Rattle.session.specs.declared.answers.Reading.{Reading}

@@ -1,5 +1,5 @@
 use mathlib.Core.Path.{_≡_, refl}
-use Rattle.session.specs.Tests.{lentOf}
+use Rattle.formats.specs.Inputs.{inputsOf}
 use Rattle.probes.specs.Probed.{advanced}
 use Rattle.probes.proofs.ProbeLaws.{once-more, all-done}
 use native.Mathlib.Omega.{arith}
@@ -12,7 +12,7 @@ use Rattle.session.proofs.state.Session.advance.Reads as advance-reads
 
 abbrev Inv-loop : tie.InvT-loop
 Inv-loop count plan rules nums bytes u₀ left₀ u left =
-    advanced left (lentOf plan rules nums bytes) u ≡ advanced left₀ (lentOf plan rules nums bytes) u₀
+    advanced left (inputsOf plan rules nums bytes) u ≡ advanced left₀ (inputsOf plan rules nums bytes) u₀
 
 abbrev μ-loop : tie.MeasureT-loop
 μ-loop count plan rules nums bytes u₀ left₀ u left = left

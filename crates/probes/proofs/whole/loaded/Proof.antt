@@ -1,5 +1,5 @@
 use mathlib.Core.Path.{refl}
-use Rattle.book.specs.Model.{idle}
+use Rattle.model.specs.Model.{idle}
 use Rattle.session.specs.Records.{sessionOf, phaseTo}
 use native.Mathlib.Omega.{arith}
 use borrow.Author.Needs.{needs}

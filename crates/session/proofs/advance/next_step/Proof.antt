@@ -1,10 +1,9 @@
 -- `session::advance::next_step` meets its contract. Each return cites the law of its answer.
 -- Assumes nothing.
-use Rattle.book.specs.Lends.{Lent}
-use Rattle.book.specs.Calls.{Call, advance}
+use Rattle.formats.specs.Inputs.{Inputs, inputsOf}
+use Rattle.model.specs.Calls.{advance}
 use Rattle.session.specs.declared.state.Session.{Session}
 use Rattle.session.specs.Records.{whole}
-use Rattle.session.specs.Tests.{lentOf}
 use Rattle.session.proofs.AdvanceLaws.{advance-1, advance-limits, advance-17, next-args, handle-args, advance-18}
 use Rattle.session.proofs.AdvanceLaws.{made-found}
 use Rattle.session.proofs.StepLaws.{refused-found}
@@ -19,8 +18,8 @@ abbrev of : tie.After-is-running → Session
 of a =
     let b = at a .args in whole (b .h) (b .nodes .now) (b .labels .now) (b .roots .now) (b .states .now)
 
-abbrev lent : tie.After-is-running → Lent
-lent a = let b = at a .args in lentOf (b .plan .now) (b .rules .now) (b .nums .now) (b .bytes .now)
+abbrev lent : tie.After-is-running → Inputs
+lent a = let b = at a .args in inputsOf (b .plan .now) (b .rules .now) (b .nums .now) (b .bytes .now)
 
 is-running-requires : tie.Need-is-running-requires
 is-running-requires c κs = search needs

@@ -1,7 +1,7 @@
 -- `session::loaded::loaded` meets its contract. Its record is the definition's, field by field.
 -- Assumes nothing.
 use mathlib.Core.Path.{refl}
-use Rattle.book.specs.Model.{idle}
+use Rattle.model.specs.Model.{idle}
 use Rattle.session.specs.Records.{sessionOf, phaseTo}
 use Rattle.session.proofs.loaded.loaded.Statement.{statement}
 use Rattle.session.proofs.loaded.loaded.Tie as tie

@@ -1,7 +1,7 @@
 -- `session::may::is_running` meets its contract. Each state has its arm.
 -- Assumes nothing.
 use mathlib.Core.Path.{refl}
-use Rattle.book.specs.Calls.{isRunning}
+use Rattle.model.specs.Calls.{isRunning}
 use Rattle.session.specs.declared.state.Session.{Session}
 use Rattle.session.specs.Records.{phaseOf, whole}
 use Rattle.session.proofs.ValidLaws.{phase-test}

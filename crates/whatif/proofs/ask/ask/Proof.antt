@@ -1,6 +1,6 @@
 use borrow.Author.Needs.{needs}
 use mathlib.Core.Path.{sym, _∙_}
-use Rattle.session.specs.Tests.{lentOf}
+use Rattle.formats.specs.Inputs.{inputsOf}
 use Rattle.whatif.proofs.AskLaws.{started-on, start-refused}
 use Rattle.whatif.proofs.ask.ask.Statement.{statement}
 use Rattle.whatif.proofs.ask.ask.Tie as tie
@@ -23,7 +23,7 @@ returns c =
     let e = c .before .before in
     let d = e .before .before in
     let a = d .before .before .before .before .before .before .before .args in
-    let x = lentOf (a .plan .now) (a .rules .now) (a .nums .now) (a .bytes .now) in
+    let x = inputsOf (a .plan .now) (a .rules .now) (a .nums .now) (a .bytes .now) in
     let o = d .start in
     c .finish .ensures
     ∙ sym (started-on (a .loaded) (o .result .rec) x (a .nodes .now) (a .labels .now) (o .result .told) (o .ensures) _
@@ -36,7 +36,7 @@ returns-2 : tie.Need-returns-2
 returns-2 c =
     let d = c .before .before .before in
     let a = d .before .before .before .before .before .before .before .args in
-    let x = lentOf (a .plan .now) (a .rules .now) (a .nums .now) (a .bytes .now) in
+    let x = inputsOf (a .plan .now) (a .rules .now) (a .nums .now) (a .bytes .now) in
     let o = d .start in
     sym (start-refused (a .loaded) (o .result .rec) x (a .nodes .now) (a .labels .now) (o .result .told) (o .ensures) _
     (c .before .told .given .1))

@@ -2,7 +2,7 @@ use native.Mathlib.Omega.{arith}
 use borrow.Author.Needs.{needs}
 use Prim.Native.Nat.{ℕ, suc, _+_, _-_, _≤_}
 use mathlib.Core.Path.{_≡_, refl, ap, sym, _∙_}
-use Rattle.session.specs.Tests.{lentOf}
+use Rattle.formats.specs.Inputs.{inputsOf}
 use Rattle.whatif.specs.Asked.{finishedIn, mostParts}
 use Rattle.whatif.proofs.AskLaws.{more-turn, finished-turn, refused-turn}
 use Rattle.whatif.proofs.ask.finish.Statement.{statement}
@@ -14,7 +14,7 @@ use Rattle.session.proofs.state.Session.read.Reads as read-reads
 
 abbrev Inv-loop : tie.InvT-loop
 Inv-loop plan rules nums bytes rec₀ turns₀ rec turns =
-    (turns ≤ 254) × (finishedIn (254 - turns) rec (lentOf plan rules nums bytes) ≡ finishedIn mostParts rec₀ (lentOf plan rules nums bytes))
+    (turns ≤ 254) × (finishedIn (254 - turns) rec (inputsOf plan rules nums bytes) ≡ finishedIn mostParts rec₀ (inputsOf plan rules nums bytes))
 
 abbrev μ-loop : tie.MeasureT-loop
 μ-loop plan rules nums bytes rec₀ turns₀ rec turns = 254 - turns
@@ -37,7 +37,7 @@ loop-less c = search needs
 loop-again : tie.Need-loop-again Inv-loop μ-loop
 loop-again c =
     let a = c .before .before .before .before .before .before .before .before .before .before .args in
-    let x = lentOf (a .plan .now) (a .rules .now) (a .nums .now) (a .bytes .now) in
+    let x = inputsOf (a .plan .now) (a .rules .now) (a .nums .now) (a .bytes .now) in
     let l = c .before .before .before .before .before .loop in
     let d = c .before .before .before .advance in
     let e : suc (254 - (l .turns + 1)) ≡ 254 - l .turns = omega arith in
@@ -54,7 +54,7 @@ read-requires c κs = search needs
 returns : tie.Need-returns Inv-loop μ-loop
 returns c =
     let a = c .before .before .before .before .before .before .before .before .before .before .before .args in
-    let x = lentOf (a .plan .now) (a .rules .now) (a .nums .now) (a .bytes .now) in
+    let x = inputsOf (a .plan .now) (a .rules .now) (a .nums .now) (a .bytes .now) in
     let l = c .before .before .before .before .before .before .loop in
     let d = c .before .before .before .before .advance in
     let e : suc (254 - (l .turns + 1)) ≡ 254 - l .turns = omega arith in
@@ -69,7 +69,7 @@ enum-known-told c = search needs
 returns-2 : tie.Need-returns-2 Inv-loop μ-loop
 returns-2 c =
     let a = c .before .before .before .before .before .before .before .before .before .before .before .args in
-    let x = lentOf (a .plan .now) (a .rules .now) (a .nums .now) (a .bytes .now) in
+    let x = inputsOf (a .plan .now) (a .rules .now) (a .nums .now) (a .bytes .now) in
     let l = c .before .before .before .before .before .before .loop in
     let d = c .before .before .before .before .advance in
     let e : suc (254 - (l .turns + 1)) ≡ 254 - l .turns = omega arith in
@@ -84,7 +84,7 @@ returns-3 : tie.Need-returns-3 Inv-loop μ-loop
 unfolding finishedIn
 returns-3 c =
     let a = c .before .before .before .before .before .before .before .args in
-    let x = lentOf (a .plan .now) (a .rules .now) (a .nums .now) (a .bytes .now) in
+    let x = inputsOf (a .plan .now) (a .rules .now) (a .nums .now) (a .bytes .now) in
     let l = c .before .before .loop in
     let e : 0 ≡ 254 - l .turns = omega arith in
     c .read2 .ensures ∙ (ap (λ (n : ℕ). finishedIn n (l .rec) x) e ∙ l .inv .1)

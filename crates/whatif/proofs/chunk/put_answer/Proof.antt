@@ -5,7 +5,7 @@ use mathlib.Core.Path.{sym, subst, _∙_}
 use lib.ListN.{take}
 use mathlib.Core.List.{List}
 use Rattle.session.specs.Promises.{readingAnswer}
-use Rattle.session.specs.Tests.{lentOf}
+use Rattle.formats.specs.Inputs.{inputsOf}
 use Rattle.whatif.specs.Text.{Put}
 use Rattle.whatif.proofs.ClearedLaws.{cleared-answer}
 use Rattle.whatif.proofs.StreamLaws.{kept-line}
@@ -91,7 +91,7 @@ returns c =
     let k = m .kept-changes in
     let s = m .before .before .before .before .before .before .before in
     let a = s .args in
-    let x = lentOf (a .plan .now) (a .rules .now) (a .nums .now) (a .bytes .now) in
+    let x = inputsOf (a .plan .now) (a .rules .now) (a .nums .now) (a .bytes .now) in
     let v = take (k .result) (n .result) in
     let b = take (k .result) (l .result) in
     let e =

@@ -1,8 +1,7 @@
 -- `session::state::Session::advance` meets its contract: its step is found by the record's head and arrays.
 -- Assumes nothing.
-use Rattle.book.specs.Lends.{Lent}
-use Rattle.book.specs.Calls.{advance}
-use Rattle.session.specs.Tests.{lentOf}
+use Rattle.formats.specs.Inputs.{Inputs, inputsOf}
+use Rattle.model.specs.Calls.{advance}
 use Rattle.session.specs.Steps.{StepFound}
 use Rattle.session.proofs.StepLaws.{found-by, step-done}
 use borrow.Author.Needs.{needs}
@@ -12,8 +11,8 @@ use Rattle.session.proofs.state.Session.advance.Tie as tie
 abbrev of : tie.After-next-step → tie.Start
 of a = a .before .before .before .before .before .before .before .before .before .before .before .before .before .before .before
 
-abbrev lent : tie.Start → Lent
-lent c = lentOf (c .args .plan .now) (c .args .rules .now) (c .args .nums .now) (c .args .bytes .now)
+abbrev lent : tie.Start → Inputs
+lent c = inputsOf (c .args .plan .now) (c .args .rules .now) (c .args .nums .now) (c .args .bytes .now)
 
 found : (c : tie.After-next-step) → StepFound (of c .args .t1) (advance (lent (of c))) (c .next-step .result)
 found c =

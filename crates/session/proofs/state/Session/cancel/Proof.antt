@@ -2,7 +2,7 @@
 -- Assumes nothing.
 use mathlib.Core.Path.{_≡_}
 use mathlib.Core.Bool.{_&&_}
-use Rattle.book.specs.Calls.{isRunning}
+use Rattle.model.specs.Calls.{isRunning}
 use Rattle.session.specs.Records.{phaseOf, valid}
 use Rattle.session.specs.Tests.{Shaped}
 use Rattle.session.proofs.Shapes.{shaped}

@@ -1,11 +1,11 @@
 -- `session::state::Session::load` meets its contract. Each return cites the law of its answer.
 -- Assumes nothing.
-use Rattle.book.specs.Lends.{Lent}
+use Rattle.formats.specs.Inputs.{Inputs, inputsOf}
 use mathlib.Core.Path.{_≡_}
 use mathlib.Core.Bool.{_&&_}
-use Rattle.book.specs.Calls.{mayLoad}
+use Rattle.model.specs.Calls.{mayLoad}
 use Rattle.session.specs.Records.{phaseOf, valid}
-use Rattle.session.specs.Tests.{Shaped, lentOf}
+use Rattle.session.specs.Tests.{Shaped}
 use Rattle.session.proofs.Shapes.{shaped}
 use Rattle.session.proofs.CallLaws.{may-by}
 use Rattle.session.proofs.LoadLaws.{load-1, load-headers, load-built, load-refused}
@@ -16,8 +16,8 @@ use Rattle.session.proofs.state.Session.load.Tie as tie
 shape : (c : tie.Start) → Shaped (c .args .t1)
 shape c = shaped (c .args .t1) (c .good .0)
 
-abbrev lent : tie.Start → Lent
-lent c = lentOf (c .args .plan .now) (c .args .rules .now) (c .args .nums .now) (c .args .bytes .now)
+abbrev lent : tie.Start → Inputs
+lent c = inputsOf (c .args .plan .now) (c .args .rules .now) (c .args .nums .now) (c .args .bytes .now)
 
 -- where the record's head was read, and the call's beginning
 abbrev headed : tie.After-may-load → tie.After-head

@@ -2,12 +2,12 @@
 -- Assumes nothing.
 use Prim.Native.Nat.{_*_}
 use lib.Seq.{length-take-le}
-use Rattle.book.specs.Lends.{Lent}
+use Rattle.formats.specs.Inputs.{Inputs, inputsOf}
 use mathlib.Core.Path.{_≡_, sym}
 use mathlib.Core.Bool.{_&&_}
-use Rattle.book.specs.Calls.{mayStart}
+use Rattle.model.specs.Calls.{mayStart}
 use Rattle.session.specs.Records.{phaseOf, valid}
-use Rattle.session.specs.Tests.{Shaped, lentOf}
+use Rattle.session.specs.Tests.{Shaped}
 use Rattle.session.proofs.Shapes.{shaped}
 use Rattle.session.proofs.CallLaws.{may-by}
 use Rattle.session.proofs.StartLaws.{start-1, start-limits, start-17, start-room, start-list, start-listed, start-18}
@@ -20,8 +20,8 @@ use Rattle.session.proofs.state.Session.start.Tie as tie
 shape : (c : tie.Start) → Shaped (c .args .t1)
 shape c = shaped (c .args .t1) (c .good .0)
 
-abbrev lent : tie.Start → Lent
-lent c = lentOf (c .args .plan .now) (c .args .rules .now) (c .args .nums .now) (c .args .bytes .now)
+abbrev lent : tie.Start → Inputs
+lent c = inputsOf (c .args .plan .now) (c .args .rules .now) (c .args .nums .now) (c .args .bytes .now)
 
 -- where the record's head was read, and the call's beginning
 abbrev headed : tie.After-may-start → tie.After-head
