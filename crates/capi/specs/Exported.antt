@@ -13,26 +13,26 @@ use mathlib.Core.List.{List}
 use Rattle.tables.specs.declared.answers.Building.{Building}
 use Rattle.tables.specs.declared.answers.Checking.{Checking}
 use Rattle.tables.specs.declared.answers.Checking.the-variants.{Yes, No, Refused as NotChecked}
-use Rattle.tables.specs.Answers.{numberOf, checkNumber, BuildDone, CheckDone}
-use Rattle.runs.specs.declared.answer.Running.{Running}
-use Rattle.runs.specs.declared.answer.Running.the-variants.{Ended, Refused as NotRun}
-use Rattle.runs.specs.FreshRun.{numberOf as runNumber, FreshRunDone}
+use Rattle.tables.specs.Answers.{buildingNumber, checkNumber, BuildDone, CheckDone}
 use Rattle.branches.specs.declared.answers.Branching.{Branching}
 use Rattle.branches.specs.declared.answers.Branching.the-variants.{Told, Refused as NotTold}
 use Rattle.branches.specs.Question.{branchNumber}
 use Rattle.branches.specs.Promise.{AskDone}
+use Rattle.runs.specs.declared.answer.Running.{Running}
+use Rattle.runs.specs.declared.answer.Running.the-variants.{Ended, Refused as NotRun}
+use Rattle.runs.specs.FreshRun.{runningNumber, FreshRunDone}
 
 abbrev pub bitOf : Bool → ℕ
 bitOf true = 1
 bitOf false = 0
 
 abbrev pub BuildNumber : Building → ℕ → Type 0
-BuildNumber a r = r ≡ numberOf a
+BuildNumber a r = r ≡ buildingNumber a
 
 pub record BuildExported (n : ℕ) (links states nums bytes : List ℕ) (r : ℕ) (nums′ bytes′ : List ℕ) : Type 0 where
   pub answer : Building
   pub done : BuildDone n links states nums bytes answer nums′ bytes′
-  pub told : r ≡ numberOf answer
+  pub told : r ≡ buildingNumber answer
 
 abbrev pub yesOf : Checking → ℕ → ℕ
 yesOf Yes old = 1
@@ -57,7 +57,7 @@ markedOf (Ended q m) old = bitOf m
 markedOf (NotRun n) old = old
 
 pub record RunNumber (a : Running) (state₀ yes₀ r state₁ yes₁ : ℕ) : Type 0 where
-  pub told : r ≡ runNumber a
+  pub told : r ≡ runningNumber a
   pub state-told : state₁ ≡ stateOf a state₀
   pub yes-told : yes₁ ≡ markedOf a yes₀
 

@@ -1,13 +1,13 @@
 use branches::answers::Branching;
 use branches::ask::ask_branch;
-use branches::build::build_branch;
+use branches::build::build_branch_tables;
 use branches::check::check_branch_tables;
 use runs::answer::Running;
 use runs::fresh::fresh_run;
 use tables::answers::Building;
 use tables::answers::Checking;
-use tables::build::build_rules;
-use tables::check::check_rules;
+use tables::build::build_tables;
+use tables::check::check_tables;
 ghost use mathlib.Core.Path.{_≡_};
 ghost use lib.ListN.{length};
 ghost use Rattle.formats.specs.Checks.{firstNo, buildChecks, branchBuildChecks};
@@ -39,7 +39,7 @@ pub extern "C" fn whatif_build(
         (builtLinks (now (plan .entry))) (builtStates (now (plan .entry)) (now (rules .entry)))
         (now («node_table» .entry)) (now («state_table» .entry)) r (now («node_table» .exit)) (now («state_table» .exit)) ⌝ }
 {
-    let answer = build_rules(plan, rules, node_table, state_table);
+    let answer = build_tables(plan, rules, node_table, state_table);
     build_number(answer)
 }
 
@@ -57,7 +57,7 @@ pub extern "C" fn whatif_branch_build(
         (builtLinks (now (plan .entry))) (builtSteps (now (plan .entry)) (now (branch .entry)))
         (now («node_table» .entry)) (now («state_table» .entry)) r (now («node_table» .exit)) (now («state_table» .exit)) ⌝ }
 {
-    let answer = build_branch(plan, branch, node_table, state_table);
+    let answer = build_branch_tables(plan, branch, node_table, state_table);
     build_number(answer)
 }
 
@@ -93,7 +93,7 @@ pub extern "C" fn whatif_check(
         (builtLinks (now (plan .entry))) (builtStates (now (plan .entry)) (now (rules .entry)))
         (now («node_table» .entry)) (now («state_table» .entry)) r (now (yes .entry)) (now (yes .exit)) ⌝ }
 {
-    let answer = check_rules(plan, rules, node_table, state_table);
+    let answer = check_tables(plan, rules, node_table, state_table);
     check_number(answer, yes)
 }
 

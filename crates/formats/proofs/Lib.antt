@@ -15,3 +15,4 @@ pub mod BranchAnswers
 pub mod ListAnswers
 pub mod InputLaws
 pub mod InputAnswers
+pub mod BufferLaws
