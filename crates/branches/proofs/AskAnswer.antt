@@ -14,14 +14,15 @@ use Rattle.trees.specs.Climb.{andThen}
 use Rattle.trees.specs.Tables.{tabulate}
 use Rattle.formats.specs.Plan.{nodeCount}
 use Rattle.formats.specs.Rules.{stateCount, labelCount}
+use Rattle.formats.specs.Buffers.{branchTables}
 use Rattle.formats.proofs.PartLaws.{length-part}
+use Rattle.formats.proofs.BufferLaws.{Headed, headed-are}
 use Rattle.branches.specs.declared.answers.Branching.{Branching}
 use Rattle.branches.specs.declared.answers.Branching.the-variants.{Refused}
 use Rattle.branches.specs.declared.climb.Composed.{Composed}
 use Rattle.branches.specs.Question.{branchOn, toldBranch}
 use Rattle.branches.specs.Compose.{mapAt, Counted, composition, ComposeArgs, ComposedTo}
 use Rattle.branches.specs.Finish.{finish, FinishArgs, AnswerArgs}
-use Rattle.branches.proofs.FitLaws.{LentFits, lent-fits}
 use Rattle.branches.proofs.FollowLaws.{MapOf, identity-map}
 use Rattle.branches.proofs.MapHalves.{getD-mapAt, same, same-map}
 use Rattle.branches.proofs.AskParts.{Handed, composition-map, composition-is, finish-is}
@@ -29,16 +30,16 @@ use Rattle.branches.proofs.AskParts.{branch-on-parts, branchFinish}
 
 module _ (p r nums bytes : List ℕ) (u l n s k to : ℕ) (ls st mk : List ℕ) (A : AnswerArgs p r nums bytes u l)
     (H : Handed p r nums u n s k to ls st mk) where
-  fit : LentFits p r nums bytes
-  fit = lent-fits p r nums bytes (A .fits)
+  fit : Headed branchTables p r (length nums) (length bytes)
+  fit = headed-are branchTables p r (length nums) (length bytes) (A .fits)
 
   labels-long : length ls ≡ n
   labels-long =
-      ap length (H .label-run) ∙ length-part p 12 (nodeCount p) (omega (arith, fit .plan .exact)) ∙ sym (H .nodes)
+      ap length (H .label-run) ∙ length-part p 12 (nodeCount p) (omega (arith, fit .plan-exact)) ∙ sym (H .nodes)
 
   steps-long : length st ≡ stateCount r * labelCount r
   steps-long =
-      ap length (H .step-run) ∙ length-part r 16 (stateCount r * labelCount r) (omega (arith, fit .branch .exact))
+      ap length (H .step-run) ∙ length-part r 16 (stateCount r * labelCount r) (omega (arith, fit .table-exact))
 
   steps-product : stateCount r * labelCount r ≡ s * k
   steps-product = rw (H .states, H .labels)
@@ -46,17 +47,17 @@ module _ (p r nums bytes : List ℕ) (u l n s k to : ℕ) (ls st mk : List ℕ) 
   marks-long : length mk ≡ s
   marks-long =
       ap length (H .mark-run)
-      ∙ length-part r (16 + stateCount r * labelCount r) (stateCount r) (omega (arith, fit .branch .exact))
+      ∙ length-part r (16 + stateCount r * labelCount r) (stateCount r) (omega (arith, fit .table-exact))
       ∙ sym (H .states)
 
   few : s ≤ 16
-  few = omega (arith, fit .branch .states-most, H .states)
+  few = omega (arith, fit .headers .in-limits .few, H .states)
 
   pub compose-args : ComposeArgs n s k same 0 ls st nums bytes l
   compose-args = record {
     halves = record { few = few; long = refl; half = omega arith; within = omega arith };
     at = omega (arith, A .lower, H .nodes);
-    most = omega (arith, fit .plan .most, H .nodes);
+    most = omega (arith, fit .headers .in-limits .most, H .nodes);
     labels-room = omega (arith, labels-long);
     steps-room = omega (arith, steps-long, steps-product);
     nums-room = omega (arith, fit .nums-room, H .nodes);
@@ -81,7 +82,7 @@ module _ (p r nums bytes : List ℕ) (u l n s k to : ℕ) (ls st mk : List ℕ) 
         let M : MapOf s (found .map) =
         composition-map s k ls st bytes n nums l to (tabulate s (λ q. q)) found (identity-map s) (composed-as true h) in
         record {
-          least = omega (arith, fit .branch .states-least, H .states);
+          least = omega (arith, fit .headers .in-limits .states, H .states);
           upper = omega (arith, labels-long, A .upper, H .nodes);
           steps-room = omega (arith, steps-long, steps-product);
           marks-room = omega (arith, marks-long);

@@ -27,14 +27,15 @@ use Rattle.formats.specs.Plan.{nodeCount, labelsIn, planTree}
 use Rattle.formats.specs.Rules.{stateCount, labelCount, branchAutomaton}
 use Rattle.formats.specs.Checks.{check, firstNo}
 use Rattle.formats.specs.Built.{BranchBuilt}
+use Rattle.formats.specs.Buffers.{headedBuffersFit, branchTables}
 use Rattle.formats.proofs.ListLaws.{allBelow-not}
-use Rattle.links.specs.Cells.{depthCell, cellForest, isBelow}
+use Rattle.formats.proofs.BufferLaws.{headed-are}
+use Rattle.links.specs.Cells.{depthCell, cellForest, isInSubtreeOn}
 use Rattle.links.proofs.AstrayLaws.{cells-not-stray}
 use Rattle.tables.specs.StateCells.{mapCell}
-use Rattle.branches.specs.Question.{lentFits, follow, moveMap, firstState, branched, branchOn}
+use Rattle.branches.specs.Question.{follow, moveMap, firstState, branched, branchOn}
 use Rattle.branches.specs.Question.{isSome, askChecks, askNumber}
 use Rattle.branches.specs.Astray.{BranchAstray, link, map, step, label}
-use Rattle.branches.proofs.FitLaws.{lent-fits}
 use Rattle.branches.proofs.AskBuilt.{size-is, built-links, label-below, built-step, built-map}
 
 -- a map that can't be followed has an entry that is no state
@@ -142,15 +143,15 @@ module _ (p r nums bytes : List ℕ) where
   -- 18 comes only after 17, 13 and 16
   pub ask-astray : (u l : ℕ) → askNumber p r nums bytes u l ≡ 18 → Lost
   unfolding askNumber askChecks firstNo
-  ask-astray u l = go (lentFits p r nums bytes) refl (ltb u (nodeCount p)) refl (ltb l (nodeCount p)) refl (isBelow nums u l)
+  ask-astray u l = go (headedBuffersFit branchTables p r (length nums) (length bytes)) refl (ltb u (nodeCount p)) refl (ltb l (nodeCount p)) refl (isInSubtreeOn nums u l)
       (branchOn p r nums bytes u l) refl
     where
-      go : (f : Bool) → lentFits p r nums bytes ≡ f → (a : Bool) → ltb u (nodeCount p) ≡ a → (b : Bool) → ltb l (nodeCount p) ≡ b
+      go : (f : Bool) → headedBuffersFit branchTables p r (length nums) (length bytes) ≡ f → (a : Bool) → ltb u (nodeCount p) ≡ a → (b : Bool) → ltb l (nodeCount p) ≡ b
           → (c : Bool) (o : _) → branchOn p r nums bytes u l ≡ o
           → firstNo (check 17 f ∷ check 13 (a && b) ∷ check 16 c ∷ check 18 (isSome o) ∷ []) ≡ 18 → Lost
       go true f true a true b true none o e =
           branch-astray u l (ltb-true u (nodeCount p) a) (ltb-true l (nodeCount p) b)
-          (omega (arith, lent-fits p r nums bytes f .branch .states-least)) o
+          (omega (arith, headed-are branchTables p r (length nums) (length bytes) f .headers .in-limits .states)) o
       go true f true a true b true (some x) o e = absurd (omega (arith, e))
       go true f true a true b false o i e = absurd (omega (arith, e))
       go true f true a false b c o i e = absurd (omega (arith, e))

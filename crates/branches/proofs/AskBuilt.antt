@@ -19,17 +19,17 @@ use Rattle.trees.proofs.ClimbLaws.{Tells, same-climb}
 use Rattle.formats.specs.Plan.{nodeCount, labelsIn, planTree}
 use Rattle.formats.specs.Rules.{stateCount, labelCount, branchAutomaton}
 use Rattle.formats.specs.Built.{BranchBuilt}
+use Rattle.formats.specs.Buffers.{headedBuffersFit, branchTables}
 use Rattle.formats.proofs.PlanLaws.{PlanPasses, labels-planTree, size-planTree}
 use Rattle.formats.proofs.BranchLaws.{BranchPasses, step-below}
 use Rattle.formats.proofs.ListLaws.{allBelow-all}
 use Rattle.formats.proofs.InputLaws.{branch-table-passes}
+use Rattle.formats.proofs.BufferLaws.{are-headed}
 use Rattle.links.specs.Cells.{cellForest}
 use Rattle.links.specs.LinkCells.{LinkCells}
 use Rattle.links.proofs.CellLaws.{length-linkTable, link-cells}
 use Rattle.tables.specs.StateCells.{mapCell}
 use Rattle.branches.proofs.BranchInputs.{length-branchTable}
-use Rattle.branches.specs.Question.{lentFits}
-use Rattle.branches.proofs.FitLaws.{fits-lent}
 
 -- a buffer that begins with a list of n elements has n
 begins : (n : ℕ) (b l : List ℕ) → take n b ≡ l → length l ≡ n → n ≤ length b
@@ -64,22 +64,22 @@ module _ (p r nums bytes : List ℕ) (D : BranchBuilt p r nums bytes) where
       begins (nodeCount p * (stateCount r + 1)) bytes (branchTable automaton tree) (D .states)
       (length-branchTable automaton tree ∙ ap (λ (n : ℕ). n * (stateCount r + 1)) size-is)
 
-  pub fits-built : lentFits p r nums bytes ≡ true
-  fits-built = fits-lent p r nums bytes (record {
-    plan = record {
-      long = plan-passes .long;
-      least = plan-passes .least;
-      most = plan-passes .most;
-      exact = plan-passes .exact;
+  pub fits-built : headedBuffersFit branchTables p r (length nums) (length bytes) ≡ true
+  fits-built = are-headed branchTables p r (length nums) (length bytes) (record {
+    headers = record {
+      plan-long = plan-passes .long;
+      table-long = table-passes .long;
+      in-limits = record {
+        nodes = plan-passes .least;
+        most = plan-passes .most;
+        states = table-passes .states-least;
+        few = table-passes .states-most;
+        labels = table-passes .labels-least;
+        labels-most = table-passes .labels-most;
+      };
     };
-    branch = record {
-      long = table-passes .long;
-      states-least = table-passes .states-least;
-      states-most = table-passes .states-most;
-      labels-least = table-passes .labels-least;
-      labels-most = table-passes .labels-most;
-      exact = table-passes .exact;
-    };
+    plan-exact = plan-passes .exact;
+    table-exact = table-passes .exact;
     nums-room = links-room;
     bytes-room = states-room;
   })

@@ -9,14 +9,16 @@ use mathlib.Core.Bool.{Bool, true, false, _&&_}
 use mathlib.Core.List.{List}
 use mathlib.Core.Option.{Option, none, some}
 use lib.Dec.{ltb}
+use lib.ListN.{length}
 use borrow.Author.Tests.{lt-ltb, le-ltb}
 use Rattle.formats.specs.Plan.{nodeCount}
 use Rattle.formats.specs.Checks.{firstNo}
 use Rattle.formats.proofs.CheckLaws.{and-both, and-no-left, and-no-right}
 use Rattle.formats.proofs.PartLaws.{four, four-1, four-2, four-3}
+use Rattle.formats.specs.Buffers.{headedBuffersFit, branchTables}
+use Rattle.links.specs.Cells.{isInSubtreeOn}
 use Rattle.branches.specs.declared.answers.Branching.the-variants.{Refused}
-use Rattle.branches.specs.Question.{lentFits, Branched, branchOn, isSome, askChecks}
-use Rattle.links.specs.Cells.{isBelow}
+use Rattle.branches.specs.Question.{Branched, branchOn, isSome, askChecks}
 use Rattle.branches.specs.Question.{askNumber, branchNumber, toldBranch, askAnswer}
 
 -- four checks, the last of which asks whether there is an answer
@@ -45,13 +47,13 @@ told-number false b c o = refl
 
 module _ (p r nums bytes : List ℕ) (u l : ℕ) where
   abbrev fits : Bool
-  fits = lentFits p r nums bytes
+  fits = headedBuffersFit branchTables p r (length nums) (length bytes)
 
   abbrev nodes : Bool
   nodes = ltb u (nodeCount p) && ltb l (nodeCount p)
 
   abbrev below : Bool
-  below = isBelow nums u l
+  below = isInSubtreeOn nums u l
 
   abbrev on : Option Branched
   on = branchOn p r nums bytes u l

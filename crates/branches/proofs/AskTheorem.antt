@@ -14,12 +14,12 @@ use lib.ListN.{length, getD}
 use borrow.Author.Tests.{lt-ltb}
 use Rattle.trees.specs.Tree.{Tree, size, height, labelAt}
 use Rattle.trees.specs.Automaton.{WordAutomaton, wordRun}
-use Rattle.trees.specs.Numbering.{sub, depth, ancestor, labelsDown, word}
+use Rattle.trees.specs.Numbering.{sub, depth, ancestor, labelsDown, word, AtOrBelow}
 use Rattle.trees.specs.Climb.{Move, andThen, climb, carry, walk, moveCount, digits}
 use Rattle.trees.specs.Tables.{tabulate}
 use Rattle.trees.proofs.BranchMapLaws.{labelsDown-one, labelsDown-add}
 use Rattle.trees.proofs.HeightLaws.{depth-height}
-use Rattle.trees.proofs.IntervalLaws.{Above, ancestor-interval, interval-ancestor, above-at}
+use Rattle.trees.proofs.IntervalLaws.{ancestor-interval, interval-ancestor, above-at}
 use Rattle.trees.proofs.MoveCount.{moveCount-done, moveCount-bound}
 use Rattle.trees.proofs.Choice.{le-or}
 use Rattle.trees.proofs.TreeClimbs.{Climbed, climb-tree}
@@ -27,13 +27,13 @@ use Rattle.formats.specs.Plan.{nodeCount, labelsIn, planTree}
 use Rattle.formats.specs.Rules.{stateCount, labelCount, branchAutomaton}
 use Rattle.formats.specs.Built.{BranchBuilt}
 use Rattle.links.specs.Cells.{depthCell, cellForest}
+use Rattle.links.specs.Cells.{isInSubtreeOn}
 use Rattle.branches.specs.declared.answers.Branching.{Branching}
 use Rattle.branches.specs.declared.answers.Branching.the-variants.{Refused}
 use Rattle.branches.specs.Question.{moveMap, firstState, Branched, branched, branchOn}
-use Rattle.links.specs.Cells.{isBelow}
 use Rattle.branches.specs.Question.{toldBranch, askAnswer, branchNumber}
-use Rattle.branches.specs.Promise.{AtOrBelow, wordAnswer, AskDone}
-use Rattle.branches.proofs.FinishLaws.{isBelow-true, true-isBelow}
+use Rattle.branches.specs.Promise.{wordAnswer, AskDone}
+use Rattle.branches.proofs.FinishLaws.{in-subtree-is, is-in-subtree}
 use Rattle.branches.proofs.WordWalks.{labelStep, walk-identity}
 use Rattle.branches.proofs.AskBuilt.{size-is, fits-built, built-links, built-climb, built-label}
 use Rattle.branches.proofs.AskBuilt.{label-below, built-step}
@@ -80,8 +80,7 @@ module _ (p r nums bytes : List ℕ) (D : BranchBuilt p r nums bytes) (u l : ℕ
       )
 
   module _ (A : AtOrBelow (planTree p) u l) where
-    above : Above t u l
-    unfolding AtOrBelow
+    above : AtOrBelow t u l
     above = A
 
     above-is : (depth t u ≤ depth t l) × (ancestor t l (depth t l - depth t u) ≡ u)
@@ -128,10 +127,10 @@ module _ (p r nums bytes : List ℕ) (D : BranchBuilt p r nums bytes) (u l : ℕ
         (told (climbed .moves) walked) first-built
         ∙ ap₂ (λ (q n : ℕ). some (branched B q n)) state-built (climbed .count)
 
-    below-built : isBelow nums u l ≡ true
+    below-built : isInSubtreeOn nums u l ≡ true
     below-built =
         let w = ancestor-interval t u l (above .0) lower-in (above .1) (above .2) in
-        true-isBelow nums u l (w .0) (rw (built-links p r nums bytes D .sizes u upper-in) (w .1))
+        is-in-subtree nums u l (w .0) (rw (built-links p r nums bytes D .sizes u upper-in) (w .1))
 
     pub ask-built : askAnswer p r nums bytes u l ≡ wordAnswer p r u l
     unfolding wordAnswer toldBranch
@@ -141,12 +140,11 @@ module _ (p r nums bytes : List ℕ) (D : BranchBuilt p r nums bytes) (u l : ℕ
   -- ---- 16
 
   pub ask-apart : (AtOrBelow (planTree p) u l → ⊥) → askAnswer p r nums bytes u l ≡ Refused 16
-  unfolding AtOrBelow
-  ask-apart never = sym (ask-16 p r nums bytes u l (fits-built p r nums bytes D) hu hl (go (isBelow nums u l) refl))
+  ask-apart never = sym (ask-16 p r nums bytes u l (fits-built p r nums bytes D) hu hl (go (isInSubtreeOn nums u l) refl))
     where
-      go : (b : Bool) → isBelow nums u l ≡ b → b ≡ false
+      go : (b : Bool) → isInSubtreeOn nums u l ≡ b → b ≡ false
       go true e =
-          let w = isBelow-true nums u l e in
+          let w = in-subtree-is nums u l e in
           let i : u < l + size (sub t u) = rw (← built-links p r nums bytes D .sizes u upper-in) (w .1) in
           absurd (never (interval-ancestor t u l upper-in lower-in (w .0, i)))
       go false e = refl

@@ -19,7 +19,7 @@ use Rattle.formats.proofs.InputLaws.{branch-table-passes, branch-build-table, p
 use Rattle.tables.specs.declared.answers.Building.{Building}
 use Rattle.tables.specs.declared.answers.Checking.{Checking}
 use Rattle.tables.specs.declared.answers.Checking.the-variants.{Yes, No}
-use Rattle.tables.specs.Answers.{numberOf, BuildDone, CheckDone}
+use Rattle.tables.specs.Answers.{buildingNumber, BuildDone, CheckDone}
 use Rattle.tables.proofs.BuildLaws.{length-builtLinks, built-lists}
 use Rattle.tables.proofs.CheckAnswers.{Begins, begins-room, done-yes, yes-done, done-no, no-done}
 use Rattle.branches.proofs.BranchInputs.{length-builtSteps}
@@ -46,7 +46,7 @@ module _ (p r : List ℕ) (pass : firstNo (branchTableChecks p r) ≡ 0) where
 -- whatever the buffers were, an accepted build leaves them as built
 pub built-branch-built : (p r nums bytes nums′ bytes′ : List ℕ) (answer : Building)
     → BuildDone (branchBuildNumber p r nums bytes) (builtLinks p) (builtSteps p r) nums bytes answer nums′ bytes′
-    → numberOf answer ≡ 0 → BranchBuilt p r nums′ bytes′
+    → buildingNumber answer ≡ 0 → BranchBuilt p r nums′ bytes′
 built-branch-built p r nums bytes nums′ bytes′ answer D e =
     let q = built-lists _ (builtLinks p) (builtSteps p r) nums bytes answer nums′ bytes′ D e in
     rw (q .1, q .2) (written-branch-built p r (branch-build-table p r (length nums) (length bytes) (q .0))
@@ -103,7 +103,7 @@ module _ (p r nums bytes : List ℕ) where
 -- nums and bytes before an accepted build, nums′ and bytes′ after it
 pub build-then-check : (p r nums bytes nums′ bytes′ : List ℕ) (built : Building) (checked : Checking)
     → BuildDone (branchBuildNumber p r nums bytes) (builtLinks p) (builtSteps p r) nums bytes built nums′ bytes′
-    → numberOf built ≡ 0
+    → buildingNumber built ≡ 0
     → CheckDone (branchBuildNumber p r nums′ bytes′) (builtLinks p) (builtSteps p r) nums′ bytes′ checked
     → checked ≡ Yes
 build-then-check p r nums bytes nums′ bytes′ built checked B e C =

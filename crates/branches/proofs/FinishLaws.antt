@@ -1,5 +1,5 @@
 -- Check 16, and the end of a branch question.
---     isBelow-true, true-isBelow                       what it says, and back
+--     in-subtree-is, is-in-subtree                       what it says, and back
 --     first-is                                         the state after the upper node's label
 --     finish-no-label, finish-no-state, finish-told    what is told of a composed map
 -- Assumes nothing.
@@ -12,12 +12,13 @@ use native.Mathlib.Omega.{arith}
 use lib.Dec.{leb, ltb, eqb}
 use lib.ListN.{getD}
 use borrow.Author.Tests.{leb-true, le-leb, lt-leb, ltb-true, lt-ltb, le-ltb}
+use Rattle.trees.specs.Numbering.{isInSubtree}
 use Rattle.trees.proofs.Choice.{le-or}
 use Rattle.formats.proofs.CheckLaws.{and-both, and-left, and-right, and-no-left, and-no-right}
 use Rattle.links.specs.Cells.{sizeCell}
+use Rattle.links.specs.Cells.{isInSubtreeOn}
 use Rattle.branches.specs.declared.answers.Branching.the-variants.{Told, Refused}
 use Rattle.branches.specs.Question.{toldBranch}
-use Rattle.links.specs.Cells.{isBelow}
 use Rattle.branches.specs.Compose.{mapAt}
 use Rattle.branches.specs.Finish.{firstOf, finish}
 use Rattle.branches.proofs.MapHalves.{getD-mapAt}
@@ -25,16 +26,16 @@ use Rattle.branches.proofs.MapHalves.{getD-mapAt}
 -- ---- check 16
 
 module _ (nums : List ℕ) (u l : ℕ) where
-  pub isBelow-true : isBelow nums u l ≡ true → (l ≤ u) × (u < l + sizeCell nums u)
-  unfolding isBelow
-  isBelow-true e = (
+  pub in-subtree-is : isInSubtreeOn nums u l ≡ true → (l ≤ u) × (u < l + sizeCell nums u)
+  unfolding isInSubtree
+  in-subtree-is e = (
     leb-true l u (and-left (leb l u) (ltb u (l + sizeCell nums u)) e),
     ltb-true u (l + sizeCell nums u) (and-right (leb l u) (ltb u (l + sizeCell nums u)) e),
   )
 
-  pub true-isBelow : l ≤ u → u < l + sizeCell nums u → isBelow nums u l ≡ true
-  unfolding isBelow
-  true-isBelow h i = and-both (leb l u) (ltb u (l + sizeCell nums u)) (le-leb l u h) (lt-ltb u (l + sizeCell nums u) i)
+  pub is-in-subtree : l ≤ u → u < l + sizeCell nums u → isInSubtreeOn nums u l ≡ true
+  unfolding isInSubtree
+  is-in-subtree h i = and-both (leb l u) (ltb u (l + sizeCell nums u)) (le-leb l u h) (lt-ltb u (l + sizeCell nums u) i)
 
 -- ---- the state after the upper node's label
 

@@ -1,6 +1,5 @@
 pub mod FollowLaws
 pub mod MapHalves
-pub mod FitLaws
 pub mod MoveMaps
 pub mod MovedLaws
 pub mod ComposeTurns

@@ -9,7 +9,7 @@ use native.Mathlib.Omega.{arith}
 use lib.ListN.{length, getD}
 use Rattle.tables.specs.StateCells.{mapCell}
 use Rattle.tables.specs.Rows.{RowTo}
-use Rattle.tables.proofs.RowTurns.{row-other}
+use Rattle.tables.proofs.MapRowLaws.{row-other}
 use Rattle.branches.specs.Maps.{stepCell, StepRowArgs}
 
 module _ (s v p j k a i : ℕ) (st b₀ b : List ℕ) (r : RowTo s (stepCell s b₀ p j st k a) v i b₀ b)

@@ -16,7 +16,8 @@ use lib.ListN.{length, getD}
 use Rattle.trees.specs.Climb.{andThen}
 use Rattle.formats.specs.Plan.{nodeCount}
 use Rattle.formats.specs.Rules.{wordAutomaton}
-use Rattle.branches.specs.Question.{Branched, branched, lentFits}
+use Rattle.formats.specs.Buffers.{headedBuffersFit, branchTables}
+use Rattle.branches.specs.Question.{Branched, branched}
 
 unfoldable pub firstOf : ℕ → ℕ → List ℕ → List ℕ → ℕ → Option ℕ
 firstOf s k ls st u =
@@ -35,6 +36,6 @@ pub record FinishArgs (s k : ℕ) (ls st mk : List ℕ) (u : ℕ) (maps : List �
   pub below : (q : ℕ) → q < s → getD maps (at + q) 0 < s
 
 pub record AnswerArgs (p r nums bytes : List ℕ) (u l : ℕ) : Type 0 where
-  pub fits : lentFits p r nums bytes ≡ true
+  pub fits : headedBuffersFit branchTables p r (length nums) (length bytes) ≡ true
   pub upper : u < nodeCount p
   pub lower : l < nodeCount p

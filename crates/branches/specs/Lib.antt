@@ -1,7 +1,6 @@
 pub mod Question
 pub mod Promise
 pub mod Compose
-pub mod Fits
 pub mod Finish
 pub mod Lent
 pub mod Maps

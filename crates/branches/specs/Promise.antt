@@ -1,6 +1,5 @@
 -- What a branch question promises, on every input and on tables as built.
 --
--- AtOrBelow t u l == node l is u or stands below it: some number of parents above l is u
 -- AskDone .. == the promise of a branch question
 --
 -- Assumes nothing.
@@ -8,9 +7,9 @@ use Prim.Native.Nat.{ℕ, _<_, _≤_, _*_}
 use mathlib.Core.Path.{_≡_}
 use mathlib.Core.List.{List}
 use mathlib.Core.Logic.{_⊎_}
-use Rattle.trees.specs.Tree.{Tree, height}
+use Rattle.trees.specs.Tree.{height}
 use Rattle.trees.specs.Automaton.{wordRun}
-use Rattle.trees.specs.Numbering.{ancestor, depth, word}
+use Rattle.trees.specs.Numbering.{depth, word, AtOrBelow}
 use Rattle.trees.specs.Climb.{moveCount, digits}
 use Rattle.formats.specs.Plan.{nodeCount, planTree}
 use Rattle.formats.specs.Rules.{branchAutomaton}
@@ -19,9 +18,6 @@ use Rattle.branches.specs.declared.answers.Branching.{Branching}
 use Rattle.branches.specs.declared.answers.Branching.the-variants.{Told, Refused}
 use Rattle.branches.specs.Question.{askNumber, askAnswer, branchNumber}
 use Rattle.branches.specs.Astray.{BranchAstray}
-
-unfoldable pub AtOrBelow : Tree → ℕ → ℕ → Type 0
-AtOrBelow t u l = (n : ℕ) × (n ≤ depth t l) × (ancestor t l n ≡ u)
 
 -- "a branch answer is the word automaton's on the labels from the upper node down to the lower"; its links are the moves of the climb
 unfoldable pub wordAnswer : List ℕ → List ℕ → ℕ → ℕ → Branching

@@ -1,7 +1,7 @@
 -- The branch question, on whatever is lent.
 --
--- lentFits p r nums bytes == check 17: headers whole and within limits, plan and branch table exactly as long, tables long enough
--- check 16 goes by the lent size of the upper node u: isBelow nums u l (crate links, Cells)
+-- check 17 goes by the headers: headedBuffersFit branchTables (crate formats, Buffers)
+-- check 16 goes by the lent size of the upper node u: isInSubtreeOn nums u l (crate links, Cells)
 -- follow s m f == the map m after the map f of s states; none where f leads outside the states
 -- moveMap .. == what one move of the climb makes of the map from the node reached so far down to the lower node
 -- firstState .. == the state after the upper node's label
@@ -13,38 +13,24 @@
 -- "It tells state, yes or no, and the links of the climb from the lower node to the upper's depth". The word runs downward while the
 -- climb goes up, so each move puts its own map before the map carried so far.
 -- Assumes nothing.
-use Prim.Native.Nat.{ℕ, zero, suc, _+_, _*_}
+use Prim.Native.Nat.{ℕ, zero, suc}
 use mathlib.Core.Bool.{Bool, true, false, cond, _&&_}
 use mathlib.Core.List.{List, [], _∷_}
 use mathlib.Core.Option.{Option, none, some}
-use lib.Dec.{leb, ltb, eqb}
+use lib.Dec.{ltb}
 use lib.ListN.{length, getD}
 use Rattle.trees.specs.Automaton.{WordAutomaton}
 use Rattle.trees.specs.Climb.{Move, byJump, toParent, andThen, climb, carry}
 use Rattle.trees.specs.Tables.{tabulate}
 use Rattle.formats.specs.Bytes.{allBelow}
-use Rattle.formats.specs.Limits.{nodeLimit, stateLimit, labelLimit, within}
-use Rattle.formats.specs.Plan.{nodeCount, planLength, labelsIn}
-use Rattle.formats.specs.Rules.{stateCount, labelCount, branchLength, branchAutomaton}
-use Rattle.formats.specs.Checks.{Check, check, firstNo, linkLength, stateLength}
-use Rattle.links.specs.Cells.{depthCell, cellForest, isBelow}
+use Rattle.formats.specs.Plan.{nodeCount, labelsIn}
+use Rattle.formats.specs.Rules.{stateCount, labelCount, branchAutomaton}
+use Rattle.formats.specs.Checks.{Check, check, firstNo}
+use Rattle.formats.specs.Buffers.{headedBuffersFit, branchTables}
+use Rattle.links.specs.Cells.{depthCell, cellForest, isInSubtreeOn}
 use Rattle.tables.specs.StateCells.{mapCell}
 use Rattle.branches.specs.declared.answers.Branching.{Branching}
 use Rattle.branches.specs.declared.answers.Branching.the-variants.{Told, Refused}
-
--- "A branch question takes N, S and K from the lent headers: 17, also for a header cut short or a number outside its limits"; "lent
--- plan, rules and tables at least as long as N, S and K need, plan and rules exactly? 17"
-unfoldable pub lentFits : List ℕ → List ℕ → List ℕ → List ℕ → Bool
-lentFits p r nums bytes =
-    leb 12 (length p)
-    && (within 1 nodeLimit (nodeCount p)
-    && (eqb (length p) (planLength (nodeCount p))
-    && (leb 16 (length r)
-    && (within 1 stateLimit (stateCount r)
-    && (within 1 labelLimit (labelCount r)
-    && (eqb (length r) (branchLength (stateCount r) (labelCount r))
-    && (leb (linkLength (nodeCount p)) (length nums)
-    && leb (stateLength (nodeCount p) (stateCount r)) (length bytes))))))))
 
 unfoldable pub follow : ℕ → List ℕ → (ℕ → ℕ) → Option (List ℕ)
 follow s m f = cond (allBelow s (tabulate s f)) (some (tabulate s (λ q. getD m (f q) 0))) none
@@ -83,10 +69,10 @@ isSome (some x) = true
 
 unfoldable pub askChecks : List ℕ → List ℕ → List ℕ → List ℕ → ℕ → ℕ → List Check
 askChecks p r nums bytes u l =
-    check 17 (lentFits p r nums bytes)
+    check 17 (headedBuffersFit branchTables p r (length nums) (length bytes))
     ∷ check 13 (ltb u (nodeCount p) && ltb l (nodeCount p))
     -- "lower node at or below upper? 16"
-    ∷ check 16 (isBelow nums u l)
+    ∷ check 16 (isInSubtreeOn nums u l)
     ∷ check 18 (isSome (branchOn p r nums bytes u l))
     ∷ []
 

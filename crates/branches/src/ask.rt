@@ -3,15 +3,15 @@
 use crate::answers::Branching;
 use crate::climb::SAME;
 use crate::climb::compose_climb;
-use crate::lent::lent_fits;
+use formats::buffers::branch_buffers_fit;
 use formats::bytes::read32;
 use links::moves::depth_at;
 use links::moves::is_below;
 ghost use mathlib.Core.Path.{_≡_};
 ghost use Prim.Native.Nat.{_+_, _*_, _≤_};
 ghost use lib.ListN.{length};
+ghost use Rattle.links.specs.Cells.{isInSubtreeOn};
 ghost use Rattle.branches.specs.Question.{branchOn, toldBranch};
-ghost use Rattle.links.specs.Cells.{isBelow};
 ghost use Rattle.branches.specs.Promise.{AskDone};
 ghost use Rattle.branches.specs.Compose.{mapAt};
 ghost use Rattle.branches.specs.Finish.{finish, FinishArgs, AnswerArgs};
@@ -95,7 +95,7 @@ pub fn ask_branch(
     ensures { λ r. ⌜ AskDone (now (plan .entry)) (now (branch .entry)) (now (nums .entry)) (now (bytes .entry)) upper
         lower r ⌝ }
 {
-    if !lent_fits(plan, branch, nums, bytes) {
+    if !branch_buffers_fit(plan, branch, nums, bytes) {
         return Branching::Refused(17);
     }
     let n = read32(plan, 0);

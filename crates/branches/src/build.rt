@@ -59,7 +59,12 @@ fn write_branch(
 }
 
 // Writes the tables of a plan and a branch table, or tells the first check of 2 to 11 that fails and alters nothing.
-pub fn build_branch(plan: &[u8], branch: &[u8], nums: &mut [u16], bytes: &mut [u8]) -> Building
+pub fn build_branch_tables(
+    plan: &[u8],
+    branch: &[u8],
+    nums: &mut [u16],
+    bytes: &mut [u8],
+) -> Building
     ensures { λ r. ⌜ BuildDone
         (firstNo (branchBuildChecks (now (plan .entry)) (now (branch .entry)) (length (now (nums .entry)))
         (length (now (bytes .entry)))))

@@ -6,6 +6,5 @@ pub mod check;
 mod check_maps;
 mod check_steps;
 mod climb;
-mod lent;
 mod maps;
 mod steps;

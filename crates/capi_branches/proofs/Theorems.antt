@@ -18,7 +18,7 @@ use mathlib.Core.Option.{Option, some}
 use lib.ListN.{length}
 use Rattle.trees.specs.Tree.{Tree, leaf, size, height, labelAt}
 use Rattle.trees.specs.Automaton.{Automaton, run, state}
-use Rattle.trees.specs.Numbering.{sub, depth, ancestor}
+use Rattle.trees.specs.Numbering.{sub, depth, ancestor, AtOrBelow}
 use Rattle.trees.specs.Jumps.{jump, jumpDepth}
 use Rattle.trees.specs.Climb.{Move, byJump, toParent, forestOf, climb, climbEnd, carry, walk, moveCount, digits}
 use Rattle.trees.proofs.RunLaws.{run-at}
@@ -37,7 +37,7 @@ use Rattle.tables.proofs.BuildLaws.{written-as-built}
 use Rattle.tables.proofs.CheckTheorems.{check-yes, yes-check, buildNumber}
 use Rattle.branches.specs.Question.{askNumber, askAnswer}
 use Rattle.branches.specs.Astray.{BranchAstray}
-use Rattle.branches.specs.Promise.{AtOrBelow, wordAnswer}
+use Rattle.branches.specs.Promise.{wordAnswer}
 use Rattle.branches.proofs.BranchTheorems as branch-theorems
 use Rattle.branches.proofs.BranchTheorems.{written-branch-built}
 use Rattle.branches.proofs.AskTheorem.{ask-built}

@@ -1,7 +1,7 @@
 // The branches' calls: build, full check and the question.
 use branches::answers::Branching;
 use branches::ask::ask_branch;
-use branches::build::build_branch;
+use branches::build::build_branch_tables;
 use branches::check::check_branch_tables;
 use capi_numbers::numbers::bit;
 use capi_numbers::numbers::build_number;
@@ -26,7 +26,7 @@ pub extern "C" fn whatif_branch_build(
         (builtLinks (now (plan .entry))) (builtSteps (now (plan .entry)) (now (branch .entry)))
         (now («node_table» .entry)) (now («state_table» .entry)) r (now («node_table» .exit)) (now («state_table» .exit)) ⌝ }
 {
-    let answer = build_branch(plan, branch, node_table, state_table);
+    let answer = build_branch_tables(plan, branch, node_table, state_table);
     build_number(answer)
 }
 

@@ -6,16 +6,16 @@ use Rattle.tables.specs.declared.answers.Building.{Building}
 use Rattle.tables.specs.declared.answers.Building.the-variants.{Built, Refused as NotBuilt}
 use Rattle.tables.specs.declared.answers.Checking.{Checking}
 use Rattle.tables.specs.declared.answers.Checking.the-variants.{Yes, No, Refused as NotChecked}
-use Rattle.tables.specs.Answers.{numberOf, checkNumber}
+use Rattle.tables.specs.Answers.{buildingNumber, checkNumber}
 use Rattle.capi_numbers.specs.Numbers.{BuildNumber, CheckNumber, yesOf}
 
 pub built : (a : Building) → a ≡ Built → BuildNumber a 0
-unfolding numberOf
-built a e = sym (ap numberOf e)
+unfolding buildingNumber
+built a e = sym (ap buildingNumber e)
 
 pub not-built : (a : Building) (n : ℕ) → a ≡ NotBuilt n → BuildNumber a n
-unfolding numberOf
-not-built a n e = sym (ap numberOf e)
+unfolding buildingNumber
+not-built a n e = sym (ap buildingNumber e)
 
 pub checked-yes : (a : Checking) (old : ℕ) → a ≡ Yes → CheckNumber a old 0 1
 unfolding checkNumber

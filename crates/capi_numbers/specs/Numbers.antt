@@ -14,19 +14,19 @@ use mathlib.Core.List.{List}
 use Rattle.tables.specs.declared.answers.Building.{Building}
 use Rattle.tables.specs.declared.answers.Checking.{Checking}
 use Rattle.tables.specs.declared.answers.Checking.the-variants.{Yes, No, Refused as NotChecked}
-use Rattle.tables.specs.Answers.{numberOf, checkNumber, BuildDone, CheckDone}
+use Rattle.tables.specs.Answers.{buildingNumber, checkNumber, BuildDone, CheckDone}
 
 abbrev pub bitOf : Bool → ℕ
 bitOf true = 1
 bitOf false = 0
 
 abbrev pub BuildNumber : Building → ℕ → Type 0
-BuildNumber a r = r ≡ numberOf a
+BuildNumber a r = r ≡ buildingNumber a
 
 pub record BuildExported (n : ℕ) (links states nums bytes : List ℕ) (r : ℕ) (nums′ bytes′ : List ℕ) : Type 0 where
   pub answer : Building
   pub done : BuildDone n links states nums bytes answer nums′ bytes′
-  pub told : r ≡ numberOf answer
+  pub told : r ≡ buildingNumber answer
 
 abbrev pub yesOf : Checking → ℕ → ℕ
 yesOf Yes old = 1

@@ -5,22 +5,22 @@ use mathlib.Core.Path.{_≡_, sym, ap, _∙_}
 use mathlib.Core.Bool.{Bool}
 use Rattle.runs.specs.declared.answer.Running.{Running}
 use Rattle.runs.specs.declared.answer.Running.the-variants.{Ended, Refused as NotRun}
-use Rattle.runs.specs.FreshRun.{numberOf as runNumber}
+use Rattle.runs.specs.FreshRun.{runningNumber}
 use Rattle.capi_numbers.specs.Numbers.{bitOf}
 use Rattle.capi_tables.specs.RunExported.{RunNumber, stateOf, markedOf}
 
 pub ended : (a : Running) (q₀ y₀ q y : ℕ) (m : Bool) → a ≡ Ended q m → y ≡ bitOf m → RunNumber a q₀ y₀ 0 q y
-unfolding runNumber
+unfolding runningNumber
 ended a q₀ y₀ q y m e b = record {
-  told = sym (ap runNumber e);
+  told = sym (ap runningNumber e);
   state-told = sym (ap (λ (x : Running). stateOf x q₀) e);
   yes-told = b ∙ sym (ap (λ (x : Running). markedOf x y₀) e);
 }
 
 pub not-run : (a : Running) (q₀ y₀ n : ℕ) → a ≡ NotRun n → RunNumber a q₀ y₀ n q₀ y₀
-unfolding runNumber
+unfolding runningNumber
 not-run a q₀ y₀ n e = record {
-  told = sym (ap runNumber e);
+  told = sym (ap runningNumber e);
   state-told = sym (ap (λ (x : Running). stateOf x q₀) e);
   yes-told = sym (ap (λ (x : Running). markedOf x y₀) e);
 }

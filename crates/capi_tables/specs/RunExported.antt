@@ -10,7 +10,7 @@ use mathlib.Core.Path.{_≡_}
 use mathlib.Core.List.{List}
 use Rattle.runs.specs.declared.answer.Running.{Running}
 use Rattle.runs.specs.declared.answer.Running.the-variants.{Ended, Refused as NotRun}
-use Rattle.runs.specs.FreshRun.{numberOf as runNumber, FreshRunDone}
+use Rattle.runs.specs.FreshRun.{runningNumber, FreshRunDone}
 use Rattle.capi_numbers.specs.Numbers.{bitOf}
 
 abbrev pub stateOf : Running → ℕ → ℕ
@@ -22,7 +22,7 @@ markedOf (Ended q m) old = bitOf m
 markedOf (NotRun n) old = old
 
 pub record RunNumber (a : Running) (state₀ yes₀ r state₁ yes₁ : ℕ) : Type 0 where
-  pub told : r ≡ runNumber a
+  pub told : r ≡ runningNumber a
   pub state-told : state₁ ≡ stateOf a state₀
   pub yes-told : yes₁ ≡ markedOf a yes₀
 

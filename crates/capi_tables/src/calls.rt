@@ -4,8 +4,8 @@ use capi_numbers::numbers::build_number;
 use capi_numbers::numbers::check_number;
 use runs::answer::Running;
 use runs::fresh::fresh_run;
-use tables::build::build_rules;
-use tables::check::check_rules;
+use tables::build::build_tables;
+use tables::check::check_tables;
 ghost use lib.ListN.{length};
 ghost use Rattle.formats.specs.Checks.{firstNo, buildChecks};
 ghost use Rattle.formats.specs.Built.{builtLinks, builtStates};
@@ -26,7 +26,7 @@ pub extern "C" fn whatif_build(
         (builtLinks (now (plan .entry))) (builtStates (now (plan .entry)) (now (rules .entry)))
         (now («node_table» .entry)) (now («state_table» .entry)) r (now («node_table» .exit)) (now («state_table» .exit)) ⌝ }
 {
-    let answer = build_rules(plan, rules, node_table, state_table);
+    let answer = build_tables(plan, rules, node_table, state_table);
     build_number(answer)
 }
 
@@ -45,7 +45,7 @@ pub extern "C" fn whatif_check(
         (builtLinks (now (plan .entry))) (builtStates (now (plan .entry)) (now (rules .entry)))
         (now («node_table» .entry)) (now («state_table» .entry)) r (now (yes .entry)) (now (yes .exit)) ⌝ }
 {
-    let answer = check_rules(plan, rules, node_table, state_table);
+    let answer = check_tables(plan, rules, node_table, state_table);
     check_number(answer, yes)
 }
 

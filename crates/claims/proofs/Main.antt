@@ -14,15 +14,15 @@ use lib.ListN.{length, replicate, zip}
 use Rattle.list_laws.specs.Tests.{distinct}
 use Rattle.trees.specs.Tree.{Tree, size, labelAt}
 use Rattle.trees.specs.Automaton.{Automaton, run, state}
-use Rattle.trees.specs.Numbering.{sub}
+use Rattle.trees.specs.Numbering.{sub, AtOrBelow}
 use Rattle.trees.proofs.RunLaws.{run-at}
 use Rattle.formats.specs.Plan.{nodeCount, planTree}
 use Rattle.formats.specs.Built.{BranchBuilt}
 use Rattle.formats.specs.Inputs.{Inputs}
 use Rattle.tables.specs.declared.answers.Building.{Building}
-use Rattle.tables.specs.Answers.{numberOf, BuildDone}
+use Rattle.tables.specs.Answers.{buildingNumber, BuildDone}
 use Rattle.branches.specs.Question.{askAnswer}
-use Rattle.branches.specs.Promise.{InSubtreeOf, wordAnswer}
+use Rattle.branches.specs.Promise.{wordAnswer}
 use Rattle.branches.proofs.AskTheorem.{ask-built}
 use Rattle.model.specs.Calls.{Call, Answer, refused, readAnswer}
 use Rattle.reference.specs.Demand3.{Demand3}
@@ -47,7 +47,7 @@ refusals : (s : Session) (c : Call) (a : Answer) (s′ : Session) → CallByValu
 refusals = refused-in-order
 
 builds-refuse : (n : ℕ) (nodes states x y : List ℕ) (a : Building) (x′ y′ : List ℕ) → BuildDone n nodes states x y a x′ y′
-    → (numberOf a ≡ n) × ((m : ℕ) → n ≡ suc m → (x′ ≡ x) × (y′ ≡ y))
+    → (buildingNumber a ≡ n) × ((m : ℕ) → n ≡ suc m → (x′ ≡ x) × (y′ ≡ y))
 builds-refuse = build-refused
 
 -- ---- demand 2. "On tables as built, a finished answer is the automaton's run on the changed plan (source document 002); a branch answer
@@ -63,7 +63,7 @@ run-at-each-node : (A : Automaton) (t : Tree) (v : ℕ) → v < size t → label
 run-at-each-node = run-at
 
 branch-answers : (p r nodeTable stateTable : List ℕ) → BranchBuilt p r nodeTable stateTable → (u l : ℕ) → u < nodeCount p → l < nodeCount p
-    → InSubtreeOf (planTree p) u l → askAnswer p r nodeTable stateTable u l ≡ wordAnswer p r u l
+    → AtOrBelow (planTree p) u l → askAnswer p r nodeTable stateTable u l ≡ wordAnswer p r u l
 branch-answers = ask-built
 
 -- ---- demand 3. "For every list of the five calls, refused ones included, whatever is lent, the answers are those of the panel book."

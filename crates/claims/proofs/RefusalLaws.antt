@@ -11,7 +11,7 @@ use native.Mathlib.Omega.{arith}
 use Rattle.list_laws.proofs.BoolLaws.{true-false}
 use Rattle.formats.specs.Inputs.{Inputs}
 use Rattle.tables.specs.declared.answers.Building.{Building}
-use Rattle.tables.specs.Answers.{written, numberOf, BuildDone}
+use Rattle.tables.specs.Answers.{written, buildingNumber, BuildDone}
 use Rattle.questions.specs.Climbs.{Reached}
 use Rattle.model.specs.Calls.{Call, load, start, advance, cancel, read, Answer, refused, isRefused}
 use Rattle.model.specs.Refusals.{refusal}
@@ -92,6 +92,6 @@ kept zero m table entry e = absurd (omega arith)
 kept (suc n) m table entry e = refl
 
 pub build-refused : (n : ℕ) (nodes states x y : List ℕ) (a : Building) (x′ y′ : List ℕ) → BuildDone n nodes states x y a x′ y′
-    → (numberOf a ≡ n) × ((m : ℕ) → n ≡ suc m → (x′ ≡ x) × (y′ ≡ y))
+    → (buildingNumber a ≡ n) × ((m : ℕ) → n ≡ suc m → (x′ ≡ x) × (y′ ≡ y))
 build-refused n nodes states x y a x′ y′ d =
     (d .number, λ m e. (d .node-table-written ∙ kept n m nodes x e, d .state-table-written ∙ kept n m states y e))

@@ -14,7 +14,7 @@ use borrow.Author.Tests.{le-leb, lt-leb, eq-eqb, ne-eqb, eqb-true, not-true, not
 use Rattle.formats.specs.Bytes.{le32, allBelow}
 use Rattle.formats.specs.Rules.{stateCount, labelCount, branchLength}
 use Rattle.formats.specs.Checks.{firstNo, branchChecks}
-use Rattle.formats.specs.Leaves.{countsFit, branchShape, branchValues}
+use Rattle.formats.specs.InnerChecks.{countsFit, branchShape, branchValues}
 use Rattle.formats.proofs.CheckLaws.{and-right}
 use Rattle.formats.proofs.PartLaws.{four-1, four-2, four-3, four-4, pass-four, end-part}
 

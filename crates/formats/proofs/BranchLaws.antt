@@ -20,7 +20,7 @@ use Rattle.formats.specs.Bytes.{le32, allBelow}
 use Rattle.formats.specs.Limits.{stateLimit, labelLimit, within}
 use Rattle.formats.specs.Rules.{stateCount, labelCount, branchLength, branchSteps, branchMarks}
 use Rattle.formats.specs.Checks.{firstNo, branchChecks}
-use Rattle.formats.specs.Leaves.{countsFit, branchShape, branchValues}
+use Rattle.formats.specs.InnerChecks.{countsFit, branchShape, branchValues}
 use Rattle.formats.proofs.CheckLaws.{Numbered, and-both, and-left, and-right}
 use Rattle.formats.proofs.ListLaws.{allBelow-all}
 use Rattle.formats.proofs.PartLaws.{four-pass, pass-four, end-part, run-part, length-part}

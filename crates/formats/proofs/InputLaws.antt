@@ -22,7 +22,7 @@ use Rattle.formats.specs.Rules.{stateCount, labelCount}
 use Rattle.formats.specs.Checks.{Check, firstNo, planChecks, ruleChecks, branchChecks, labelCheck, roomCheck, listChecks}
 use Rattle.formats.specs.Checks.{linkLength, stateLength, ruleTableChecks, branchTableChecks}
 use Rattle.formats.specs.Checks.{buildChecks, branchBuildChecks, freshRunChecks}
-use Rattle.formats.specs.Leaves.{lengthsFit, roomFits}
+use Rattle.formats.specs.InnerChecks.{listsFit, roomFits}
 use Rattle.formats.proofs.CheckLaws.{Numbered, numbered-append, firstNo-none, firstNo-yes, firstNo-head}
 use Rattle.formats.proofs.CheckLaws.{firstNo-append-zero, firstNo-append-left, firstNo-append-right, and-both, and-left, and-right}
 use Rattle.formats.proofs.ListLaws.{allBelow-all}
@@ -44,8 +44,8 @@ module _ (n k : ℕ) (vs bs : List ℕ) where
   pub list-passes : firstNo (listChecks n k vs bs) ≡ 0 → ListPasses n k vs bs
   unfolding listChecks
   list-passes e =
-      let q : (lengthsFit vs bs ≡ true) × (allBelow n vs ≡ true) × (allBelow k bs ≡ true) × (distinct vs ≡ true) =
-      four-pass 11 12 13 14 (lengthsFit vs bs) (allBelow n vs) (allBelow k bs) (distinct vs) e in
+      let q : (listsFit vs bs ≡ true) × (allBelow n vs ≡ true) × (allBelow k bs ≡ true) × (distinct vs ≡ true) =
+      four-pass 11 12 13 14 (listsFit vs bs) (allBelow n vs) (allBelow k bs) (distinct vs) e in
       record {
         lengths = same-left (length vs) (length bs) (leb (length vs) changeLimit) (q .0);
         most = leb-true (length vs) changeLimit (and-right (eqb (length vs) (length bs)) (leb (length vs) changeLimit) (q .0));
@@ -57,7 +57,7 @@ module _ (n k : ℕ) (vs bs : List ℕ) where
   pub passes-list : ListPasses n k vs bs → firstNo (listChecks n k vs bs) ≡ 0
   unfolding listChecks
   passes-list h =
-      pass-four 11 12 13 14 (lengthsFit vs bs) (allBelow n vs) (allBelow k bs) (distinct vs)
+      pass-four 11 12 13 14 (listsFit vs bs) (allBelow n vs) (allBelow k bs) (distinct vs)
       (same-both (length vs) (length bs) (leb (length vs) changeLimit) (h .lengths) (le-leb (length vs) changeLimit (h .most)))
       (h .nodes-below) (h .labels-below) (h .no-twice)
 

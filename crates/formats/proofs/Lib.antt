@@ -15,4 +15,5 @@ pub mod BranchAnswers
 pub mod ListAnswers
 pub mod InputLaws
 pub mod InputAnswers
+pub mod BufferLaws
 pub mod InputsLaws

@@ -18,7 +18,7 @@ use Rattle.formats.specs.Bytes.{le32, allBelow}
 use Rattle.formats.specs.Limits.{stateLimit, labelLimit, within}
 use Rattle.formats.specs.Rules.{stateCount, labelCount, ruleLength}
 use Rattle.formats.specs.Checks.{firstNo, ruleChecks}
-use Rattle.formats.specs.Leaves.{countsFit, ruleShape, ruleValues}
+use Rattle.formats.specs.InnerChecks.{countsFit, ruleShape, ruleValues}
 use Rattle.formats.proofs.CheckLaws.{and-left, and-right, and-no-left, and-no-right}
 use Rattle.formats.proofs.PartLaws.{four-1, four-2, four-3, four-4, pass-four, run-part, end-part}
 use Rattle.formats.proofs.PlanLaws.{within-low, within-high}

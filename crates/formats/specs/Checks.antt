@@ -8,7 +8,7 @@
 -- freshRunChecks == 2 to 10, then 12 to 15
 -- linkLength n, stateLength n s == what n nodes and s states need of the two table buffers
 --
--- Not here: 1 (the session), 16 and 18 (the branch question and the questions layer), 17 (with the calls that have it).
+-- Not here: 1 (the session), 16 and 18 (the branch question and the questions layer), 17 (Buffers).
 -- Assumes nothing.
 use Prim.Native.Nat.{ℕ, _+_, _*_}
 use mathlib.Core.Bool.{Bool, cond, _&&_}

@@ -1,15 +1,15 @@
 // The checks of whole calls: of plan and table, of room for the tables, of a fresh run.
-use crate::branch::check_branch;
+use crate::branch::check_branch_bytes;
 use crate::bytes::read32;
 use crate::lists::check_list;
 use crate::plan::check_plan;
 use crate::rules::all_below;
-use crate::rules::check_rules;
+use crate::rules::check_rule_bytes;
 ghost use mathlib.Core.Path.{_≡_};
 ghost use Rattle.formats.specs.Bytes.{allBelow};
 ghost use Rattle.formats.specs.Plan.{labelsIn};
 ghost use Rattle.formats.specs.Checks.{firstNo, ruleTableChecks, branchTableChecks, buildChecks, branchBuildChecks, freshRunChecks};
-ghost use Rattle.formats.specs.Leaves.{Labelled, Sizes, roomFits};
+ghost use Rattle.formats.specs.InnerChecks.{Labelled, Sizes, roomFits};
 
 // Check 10: every label of the plan below k.
 fn plan_labels_below(plan: &[u8], k: usize) -> bool
@@ -21,7 +21,7 @@ fn plan_labels_below(plan: &[u8], k: usize) -> bool
 }
 
 // Check 11: both table buffers long enough for n nodes and s states.
-fn room_fits(n: usize, s: usize, nums: usize, bytes: usize) -> bool
+pub fn room_fits(n: usize, s: usize, nums: usize, bytes: usize) -> bool
     requires { ⌜ Sizes n s ⌝ }
     ensures { λ r. ⌜ r ≡ roomFits n s nums bytes ⌝ }
 {
@@ -39,7 +39,7 @@ pub fn check_rule_inputs(plan: &[u8], rules: &[u8]) -> u8
     if p != 0 {
         return p;
     }
-    let t = check_rules(rules);
+    let t = check_rule_bytes(rules);
     if t != 0 {
         return t;
     }
@@ -58,7 +58,7 @@ pub fn check_branch_inputs(plan: &[u8], branch: &[u8]) -> u8
     if p != 0 {
         return p;
     }
-    let t = check_branch(branch);
+    let t = check_branch_bytes(branch);
     if t != 0 {
         return t;
     }

@@ -14,7 +14,7 @@ use lib.Dec.{leb, ltb}
 use lib.ListN.{getD}
 use borrow.Author.Tests.{le-leb, lt-ltb}
 use Rattle.trees.specs.Tree.{Tree, size, kindsOf}
-use Rattle.trees.specs.Numbering.{sub, parent, depth}
+use Rattle.trees.specs.Numbering.{sub, parent, depth, isInSubtree}
 use Rattle.trees.specs.Jumps.{jump, jumpDepth}
 use Rattle.trees.specs.Climb.{forestOf}
 use Rattle.trees.specs.Stray.{Stray, jump-outside, jump-flat, parent-outside, parent-flat}
@@ -25,7 +25,7 @@ use Rattle.trees.proofs.TreeClimbs.{below-root}
 use Rattle.trees.proofs.IntervalLaws.{ancestor-interval}
 use Rattle.trees.proofs.StrayLaws.{tree-not-stray}
 use Rattle.formats.proofs.CheckLaws.{true-false, and-both}
-use Rattle.links.specs.Cells.{parentCell, jumpCell, depthCell, sizeCell, cellForest, isBelow}
+use Rattle.links.specs.Cells.{parentCell, jumpCell, depthCell, sizeCell, cellForest, isInSubtreeOn}
 use Rattle.links.specs.LinkCells.{LinkCells}
 use Rattle.links.specs.Astray.{Childless, LinksAstray, link, childless, apart}
 
@@ -85,8 +85,8 @@ module _ (t : Tree) (b : List ℕ) (L : LinkCells t b) where
     | no e ↦ absurd (omega (arith, up t v (omega arith) .deeper))
   ]
 
-  all-below : (v u : ℕ) → v < size t → u < size t → depth t v ≡ 0 → isBelow b v u ≡ true
-  unfolding isBelow
+  all-below : (v u : ℕ) → v < size t → u < size t → depth t v ≡ 0 → isInSubtreeOn b v u ≡ true
+  unfolding isInSubtree
   all-below v u h i d =
       let r = top-root v h d in
       let s : sizeCell b v ≡ size t = L .sizes v h ∙ ap size (sub-root t v r) in

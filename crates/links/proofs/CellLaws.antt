@@ -15,11 +15,11 @@ use Rattle.trees.specs.Tree.{Tree, kindsOf, size}
 use Rattle.trees.specs.Tables.{linkRow, linkTable}
 use Rattle.trees.proofs.RowLaws.{length-rows, length-linkRow, linkRow-cells, rows-of-cells, rows-over, take-over}
 use Rattle.trees.proofs.RowLaws.{linkTable-parent, linkTable-jump, linkTable-depth, linkTable-size}
+use Rattle.trees.proofs.PostorderLaws.{size-of, some-tree}
 use Rattle.formats.specs.Checks.{linkLength}
 use Rattle.links.specs.Cells.{LinkArgs}
 use Rattle.links.specs.LinkCells.{LinkCells, UpCells, DownFrom, Parents, AllUpWritten, DownWritten}
 use Rattle.links.specs.DownPass.{DownArgs}
-use Rattle.links.proofs.UpTurns.{size-of, some-tree}
 
 pub length-linkTable : (t : Tree) → length (linkTable t) ≡ size t * 4
 unfolding linkTable

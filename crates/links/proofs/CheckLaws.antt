@@ -9,13 +9,13 @@ use mathlib.Core.List.{List}
 use lib.ListN.{length, take}
 use Rattle.trees.specs.Tree.{Tree, kindsOf}
 use Rattle.trees.specs.Tables.{linkTable}
+use Rattle.trees.proofs.PostorderLaws.{size-of}
 use Rattle.formats.specs.Bytes.{sameList}
 use Rattle.formats.specs.Checks.{linkLength}
 use Rattle.formats.proofs.ListLaws.{sameList-is, sameList-not}
 use Rattle.links.specs.Cells.{LinkArgs}
 use Rattle.links.specs.LinkCells.{LinkCells, UpCells}
 use Rattle.links.specs.DownPass.{DownArgs}
-use Rattle.links.proofs.UpTurns.{size-of}
 use Rattle.links.proofs.CellLaws.{link-cells, cells-link, both-passes, up-parents, down-args}
 use Rattle.links.proofs.CheckTurns.{UpTells, DownTells}
 

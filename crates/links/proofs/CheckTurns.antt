@@ -14,17 +14,18 @@ use native.Mathlib.Omega.{arith}
 use lib.Dec.{eqb}
 use lib.ListN.{length, getD}
 use borrow.Author.Tests.{eqb-true, eq-eqb, ne-eqb}
-use Rattle.trees.proofs.MoveLaws.{both}
 use Rattle.trees.specs.Tree.{Tree, kindsOf, size}
 use Rattle.trees.specs.Numbering.{parent}
+use Rattle.trees.proofs.MoveLaws.{both}
 use Rattle.trees.proofs.NodeLaws.{Inner, inner, Up, up, sub-leaf, parent-root, depth-root}
 use Rattle.trees.proofs.JumpLaws.{jump-root}
+use Rattle.trees.proofs.PostorderLaws.{size-of, kind-of}
 use Rattle.links.specs.Cells.{parentCell, jumpCell, depthCell, sizeCell, LinkArgs}
 use Rattle.links.specs.LinkCells.{LinkCells, UpCells, UpTo, DownFrom, Parents}
 use Rattle.links.specs.UpPass.{leftOf, innerSize}
 use Rattle.links.specs.DownPass.{childJump, NodeArgs, DownArgs}
 use Rattle.links.specs.CheckPass.{innerMatches, upMatches, downMatches, UpArgs, Tells}
-use Rattle.links.proofs.UpTurns.{no-parent, child-is, at-left, new-size, size-of, kind-of, inner-room}
+use Rattle.links.proofs.UpTurns.{no-parent, child-is, at-left, new-size, inner-room}
 use Rattle.links.proofs.DownTurns.{jump-of, depth-of, args-of}
 
 pub false-true : false ≡ true → ⊥

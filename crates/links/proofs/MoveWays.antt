@@ -12,9 +12,10 @@ use mathlib.Core.List.{List}
 use native.Mathlib.Omega.{arith}
 use lib.Dec.{ltb}
 use borrow.Author.Tests.{lt-ltb, le-ltb, le-leb, lt-leb}
+use Rattle.trees.specs.Numbering.{isInSubtree}
 use Rattle.trees.specs.Climb.{Forest, nextMove}
 use Rattle.trees.proofs.Choice.{le-or}
-use Rattle.links.specs.Cells.{sizeCell, isBelow}
+use Rattle.links.specs.Cells.{sizeCell, isInSubtreeOn}
 use Rattle.links.specs.declared.moves.NextMove.the-variants.{Jump, Parent, Stuck}
 use Rattle.links.specs.ToldMove.{toldMove, risesTo}
 
@@ -44,12 +45,12 @@ module _ (F : Forest) (v to j : ℕ) (ej : j ≡ F .jump v) where
 
 -- ---- is_below, by the order of the two nodes
 
-pub below-no : (nums : List ℕ) (c v : ℕ) → c < v → false ≡ isBelow nums c v
-unfolding isBelow
+pub below-no : (nums : List ℕ) (c v : ℕ) → c < v → false ≡ isInSubtreeOn nums c v
+unfolding isInSubtree
 below-no nums c v h = rw (lt-leb v c h)
 
-pub below-yes : (nums : List ℕ) (c v s : ℕ) → s ≡ sizeCell nums c → v ≤ c → ltb (c - v) s ≡ isBelow nums c v
-unfolding isBelow
+pub below-yes : (nums : List ℕ) (c v s : ℕ) → s ≡ sizeCell nums c → v ≤ c → ltb (c - v) s ≡ isInSubtreeOn nums c v
+unfolding isInSubtree
 below-yes nums c v s e h =
     rw (le-leb v c h, ← e)
     (le-or (v + s) c

@@ -14,11 +14,10 @@ use native.Mathlib.Decide.{ℕ-discrete}
 use native.Mathlib.Omega.{arith}
 use lib.ListN.{length, getD, set, length-set}
 use lib.Seq.{getD-set-same, getD-set-other}
-use Rattle.trees.specs.Tree.{Tree, kindsOf, labelsOf, size}
+use Rattle.trees.specs.Tree.{Tree, kindsOf, size}
 use Rattle.trees.specs.Numbering.{sub, parent}
-use Rattle.trees.specs.Postorder.{isPostorder}
-use Rattle.trees.proofs.NodeLaws.{Inner, inner, Up, up, sub-leaf, sub-size, size-pos, parent-root, length-kinds}
-use Rattle.trees.proofs.PostorderLaws.{postorder-tree}
+use Rattle.trees.proofs.NodeLaws.{Inner, inner, Up, up, sub-leaf, sub-size, size-pos, parent-root}
+use Rattle.trees.proofs.PostorderLaws.{size-of, kind-of, some-tree}
 use Rattle.links.specs.Cells.{parentCell, sizeCell, LinkArgs}
 use Rattle.links.specs.LinkCells.{UpTo, UpWritten, AllUpWritten}
 use Rattle.links.specs.UpPass.{leftOf, innerSize, turn, innerTurn, InnerArgs}
@@ -149,20 +148,6 @@ all-up t b₀ b p room m e = record {
 }
 
 -- ---- the same of every tree with these kinds
-
-pub size-of : (t : Tree) (ks : List ℕ) → kindsOf t ≡ ks → length ks ≡ size t
-size-of t ks e = ap length (sym e) ∙ length-kinds t
-
-pub some-tree : (ks : List ℕ) → isPostorder ks ≡ true → (t : Tree) × (kindsOf t ≡ ks)
-some-tree ks h = let T : (t : Tree) × (kindsOf t ≡ ks) × (labelsOf t ≡ ks) = postorder-tree ks ks refl h in (T .0, T .1)
-
-pub some-node : (ks : List ℕ) → isPostorder ks ≡ true → 0 < length ks
-some-node ks h =
-    let T : (t : Tree) × (kindsOf t ≡ ks) = some-tree ks h in omega (arith, size-of (T .0) ks (T .1), size-pos (T .0))
-
--- the kind of node i, of the tree or of the list
-pub kind-of : (t : Tree) (ks : List ℕ) (i : ℕ) → kindsOf t ≡ ks → getD (kindsOf t) i 0 ≡ getD ks i 0
-kind-of t ks i e = ap (λ (l : List ℕ). getD l i 0) e
 
 abbrev pub UpsWritten : List ℕ → ℕ → List ℕ → List ℕ → Type 0
 UpsWritten ks i b₀ b = (t : Tree) → kindsOf t ≡ ks → UpWritten t i b₀ b

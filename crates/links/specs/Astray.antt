@@ -11,7 +11,7 @@ use mathlib.Core.Bool.{false}
 use mathlib.Core.List.{List}
 use mathlib.Core.Logic.{_⊎_}
 use Rattle.trees.specs.Stray.{Stray}
-use Rattle.links.specs.Cells.{parentCell, jumpCell, depthCell, sizeCell, cellForest, isBelow}
+use Rattle.links.specs.Cells.{parentCell, jumpCell, depthCell, sizeCell, cellForest, isInSubtreeOn}
 
 abbrev pub Childless : List ℕ → ℕ → Type 0
 Childless b x = (x ≡ 0) ⊎ (x - 1 < sizeCell b (x - 1))
@@ -22,4 +22,4 @@ pub data LinksAstray (n : ℕ) (b : List ℕ) : Type 0 where
   -- node x, to which a link of v leads, has no two children in the plan
   childless : (v x : ℕ) → v < n → 0 < depthCell b v → (x ≡ parentCell b v) ⊎ (x ≡ jumpCell b v) → Childless b x → LinksAstray n b
   -- node v is at the top, and node u not below it: no move from v rises
-  apart : (v u : ℕ) → v < n → u < n → depthCell b v ≡ 0 → isBelow b v u ≡ false → LinksAstray n b
+  apart : (v u : ℕ) → v < n → u < n → depthCell b v ≡ 0 → isInSubtreeOn b v u ≡ false → LinksAstray n b

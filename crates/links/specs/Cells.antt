@@ -2,17 +2,16 @@
 --
 -- parentCell b v, jumpCell b v, depthCell b v, sizeCell b v == what table b says of node v; 0 past its end
 -- cellForest n b == the parents, jumps and depths of n nodes as table b has them: what a climb on a lent table follows
--- isBelow b c v == by table b's size of node c: whether node v is c or below it (in post-order the subtree of c is the run of its size
---   that ends at c)
+-- isInSubtreeOn b c v == by table b's size of node c: whether node v is c or below it
 -- LinkArgs ks m == kinds of a tree within the limit, and a buffer of m numbers that has room for its table
 --
 -- Assumes nothing.
 use Prim.Native.Nat.{ℕ, _+_, _*_, _≤_}
 use mathlib.Core.Path.{_≡_}
-use mathlib.Core.Bool.{Bool, true, _&&_}
+use mathlib.Core.Bool.{Bool, true}
 use mathlib.Core.List.{List}
-use lib.Dec.{leb, ltb}
 use lib.ListN.{length, getD}
+use Rattle.trees.specs.Numbering.{isInSubtree}
 use Rattle.trees.specs.Postorder.{isPostorder}
 use Rattle.trees.specs.Climb.{Forest}
 use Rattle.formats.specs.Checks.{linkLength}
@@ -32,8 +31,8 @@ sizeCell b v = getD b (v * 4 + 3) 0
 abbrev pub cellForest : ℕ → List ℕ → Forest
 cellForest n b = record { nodes = n; parent = parentCell b; jump = jumpCell b; depth = depthCell b }
 
-unfoldable pub isBelow : List ℕ → ℕ → ℕ → Bool
-isBelow b c v = leb v c && ltb c (v + sizeCell b c)
+abbrev pub isInSubtreeOn : List ℕ → ℕ → ℕ → Bool
+isInSubtreeOn b c v = isInSubtree c (sizeCell b c) v
 
 pub record LinkArgs (ks : List ℕ) (m : ℕ) : Type 0 where
   pub postorder : isPostorder ks ≡ true

@@ -3,7 +3,7 @@ ghost use mathlib.Core.Path.{_≡_};
 ghost use Prim.Native.Nat.{_+_, _*_, _≤_, _<_};
 ghost use lib.ListN.{length};
 ghost use Rattle.trees.specs.Climb.{nextMove};
-ghost use Rattle.links.specs.Cells.{parentCell, jumpCell, depthCell, sizeCell, isBelow, cellForest};
+ghost use Rattle.links.specs.Cells.{parentCell, jumpCell, depthCell, sizeCell, isInSubtreeOn, cellForest};
 ghost use Rattle.links.specs.ToldMove.{toldMove, risesTo, MoveArgs};
 
 // Where a climb goes next: by a jump or to a parent, each with the node it leads to. Stuck where the move would leave
@@ -56,7 +56,7 @@ pub fn size_at(nums: &[u16], v: usize) -> usize
 // Whether node v is node c or below it: in the run of numbers that ends at c and is as long as c's size.
 pub fn is_below(nums: &[u16], c: usize, v: usize) -> bool
     requires { ⌜ c * 4 + 4 ≤ length (now nums) ⌝ }
-    ensures { λ r. ⌜ r ≡ isBelow (now (nums .entry)) c v ⌝ }
+    ensures { λ r. ⌜ r ≡ isInSubtreeOn (now (nums .entry)) c v ⌝ }
 {
     if c < v {
         return false;

@@ -14,12 +14,12 @@ use native.Mathlib.Omega.{arith}
 use lib.Dec.{leb, ltb, eqb}
 use borrow.Author.Tests.{lt-ltb, le-leb, eq-eqb, ne-eqb}
 use Rattle.trees.specs.Tree.{Tree, size, kindAt}
-use Rattle.trees.specs.Numbering.{sub}
+use Rattle.trees.specs.Numbering.{sub, InSubtree}
 use Rattle.trees.specs.Climb.{andThen}
 use Rattle.trees.proofs.NodeLaws.{Inner, inner}
 use Rattle.links.specs.Cells.{sizeCell}
 use Rattle.links.specs.LinkCells.{LinkCells}
-use Rattle.ready.specs.Ready.{Under, Meet, leftChild, rightChild}
+use Rattle.ready.specs.Ready.{Meet, leftChild, rightChild}
 use Rattle.ready.specs.Members.{Rising}
 use Rattle.ready.proofs.BelowLaws.{rising-above}
 use Rattle.ready.proofs.ClosedForm.{parted}

@@ -14,9 +14,9 @@ use borrow.Author.Tests.{lt-ltb, le-ltb, le-leb, lt-leb}
 use Rattle.trees.specs.Climb.{Forest, Move, byJump, toParent, target, rising}
 use Rattle.trees.proofs.Choice.{le-or}
 use Rattle.links.specs.Cells.{sizeCell, depthCell, cellForest}
+use Rattle.links.specs.Cells.{isInSubtreeOn}
 use Rattle.questions.specs.declared.search.Meeting.the-variants.{At, Outside}
 use Rattle.questions.specs.Search.{nextUnless, meetOn}
-use Rattle.links.specs.Cells.{isBelow}
 use Rattle.questions.specs.SearchTold.{toldMeeting, toldTarget, toldRising}
 use Rattle.questions.proofs.SearchLaws.{unless, Taken, taken, search-here, search-move, search-stuck}
 use Rattle.questions.proofs.SearchLaws.{search-inside}
@@ -82,7 +82,7 @@ pub record Searching (n : ℕ) (nums : List ℕ) (u v x : ℕ) : Type 0 where
 
 module _ (n : ℕ) (nums : List ℕ) (u : ℕ) where
   abbrev pub stop : ℕ → Bool
-  stop x = isBelow nums x u
+  stop x = isInSubtreeOn nums x u
 
   pub meet-inside : (v x : ℕ) → v < n → meetOn n nums u v ≡ some x → x < n
   unfolding meetOn
@@ -93,7 +93,7 @@ module _ (n : ℕ) (nums : List ℕ) (u : ℕ) where
     pub rises : depthCell nums y < depthCell nums x
 
   module _ (v x : ℕ) (S : Searching n nums u v x) where
-    pub searching-turn : (y : ℕ) → false ≡ isBelow nums x u
+    pub searching-turn : (y : ℕ) → false ≡ isInSubtreeOn nums x u
         → At y ≡ toldTarget (cellForest n nums) (nextUnless (cellForest n nums) stop x) → Turned v x y
     unfolding meetOn
     searching-turn y h e =
@@ -109,7 +109,7 @@ module _ (n : ℕ) (nums : List ℕ) (u : ℕ) where
           rises = rw q at (a .rises);
         }
 
-    pub searching-stuck : false ≡ isBelow nums x u
+    pub searching-stuck : false ≡ isInSubtreeOn nums x u
         → Outside ≡ toldTarget (cellForest n nums) (nextUnless (cellForest n nums) stop x)
         → Outside ≡ toldMeeting (meetOn n nums u v)
     unfolding meetOn
@@ -117,6 +117,6 @@ module _ (n : ℕ) (nums : List ℕ) (u : ℕ) where
         let F : Forest = cellForest n nums in
         ap toldMeeting (sym (S .same ∙ search-stuck F stop x (sym h) (told-outside F (nextUnless F stop x) e)))
 
-    pub searching-done : true ≡ isBelow nums x u → At x ≡ toldMeeting (meetOn n nums u v)
+    pub searching-done : true ≡ isInSubtreeOn nums x u → At x ≡ toldMeeting (meetOn n nums u v)
     unfolding meetOn
     searching-done h = ap toldMeeting (sym (S .same ∙ search-here (cellForest n nums) stop x (sym h)))

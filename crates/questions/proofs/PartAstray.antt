@@ -14,12 +14,13 @@ use native.Mathlib.Omega.{arith}
 use lib.Dec.{leb, ltb, eqb}
 use lib.ListN.{length, getD}
 use borrow.Author.Tests.{ltb-true, ltb-false, leb-true, leb-false, eqb-true, eqb-false}
+use Rattle.trees.specs.Numbering.{isInSubtree}
 use Rattle.trees.specs.Climb.{Forest, Move, byJump, toParent, target, andThen, climb, carry}
 use Rattle.trees.proofs.MoveLaws.{none-some, next-inside, next-starts}
 use Rattle.trees.proofs.StrayLaws.{Failed, carried-none}
 use Rattle.formats.specs.Bytes.{allBelow}
 use Rattle.formats.proofs.CheckLaws.{and-left, and-right}
-use Rattle.links.specs.Cells.{parentCell, depthCell, sizeCell, cellForest, isBelow}
+use Rattle.links.specs.Cells.{parentCell, depthCell, sizeCell, cellForest, isInSubtreeOn}
 use Rattle.links.specs.Astray.{Childless, link, childless}
 use Rattle.tables.specs.StateCells.{stateCell}
 use Rattle.questions.specs.Climbs.{View, below, runOn, ruleOn, siblingOn, parentOn, moveOn, Reached, reached, climbOn}
@@ -163,14 +164,14 @@ module _ (X : View) (qs vs bs : List ℕ) where
 
   found-inside : (c : ℕ) (es rs : List ℕ) (o : Option Found) → allBelow (X .s) rs ≡ true
       → ((f : Found) → o ≡ some f → Inside c f) → (f : Found) → lastFound (X .nums) c es rs o ≡ some f → Inside c f
-  unfolding lastFound allBelow isBelow
+  unfolding lastFound allBelow isInSubtree
   found-inside c [] rs o b i f e = i f e
   found-inside c (e ∷ es) [] o b i f q = i f q
   found-inside c (e ∷ es) (r ∷ rs) o b i f q =
-      found-inside c es rs (cond (isBelow (X .nums) c e) (some (found e r)) o) (and-right (ltb r (X .s)) (allBelow (X .s) rs) b)
-      (λ g. go (isBelow (X .nums) c e) refl g) f q
+      found-inside c es rs (cond (isInSubtreeOn (X .nums) c e) (some (found e r)) o) (and-right (ltb r (X .s)) (allBelow (X .s) rs) b)
+      (λ g. go (isInSubtreeOn (X .nums) c e) refl g) f q
     where
-      go : (t : Bool) → isBelow (X .nums) c e ≡ t → (g : Found) → cond t (some (found e r)) o ≡ some g → Inside c g
+      go : (t : Bool) → isInSubtreeOn (X .nums) c e ≡ t → (g : Found) → cond t (some (found e r)) o ≡ some g → Inside c g
       go true t g j =
           subst (Inside c) (Option·some-injective (found e r) g j)
           (record {

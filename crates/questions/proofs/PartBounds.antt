@@ -17,6 +17,7 @@ use borrow.Author.Tests.{leb-true}
 use Rattle.trees.specs.Climb.{andThen}
 use Rattle.trees.proofs.MoveLaws.{none-some, cond-some}
 use Rattle.formats.specs.Limits.{nodeLimit, within}
+use Rattle.formats.specs.Buffers.{limitsFit}
 use Rattle.formats.proofs.CheckLaws.{and-left, and-right}
 use Rattle.links.specs.Cells.{sizeCell}
 use Rattle.questions.specs.Climbs.{View, below, runOn, ruleOn, Reached, reached, climbOn}
@@ -25,7 +26,7 @@ use Rattle.questions.specs.Part.{innerOn, leafOn, forkOn, partOn}
 use Rattle.questions.specs.Part.{labelOn}
 use Rattle.questions.specs.Scans.{sideOn}
 use Rattle.questions.specs.PartArgs.{unmoved}
-use Rattle.questions.specs.PartTold.{limitsFit, partFits, lentView, partGiven}
+use Rattle.questions.specs.PartTold.{partFits, lentView, partGiven}
 use Rattle.questions.proofs.LookupLaws.{below-state}
 use Rattle.questions.proofs.ClimbBounds.{rule-state, Bounded, climb-bounded}
 

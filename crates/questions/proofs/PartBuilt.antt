@@ -17,25 +17,25 @@ use borrow.Author.Tests.{lt-ltb, le-leb, lt-leb, eq-eqb, ne-eqb}
 use Rattle.trees.specs.Tree.{Tree, size, kindAt, labelsOf}
 use Rattle.trees.specs.Changes.{changed}
 use Rattle.trees.specs.Climb.{andThen}
-use Rattle.trees.specs.Numbering.{sub, depth}
+use Rattle.trees.specs.Numbering.{sub, depth, InSubtree, isInSubtree}
 use Rattle.trees.proofs.NodeLaws.{Inner, inner, up}
 use Rattle.trees.proofs.IntervalLaws.{interval-ancestor, above-at}
 use Rattle.links.specs.Cells.{depthCell, sizeCell}
-use Rattle.ready.specs.Ready.{Under, leftChild, rightChild}
+use Rattle.links.specs.Cells.{isInSubtreeOn}
+use Rattle.ready.specs.Ready.{leftChild, rightChild}
 use Rattle.ready.specs.Members.{Rising}
-use Rattle.ready.specs.Parts.{Given, isUnder, anyBelow, lastBelow, highestBelow, moveStates, climbMoves, climbedLinks, innerLinks}
+use Rattle.ready.specs.Parts.{Given, anyBelow, lastBelow, highestBelow, moveStates, climbMoves, climbedLinks, innerLinks}
 use Rattle.ready.specs.Parts.{partLinks, Part, nodesOf, statesOf, stateOf, climbedState, innerState, partState}
 use Rattle.ready.proofs.BelowLaws.{none-below, some-below, under-no, true-false, rising-above}
 use Rattle.ready.proofs.ClosedForm.{kind-one}
 use Rattle.ready.proofs.HighestLaws.{Highest, is-false}
 use Rattle.ready.proofs.PartsRun.{Members}
 use Rattle.ready.proofs.UnderLaws.{under-self, left-in, right-in, left-parent, right-parent}
-use Rattle.links.specs.Cells.{isBelow}
 use Rattle.questions.specs.Climbs.{View, below, runOn, ruleOn, Reached, reached, climbOn}
 use Rattle.questions.specs.Part.{Found, found, lastFound, foundBelow, labelOn, climbFrom, runReached, ownReached}
 use Rattle.questions.specs.Part.{joinOn, innerOn, leafOn, forkOn, partOn}
-use Rattle.questions.proofs.MeetBuilt.{below-is}
 use Rattle.questions.specs.Promises.{Reads}
+use Rattle.questions.proofs.MeetBuilt.{below-is}
 use Rattle.questions.proofs.ClimbBuilt.{is-below, rule-built, run-built, climb-built}
 
 -- ---- the root found below a node
@@ -50,7 +50,7 @@ module _ (t : Tree) (c : ℕ) where
   last-any : (ms : List ℕ) (d e : ℕ) → anyBelow ms t c ≡ true → lastBelow ms t c d ≡ lastBelow ms t c e
   unfolding anyBelow lastBelow
   last-any [] d e q = absurd (true-false true refl (sym q))
-  last-any (v ∷ ms) d e q = go (isUnder t c v) q (λ x y z. last-any ms x y z)
+  last-any (v ∷ ms) d e q = go (isInSubtree c (size (sub t c)) v) q (λ x y z. last-any ms x y z)
     where
       go : (b : Bool) → (b || anyBelow ms t c) ≡ true → ((x y : ℕ) → anyBelow ms t c ≡ true → lastBelow ms t c x ≡ lastBelow ms t c y)
           → lastBelow ms t c (cond b v d) ≡ lastBelow ms t c (cond b v e)
@@ -60,7 +60,7 @@ module _ (t : Tree) (c : ℕ) where
   last-none : (ms : List ℕ) (d : ℕ) → anyBelow ms t c ≡ false → lastBelow ms t c d ≡ d
   unfolding anyBelow lastBelow
   last-none [] d q = refl
-  last-none (v ∷ ms) d q = go (isUnder t c v) q (λ x z. last-none ms x z)
+  last-none (v ∷ ms) d q = go (isInSubtree c (size (sub t c)) v) q (λ x z. last-none ms x z)
     where
       go : (b : Bool) → (b || anyBelow ms t c) ≡ false → ((x : ℕ) → anyBelow ms t c ≡ false → lastBelow ms t c x ≡ x) → lastBelow ms t c (cond b v d) ≡ d
       go true z f = absurd (true-false true refl z)
@@ -69,7 +69,7 @@ module _ (t : Tree) (c : ℕ) where
   last-in : (ms : List ℕ) (d : ℕ) → anyBelow ms t c ≡ true → List·Memᴰ (lastBelow ms t c d) ms
   unfolding anyBelow lastBelow
   last-in [] d q = absurd (true-false true refl (sym q))
-  last-in (v ∷ ms) d q = go (isUnder t c v) (anyBelow ms t c) refl q (λ x z. last-in ms x z) (λ x z. last-none ms x z)
+  last-in (v ∷ ms) d q = go (isInSubtree c (size (sub t c)) v) (anyBelow ms t c) refl q (λ x z. last-in ms x z) (λ x z. last-none ms x z)
     where
       go : (b a : Bool) → anyBelow ms t c ≡ a → (b || a) ≡ true → ((x : ℕ) → anyBelow ms t c ≡ true → List·Memᴰ (lastBelow ms t c x) ms)
           → ((x : ℕ) → anyBelow ms t c ≡ false → lastBelow ms t c x ≡ x) → List·Memᴰ (lastBelow ms t c (cond b v d)) (v ∷ ms)
@@ -87,13 +87,13 @@ module _ (t : Tree) (c : ℕ) where
   unfolding stateOf
   state-first p ps = rw (eq-eqb (p .node) (p .node) refl)
 
-  module _ (nums : List ℕ) (same : (v : ℕ) → isBelow nums c v ≡ isUnder t c v) where
+  module _ (nums : List ℕ) (same : (v : ℕ) → isInSubtreeOn nums c v ≡ isInSubtree c (size (sub t c)) v) where
     finds : (ps : List Part) (lo : ℕ) (f : Option Found) → Rising lo (nodesOf ps) → Finding ps f (lastFound nums c (nodesOf ps) (statesOf ps) f)
     unfolding lastFound anyBelow lastBelow
     finds [] lo f r = inl (refl, refl)
     finds (p ∷ ps) lo f r =
         rw (same (p .node))
-        (go (isUnder t c (p .node)) (finds ps (suc (p .node)) (some (found (p .node) (p .state))) (r .1)) (finds ps (suc (p .node)) f (r .1)))
+        (go (isInSubtree c (size (sub t c)) (p .node)) (finds ps (suc (p .node)) (some (found (p .node) (p .state))) (r .1)) (finds ps (suc (p .node)) f (r .1)))
       where
         -- a later root is not this one
         later : (d : ℕ) → anyBelow (nodesOf ps) t c ≡ true → lastBelow (nodesOf ps) t c d ≡ p .node → ⊥
@@ -123,8 +123,8 @@ module _ (t : Tree) (c : ℕ) where
 -- ---- roots from v on are not below a child of v
 
 module _ (t : Tree) (c : ℕ) where
-  over : (x : ℕ) → c < x → isUnder t c x ≡ false
-  unfolding isUnder
+  over : (x : ℕ) → c < x → isInSubtree c (size (sub t c)) x ≡ false
+  unfolding isInSubtree
   over x h = rw (lt-leb x c h)
 
   all-over : (ys : List ℕ) (lo : ℕ) → c < lo → Rising lo ys → anyBelow ys t c ≡ false
@@ -135,12 +135,12 @@ module _ (t : Tree) (c : ℕ) where
   any-append : (xs ys : List ℕ) → anyBelow ys t c ≡ false → anyBelow (xs ++ ys) t c ≡ anyBelow xs t c
   unfolding anyBelow
   any-append [] ys e = e
-  any-append (x ∷ xs) ys e = ap (λ (b : Bool). isUnder t c x || b) (any-append xs ys e)
+  any-append (x ∷ xs) ys e = ap (λ (b : Bool). isInSubtree c (size (sub t c)) x || b) (any-append xs ys e)
 
   last-append : (xs ys : List ℕ) (d : ℕ) → anyBelow ys t c ≡ false → lastBelow (xs ++ ys) t c d ≡ lastBelow xs t c d
   unfolding lastBelow
   last-append [] ys d e = last-none t c ys d e
-  last-append (x ∷ xs) ys d e = last-append xs ys (cond (isUnder t c x) x d) e
+  last-append (x ∷ xs) ys d e = last-append xs ys (cond (isInSubtree c (size (sub t c)) x) x d) e
 
 rising-rest : (xs : List ℕ) (v : ℕ) (ys : List ℕ) (lo : ℕ) → Rising lo (xs ++ (v ∷ ys)) → Rising v (v ∷ ys)
 rising-rest [] v ys lo r = (omega arith, r .1)

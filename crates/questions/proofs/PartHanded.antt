@@ -9,24 +9,27 @@ use mathlib.Core.Bool.{true}
 use mathlib.Core.List.{List}
 use native.Mathlib.Omega.{arith}
 use lib.ListN.{length, getD, take, drop, length-take, length-drop}
+use Rattle.formats.specs.Rules.{ruleLength}
+use Rattle.formats.specs.Buffers.{limitsFit, buffersFit}
 use Rattle.formats.proofs.PlanLaws.{product-most}
+use Rattle.formats.proofs.BufferLaws.{Limits, limits-are, Lengths, lengths-are}
 use Rattle.questions.specs.declared.answer.Climbed.{Climbed}
 use Rattle.questions.specs.Part.{partOn}
 use Rattle.questions.specs.PartArgs.{partView, PartArgs}
-use Rattle.questions.specs.PartTold.{toldReached, limitsFit, lengthsFit, askedFits, partGiven}
-use Rattle.questions.proofs.PartFits.{Limits, limits-are, Lengths, lengths-are, Asked, asked-are, given-yes}
+use Rattle.questions.specs.PartTold.{toldReached, askedFits, partGiven}
+use Rattle.questions.proofs.PartFits.{Asked, asked-are, given-yes}
 
 module _ (n s k : ℕ) (plan rules nums bytes roots states vs bs : List ℕ) where
   pub record Fit : Type 0 where
     pub limits : Limits n s k
-    pub lengths : Lengths n s k (length plan) (length rules) (length nums) (length bytes)
+    pub lengths : Lengths n s (ruleLength s k) (length plan) (length rules) (length nums) (length bytes)
     pub asked : Asked n roots states vs bs
     pub rows : s * k ≤ 1024
     pub rules-few : s * k * s ≤ 16384
     pub cells : n * (s + 1) ≤ 1114095
 
   module _ (l : limitsFit n s k ≡ true)
-      (m : lengthsFit n s k (length plan) (length rules) (length nums) (length bytes) ≡ true)
+      (m : buffersFit n s (ruleLength s k) (length plan) (length rules) (length nums) (length bytes) ≡ true)
       (a : askedFits n roots states vs bs ≡ true) where
     pub fit-by : Fit
     fit-by =
@@ -34,7 +37,7 @@ module _ (n s k : ℕ) (plan rules nums bytes roots states vs bs : List ℕ) whe
         let r = product-most s k 16 64 (L .few) (L .labels-most) in
         record {
           limits = L;
-          lengths = lengths-are n s k (length plan) (length rules) (length nums) (length bytes) m;
+          lengths = lengths-are n s (ruleLength s k) (length plan) (length rules) (length nums) (length bytes) m;
           asked = asked-are n roots states vs bs a;
           rows = r;
           rules-few = product-most (s * k) s 1024 16 r (L .few);
@@ -71,7 +74,7 @@ module _ (n s k : ℕ) (plan rules nums bytes roots states vs bs : List ℕ) whe
       (getD roots (length states) 0)
   part-args F =
       let p = F .lengths .plan-is in
-      let r = F .lengths .rules-is in
+      let r = F .lengths .table-is in
       record {
         path = record {
           most = F .limits .most;

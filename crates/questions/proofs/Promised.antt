@@ -16,6 +16,8 @@ use lib.Seq.{drop-cons}
 use borrow.Author.Tests.{ltb-true}
 use Rattle.trees.specs.Tree.{Tree, size}
 use Rattle.formats.specs.Bytes.{allBelow, holds}
+use Rattle.formats.specs.Rules.{ruleLength}
+use Rattle.formats.specs.Buffers.{limitsFit, buffersFit}
 use Rattle.formats.proofs.CheckLaws.{and-right}
 use Rattle.links.specs.LinkCells.{LinkCells}
 use Rattle.links.specs.Astray.{LinksAstray}
@@ -29,7 +31,7 @@ use Rattle.questions.specs.Climbs.{Reached, reached}
 use Rattle.questions.specs.Part.{partOn}
 use Rattle.questions.specs.Roots.{rootsOn}
 use Rattle.questions.specs.RootsTold.{rootsFit, rootsGiven, rootedOf}
-use Rattle.questions.specs.PartTold.{limitsFit, lengthsFit, askedFits, partFits, partGiven, lentView, toldReached}
+use Rattle.questions.specs.PartTold.{askedFits, partFits, partGiven, lentView, toldReached}
 use Rattle.questions.specs.Astray.{Astray}
 use Rattle.questions.specs.Promises.{numberFor, rootedNumber, climbedNumber, RootsDone, Asked, PartDone}
 use Rattle.questions.proofs.FitLaws.{Fit, fit-facts, given-yes, given-are}
@@ -93,7 +95,7 @@ module _ (n s k : ℕ) (plan rules nums bytes roots states vs bs : List ℕ) whe
   asked-of : partFits n s k plan rules nums bytes roots states vs bs ≡ true → fits.Asked n roots states vs bs
   unfolding partFits
   asked-of e =
-      let lengths = lengthsFit n s k (length plan) (length rules) (length nums) (length bytes) in
+      let lengths = buffersFit n s (ruleLength s k) (length plan) (length rules) (length nums) (length bytes) in
       let asked = askedFits n roots states vs bs in
       asked-are n roots states vs bs (and-right lengths asked (and-right (limitsFit n s k) (lengths && asked) e))
 

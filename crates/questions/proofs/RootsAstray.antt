@@ -20,7 +20,7 @@ use Rattle.trees.proofs.Choice.{by-test, le-or}
 use Rattle.trees.proofs.MoveLaws.{none-some}
 use Rattle.trees.proofs.StrayLaws.{next-stray}
 use Rattle.formats.specs.Bytes.{allBelow}
-use Rattle.links.specs.Cells.{sizeCell, cellForest, isBelow}
+use Rattle.links.specs.Cells.{sizeCell, cellForest, isInSubtreeOn}
 use Rattle.links.specs.Astray.{Childless, LinksAstray, link, childless, apart}
 use Rattle.questions.specs.Search.{nextUnless, searchIn, search, meetOn}
 use Rattle.questions.specs.Roots.{insertRising, wanted, withFork, withMeet, forksOn, fromFirst, rootsOn}
@@ -152,24 +152,24 @@ module _ (n : ℕ) (nums : List ℕ) where
 
   meet-none : (a b : ℕ) (l : List ℕ) → a < n → b < n → withMeet n nums a b l ≡ none → LinksAstray n nums
   unfolding withMeet meetOn
-  meet-none a b l ha hb e = go (search F (λ x. isBelow nums x a) b) refl e
+  meet-none a b l ha hb e = go (search F (λ x. isInSubtreeOn nums x a) b) refl e
     where
-      lost : Stray F ⊎ AtTop F (λ x. isBelow nums x a) → LinksAstray n nums
+      lost : Stray F ⊎ AtTop F (λ x. isInSubtreeOn nums x a) → LinksAstray n nums
       lost (inl s) = link s
       lost (inr t) = apart (t .node) a (t .inside) ha (t .top) (t .goes)
 
-      bare : (x : ℕ) → Childless nums x → (x ≡ b → ⊥) → (x ≡ b) ⊎ LedTo F (λ y. isBelow nums y a) x → LinksAstray n nums
+      bare : (x : ℕ) → Childless nums x → (x ≡ b → ⊥) → (x ≡ b) ⊎ LedTo F (λ y. isInSubtreeOn nums y a) x → LinksAstray n nums
       bare x c q (inl z) = absurd (q z)
       bare x c q (inr t) = childless (t .node) x (t .inside) (t .deeper) (t .by) c
 
-      at : (x : ℕ) → search F (λ y. isBelow nums y a) b ≡ some x → (t : Bool) → eqb x b ≡ t
+      at : (x : ℕ) → search F (λ y. isInSubtreeOn nums y a) b ≡ some x → (t : Bool) → eqb x b ≡ t
           → cond t (some l) (withFork nums x l) ≡ none → LinksAstray n nums
       at x f true q i = absurd (none-some (sym i))
-      at x f false q i = bare x (fork-none x l i) (eqb-false x b q) (search-reached F (λ y. isBelow nums y a) b x hb f)
+      at x f false q i = bare x (fork-none x l i) (eqb-false x b q) (search-reached F (λ y. isInSubtreeOn nums y a) b x hb f)
 
-      go : (o : Option ℕ) → search F (λ x. isBelow nums x a) b ≡ o
+      go : (o : Option ℕ) → search F (λ x. isInSubtreeOn nums x a) b ≡ o
           → andThen o (λ x. cond (eqb x b) (some l) (withFork nums x l)) ≡ none → LinksAstray n nums
-      go none f i = lost (search-none F (λ x. isBelow nums x a) b hb f)
+      go none f i = lost (search-none F (λ x. isInSubtreeOn nums x a) b hb f)
       go (some x) f i = at x f (eqb x b) refl i
 
   forks-none : (bs : List ℕ) (a : ℕ) (l : List ℕ) → a < n → AllBelow n bs → forksOn n nums a bs l ≡ none → LinksAstray n nums

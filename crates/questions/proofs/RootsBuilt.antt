@@ -13,11 +13,11 @@ use native.Mathlib.Omega.{arith}
 use lib.Dec.{eqb}
 use borrow.Author.Tests.{eqb-true, eq-eqb}
 use Rattle.trees.specs.Tree.{Tree, size, kindAt}
-use Rattle.trees.specs.Numbering.{sub}
+use Rattle.trees.specs.Numbering.{sub, InSubtree}
 use Rattle.trees.proofs.NodeLaws.{size-pos, Inner, inner, sub-size}
 use Rattle.formats.specs.Bytes.{holds}
 use Rattle.links.specs.LinkCells.{LinkCells}
-use Rattle.ready.specs.Ready.{Under, Meet, leftChild, rightChild}
+use Rattle.ready.specs.Ready.{Meet, leftChild, rightChild}
 use Rattle.ready.specs.Members.{Rising, readyList, roots}
 use Rattle.ready.proofs.UnderLaws.{left-in, right-in}
 use Rattle.ready.proofs.BelowLaws.{rising-above, true-false}
@@ -148,8 +148,8 @@ module _ (t : Tree) (nums : List ℕ) (L : LinkCells t nums) (vs : List ℕ) (sm
         let u : ℕ = B .0 in
         let v : ℕ = B .1 in
         let hl : l < m = left-in t m (f .inside) (f .inner) in
-        let pu : Under t l u = (B .4, omega (arith, B .3, sub-size t l (omega (arith, f .inside)))) in
-        let pv : Under t (rightChild m) v = (B .6, omega (arith, B .5, i .at)) in
+        let pu : InSubtree t l u = (B .4, omega (arith, B .3, sub-size t l (omega (arith, f .inside)))) in
+        let pv : InSubtree t (rightChild m) v = (B .6, omega (arith, B .5, i .at)) in
         let mm : Meet t u v m = fork-meet t m u v (f .inside) (f .inner) (omega (arith, B .4, f .inside)) (omega (arith, B .6, f .inside, i .at)) pu pv in
         A .forked u v m x (B .2) (λ e. omega (arith, B .6, f .inside, i .at)) mm (λ e. omega (arith, B .6, i .at)) o
 

@@ -18,11 +18,11 @@ use lib.ListN.{length}
 use Rattle.trees.specs.Tree.{Tree, size, labelsOf}
 use Rattle.trees.specs.Automaton.{state}
 use Rattle.trees.specs.Changes.{changed}
-use Rattle.trees.specs.Numbering.{sub}
+use Rattle.trees.specs.Numbering.{sub, InSubtree}
 use Rattle.formats.specs.Bytes.{allBelow}
 use Rattle.links.specs.Astray.{LinksAstray}
 use Rattle.links.specs.LinkCells.{LinkCells}
-use Rattle.ready.specs.Ready.{Under, Ready, Closed}
+use Rattle.ready.specs.Ready.{Ready, Closed}
 use Rattle.ready.specs.Members.{readyList, roots}
 use Rattle.ready.specs.Parts.{Given, Part, nodesOf, statesOf, stateOf, partState, partLinks, partsOf}
 use Rattle.ready.proofs.ClosedForm as closed-form
@@ -55,7 +55,7 @@ roots-few : (n : ℕ) (nums vs l : List ℕ) → 0 < n → allBelow n vs ≡ tru
 roots-few = rootsOn-are
 
 highest-is-one : (w : ℕ → Bool) (t : Tree) (C : ℕ → Type 0) → Closed w t C → ((v : ℕ) → C v → v < size t) → (c h : ℕ) → c < size t
-    → Highest t C c h → (u : ℕ) → C u → Under t c u → Under t h u
+    → Highest t C c h → (u : ℕ) → C u → InSubtree t c u → InSubtree t h u
 highest-is-one = highest-holds
 
 part-is-the-rule : (X : View) (G : Given) → Reads X G → (w : ℕ → Bool) (ms : List ℕ) → Members w (G .tree) ms → (ps : List Part) (v : ℕ)

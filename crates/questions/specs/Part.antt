@@ -18,7 +18,7 @@ use lib.ListN.{getD}
 use Rattle.trees.specs.Changes.{changed}
 use Rattle.trees.specs.Climb.{andThen}
 use Rattle.links.specs.Cells.{depthCell, sizeCell}
-use Rattle.links.specs.Cells.{isBelow}
+use Rattle.links.specs.Cells.{isInSubtreeOn}
 use Rattle.questions.specs.Climbs.{View, below, runOn, ruleOn, Reached, reached, climbOn}
 
 pub record Found : Type 0 where
@@ -31,7 +31,7 @@ found v q = record { node = v; state = q }
 unfoldable pub lastFound : List ℕ → ℕ → List ℕ → List ℕ → Option Found → Option Found
 lastFound nums c [] qs f = f
 lastFound nums c (e ∷ es) [] f = f
-lastFound nums c (e ∷ es) (q ∷ qs) f = lastFound nums c es qs (cond (isBelow nums c e) (some (found e q)) f)
+lastFound nums c (e ∷ es) (q ∷ qs) f = lastFound nums c es qs (cond (isInSubtreeOn nums c e) (some (found e q)) f)
 
 abbrev pub foundBelow : List ℕ → ℕ → List ℕ → List ℕ → Option Found
 foundBelow nums c es qs = lastFound nums c es qs none

@@ -4,7 +4,6 @@
 -- unmoved o == a state reached by no link
 -- heard x == the state and links that were told; none for Outside
 -- LastArgs, LabelArgs, LeafArgs, JoinArgs, SideArgs, ForkArgs, PartArgs == every read is inside its run
--- LimitArgs n s k == n, s and k are not above their limits
 --
 -- Assumes nothing.
 use Prim.Native.Nat.{ℕ, _+_, _*_, _≤_, _<_}
@@ -95,8 +94,3 @@ pub record PartArgs (n s k : ℕ) (ls ks lv inn nums bytes es qs vs bs : List �
   pub many : length es ≤ 65535
   pub same-list : length vs ≡ length bs
   pub many-list : length vs ≤ 65535
-
-pub record LimitArgs (n s k : ℕ) : Type 0 where
-  pub most : n ≤ 65535
-  pub few : s ≤ 16
-  pub labels : k ≤ 64

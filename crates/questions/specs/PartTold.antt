@@ -1,12 +1,9 @@
 -- What the functions of a part tell, and the part that a caller asks for.
 --
 -- toldReached x == a state reached and the links that led to it, as they are told; Outside (18) where there is none
--- limitsFit n s k == n, s and k are within their limits
--- lengthsFit n s k .. == of the lengths lent, those of plan and rules are exactly what n, s and k need, and those of
---   both tables at least
 -- askedFits n roots states vs bs == there is a root after as many as have states, it is one of n nodes, the lists of
 --   nodes and labels have one length, and neither list of nodes is longer than a plan can be
--- partFits .. == all three
+-- partFits .. == besides, n, s and k are within their limits, and the buffers fit them (check 17; crate formats, Buffers)
 -- partGiven .. == the part of the root that comes next after those whose states are given; none (18) also where it does
 --   not fit
 --
@@ -18,10 +15,10 @@ use mathlib.Core.List.{List}
 use mathlib.Core.Option.{Option, none, some}
 use lib.Dec.{leb, ltb, eqb}
 use lib.ListN.{length, getD, take}
-use Rattle.formats.specs.Limits.{nodeLimit, stateLimit, labelLimit, within}
-use Rattle.formats.specs.Plan.{planLength}
+use Rattle.formats.specs.Limits.{nodeLimit}
 use Rattle.formats.specs.Rules.{ruleLength}
 use Rattle.formats.specs.Checks.{linkLength, stateLength}
+use Rattle.formats.specs.Buffers.{limitsFit, buffersFit}
 use Rattle.questions.specs.declared.answer.Climbed.{Climbed}
 use Rattle.questions.specs.declared.answer.Climbed.the-variants.{Reached as Told, Outside}
 use Rattle.questions.specs.Climbs.{View, viewOf, Reached}
@@ -30,14 +27,6 @@ use Rattle.questions.specs.Part.{partOn}
 unfoldable pub toldReached : Option Reached → Climbed
 toldReached none = Outside
 toldReached (some x) = Told (x .state) (x .links)
-
-unfoldable pub limitsFit : ℕ → ℕ → ℕ → Bool
-limitsFit n s k = within 1 nodeLimit n && (within 1 stateLimit s && within 1 labelLimit k)
-
-unfoldable pub lengthsFit : ℕ → ℕ → ℕ → ℕ → ℕ → ℕ → ℕ → Bool
-lengthsFit n s k plan rules nums bytes =
-    eqb plan (planLength n)
-    && (eqb rules (ruleLength s k) && (leb (linkLength n) nums && leb (stateLength n s) bytes))
 
 unfoldable pub askedFits : ℕ → List ℕ → List ℕ → List ℕ → List ℕ → Bool
 askedFits n roots states vs bs =
@@ -48,7 +37,8 @@ askedFits n roots states vs bs =
 unfoldable pub partFits : ℕ → ℕ → ℕ → List ℕ → List ℕ → List ℕ → List ℕ → List ℕ → List ℕ → List ℕ → List ℕ → Bool
 partFits n s k plan rules nums bytes roots states vs bs =
     limitsFit n s k
-    && (lengthsFit n s k (length plan) (length rules) (length nums) (length bytes) && askedFits n roots states vs bs)
+    && (buffersFit n s (ruleLength s k) (length plan) (length rules) (length nums) (length bytes)
+    && askedFits n roots states vs bs)
 
 -- what is lent, without the excess of longer tables
 abbrev pub lentView : ℕ → ℕ → ℕ → List ℕ → List ℕ → List ℕ → List ℕ → View

@@ -1,7 +1,6 @@
 -- Searches in a list from its first entry to its last, and what the functions of a part read by them.
 --
--- covers c z e == whether number e is in the run of z numbers that ends at c
--- lastIn c z es == the place, from 1, of the last entry of es that the run covers; 0 where there is none
+-- lastIn c z es == the place, from 1, of the last entry of es in the run of z numbers that ends at c; 0 where there is none
 -- foundOf es qs i == the root and the state at place i; none at place 0
 -- labelOf ls bs v i == the label at place i of the changes bs; the plan's label of node v at place 0
 -- sideOn X t c f g == the state at child c, at depth t, where f is the root found below it and g the one below its
@@ -11,21 +10,18 @@
 -- run is c alone.
 -- Assumes nothing.
 use Prim.Native.Nat.{ℕ, zero, suc, _+_}
-use mathlib.Core.Bool.{Bool, cond, _&&_}
+use mathlib.Core.Bool.{cond}
 use mathlib.Core.List.{List, [], _∷_}
 use mathlib.Core.Option.{Option, none, some}
-use lib.Dec.{leb, ltb}
 use lib.ListN.{getD}
+use Rattle.trees.specs.Numbering.{isInSubtree}
 use Rattle.questions.specs.Climbs.{View, Reached}
 use Rattle.questions.specs.Part.{Found, found, climbFrom, runReached, ownReached}
-
-unfoldable pub covers : ℕ → ℕ → ℕ → Bool
-covers c z e = leb e c && ltb c (e + z)
 
 -- with `at` the place found among the i entries before
 unfoldable pub lastFrom : ℕ → ℕ → List ℕ → ℕ → ℕ → ℕ
 lastFrom c z [] i at = at
-lastFrom c z (e ∷ es) i at = lastFrom c z es (i + 1) (cond (covers c z e) (i + 1) at)
+lastFrom c z (e ∷ es) i at = lastFrom c z es (i + 1) (cond (isInSubtree c z e) (i + 1) at)
 
 abbrev pub lastIn : ℕ → ℕ → List ℕ → ℕ
 lastIn c z es = lastFrom c z es 0 0

@@ -13,7 +13,7 @@ use mathlib.Core.List.{List}
 use mathlib.Core.Option.{Option, none, some}
 use lib.Dec.{ltb}
 use Rattle.trees.specs.Climb.{Forest, Move, byJump, toParent, target, rising, andThen}
-use Rattle.links.specs.Cells.{cellForest, isBelow}
+use Rattle.links.specs.Cells.{cellForest, isInSubtreeOn}
 
 unfoldable pub nextUnless : Forest → (ℕ → Bool) → ℕ → Option Move
 nextUnless F stop v = cond (ltb (F .jump v) (F .nodes)) (rising F v (cond (stop (F .jump v)) (toParent v) (byJump v))) none
@@ -28,4 +28,4 @@ unfoldable pub search : Forest → (ℕ → Bool) → ℕ → Option ℕ
 search F stop v = searchIn (F .depth v) F stop v
 
 unfoldable pub meetOn : ℕ → List ℕ → ℕ → ℕ → Option ℕ
-meetOn n nums u v = search (cellForest n nums) (λ x. isBelow nums x u) v
+meetOn n nums u v = search (cellForest n nums) (λ x. isInSubtreeOn nums x u) v

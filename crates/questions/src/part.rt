@@ -3,11 +3,11 @@
 use crate::answer::Climbed;
 use crate::climb::climb_state;
 use crate::fits::asked_fits;
-use crate::fits::lengths_fit;
-use crate::fits::limits_fit;
 use crate::rules::rule_on;
 use crate::rules::run_on;
 use crate::scan::last_in;
+use formats::buffers::limits_fit;
+use formats::buffers::rule_buffers_fit;
 use links::moves::depth_at;
 use links::moves::size_at;
 ghost use mathlib.Core.Path.{_≡_};
@@ -261,7 +261,7 @@ pub fn part(
     if !limits_fit(n, s, k) {
         return Climbed::Outside;
     }
-    if !lengths_fit(n, s, k, plan.len(), rules.len(), nums.len(), bytes.len()) {
+    if !rule_buffers_fit(n, s, k, plan.len(), rules.len(), nums.len(), bytes.len()) {
         return Climbed::Outside;
     }
     if !asked_fits(n, roots, states, nodes, labels) {

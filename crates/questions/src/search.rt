@@ -8,8 +8,8 @@ ghost use Prim.Native.Nat.{ℕ, _+_, _*_, _≤_};
 ghost use lib.ListN.{length};
 ghost use Rattle.links.specs.Cells.{cellForest};
 ghost use Rattle.links.specs.ToldMove.{MoveArgs};
+ghost use Rattle.links.specs.Cells.{isInSubtreeOn};
 ghost use Rattle.questions.specs.Search.{nextUnless, meetOn};
-ghost use Rattle.links.specs.Cells.{isBelow};
 ghost use Rattle.questions.specs.SearchTold.{toldMeeting, toldTarget, toldRising};
 
 // A node, or that a value read leads outside the plan or a move does not rise.
@@ -37,7 +37,7 @@ fn if_rising(nums: &[u16], n: usize, v: usize, u: usize) -> Meeting
 fn next_unless(nums: &[u16], n: usize, u: usize, v: usize) -> Meeting
     requires { ⌜ MoveArgs n (now nums) v ⌝ }
     ensures { λ r. ⌜ r ≡ toldTarget (cellForest n (now (nums .entry)))
-        (nextUnless (cellForest n (now (nums .entry))) (λ (x : ℕ). isBelow (now (nums .entry)) x u) v) ⌝ }
+        (nextUnless (cellForest n (now (nums .entry))) (λ (x : ℕ). isInSubtreeOn (now (nums .entry)) x u) v) ⌝ }
 {
     let j = jump_at(nums, v);
     if n <= j {

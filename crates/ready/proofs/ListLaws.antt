@@ -15,12 +15,12 @@ use native.Mathlib.Decide.{ℕ-discrete, decLt}
 use native.Mathlib.Omega.{arith}
 use lib.Dec.{eqb}
 use borrow.Author.Tests.{eqb-true, eq-eqb}
-use Rattle.trees.proofs.MoveLaws.{both}
 use Rattle.trees.specs.Tree.{Tree, size, kindAt}
-use Rattle.trees.specs.Numbering.{sub, parent}
+use Rattle.trees.specs.Numbering.{sub, parent, InSubtree}
+use Rattle.trees.proofs.MoveLaws.{both}
 use Rattle.trees.proofs.NodeLaws.{Up, up, sub-size, size-pos, parent-root}
 use Rattle.formats.proofs.CheckLaws.{and-both}
-use Rattle.ready.specs.Ready.{Under, leftChild, rightChild, Ready}
+use Rattle.ready.specs.Ready.{leftChild, rightChild, Ready}
 use Rattle.ready.specs.Members.{someIn, someBelow, forksAt, isMember, keep, readyList, Rising}
 use Rattle.ready.proofs.UnderLaws.{left-in, right-in, left-parent, right-parent}
 use Rattle.ready.proofs.BelowLaws.{true-false, rising-above}

@@ -14,7 +14,7 @@ use borrow.Author.Tests.{le-leb, lt-ltb, eq-eqb, ne-eqb}
 use Rattle.trees.specs.Stray.{jump-outside, jump-flat, parent-outside, parent-flat}
 use Rattle.formats.specs.Bytes.{allBelow}
 use Rattle.formats.proofs.CheckLaws.{true-false, and-both}
-use Rattle.links.specs.Cells.{parentCell, jumpCell, depthCell, sizeCell, isBelow}
+use Rattle.links.specs.Cells.{parentCell, jumpCell, depthCell, sizeCell, isInSubtreeOn}
 use Rattle.links.specs.Astray.{Childless, LinksAstray, link, childless, apart}
 use Rattle.tables.specs.StateCells.{stateCell, mapCell}
 use Rattle.ready.specs.Members.{someIn}
@@ -80,7 +80,7 @@ module _ (n : ℕ) (b : List ℕ) where
   links-cause (childless v x h d l c) = led v x h d l c
   links-cause (apart v u h i d e) =
       at-node v h (or-second (strays n b v) _ (and-both (eqb (depthCell b v) 0) _ (eq-eqb (depthCell b v) 0 d)
-      (in-some (λ w. not (isBelow b v w)) n 0 u (omega arith) (omega arith) (ap not e))))
+      (in-some (λ w. not (isInSubtreeOn b v w)) n 0 u (omega arith) (omega arith) (ap not e))))
 
 -- ---- all that an advance reads
 

@@ -10,7 +10,7 @@ use mathlib.Core.Bool.{Bool, true, false}
 use mathlib.Core.List.{List, [], _∷_, _++_}
 use mathlib.Core.Option.{Option, none, some}
 use lib.ListN.{replicate}
-use Rattle.trees.specs.Numbering.{split, sub, parent, depth}
+use Rattle.trees.specs.Numbering.{split, sub, parent, depth, isInSubtree}
 use Rattle.trees.specs.Postorder.{isPostorder, treeOf}
 use Rattle.trees.specs.Changes.{changed}
 use Rattle.trees.specs.Jumps.{jumpIn, jump}
@@ -19,13 +19,13 @@ use Rattle.trees.specs.Tables.{tabulate, rows, linkTable, stepUp, stateMap, sta
 use Rattle.formats.specs.Bytes.{allBelow, holds, distinct, sameList}
 use Rattle.formats.specs.Checks.{firstNo, planChecks, ruleChecks, listChecks, ruleTableChecks, buildChecks}
 use Rattle.formats.specs.Built.{builtLinks, builtStates}
+use Rattle.links.specs.Cells.{isInSubtreeOn}
 use Rattle.ready.specs.Members.{someIn, someBelow, forksAt, isMember, keep, readyList, roots}
-use Rattle.ready.specs.Parts.{isUnder, anyBelow, lastBelow, moveState, climbMoves, climbedLinks, innerLinks}
+use Rattle.ready.specs.Parts.{anyBelow, lastBelow, moveState, climbMoves, climbedLinks, innerLinks}
 use Rattle.ready.specs.Parts.{partLinks, sumOf, questionLinks}
 use Rattle.ready.specs.Parts.{stateOf, climbedState, innerState, partState, partOf, partsFrom, partsOf, lastState}
 use Rattle.ready.specs.Parts.{allLinks}
 use Rattle.questions.specs.Search.{nextUnless, searchIn, search, meetOn}
-use Rattle.links.specs.Cells.{isBelow}
 use Rattle.questions.specs.Roots.{insertRising, risingOf, wanted, withFork, withMeet, forksOn, rootsOn}
 use Rattle.questions.specs.Climbs.{below, runOn, ruleOn, siblingOn, parentOn, moveOn, climbOn}
 use Rattle.questions.specs.Part.{lastFound, labelOn, climbFrom, runReached, ownReached, joinOn, innerOn, leafOn}
@@ -50,9 +50,9 @@ use Rattle.reference.specs.AgreementTest.{settledAnswers}
 unfoldable pub computing : ℕ
 unfolding split sub parent depth isPostorder treeOf changed jumpIn jump nextMove climbIn climb walk tabulate
     rows linkTable stepUp stateMap stateTable allBelow holds distinct sameList firstNo planChecks ruleChecks
-    listChecks ruleTableChecks buildChecks someIn someBelow forksAt isMember keep readyList roots isUnder anyBelow
+    listChecks ruleTableChecks buildChecks someIn someBelow forksAt isMember keep readyList roots isInSubtree anyBelow
     lastBelow moveState climbMoves climbedLinks innerLinks partLinks sumOf questionLinks stateOf climbedState
-    innerState partState partOf partsFrom partsOf lastState allLinks isBelow nextUnless searchIn search meetOn
+    innerState partState partOf partsFrom partsOf lastState allLinks nextUnless searchIn search meetOn
     insertRising risingOf wanted withFork withMeet forksOn rootsOn below runOn ruleOn siblingOn parentOn moveOn
     climbOn lastFound labelOn climbFrom runReached ownReached joinOn innerOn leafOn forkOn partOn fits sameNodeInputs
     sameInputs namesSizes nodeTableBuilt stateTableBuilt sound statesBelow mayLoad mayStart isRunning isAnswered refusal phase

@@ -18,7 +18,7 @@ use mathlib.Core.Bool.{Bool, not, _&&_, _||_}
 use mathlib.Core.List.{List}
 use lib.Dec.{leb, ltb, eqb}
 use lib.ListN.{getD}
-use Rattle.links.specs.Cells.{parentCell, jumpCell, depthCell, sizeCell, isBelow}
+use Rattle.links.specs.Cells.{parentCell, jumpCell, depthCell, sizeCell, isInSubtreeOn}
 use Rattle.tables.specs.StateCells.{stateCell, mapCell}
 use Rattle.ready.specs.Members.{someIn}
 use Rattle.questions.specs.Climbs.{View, viewOf}
@@ -39,7 +39,7 @@ unfoldable pub strays : ℕ → List ℕ → ℕ → Bool
 strays n b v = leb n (jumpCell b v) || (leb n (parentCell b v) || (ltb 0 (depthCell b v) && isFlat b v))
 
 unfoldable pub isApart : ℕ → List ℕ → ℕ → Bool
-isApart n b v = eqb (depthCell b v) 0 && someIn (λ u. not (isBelow b v u)) 0 n
+isApart n b v = eqb (depthCell b v) 0 && someIn (λ u. not (isInSubtreeOn b v u)) 0 n
 
 unfoldable pub linksCause : ℕ → List ℕ → Bool
 linksCause n b = someIn (λ v. strays n b v || isApart n b v) 0 n

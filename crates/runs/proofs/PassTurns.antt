@@ -19,10 +19,10 @@ use Rattle.trees.specs.Automaton.{Automaton, state}
 use Rattle.trees.specs.Postorder.{waiting, isOne, isPostorder, read, treeOf}
 use Rattle.trees.proofs.PostorderLaws.{state-fold, read-whole, treeOf-kinds, treeOf-labels}
 use Rattle.trees.proofs.PostorderLaws.{leaf-at, inner-at, short-at, other-at, end-at}
-use Rattle.formats.specs.Rules.{treeAutomaton}
 use Rattle.trees.proofs.MoveLaws.{none-some}
 use Rattle.trees.proofs.RowLaws.{stride}
-use Rattle.runs.specs.Pass.{RuleArgs}
+use Rattle.formats.specs.InnerChecks.{RuleArgs}
+use Rattle.formats.specs.Rules.{treeAutomaton}
 use Rattle.runs.proofs.StackLaws.{stackOf, stack-push, stack-two, some-some, waiting-most}
 use Rattle.runs.proofs.StackLaws.{read-leaf, read-inner}
 

@@ -30,7 +30,7 @@ use Rattle.formats.proofs.InputLaws.{ListPasses, fresh-run-passes, label-below}
 use Rattle.runs.specs.declared.answer.Running.{Running}
 use Rattle.runs.specs.declared.answer.Running.the-variants.{Ended, Refused}
 use Rattle.runs.specs.Pass.{PassArgs, PassDone, RunArgs}
-use Rattle.runs.specs.FreshRun.{numberOf, toldRun, changedTree, rootState, rootAccepted, freshRun, FreshRunDone}
+use Rattle.runs.specs.FreshRun.{runningNumber, toldRun, changedTree, rootState, rootAccepted, freshRun, FreshRunDone}
 
 abbrev Passes : List ℕ → List ℕ → List ℕ → List ℕ → Type 0
 Passes p r vs bs =
@@ -152,8 +152,8 @@ module _ {p r vs bs : List ℕ} {n s k : ℕ} (a : RunArgs p r vs bs n s k) wher
 
 -- ---- the promise
 
-pub number-told : (n q : ℕ) (accepted : Bool) → numberOf (toldRun n q accepted) ≡ n
-unfolding numberOf toldRun
+pub number-told : (n q : ℕ) (accepted : Bool) → runningNumber (toldRun n q accepted) ≡ n
+unfolding runningNumber toldRun
 number-told zero q accepted = refl
 number-told (suc n) q accepted = refl
 
@@ -165,7 +165,7 @@ told-refused (suc n) q accepted h = refl
 module _ (p r vs bs : List ℕ) where
   pub done-told : {x : Running} → x ≡ freshRun p r vs bs → FreshRunDone p r vs bs x
   unfolding freshRun
-  done-told e = record { told = e; number = ap numberOf e ∙ number-told (firstNo (freshRunChecks p r vs bs)) _ _ }
+  done-told e = record { told = e; number = ap runningNumber e ∙ number-told (firstNo (freshRunChecks p r vs bs)) _ _ }
 
   pub done-refused : {n : ℕ} → n ≡ firstNo (freshRunChecks p r vs bs) → (n ≡ 0 → ⊥) → FreshRunDone p r vs bs (Refused n)
   unfolding freshRun

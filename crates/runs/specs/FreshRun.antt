@@ -1,6 +1,6 @@
 -- The fresh run: what it answers, on every input.
 --
--- numberOf a == document 01's number of an answer: 0 for a run, else the refusal's
+-- runningNumber a == document 01's number of an answer: 0 for a run, else the refusal's
 -- toldRun n q accepted == the answer where the first failing check is n (0: none), q the root's state, accepted or not
 -- changedTree p vs bs == plan p's tree with label bs[i] at node vs[i]; of two entries for a node the last would hold
 -- rootState p r vs bs, rootAccepted p r vs bs == the root's state, and its yes or no, in rules r's run over that tree
@@ -25,9 +25,9 @@ use Rattle.runs.specs.declared.answer.Running.{Running}
 use Rattle.runs.specs.declared.answer.Running.the-variants.{Ended, Refused}
 
 -- "The first no gives its number; nothing else is returned and nothing is altered."
-unfoldable pub numberOf : Running → ℕ
-numberOf (Ended q accepted) = 0
-numberOf (Refused n) = n
+unfoldable pub runningNumber : Running → ℕ
+runningNumber (Ended q accepted) = 0
+runningNumber (Refused n) = n
 
 -- "a fresh run without tables (it tells state, yes or no)"
 unfoldable pub toldRun : ℕ → ℕ → Bool → Running
@@ -56,4 +56,4 @@ freshRun p r vs bs = toldRun (firstNo (freshRunChecks p r vs bs)) (rootState p r
 
 pub record FreshRunDone (p r vs bs : List ℕ) (answer : Running) : Type 0 where
   pub told : answer ≡ freshRun p r vs bs
-  pub number : numberOf answer ≡ firstNo (freshRunChecks p r vs bs)
+  pub number : runningNumber answer ≡ firstNo (freshRunChecks p r vs bs)

@@ -1,6 +1,5 @@
 -- What the pass over a plan's nodes asks of its arguments, and what it promises.
 --
--- RuleArgs inn s k p a q == the rule for left state p, label a and right state q stands inside the inner states inn
 -- PassArgs ks ls vs bs lv inn s k == kinds of a tree and labels below k, a list of changes to labels below k, a rule
 --   table's leaf and inner states, all below s
 -- PassDone ks ls vs bs lv inn s k q == q is the root's state in the run, whatever the marks
@@ -19,10 +18,6 @@ use Rattle.trees.specs.Changes.{changed}
 use Rattle.formats.specs.Plan.{nodeCount}
 use Rattle.formats.specs.Rules.{stateCount, labelCount, treeAutomaton}
 use Rattle.formats.specs.Checks.{firstNo, freshRunChecks}
-
-pub record RuleArgs (inn : List ℕ) (s k p a q : ℕ) : Type 0 where
-  pub small : p * k + a < 65536
-  pub inside : (p * k + a) * s + q < length inn
 
 pub record PassArgs (ks ls vs bs lv inn : List ℕ) (s k : ℕ) : Type 0 where
   pub postorder : isPostorder ks ≡ true

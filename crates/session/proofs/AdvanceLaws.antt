@@ -14,13 +14,15 @@ use lib.ListN.{length, getD, take}
 use lib.Seq.{length-take-le}
 use borrow.Author.Tests.{not-true, not-false, le-leb, lt-ltb, eq-eqb}
 use Rattle.formats.specs.Checks.{check, firstNo}
+use Rattle.formats.specs.Rules.{ruleLength}
+use Rattle.formats.specs.Buffers.{limitsFit, buffersFit, LimitArgs}
 use Rattle.formats.proofs.CheckLaws.{and-both, and-left, and-right, firstNo-yes, firstNo-no}
+use Rattle.formats.proofs.BufferLaws.{Lengths, lengths-are}
 use Rattle.questions.specs.declared.answer.Climbed.{Climbed}
 use Rattle.questions.specs.declared.answer.Climbed.the-variants.{Reached as Told, Outside}
 use Rattle.questions.specs.Climbs.{Reached}
-use Rattle.questions.specs.PartArgs.{LimitArgs}
-use Rattle.questions.specs.PartTold.{toldReached, limitsFit, lengthsFit, askedFits, partGiven}
-use Rattle.questions.proofs.PartFits.{Lengths, lengths-are, given-yes}
+use Rattle.questions.specs.PartTold.{toldReached, askedFits, partGiven}
+use Rattle.questions.proofs.PartFits.{given-yes}
 use Rattle.questions.proofs.ClimbBounds.{Bounded}
 use Rattle.questions.proofs.PartBounds.{part-bounded}
 use Rattle.formats.specs.Inputs.{Inputs, fits}
@@ -153,9 +155,9 @@ module _ (s : Session) (h : Shaped s) (x : Inputs) (b : Bool) (may : b ≡ (vali
     on = firstNo-yes 1 (isRunning (phaseOf (s .phase))) (check 17 (fits (sizesOf s) x) ∷ []) r
 
     module _ (f : Bool)
-        (fit : f ≡ lengthsFit (s .n) (s .s) (s .k) (length (x .plan)) (length (x .rules)) (length (x .nodeTable)) (length (x .stateTable))) where
+        (fit : f ≡ buffersFit (s .n) (s .s) (ruleLength (s .s) (s .k)) (length (x .plan)) (length (x .rules)) (length (x .nodeTable)) (length (x .stateTable))) where
       fits-is : fits (sizesOf s) x ≡ f
-      unfolding fits lengthsFit
+      unfolding fits buffersFit
       fits-is = sym fit
 
       pub advance-17 : not f ≡ true → CallDone s C (advancingAnswer (NotAdvanced 17)) s
@@ -167,9 +169,9 @@ module _ (s : Session) (h : Shaped s) (x : Inputs) (b : Bool) (may : b ≡ (vali
         unfolding firstNo
         no-refusal = on ∙ firstNo-yes 17 (fits (sizesOf s) x) [] (fits-is ∙ not-false f yes)
 
-        long : Lengths (s .n) (s .s) (s .k) (length (x .plan)) (length (x .rules)) (length (x .nodeTable)) (length (x .stateTable))
+        long : Lengths (s .n) (s .s) (ruleLength (s .s) (s .k)) (length (x .plan)) (length (x .rules)) (length (x .nodeTable)) (length (x .stateTable))
         long =
-            lengths-are (s .n) (s .s) (s .k) (length (x .plan)) (length (x .rules)) (length (x .nodeTable)) (length (x .stateTable))
+            lengths-are (s .n) (s .s) (ruleLength (s .s) (s .k)) (length (x .plan)) (length (x .rules)) (length (x .nodeTable)) (length (x .stateTable))
             (sym fit ∙ not-false f yes)
 
         limits-yes : limitsFit (s .n) (s .s) (s .k) ≡ true
@@ -250,7 +252,7 @@ module _ (s : Session) (h : Shaped s) (x : Inputs) (b : Bool) (may : b ≡ (vali
             unfolding recordOf
             handle-args = record {
               marks = record {
-                exact = long .rules-is;
+                exact = long .table-is;
                 states-most = Z .states-most;
                 labels-most = Z .labels-most;
                 state = omega (arith, bounded .state, one .2);

@@ -18,7 +18,7 @@ use Rattle.formats.proofs.CheckLaws.{and-left, and-right, firstNo-yes, firstNo-
 use Rattle.formats.proofs.InputLaws.{build-passes}
 use Rattle.tables.specs.declared.answers.Building.{Building}
 use Rattle.tables.specs.declared.answers.Building.the-variants.{Built, Refused}
-use Rattle.tables.specs.Answers.{numberOf, toldBuild, written, BuildDone}
+use Rattle.tables.specs.Answers.{buildingNumber, toldBuild, written, BuildDone}
 use Rattle.formats.specs.Inputs.{Inputs}
 use Rattle.model.specs.Calls as calls
 use Rattle.model.specs.Calls.{load, mayLoad}
@@ -88,8 +88,8 @@ module _ (s : Session) (h : Shaped s) (x : Inputs) (b : Bool) (may : b ≡ (vali
 
       module _ (e : a ≡ Built) where
         none-fails : firstNo checks ≡ 0
-        unfolding numberOf
-        none-fails = sym (D .number) ∙ ap numberOf e
+        unfolding buildingNumber
+        none-fails = sym (D .number) ∙ ap buildingNumber e
 
         pub load-headers : Headers (x .plan) (x .rules)
         load-headers =

@@ -12,14 +12,14 @@ use lib.ListN.{length, take}
 use lib.Seq.{length-take-le}
 use borrow.Author.Tests.{not-true, not-false}
 use Rattle.formats.specs.Checks.{check, firstNo, listChecks}
+use Rattle.formats.specs.Rules.{ruleLength}
+use Rattle.formats.specs.Buffers.{buffersFit, LimitArgs}
 use Rattle.formats.proofs.CheckLaws.{and-left, and-right, firstNo-yes, firstNo-no, true-false}
 use Rattle.formats.proofs.InputLaws.{ListPasses, list-passes}
+use Rattle.formats.proofs.BufferLaws.{lengths-are}
 use Rattle.questions.specs.declared.roots.Rooted.{Rooted}
-use Rattle.questions.specs.PartArgs.{LimitArgs}
-use Rattle.questions.specs.PartTold.{lengthsFit}
 use Rattle.questions.specs.Roots.{rootsOn}
 use Rattle.questions.specs.RootsTold.{rootsGiven, rootedOf}
-use Rattle.questions.proofs.PartFits.{lengths-are}
 use Rattle.questions.proofs.FitLaws.{fit-all, given-yes}
 use Rattle.questions.proofs.RootsLaws.{rootsOn-fits}
 use Rattle.formats.specs.Inputs.{Inputs, fits}
@@ -71,9 +71,9 @@ module _ (s : Session) (h : Shaped s) (x : Inputs) (vs bs : List ℕ) (b : Bool)
     on = firstNo-yes 1 (mayStart (phaseOf (s .phase))) (check 17 (fits (sizesOf s) x) ∷ listChecks (s .n) (s .k) vs bs) m
 
     module _ (f : Bool)
-        (fit : f ≡ lengthsFit (s .n) (s .s) (s .k) (length (x .plan)) (length (x .rules)) (length (x .nodeTable)) (length (x .stateTable))) where
+        (fit : f ≡ buffersFit (s .n) (s .s) (ruleLength (s .s) (s .k)) (length (x .plan)) (length (x .rules)) (length (x .nodeTable)) (length (x .stateTable))) where
       fits-is : fits (sizesOf s) x ≡ f
-      unfolding fits lengthsFit
+      unfolding fits buffersFit
       fits-is = sym fit
 
       pub start-17 : not f ≡ true → CallDone s C (startingAnswer (NotStarted 17)) s
@@ -85,7 +85,7 @@ module _ (s : Session) (h : Shaped s) (x : Inputs) (vs bs : List ℕ) (b : Bool)
       module _ (yes : not f ≡ false) where
         pub start-room : s .n * 4 ≤ length (x .nodeTable)
         start-room =
-            lengths-are (s .n) (s .s) (s .k) (length (x .plan)) (length (x .rules)) (length (x .nodeTable)) (length (x .stateTable))
+            lengths-are (s .n) (s .s) (ruleLength (s .s) (s .k)) (length (x .plan)) (length (x .rules)) (length (x .nodeTable)) (length (x .stateTable))
             (sym fit ∙ not-false f yes) .nums-room
 
         onward : refusal (stage (phaseOf (s .phase)) (sizesOf s)) C ≡ firstNo (listChecks (s .n) (s .k) vs bs)

@@ -6,9 +6,9 @@ use crate::may::is_running;
 use crate::state::Head;
 use crate::state::Phase;
 use crate::state::Session;
+use formats::buffers::rule_buffers_fit;
 use formats::rules::inner_count;
 use questions::answer::Climbed;
-use questions::fits::lengths_fit;
 use questions::part::part;
 ghost use mathlib.Core.Path.{_≡_};
 ghost use mathlib.Core.Bool.{true, cond};
@@ -145,7 +145,7 @@ fn next_step<'a>(
     let n = h.n as usize;
     let s = h.s as usize;
     let k = h.k as usize;
-    if !lengths_fit(n, s, k, plan.len(), rules.len(), nums.len(), bytes.len()) {
+    if !rule_buffers_fit(n, s, k, plan.len(), rules.len(), nums.len(), bytes.len()) {
         return refused_step(h, 17);
     }
     match next_part(h, plan, rules, nums, bytes, nodes, labels, roots, states) {

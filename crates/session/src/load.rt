@@ -5,7 +5,7 @@ use crate::loaded::loaded_from;
 use crate::may::may_load;
 use crate::state::Session;
 use tables::answers::Building;
-use tables::build::build_rules;
+use tables::build::build_tables;
 ghost use Rattle.session.specs.Promises.{LoadDone, doingAnswer};
 ghost use Rattle.formats.specs.Inputs.{inputsOf};
 
@@ -29,7 +29,7 @@ impl Session {
                 rec: self,
             };
         }
-        match build_rules(plan, rules, nums, bytes) {
+        match build_tables(plan, rules, nums, bytes) {
             Building::Built => {
                 let rec = loaded_from(plan, rules);
                 return Done {

@@ -6,8 +6,8 @@ use crate::fill::padded_nodes;
 use crate::may::may_start;
 use crate::state::Phase;
 use crate::state::Session;
+use formats::buffers::rule_buffers_fit;
 use formats::lists::check_list;
-use questions::fits::lengths_fit;
 use questions::roots::roots;
 ghost use mathlib.Core.Path.{_≡_};
 ghost use Rattle.model.specs.Calls as calls;
@@ -73,7 +73,7 @@ impl Session {
                 rec: self,
             };
         }
-        if !lengths_fit(n, s, k, plan.len(), rules.len(), nums.len(), bytes.len()) {
+        if !rule_buffers_fit(n, s, k, plan.len(), rules.len(), nums.len(), bytes.len()) {
             return Started {
                 told: Starting::Refused(17),
                 rec: self,

@@ -16,6 +16,7 @@ use lib.ListN.{length, take, drop}
 use lib.Seq.{take-at}
 use Rattle.trees.specs.Tree.{Tree, kindsOf, size}
 use Rattle.trees.specs.Tables.{linkTable}
+use Rattle.trees.proofs.PostorderLaws.{size-of}
 use Rattle.formats.specs.Bytes.{allBelow}
 use Rattle.formats.specs.Plan.{nodeCount, labelsIn, kindsIn, planTree}
 use Rattle.formats.specs.Rules.{stateCount, labelCount, leafStates, innerStates, ruleMarks, ruleAutomaton}
@@ -31,10 +32,9 @@ use Rattle.links.specs.LinkCells.{LinkCells}
 use Rattle.links.proofs.CellLaws.{length-linkTable, link-cells}
 use Rattle.tables.specs.declared.answers.Building.{Building}
 use Rattle.tables.specs.declared.answers.Building.the-variants.{Built, Refused}
-use Rattle.tables.specs.Answers.{numberOf, toldBuild, written, BuildDone}
+use Rattle.tables.specs.Answers.{buildingNumber, toldBuild, written, BuildDone}
 use Rattle.tables.specs.States.{RuleRuns}
 use Rattle.tables.specs.Written.{TableArgs, StatesOver, Passed, BuildArgs, BothWritten}
-use Rattle.tables.proofs.StateTurns.{size-of}
 use Rattle.tables.proofs.TableTurns.{length-stateTable}
 
 -- ---- the lengths of the tables
@@ -183,7 +183,7 @@ module _ (p r nums bytes : List ℕ) (n s k : ℕ) (B : BuildArgs p r n s k nums
 
 module _ (links states nums bytes : List ℕ) where
   refused : (n : ℕ) → (n ≡ 0 → ⊥) → BuildDone n links states nums bytes (Refused n) nums bytes
-  unfolding toldBuild numberOf written
+  unfolding toldBuild buildingNumber written
   refused zero e = absurd (e refl)
   refused (suc n) e = record { told = refl; number = refl; links-written = refl; states-written = refl }
 
@@ -193,7 +193,7 @@ module _ (links states nums bytes : List ℕ) where
 
   pub build-done : (n : ℕ) (nums′ bytes′ : List ℕ) → n ≡ 0 → nums′ ≡ links ++ drop (length links) nums
       → bytes′ ≡ states ++ drop (length states) bytes → BuildDone n links states nums bytes Built nums′ bytes′
-  unfolding toldBuild numberOf written
+  unfolding toldBuild buildingNumber written
   build-done zero nums′ bytes′ e l s = record { told = refl; number = refl; links-written = l; states-written = s }
   build-done (suc n) nums′ bytes′ e l s = absurd (omega arith)
 
@@ -206,7 +206,7 @@ written-zero (suc n) h table entry = absurd (omega arith)
 
 -- what an accepted build leaves, for rule tables and branch tables
 pub built-lists : (n : ℕ) (links states nums bytes : List ℕ) (answer : Building) (nums′ bytes′ : List ℕ)
-    → BuildDone n links states nums bytes answer nums′ bytes′ → numberOf answer ≡ 0
+    → BuildDone n links states nums bytes answer nums′ bytes′ → buildingNumber answer ≡ 0
     → (n ≡ 0) × (nums′ ≡ links ++ drop (length links) nums) × (bytes′ ≡ states ++ drop (length states) bytes)
 built-lists n links states nums bytes answer nums′ bytes′ D e =
     let z : n ≡ 0 = sym (D .number) ∙ e in
@@ -227,7 +227,7 @@ module _ (p r : List ℕ) where
   pub built-as-built : (nums bytes nums′ bytes′ : List ℕ) (answer : Building)
       → BuildDone (firstNo (buildChecks p r (length nums) (length bytes))) (builtLinks p) (builtStates p r) nums bytes
       answer nums′ bytes′
-      → numberOf answer ≡ 0 → AsBuilt p r nums′ bytes′
+      → buildingNumber answer ≡ 0 → AsBuilt p r nums′ bytes′
   built-as-built nums bytes nums′ bytes′ answer D e =
       let q = built-lists _ (builtLinks p) (builtStates p r) nums bytes answer nums′ bytes′ D e in
       rw (q .1, q .2) (written-as-built (build-table p r (length nums) (length bytes) (q .0)) (drop (length (builtLinks p)) nums)

@@ -14,8 +14,8 @@ use lib.Seq.{set-getD, getD-set-same}
 use Rattle.trees.specs.Automaton.{state}
 use Rattle.trees.specs.Numbering.{sub}
 use Rattle.trees.proofs.RowLaws.{stride}
+use Rattle.trees.proofs.PostorderLaws.{size-of}
 use Rattle.formats.specs.Rules.{treeAutomaton}
-use Rattle.links.proofs.UpTurns.{size-of}
 use Rattle.tables.specs.StateCells.{stateCell}
 use Rattle.tables.specs.States.{Runs}
 use Rattle.tables.specs.Compared.{StatesTold}

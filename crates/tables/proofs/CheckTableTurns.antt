@@ -10,6 +10,7 @@ use native.Mathlib.Omega.{arith}
 use lib.ListN.{length, take}
 use Rattle.trees.specs.Tree.{Tree, kindsOf, labelsOf, size}
 use Rattle.trees.specs.Tables.{stateTable}
+use Rattle.trees.proofs.PostorderLaws.{size-of}
 use Rattle.formats.specs.Bytes.{sameList}
 use Rattle.formats.specs.Rules.{treeAutomaton}
 use Rattle.formats.specs.Checks.{stateLength}
@@ -19,7 +20,6 @@ use Rattle.tables.specs.States.{Runs}
 use Rattle.tables.specs.Maps.{Prepared, MapArgs}
 use Rattle.tables.specs.Compared.{StatesTold, MapsTold, TableTold}
 use Rattle.tables.specs.Written.{TableArgs}
-use Rattle.tables.proofs.StateTurns.{size-of}
 use Rattle.tables.proofs.TableTurns.{map-args}
 use Rattle.tables.proofs.CheckLaws.{states-told, table-same}
 

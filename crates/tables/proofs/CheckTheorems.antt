@@ -17,7 +17,7 @@ use Rattle.formats.proofs.InputLaws.{rule-table-passes, build-table, passes-bui
 use Rattle.tables.specs.declared.answers.Building.{Building}
 use Rattle.tables.specs.declared.answers.Checking.{Checking}
 use Rattle.tables.specs.declared.answers.Checking.the-variants.{Yes, No}
-use Rattle.tables.specs.Answers.{numberOf, BuildDone, CheckDone}
+use Rattle.tables.specs.Answers.{buildingNumber, BuildDone, CheckDone}
 use Rattle.tables.proofs.BuildLaws.{length-builtLinks, length-builtStates, built-as-built}
 use Rattle.tables.proofs.CheckAnswers.{Begins, begins-room, done-yes, yes-done, done-no, no-done}
 
@@ -83,7 +83,7 @@ module _ (p r nums bytes : List ℕ) where
 -- nums and bytes before an accepted build, nums′ and bytes′ after it
 pub build-then-check : (p r nums bytes nums′ bytes′ : List ℕ) (built : Building) (checked : Checking)
     → BuildDone (buildNumber p r nums bytes) (builtLinks p) (builtStates p r) nums bytes built nums′ bytes′
-    → numberOf built ≡ 0
+    → buildingNumber built ≡ 0
     → CheckDone (buildNumber p r nums′ bytes′) (builtLinks p) (builtStates p r) nums′ bytes′ checked → checked ≡ Yes
 build-then-check p r nums bytes nums′ bytes′ built checked B e C =
     yes-check p r nums′ bytes′ checked C (built-as-built p r nums bytes nums′ bytes′ built B e)

@@ -9,6 +9,7 @@ pub mod CheckTableTurns
 pub mod CheckBothTurns
 pub mod CheckAnswers
 pub mod CheckTheorems
+pub mod MapRowLaws
 pub mod RowTurns
 pub mod StateTurns
 pub mod MapTableLaws

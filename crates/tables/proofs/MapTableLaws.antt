@@ -20,7 +20,7 @@ use Rattle.tables.specs.Rows.{RowTo, Rowed}
 use Rattle.tables.specs.Compare.{rowIs}
 use Rattle.tables.specs.MapTable.{NoMap, MapsWritten}
 use Rattle.tables.proofs.CompareLaws.{rowIs-map}
-use Rattle.tables.proofs.RowTurns.{row-other}
+use Rattle.tables.proofs.MapRowLaws.{row-other}
 
 pub row-ext : (s : ℕ) (f g : ℕ → ℕ) (v i : ℕ) (b₀ b : List ℕ) → RowTo s f v i b₀ b → ((q : ℕ) → q < i → f q ≡ g q)
     → RowTo s g v i b₀ b

@@ -1,5 +1,5 @@
 -- The turns of the loop that writes the run's states.
---     rule-in, rule-args          the place of a rule is inside its table
+--     rule-args                   what reading a rule needs
 --     rules-below                 the states of a run are below S
 --     leaf-states, inner-states   one more node, a leaf or an inner node
 --     inner-args                  what reading an inner node's children needs
@@ -15,19 +15,18 @@ use lib.Seq.{getD-set-same, getD-set-other}
 use Rattle.trees.specs.Tree.{Tree, kindsOf, labelsOf, size, kindAt}
 use Rattle.trees.specs.Automaton.{Automaton, state}
 use Rattle.trees.specs.Numbering.{sub}
-use Rattle.trees.proofs.NodeLaws.{length-kinds}
-use Rattle.trees.proofs.PostorderLaws.{postorder-tree}
+use Rattle.trees.proofs.PostorderLaws.{postorder-tree, size-of}
 use Rattle.trees.proofs.RowLaws.{stride, cells-apart}
 use Rattle.trees.proofs.RunLaws.{Children, children, state-leaf, state-inner, state-below}
+use Rattle.formats.specs.InnerChecks.{RuleArgs}
 use Rattle.formats.specs.Rules.{treeAutomaton}
+use Rattle.formats.proofs.RuleLaws.{rule-in}
+use Rattle.links.specs.UpPass.{leftOf}
 use Rattle.links.specs.Cells.{sizeCell}
 use Rattle.tables.specs.StateCells.{stateCell}
-use Rattle.tables.specs.States.{RuleRuns, Ran, Runs, StateArgs, leftOf, RuleArgs, innerState, InnerArgs}
+use Rattle.tables.specs.States.{RuleRuns, Ran, Runs, StateArgs, innerState, InnerArgs}
 
 -- ---- rules
-
-pub rule-in : (s k p a q : ℕ) → p < s → a < k → q < s → (p * k + a) * s + q < s * k * s
-rule-in s k p a q hp ha hq = omega (arith, stride s (p * k + a) (s * k) (omega (arith, stride k p s hp)))
 
 pub rule-args : (lv inn : List ℕ) (s k p a q : ℕ) → RuleRuns s k lv inn → p < s → a < k → q < s → RuleArgs inn s k p a q
 rule-args lv inn s k p a q ok hp ha hq = record {
@@ -77,9 +76,6 @@ module _ (A : Automaton) (t : Tree) (i : ℕ) (b₀ b : List ℕ) (ran : Ran A t
       left-state = ap (stateCell (A .states) b) left-is ∙ ran .states (i - 1 - size (sub t (i - 1))) (kin .left-in)
 
 -- ---- the same, of every tree with these kinds and labels
-
-pub size-of : (t : Tree) (ks : List ℕ) → kindsOf t ≡ ks → length ks ≡ size t
-size-of t ks e = ap length (sym e) ∙ length-kinds t
 
 module _ (s k : ℕ) (lv inn ks ls : List ℕ) (i : ℕ) (nums b₀ b : List ℕ) (all : Runs s k lv inn ks ls i b₀ b)
     (args : StateArgs ks ls nums lv inn s k (length b₀)) (same : length b ≡ length b₀) (h : i < length ks) where

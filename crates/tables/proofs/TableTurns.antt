@@ -14,12 +14,12 @@ use Rattle.trees.specs.Numbering.{sub}
 use Rattle.trees.specs.Tables.{stateMap, stateRow, stateTable}
 use Rattle.trees.proofs.PostorderLaws.{postorder-tree}
 use Rattle.trees.proofs.RowLaws.{length-rows, length-stateRow}
+use Rattle.trees.proofs.PostorderLaws.{size-of}
 use Rattle.formats.specs.Rules.{treeAutomaton}
 use Rattle.links.specs.LinkCells.{LinkCells}
 use Rattle.tables.specs.States.{Ran, Runs}
 use Rattle.tables.specs.Maps.{Prepared, MapArgs, Maps}
 use Rattle.tables.specs.Written.{TableArgs, StatesOver}
-use Rattle.tables.proofs.StateTurns.{size-of}
 use Rattle.tables.proofs.MapTableLaws.{passes-written}
 
 pub length-stateTable : (A : Automaton) (t : Tree) → length (stateTable A t) ≡ size t * (A .states + 1)

@@ -1,6 +1,6 @@
 -- What the builds and the full checks answer, and what they leave in the lent buffers.
 --
--- numberOf a, checkNumber a == document 01's number of an answer: 0 accepted, else the refusal's
+-- buildingNumber a, checkNumber a == document 01's number of an answer: 0 accepted, else the refusal's
 -- toldBuild n, toldCheck n same == the answer of a build, or of a full check, whose first failing check is n (0: none)
 -- written n table entry == what a lent buffer holds afterwards: the table and the entry's excess, or the entry where refused
 -- BuildDone == a build's promise: the answer, its number and both buffers, on every input
@@ -19,9 +19,9 @@ use Rattle.tables.specs.declared.answers.Building.the-variants.{Built, R
 use Rattle.tables.specs.declared.answers.Checking.{Checking}
 use Rattle.tables.specs.declared.answers.Checking.the-variants.{Yes, No, Refused as NotChecked}
 
-unfoldable pub numberOf : Building → ℕ
-numberOf Built = 0
-numberOf (Refused n) = n
+unfoldable pub buildingNumber : Building → ℕ
+buildingNumber Built = 0
+buildingNumber (Refused n) = n
 
 unfoldable pub checkNumber : Checking → ℕ
 checkNumber Yes = 0
@@ -43,7 +43,7 @@ written (suc n) table entry = entry
 
 pub record BuildDone (n : ℕ) (links states nums bytes : List ℕ) (answer : Building) (nums′ bytes′ : List ℕ) : Type 0 where
   pub told : answer ≡ toldBuild n
-  pub number : numberOf answer ≡ n
+  pub number : buildingNumber answer ≡ n
   pub links-written : nums′ ≡ written n links nums
   pub states-written : bytes′ ≡ written n states bytes
 

@@ -6,7 +6,6 @@
 -- Ran A t i before after == the state bytes of the nodes below i are the run's, and no byte but a state byte is changed
 -- Runs s k lv inn ks ls i before after == that, for the tree with kinds ks and labels ls, whatever the marks are
 -- StateArgs == what run_states needs
--- leftOf b v == the left child of an inner node v, by the sizes in table b; its right child is v - 1
 -- innerState == the rule at an inner node, from its children's state bytes; RuleArgs, InnerArgs == what it needs
 --
 -- Assumes nothing.
@@ -19,8 +18,10 @@ use Rattle.trees.specs.Tree.{Tree, kindsOf, labelsOf, size}
 use Rattle.trees.specs.Automaton.{Automaton, state}
 use Rattle.trees.specs.Numbering.{sub}
 use Rattle.trees.specs.Postorder.{isPostorder}
+use Rattle.formats.specs.InnerChecks.{RuleArgs}
 use Rattle.formats.specs.Rules.{treeAutomaton}
 use Rattle.formats.specs.Checks.{linkLength, stateLength}
+use Rattle.links.specs.UpPass.{leftOf}
 use Rattle.links.specs.Cells.{sizeCell}
 use Rattle.tables.specs.StateCells.{stateCell}
 
@@ -51,13 +52,6 @@ pub record StateArgs (ks ls b lv inn : List ℕ) (s k m : ℕ) : Type 0 where
   pub sizes : Sizes ks b
   pub rules : RuleRuns s k lv inn
   pub room : stateLength (length ks) s ≤ m
-
-abbrev pub leftOf : List ℕ → ℕ → ℕ
-leftOf b v = v - 1 - sizeCell b (v - 1)
-
-pub record RuleArgs (inn : List ℕ) (s k p a q : ℕ) : Type 0 where
-  pub small : p * k + a < 65536
-  pub inside : (p * k + a) * s + q < length inn
 
 abbrev pub innerState : List ℕ → List ℕ → List ℕ → ℕ → ℕ → ℕ → ℕ → ℕ
 innerState b st inn s k v a = getD inn ((stateCell s st (leftOf b v) * k + a) * s + stateCell s st (v - 1)) 0

@@ -42,7 +42,7 @@ fn write_tables(
 }
 
 // Builds the tables of a plan and a rule table into the lent buffers, or refuses and alters nothing.
-pub fn build_rules(plan: &[u8], rules: &[u8], nums: &mut [u16], bytes: &mut [u8]) -> Building
+pub fn build_tables(plan: &[u8], rules: &[u8], nums: &mut [u16], bytes: &mut [u8]) -> Building
     ensures { λ a. ⌜
         BuildDone
         (firstNo (buildChecks (now (plan .entry)) (now (rules .entry))

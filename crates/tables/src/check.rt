@@ -15,7 +15,7 @@ ghost use Rattle.tables.specs.Written.{TableArgs, BuildArgs};
 ghost use Rattle.tables.specs.Compared.{TableTold};
 
 // Whether the buffer begins with the state table of the tree with these kinds and labels.
-pub fn check_table(
+fn check_table(
     kinds: &[u8],
     labels: &[u8],
     nums: &[u16],
@@ -67,7 +67,7 @@ fn both_match(
 }
 
 // The full check: 2 to 11, then whether the lent tables are what the build writes. Nothing is written.
-pub fn check_rules(plan: &[u8], rules: &[u8], nums: &[u16], bytes: &[u8]) -> Checking
+pub fn check_tables(plan: &[u8], rules: &[u8], nums: &[u16], bytes: &[u8]) -> Checking
     ensures { λ a. ⌜ CheckDone
         (firstNo (buildChecks (now (plan .entry)) (now (rules .entry)) (length (now (nums .entry))) (length (now (bytes .entry)))))
         (builtLinks (now (plan .entry))) (builtStates (now (plan .entry)) (now (rules .entry)))

@@ -1,16 +1,8 @@
 // The run over a plan: each node's state byte, in rising node number.
+use formats::rules::rule;
 ghost use mathlib.Core.Path.{_≡_};
-ghost use Prim.Native.Nat.{_+_, _*_};
 ghost use lib.ListN.{length, getD};
-ghost use Rattle.tables.specs.States.{RuleArgs, InnerArgs, StateArgs, Runs, innerState};
-
-// The rule for left state p, label a and right state q.
-fn rule(inner: &[u8], s: usize, k: usize, p: usize, a: usize, q: usize) -> u8
-    requires { ⌜ RuleArgs (now inner) s k p a q ⌝ }
-    ensures { λ r. ⌜ r ≡ getD (now (inner .entry)) ((p * k + a) * s + q) 0 ⌝ }
-{
-    inner[(p * k + a) * s + q]
-}
+ghost use Rattle.tables.specs.States.{InnerArgs, StateArgs, Runs, innerState};
 
 // The state of the inner node v of label a, from its children's.
 pub fn inner_state(

@@ -6,7 +6,7 @@ use mathlib.Core.Path.{_≡_, refl, subst}
 use lib.ListN.{length, length-set}
 use Rattle.tables.specs.StateCells.{mapCell}
 use Rattle.tables.specs.Rows.{RowTo}
-use Rattle.tables.proofs.RowTurns.{row-turn}
+use Rattle.tables.proofs.MapRowLaws.{row-turn}
 use Rattle.branches.specs.Maps.{stepCell}
 use Rattle.branches.proofs.StepRowTurns.{step-far-below, step-inside, step-is}
 use native.Mathlib.Omega.{arith}

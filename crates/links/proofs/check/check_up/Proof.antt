@@ -4,7 +4,8 @@ use Prim.Native.Nat.{_≤_, _-_, _*_}
 use mathlib.Core.Path.{_≡_, refl, sym, _∙_}
 use lib.ListN.{length}
 use borrow.Author.Tests.{not-true, not-false}
-use Rattle.links.proofs.UpTurns.{none-yet, some-node}
+use Rattle.trees.proofs.PostorderLaws.{some-node}
+use Rattle.links.proofs.UpTurns.{none-yet}
 use Rattle.links.proofs.CheckTurns.{UpsTo, up-args, ups-step, ups-no, up-tells}
 use native.Mathlib.Omega.{arith}
 use borrow.Author.Needs.{needs}

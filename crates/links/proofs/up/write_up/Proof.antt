@@ -4,8 +4,9 @@ use Prim.Native.Nat.{_≤_, _-_, _*_}
 use mathlib.Core.Path.{_≡_, refl, _∙_}
 use mathlib.Core.Logic.{⊎-elim}
 use lib.ListN.{length, length-set}
+use Rattle.trees.proofs.PostorderLaws.{some-node}
 use Rattle.links.proofs.UpTurns.{UpsWritten, nothing-written, leaf-turns, inner-turns, inner-room}
-use Rattle.links.proofs.UpTurns.{all-written, some-node}
+use Rattle.links.proofs.UpTurns.{all-written}
 use native.Mathlib.Omega.{arith}
 use borrow.Author.Needs.{needs}
 use Rattle.links.proofs.up.write_up.Statement.{statement}

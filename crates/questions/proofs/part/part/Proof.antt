@@ -7,8 +7,11 @@ use mathlib.Core.Bool.{true}
 use borrow.Author.Tests.{not-true, not-false}
 use lib.ListN.{length}
 use lib.Seq.{length-take-le}
-use Rattle.questions.specs.PartTold.{limitsFit, lengthsFit, askedFits}
-use Rattle.questions.proofs.PartFits.{limits-are, given-limits, given-lengths, given-asked}
+use Rattle.formats.specs.Rules.{ruleLength}
+use Rattle.formats.specs.Buffers.{limitsFit, buffersFit}
+use Rattle.formats.proofs.BufferLaws.{limits-are}
+use Rattle.questions.specs.PartTold.{askedFits}
+use Rattle.questions.proofs.PartFits.{given-limits, given-lengths, given-asked}
 use Rattle.questions.proofs.PartHanded.{Fit, fit-by, part-args, part-told}
 use Rattle.questions.proofs.Promised.{part-done}
 use Rattle.questions.proofs.part.part.Statement.{statement}
@@ -21,9 +24,9 @@ limits : (c : tie.Else1) → let g = start (c .before) .args in limitsFit (g .n)
 limits c = sym (c .before .limits-fit .ensures) ∙ not-false _ (c .if1 .left)
 
 lengths : (c : tie.Else2) → let g = start (c .before .before .before) .args in
-    lengthsFit (g .n) (g .s) (g .k) (length (g .plan .now)) (length (g .rules .now)) (length (g .nums .now))
+    buffersFit (g .n) (g .s) (ruleLength (g .s) (g .k)) (length (g .plan .now)) (length (g .rules .now)) (length (g .nums .now))
     (length (g .bytes .now)) ≡ true
-lengths c = sym (c .before .lengths-fit .ensures) ∙ not-false _ (c .if2 .left)
+lengths c = sym (c .before .rule-buffers-fit .ensures) ∙ not-false _ (c .if2 .left)
 
 asked : (c : tie.Else3) → let g = start (c .before .before .before .before .before) .args in
     askedFits (g .n) (g .roots .now) (g .states .now) (g .nodes .now) (g .labels .now) ≡ true
@@ -44,8 +47,8 @@ returns c =
     part-done _ _ _ _ _ _ _ _ _ _ _ _
     (given-limits _ _ _ _ _ _ _ _ _ _ _ (sym (c .before .limits-fit .ensures) ∙ not-true _ (c .if1 .taken)))
 
-lengths-fit-requires : tie.Need-lengths-fit-requires
-lengths-fit-requires c κs =
+rule-buffers-fit-requires : tie.Need-rule-buffers-fit-requires
+rule-buffers-fit-requires c κs =
     let L = limits-are _ _ _ (limits c) in
     record { most = L .most; few = L .few; labels = L .labels-most }
 
@@ -53,7 +56,7 @@ returns-2 : tie.Need-returns-2
 returns-2 c =
     part-done _ _ _ _ _ _ _ _ _ _ _ _
     (given-lengths _ _ _ _ _ _ _ _ _ _ _ (limits (c .before .before))
-    (sym (c .before .lengths-fit .ensures) ∙ not-true _ (c .if2 .taken)))
+    (sym (c .before .rule-buffers-fit .ensures) ∙ not-true _ (c .if2 .taken)))
 
 asked-fits-requires : tie.Need-asked-fits-requires
 asked-fits-requires c κs = search needs
@@ -175,7 +178,7 @@ part-spec =
     (tie.spec
     limits-fit-requires
     returns
-    lengths-fit-requires
+    rule-buffers-fit-requires
     returns-2
     asked-fits-requires
     returns-3

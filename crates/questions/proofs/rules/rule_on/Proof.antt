@@ -4,7 +4,7 @@ use mathlib.Core.Path.{sym, _∙_}
 use native.Mathlib.Omega.{arith}
 use native.Mathlib.Nat.{le-refl}
 use lib.ListN.{length}
-use Rattle.tables.proofs.StateTurns.{rule-in}
+use Rattle.formats.proofs.RuleLaws.{rule-in}
 use Rattle.questions.specs.PathViews.{rulesView}
 use Rattle.questions.proofs.LookupLaws.{below-no, rule-small, rule-outside, rule-at}
 use Rattle.questions.proofs.rules.rule_on.Statement.{statement}

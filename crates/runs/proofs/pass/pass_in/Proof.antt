@@ -21,7 +21,6 @@ use Rattle.runs.proofs.pass.pass_in.Reads as reads
 use Rattle.runs.proofs.pass.pass_in.Lts as lts
 use Rattle.runs.proofs.changes.after_change.Reads as after-change-reads
 use Rattle.runs.proofs.changes.changes_from.Reads as changes-from-reads
-use Rattle.runs.proofs.pass.rule.Reads as rule-reads
 
 abbrev Inv-loop : tie.InvT-loop
 Inv-loop waiting₀ kinds labels nodes news leaves inner s k n top₀ changes₀ j₀ v₀ waiting top changes j v =

@@ -43,8 +43,8 @@ cast-s c = search needs
 cast-k : tie.Need-cast-k
 cast-k c = search needs
 
-lengths-fit-requires : tie.Need-lengths-fit-requires
-lengths-fit-requires c κs =
+rule-buffers-fit-requires : tie.Need-rule-buffers-fit-requires
+rule-buffers-fit-requires c κs =
     let e = c .before .before .before in
     let m = e .before in
     advance-limits (of m) (at m .pre) (lent m) _ (m .is-running .ensures) (e .if1 .left)
@@ -59,7 +59,7 @@ returns-2 c =
     let e = k .before .before .before .before in
     let m = e .before in
     refused-found (of m) (advance (lent m)) 17 _ (c .refused-step2 .ensures)
-    (advance-17 (of m) (at m .pre) (lent m) _ (m .is-running .ensures) (e .if1 .left) _ (k .lengths-fit .ensures) (i .if2 .taken))
+    (advance-17 (of m) (at m .pre) (lent m) _ (m .is-running .ensures) (e .if1 .left) _ (k .rule-buffers-fit .ensures) (i .if2 .taken))
 
 next-part-requires : tie.Need-next-part-requires
 next-part-requires c κs =
@@ -78,7 +78,7 @@ handled-requires c κs =
     let k = t .before in
     let e = k .before .before .before .before in
     let m = e .before in
-    handle-args (of m) (at m .pre) (lent m) _ (m .is-running .ensures) (e .if1 .left) _ (k .lengths-fit .ensures) (t .if2 .left) _
+    handle-args (of m) (at m .pre) (lent m) _ (m .is-running .ensures) (e .if1 .left) _ (k .rule-buffers-fit .ensures) (t .if2 .left) _
     (p .next-part .ensures) _ _ (c .before .q .given .1)
 
 returns-3 : tie.Need-returns-3
@@ -89,7 +89,7 @@ returns-3 c =
     let k = t .before in
     let e = k .before .before .before .before in
     let m = e .before in
-    made-found (of m) (at m .pre) (lent m) _ (m .is-running .ensures) (e .if1 .left) _ (k .lengths-fit .ensures) (t .if2 .left) _
+    made-found (of m) (at m .pre) (lent m) _ (m .is-running .ensures) (e .if1 .left) _ (k .rule-buffers-fit .ensures) (t .if2 .left) _
     (p .next-part .ensures) _ _ (d .before .q .given .1) _ (c .handled .ensures)
 
 enum-told : tie.Need-enum-told
@@ -107,7 +107,7 @@ returns-4 c =
     let e = k .before .before .before .before in
     let m = e .before in
     refused-found (of m) (advance (lent m)) 18 _ (c .refused-step3 .ensures)
-    (advance-18 (of m) (at m .pre) (lent m) _ (m .is-running .ensures) (e .if1 .left) _ (k .lengths-fit .ensures) (t .if2 .left) _
+    (advance-18 (of m) (at m .pre) (lent m) _ (m .is-running .ensures) (e .if1 .left) _ (k .rule-buffers-fit .ensures) (t .if2 .left) _
     (p .next-part .ensures) (i .enum-told .given .1))
 
 pub next-step-spec : {M : Type 1} → statement M
@@ -120,7 +120,7 @@ next-step-spec =
     cast-n
     cast-s
     cast-k
-    lengths-fit-requires
+    rule-buffers-fit-requires
     refused-step-requires-2
     returns-2
     next-part-requires

@@ -5,7 +5,8 @@ use Prim.Native.Nat.{ℕ, _+_, _-_, _*_, _≤_, _<_}
 use mathlib.Core.Path.{_≡_, subst}
 use lib.ListN.{length, length-set}
 use Rattle.tables.specs.Rows.{RowTo, farCell}
-use Rattle.tables.proofs.RowTurns.{row-turn, placed, far-here-below, far-near-below, far-is}
+use Rattle.tables.proofs.MapRowLaws.{row-turn}
+use Rattle.tables.proofs.RowTurns.{placed, far-here-below, far-near-below, far-is}
 use native.Mathlib.Omega.{arith}
 use borrow.Author.Needs.{needs}
 use Rattle.tables.proofs.rows.far_row.Statement.{statement}

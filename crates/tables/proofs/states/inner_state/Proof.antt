@@ -1,9 +1,9 @@
 -- `states::inner_state` meets its contract.
 -- Assumes nothing.
 use Prim.Native.Nat.{_+_, _*_}
-use Rattle.tables.specs.States.{leftOf}
 use native.Mathlib.Omega.{arith}
 use borrow.Author.Needs.{needs}
+use Rattle.links.specs.UpPass.{leftOf}
 use Rattle.tables.proofs.states.inner_state.Statement.{statement}
 use Rattle.tables.proofs.states.inner_state.Tie as tie
 

@@ -41,8 +41,8 @@ returns c =
     let m = c .before in
     load-1 (of m .args .t1) (shape (of m)) (lent (of m)) _ (may m) (c .if1 .taken)
 
-build-rules-requires : tie.Need-build-rules-requires
-build-rules-requires c κs = search needs
+build-tables-requires : tie.Need-build-tables-requires
+build-tables-requires c κs = search needs
 
 enum-told : tie.Need-enum-told
 enum-told c = search needs
@@ -53,7 +53,7 @@ loaded-from-requires c κs =
     let e = b .before .before .before in
     let m = e .before in
     load-headers (of m .args .t1) (shape (of m)) (lent (of m)) _ (may m) (e .if1 .left) _ _ _
-    (b .build-rules .ensures) (c .enum-told .given .1)
+    (b .build-tables .ensures) (c .enum-told .given .1)
 
 same-length : tie.Need-same-length
 same-length c = search needs
@@ -68,7 +68,7 @@ returns-2 c =
     let e = b .before .before .before in
     let m = e .before in
     load-built (of m .args .t1) (shape (of m)) (lent (of m)) _ (may m) (e .if1 .left) _ _ _
-    (b .build-rules .ensures) (d .enum-told .given .1) _ (c .loaded-from .ensures)
+    (b .build-tables .ensures) (d .enum-told .given .1) _ (c .loaded-from .ensures)
 
 enum-known-n : tie.Need-enum-known-n
 enum-known-n c = search needs
@@ -86,7 +86,7 @@ returns-3 c =
     let e = b .before .before .before in
     let m = e .before in
     load-refused (of m .args .t1) (shape (of m)) (lent (of m)) _ (may m) (e .if1 .left) _ _ _
-    (b .build-rules .ensures) _ (d .n .given .1)
+    (b .build-tables .ensures) _ (d .n .given .1)
 
 pub load-spec : {M : Type 1} → statement M
 load-spec =
@@ -95,7 +95,7 @@ load-spec =
     head-requires
     may-load-requires
     returns
-    build-rules-requires
+    build-tables-requires
     enum-told
     loaded-from-requires
     same-length

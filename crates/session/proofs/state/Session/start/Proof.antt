@@ -55,8 +55,8 @@ cast-s c = search needs
 cast-k : tie.Need-cast-k
 cast-k c = search needs
 
-lengths-fit-requires : tie.Need-lengths-fit-requires
-lengths-fit-requires c κs =
+rule-buffers-fit-requires : tie.Need-rule-buffers-fit-requires
+rule-buffers-fit-requires c κs =
     let m = c .before in
     start-limits (of m .args .t1) (shape (of m)) (lent (of m)) (of m .args .nodes .now) (of m .args .labels .now) _
     (may m) (c .if1 .left)
@@ -68,7 +68,7 @@ returns-2 c =
     let m = e .before in
     start-17 (of m .args .t1) (shape (of m)) (lent (of m)) (of m .args .nodes .now) (of m .args .labels .now) _
     (may m)
-    (e .if1 .left) _ (k .lengths-fit .ensures) (c .if2 .taken)
+    (e .if1 .left) _ (k .rule-buffers-fit .ensures) (c .if2 .taken)
 
 check-list-requires : tie.Need-check-list-requires
 check-list-requires c κs = search needs
@@ -82,7 +82,7 @@ returns-3 c =
     let m = e .before in
     start-list (of m .args .t1) (shape (of m)) (lent (of m)) (of m .args .nodes .now) (of m .args .labels .now) _
     (may m)
-    (e .if1 .left) _ (k .lengths-fit .ensures) (t .if2 .left) _ (l .check-list .ensures) (c .if3 .taken)
+    (e .if1 .left) _ (k .rule-buffers-fit .ensures) (t .if2 .left) _ (l .check-list .ensures) (c .if3 .taken)
 
 mul-roots : tie.Need-mul-roots
 mul-roots c =
@@ -102,7 +102,7 @@ slice-aggregate-roots c =
     let m = e .before in
     let h =
     start-room (of m .args .t1) (shape (of m)) (lent (of m)) (of m .args .nodes .now) (of m .args .labels .now) _
-    (may m) (e .if1 .left) _ (k .lengths-fit .ensures) (t .if2 .left) in
+    (may m) (e .if1 .left) _ (k .rule-buffers-fit .ensures) (t .if2 .left) in
     sym (length-take-le (of m .args .t1 .n * 4) (of m .args .nums .now) h)
 
 roots-requires : tie.Need-roots-requires
@@ -119,7 +119,7 @@ returns-4 c =
     let m = e .before in
     start-18 (of m .args .t1) (shape (of m)) (lent (of m)) (of m .args .nodes .now) (of m .args .labels .now) _
     (may m)
-    (e .if1 .left) _ (k .lengths-fit .ensures) (t .if2 .left) _ (l .check-list .ensures) (u .if3 .left) _ (r .roots .ensures .told)
+    (e .if1 .left) _ (k .rule-buffers-fit .ensures) (t .if2 .left) _ (l .check-list .ensures) (u .if3 .left) _ (r .roots .ensures .told)
     (c .if4 .taken)
 
 cast-count : tie.Need-cast-count
@@ -136,7 +136,7 @@ cast-count c =
       arith,
       start-count (of m .args .t1) (shape (of m)) (lent (of m)) (of m .args .nodes .now) (of m .args .labels .now) _
           (may m)
-          (e .if1 .left) _ (k .lengths-fit .ensures) (t .if2 .left) _ (l .check-list .ensures) (u .if3 .left) _
+          (e .if1 .left) _ (k .rule-buffers-fit .ensures) (t .if2 .left) _ (l .check-list .ensures) (u .if3 .left) _
           (r .roots .ensures .told) (w .if4 .left),
     )
 
@@ -152,7 +152,7 @@ started-requires c κs =
     let m = e .before in
     start-listed (of m .args .t1) (shape (of m)) (lent (of m)) (of m .args .nodes .now) (of m .args .labels .now) _
     (may m)
-    (e .if1 .left) _ (k .lengths-fit .ensures) (t .if2 .left) _ (l .check-list .ensures) (u .if3 .left)
+    (e .if1 .left) _ (k .rule-buffers-fit .ensures) (t .if2 .left) _ (l .check-list .ensures) (u .if3 .left)
 
 returns-5 : tie.Need-returns-5
 returns-5 c =
@@ -166,7 +166,7 @@ returns-5 c =
     let m = e .before in
     start-yes (of m .args .t1) (shape (of m)) (lent (of m)) (of m .args .nodes .now) (of m .args .labels .now) _
     (may m)
-    (e .if1 .left) _ (k .lengths-fit .ensures) (t .if2 .left) _ (l .check-list .ensures) (u .if3 .left) _ (r .roots .ensures .told)
+    (e .if1 .left) _ (k .rule-buffers-fit .ensures) (t .if2 .left) _ (l .check-list .ensures) (u .if3 .left) _ (r .roots .ensures .told)
     (w .if4 .left)
     _ (c .started .ensures)
 
@@ -180,7 +180,7 @@ start-spec =
     head-requires
     may-start-requires
     returns
-    lengths-fit-requires
+    rule-buffers-fit-requires
     returns-2
     check-list-requires
     returns-3

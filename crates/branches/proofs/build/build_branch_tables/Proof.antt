@@ -1,0 +1,79 @@
+-- `build::build_branch_tables` meets its promise: the first check that fails, or both tables written.
+-- Assumes nothing.
+use mathlib.Core.Path.{_≡_, sym, _∙_}
+use lib.ListN.{length}
+use Rattle.formats.specs.Checks.{firstNo, branchBuildChecks}
+use Rattle.formats.specs.Built.{builtLinks, builtSteps}
+use Rattle.tables.proofs.BuildLaws.{build-refused, build-done}
+use Rattle.branches.proofs.BranchInputs.{Accepted, accepted, part-args}
+use native.Mathlib.Omega.{arith}
+use borrow.Author.Needs.{needs}
+use Rattle.branches.proofs.build.build_branch_tables.Statement.{statement}
+use Rattle.branches.proofs.build.build_branch_tables.Tie as tie
+
+-- all checks pass
+passed : (c : tie.Else1) → let g = c .before .before .before .before .before .before .args in
+    firstNo (branchBuildChecks (g .plan .now) (g .branch .now) (length (g .nums .now)) (length (g .bytes .now))) ≡ 0
+passed c = sym (c .before .check-branch-build .ensures) ∙ c .if1 .left
+
+accepts : (c : tie.Else1) → let g = c .before .before .before .before .before .before .args in
+    Accepted (g .plan .now) (g .branch .now) (length (g .nums .now)) (length (g .bytes .now))
+accepts c = let g = c .before .before .before .before .before .before .args in
+    accepted (g .plan .now) (g .branch .now) (length (g .nums .now)) (length (g .bytes .now)) (passed c)
+
+check-branch-build-requires : tie.Need-check-branch-build-requires
+check-branch-build-requires c κs = search needs
+
+returns : tie.Need-returns
+returns c =
+    let g = c .before .before .before .before .before .before .args in
+    let r = c .before .check-branch-build in
+    build-refused (builtLinks (g .plan .now)) (builtSteps (g .plan .now) (g .branch .now)) (g .nums .now)
+    (g .bytes .now) _
+    (r .result) (r .ensures) (c .if1 .taken)
+
+read32-requires : tie.Need-read32-requires
+read32-requires c κs = omega (arith, accepts c .0 .long)
+
+read32-requires-2 : tie.Need-read32-requires-2
+read32-requires-2 c κs = omega (arith, accepts (c .before) .1 .long)
+
+read32-requires-3 : tie.Need-read32-requires-3
+read32-requires-3 c κs = omega (arith, accepts (c .before .before) .1 .long)
+
+write-branch-requires : tie.Need-write-branch-requires
+write-branch-requires c κs =
+    let i = c .before .before .before .before .before in
+    let g = i .before .before .before .before .before .before .args in
+    part-args (g .plan .now) (g .branch .now) (length (g .nums .now)) (length (g .bytes .now)) (passed i) _ _ _
+    (c .before .before .before .before .read32 .ensures) (c .before .before .before .read322 .ensures)
+    (c .before .before .read323 .ensures)
+
+same-length : tie.Need-same-length
+same-length c = search needs
+
+same-length-2 : tie.Need-same-length-2
+same-length-2 c = search needs
+
+returns-2 : tie.Need-returns-2
+returns-2 c =
+    let w = c .before .before .before .before in
+    let i = w .before .before .before .before .before .before in
+    let g = i .before .before .before .before .before .before .args in
+    build-done (builtLinks (g .plan .now)) (builtSteps (g .plan .now) (g .branch .now)) (g .nums .now) (g .bytes .now) _
+    (w .write-branch .last .1 .1 .1 .1 .1 .0) (w .write-branch .last .1 .1 .1 .1 .1 .1 .0) (passed i)
+    (w .write-branch .ensures .links) (w .write-branch .ensures .states)
+
+pub build-branch-tables-spec : {M : Type 1} → statement M
+build-branch-tables-spec =
+    tie.close
+    (tie.spec
+    check-branch-build-requires
+    returns
+    read32-requires
+    read32-requires-2
+    read32-requires-3
+    write-branch-requires
+    same-length
+    same-length-2
+    returns-2)
