@@ -1,5 +1,5 @@
 -- What is heard of a call is its answer: number and values tell it whole.
---     heard-load .. heard-read   of the model's calls (crate book)
+--     heard-load .. heard-read   of the model's calls (crate model)
 -- Assumes nothing.
 use Prim.Native.Nat.{ℕ, zero, suc}
 use mathlib.Core.Path.{_≡_, refl}

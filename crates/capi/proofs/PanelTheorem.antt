@@ -1,7 +1,7 @@
--- Demand 3 for the session calls on record bytes: every list of calls, from 967 zeros, whatever is lent, is answered as the
--- panel book says.
+-- Demand 3 for the session calls on record bytes: every list of calls, from 967 zeros, whatever the inputs, is answered as the
+-- reference model (document 01's panel book) says.
 --     panel-demand-3     the theorem, over the very promises of the five exported functions, heard as numbers and values (Heard)
---     panel-questions    a question on sound tables left alone: parts, advances, what Reads tell, ceilings (CleanlyTold, crate book)
+--     panel-questions    a question on sound tables undisturbed: parts, advances, what Reads tell, ceilings (CleanOutcomes, crate reference)
 --     record-stays       every record that a call leaves is one again
 --     panel-refines      each call on bytes is the session's call on the struct of those bytes
 -- Assumes nothing.
