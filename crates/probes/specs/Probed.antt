@@ -4,7 +4,7 @@
 -- partTold x == the state and the links of part x; 16 and 0 where it is refused
 --
 -- loadedWith n s k == a loaded session of N, S and K
--- advanced i x s == session s after i advances with what is lent
+-- advanced i x s == session s after i advances with the inputs x
 -- partsTold a == the parts that answer a tells; 0 for any other answer
 -- stepsTold x vs bs i s == the parts of a question, and its links after i advances
 -- after x vs bs i s == session s after Start and i advances; startParts x vs bs s == the parts that Start tells

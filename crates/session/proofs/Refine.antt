@@ -1,4 +1,4 @@
--- The calls' promises refine the model of the session (crate book, Model).
+-- The calls' promises refine the model of the session (crate model, Model).
 --     Seen s r         struct s passes its conditions and holds record r
 --     fresh-seen       the fresh session holds the fresh record
 --     call-refines     a call on such a struct: the model's step, and again such a struct

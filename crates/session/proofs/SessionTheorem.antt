@@ -1,7 +1,7 @@
--- Demand 3 for the session's calls: every list of calls, from the fresh session, whatever is lent, is answered as the panel
--- book says.
+-- Demand 3 for the session's calls: every list of calls, from the fresh session, whatever the inputs, is answered as the
+-- reference model (document 01's panel book) says.
 --     session-demand-3     the theorem, over the very promises of load, start, advance, cancel and read
---     session-questions    a question on sound tables left alone: parts, advances, what Reads tell, ceilings (CleanlyTold, crate book)
+--     session-questions    a question on sound tables undisturbed: parts, advances, what Reads tell, ceilings (CleanOutcomes, crate reference)
 --     session-history      a history of these calls is one of the model's, so what is proved of those holds of it
 -- Assumes nothing.
 use mathlib.Core.List.{List}

@@ -1,9 +1,9 @@
--- What the five calls promise, on every record and whatever is lent.
+-- What the five calls promise, on every record and whatever the inputs.
 --
--- doingAnswer, startingAnswer, advancingAnswer, readingAnswer == document 01's answer (crate book, Calls) of each case of a call's enum:
+-- doingAnswer, startingAnswer, advancingAnswer, readingAnswer == document 01's answer (crate model, Calls) of each case of a call's enum:
 --   its number and values
 -- answerOn s c, recordOn s c, refusalOn s c == the answer of call c on struct s, the struct after it, and its refusal's number, 18 apart.
---   A struct that breaks the layout's conditions gets 1; on any other the answer and the whole record are those of `act` (crate book, Model)
+--   A struct that breaks the layout's conditions gets 1; on any other the answer and the whole record are those of `act` (crate model, Model)
 -- CallDone, LoadDone == the promises
 --
 -- Assumes nothing.
@@ -66,7 +66,7 @@ pub record CallDone (s : Session) (c : Call) (a : Answer) (s′ : Session) : Typ
   -- what is left to the program has these properties
   pub properties : valid s ≡ true → LeftOpen (recordOf s) c a (act (recordOf s) c .record′)
 
--- Load's besides: the tables of the definition in the lent buffers, excess untouched; as at entry where it is refused
+-- Load's besides: the tables of the definition in the buffers given, excess untouched; as at entry where it is refused
 pub record LoadDone (s : Session) (x : Inputs) (a : Answer) (s′ : Session) (nums′ bytes′ : List ℕ) : Type 0 where
   pub call : CallDone s (load x) a s′
   pub links-written : nums′ ≡ written (refusalOn s (load x)) (builtLinks (x .plan)) (x .nodeTable)

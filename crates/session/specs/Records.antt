@@ -1,6 +1,6 @@
 -- The session's struct and document 01's record.
 --
--- recordOf s == the record (crate book, Model) that a struct holds: its arrays cut to their counts
+-- recordOf s == the record (crate model, Model) that a struct holds: its arrays cut to their counts
 -- sessionOf r == the struct of a record: "unused entries are zero"
 -- valid s == whether a struct can be a session's: the conditions of docs/LAYOUT.md, all that can be said without plan and rules
 -- headOf s, whole h nodes labels roots states == the record without its arrays, and the record of such a head and four arrays

@@ -1,7 +1,7 @@
 -- The program's calls tell the definition's answer.
 --     load-cleared        a fresh session that accepted a Load is cleared
 --     cleared-answer      on the session and the tables that an accepted Load left, what is told of a question is answerTo
--- From the theorem over every list of calls: each call is answered as the panel book says, and the book of a clean question says this.
+-- From the theorem over every list of calls: each call is answered as the reference model says, and that of a clean question says this.
 -- Assumes nothing.
 use Prim.Native.Nat.{ℕ, zero, suc, _+_, _≤_, _<_}
 use mathlib.Core.Path.{_≡_, refl, sym, ap, _∙_, subst}
@@ -46,7 +46,7 @@ use Rattle.session.proofs.Refine.{Seen, fresh-seen, call-refines}
 use Rattle.whatif.specs.Asked.{afterAdvance, finishedIn, mostParts, afterStart, askedOn}
 use Rattle.whatif.specs.Cleared.{answerBy, answerTo, Cleared}
 
--- the session holds a record whose answers, to any list of calls, agree with the book
+-- the session holds a record whose answers, to any list of calls, agree with the reference model
 record Follows (s : Session) (b : Reference) : Type 0 where
   pub holds : Record
   pub seen : Seen s holds
@@ -74,7 +74,7 @@ module _ (s : Session) (b : Reference) (F : Follows s b) (c : Call) where
             (F .agrees (c ∷ cs) .1);
       }
 
--- a settled call: its answer, and the book then
+-- a settled call: its answer, and the reference model then
 module _ (s : Session) (b : Reference) (F : Follows s b) (c : Call) (a : Answer) (b′ : Reference) (e : step b c ≡ settled a b′) where
   settled-answer : answerOn s c ≡ a
   settled-answer =
@@ -195,7 +195,7 @@ module _ (y : Inputs) (passed : refusal (stage (phase (newReference .state)) (ne
 
 -- ---- the theorem
 
--- an accepted Load passed its checks, and leaves the session and the book loaded
+-- an accepted Load passed its checks, and leaves the session and the reference model loaded
 load-passed : (y : Inputs) → answerOn freshSession (load y) ≡ accepted → refusal (stage (phase (newReference .state)) (newReference .sizes)) (load y) ≡ 0
 unfolding step decided
 load-passed y e =

@@ -1,6 +1,6 @@
 -- A question put to a session: the calls that the program makes, and what they tell in the end.
 --
--- finishedIn f s x == what the session s tells after it is advanced until finished, at most f times, on the lends x, and read
+-- finishedIn f s x == what the session s tells after it is advanced until finished, at most f times, on the inputs x, and read
 -- askedOn s x vs bs == what it tells of the changes vs to bs: Start's refusal, or the above
 -- mostParts == no question has more parts, so as many advances are enough
 --

@@ -2,7 +2,7 @@
 --
 -- answerTo p r vs bs == of the changes vs to bs on the plan p and the rules r: the number of the first check of 12 to 15 that fails, or the
 --   state and the yes or no of a run on the changed plan, the parts, and as links the moves of their climbs
--- Cleared s x == the session s is the one that an accepted Load left, and x is what was lent then, with the tables that it wrote
+-- Cleared s x == the session s is the one that an accepted Load left, and x is what it was given, with the tables that it wrote
 --
 -- That the program's calls tell this answer is proofs/Theorems.
 -- Assumes nothing.
@@ -41,7 +41,7 @@ abbrev pub answerTo : List ℕ → List ℕ → List ℕ → List ℕ → Answer
 answerTo p r vs bs = answerBy (firstNo (listChecks (nodeCount p) (labelCount r) vs bs)) p r vs bs
 
 pub record Cleared (s : Session) (x : Inputs) : Type 0 where
-  -- what Load was lent
+  -- what Load was given
   pub lent : Inputs
   pub taken : answerOn freshSession (load lent) ≡ accepted
   pub session : s ≡ recordOn freshSession (load lent)
