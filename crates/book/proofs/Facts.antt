@@ -15,9 +15,10 @@ use lib.ListN.{length, getD, take}
 use Rattle.formats.specs.Bytes.{allBelow}
 use Rattle.formats.specs.Plan.{planTree}
 use Rattle.formats.specs.Checks.{firstNo, listChecks}
+use Rattle.tables.specs.declared.answers.Reached.{Reached}
+use Rattle.tables.specs.Climbs.{reached}
 use Rattle.ready.specs.Members.{roots}
 use Rattle.ready.specs.Parts.{Part, nodesOf, statesOf, partOf}
-use Rattle.questions.specs.Climbs.{Reached, reached}
 use Rattle.questions.specs.Roots.{rootsOn}
 use Rattle.questions.specs.Part.{partOn}
 use Rattle.book.specs.Lends.{Lent, Sizes, fits, usedNums, sameLinks, linksBuilt, bytesBelow}

@@ -11,11 +11,12 @@ use lib.Dec.{leb, ltb, eqb}
 use lib.ListN.{getD}
 use borrow.Author.Tests.{ltb-true}
 use Rattle.trees.specs.Climb.{andThen}
+use Rattle.trees.proofs.MoveLaws.{none-some}
 use Rattle.links.specs.Cells.{depthCell, sizeCell}
-use Rattle.questions.specs.Climbs.{View, below, ruleOn, Reached, reached}
+use Rattle.tables.specs.declared.answers.Reached.{Reached}
+use Rattle.tables.specs.Climbs.{View, below, ruleOn, reached}
 use Rattle.questions.specs.Part.{Found, foundBelow, labelOn, climbFrom, runReached, ownReached, joinOn, innerOn}
 use Rattle.questions.specs.Part.{leafOn, forkOn, partOn}
-use Rattle.trees.proofs.MoveLaws.{none-some}
 
 below-is : (s q x : ℕ) → below s q ≡ some x → x < s
 unfolding below

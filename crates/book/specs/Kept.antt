@@ -20,9 +20,10 @@ use Rattle.formats.specs.Bytes.{allBelow}
 use Rattle.formats.specs.Plan.{planTree}
 use Rattle.formats.specs.Checks.{firstNo, listChecks}
 use Rattle.links.specs.Astray.{LinksAstray}
+use Rattle.tables.specs.declared.answers.Reached.{Reached}
+use Rattle.tables.specs.Climbs.{reached}
 use Rattle.ready.specs.Members.{roots}
 use Rattle.ready.specs.Parts.{Part, nodesOf, statesOf, partState, partLinks}
-use Rattle.questions.specs.Climbs.{Reached, reached}
 use Rattle.questions.specs.Astray.{Astray}
 use Rattle.questions.specs.Promises.{RootsAre}
 use Rattle.book.specs.Lends.{Lent, usedNums, linksBuilt, bytesBelow}

@@ -8,7 +8,7 @@ use mathlib.Core.Option.{Option, none, some}
 use mathlib.Core.List.{List}
 use lib.Dec.{eqb}
 use lib.ListN.{length, getD}
-use Rattle.questions.specs.Climbs.{Reached}
+use Rattle.tables.specs.declared.answers.Reached.{Reached}
 use Rattle.book.specs.Lends.{Lent}
 use Rattle.book.specs.Calls.{Call, load, start, advance, cancel, read, Answer, more, finished, told, Phase}
 use Rattle.book.specs.Refusals.{refusal}

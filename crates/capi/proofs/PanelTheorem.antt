@@ -13,7 +13,7 @@ use mathlib.Core.List.{List}
 use lib.Dec.{eqb}
 use lib.ListN.{length, getD, replicate}
 use Rattle.formats.proofs.CheckLaws.{and-left}
-use Rattle.questions.specs.Climbs.{Reached}
+use Rattle.tables.specs.declared.answers.Reached.{Reached}
 use Rattle.book.specs.Lends.{Lent}
 use Rattle.book.specs.Calls.{Call, load, start, advance, cancel, read, Answer, more, finished, Phase}
 use Rattle.book.specs.Refusals.{refusal}
