@@ -17,14 +17,14 @@ use Rattle.formats.specs.Rules.{stateCount, labelCount}
 use Rattle.formats.specs.Buffers.{branchTables}
 use Rattle.formats.proofs.PartLaws.{length-part}
 use Rattle.formats.proofs.BufferLaws.{Headed, headed-are}
+use Rattle.tables.specs.declared.branch_climb.Composed.{Composed}
+use Rattle.tables.specs.Compose.{mapAt, Counted, composition, ComposeArgs, ComposedTo}
+use Rattle.tables.proofs.FollowLaws.{MapOf, identity-map}
+use Rattle.tables.proofs.MapHalves.{getD-mapAt, identity, identity-map as identity-at}
 use Rattle.branches.specs.declared.answers.Branching.{Branching}
 use Rattle.branches.specs.declared.answers.Branching.the-variants.{Refused}
-use Rattle.branches.specs.declared.climb.Composed.{Composed}
 use Rattle.branches.specs.Question.{branchOn, toldBranch}
-use Rattle.branches.specs.Compose.{mapAt, Counted, composition, ComposeArgs, ComposedTo}
 use Rattle.branches.specs.Finish.{finish, FinishArgs, AnswerArgs}
-use Rattle.branches.proofs.FollowLaws.{MapOf, identity-map}
-use Rattle.branches.proofs.MapHalves.{getD-mapAt, same, same-map}
 use Rattle.branches.proofs.AskParts.{Handed, composition-map, composition-is, finish-is}
 use Rattle.branches.proofs.AskParts.{branch-on-parts, branchFinish}
 
@@ -53,7 +53,7 @@ module _ (p r nums bytes : List ℕ) (u l n s k to : ℕ) (ls st mk : List ℕ) 
   few : s ≤ 16
   few = omega (arith, fit .headers .in-limits .few, H .states)
 
-  pub compose-args : ComposeArgs n s k same 0 ls st nums bytes l
+  pub compose-args : ComposeArgs n s k identity 0 ls st nums bytes l
   compose-args = record {
     halves = record { few = few; long = refl; half = omega arith; within = omega arith };
     at = omega (arith, A .lower, H .nodes);
@@ -65,13 +65,13 @@ module _ (p r nums bytes : List ℕ) (u l n s k to : ℕ) (ls st mk : List ℕ) 
   }
 
   module _ (x : Composed) (after : List ℕ)
-      (C : ComposedTo s after x (composition n s k ls st nums bytes l to (mapAt s same 0))) where
+      (C : ComposedTo s after x (composition n s k ls st nums bytes l to (mapAt s identity 0))) where
     abbrev found : Counted
     found = record { map = mapAt s after (x .at); links = x .links }
 
     -- the climb starts with each state to itself
     composed : composition n s k ls st nums bytes l to (tabulate s (λ q. q)) ≡ cond (x .ok) (some found) none
-    composed = ap (composition n s k ls st nums bytes l to) (sym (same-map s few)) ∙ C .made
+    composed = ap (composition n s k ls st nums bytes l to) (sym (identity-at s few)) ∙ C .made
 
     composed-as : (b : Bool) → x .ok ≡ b
         → composition n s k ls st nums bytes l to (tabulate s (λ q. q)) ≡ cond b (some found) none

@@ -22,8 +22,8 @@ use Rattle.formats.specs.Plan.{labelsIn, planTree}
 use Rattle.formats.specs.Rules.{stateCount, labelCount, branchAutomaton}
 use Rattle.formats.specs.Built.{BranchBuilt}
 use Rattle.tables.specs.StateCells.{mapCell}
+use Rattle.tables.proofs.FollowLaws.{follow-yes}
 use Rattle.branches.specs.Question.{moveMap}
-use Rattle.branches.proofs.FollowLaws.{follow-yes}
 use Rattle.branches.proofs.WordWalks.{labelStep, walk-word}
 use Rattle.branches.proofs.AskBuilt.{built-label, label-below, built-step, built-map}
 

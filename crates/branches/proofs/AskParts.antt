@@ -1,4 +1,5 @@
 -- The answer of a branch question by its composition.
+--     move-map-run       moveMap is runMove on the runs of plan and branch table
 --     composition-map    a composed map has s entries, all below s
 --     branch-on-parts    branchOn is the composition on the runs of plan and branch table, finished
 --     on-none, on-some   what is told where there is none, and where there is one
@@ -8,7 +9,7 @@ use mathlib.Core.Path.{_≡_, refl, ap, subst}
 use mathlib.Core.List.{List, [], _∷_}
 use mathlib.Core.Option.{Option, none, some, Option·some-injective}
 use lib.ListN.{length, getD, take, drop}
-use Rattle.trees.specs.Climb.{Move, andThen, climb, carry}
+use Rattle.trees.specs.Climb.{Move, byJump, toParent, andThen, climb, carry}
 use Rattle.trees.specs.Tables.{tabulate}
 use Rattle.trees.proofs.MoveLaws.{none-some}
 use Rattle.formats.specs.Plan.{nodeCount, labelsIn}
@@ -16,11 +17,17 @@ use Rattle.formats.specs.Rules.{stateCount, labelCount, branchLength, branchSte
 use Rattle.formats.proofs.PlanLaws.{labels-part}
 use Rattle.formats.proofs.BranchLaws.{steps-part, branch-marks-part-exact}
 use Rattle.links.specs.Cells.{depthCell, cellForest}
+use Rattle.tables.specs.Compose.{runMove, Counted, composition, labelMove}
+use Rattle.tables.proofs.FollowLaws.{MapOf}
+use Rattle.tables.proofs.MoveMaps.{run-move-map}
 use Rattle.branches.specs.Question.{moveMap, firstState, Branched, branched, branchOn}
-use Rattle.branches.specs.Compose.{runMove, Counted, composition}
 use Rattle.branches.specs.Finish.{firstOf, finish}
-use Rattle.branches.proofs.FollowLaws.{MapOf}
-use Rattle.branches.proofs.MoveMaps.{run-move-map, move-map-run}
+
+move-map-run : (p r bytes : List ℕ) (i : Move) (m : List ℕ)
+    → moveMap p r bytes i m ≡ runMove (stateCount r) (labelCount r) (labelsIn p) (branchSteps r) bytes i m
+unfolding moveMap runMove labelMove
+move-map-run p r bytes (byJump v) m = refl
+move-map-run p r bytes (toParent v) m = refl
 
 -- ---- composed maps
 

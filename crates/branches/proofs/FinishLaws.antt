@@ -17,11 +17,11 @@ use Rattle.trees.proofs.Choice.{le-or}
 use Rattle.formats.proofs.CheckLaws.{and-both, and-left, and-right, and-no-left, and-no-right}
 use Rattle.links.specs.Cells.{sizeCell}
 use Rattle.links.specs.Cells.{isInSubtreeOn}
+use Rattle.tables.specs.Compose.{mapAt}
+use Rattle.tables.proofs.MapHalves.{getD-mapAt}
 use Rattle.branches.specs.declared.answers.Branching.the-variants.{Told, Refused}
 use Rattle.branches.specs.Question.{toldBranch}
-use Rattle.branches.specs.Compose.{mapAt}
 use Rattle.branches.specs.Finish.{firstOf, finish}
-use Rattle.branches.proofs.MapHalves.{getD-mapAt}
 
 -- ---- check 16
 

@@ -1,8 +1,3 @@
-pub mod FollowLaws
-pub mod MapHalves
-pub mod MoveMaps
-pub mod MovedLaws
-pub mod ComposeTurns
 pub mod FinishLaws
 pub mod AskParts
 pub mod AskAnswer

@@ -1,6 +1,5 @@
 pub mod Question
 pub mod Promise
-pub mod Compose
 pub mod Finish
 pub mod Lent
 pub mod Maps

@@ -2,7 +2,6 @@
 --
 -- check 17 goes by the headers: headedBuffersFit branchTables (crate formats, Buffers)
 -- check 16 goes by the lent size of the upper node u: isInSubtreeOn nums u l (crate links, Cells)
--- follow s m f == the map m after the map f of s states; none where f leads outside the states
 -- moveMap .. == what one move of the climb makes of the map from the node reached so far down to the lower node
 -- firstState .. == the state after the upper node's label
 -- branchOn .. == the answer on these tables: none where a value read leads outside the plan, the states or the labels, or a climb
@@ -22,18 +21,15 @@ use lib.ListN.{length, getD}
 use Rattle.trees.specs.Automaton.{WordAutomaton}
 use Rattle.trees.specs.Climb.{Move, byJump, toParent, andThen, climb, carry}
 use Rattle.trees.specs.Tables.{tabulate}
-use Rattle.formats.specs.Bytes.{allBelow}
 use Rattle.formats.specs.Plan.{nodeCount, labelsIn}
 use Rattle.formats.specs.Rules.{stateCount, labelCount, branchAutomaton}
 use Rattle.formats.specs.Checks.{Check, check, firstNo}
 use Rattle.formats.specs.Buffers.{headedBuffersFit, branchTables}
 use Rattle.links.specs.Cells.{depthCell, cellForest, isInSubtreeOn}
+use Rattle.tables.specs.Compose.{follow}
 use Rattle.tables.specs.StateCells.{mapCell}
 use Rattle.branches.specs.declared.answers.Branching.{Branching}
 use Rattle.branches.specs.declared.answers.Branching.the-variants.{Told, Refused}
-
-unfoldable pub follow : ℕ → List ℕ → (ℕ → ℕ) → Option (List ℕ)
-follow s m f = cond (allBelow s (tabulate s f)) (some (tabulate s (λ q. getD m (f q) 0))) none
 
 -- a jump applies the node's map; a move to the parent applies the node's own label
 unfoldable pub moveMap : List ℕ → List ℕ → List ℕ → Move → List ℕ → Option (List ℕ)

@@ -1,19 +1,19 @@
 // The branch question: the state after the word from the upper node down to the lower, whether it is marked, and the
 // links of the climb.
 use crate::answers::Branching;
-use crate::climb::SAME;
-use crate::climb::compose_climb;
 use formats::buffers::branch_buffers_fit;
 use formats::bytes::read32;
 use links::moves::depth_at;
 use links::moves::is_below;
+use tables::branch_climb::IDENTITY;
+use tables::branch_climb::compose_climb;
 ghost use mathlib.Core.Path.{_≡_};
 ghost use Prim.Native.Nat.{_+_, _*_, _≤_};
 ghost use lib.ListN.{length};
 ghost use Rattle.links.specs.Cells.{isInSubtreeOn};
+ghost use Rattle.tables.specs.Compose.{mapAt};
 ghost use Rattle.branches.specs.Question.{branchOn, toldBranch};
 ghost use Rattle.branches.specs.Promise.{AskDone};
-ghost use Rattle.branches.specs.Compose.{mapAt};
 ghost use Rattle.branches.specs.Finish.{finish, FinishArgs, AnswerArgs};
 
 // What is told of the map of a climb: the state after the upper node's label goes through it.
@@ -64,7 +64,7 @@ fn answer_branch(
     let labels = &plan[12..12 + n];
     let steps = &branch[16..16 + s * k];
     let to = depth_at(nums, u);
-    let mut maps = SAME;
+    let mut maps = IDENTITY;
     let x = compose_climb(&mut maps, labels, steps, nums, bytes, n, s, k, l, to);
     if !x.ok {
         return Branching::Refused(18);

@@ -8,7 +8,7 @@ use mathlib.Core.Option.{Option, none, some}
 use mathlib.Core.List.{List}
 use lib.Dec.{eqb}
 use lib.ListN.{length, getD}
-use Rattle.questions.specs.Climbs.{Reached}
+use Rattle.tables.specs.declared.answers.Reached.{Reached}
 use Rattle.formats.specs.Inputs.{Inputs}
 use Rattle.model.specs.Calls.{Call, load, start, advance, cancel, read, Answer, more, finished}
 use Rattle.model.specs.Calls.{readAnswer}

@@ -12,7 +12,7 @@ use Rattle.list_laws.proofs.BoolLaws.{true-false}
 use Rattle.formats.specs.Inputs.{Inputs}
 use Rattle.tables.specs.declared.answers.Building.{Building}
 use Rattle.tables.specs.Answers.{written, buildingNumber, BuildDone}
-use Rattle.questions.specs.Climbs.{Reached}
+use Rattle.tables.specs.declared.answers.Reached.{Reached}
 use Rattle.model.specs.Calls.{Call, load, start, advance, cancel, read, Answer, refused, isRefused}
 use Rattle.model.specs.Refusals.{refusal}
 use Rattle.model.specs.Model.{Record, Acted, stageOf, startWith, advanceWith, proceeds, unless, act}

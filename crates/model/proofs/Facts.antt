@@ -19,7 +19,8 @@ use Rattle.formats.specs.Checks.{firstNo, listChecks}
 use Rattle.formats.specs.Inputs.{Inputs, Sizes, fits, usedNodeTable, sameNodeInputs, nodeTableBuilt, statesBelow}
 use Rattle.ready.specs.Members.{roots}
 use Rattle.ready.specs.Parts.{Part, nodesOf, statesOf, partOf}
-use Rattle.questions.specs.Climbs.{Reached, reached}
+use Rattle.tables.specs.declared.answers.Reached.{Reached}
+use Rattle.tables.specs.Climbs.{reached}
 use Rattle.questions.specs.Roots.{rootsOn}
 use Rattle.questions.specs.Part.{partOn}
 use Rattle.model.specs.Model.{viewBy}

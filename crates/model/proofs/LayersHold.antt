@@ -28,11 +28,11 @@ use Rattle.formats.proofs.InputLaws.{ListPasses, list-passes, label-below}
 use Rattle.links.specs.LinkCells.{LinkCells}
 use Rattle.links.proofs.CellLaws.{link-cells, length-linkTable}
 use Rattle.tables.specs.StateCells.{stateCell, mapCell}
+use Rattle.tables.specs.Climbs.{View, viewOf}
 use Rattle.ready.specs.Members.{roots}
 use Rattle.ready.specs.Parts.{Given, Part, nodesOf, statesOf, stateOf, partOf}
 use Rattle.ready.proofs.PartsRun.{Members}
 use Rattle.ready.proofs.ListLaws.{list-members}
-use Rattle.questions.specs.Climbs.{View, viewOf}
 use Rattle.questions.specs.Roots.{rootsOn}
 use Rattle.questions.specs.Part.{partOn}
 use Rattle.questions.specs.Promises.{Reads}

@@ -20,9 +20,9 @@ use Rattle.formats.specs.Checks.{check, firstNo, listChecks}
 use Rattle.formats.proofs.CheckLaws.{and-both, true-false}
 use Rattle.formats.proofs.InputLaws.{ListPasses, list-passes}
 use Rattle.formats.proofs.ListLaws.{sameList-refl}
+use Rattle.tables.specs.declared.answers.Reached.{Reached}
 use Rattle.ready.specs.Members.{roots}
 use Rattle.ready.specs.Parts.{Part, nodesOf, statesOf, partOf}
-use Rattle.questions.specs.Climbs.{Reached}
 use Rattle.questions.specs.Roots.{rootsOn}
 use Rattle.questions.specs.Part.{partOn}
 use Rattle.questions.specs.Promises.{RootsAre}

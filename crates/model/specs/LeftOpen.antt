@@ -23,7 +23,8 @@ use Rattle.formats.specs.Checks.{firstNo, listChecks}
 use Rattle.links.specs.Astray.{LinksAstray}
 use Rattle.ready.specs.Members.{roots}
 use Rattle.ready.specs.Parts.{Part, nodesOf, statesOf, partState, partLinks}
-use Rattle.questions.specs.Climbs.{Reached, reached}
+use Rattle.tables.specs.declared.answers.Reached.{Reached}
+use Rattle.tables.specs.Climbs.{reached}
 use Rattle.questions.specs.Astray.{Astray}
 use Rattle.questions.specs.Promises.{RootsAre}
 use Rattle.formats.specs.Inputs.{Inputs, usedNodeTable, nodeTableBuilt, statesBelow}

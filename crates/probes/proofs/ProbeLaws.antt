@@ -5,8 +5,9 @@ use mathlib.Core.Path.{_≡_, sym, ap, ap₂, _∙_, subst}
 use mathlib.Core.Bool.{Bool}
 use mathlib.Core.List.{List}
 use native.Mathlib.Omega.{arith}
-use Rattle.questions.specs.declared.answer.Climbed.{Climbed}
-use Rattle.questions.specs.declared.answer.Climbed.the-variants.{Reached, Outside}
+use Rattle.tables.specs.declared.answers.Reached.{Reached}
+use Rattle.tables.specs.declared.answers.Climbed.{Climbed}
+use Rattle.tables.specs.declared.answers.Climbed.the-variants.{Reached as To, OutOfRange}
 use Rattle.questions.specs.declared.roots.Rooted.{Rooted}
 use Rattle.formats.specs.Inputs.{Inputs}
 use Rattle.model.specs.Calls.{start, advance, read}
@@ -26,10 +27,11 @@ use Rattle.probes.specs.Probed.{nothingTold, readTold, questionTold}
 pub roots-probed : (x y : Rooted) → x ≡ y → RootsProbed y (x .count) (x .nodes)
 roots-probed x y e = record { count = ap (λ (z : Rooted). z .count) e; roots = ap (λ (z : Rooted). z .nodes) e }
 
-pub part-reached : (x y : Climbed) (q l : ℕ) → x ≡ Reached q l → x ≡ y → _≡_ {A = Part} (record { state = q; links = l }) (partTold y)
-part-reached x y q l e f = ap partTold (sym e ∙ f)
+pub part-reached : (x y : Climbed) (z : Reached) → x ≡ To z → x ≡ y
+    → _≡_ {A = Part} (record { state = z .state; links = z .links }) (partTold y)
+part-reached x y z e f = ap partTold (sym e ∙ f)
 
-pub part-outside : (x y : Climbed) → x ≡ Outside → x ≡ y → _≡_ {A = Part} (record { state = 16; links = 0 }) (partTold y)
+pub part-outside : (x y : Climbed) → x ≡ OutOfRange → x ≡ y → _≡_ {A = Part} (record { state = 16; links = 0 }) (partTold y)
 part-outside x y e f = ap partTold (sym e ∙ f)
 
 pub parts-some : (t : Starting) (p : ℕ) → t ≡ Parts p → p ≡ partsTold (startingAnswer t)

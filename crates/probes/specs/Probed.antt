@@ -16,8 +16,8 @@ use Prim.Native.Nat.{ℕ, zero, suc}
 use mathlib.Core.Path.{_≡_}
 use mathlib.Core.Bool.{false}
 use mathlib.Core.List.{List}
-use Rattle.questions.specs.declared.answer.Climbed.{Climbed}
-use Rattle.questions.specs.declared.answer.Climbed.the-variants.{Reached, Outside}
+use Rattle.tables.specs.declared.answers.Climbed.{Climbed}
+use Rattle.tables.specs.declared.answers.Climbed.the-variants.{Reached as To, OutOfRange}
 use Rattle.questions.specs.declared.roots.Rooted.{Rooted}
 use Rattle.formats.specs.Inputs.{Inputs}
 use Rattle.model.specs.Calls.{start, advance, read, Answer, parts, onParts, onOutcome}
@@ -34,8 +34,8 @@ pub record RootsProbed (x : Rooted) (n : ℕ) (l : List ℕ) : Type 0 where
   pub roots : l ≡ x .nodes
 
 abbrev pub partTold : Climbed → Part
-partTold Outside = record { state = 16; links = 0 }
-partTold (Reached q l) = record { state = q; links = l }
+partTold OutOfRange = record { state = 16; links = 0 }
+partTold (To x) = record { state = x .state; links = x .links }
 
 -- ---- the session by value
 

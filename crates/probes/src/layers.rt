@@ -1,9 +1,10 @@
 // The roots of a question and one part, as the questions layer works them out.
-use questions::answer::Climbed;
 use questions::part::part;
 use questions::roots::roots;
+use tables::answers::Climbed;
 ghost use mathlib.Core.Path.{_≡_};
-ghost use Rattle.questions.specs.PartTold.{toldReached, partGiven};
+ghost use Rattle.tables.specs.Climbs.{toldReached};
+ghost use Rattle.questions.specs.PartTold.{partGiven};
 ghost use Rattle.questions.specs.RootsTold.{rootsGiven, rootedOf};
 ghost use Rattle.probes.specs.Probed.{RootsProbed, partTold};
 
@@ -58,13 +59,13 @@ pub extern "C" fn probe_part(
         nodes,
         labels,
     ) {
-        Climbed::Reached(q, l) => {
+        Climbed::Reached(found) => {
             return Part {
-                state: q as u32,
-                links: l,
+                state: found.state as u32,
+                links: found.links,
             };
         }
-        Climbed::Outside => {
+        Climbed::OutOfRange => {
             return Part {
                 state: 16,
                 links: 0,

@@ -24,8 +24,9 @@ use Rattle.trees.proofs.MapLaws.{right-child-size, left-sibling-in, right-sibli
 use Rattle.links.specs.Cells.{parentCell, sizeCell, cellForest}
 use Rattle.links.specs.LinkCells.{LinkCells}
 use Rattle.tables.specs.StateCells.{stateCell, mapCell}
+use Rattle.tables.specs.declared.answers.Reached.{Reached}
+use Rattle.tables.specs.Climbs.{View, below, runOn, ruleOn, siblingOn, parentOn, moveOn, reached, climbOn}
 use Rattle.ready.specs.Parts.{Given, moveState, moveStates, movesOf, climbMoves}
-use Rattle.questions.specs.Climbs.{View, below, runOn, ruleOn, siblingOn, parentOn, moveOn, Reached, reached, climbOn}
 use Rattle.questions.specs.Promises.{Reads}
 
 pub is-below : (s q : ℕ) → q < s → below s q ≡ some q

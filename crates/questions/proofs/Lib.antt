@@ -1,9 +1,5 @@
-pub mod LookupLaws
-pub mod StepLaws
-pub mod ClimbTurns
 pub mod ScanLaws
 pub mod PartLaws
-pub mod ClimbBounds
 pub mod PartBounds
 pub mod PartViews
 pub mod PartTurns

@@ -13,8 +13,8 @@ use Rattle.formats.specs.Bytes.{allBelow}
 use Rattle.formats.proofs.CheckLaws.{true-false}
 use Rattle.links.specs.Astray.{LinksAstray}
 use Rattle.links.proofs.AstrayLaws.{children-inside, cells-not-astray}
+use Rattle.tables.specs.Climbs.{View}
 use Rattle.ready.specs.Parts.{Given}
-use Rattle.questions.specs.Climbs.{View}
 use Rattle.questions.specs.Part.{labelOn}
 use Rattle.questions.specs.Astray.{Astray, links, children, run, map, leaf, rule, handled, label, changed}
 use Rattle.questions.specs.Promises.{Reads}

@@ -23,13 +23,14 @@ use Rattle.formats.proofs.CheckLaws.{and-left, and-right}
 use Rattle.links.specs.Cells.{parentCell, depthCell, sizeCell, cellForest, isInSubtreeOn}
 use Rattle.links.specs.Astray.{Childless, link, childless}
 use Rattle.tables.specs.StateCells.{stateCell}
-use Rattle.questions.specs.Climbs.{View, below, runOn, ruleOn, siblingOn, parentOn, moveOn, Reached, reached, climbOn}
+use Rattle.tables.specs.declared.answers.Reached.{Reached}
+use Rattle.tables.specs.Climbs.{View, below, runOn, ruleOn, siblingOn, parentOn, moveOn, reached, climbOn}
+use Rattle.tables.proofs.LookupLaws.{below-state, below-none}
+use Rattle.tables.proofs.ClimbBounds.{move-state}
 use Rattle.questions.specs.Part.{Found, found, lastFound, foundBelow, labelOn, climbFrom, runReached, ownReached}
 use Rattle.questions.specs.Part.{joinOn, leafOn, forkOn, partOn}
 use Rattle.questions.specs.Scans.{sideOn}
 use Rattle.questions.specs.Astray.{Astray, links, children, run, map, leaf, rule, handled, label, changed}
-use Rattle.questions.proofs.LookupLaws.{below-state, below-none}
-use Rattle.questions.proofs.ClimbBounds.{move-state}
 use Rattle.questions.proofs.PartBounds.{inner-sides, side-bounded}
 use Rattle.questions.proofs.RootsAstray.{fork-test}
 

@@ -20,15 +20,16 @@ use Rattle.formats.specs.Limits.{nodeLimit, within}
 use Rattle.formats.specs.Buffers.{limitsFit}
 use Rattle.formats.proofs.CheckLaws.{and-left, and-right}
 use Rattle.links.specs.Cells.{sizeCell}
-use Rattle.questions.specs.Climbs.{View, below, runOn, ruleOn, Reached, reached, climbOn}
+use Rattle.tables.specs.declared.answers.Reached.{Reached}
+use Rattle.tables.specs.Climbs.{View, below, runOn, ruleOn, reached, climbOn}
+use Rattle.tables.proofs.LookupLaws.{below-state}
+use Rattle.tables.proofs.ClimbBounds.{rule-state, Bounded, climb-bounded}
 use Rattle.questions.specs.Part.{Found, climbFrom, runReached, ownReached, joinOn}
 use Rattle.questions.specs.Part.{innerOn, leafOn, forkOn, partOn}
 use Rattle.questions.specs.Part.{labelOn}
 use Rattle.questions.specs.Scans.{sideOn}
 use Rattle.questions.specs.PartArgs.{unmoved}
 use Rattle.questions.specs.PartTold.{partFits, lentView, partGiven}
-use Rattle.questions.proofs.LookupLaws.{below-state}
-use Rattle.questions.proofs.ClimbBounds.{rule-state, Bounded, climb-bounded}
 
 module _ (X : View) where
   -- ---- at a child

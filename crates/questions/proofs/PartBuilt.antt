@@ -22,6 +22,8 @@ use Rattle.trees.proofs.NodeLaws.{Inner, inner, up}
 use Rattle.trees.proofs.IntervalLaws.{interval-ancestor, above-at}
 use Rattle.links.specs.Cells.{depthCell, sizeCell}
 use Rattle.links.specs.Cells.{isInSubtreeOn}
+use Rattle.tables.specs.declared.answers.Reached.{Reached}
+use Rattle.tables.specs.Climbs.{View, below, runOn, ruleOn, reached, climbOn}
 use Rattle.ready.specs.Ready.{leftChild, rightChild}
 use Rattle.ready.specs.Members.{Rising}
 use Rattle.ready.specs.Parts.{Given, anyBelow, lastBelow, highestBelow, moveStates, climbMoves, climbedLinks, innerLinks}
@@ -31,7 +33,6 @@ use Rattle.ready.proofs.ClosedForm.{kind-one}
 use Rattle.ready.proofs.HighestLaws.{Highest, is-false}
 use Rattle.ready.proofs.PartsRun.{Members}
 use Rattle.ready.proofs.UnderLaws.{under-self, left-in, right-in, left-parent, right-parent}
-use Rattle.questions.specs.Climbs.{View, below, runOn, ruleOn, Reached, reached, climbOn}
 use Rattle.questions.specs.Part.{Found, found, lastFound, foundBelow, labelOn, climbFrom, runReached, ownReached}
 use Rattle.questions.specs.Part.{joinOn, innerOn, leafOn, forkOn, partOn}
 use Rattle.questions.specs.Promises.{Reads}
@@ -93,7 +94,8 @@ module _ (t : Tree) (c : ℕ) where
     finds [] lo f r = inl (refl, refl)
     finds (p ∷ ps) lo f r =
         rw (same (p .node))
-        (go (isInSubtree c (size (sub t c)) (p .node)) (finds ps (suc (p .node)) (some (found (p .node) (p .state))) (r .1)) (finds ps (suc (p .node)) f (r .1)))
+        (go (isInSubtree c (size (sub t c)) (p .node)) (finds ps (suc (p .node)) (some (found (p .node) (p .state))) (r .1))
+        (finds ps (suc (p .node)) f (r .1)))
       where
         -- a later root is not this one
         later : (d : ℕ) → anyBelow (nodesOf ps) t c ≡ true → lastBelow (nodesOf ps) t c d ≡ p .node → ⊥

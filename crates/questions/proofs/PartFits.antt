@@ -15,9 +15,10 @@ use Rattle.formats.specs.Limits.{nodeLimit}
 use Rattle.formats.specs.Rules.{ruleLength}
 use Rattle.formats.specs.Buffers.{limitsFit, buffersFit}
 use Rattle.formats.proofs.CheckLaws.{and-no-left, and-next}
-use Rattle.questions.specs.declared.answer.Climbed.the-variants.{Outside}
+use Rattle.tables.specs.Climbs.{toldReached}
+use Rattle.tables.specs.declared.answers.Climbed.the-variants.{OutOfRange}
 use Rattle.questions.specs.Part.{partOn}
-use Rattle.questions.specs.PartTold.{toldReached, askedFits, partFits, lentView, partGiven}
+use Rattle.questions.specs.PartTold.{askedFits, partFits, lentView, partGiven}
 
 -- ---- what is asked
 
@@ -98,23 +99,23 @@ module _ (n s k : ℕ) (plan rules nums bytes roots states vs bs : List ℕ) whe
   asked = askedFits n roots states vs bs
 
   unfit : partFits n s k plan rules nums bytes roots states vs bs ≡ false
-      → Outside ≡ toldReached (partGiven n s k plan rules nums bytes roots states vs bs)
+      → OutOfRange ≡ toldReached (partGiven n s k plan rules nums bytes roots states vs bs)
   unfolding partGiven toldReached
   unfit h = rw h
 
   pub given-limits : limitsFit n s k ≡ false
-      → Outside ≡ toldReached (partGiven n s k plan rules nums bytes roots states vs bs)
+      → OutOfRange ≡ toldReached (partGiven n s k plan rules nums bytes roots states vs bs)
   unfolding partFits
   given-limits h = unfit (and-no-left (limitsFit n s k) (lengths && asked) h)
 
   module _ (l : limitsFit n s k ≡ true) where
     pub given-lengths : lengths ≡ false
-        → Outside ≡ toldReached (partGiven n s k plan rules nums bytes roots states vs bs)
+        → OutOfRange ≡ toldReached (partGiven n s k plan rules nums bytes roots states vs bs)
     unfolding partFits
     given-lengths h = unfit (and-next (limitsFit n s k) (lengths && asked) l ∙ and-no-left lengths asked h)
 
     module _ (m : lengths ≡ true) where
-      pub given-asked : asked ≡ false → Outside ≡ toldReached (partGiven n s k plan rules nums bytes roots states vs bs)
+      pub given-asked : asked ≡ false → OutOfRange ≡ toldReached (partGiven n s k plan rules nums bytes roots states vs bs)
       unfolding partFits
       given-asked h = unfit (and-next (limitsFit n s k) (lengths && asked) l ∙ and-next lengths asked m ∙ h)
 

@@ -13,10 +13,11 @@ use Rattle.formats.specs.Rules.{ruleLength}
 use Rattle.formats.specs.Buffers.{limitsFit, buffersFit}
 use Rattle.formats.proofs.PlanLaws.{product-most}
 use Rattle.formats.proofs.BufferLaws.{Limits, limits-are, Lengths, lengths-are}
-use Rattle.questions.specs.declared.answer.Climbed.{Climbed}
+use Rattle.tables.specs.Climbs.{toldReached}
+use Rattle.tables.specs.declared.answers.Climbed.{Climbed}
 use Rattle.questions.specs.Part.{partOn}
 use Rattle.questions.specs.PartArgs.{partView, PartArgs}
-use Rattle.questions.specs.PartTold.{toldReached, askedFits, partGiven}
+use Rattle.questions.specs.PartTold.{askedFits, partGiven}
 use Rattle.questions.proofs.PartFits.{Asked, asked-are, given-yes}
 
 module _ (n s k : ℕ) (plan rules nums bytes roots states vs bs : List ℕ) where

@@ -17,14 +17,14 @@ use native.Mathlib.Numerals.{add-one}
 use lib.ListN.{getD}
 use borrow.Author.Tests.{lt-ltb, le-ltb}
 use Rattle.trees.specs.Climb.{andThen}
-use Rattle.questions.specs.declared.answer.Climbed.the-variants.{Reached as Told, Outside}
-use Rattle.questions.specs.Climbs.{View, below, runOn, ruleOn, Reached, reached, climbOn}
+use Rattle.tables.specs.declared.answers.Climbed.the-variants.{Reached as Told, OutOfRange}
+use Rattle.tables.specs.declared.answers.Reached.{Reached}
+use Rattle.tables.specs.Climbs.{View, below, runOn, ruleOn, reached, climbOn, toldReached}
+use Rattle.tables.specs.PathViews.{statesView}
+use Rattle.tables.proofs.LookupLaws.{below-yes, below-no}
 use Rattle.questions.specs.Part.{Found, found, climbFrom, runReached, ownReached, joinOn, leafOn}
-use Rattle.questions.specs.PathViews.{statesView}
 use Rattle.questions.specs.Scans.{foundOf, labelOf, sideOn}
 use Rattle.questions.specs.PartArgs.{unmoved, heard}
-use Rattle.questions.specs.PartTold.{toldReached}
-use Rattle.questions.proofs.LookupLaws.{below-yes, below-no}
 
 pub heard-told : (o : Option Reached) → heard (toldReached o) ≡ o
 unfolding toldReached
@@ -32,27 +32,27 @@ heard-told none = refl
 heard-told (some x) = refl
 
 -- for a caller who has matched the answer r
-pub told-reached : (o : Option Reached) (q c : ℕ) → Told q c ≡ toldReached o → o ≡ some (reached q c)
-told-reached o q c e = sym (heard-told o) ∙ ap heard (sym e)
+pub told-reached : (o : Option Reached) (x : Reached) → Told x ≡ toldReached o → o ≡ some x
+told-reached o x e = sym (heard-told o) ∙ ap heard (sym e)
 
-pub told-outside : (o : Option Reached) → Outside ≡ toldReached o → o ≡ none
+pub told-outside : (o : Option Reached) → OutOfRange ≡ toldReached o → o ≡ none
 told-outside o e = sym (heard-told o) ∙ ap heard (sym e)
 
 -- ---- a number read as a state
 
 module _ (s q : ℕ) where
-  pub told-no : s ≤ q → Outside ≡ toldReached (unmoved (below s q))
+  pub told-no : s ≤ q → OutOfRange ≡ toldReached (unmoved (below s q))
   unfolding toldReached
   told-no h = ap (λ (o : Option ℕ). toldReached (unmoved o)) (sym (below-no s q h))
 
-  pub told-yes : q < s → Told q 0 ≡ toldReached (unmoved (below s q))
+  pub told-yes : q < s → Told (reached q 0) ≡ toldReached (unmoved (below s q))
   unfolding toldReached
   told-yes h = ap (λ (o : Option ℕ). toldReached (unmoved o)) (sym (below-yes s q h))
 
 -- ---- leaves
 
 module _ (X : View) (a : ℕ) where
-  pub leaf-outside : X .k ≤ a → Outside ≡ toldReached (leafOn X a)
+  pub leaf-outside : X .k ≤ a → OutOfRange ≡ toldReached (leafOn X a)
   unfolding leafOn toldReached
   leaf-outside h = rw (le-ltb a (X .k) h)
 
@@ -62,20 +62,20 @@ module _ (X : View) (a : ℕ) where
 
 -- ---- rules
 
-module _ (X : View) (a p x q y r : ℕ) (e : below (X .s) r ≡ ruleOn X p a q) where
-  pub join-lost : X .s ≤ r → Outside ≡ toldReached (joinOn X a (some (reached p x)) (some (reached q y)))
+module _ (X : View) (a : ℕ) (x y : Reached) (r : ℕ) (e : below (X .s) r ≡ ruleOn X (x .state) a (y .state)) where
+  pub join-lost : X .s ≤ r → OutOfRange ≡ toldReached (joinOn X a (some x) (some y))
   unfolding joinOn toldReached
   join-lost h = rw (sym e ∙ below-no (X .s) r h)
 
-  pub join-made : r < X .s → Told r (x + y) ≡ toldReached (joinOn X a (some (reached p x)) (some (reached q y)))
+  pub join-made : r < X .s → Told (reached r (x .links + y .links)) ≡ toldReached (joinOn X a (some x) (some y))
   unfolding joinOn toldReached
   join-made h = rw (sym e ∙ below-yes (X .s) r h)
 
-pub join-left : (X : View) (a : ℕ) (y : Option Reached) → Outside ≡ toldReached (joinOn X a none y)
+pub join-left : (X : View) (a : ℕ) (y : Option Reached) → OutOfRange ≡ toldReached (joinOn X a none y)
 unfolding joinOn toldReached
 join-left X a y = refl
 
-pub join-right : (X : View) (a : ℕ) (x : Reached) → Outside ≡ toldReached (joinOn X a (some x) none)
+pub join-right : (X : View) (a : ℕ) (x : Reached) → OutOfRange ≡ toldReached (joinOn X a (some x) none)
 unfolding joinOn toldReached
 join-right X a x = refl
 
@@ -125,7 +125,7 @@ module _ (X : View) (t c : ℕ) (es qs : List ℕ) (own other : ℕ) where
     side-alone i = rw (place-found own es qs h, place-none other es qs i)
 
     pub side-lost : other ≡ 0 → X .s ≤ getD qs (own - 1) 0
-        → Outside ≡ toldReached (sideOn X t c (foundOf es qs own) (foundOf es qs other))
+        → OutOfRange ≡ toldReached (sideOn X t c (foundOf es qs own) (foundOf es qs other))
     unfolding climbFrom toldReached
     side-lost i l =
         ap (λ (o : Option ℕ). toldReached (andThen o (λ q. climbOn X (getD es (own - 1) 0) t q)))

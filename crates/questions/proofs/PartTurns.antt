@@ -11,16 +11,16 @@ use lib.ListN.{length, getD}
 use borrow.Author.Tests.{lt-ltb, le-ltb, le-leb, lt-leb, eq-eqb, ne-eqb}
 use Rattle.trees.specs.Changes.{changed}
 use Rattle.links.specs.Cells.{depthCell, sizeCell}
-use Rattle.questions.specs.declared.answer.Climbed.{Climbed}
-use Rattle.questions.specs.declared.answer.Climbed.the-variants.{Outside}
-use Rattle.questions.specs.Climbs.{View, ruleOn, Reached}
+use Rattle.tables.specs.declared.answers.Climbed.{Climbed}
+use Rattle.tables.specs.declared.answers.Climbed.the-variants.{OutOfRange}
+use Rattle.tables.specs.declared.answers.Reached.{Reached}
+use Rattle.tables.specs.Climbs.{View, ruleOn, toldReached}
+use Rattle.tables.specs.PathViews.{rulesView, PathArgs}
+use Rattle.tables.proofs.ClimbBounds.{Bounded}
 use Rattle.questions.specs.Part.{Found, joinOn, leafOn, forkOn, partOn, foundBelow, labelOn}
-use Rattle.questions.specs.PathViews.{rulesView, PathArgs}
 use Rattle.questions.specs.Scans.{lastIn, foundOf, sideOn}
 use Rattle.questions.specs.PartArgs.{pathOf, leavesView, heard, Few, SideArgs}
-use Rattle.questions.specs.PartTold.{toldReached}
 use Rattle.questions.proofs.ScanLaws.{last-bound, last-covers, found-scan}
-use Rattle.questions.proofs.ClimbBounds.{Bounded}
 use Rattle.questions.proofs.PartBounds.{side-bounded, inner-sides}
 use Rattle.questions.proofs.PartLaws.{heard-told}
 use Rattle.questions.proofs.PartViews.{fork-same}
@@ -84,12 +84,12 @@ module _ (X : View) (es qs vs bs : List ℕ) (v a : ℕ) (is-a : a ≡ getD (cha
   part-leaf r h e = rw (eq-eqb (getD (X .kinds) v 0) 0 h, sym is-a) e
 
   module _ (h : ¬ (getD (X .kinds) v 0 ≡ 0)) where
-    pub part-first : v ≡ 0 → Outside ≡ toldReached (partOn X es qs vs bs v)
+    pub part-first : v ≡ 0 → OutOfRange ≡ toldReached (partOn X es qs vs bs v)
     unfolding partOn toldReached
     part-first z = rw (ne-eqb (getD (X .kinds) v 0) 0 h, le-ltb 0 v (omega arith))
 
     module _ (i : ¬ (v ≡ 0)) where
-      pub part-outside : v - 1 < sizeCell (X .nums) (v - 1) → Outside ≡ toldReached (partOn X es qs vs bs v)
+      pub part-outside : v - 1 < sizeCell (X .nums) (v - 1) → OutOfRange ≡ toldReached (partOn X es qs vs bs v)
       unfolding partOn toldReached
       part-outside l =
           rw (ne-eqb (getD (X .kinds) v 0) 0 h, lt-ltb 0 v (omega arith), lt-leb (sizeCell (X .nums) (v - 1)) (v - 1) l)

@@ -8,8 +8,9 @@ use mathlib.Core.Option.{Option, none, some}
 use lib.ListN.{length}
 use Rattle.trees.specs.Climb.{Move, byJump, toParent, andThen, climb, carry}
 use Rattle.links.specs.Cells.{depthCell, cellForest}
-use Rattle.questions.specs.Climbs.{View, below, runOn, ruleOn, siblingOn}
-use Rattle.questions.specs.Climbs.{parentOn, moveOn, Reached, reached, climbOn}
+use Rattle.tables.specs.Climbs.{View, below, runOn, ruleOn, siblingOn}
+use Rattle.tables.specs.declared.answers.Reached.{Reached}
+use Rattle.tables.specs.Climbs.{parentOn, moveOn, reached, climbOn}
 use Rattle.questions.specs.Part.{Found, climbFrom, runReached, ownReached, joinOn, forkOn, foundBelow}
 use Rattle.questions.specs.Scans.{sideOn}
 use Rattle.questions.specs.PartArgs.{pathOf}

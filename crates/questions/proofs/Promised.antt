@@ -21,19 +21,20 @@ use Rattle.formats.specs.Buffers.{limitsFit, buffersFit}
 use Rattle.formats.proofs.CheckLaws.{and-right}
 use Rattle.links.specs.LinkCells.{LinkCells}
 use Rattle.links.specs.Astray.{LinksAstray}
+use Rattle.tables.specs.declared.answers.Climbed.{Climbed}
+use Rattle.tables.specs.declared.answers.Reached.{Reached}
+use Rattle.tables.specs.Climbs.{reached, toldReached, climbedNumber}
 use Rattle.ready.specs.Members as members
 use Rattle.ready.specs.Parts.{Given, Part, nodesOf, statesOf, partState, partLinks}
 use Rattle.ready.proofs.PartsRun.{Members}
 use Rattle.ready.proofs.ListLaws.{list-members}
 use Rattle.questions.specs.declared.roots.Rooted.{Rooted}
-use Rattle.questions.specs.declared.answer.Climbed.{Climbed}
-use Rattle.questions.specs.Climbs.{Reached, reached}
 use Rattle.questions.specs.Part.{partOn}
 use Rattle.questions.specs.Roots.{rootsOn}
 use Rattle.questions.specs.RootsTold.{rootsFit, rootsGiven, rootedOf}
-use Rattle.questions.specs.PartTold.{askedFits, partFits, partGiven, lentView, toldReached}
+use Rattle.questions.specs.PartTold.{askedFits, partFits, partGiven, lentView}
 use Rattle.questions.specs.Astray.{Astray}
-use Rattle.questions.specs.Promises.{numberFor, rootedNumber, climbedNumber, RootsDone, Asked, PartDone}
+use Rattle.questions.specs.Promises.{numberFor, rootedNumber, RootsDone, Asked, PartDone}
 use Rattle.questions.proofs.FitLaws.{Fit, fit-facts, given-yes, given-are}
 use Rattle.questions.proofs.PartBounds.{partGiven-below, part-links}
 use Rattle.questions.proofs.PartFits as fits

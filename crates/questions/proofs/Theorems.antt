@@ -22,6 +22,7 @@ use Rattle.trees.specs.Numbering.{sub, InSubtree}
 use Rattle.formats.specs.Bytes.{allBelow}
 use Rattle.links.specs.Astray.{LinksAstray}
 use Rattle.links.specs.LinkCells.{LinkCells}
+use Rattle.tables.specs.Climbs.{View, reached}
 use Rattle.ready.specs.Ready.{Ready, Closed}
 use Rattle.ready.specs.Members.{readyList, roots}
 use Rattle.ready.specs.Parts.{Given, Part, nodesOf, statesOf, stateOf, partState, partLinks, partsOf}
@@ -30,7 +31,6 @@ use Rattle.ready.proofs.HighestLaws.{Highest, highest-holds}
 use Rattle.ready.proofs.ChangedRun.{Changes}
 use Rattle.ready.proofs.PartsRun.{Members, Sound, RunGiven, parts-right}
 use Rattle.questions.specs.Roots.{rootsOn}
-use Rattle.questions.specs.Climbs.{View, reached}
 use Rattle.questions.specs.Part.{partOn}
 use Rattle.questions.specs.Astray.{Astray}
 use Rattle.questions.specs.Promises.{RootsAre, Reads}

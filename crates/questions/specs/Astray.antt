@@ -13,7 +13,7 @@ use lib.ListN.{getD}
 use Rattle.formats.specs.Bytes.{allBelow}
 use Rattle.links.specs.Astray.{Childless, LinksAstray}
 use Rattle.tables.specs.StateCells.{stateCell, mapCell}
-use Rattle.questions.specs.Climbs.{View}
+use Rattle.tables.specs.Climbs.{View}
 use Rattle.questions.specs.Part.{labelOn}
 
 pub data Astray (X : View) (qs vs bs : List ℕ) : Type 0 where

@@ -3,11 +3,8 @@ pub mod SearchTold
 pub mod Roots
 pub mod Rising
 pub mod RootsTold
-pub mod Climbs
 pub mod Part
-pub mod PathViews
 pub mod PartTold
-pub mod Steps
 pub mod Scans
 pub mod PartArgs
 pub mod Promises

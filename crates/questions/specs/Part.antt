@@ -19,7 +19,8 @@ use Rattle.trees.specs.Changes.{changed}
 use Rattle.trees.specs.Climb.{andThen}
 use Rattle.links.specs.Cells.{depthCell, sizeCell}
 use Rattle.links.specs.Cells.{isInSubtreeOn}
-use Rattle.questions.specs.Climbs.{View, below, runOn, ruleOn, Reached, reached, climbOn}
+use Rattle.tables.specs.declared.answers.Reached.{Reached}
+use Rattle.tables.specs.Climbs.{View, below, runOn, ruleOn, reached, climbOn}
 
 pub record Found : Type 0 where
   pub node : ℕ

@@ -2,7 +2,7 @@
 --
 -- partView n s k ls ks lv inn nums bytes == the view of all runs; pathOf X == of these what a climb reads
 -- unmoved o == a state reached by no link
--- heard x == the state and links that were told; none for Outside
+-- heard x == the state and links that were told; none for OutOfRange
 -- LastArgs, LabelArgs, LeafArgs, JoinArgs, SideArgs, ForkArgs, PartArgs == every read is inside its run
 --
 -- Assumes nothing.
@@ -12,10 +12,11 @@ use mathlib.Core.List.{List, []}
 use mathlib.Core.Option.{Option, none, some}
 use lib.ListN.{length, getD}
 use Rattle.trees.specs.Climb.{andThen}
-use Rattle.questions.specs.declared.answer.Climbed.{Climbed}
-use Rattle.questions.specs.declared.answer.Climbed.the-variants.{Reached as Told, Outside}
-use Rattle.questions.specs.Climbs.{View, Reached, reached}
-use Rattle.questions.specs.PathViews.{pathView, PathArgs}
+use Rattle.tables.specs.declared.answers.Climbed.{Climbed}
+use Rattle.tables.specs.declared.answers.Climbed.the-variants.{Reached as Told, OutOfRange}
+use Rattle.tables.specs.declared.answers.Reached.{Reached}
+use Rattle.tables.specs.Climbs.{View, reached}
+use Rattle.tables.specs.PathViews.{pathView, PathArgs}
 
 abbrev pub partView : ℕ → ℕ → ℕ → List ℕ → List ℕ → List ℕ → List ℕ → List ℕ → List ℕ → View
 partView n s k ls ks lv inn nums bytes = record {
@@ -40,8 +41,8 @@ abbrev pub unmoved : Option ℕ → Option Reached
 unmoved o = andThen o (λ q. some (reached q 0))
 
 abbrev pub heard : Climbed → Option Reached
-heard (Told q c) = some (reached q c)
-heard Outside = none
+heard (Told x) = some x
+heard OutOfRange = none
 
 pub record LastArgs (nums es : List ℕ) (c : ℕ) : Type 0 where
   pub node : c ≤ 65535

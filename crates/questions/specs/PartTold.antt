@@ -1,6 +1,5 @@
--- What the functions of a part tell, and the part that a caller asks for.
+-- The part that a caller asks for.
 --
--- toldReached x == a state reached and the links that led to it, as they are told; Outside (18) where there is none
 -- askedFits n roots states vs bs == there is a root after as many as have states, it is one of n nodes, the lists of
 --   nodes and labels have one length, and neither list of nodes is longer than a plan can be
 -- partFits .. == besides, n, s and k are within their limits, and the buffers fit them (check 17; crate formats, Buffers)
@@ -19,14 +18,9 @@ use Rattle.formats.specs.Limits.{nodeLimit}
 use Rattle.formats.specs.Rules.{ruleLength}
 use Rattle.formats.specs.Checks.{linkLength, stateLength}
 use Rattle.formats.specs.Buffers.{limitsFit, buffersFit}
-use Rattle.questions.specs.declared.answer.Climbed.{Climbed}
-use Rattle.questions.specs.declared.answer.Climbed.the-variants.{Reached as Told, Outside}
-use Rattle.questions.specs.Climbs.{View, viewOf, Reached}
+use Rattle.tables.specs.declared.answers.Reached.{Reached}
+use Rattle.tables.specs.Climbs.{View, viewOf}
 use Rattle.questions.specs.Part.{partOn}
-
-unfoldable pub toldReached : Option Reached → Climbed
-toldReached none = Outside
-toldReached (some x) = Told (x .state) (x .links)
 
 unfoldable pub askedFits : ℕ → List ℕ → List ℕ → List ℕ → List ℕ → Bool
 askedFits n roots states vs bs =

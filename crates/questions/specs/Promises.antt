@@ -1,7 +1,7 @@
 -- What roots and part promise, on every input.
 --
 -- RootsAre n m l == what holds of the roots l of m listed nodes on any numbers: they rise to the plan's root, n - 1, and are few
--- rootedNumber r, climbedNumber r, numberFor o == document 01's number of an answer: 18 where there is no result, else 0
+-- rootedNumber r, numberFor o == document 01's number of an answer: 18 where there is no result, else 0
 -- RootsDone n nums vs r == the promise of roots
 -- Reads X G == what is lent, X, is as G has it: the 16-bit numbers those of the tree, run states and maps any bytes below S
 -- Asked .. G ps == a part asked for as "Parts of a question" has it: the roots are the ready set's, ps the parts before
@@ -19,15 +19,16 @@ use Rattle.trees.specs.Changes.{changed}
 use Rattle.links.specs.LinkCells.{LinkCells}
 use Rattle.links.specs.Astray.{LinksAstray}
 use Rattle.tables.specs.StateCells.{stateCell, mapCell}
+use Rattle.tables.specs.declared.answers.Climbed.{Climbed}
+use Rattle.tables.specs.declared.answers.Climbed.the-variants.{Reached as To}
+use Rattle.tables.specs.declared.answers.Reached.{Reached}
+use Rattle.tables.specs.Climbs.{View, toldReached, climbedNumber, reached}
 use Rattle.ready.specs.Members as members
 use Rattle.ready.specs.Parts.{Given, Part, nodesOf, statesOf, stateOf, partState, partLinks}
 use Rattle.questions.specs.declared.roots.Rooted.{Rooted}
-use Rattle.questions.specs.declared.answer.Climbed.{Climbed}
-use Rattle.questions.specs.declared.answer.Climbed.the-variants.{Reached as Told, Outside}
 use Rattle.questions.specs.Rising.{RisesTo}
 use Rattle.questions.specs.RootsTold.{rootsFit, rootsGiven, rootedOf}
-use Rattle.questions.specs.Climbs.{View, Reached}
-use Rattle.questions.specs.PartTold.{partFits, partGiven, lentView, toldReached}
+use Rattle.questions.specs.PartTold.{partFits, partGiven, lentView}
 use Rattle.questions.specs.Astray.{Astray}
 
 -- "a value read leads outside the plan, the states or the labels, or a climb doesn't rise": 18
@@ -37,10 +38,6 @@ numberFor (some x) = 0
 
 unfoldable pub rootedNumber : Rooted → ℕ
 rootedNumber r = cond (r .ok) 0 18
-
-unfoldable pub climbedNumber : Climbed → ℕ
-climbedNumber (Told q l) = 0
-climbedNumber Outside = 18
 
 -- ---- roots
 
@@ -101,4 +98,4 @@ pub record PartDone (n s k : ℕ) (plan rules nums bytes roots states vs bs : Li
   pub links-most : (x : Reached) → partGiven n s k plan rules nums bytes roots states vs bs ≡ some x → x .links ≤ 65535
   -- "run states and maps are any bytes below S": what the rule gives on those bytes, never 18
   pub rule : (G : Given) (ps : List Part) → Asked n s k plan rules nums bytes roots states vs bs G ps
-      → r ≡ Told (partState G roots ps (getD roots (length states) 0)) (partLinks (G .tree) roots (getD roots (length states) 0))
+      → r ≡ To (reached (partState G roots ps (getD roots (length states) 0)) (partLinks (G .tree) roots (getD roots (length states) 0)))

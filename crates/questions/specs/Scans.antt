@@ -15,7 +15,8 @@ use mathlib.Core.List.{List, [], _∷_}
 use mathlib.Core.Option.{Option, none, some}
 use lib.ListN.{getD}
 use Rattle.trees.specs.Numbering.{isInSubtree}
-use Rattle.questions.specs.Climbs.{View, Reached}
+use Rattle.tables.specs.declared.answers.Reached.{Reached}
+use Rattle.tables.specs.Climbs.{View}
 use Rattle.questions.specs.Part.{Found, found, climbFrom, runReached, ownReached}
 
 -- with `at` the place found among the i entries before

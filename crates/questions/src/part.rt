@@ -1,27 +1,27 @@
 // One part of a question: the state of its root, from the parts before it, and the links of its climb, on whatever is
 // lent.
-use crate::answer::Climbed;
-use crate::climb::climb_state;
 use crate::fits::asked_fits;
-use crate::rules::rule_on;
-use crate::rules::run_on;
 use crate::scan::last_in;
 use formats::buffers::limits_fit;
 use formats::buffers::rule_buffers_fit;
 use links::moves::depth_at;
 use links::moves::size_at;
+use tables::answers::Climbed;
+use tables::answers::Reached;
+use tables::climb::climb_state;
+use tables::lookups::rule_on;
+use tables::lookups::run_on;
 ghost use mathlib.Core.Path.{_≡_};
 ghost use Prim.Native.Nat.{ℕ, _≤_};
 ghost use lib.ListN.{getD};
 ghost use Rattle.trees.specs.Changes.{changed};
 ghost use Rattle.links.specs.Cells.{sizeCell};
-ghost use Rattle.questions.specs.Climbs.{below};
+ghost use Rattle.tables.specs.Climbs.{below, toldReached};
+ghost use Rattle.tables.specs.PathViews.{pathView, rulesView};
 ghost use Rattle.questions.specs.Part.{joinOn, leafOn, forkOn, partOn};
-ghost use Rattle.questions.specs.PathViews.{pathView, rulesView};
 ghost use Rattle.questions.specs.Scans.{lastIn, foundOf, sideOn};
 ghost use Rattle.questions.specs.PartArgs.{partView, leavesView, unmoved, heard, LastArgs, LabelArgs, LeafArgs};
 ghost use Rattle.questions.specs.PartArgs.{JoinArgs, SideArgs, ForkArgs, PartArgs};
-ghost use Rattle.questions.specs.PartTold.{toldReached};
 ghost use Rattle.questions.specs.Promises.{PartDone};
 
 // The place, from 1, of the last of the earlier roots that is c or below it; 0 where there is none.
@@ -51,9 +51,12 @@ fn told_state(q: usize, s: usize) -> Climbed
     ensures { λ r. ⌜ r ≡ toldReached (unmoved (below s q)) ⌝ }
 {
     if s <= q {
-        return Climbed::Outside;
+        return Climbed::OutOfRange;
     }
-    Climbed::Reached(q as u8, 0)
+    Climbed::Reached(Reached {
+        state: q as u8,
+        links: 0,
+    })
 }
 
 // The part of a leaf with label a.
@@ -62,7 +65,7 @@ fn leaf_on(leaves: &[u8], s: usize, k: usize, a: usize) -> Climbed
     ensures { λ r. ⌜ r ≡ toldReached (leafOn (leavesView s k (now (leaves .entry))) a) ⌝ }
 {
     if k <= a {
-        return Climbed::Outside;
+        return Climbed::OutOfRange;
     }
     told_state(leaves[a] as usize, s)
 }
@@ -74,17 +77,20 @@ fn join_on(inner: &[u8], s: usize, k: usize, a: usize, left: Climbed, right: Cli
         ≡ toldReached (joinOn (rulesView s k (now (inner .entry))) a (heard left) (heard right)) ⌝ }
 {
     match left {
-        Climbed::Reached(p, x) => match right {
-            Climbed::Reached(q, y) => {
-                let r = rule_on(inner, s, k, p as usize, a, q as usize);
+        Climbed::Reached(x) => match right {
+            Climbed::Reached(y) => {
+                let r = rule_on(inner, s, k, x.state as usize, a, y.state as usize);
                 if s <= r {
-                    return Climbed::Outside;
+                    return Climbed::OutOfRange;
                 }
-                Climbed::Reached(r as u8, x + y)
+                Climbed::Reached(Reached {
+                    state: r as u8,
+                    links: x.links + y.links,
+                })
             }
-            Climbed::Outside => Climbed::Outside,
+            Climbed::OutOfRange => Climbed::OutOfRange,
         },
-        Climbed::Outside => Climbed::Outside,
+        Climbed::OutOfRange => Climbed::OutOfRange,
     }
 }
 
@@ -119,7 +125,7 @@ fn side_on(
         return told_state(q, s);
     }
     if s <= q {
-        return Climbed::Outside;
+        return Climbed::OutOfRange;
     }
     climb_state(
         labels,
@@ -218,11 +224,11 @@ fn part_on(
         return leaf_on(leaves, s, k, a);
     }
     if v == 0 {
-        return Climbed::Outside;
+        return Climbed::OutOfRange;
     }
     let z = size_at(nums, v - 1);
     if v - 1 < z {
-        return Climbed::Outside;
+        return Climbed::OutOfRange;
     }
     fork_on(
         labels,
@@ -241,7 +247,7 @@ fn part_on(
 }
 
 // The part of the root that comes next after those whose states are given, with N, S and K as given, on whatever is
-// lent and with the listed nodes' labels changed. Outside also where what is lent or asked for does not fit.
+// lent and with the listed nodes' labels changed. Out of range also where what is lent or asked for does not fit.
 pub fn part(
     n: usize,
     s: usize,
@@ -259,13 +265,13 @@ pub fn part(
         (now (roots .entry)) (now (states .entry)) (now (nodes .entry)) (now (labels .entry)) r ⌝ }
 {
     if !limits_fit(n, s, k) {
-        return Climbed::Outside;
+        return Climbed::OutOfRange;
     }
     if !rule_buffers_fit(n, s, k, plan.len(), rules.len(), nums.len(), bytes.len()) {
-        return Climbed::Outside;
+        return Climbed::OutOfRange;
     }
     if !asked_fits(n, roots, states, nodes, labels) {
-        return Climbed::Outside;
+        return Climbed::OutOfRange;
     }
     let i = states.len();
     part_on(

@@ -61,7 +61,8 @@ module _ (t : Tree) where
       ]
 
   -- a node with u below its left child and x below its right is their lowest common ancestor
-  pub fork-meet : (v u x : ℕ) → v < size t → kindAt t v ≡ 1 → u < size t → x < size t → InSubtree t (leftChild t v) u → InSubtree t (rightChild v) x → Meet t u x v
+  pub fork-meet : (v u x : ℕ) → v < size t → kindAt t v ≡ 1 → u < size t → x < size t
+      → InSubtree t (leftChild t v) u → InSubtree t (rightChild v) x → Meet t u x v
   fork-meet v u x hv k hu hx p q = record {
     inside = hv;
     first = left-under t v hv k u p;
@@ -84,7 +85,9 @@ module _ (t : Tree) where
 
   -- two nodes whose lowest common ancestor is neither of them stand below its two children
   abbrev Parted : ℕ → ℕ → ℕ → Type 0
-  Parted u v x = (kindAt t x ≡ 1) × ((InSubtree t (leftChild t x) u × InSubtree t (rightChild x) v) ⊎ (InSubtree t (leftChild t x) v × InSubtree t (rightChild x) u))
+  Parted u v x =
+      (kindAt t x ≡ 1)
+      × ((InSubtree t (leftChild t x) u × InSubtree t (rightChild x) v) ⊎ (InSubtree t (leftChild t x) v × InSubtree t (rightChild x) u))
 
   pub parted : (u v x : ℕ) → u < size t → v < size t → Meet t u v x → (x ≡ u → ⊥) → (x ≡ v → ⊥) → Parted u v x
   parted u v x hu hv m nu nv = elim (ℕ-discrete (kindAt t x) 0) [
@@ -131,7 +134,8 @@ module _ (w : ℕ → Bool) (t : Tree) where
     | inr s ↦ (s .0, s .1, under-trans t c v (s .0) (omega arith) (member-in m) (s .1) p (s .2), s .3)
   ]
 
-  forks-of : (x u v : ℕ) → x < size t → kindAt t x ≡ 1 → Member w t u → Member w t v → InSubtree t (leftChild t x) u → InSubtree t (rightChild x) v → Forks w t x
+  forks-of : (x u v : ℕ) → x < size t → kindAt t x ≡ 1 → Member w t u → Member w t v
+      → InSubtree t (leftChild t x) u → InSubtree t (rightChild x) v → Forks w t x
   forks-of x u v hx k mu mv p q = record {
     inside = hx;
     inner = k;

@@ -17,9 +17,9 @@ use Rattle.formats.proofs.CheckLaws.{true-false, and-both}
 use Rattle.links.specs.Cells.{parentCell, jumpCell, depthCell, sizeCell, isInSubtreeOn}
 use Rattle.links.specs.Astray.{Childless, LinksAstray, link, childless, apart}
 use Rattle.tables.specs.StateCells.{stateCell, mapCell}
+use Rattle.tables.specs.Climbs.{View}
 use Rattle.ready.specs.Members.{someIn}
 use Rattle.ready.proofs.ListLaws.{or-first, or-second, in-some}
-use Rattle.questions.specs.Climbs.{View}
 use Rattle.questions.specs.Part.{labelOn}
 use Rattle.questions.specs.Astray.{Astray, links, children, run, map, leaf, rule, handled, label, changed}
 use Rattle.formats.specs.Inputs.{Inputs, Sizes, usedNodeTable}

@@ -20,6 +20,7 @@ use Rattle.formats.specs.Bytes.{allBelow, holds, distinct, sameList}
 use Rattle.formats.specs.Checks.{firstNo, planChecks, ruleChecks, listChecks, ruleTableChecks, buildChecks}
 use Rattle.formats.specs.Built.{builtLinks, builtStates}
 use Rattle.links.specs.Cells.{isInSubtreeOn}
+use Rattle.tables.specs.Climbs.{below, runOn, ruleOn, siblingOn, parentOn, moveOn, climbOn}
 use Rattle.ready.specs.Members.{someIn, someBelow, forksAt, isMember, keep, readyList, roots}
 use Rattle.ready.specs.Parts.{anyBelow, lastBelow, moveState, climbMoves, climbedLinks, innerLinks}
 use Rattle.ready.specs.Parts.{partLinks, sumOf, questionLinks}
@@ -27,7 +28,6 @@ use Rattle.ready.specs.Parts.{stateOf, climbedState, innerState, partState, par
 use Rattle.ready.specs.Parts.{allLinks}
 use Rattle.questions.specs.Search.{nextUnless, searchIn, search, meetOn}
 use Rattle.questions.specs.Roots.{insertRising, risingOf, wanted, withFork, withMeet, forksOn, rootsOn}
-use Rattle.questions.specs.Climbs.{below, runOn, ruleOn, siblingOn, parentOn, moveOn, climbOn}
 use Rattle.questions.specs.Part.{lastFound, labelOn, climbFrom, runReached, ownReached, joinOn, innerOn, leafOn}
 use Rattle.questions.specs.Part.{forkOn, partOn}
 use Rattle.formats.specs.Inputs.{Inputs, fits, sameNodeInputs, sameInputs, namesSizes, nodeTableBuilt, stateTableBuilt}

@@ -20,8 +20,8 @@ use lib.Dec.{leb, ltb, eqb}
 use lib.ListN.{getD}
 use Rattle.links.specs.Cells.{parentCell, jumpCell, depthCell, sizeCell, isInSubtreeOn}
 use Rattle.tables.specs.StateCells.{stateCell, mapCell}
+use Rattle.tables.specs.Climbs.{View, viewOf}
 use Rattle.ready.specs.Members.{someIn}
-use Rattle.questions.specs.Climbs.{View, viewOf}
 use Rattle.questions.specs.Part.{labelOn}
 use Rattle.formats.specs.Inputs.{Inputs, Sizes, usedNodeTable, usedStateTable}
 

@@ -15,10 +15,10 @@ use borrow.Author.Tests.{le-leb, lt-ltb, ltb-true, eq-eqb, eqb-true, eqb-false}
 use Rattle.formats.specs.Bytes.{allBelow}
 use Rattle.formats.proofs.CheckLaws.{and-both, and-left, and-right, firstNo-head, firstNo-tail, true-false}
 use Rattle.formats.proofs.InputLaws.{ListPasses, list-passes, build-passes}
-use Rattle.questions.specs.Climbs.{Reached}
+use Rattle.tables.specs.declared.answers.Reached.{Reached}
+use Rattle.tables.proofs.ClimbBounds.{Bounded}
 use Rattle.questions.specs.Rising.{RisesTo}
 use Rattle.questions.specs.Roots.{rootsOn}
-use Rattle.questions.proofs.ClimbBounds.{Bounded}
 use Rattle.questions.proofs.PartBounds.{part-bounded}
 use Rattle.questions.proofs.RootsLaws.{rootsOn-some, rootsOn-fits, rootsOn-rises-to}
 use Rattle.formats.specs.Inputs.{Inputs, Sizes, sizesIn, fits, usedNodeTable}

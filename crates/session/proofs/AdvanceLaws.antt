@@ -18,12 +18,13 @@ use Rattle.formats.specs.Rules.{ruleLength}
 use Rattle.formats.specs.Buffers.{limitsFit, buffersFit, LimitArgs}
 use Rattle.formats.proofs.CheckLaws.{and-both, and-left, and-right, firstNo-yes, firstNo-no}
 use Rattle.formats.proofs.BufferLaws.{Lengths, lengths-are}
-use Rattle.questions.specs.declared.answer.Climbed.{Climbed}
-use Rattle.questions.specs.declared.answer.Climbed.the-variants.{Reached as Told, Outside}
-use Rattle.questions.specs.Climbs.{Reached}
-use Rattle.questions.specs.PartTold.{toldReached, askedFits, partGiven}
+use Rattle.tables.specs.declared.answers.Climbed.{Climbed}
+use Rattle.tables.specs.declared.answers.Climbed.the-variants.{Reached as Told, OutOfRange}
+use Rattle.tables.specs.declared.answers.Reached.{Reached}
+use Rattle.tables.specs.Climbs.{toldReached, reached}
+use Rattle.tables.proofs.ClimbBounds.{Bounded}
+use Rattle.questions.specs.PartTold.{askedFits, partGiven}
 use Rattle.questions.proofs.PartFits.{given-yes}
-use Rattle.questions.proofs.ClimbBounds.{Bounded}
 use Rattle.questions.proofs.PartBounds.{part-bounded}
 use Rattle.formats.specs.Inputs.{Inputs, fits}
 use Rattle.model.specs.Calls as calls
@@ -215,7 +216,7 @@ module _ (s : Session) (h : Shaped s) (x : Inputs) (b : Bool) (may : b ≡ (vali
             (found : K ≡ toldReached (partGiven (s .n) (s .s) (s .k) (x .plan) (x .rules) (x .nodeTable) (x .stateTable)
             (take (s .parts) (s .roots)) (take (s .handled) (s .states)) (take (s .m) (s .nodes))
             (take (s .m) (s .labels)))) where
-          pub advance-18 : K ≡ Outside → CallDone s C (advancingAnswer (NotAdvanced 18)) s
+          pub advance-18 : K ≡ OutOfRange → CallDone s C (advancingAnswer (NotAdvanced 18)) s
           unfolding advancingAnswer advanceWith toldReached
           advance-18 e = go (partNext (recordOf s) x) refl (found ∙ ap toldReached given)
             where
@@ -223,11 +224,11 @@ module _ (s : Session) (h : Shaped s) (x : Inputs) (b : Bool) (may : b ≡ (vali
                   → CallDone s C (calls.Answer.refused 18) s
               go none i j = acts none i (calls.Answer.refused 18) s refl (sym (struct-is s h v))
               go (some y) i j =
-                  let k : K ≡ Told (y .state) (y .links) = j ∙ ap toldReached i in
+                  let k : K ≡ Told y = j ∙ ap toldReached i in
                   let z : _≡_ {A = ℕ} 0 1 = cc in
                   absurd (omega arith)
 
-          module _ (q l : ℕ) (told : K ≡ Told q l) where
+          module _ (q l : ℕ) (told : K ≡ Told (reached q l)) where
             one : (y : Reached) × (partNext (recordOf s) x ≡ some y) × (y .state ≡ q) × (y .links ≡ l)
             unfolding toldReached
             one = go (partNext (recordOf s) x) refl (found ∙ ap toldReached given)
@@ -235,14 +236,13 @@ module _ (s : Session) (h : Shaped s) (x : Inputs) (b : Bool) (may : b ≡ (vali
                 go : (o : Option Reached) → partNext (recordOf s) x ≡ o → K ≡ toldReached (partNext (recordOf s) x)
                     → (y : Reached) × (partNext (recordOf s) x ≡ some y) × (y .state ≡ q) × (y .links ≡ l)
                 go none i j =
-                    let k : K ≡ Outside = j ∙ ap toldReached i in
+                    let k : K ≡ OutOfRange = j ∙ ap toldReached i in
                     let z : _≡_ {A = ℕ} 0 1 = cc in
                     absurd (omega arith)
                 go (some y) i j =
-                    let k : Told (y .state) (y .links) ≡ Told q l = sym (j ∙ ap toldReached i) ∙ told in
-                    let a : y .state ≡ q = cc in
-                    let c : y .links ≡ l = cc in
-                    (y, i, a, c)
+                    let k : Told y ≡ Told (reached q l) = sym (j ∙ ap toldReached i) ∙ told in
+                    let e : y ≡ reached q l = cc in
+                    (y, i, ap (λ (w : Reached). w .state) e, ap (λ (w : Reached). w .links) e)
 
             bounded : Bounded (viewBy (sizesOf s) x) (one .0)
             unfolding recordOf

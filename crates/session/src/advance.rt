@@ -8,13 +8,14 @@ use crate::state::Phase;
 use crate::state::Session;
 use formats::buffers::rule_buffers_fit;
 use formats::rules::inner_count;
-use questions::answer::Climbed;
 use questions::part::part;
+use tables::answers::Climbed;
 ghost use mathlib.Core.Path.{_≡_};
 ghost use mathlib.Core.Bool.{true, cond};
 ghost use Prim.Native.Nat.{_<_};
 ghost use lib.ListN.{length, take, set};
-ghost use Rattle.questions.specs.PartTold.{toldReached, partGiven};
+ghost use Rattle.tables.specs.Climbs.{toldReached};
+ghost use Rattle.questions.specs.PartTold.{partGiven};
 ghost use Rattle.model.specs.Calls as calls;
 ghost use Rattle.session.specs.Promises.{CallDone, advancingAnswer};
 ghost use Rattle.session.specs.Records.{whole};
@@ -149,10 +150,10 @@ fn next_step<'a>(
         return refused_step(h, 17);
     }
     match next_part(h, plan, rules, nums, bytes, nodes, labels, roots, states) {
-        Climbed::Reached(q, links) => {
-            return handled(h, rules, q, links);
+        Climbed::Reached(found) => {
+            return handled(h, rules, found.state, found.links);
         }
-        Climbed::Outside => {
+        Climbed::OutOfRange => {
             return refused_step(h, 18);
         }
     }

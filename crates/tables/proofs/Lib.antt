@@ -17,3 +17,12 @@ pub mod MapTurns
 pub mod MapPlaces
 pub mod TableTurns
 pub mod BuildLaws
+pub mod LookupLaws
+pub mod StepLaws
+pub mod ClimbTurns
+pub mod ClimbBounds
+pub mod FollowLaws
+pub mod MapHalves
+pub mod MoveMaps
+pub mod MovedLaws
+pub mod ComposeTurns

@@ -9,3 +9,7 @@ pub mod MapTable
 pub mod Maps
 pub mod Written
 pub mod TableTests
+pub mod Climbs
+pub mod PathViews
+pub mod Steps
+pub mod Compose

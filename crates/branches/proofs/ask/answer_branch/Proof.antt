@@ -12,12 +12,12 @@ use Rattle.branches.proofs.AskAnswer.{compose-args, finish-args, answer
 use borrow.Author.Needs.{needs}
 use Rattle.formats.proofs.bytes.read32.Reads as read32-reads
 use Rattle.links.proofs.moves.depth_at.Reads as depth-at-reads
+use Rattle.tables.proofs.branch_climb.compose_climb.Reads as compose-climb-reads
 use Rattle.branches.proofs.ask.answer_branch.Statement.{statement}
 use Rattle.branches.proofs.ask.answer_branch.Tie as tie
 use Rattle.branches.proofs.ask.answer_branch.Reads as reads
 use Rattle.branches.proofs.ask.answer_branch.Lts as lts
 use Rattle.branches.proofs.ask.finish_answer.Reads as finish-answer-reads
-use Rattle.branches.proofs.climb.compose_climb.Reads as compose-climb-reads
 
 -- what the lent headers and lengths say
 fit : (s : tie.Start) → let g = s .args in

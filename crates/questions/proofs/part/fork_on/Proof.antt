@@ -3,8 +3,8 @@ use native.Mathlib.Omega.{arith}
 use borrow.Author.Needs.{needs}
 use Prim.Native.Nat.{ℕ, _+_, _-_, _*_}
 use mathlib.Core.Path.{ap}
-use Rattle.questions.specs.Climbs.{View}
-use Rattle.questions.specs.PathViews.{pathView}
+use Rattle.tables.specs.Climbs.{View}
+use Rattle.tables.specs.PathViews.{pathView}
 use Rattle.questions.proofs.PartTurns.{side-args, side-few, fork-told}
 use Rattle.questions.proofs.part.fork_on.Statement.{statement}
 use Rattle.questions.proofs.part.fork_on.Tie as tie

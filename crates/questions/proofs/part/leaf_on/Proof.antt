@@ -1,10 +1,10 @@
 -- `leaf_on` meets its contract. Assumes nothing.
 use native.Mathlib.Omega.{arith}
 use borrow.Author.Needs.{needs}
+use Rattle.tables.specs.Climbs.{toldReached}
 use Rattle.questions.proofs.PartLaws.{leaf-outside, leaf-at}
 use mathlib.Core.Path.{sym, ap, _∙_}
 use Rattle.questions.specs.PartArgs.{leavesView}
-use Rattle.questions.specs.PartTold.{toldReached}
 use Rattle.questions.proofs.part.leaf_on.Statement.{statement}
 use Rattle.questions.proofs.part.leaf_on.Tie as tie
 

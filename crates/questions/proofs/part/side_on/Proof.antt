@@ -4,10 +4,9 @@ use borrow.Author.Needs.{needs}
 use Prim.Native.Nat.{_+_, _-_}
 use mathlib.Core.Path.{_≡_, ap, _∙_}
 use lib.ListN.{length}
-use Rattle.questions.specs.Climbs.{View}
-use Rattle.questions.specs.PathViews.{pathView}
-use Rattle.questions.specs.PartTold.{toldReached}
-use Rattle.questions.proofs.LookupLaws.{state-place}
+use Rattle.tables.specs.Climbs.{View, toldReached}
+use Rattle.tables.specs.PathViews.{pathView}
+use Rattle.tables.proofs.LookupLaws.{state-place}
 use Rattle.questions.proofs.PartLaws.{side-run, side-own, side-lost, side-climb}
 use Rattle.questions.proofs.part.side_on.Statement.{statement}
 use Rattle.questions.proofs.part.side_on.Tie as tie

@@ -68,29 +68,31 @@ next-part-requires c κs =
     let m = e .before in
     next-args (of m) (at m .pre) (lent m) _ (m .is-running .ensures) (e .if1 .left)
 
-enum-known-q : tie.Need-enum-known-q
-enum-known-q c = search needs
+enum-known-found : tie.Need-enum-known-found
+enum-known-found c = search needs
 
 handled-requires : tie.Need-handled-requires
 handled-requires c κs =
-    let p = c .before .before .before in
+    let f = c .before in
+    let p = f .before .before in
     let t = p .before in
     let k = t .before in
     let e = k .before .before .before .before in
     let m = e .before in
     handle-args (of m) (at m .pre) (lent m) _ (m .is-running .ensures) (e .if1 .left) _ (k .rule-buffers-fit .ensures) (t .if2 .left) _
-    (p .next-part .ensures) _ _ (c .before .q .given .1)
+    (p .next-part .ensures) (f .found .given .0 .0 .state) (f .found .given .0 .0 .links) (f .found .given .1)
 
 returns-3 : tie.Need-returns-3
 returns-3 c =
-    let d = c .before in
-    let p = d .before .before .before in
+    let f = c .before .before in
+    let p = f .before .before in
     let t = p .before in
     let k = t .before in
     let e = k .before .before .before .before in
     let m = e .before in
     made-found (of m) (at m .pre) (lent m) _ (m .is-running .ensures) (e .if1 .left) _ (k .rule-buffers-fit .ensures) (t .if2 .left) _
-    (p .next-part .ensures) _ _ (d .before .q .given .1) _ (c .handled .ensures)
+    (p .next-part .ensures) (f .found .given .0 .0 .state) (f .found .given .0 .0 .links) (f .found .given .1) _
+    (c .handled .ensures)
 
 enum-told : tie.Need-enum-told
 enum-told c = search needs
@@ -124,7 +126,7 @@ next-step-spec =
     refused-step-requires-2
     returns-2
     next-part-requires
-    enum-known-q
+    enum-known-found
     handled-requires
     returns-3
     enum-told
