@@ -15,19 +15,21 @@ use Rattle.tables.specs.Answers.{written}
 use Rattle.formats.specs.Inputs.{Inputs}
 use Rattle.model.specs.Calls.{Call, load, read, Answer, refused, accepted, parts, more, finished}
 use Rattle.model.specs.Calls.{readAnswer}
-use Rattle.session.specs.declared.answers.Done.{Done}
+use Rattle.session.specs.declared.answers.Called.{Called}
 use Rattle.session.specs.declared.answers.Started.{Started}
 use Rattle.session.specs.declared.answers.Advanced.{Advanced}
-use Rattle.session.specs.declared.answers.Doing.the-variants.{Done as Made, Refused as NotDone}
-use Rattle.session.specs.declared.answers.Starting.the-variants.{Parts, Refused as NotStarted}
-use Rattle.session.specs.declared.answers.Advancing.the-variants.{More, Finished, Refused as NotAdvanced}
-use Rattle.session.specs.declared.answers.Reading.{Reading}
-use Rattle.session.specs.declared.answers.Reading.the-variants.{Told, Refused as NotRead}
+use Rattle.session.specs.declared.answers.CallAnswer.the-variants.{Accepted, Refused as NotDone}
+use Rattle.session.specs.declared.answers.StartAnswer.the-variants.{Parts, Refused as NotStarted}
+use Rattle.session.specs.declared.answers.AdvanceAnswer.the-variants.{More, Finished, Refused as NotAdvanced}
+use Rattle.session.specs.declared.answers.Outcome.{Outcome}
+use Rattle.session.specs.declared.answers.ReadAnswer.{ReadAnswer}
+use Rattle.session.specs.declared.answers.ReadAnswer.the-variants.{Outcome as Read, Refused as NotRead}
 use Rattle.session.specs.declared.state.Session.{Session}
 use Rattle.model.specs.Model.{act}
 use Rattle.model.specs.LeftOpen.{LeftOpen}
 use Rattle.session.specs.Records.{recordOf, valid}
-use Rattle.session.specs.Promises.{doingAnswer, startingAnswer, advancingAnswer, readingAnswer, answerOn, recordOn, refusalOn, CallDone, LoadDone}
+use Rattle.session.specs.Answers.{callAnswer, startAnswer, advanceAnswer, readAnswer}
+use Rattle.session.specs.Promises.{answerOn, recordOn, refusalOn, CallDone, LoadDone}
 use Rattle.records.specs.Layout.{recordLength, encoded, decoded, laidOut, validBytes}
 use Rattle.capi_numbers.specs.Numbers.{bitOf}
 use Rattle.capi_session.specs.SessionExported.{answerFor, answerNumber, unlessRefused, recordFor, CallExported, loadNumber, LoadExported, partsOf}
@@ -42,79 +44,80 @@ stored-new : (a : Answer) (s : Session) (b b′ : List ℕ) → answerNumber a �
     → b′ ≡ encoded s → Stored a s b 0 b′
 stored-new a s b b′ n u e = record { number = sym n; left = e ∙ sym u }
 
-pub done-stored : (o : Done) (b b′ : List ℕ) → length b ≡ recordLength → o .told ≡ Made
-    → b′ ≡ cond (eqb (length b) recordLength) (encoded (o .rec)) b → DoneStored o b 0 b′
-unfolding doingAnswer answerNumber unlessRefused
+pub done-stored : (o : Called) (b b′ : List ℕ) → length b ≡ recordLength → o .answer ≡ Accepted
+    → b′ ≡ cond (eqb (length b) recordLength) (encoded (o .session)) b → DoneStored o b 0 b′
+unfolding callAnswer answerNumber unlessRefused
 done-stored o b b′ h e q =
-    stored-new (doingAnswer (o .told)) (o .rec) b b′ (ap (λ (x : _). answerNumber (doingAnswer x)) e)
-    (ap (λ (x : _). unlessRefused (doingAnswer x) (encoded (o .rec)) b) e) (accepted-bytes (o .rec) b b′ h q)
+    stored-new (callAnswer (o .answer)) (o .session) b b′ (ap (λ (x : _). answerNumber (callAnswer x)) e)
+    (ap (λ (x : _). unlessRefused (callAnswer x) (encoded (o .session)) b) e) (accepted-bytes (o .session) b b′ h q)
 
-pub done-refused : (o : Done) (b : List ℕ) (n : ℕ) → o .told ≡ NotDone n → DoneStored o b n b
-unfolding doingAnswer answerNumber unlessRefused
+pub done-refused : (o : Called) (b : List ℕ) (n : ℕ) → o .answer ≡ NotDone n → DoneStored o b n b
+unfolding callAnswer answerNumber unlessRefused
 done-refused o b n e = record {
-  number = sym (ap (λ (x : _). answerNumber (doingAnswer x)) e);
-  left = sym (ap (λ (x : _). unlessRefused (doingAnswer x) (encoded (o .rec)) b) e);
+  number = sym (ap (λ (x : _). answerNumber (callAnswer x)) e);
+  left = sym (ap (λ (x : _). unlessRefused (callAnswer x) (encoded (o .session)) b) e);
 }
 
-pub start-stored : (o : Started) (b b′ : List ℕ) (p k : ℕ) → length b ≡ recordLength → o .told ≡ Parts k
-    → b′ ≡ cond (eqb (length b) recordLength) (encoded (o .rec)) b → StartStored o b p 0 b′ k
-unfolding startingAnswer answerNumber unlessRefused partsOf
+pub start-stored : (o : Started) (b b′ : List ℕ) (p k : ℕ) → length b ≡ recordLength → o .answer ≡ Parts k
+    → b′ ≡ cond (eqb (length b) recordLength) (encoded (o .session)) b → StartStored o b p 0 b′ k
+unfolding startAnswer answerNumber unlessRefused partsOf
 start-stored o b b′ p k h e q = record {
-  stored = stored-new (startingAnswer (o .told)) (o .rec) b b′ (ap (λ (x : _). answerNumber (startingAnswer x)) e)
-      (ap (λ (x : _). unlessRefused (startingAnswer x) (encoded (o .rec)) b) e) (accepted-bytes (o .rec) b b′ h q);
-  parts-told = sym (ap (λ (x : _). partsOf (startingAnswer x) p) e);
+  stored = stored-new (startAnswer (o .answer)) (o .session) b b′ (ap (λ (x : _). answerNumber (startAnswer x)) e)
+      (ap (λ (x : _). unlessRefused (startAnswer x) (encoded (o .session)) b) e) (accepted-bytes (o .session) b b′ h q);
+  parts-told = sym (ap (λ (x : _). partsOf (startAnswer x) p) e);
 }
 
-pub start-refused : (o : Started) (b : List ℕ) (p n : ℕ) → o .told ≡ NotStarted n → StartStored o b p n b p
-unfolding startingAnswer answerNumber unlessRefused partsOf
+pub start-refused : (o : Started) (b : List ℕ) (p n : ℕ) → o .answer ≡ NotStarted n → StartStored o b p n b p
+unfolding startAnswer answerNumber unlessRefused partsOf
 start-refused o b p n e = record {
   stored = record {
-    number = sym (ap (λ (x : _). answerNumber (startingAnswer x)) e);
-    left = sym (ap (λ (x : _). unlessRefused (startingAnswer x) (encoded (o .rec)) b) e);
+    number = sym (ap (λ (x : _). answerNumber (startAnswer x)) e);
+    left = sym (ap (λ (x : _). unlessRefused (startAnswer x) (encoded (o .session)) b) e);
   };
-  parts-told = sym (ap (λ (x : _). partsOf (startingAnswer x) p) e);
+  parts-told = sym (ap (λ (x : _). partsOf (startAnswer x) p) e);
 }
 
-pub more-stored : (o : Advanced) (b b′ : List ℕ) (f : ℕ) → length b ≡ recordLength → o .told ≡ More
-    → b′ ≡ cond (eqb (length b) recordLength) (encoded (o .rec)) b → AdvanceStored o b f 0 b′ 0
-unfolding advancingAnswer answerNumber unlessRefused finishedOf
+pub more-stored : (o : Advanced) (b b′ : List ℕ) (f : ℕ) → length b ≡ recordLength → o .answer ≡ More
+    → b′ ≡ cond (eqb (length b) recordLength) (encoded (o .session)) b → AdvanceStored o b f 0 b′ 0
+unfolding advanceAnswer answerNumber unlessRefused finishedOf
 more-stored o b b′ f h e q = record {
-  stored = stored-new (advancingAnswer (o .told)) (o .rec) b b′ (ap (λ (x : _). answerNumber (advancingAnswer x)) e)
-      (ap (λ (x : _). unlessRefused (advancingAnswer x) (encoded (o .rec)) b) e) (accepted-bytes (o .rec) b b′ h q);
-  finished-told = sym (ap (λ (x : _). finishedOf (advancingAnswer x) f) e);
+  stored = stored-new (advanceAnswer (o .answer)) (o .session) b b′ (ap (λ (x : _). answerNumber (advanceAnswer x)) e)
+      (ap (λ (x : _). unlessRefused (advanceAnswer x) (encoded (o .session)) b) e) (accepted-bytes (o .session) b b′ h q);
+  finished-told = sym (ap (λ (x : _). finishedOf (advanceAnswer x) f) e);
 }
 
-pub finished-stored : (o : Advanced) (b b′ : List ℕ) (f : ℕ) → length b ≡ recordLength → o .told ≡ Finished
-    → b′ ≡ cond (eqb (length b) recordLength) (encoded (o .rec)) b → AdvanceStored o b f 0 b′ 1
-unfolding advancingAnswer answerNumber unlessRefused finishedOf
+pub finished-stored : (o : Advanced) (b b′ : List ℕ) (f : ℕ) → length b ≡ recordLength → o .answer ≡ Finished
+    → b′ ≡ cond (eqb (length b) recordLength) (encoded (o .session)) b → AdvanceStored o b f 0 b′ 1
+unfolding advanceAnswer answerNumber unlessRefused finishedOf
 finished-stored o b b′ f h e q = record {
-  stored = stored-new (advancingAnswer (o .told)) (o .rec) b b′ (ap (λ (x : _). answerNumber (advancingAnswer x)) e)
-      (ap (λ (x : _). unlessRefused (advancingAnswer x) (encoded (o .rec)) b) e) (accepted-bytes (o .rec) b b′ h q);
-  finished-told = sym (ap (λ (x : _). finishedOf (advancingAnswer x) f) e);
+  stored = stored-new (advanceAnswer (o .answer)) (o .session) b b′ (ap (λ (x : _). answerNumber (advanceAnswer x)) e)
+      (ap (λ (x : _). unlessRefused (advanceAnswer x) (encoded (o .session)) b) e) (accepted-bytes (o .session) b b′ h q);
+  finished-told = sym (ap (λ (x : _). finishedOf (advanceAnswer x) f) e);
 }
 
-pub advance-refused : (o : Advanced) (b : List ℕ) (f n : ℕ) → o .told ≡ NotAdvanced n → AdvanceStored o b f n b f
-unfolding advancingAnswer answerNumber unlessRefused finishedOf
+pub advance-refused : (o : Advanced) (b : List ℕ) (f n : ℕ) → o .answer ≡ NotAdvanced n → AdvanceStored o b f n b f
+unfolding advanceAnswer answerNumber unlessRefused finishedOf
 advance-refused o b f n e = record {
   stored = record {
-    number = sym (ap (λ (x : _). answerNumber (advancingAnswer x)) e);
-    left = sym (ap (λ (x : _). unlessRefused (advancingAnswer x) (encoded (o .rec)) b) e);
+    number = sym (ap (λ (x : _). answerNumber (advanceAnswer x)) e);
+    left = sym (ap (λ (x : _). unlessRefused (advanceAnswer x) (encoded (o .session)) b) e);
   };
-  finished-told = sym (ap (λ (x : _). finishedOf (advancingAnswer x) f) e);
+  finished-told = sym (ap (λ (x : _). finishedOf (advanceAnswer x) f) e);
 }
 
-pub read-told : (a : Reading) (old : Places) (q y p l : ℕ) (m : Bool) → a ≡ Told q m p l → y ≡ bitOf m → ReadStored a old 0 (places q y p l)
-unfolding readingAnswer answerNumber toldPlaces
-read-told a old q y p l m e b = record {
-  number = sym (ap (λ (x : Reading). answerNumber (readingAnswer x)) e);
-  told-to = ap (λ (z : ℕ). places q z p l) b ∙ sym (ap (λ (x : Reading). toldPlaces (readingAnswer x) old) e);
+pub read-told : (a : ReadAnswer) (old : Places) (y : ℕ) (o : Outcome) → a ≡ Read o → y ≡ bitOf (o .yes)
+    → ReadStored a old 0 (places (o .state) y (o .parts) (o .links))
+unfolding readAnswer answerNumber toldPlaces
+read-told a old y o e b = record {
+  number = sym (ap (λ (x : ReadAnswer). answerNumber (readAnswer x)) e);
+  told-to = ap (λ (z : ℕ). places (o .state) z (o .parts) (o .links)) b ∙ sym (ap (λ (x : ReadAnswer). toldPlaces (readAnswer x) old) e);
 }
 
-pub read-refused : (a : Reading) (old : Places) (n : ℕ) → a ≡ NotRead n → ReadStored a old n old
-unfolding readingAnswer answerNumber toldPlaces
+pub read-refused : (a : ReadAnswer) (old : Places) (n : ℕ) → a ≡ NotRead n → ReadStored a old n old
+unfolding readAnswer answerNumber toldPlaces
 read-refused a old n e = record {
-  number = sym (ap (λ (x : Reading). answerNumber (readingAnswer x)) e);
-  told-to = sym (ap (λ (x : Reading). toldPlaces (readingAnswer x) old) e);
+  number = sym (ap (λ (x : ReadAnswer). answerNumber (readAnswer x)) e);
+  told-to = sym (ap (λ (x : ReadAnswer). toldPlaces (readAnswer x) old) e);
 }
 
 -- ---- the exported calls
@@ -180,11 +183,11 @@ module _ (b : List ℕ) where
     states-written = sym (ap (λ (t : Bool). written (cond t (refusalOn (decoded b) (load x)) 1) (builtStates (x .plan) (x .rules)) (x .stateTable)) h);
   }
 
-  pub load-laid : (x : Inputs) → laidOut b ≡ true → (o : Done) (r : ℕ) (b′ nums′ bytes′ : List ℕ)
-      → LoadDone (decoded b) x (doingAnswer (o .told)) (o .rec) nums′ bytes′ → DoneStored o b r b′ → LoadExported b x r b′ nums′ bytes′
+  pub load-laid : (x : Inputs) → laidOut b ≡ true → (o : Called) (r : ℕ) (b′ nums′ bytes′ : List ℕ)
+      → LoadDone (decoded b) x (callAnswer (o .answer)) (o .session) nums′ bytes′ → DoneStored o b r b′ → LoadExported b x r b′ nums′ bytes′
   unfolding loadNumber
   load-laid x h o r b′ nums′ bytes′ D S = record {
-    call = laid b (load x) h (doingAnswer (o .told)) (o .rec) r b′ (D .call) S;
+    call = laid b (load x) h (callAnswer (o .answer)) (o .session) r b′ (D .call) S;
     links-written = D .links-written ∙ sym (ap (λ (t : Bool). written (cond t (refusalOn (decoded b) (load x)) 1) (builtLinks (x .plan)) (x .nodeTable)) h);
     states-written = D .states-written
         ∙ sym (ap (λ (t : Bool). written (cond t (refusalOn (decoded b) (load x)) 1) (builtStates (x .plan) (x .rules)) (x .stateTable)) h);
@@ -196,10 +199,10 @@ module _ (b : List ℕ) where
     start-not p h = record { call = not-laid b c h; parts-told = sym (ap (λ (a : Answer). partsOf a p) (told-not b c h)) }
 
     pub start-laid : laidOut b ≡ true → (o : Started) (r : ℕ) (b′ : List ℕ) (p p′ : ℕ)
-        → CallDone (decoded b) c (startingAnswer (o .told)) (o .rec) → StartStored o b p r b′ p′ → StartExported b c r b′ p p′
+        → CallDone (decoded b) c (startAnswer (o .answer)) (o .session) → StartStored o b p r b′ p′ → StartExported b c r b′ p p′
     start-laid h o r b′ p p′ D S = record {
-      call = laid b c h (startingAnswer (o .told)) (o .rec) r b′ D (S .stored);
-      parts-told = S .parts-told ∙ sym (ap (λ (a : Answer). partsOf a p) (told-by b c h (startingAnswer (o .told)) (D .tells)));
+      call = laid b c h (startAnswer (o .answer)) (o .session) r b′ D (S .stored);
+      parts-told = S .parts-told ∙ sym (ap (λ (a : Answer). partsOf a p) (told-by b c h (startAnswer (o .answer)) (D .tells)));
     }
 
     pub advance-not : (f : ℕ) → laidOut b ≡ false → AdvanceExported b c 1 b f f
@@ -207,10 +210,10 @@ module _ (b : List ℕ) where
     advance-not f h = record { call = not-laid b c h; finished-told = sym (ap (λ (a : Answer). finishedOf a f) (told-not b c h)) }
 
     pub advance-laid : laidOut b ≡ true → (o : Advanced) (r : ℕ) (b′ : List ℕ) (f f′ : ℕ)
-        → CallDone (decoded b) c (advancingAnswer (o .told)) (o .rec) → AdvanceStored o b f r b′ f′ → AdvanceExported b c r b′ f f′
+        → CallDone (decoded b) c (advanceAnswer (o .answer)) (o .session) → AdvanceStored o b f r b′ f′ → AdvanceExported b c r b′ f f′
     advance-laid h o r b′ f f′ D S = record {
-      call = laid b c h (advancingAnswer (o .told)) (o .rec) r b′ D (S .stored);
-      finished-told = S .finished-told ∙ sym (ap (λ (a : Answer). finishedOf a f) (told-by b c h (advancingAnswer (o .told)) (D .tells)));
+      call = laid b c h (advanceAnswer (o .answer)) (o .session) r b′ D (S .stored);
+      finished-told = S .finished-told ∙ sym (ap (λ (a : Answer). finishedOf a f) (told-by b c h (advanceAnswer (o .answer)) (D .tells)));
     }
 
   pub read-not : (old : Places) → laidOut b ≡ false → ReadExported b 1 old old
@@ -220,10 +223,10 @@ module _ (b : List ℕ) where
     told-to = sym (ap (λ (a : Answer). toldPlaces a old) (told-not b read h));
   }
 
-  pub read-laid : laidOut b ≡ true → (a : Reading) (old new : Places) (r : ℕ) → readingAnswer a ≡ answerOn (decoded b) read → ReadStored a old r new
+  pub read-laid : laidOut b ≡ true → (a : ReadAnswer) (old new : Places) (r : ℕ) → readAnswer a ≡ answerOn (decoded b) read → ReadStored a old r new
       → ReadExported b r old new
   read-laid h a old new r D S =
-      let e : answerFor b read ≡ readingAnswer a = told-by b read h (readingAnswer a) D in
+      let e : answerFor b read ≡ readAnswer a = told-by b read h (readAnswer a) D in
       record { number = S .number ∙ sym (ap answerNumber e); told-to = S .told-to ∙ sym (ap (λ (x : Answer). toldPlaces x old) e) }
 
 -- a promise on the struct that was decoded

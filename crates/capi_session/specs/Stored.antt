@@ -8,12 +8,12 @@ use Prim.Native.Nat.{ℕ}
 use mathlib.Core.Path.{_≡_}
 use mathlib.Core.List.{List}
 use Rattle.model.specs.Calls.{Answer}
-use Rattle.session.specs.declared.answers.Done.{Done}
+use Rattle.session.specs.declared.answers.Called.{Called}
 use Rattle.session.specs.declared.answers.Started.{Started}
 use Rattle.session.specs.declared.answers.Advanced.{Advanced}
-use Rattle.session.specs.declared.answers.Reading.{Reading}
+use Rattle.session.specs.declared.answers.ReadAnswer.{ReadAnswer}
 use Rattle.session.specs.declared.state.Session.{Session}
-use Rattle.session.specs.Promises.{doingAnswer, startingAnswer, advancingAnswer, readingAnswer}
+use Rattle.session.specs.Answers.{callAnswer, startAnswer, advanceAnswer, readAnswer}
 use Rattle.records.specs.Layout.{encoded}
 use Rattle.capi_session.specs.SessionExported.{answerNumber, unlessRefused, partsOf, finishedOf, Places, toldPlaces}
 
@@ -25,17 +25,17 @@ pub record Stored (a : Answer) (s : Session) (b : List ℕ) (r : ℕ) (b′ : Li
   pub number : r ≡ answerNumber a
   pub left : b′ ≡ unlessRefused a (encoded s) b
 
-abbrev pub DoneStored : Done → List ℕ → ℕ → List ℕ → Type 0
-DoneStored o b r b′ = Stored (doingAnswer (o .told)) (o .rec) b r b′
+abbrev pub DoneStored : Called → List ℕ → ℕ → List ℕ → Type 0
+DoneStored o b r b′ = Stored (callAnswer (o .answer)) (o .session) b r b′
 
 pub record StartStored (o : Started) (b : List ℕ) (p r : ℕ) (b′ : List ℕ) (p′ : ℕ) : Type 0 where
-  pub stored : Stored (startingAnswer (o .told)) (o .rec) b r b′
-  pub parts-told : p′ ≡ partsOf (startingAnswer (o .told)) p
+  pub stored : Stored (startAnswer (o .answer)) (o .session) b r b′
+  pub parts-told : p′ ≡ partsOf (startAnswer (o .answer)) p
 
 pub record AdvanceStored (o : Advanced) (b : List ℕ) (f r : ℕ) (b′ : List ℕ) (f′ : ℕ) : Type 0 where
-  pub stored : Stored (advancingAnswer (o .told)) (o .rec) b r b′
-  pub finished-told : f′ ≡ finishedOf (advancingAnswer (o .told)) f
+  pub stored : Stored (advanceAnswer (o .answer)) (o .session) b r b′
+  pub finished-told : f′ ≡ finishedOf (advanceAnswer (o .answer)) f
 
-pub record ReadStored (a : Reading) (old : Places) (r : ℕ) (new : Places) : Type 0 where
-  pub number : r ≡ answerNumber (readingAnswer a)
-  pub told-to : new ≡ toldPlaces (readingAnswer a) old
+pub record ReadStored (a : ReadAnswer) (old : Places) (r : ℕ) (new : Places) : Type 0 where
+  pub number : r ≡ answerNumber (readAnswer a)
+  pub told-to : new ≡ toldPlaces (readAnswer a) old

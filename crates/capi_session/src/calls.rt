@@ -3,13 +3,13 @@ use capi_numbers::numbers::bit;
 use records::bytes::decode;
 use records::bytes::encode;
 use records::bytes::laid_out;
+use session::answers::AdvanceAnswer;
 use session::answers::Advanced;
-use session::answers::Advancing;
-use session::answers::Doing;
-use session::answers::Done;
-use session::answers::Reading;
+use session::answers::CallAnswer;
+use session::answers::Called;
+use session::answers::ReadAnswer;
+use session::answers::StartAnswer;
 use session::answers::Started;
-use session::answers::Starting;
 ghost use mathlib.Core.Path.{_≡_};
 ghost use lib.ListN.{length};
 ghost use Rattle.model.specs.Calls as calls;
@@ -19,18 +19,18 @@ ghost use Rattle.capi_session.specs.SessionExported.{CallExported, LoadE
 ghost use Rattle.capi_session.specs.Stored.{DoneStored, StartStored, AdvanceStored, ReadStored, places};
 
 // Stores the record of an accepted Load or Cancel; the answer's number.
-fn store_done(out: Done, rec: &mut [u8]) -> u32
+fn store_done(out: Called, rec: &mut [u8]) -> u32
     requires { ⌜ length (now rec) ≡ recordLength ⌝ }
     ensures { λ r. ⌜ DoneStored out (now (rec .entry)) r (now (rec .exit)) ⌝ }
 {
-    let told = out.told;
-    match told {
-        Doing::Done => {
-            let next = out.rec;
+    let answer = out.answer;
+    match answer {
+        CallAnswer::Accepted => {
+            let next = out.session;
             encode(next, rec);
             return 0;
         }
-        Doing::Refused(n) => {
+        CallAnswer::Refused(n) => {
             return n as u32;
         }
     }
@@ -76,15 +76,15 @@ fn store_started(out: Started, rec: &mut [u8], parts: &mut u32) -> u32
     requires { ⌜ length (now rec) ≡ recordLength ⌝ }
     ensures { λ r. ⌜ StartStored out (now (rec .entry)) (now (parts .entry)) r (now (rec .exit)) (now (parts .exit)) ⌝ }
 {
-    let told = out.told;
-    match told {
-        Starting::Parts(p) => {
-            let next = out.rec;
+    let answer = out.answer;
+    match answer {
+        StartAnswer::Parts(p) => {
+            let next = out.session;
             encode(next, rec);
             *parts = p as u32;
             return 0;
         }
-        Starting::Refused(n) => {
+        StartAnswer::Refused(n) => {
             return n as u32;
         }
     }
@@ -121,21 +121,21 @@ fn store_advanced(out: Advanced, rec: &mut [u8], finished: &mut u32) -> u32
     requires { ⌜ length (now rec) ≡ recordLength ⌝ }
     ensures { λ r. ⌜ AdvanceStored out (now (rec .entry)) (now (finished .entry)) r (now (rec .exit)) (now (finished .exit)) ⌝ }
 {
-    let told = out.told;
-    match told {
-        Advancing::More => {
-            let next = out.rec;
+    let answer = out.answer;
+    match answer {
+        AdvanceAnswer::More => {
+            let next = out.session;
             encode(next, rec);
             *finished = 0;
             return 0;
         }
-        Advancing::Finished => {
-            let next = out.rec;
+        AdvanceAnswer::Finished => {
+            let next = out.session;
             encode(next, rec);
             *finished = 1;
             return 0;
         }
-        Advancing::Refused(n) => {
+        AdvanceAnswer::Refused(n) => {
             return n as u32;
         }
     }
@@ -165,20 +165,26 @@ pub extern "C" fn whatif_advance(
 }
 
 // Tells what Read tells; the answer's number.
-fn tell_read(told: Reading, state: &mut u32, yes: &mut u32, parts: &mut u32, links: &mut u32) -> u32
+fn tell_read(
+    answer: ReadAnswer,
+    state: &mut u32,
+    yes: &mut u32,
+    parts: &mut u32,
+    links: &mut u32,
+) -> u32
     ensures { λ r. ⌜
-        ReadStored told (places (now (state .entry)) (now (yes .entry)) (now (parts .entry)) (now (links .entry))) r
+        ReadStored answer (places (now (state .entry)) (now (yes .entry)) (now (parts .entry)) (now (links .entry))) r
         (places (now (state .exit)) (now (yes .exit)) (now (parts .exit)) (now (links .exit))) ⌝ }
 {
-    match told {
-        Reading::Told(q, marked, p, l) => {
-            *state = q as u32;
-            *yes = bit(marked);
-            *parts = p as u32;
-            *links = l;
+    match answer {
+        ReadAnswer::Outcome(o) => {
+            *state = o.state as u32;
+            *yes = bit(o.yes);
+            *parts = o.parts as u32;
+            *links = o.links;
             return 0;
         }
-        Reading::Refused(n) => {
+        ReadAnswer::Refused(n) => {
             return n as u32;
         }
     }
@@ -202,6 +208,6 @@ pub extern "C" fn whatif_read(
         return 1;
     }
     let s = decode(rec);
-    let told = s.read();
-    tell_read(told, state, yes, parts, links)
+    let answer = s.read();
+    tell_read(answer, state, yes, parts, links)
 }

@@ -12,12 +12,14 @@ use Rattle.questions.specs.declared.roots.Rooted.{Rooted}
 use Rattle.formats.specs.Inputs.{Inputs}
 use Rattle.model.specs.Calls.{start, advance, read}
 use Rattle.session.specs.declared.answers.Started.{Started}
-use Rattle.session.specs.declared.answers.Starting.{Starting}
-use Rattle.session.specs.declared.answers.Starting.the-variants.{Parts, Refused as NotStarted}
-use Rattle.session.specs.declared.answers.Reading.{Reading}
-use Rattle.session.specs.declared.answers.Reading.the-variants.{Told, Refused as NotRead}
+use Rattle.session.specs.declared.answers.StartAnswer.{StartAnswer}
+use Rattle.session.specs.declared.answers.StartAnswer.the-variants.{Parts, Refused as NotStarted}
+use Rattle.session.specs.declared.answers.Outcome.{Outcome}
+use Rattle.session.specs.declared.answers.ReadAnswer.{ReadAnswer}
+use Rattle.session.specs.declared.answers.ReadAnswer.the-variants.{Outcome as Read, Refused as NotRead}
 use Rattle.session.specs.declared.state.Session.{Session}
-use Rattle.session.specs.Promises.{startingAnswer, readingAnswer, answerOn, recordOn, CallDone}
+use Rattle.session.specs.Answers.{startAnswer, readAnswer}
+use Rattle.session.specs.Promises.{answerOn, recordOn, CallDone}
 use Rattle.probes.specs.declared.layers.Part.{Part}
 use Rattle.probes.specs.declared.whole.Question.{Question}
 use Rattle.probes.specs.declared.whole.Steps.{Steps}
@@ -34,22 +36,22 @@ part-reached x y z e f = ap partTold (sym e ∙ f)
 pub part-outside : (x y : Climbed) → x ≡ OutOfRange → x ≡ y → _≡_ {A = Part} (record { state = 16; links = 0 }) (partTold y)
 part-outside x y e f = ap partTold (sym e ∙ f)
 
-pub parts-some : (t : Starting) (p : ℕ) → t ≡ Parts p → p ≡ partsTold (startingAnswer t)
-unfolding partsTold startingAnswer
-parts-some t p e = sym (ap (λ (x : Starting). partsTold (startingAnswer x)) e)
+pub parts-some : (t : StartAnswer) (p : ℕ) → t ≡ Parts p → p ≡ partsTold (startAnswer t)
+unfolding partsTold startAnswer
+parts-some t p e = sym (ap (λ (x : StartAnswer). partsTold (startAnswer x)) e)
 
-pub parts-none : (t : Starting) (n : ℕ) → t ≡ NotStarted n → 0 ≡ partsTold (startingAnswer t)
-unfolding partsTold startingAnswer
-parts-none t n e = sym (ap (λ (x : Starting). partsTold (startingAnswer x)) e)
+pub parts-none : (t : StartAnswer) (n : ℕ) → t ≡ NotStarted n → 0 ≡ partsTold (startAnswer t)
+unfolding partsTold startAnswer
+parts-none t n e = sym (ap (λ (x : StartAnswer). partsTold (startAnswer x)) e)
 
-pub read-some : (a : Reading) (q p l : ℕ) (y : Bool) → a ≡ Told q y p l
-    → _≡_ {A = Question} (record { state = q; yes = y; parts = p; links = l }) (readTold (readingAnswer a))
-unfolding readTold readingAnswer
-read-some a q p l y e = sym (ap (λ (x : Reading). readTold (readingAnswer x)) e)
+pub read-some : (a : ReadAnswer) (o : Outcome) → a ≡ Read o
+    → _≡_ {A = Question} (record { state = o .state; yes = o .yes; parts = o .parts; links = o .links }) (readTold (readAnswer a))
+unfolding readTold readAnswer
+read-some a o e = sym (ap (λ (x : ReadAnswer). readTold (readAnswer x)) e)
 
-pub read-none : (a : Reading) (n : ℕ) → a ≡ NotRead n → nothingTold ≡ readTold (readingAnswer a)
-unfolding readTold readingAnswer
-read-none a n e = sym (ap (λ (x : Reading). readTold (readingAnswer x)) e)
+pub read-none : (a : ReadAnswer) (n : ℕ) → a ≡ NotRead n → nothingTold ≡ readTold (readAnswer a)
+unfolding readTold readAnswer
+read-none a n e = sym (ap (λ (x : ReadAnswer). readTold (readAnswer x)) e)
 
 module _ (x : Inputs) (u end : Session) (left : ℕ) (o : advanced left x u ≡ end) where
   pub once-more : (r : Session) → 0 < left → r ≡ recordOn u (advance x) → advanced (left - 1) x r ≡ end
@@ -69,26 +71,26 @@ stepsOf p l = record { parts = p; links = l }
 
 -- Start on a session, and advances after it
 module _ (x : Inputs) (vs bs : List ℕ) (s before : Session) (o : Started) (is : before ≡ s)
-    (D : CallDone before (start x vs bs) (startingAnswer (o .told)) (o .rec)) where
-  started : CallDone s (start x vs bs) (startingAnswer (o .told)) (o .rec)
-  started = subst (λ (z : Session). CallDone z (start x vs bs) (startingAnswer (o .told)) (o .rec)) is D
+    (D : CallDone before (start x vs bs) (startAnswer (o .answer)) (o .session)) where
+  started : CallDone s (start x vs bs) (startAnswer (o .answer)) (o .session)
+  started = subst (λ (z : Session). CallDone z (start x vs bs) (startAnswer (o .answer)) (o .session)) is D
 
-  parts-are : (p : ℕ) → p ≡ partsTold (startingAnswer (o .told)) → p ≡ startParts x vs bs s
+  parts-are : (p : ℕ) → p ≡ partsTold (startAnswer (o .answer)) → p ≡ startParts x vs bs s
   unfolding startParts
   parts-are p e = e ∙ ap partsTold (started .tells)
 
-  ends-at : (i : ℕ) (end : Session) → end ≡ advanced i x (o .rec) → end ≡ after x vs bs i s
+  ends-at : (i : ℕ) (end : Session) → end ≡ advanced i x (o .session) → end ≡ after x vs bs i s
   unfolding after
   ends-at i end e = e ∙ ap (advanced i x) (started .leaves)
 
-  pub steps-told : (i p : ℕ) (end : Session) → p ≡ partsTold (startingAnswer (o .told)) → end ≡ advanced i x (o .rec)
-      → _≡_ {A = Steps} (record { parts = p; links = end .links }) (stepsTold x vs bs i s)
+  pub steps-told : (i p : ℕ) (end : Session) → p ≡ partsTold (startAnswer (o .answer)) → end ≡ advanced i x (o .session)
+      → _≡_ {A = Steps} (record { parts = p; links = end .head .links }) (stepsTold x vs bs i s)
   unfolding stepsTold
-  steps-told i p end e f = ap₂ stepsOf (parts-are p e) (ap (λ (z : Session). z .links) (ends-at i end f))
+  steps-told i p end e f = ap₂ stepsOf (parts-are p e) (ap (λ (z : Session). z .head .links) (ends-at i end f))
 
-  pub question-told : (p : ℕ) (end : Session) (a : Reading) (r : Question) → p ≡ partsTold (startingAnswer (o .told))
-      → end ≡ advanced p x (o .rec)
-      → readingAnswer a ≡ answerOn end read → r ≡ readTold (readingAnswer a) → r ≡ questionTold x vs bs s
+  pub question-told : (p : ℕ) (end : Session) (a : ReadAnswer) (r : Question) → p ≡ partsTold (startAnswer (o .answer))
+      → end ≡ advanced p x (o .session)
+      → readAnswer a ≡ answerOn end read → r ≡ readTold (readAnswer a) → r ≡ questionTold x vs bs s
   unfolding questionTold
   question-told p end a r e f g h =
       h ∙ ap readTold (g ∙ ap (λ (z : Session). answerOn z read)

@@ -24,7 +24,7 @@ use Rattle.model.specs.Calls.{start, advance, read, Answer, parts, onParts, onO
 use Rattle.session.specs.declared.state.Session.{Session}
 use Rattle.session.specs.Promises.{answerOn, recordOn}
 use Rattle.session.specs.Records.{sessionOf}
-use Rattle.session.specs.Tests.{loadedBy}
+use Rattle.session.specs.Shapes.{loadedBy}
 use Rattle.probes.specs.declared.layers.Part.{Part}
 use Rattle.probes.specs.declared.whole.Steps.{Steps}
 use Rattle.probes.specs.declared.whole.Question.{Question}
@@ -56,7 +56,7 @@ unfoldable pub startParts : Inputs → List ℕ → List ℕ → Session → ℕ
 startParts x vs bs s = partsTold (answerOn s (start x vs bs))
 
 unfoldable pub stepsTold : Inputs → List ℕ → List ℕ → ℕ → Session → Steps
-stepsTold x vs bs i s = record { parts = startParts x vs bs s; links = after x vs bs i s .links }
+stepsTold x vs bs i s = record { parts = startParts x vs bs s; links = after x vs bs i s .head .links }
 
 abbrev pub nothingTold : Question
 nothingTold = record { state = 16; yes = false; parts = 0; links = 0 }

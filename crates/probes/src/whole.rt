@@ -1,10 +1,12 @@
 // Start, advances and a whole question on the record by value, without its bytes.
-use session::answers::Reading;
-use session::answers::Starting;
+use session::answers::ReadAnswer;
+use session::answers::StartAnswer;
 use session::state::Phase;
 use session::state::Session;
+use session::state::Sizes;
+use session::state::idle;
 ghost use mathlib.Core.Path.{_≡_};
-ghost use Rattle.session.specs.Promises.{startingAnswer, readingAnswer};
+ghost use Rattle.session.specs.Answers.{startAnswer, readAnswer};
 ghost use Rattle.formats.specs.Inputs.{inputsOf};
 ghost use Rattle.probes.specs.Probed.{loadedWith, partsTold, advanced, stepsTold, readTold, questionTold};
 
@@ -28,32 +30,19 @@ pub struct Question {
 fn loaded(n: u16, s: u8, k: u8) -> Session
     ensures { λ r. ⌜ r ≡ loadedWith n s k ⌝ }
 {
-    Session {
-        phase: Phase::Loaded,
-        yes: false,
-        n,
-        s,
-        k,
-        m: 0,
-        parts: 0,
-        handled: 0,
-        links: 0,
-        nodes: [0u16; 64],
-        labels: [0u8; 64],
-        roots: [0u16; 254],
-        states: [0u8; 254],
-    }
+    let sizes = Sizes { n, s, k };
+    idle(Phase::Loaded, sizes)
 }
 
 // As many parts as Start tells; 0 where it is refused.
-fn parts_told(told: Starting) -> u32
-    ensures { λ r. ⌜ r ≡ partsTold (startingAnswer told) ⌝ }
+fn parts_told(answer: StartAnswer) -> u32
+    ensures { λ r. ⌜ r ≡ partsTold (startAnswer answer) ⌝ }
 {
-    match told {
-        Starting::Parts(p) => {
+    match answer {
+        StartAnswer::Parts(p) => {
             return p as u32;
         }
-        Starting::Refused(n) => {
+        StartAnswer::Refused(n) => {
             return 0;
         }
     }
@@ -75,7 +64,7 @@ fn advance_by(
     let mut left = count;
     while left > 0 {
         let out = u.advance(plan, rules, nums, bytes);
-        u = out.rec;
+        u = out.session;
         left -= 1;
     }
     u
@@ -101,30 +90,30 @@ pub extern "C" fn probe_steps(
 {
     let before = loaded(n, s, k);
     let out = before.start(plan, rules, nums, bytes, nodes, labels);
-    let told = out.told;
-    let put = out.rec;
-    let parts = parts_told(told);
+    let answer = out.answer;
+    let put = out.session;
+    let parts = parts_told(answer);
     let end = advance_by(count, put, plan, rules, nums, bytes);
     Steps {
         parts,
-        links: end.links,
+        links: end.head.links,
     }
 }
 
 // What Read tells; state 16 where it is refused.
-fn read_told(told: Reading) -> Question
-    ensures { λ r. ⌜ r ≡ readTold (readingAnswer told) ⌝ }
+fn read_told(answer: ReadAnswer) -> Question
+    ensures { λ r. ⌜ r ≡ readTold (readAnswer answer) ⌝ }
 {
-    match told {
-        Reading::Told(q, marked, p, l) => {
+    match answer {
+        ReadAnswer::Outcome(o) => {
             return Question {
-                state: q as u32,
-                yes: marked,
-                parts: p as u32,
-                links: l,
+                state: o.state as u32,
+                yes: o.yes,
+                parts: o.parts as u32,
+                links: o.links,
             };
         }
-        Reading::Refused(n) => {
+        ReadAnswer::Refused(n) => {
             return Question {
                 state: 16,
                 yes: false,
@@ -154,9 +143,9 @@ pub extern "C" fn probe_question(
 {
     let before = loaded(n, s, k);
     let out = before.start(plan, rules, nums, bytes, nodes, labels);
-    let told = out.told;
-    let put = out.rec;
-    let end = advance_by(parts_told(told), put, plan, rules, nums, bytes);
-    let answer = end.read();
-    read_told(answer)
+    let answer = out.answer;
+    let put = out.session;
+    let end = advance_by(parts_told(answer), put, plan, rules, nums, bytes);
+    let outcome = end.read();
+    read_told(outcome)
 }

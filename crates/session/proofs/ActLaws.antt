@@ -31,8 +31,8 @@ use Rattle.model.proofs.ResultLaws.{below-more}
 use Rattle.session.specs.declared.state.Phase.the-variants.{Empty}
 use Rattle.session.specs.declared.state.Session.{Session}
 use Rattle.session.specs.Records.{phaseTo, recordOf, sessionOf, padded, zeroFrom, risesTo}
-use Rattle.session.specs.Records.{sizesFit, noQuestion, listFits, partsFit, validIn, valid}
-use Rattle.session.specs.Tests.{Shaped}
+use Rattle.session.specs.Records.{sizesFit, noQuestion, listFits, partsFit, questionFits, validIn, valid}
+use Rattle.session.specs.Shapes.{Shaped}
 use Rattle.session.proofs.PadLaws.{take-padded, take-padded-by, zero-padded, zero-padded-by, zero-replicate}
 use Rattle.session.proofs.RecordLaws.{Listed, record-of-struct, struct-shaped}
 use Rattle.session.proofs.Holds.{Sized, Asked, Going, HoldsIn, Holds, holds-of}
@@ -61,7 +61,7 @@ module _ (r : Record) where
   within-both : (low high x : ℕ) → low ≤ x → x ≤ high → (leb low x && leb x high) ≡ true
   within-both low high x h k = and-both (leb low x) (leb x high) (le-leb low x h) (le-leb x high k)
 
-  sizes-yes : Sized (r .sizes) → sizesFit (sessionOf r) ≡ true
+  sizes-yes : Sized (r .sizes) → sizesFit (sessionOf r .head .sizes) ≡ true
   unfolding sizesFit sessionOf
   sizes-yes z =
       and-both _ _ (within-both 1 65535 (r .sizes .n) (z .nodes-least) (z .nodes-most))
@@ -85,6 +85,12 @@ module _ (r : Record) where
       (and-both _ _ (ap (allBelow (r .sizes .s)) (take-padded 254 (r .states)) ∙ A .states-below)
       (and-both _ _ (zero-padded 254 (r .states)) (le-leb (r .links) (65535 * length (r .states)) (A .few-links))))))
 
+  question-yes : Sized (r .sizes) → Asked r → length (r .states) ≤ length (r .roots) → questionFits (sessionOf r) ≡ true
+  unfolding questionFits sessionOf
+  question-yes z A h =
+      and-both _ _ (sizes-yes z)
+      (and-both _ _ (list-yes A) (and-both _ _ (parts-yes A) (le-leb (length (r .states)) (length (r .roots)) h)))
+
 none-yes : (p : calls.Phase) (z : Sizes) → noQuestion (sessionOf (idle p z)) ≡ true
 unfolding noQuestion sessionOf idle zeroFrom
 none-yes p z =
@@ -101,13 +107,11 @@ module _ (r : Record) where
       and-both _ _ (sizes-yes r (e .0))
       (subst (λ (t : Record). noQuestion (sessionOf t) ≡ true) (sym (e .1)) (none-yes calls.Phase.loaded (r .sizes)))
   valid-in calls.Phase.running G =
-      and-both _ _ (sizes-yes r (G .sizes))
-      (and-both _ _ (list-yes r (G .asked))
-      (and-both _ _ (parts-yes r (G .asked)) (and-both _ _ (lt-ltb (length (r .states)) (length (r .roots)) (G .handled)) (ap not (G .no-yes)))))
+      and-both _ _ (question-yes r (G .sizes) (G .asked) (omega (arith, G .handled)))
+      (and-both _ _ (lt-ltb (length (r .states)) (length (r .roots)) (G .handled)) (ap not (G .no-yes)))
   valid-in calls.Phase.answered E =
-      and-both _ _ (sizes-yes r (E .sizes))
-      (and-both _ _ (list-yes r (E .asked))
-      (and-both _ _ (parts-yes r (E .asked)) (eq-eqb (length (r .states)) (length (r .roots)) (E .handled))))
+      and-both _ _ (question-yes r (E .sizes) (E .asked) (omega (arith, E .handled)))
+      (eq-eqb (length (r .states)) (length (r .roots)) (E .handled))
 
   pub holds-valid : Holds r → valid (sessionOf r) ≡ true
   unfolding valid sessionOf

@@ -25,10 +25,11 @@ use Rattle.model.specs.Calls.{load, mayLoad}
 use Rattle.model.specs.Refusals.{refusal, stage}
 use Rattle.model.specs.Model.{proceeds}
 use Rattle.session.specs.declared.state.Session.{Session}
-use Rattle.session.specs.declared.answers.Doing.the-variants.{Done as Made, Refused as NotDone}
+use Rattle.session.specs.declared.answers.CallAnswer.the-variants.{Accepted, Refused as NotDone}
 use Rattle.session.specs.Records.{phaseOf, sizesOf, recordOf, sessionOf, valid}
-use Rattle.session.specs.Promises.{CallDone, LoadDone, doingAnswer, refusalOn}
-use Rattle.session.specs.Tests.{Shaped, Headers, loadedBy, loadedFrom}
+use Rattle.session.specs.Answers.{callAnswer}
+use Rattle.session.specs.Promises.{CallDone, LoadDone, refusalOn}
+use Rattle.session.specs.Shapes.{Shaped, Headers, loadedBy, loadedFrom}
 use Rattle.session.proofs.CallLaws.{unless-done, refused-done, proceeds-done}
 
 -- N, S and K as they were read
@@ -37,40 +38,40 @@ pub loaded-same : (plan rules : List ℕ) (n s k : ℕ) (t : Session) → t ≡ 
     → k ≡ labelCount rules → t ≡ sessionOf (loadedFrom plan rules)
 loaded-same plan rules n s k t e a b c = rw (← a, ← b, ← c) e
 
-module _ (s : Session) (h : Shaped s) (x : Inputs) (b : Bool) (may : b ≡ (valid s && mayLoad (phaseOf (s .phase)))) where
+module _ (s : Session) (h : Shaped s) (x : Inputs) (b : Bool) (may : b ≡ (valid s && mayLoad (phaseOf (s .head .phase)))) where
   abbrev checks : List Check
   checks = buildChecks (x .plan) (x .rules) (length (x .nodeTable)) (length (x .stateTable))
 
   -- the number that a refusal gives
-  no-number : (valid s && mayLoad (phaseOf (s .phase))) ≡ false → refusalOn s (load x) ≡ 1
+  no-number : (valid s && mayLoad (phaseOf (s .head .phase))) ≡ false → refusalOn s (load x) ≡ 1
   unfolding refusalOn refusal recordOf
   no-number e = go (valid s) refl e
     where
-      go : (a : Bool) → valid s ≡ a → (a && mayLoad (phaseOf (s .phase))) ≡ false
-          → cond a (firstNo (check 1 (mayLoad (phaseOf (s .phase))) ∷ checks)) 1 ≡ 1
-      go true v f = firstNo-no 1 (mayLoad (phaseOf (s .phase))) checks f
+      go : (a : Bool) → valid s ≡ a → (a && mayLoad (phaseOf (s .head .phase))) ≡ false
+          → cond a (firstNo (check 1 (mayLoad (phaseOf (s .head .phase))) ∷ checks)) 1 ≡ 1
+      go true v f = firstNo-no 1 (mayLoad (phaseOf (s .head .phase))) checks f
       go false v f = refl
 
-  pub load-1 : not b ≡ true → LoadDone s x (doingAnswer (NotDone 1)) s (x .nodeTable) (x .stateTable)
-  unfolding doingAnswer refusal written
+  pub load-1 : not b ≡ true → LoadDone s x (callAnswer (NotDone 1)) s (x .nodeTable) (x .stateTable)
+  unfolding callAnswer refusal written
   load-1 f =
       let n : refusalOn s (load x) ≡ 1 = no-number (sym may ∙ not-true b f) in
       record {
-        call = unless-done s (load x) h (mayLoad (phaseOf (s .phase))) checks refl (sym may ∙ not-true b f);
+        call = unless-done s (load x) h (mayLoad (phaseOf (s .head .phase))) checks refl (sym may ∙ not-true b f);
         links-written = rw n;
         states-written = rw n;
       }
 
   module _ (now : not b ≡ false) where
-    passes : (valid s && mayLoad (phaseOf (s .phase))) ≡ true
+    passes : (valid s && mayLoad (phaseOf (s .head .phase))) ≡ true
     passes = sym may ∙ not-false b now
 
     v : valid s ≡ true
-    v = and-left (valid s) (mayLoad (phaseOf (s .phase))) passes
+    v = and-left (valid s) (mayLoad (phaseOf (s .head .phase))) passes
 
-    on : refusal (stage (phaseOf (s .phase)) (sizesOf s)) (load x) ≡ firstNo checks
+    on : refusal (stage (phaseOf (s .head .phase)) (sizesOf s)) (load x) ≡ firstNo checks
     unfolding refusal
-    on = firstNo-yes 1 (mayLoad (phaseOf (s .phase))) checks (and-right (valid s) (mayLoad (phaseOf (s .phase))) passes)
+    on = firstNo-yes 1 (mayLoad (phaseOf (s .head .phase))) checks (and-right (valid s) (mayLoad (phaseOf (s .head .phase))) passes)
 
     number : refusalOn s (load x) ≡ firstNo checks
     unfolding refusalOn recordOf
@@ -103,13 +104,13 @@ module _ (s : Session) (h : Shaped s) (x : Inputs) (b : Bool) (may : b ≡ (vali
             }
 
         pub load-built : (t : Session) → t ≡ sessionOf (loadedFrom (x .plan) (x .rules))
-            → LoadDone s x (doingAnswer Made) t nums′ bytes′
-        unfolding doingAnswer proceeds
+            → LoadDone s x (callAnswer Accepted) t nums′ bytes′
+        unfolding callAnswer proceeds
         load-built t f =
             done calls.Answer.accepted t (proceeds-done s (load x) h v (on ∙ none-fails) calls.Answer.accepted t refl f)
 
-      pub load-refused : (k : ℕ) → a ≡ Refused k → LoadDone s x (doingAnswer (NotDone k)) s nums′ bytes′
-      unfolding doingAnswer toldBuild
+      pub load-refused : (k : ℕ) → a ≡ Refused k → LoadDone s x (callAnswer (NotDone k)) s nums′ bytes′
+      unfolding callAnswer toldBuild
       load-refused k e = go (firstNo checks) refl (D .told)
         where
           go : (n : ℕ) → firstNo checks ≡ n → a ≡ toldBuild n → LoadDone s x (calls.Answer.refused k) s nums′ bytes′

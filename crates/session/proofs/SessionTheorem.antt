@@ -14,14 +14,14 @@ use Rattle.model.proofs.Refinement.{refines}
 use Rattle.model.proofs.LayersHold.{layers}
 use Rattle.reference.proofs.QuestionTheorem.{QuestionsAnswered, question-answered, questions-of}
 use Rattle.session.specs.Records.{freshSession}
-use Rattle.session.specs.CallSteps.{Step}
-use Rattle.session.proofs.Refine.{Seen, fresh-seen, step-refines}
+use Rattle.session.specs.CallsByValue.{CallByValue}
+use Rattle.session.proofs.Refine.{Seen, fresh-seen, by-value-refines}
 
-pub session-history : (cs : List Call) (xs : List Answer) → History Step freshSession cs xs → History Does freshRecord cs xs
-session-history cs xs h = refines Step Does Seen step-refines freshSession freshRecord cs xs fresh-seen h
+pub session-history : (cs : List Call) (xs : List Answer) → History CallByValue freshSession cs xs → History Does freshRecord cs xs
+session-history cs xs h = refines CallByValue Does Seen by-value-refines freshSession freshRecord cs xs fresh-seen h
 
-pub session-demand-3 : Demand3 freshSession Step
-session-demand-3 = demand-3-of Step Does Seen step-refines freshSession freshRecord fresh-seen (demand-3 layers)
+pub session-demand-3 : Demand3 freshSession CallByValue
+session-demand-3 = demand-3-of CallByValue Does Seen by-value-refines freshSession freshRecord fresh-seen (demand-3 layers)
 
-pub session-questions : QuestionsAnswered freshSession Step
-session-questions = questions-of Step Does Seen step-refines freshSession freshRecord fresh-seen (question-answered layers)
+pub session-questions : QuestionsAnswered freshSession CallByValue
+session-questions = questions-of CallByValue Does Seen by-value-refines freshSession freshRecord fresh-seen (question-answered layers)

@@ -1,5 +1,6 @@
 pub mod Records
+pub mod Answers
 pub mod Promises
-pub mod Tests
+pub mod Shapes
 pub mod Steps
-pub mod CallSteps
+pub mod CallsByValue

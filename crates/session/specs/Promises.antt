@@ -1,7 +1,5 @@
 -- What the five calls promise, on every record and whatever the inputs.
 --
--- doingAnswer, startingAnswer, advancingAnswer, readingAnswer == document 01's answer (crate model, Calls) of each case of a call's enum:
---   its number and values
 -- answerOn s c, recordOn s c, refusalOn s c == the answer of call c on struct s, the struct after it, and its refusal's number, 18 apart.
 --   A struct that breaks the layout's conditions gets 1; on any other the answer and the whole record are those of `act` (crate model, Model)
 -- CallDone, LoadDone == the promises
@@ -14,37 +12,12 @@ use mathlib.Core.List.{List}
 use Rattle.formats.specs.Built.{builtLinks, builtStates}
 use Rattle.tables.specs.Answers.{written}
 use Rattle.formats.specs.Inputs.{Inputs}
-use Rattle.model.specs.Calls.{Call, load, Answer, refused, accepted, parts, more, finished, readAnswer}
+use Rattle.model.specs.Calls.{Call, load, Answer, refused}
 use Rattle.model.specs.Refusals.{refusal}
 use Rattle.model.specs.Model.{stageOf, act}
 use Rattle.model.specs.LeftOpen.{LeftOpen}
 use Rattle.session.specs.declared.state.Session.{Session}
-use Rattle.session.specs.declared.answers.Doing.{Doing}
-use Rattle.session.specs.declared.answers.Doing.the-variants.{Done as Made, Refused as NotDone}
-use Rattle.session.specs.declared.answers.Starting.{Starting}
-use Rattle.session.specs.declared.answers.Starting.the-variants.{Parts, Refused as NotStarted}
-use Rattle.session.specs.declared.answers.Advancing.{Advancing}
-use Rattle.session.specs.declared.answers.Advancing.the-variants.{More, Finished, Refused as NotAdvanced}
-use Rattle.session.specs.declared.answers.Reading.{Reading}
-use Rattle.session.specs.declared.answers.Reading.the-variants.{Told, Refused as NotRead}
 use Rattle.session.specs.Records.{recordOf, sessionOf, valid}
-
-unfoldable pub doingAnswer : Doing → Answer
-doingAnswer Made = accepted
-doingAnswer (NotDone n) = refused n
-
-unfoldable pub startingAnswer : Starting → Answer
-startingAnswer (Parts p) = parts p
-startingAnswer (NotStarted n) = refused n
-
-unfoldable pub advancingAnswer : Advancing → Answer
-advancingAnswer More = more
-advancingAnswer Finished = finished
-advancingAnswer (NotAdvanced n) = refused n
-
-unfoldable pub readingAnswer : Reading → Answer
-readingAnswer (Told q y p l) = readAnswer q y p l
-readingAnswer (NotRead n) = refused n
 
 -- the answer and the record of a call on a struct
 unfoldable pub answerOn : Session → Call → Answer

@@ -1,8 +1,9 @@
 // Advance: checks 1 and 17, then one part; 18 where it has none.
+use crate::answers::AdvanceAnswer;
+use crate::answers::AdvanceStep;
 use crate::answers::Advanced;
-use crate::answers::Advancing;
-use crate::answers::Step;
-use crate::may::is_running;
+use crate::may::allowed;
+use crate::may::may_advance;
 use crate::state::Head;
 use crate::state::Phase;
 use crate::state::Session;
@@ -11,18 +12,17 @@ use formats::rules::inner_count;
 use questions::part::part;
 use tables::answers::Climbed;
 ghost use mathlib.Core.Path.{_≡_};
-ghost use mathlib.Core.Bool.{true, cond};
-ghost use Prim.Native.Nat.{_<_};
-ghost use lib.ListN.{length, take, set};
-ghost use Rattle.tables.specs.Climbs.{toldReached};
+ghost use lib.ListN.{take};
 ghost use Rattle.questions.specs.PartTold.{partGiven};
+ghost use Rattle.tables.specs.Climbs.{toldReached};
 ghost use Rattle.model.specs.Calls as calls;
-ghost use Rattle.session.specs.Promises.{CallDone, advancingAnswer};
+ghost use Rattle.session.specs.Answers.{advanceAnswer};
+ghost use Rattle.session.specs.Promises.{CallDone};
 ghost use Rattle.session.specs.Records.{whole};
-ghost use Rattle.session.specs.Tests.{Shaped};
+ghost use Rattle.session.specs.Shapes.{Shaped};
 ghost use Rattle.formats.specs.Inputs.{inputsOf};
 ghost use Rattle.session.specs.Steps.{NextArgs, StepArgs, MarkArgs, HandleArgs, markedIn, steppedHead, stepBy};
-ghost use Rattle.session.specs.Steps.{refusedStep, stepOn, StepFound};
+ghost use Rattle.session.specs.Steps.{refusedStep, StepFound};
 
 // The part that comes next: with the record's lists, without the zeros behind them.
 fn next_part<'a>(
@@ -38,7 +38,7 @@ fn next_part<'a>(
 ) -> Climbed
     requires { ⌜ NextArgs (whole h (now nodes) (now labels) (now roots) (now states)) ⌝ }
     ensures { λ r. ⌜
-        r ≡ toldReached (partGiven (h .n) (h .s) (h .k) (now (plan .entry)) (now (rules .entry)) (now (nums .entry))
+        r ≡ toldReached (partGiven (h .sizes .n) (h .sizes .s) (h .sizes .k) (now (plan .entry)) (now (rules .entry)) (now (nums .entry))
         (now (bytes .entry)) (take (h .parts) (now (roots .entry))) (take (h .handled) (now (states .entry)))
         (take (h .m) (now (nodes .entry))) (take (h .m) (now (labels .entry)))) ⌝ }
 {
@@ -46,9 +46,9 @@ fn next_part<'a>(
     let done = h.handled as usize;
     let m = h.m as usize;
     part(
-        h.n as usize,
-        h.s as usize,
-        h.k as usize,
+        h.sizes.n as usize,
+        h.sizes.s as usize,
+        h.sizes.k as usize,
         plan,
         rules,
         nums,
@@ -73,12 +73,11 @@ fn stepped(h: Head, phase: Phase, links: u32, yes: bool) -> Head
     requires { ⌜ StepArgs h links ⌝ }
     ensures { λ r. ⌜ r ≡ steppedHead h phase links yes ⌝ }
 {
+    let sizes = h.sizes;
     Head {
         phase,
         yes,
-        n: h.n,
-        s: h.s,
-        k: h.k,
+        sizes,
         m: h.m,
         parts: h.parts,
         handled: h.handled + 1,
@@ -87,38 +86,38 @@ fn stepped(h: Head, phase: Phase, links: u32, yes: bool) -> Head
 }
 
 // One more part, of state q: more, or finished at the last part, with its yes or no by the rules lent now.
-fn handled(h: Head, rules: &[u8], q: u8, links: u32) -> Step
+fn handled(h: Head, rules: &[u8], q: u8, links: u32) -> AdvanceStep
     requires { ⌜ HandleArgs h (now rules) q links ⌝ }
     ensures { λ r. ⌜ r ≡ stepBy h (now (rules .entry)) q links ⌝ }
 {
     if h.handled + 1 == h.parts {
-        let yes = is_marked(rules, h.s as usize, h.k as usize, q as usize);
+        let yes = is_marked(rules, h.sizes.s as usize, h.sizes.k as usize, q as usize);
         let head = stepped(h, Phase::Answered, links, yes);
-        return Step {
-            told: Advancing::Finished,
+        return AdvanceStep {
+            answer: AdvanceAnswer::Finished,
             head,
-            made: true,
+            stored: true,
             state: q,
         };
     }
     let head = stepped(h, Phase::Running, links, false);
-    Step {
-        told: Advancing::More,
+    AdvanceStep {
+        answer: AdvanceAnswer::More,
         head,
-        made: true,
+        stored: true,
         state: q,
     }
 }
 
 // A refusal: nothing is altered.
-fn refused_step(h: Head, number: u8) -> Step
+fn refused_step(h: Head, number: u8) -> AdvanceStep
     ensures { λ r. ⌜ r ≡ refusedStep h number ⌝ }
 {
-    let told = Advancing::Refused(number);
-    Step {
-        told,
+    let answer = AdvanceAnswer::Refused(number);
+    AdvanceStep {
+        answer,
         head: h,
-        made: false,
+        stored: false,
         state: 0,
     }
 }
@@ -134,18 +133,20 @@ fn next_step<'a>(
     labels: &'a [u8],
     roots: &'a [u16],
     states: &'a [u8],
-) -> Step
+) -> AdvanceStep
     requires { ⌜ Shaped (whole h (now nodes) (now labels) (now roots) (now states)) ⌝ }
     ensures { λ r. ⌜
         StepFound (whole h (now (nodes .entry)) (now (labels .entry)) (now (roots .entry)) (now (states .entry)))
         (calls.advance (inputsOf (now (plan .entry)) (now (rules .entry)) (now (nums .entry)) (now (bytes .entry)))) r ⌝ }
 {
-    if !is_running(h, nodes, labels, roots, states) {
+    let phase = h.phase;
+    let may = may_advance(phase);
+    if !allowed(may, h, nodes, labels, roots, states) {
         return refused_step(h, 1);
     }
-    let n = h.n as usize;
-    let s = h.s as usize;
-    let k = h.k as usize;
+    let n = h.sizes.n as usize;
+    let s = h.sizes.s as usize;
+    let k = h.sizes.k as usize;
     if !rule_buffers_fit(n, s, k, plan.len(), rules.len(), nums.len(), bytes.len()) {
         return refused_step(h, 17);
     }
@@ -159,56 +160,15 @@ fn next_step<'a>(
     }
 }
 
-// A state is stored where one is found.
-fn put_state(made: bool, states: &mut [u8], at: usize, q: u8)
-    requires { ⌜ (made ≡ true → at < length (now states)) ⌝ }
-    ensures { λ _. ⌜ now (states .exit) ≡ cond made (set (now (states .entry)) at q) (now (states .entry)) ⌝ }
-{
-    if made {
-        states[at] = q;
-    }
-}
-
-// The record after a step. It is made at one place, so that it is copied once.
-fn applied(s: Session, step: Step) -> Advanced
-    requires { ⌜ (step .made ≡ true → s .handled < 254) ⌝ }
-    ensures { λ r. ⌜ r ≡ stepOn s step ⌝ }
-{
-    let nodes = s.nodes;
-    let labels = s.labels;
-    let roots = s.roots;
-    let mut states = s.states;
-    put_state(step.made, &mut states, s.handled as usize, step.state);
-    let told = step.told;
-    let head = step.head;
-    let phase = head.phase;
-    let rec = Session {
-        phase,
-        yes: head.yes,
-        n: head.n,
-        s: head.s,
-        k: head.k,
-        m: head.m,
-        parts: head.parts,
-        handled: head.handled,
-        links: head.links,
-        nodes,
-        labels,
-        roots,
-        states,
-    };
-    Advanced { told, rec }
-}
-
 impl Session {
-    // Handles the next part.
+    // Handles the next part. The record is made at one place, so that it is copied once.
     pub fn advance(self, plan: &[u8], rules: &[u8], nums: &[u16], bytes: &[u8]) -> Advanced
         ensures { λ r. ⌜
             CallDone self
             (calls.advance (inputsOf (now (plan .entry)) (now (rules .entry)) (now (nums .entry)) (now (bytes .entry))))
-            (advancingAnswer (r .told)) (r .rec) ⌝ }
+            (advanceAnswer (r .answer)) (r .session) ⌝ }
     {
-        let h = self.head();
+        let h = self.head;
         let step = next_step(
             h,
             plan,
@@ -220,6 +180,23 @@ impl Session {
             &self.roots,
             &self.states,
         );
-        applied(self, step)
+        let nodes = self.nodes;
+        let labels = self.labels;
+        let roots = self.roots;
+        let mut states = self.states;
+        let at = h.handled as usize;
+        if step.stored {
+            states[at] = step.state;
+        }
+        let answer = step.answer;
+        let head = step.head;
+        let session = Session {
+            head,
+            nodes,
+            labels,
+            roots,
+            states,
+        };
+        Advanced { answer, session }
     }
 }

@@ -39,9 +39,11 @@ use Rattle.reference.proofs.QuestionTheorem.{question}
 use Rattle.reference.proofs.WrittenSound.{loaded, written-sound, written-fits, start-written}
 use Rattle.session.specs.declared.state.Session.{Session}
 use Rattle.session.specs.Records.{freshSession}
-use Rattle.session.specs.declared.answers.Doing.{Doing}
-use Rattle.session.specs.declared.answers.Doing.the-variants.{Done}
-use Rattle.session.specs.Promises.{LoadDone, doingAnswer, answerOn, recordOn, refusalOn}
+use Rattle.formats.specs.Inputs.{inputsOf}
+use Rattle.session.specs.declared.answers.CallAnswer.{CallAnswer}
+use Rattle.session.specs.declared.answers.CallAnswer.the-variants.{Accepted}
+use Rattle.session.specs.Answers.{callAnswer}
+use Rattle.session.specs.Promises.{LoadDone, answerOn, recordOn, refusalOn}
 use Rattle.session.proofs.Refine.{Seen, fresh-seen, call-refines}
 use Rattle.whatif.specs.Asked.{afterAdvance, finishedIn, mostParts, afterStart, askedOn}
 use Rattle.whatif.specs.Cleared.{answerBy, answerTo, Cleared}
@@ -236,12 +238,12 @@ fresh-refusal y e =
     rw (fresh-seen .passes)
     (ap (λ (r : Record). refusal (stageOf r) (load y)) (fresh-seen .holds) ∙ load-passed y e)
 
-fresh-cleared : (s : Session) (p r n b n′ b′ : List ℕ) (t : Doing) → t ≡ Done
-    → LoadDone freshSession (inputsOf p r n b) (doingAnswer t) s n′ b′ → Cleared s (inputsOf p r n′ b′)
-unfolding doingAnswer
+fresh-cleared : (s : Session) (p r n b n′ b′ : List ℕ) (t : CallAnswer) → t ≡ Accepted
+    → LoadDone freshSession (inputsOf p r n b) (callAnswer t) s n′ b′ → Cleared s (inputsOf p r n′ b′)
+unfolding callAnswer
 fresh-cleared s p r n b n′ b′ t e L =
     let y = inputsOf p r n b in
-    let a : answerOn freshSession (load y) ≡ accepted = sym (L .call .tells) ∙ ap doingAnswer e in
+    let a : answerOn freshSession (load y) ≡ accepted = sym (L .call .tells) ∙ ap callAnswer e in
     let z = fresh-refusal y a in
     record {
       lent = y;
@@ -253,7 +255,7 @@ fresh-cleared s p r n b n′ b′ t e L =
       stateTable = L .states-written ∙ ap (λ (k : ℕ). written k (builtStates p r) b) z;
     }
 
-pub load-cleared : (f s : Session) (p r n b n′ b′ : List ℕ) (t : Doing) → f ≡ freshSession → t ≡ Done
-    → LoadDone f (inputsOf p r n b) (doingAnswer t) s n′ b′ → Cleared s (inputsOf p r n′ b′)
+pub load-cleared : (f s : Session) (p r n b n′ b′ : List ℕ) (t : CallAnswer) → f ≡ freshSession → t ≡ Accepted
+    → LoadDone f (inputsOf p r n b) (callAnswer t) s n′ b′ → Cleared s (inputsOf p r n′ b′)
 load-cleared f s p r n b n′ b′ t d e L =
-    fresh-cleared s p r n b n′ b′ t e (subst (λ (g : Session). LoadDone g (inputsOf p r n b) (doingAnswer t) s n′ b′) d L)
+    fresh-cleared s p r n b n′ b′ t e (subst (λ (g : Session). LoadDone g (inputsOf p r n b) (callAnswer t) s n′ b′) d L)

@@ -26,7 +26,7 @@ use input::rules_space;
 use libc::STDIN_FILENO;
 use libc::STDOUT_FILENO;
 use line::put_refused;
-use session::answers::Doing;
+use session::answers::CallAnswer;
 use session::state::Session;
 ghost use Prim.Native.Nat.{_+_, _≤_};
 ghost use Rattle.formats.specs.Inputs.{inputsOf};
@@ -123,13 +123,13 @@ fn clear(plan: &[u8], rules: &[u8], stated: usize)
     let mut bytes = bytes_space();
     let fresh = Session::fresh();
     let done = fresh.load(plan, rules, &mut nums, &mut bytes);
-    let told = done.told;
-    match told {
-        Doing::Done => {
-            let loaded = done.rec;
+    let answer = done.answer;
+    match answer {
+        CallAnswer::Accepted => {
+            let loaded = done.session;
             put_questions(loaded, plan, rules, &nums, &bytes, stated);
         }
-        Doing::Refused(n) => {
+        CallAnswer::Refused(n) => {
             say_refused(n);
         }
     }

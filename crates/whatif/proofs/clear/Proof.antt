@@ -48,12 +48,12 @@ put-questions-requires c κs =
     let s = n .before .before .before in
     let a = s .args in (
       s .pre,
-      load-cleared (f .fresh .result) (d .load .result .rec) (a .plan .now) (a .rules .now) (n .nums-space .result)
-          (b .bytes-space .result) _ _ (d .load .result .told) (f .fresh .ensures) (m .enum-told .given .1) (d .load .ensures),
+      load-cleared (f .fresh .result) (d .load .result .session) (a .plan .now) (a .rules .now) (n .nums-space .result)
+          (b .bytes-space .result) _ _ (d .load .result .answer) (f .fresh .ensures .0) (m .enum-told .given .1) (d .load .ensures),
     )
 
-enum-known-told : tie.Need-enum-known-told
-enum-known-told c = search needs
+enum-known-answer : tie.Need-enum-known-answer
+enum-known-answer c = search needs
 
 say-refused-requires : tie.Need-say-refused-requires
 say-refused-requires c κs = search needs
@@ -78,7 +78,7 @@ clear-spec =
     slice-aggregate-put-questions
     slice-aggregate-put-questions-2
     put-questions-requires
-    enum-known-told
+    enum-known-answer
     say-refused-requires
     returns
     returns-2)

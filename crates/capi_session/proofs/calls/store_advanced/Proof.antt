@@ -33,14 +33,14 @@ returns-2 : tie.Need-returns-2
 returns-2 c = finished-stored _ _ _ _ (c .before .before .before .before .before .before .before .before .pre)
     (c .before .before .before .before .before .enum-told2 .given .1) (c .before .before .encode2 .ensures)
 
-enum-known-told : tie.Need-enum-known-told
-enum-known-told c = search needs
+enum-known-answer : tie.Need-enum-known-answer
+enum-known-answer c = search needs
 
 cast-result : tie.Need-cast-result
 cast-result c = search needs
 
 returns-3 : tie.Need-returns-3
-returns-3 c = advance-refused _ _ _ _ (c .before .told .given .1)
+returns-3 c = advance-refused _ _ _ _ (c .before .answer .given .1)
 
 pub store-advanced-spec : {M : Type 1} → statement M
 store-advanced-spec =
@@ -54,6 +54,6 @@ store-advanced-spec =
     encode-requires-2
     same-length-2
     returns-2
-    enum-known-told
+    enum-known-answer
     cast-result
     returns-3)

@@ -20,16 +20,16 @@ returns : tie.Need-returns
 returns c = done-stored _ _ _ (c .before .before .before .before .before .before .before .before .pre)
     (c .before .before .before .before .before .enum-told .given .1) (c .before .before .encode .ensures)
 
-enum-known-told : tie.Need-enum-known-told
-enum-known-told c = search needs
+enum-known-answer : tie.Need-enum-known-answer
+enum-known-answer c = search needs
 
 cast-result : tie.Need-cast-result
 cast-result c = search needs
 
 returns-2 : tie.Need-returns-2
-returns-2 c = done-refused _ _ _ (c .before .told .given .1)
+returns-2 c = done-refused _ _ _ (c .before .answer .given .1)
 
 pub store-done-spec : {M : Type 1} → statement M
 store-done-spec =
     tie.close
-    (tie.spec enum-told encode-requires same-length returns enum-known-told cast-result returns-2)
+    (tie.spec enum-told encode-requires same-length returns enum-known-answer cast-result returns-2)

@@ -7,8 +7,8 @@ use Rattle.capi_session.proofs.calls.tell_read.Reads as reads
 use Rattle.capi_session.proofs.calls.tell_read.Lts as lts
 use Rattle.capi_numbers.proofs.numbers.bit.Reads as bit-reads
 
-enum-known-told : tie.Need-enum-known-told
-enum-known-told c = search needs
+enum-known-answer : tie.Need-enum-known-answer
+enum-known-answer c = search needs
 
 cast-state : tie.Need-cast-state
 cast-state c = search needs
@@ -20,26 +20,28 @@ cast-parts : tie.Need-cast-parts
 cast-parts c = search needs
 
 returns : tie.Need-returns
-returns c = read-told _ _ _ _ _ _ _ (c .before .before .told .given .1) (c .bit .ensures)
+returns c =
+    let b = c .before in
+    read-told _ _ _ _ (b .before .before .before .answer .given .1) (b .bit .ensures)
 
-enum-known-told-2 : tie.Need-enum-known-told-2
-enum-known-told-2 c = search needs
+enum-known-answer-2 : tie.Need-enum-known-answer-2
+enum-known-answer-2 c = search needs
 
 cast-result : tie.Need-cast-result
 cast-result c = search needs
 
 returns-2 : tie.Need-returns-2
-returns-2 c = read-refused _ _ _ (c .before .told2 .given .1)
+returns-2 c = read-refused _ _ _ (c .before .answer2 .given .1)
 
 pub tell-read-spec : {M : Type 1} → statement M
 tell-read-spec =
     tie.close
     (tie.spec
-    enum-known-told
+    enum-known-answer
     cast-state
     bit-requires
     cast-parts
     returns
-    enum-known-told-2
+    enum-known-answer-2
     cast-result
     returns-2)

@@ -6,20 +6,20 @@ use Rattle.probes.proofs.whole.parts_told.Tie as tie
 use Rattle.probes.proofs.whole.parts_told.Reads as reads
 use Rattle.probes.proofs.whole.parts_told.Lts as lts
 
-enum-known-told : tie.Need-enum-known-told
-enum-known-told c = search needs
+enum-known-answer : tie.Need-enum-known-answer
+enum-known-answer c = search needs
 
 cast-result : tie.Need-cast-result
 cast-result c = search needs
 
 returns : tie.Need-returns
-returns c = parts-some _ _ (c .before .told .given .1)
+returns c = parts-some _ _ (c .before .answer .given .1)
 
-enum-known-told-2 : tie.Need-enum-known-told-2
-enum-known-told-2 c = search needs
+enum-known-answer-2 : tie.Need-enum-known-answer-2
+enum-known-answer-2 c = search needs
 
 returns-2 : tie.Need-returns-2
-returns-2 c = parts-none _ _ (c .before .told2 .given .1)
+returns-2 c = parts-none _ _ (c .before .answer2 .given .1)
 
 pub parts-told-spec : {M : Type 1} → statement M
-parts-told-spec = tie.close (tie.spec enum-known-told cast-result returns enum-known-told-2 returns-2)
+parts-told-spec = tie.close (tie.spec enum-known-answer cast-result returns enum-known-answer-2 returns-2)

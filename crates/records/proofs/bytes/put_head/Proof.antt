@@ -80,7 +80,7 @@ returns c =
     let y = c .before .before .before .before .before .before in
     let p = y .before in
     let s = p .before .before in
-    head-written (s .args .out .now) (s .args .rec) _ _ (s .pre) (p .phase-byte .ensures) (y .yes-byte .ensures)
+    head-written (s .args .out .now) (s .args .h) _ _ (s .pre) (p .phase-byte .ensures) (y .yes-byte .ensures)
 
 pub put-head-spec : {M : Type 1} → statement M
 put-head-spec =

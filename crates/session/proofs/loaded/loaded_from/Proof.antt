@@ -14,24 +14,24 @@ read32-requires-2 c κs = search needs
 read32-requires-3 : tie.Need-read32-requires-3
 read32-requires-3 c κs = search needs
 
-cast-loaded : tie.Need-cast-loaded
-cast-loaded c = search needs
+cast-t7 : tie.Need-cast-t7
+cast-t7 c = search needs
 
-cast-loaded-2 : tie.Need-cast-loaded-2
-cast-loaded-2 c = search needs
+cast-t8 : tie.Need-cast-t8
+cast-t8 c = search needs
 
-cast-loaded-3 : tie.Need-cast-loaded-3
-cast-loaded-3 c = search needs
+cast-t9 : tie.Need-cast-t9
+cast-t9 c = search needs
 
 loaded-requires : tie.Need-loaded-requires
 loaded-requires c κs = search needs
 
 returns : tie.Need-returns
 returns c =
-    let a = c .before in
-    loaded-same (a .before .before .before .before .before .args .plan .now)
-    (a .before .before .before .before .before .args .rules .now) _ _ _ _
-    (c .loaded .ensures) (a .before .before .read32 .ensures) (a .before .read322 .ensures) (a .read323 .ensures)
+    let k = c .before in
+    let a = k .before .before .before .before .before in
+    loaded-same (a .args .plan .now) (a .args .rules .now) _ _ _ _
+    (c .loaded .ensures) (k .before .before .read32 .ensures) (k .before .read322 .ensures) (k .read323 .ensures)
 
 pub loaded-from-spec : {M : Type 1} → statement M
 loaded-from-spec =
@@ -40,8 +40,8 @@ loaded-from-spec =
     read32-requires
     read32-requires-2
     read32-requires-3
-    cast-loaded
-    cast-loaded-2
-    cast-loaded-3
+    cast-t7
+    cast-t8
+    cast-t9
     loaded-requires
     returns)

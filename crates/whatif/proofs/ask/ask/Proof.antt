@@ -26,11 +26,11 @@ returns c =
     let x = inputsOf (a .plan .now) (a .rules .now) (a .nums .now) (a .bytes .now) in
     let o = d .start in
     c .finish .ensures
-    ∙ sym (started-on (a .loaded) (o .result .rec) x (a .nodes .now) (a .labels .now) (o .result .told) (o .ensures) _
+    ∙ sym (started-on (a .loaded) (o .result .session) x (a .nodes .now) (a .labels .now) (o .result .answer) (o .ensures) _
     (e .enum-told .given .1))
 
-enum-known-told : tie.Need-enum-known-told
-enum-known-told c = search needs
+enum-known-answer : tie.Need-enum-known-answer
+enum-known-answer c = search needs
 
 returns-2 : tie.Need-returns-2
 returns-2 c =
@@ -38,9 +38,9 @@ returns-2 c =
     let a = d .before .before .before .before .before .before .before .args in
     let x = inputsOf (a .plan .now) (a .rules .now) (a .nums .now) (a .bytes .now) in
     let o = d .start in
-    sym (start-refused (a .loaded) (o .result .rec) x (a .nodes .now) (a .labels .now) (o .result .told) (o .ensures) _
-    (c .before .told .given .1))
+    sym (start-refused (a .loaded) (o .result .session) x (a .nodes .now) (a .labels .now) (o .result .answer) (o .ensures) _
+    (c .before .answer .given .1))
 
 pub ask-spec : {M : Type 1} → statement M
 ask-spec =
-    tie.close (tie.spec start-requires enum-told finish-requires returns enum-known-told returns-2)
+    tie.close (tie.spec start-requires enum-told finish-requires returns enum-known-answer returns-2)

@@ -43,7 +43,7 @@ loop-again c =
     let e : suc (254 - (l .turns + 1)) ≡ 254 - l .turns = omega arith in
     let f = 254 - (l .turns + 1) in
     let i = ap (λ (n : ℕ). finishedIn n (l .rec) x) e ∙ l .inv .1 in
-    (omega arith, sym (more-turn f (l .rec) (d .result .rec) x (d .result .told) (d .ensures) (c .enum-told .given .1)) ∙ i)
+    (omega arith, sym (more-turn f (l .rec) (d .result .session) x (d .result .answer) (d .ensures) (c .enum-told .given .1)) ∙ i)
 
 enum-told-2 : tie.Need-enum-told-2 Inv-loop μ-loop
 enum-told-2 c = search needs
@@ -60,11 +60,11 @@ returns c =
     let e : suc (254 - (l .turns + 1)) ≡ 254 - l .turns = omega arith in
     let f = 254 - (l .turns + 1) in
     let i = ap (λ (n : ℕ). finishedIn n (l .rec) x) e ∙ l .inv .1 in
-    let t = finished-turn f (l .rec) (d .result .rec) x (d .result .told) (d .ensures) (c .before .enum-told2 .given .1) in
+    let t = finished-turn f (l .rec) (d .result .session) x (d .result .answer) (d .ensures) (c .before .enum-told2 .given .1) in
     c .read .ensures ∙ (sym t ∙ i)
 
-enum-known-told : tie.Need-enum-known-told Inv-loop μ-loop
-enum-known-told c = search needs
+enum-known-answer : tie.Need-enum-known-answer Inv-loop μ-loop
+enum-known-answer c = search needs
 
 returns-2 : tie.Need-returns-2 Inv-loop μ-loop
 returns-2 c =
@@ -75,7 +75,7 @@ returns-2 c =
     let e : suc (254 - (l .turns + 1)) ≡ 254 - l .turns = omega arith in
     let f = 254 - (l .turns + 1) in
     let i = ap (λ (n : ℕ). finishedIn n (l .rec) x) e ∙ l .inv .1 in
-    sym (refused-turn f (l .rec) (d .result .rec) x (d .result .told) (d .ensures) _ (c .before .told .given .1)) ∙ i
+    sym (refused-turn f (l .rec) (d .result .session) x (d .result .answer) (d .ensures) _ (c .before .answer .given .1)) ∙ i
 
 read-requires-2 : tie.Need-read-requires-2 Inv-loop μ-loop
 read-requires-2 c κs = search needs
@@ -104,7 +104,7 @@ finish-spec =
     enum-told-2
     read-requires
     returns
-    enum-known-told
+    enum-known-answer
     returns-2
     read-requires-2
     returns-3)

@@ -4,7 +4,7 @@ use Prim.Native.Nat.{ℕ}
 use mathlib.Core.Path.{sym, subst, _∙_}
 use lib.ListN.{take}
 use mathlib.Core.List.{List}
-use Rattle.session.specs.Promises.{readingAnswer}
+use Rattle.session.specs.Answers.{readAnswer}
 use Rattle.formats.specs.Inputs.{inputsOf}
 use Rattle.whatif.specs.Text.{Put}
 use Rattle.whatif.proofs.ClearedLaws.{cleared-answer}
@@ -96,7 +96,7 @@ returns c =
     let b = take (k .result) (l .result) in
     let e =
     kept-line (a .asked .now) (k .result) (s .pre .0) (k .ensures .0) (a .plan .now) (a .rules .now) (n .result) (l .result)
-    (readingAnswer (q .result)) (n .ensures .0) (l .ensures .0) (q .ensures ∙ cleared-answer (a .loaded) x v b (s .pre .1 .1)) in
+    (readAnswer (q .result)) (n .ensures .0) (l .ensures .0) (q .ensures ∙ cleared-answer (a .loaded) x v b (s .pre .1 .1)) in
     (subst (λ (t : List ℕ). Put (a .out .now) (a .end) t (p .last .0) (p .result)) e (p .ensures .0), p .ensures .1)
 
 pub put-answer-spec : {M : Type 1} → statement M

@@ -2,8 +2,8 @@ use borrow.Author.Needs.{needs}
 use Prim.Native.Nat.{ℕ}
 use mathlib.Core.Path.{subst, sym, ap}
 use mathlib.Core.List.{List}
-use Rattle.session.specs.declared.answers.Reading.{Reading}
-use Rattle.session.specs.Promises.{readingAnswer}
+use Rattle.session.specs.declared.answers.ReadAnswer.{ReadAnswer}
+use Rattle.session.specs.Answers.{readAnswer}
 use Rattle.whatif.specs.Text.{Put}
 use Rattle.whatif.specs.Line.{lineOf}
 use Rattle.whatif.proofs.line.put_line.Statement.{statement}
@@ -23,13 +23,13 @@ same-length : tie.Need-same-length
 same-length c = search needs
 
 returns : tie.Need-returns
-unfolding lineOf readingAnswer
+unfolding lineOf readAnswer
 returns c =
     let p = c .before .before in
     let m = p .before .before .before in
     let a = m .before .before .before .args in (
       subst (λ (t : List ℕ). Put (a .out .now) (a .at) t (p .put-told .last .0) (p .put-told .result))
-          (ap (λ (r : Reading). lineOf (readingAnswer r)) (sym (m .answer .given .1))) (p .put-told .ensures .0),
+          (ap (λ (r : ReadAnswer). lineOf (readAnswer r)) (sym (m .answer .given .1))) (p .put-told .ensures .0),
       p .put-told .ensures .1,
     )
 
@@ -43,13 +43,13 @@ same-length-2 : tie.Need-same-length-2
 same-length-2 c = search needs
 
 returns-2 : tie.Need-returns-2
-unfolding lineOf readingAnswer
+unfolding lineOf readAnswer
 returns-2 c =
     let p = c .before .before in
     let m = p .before .before .before in
     let a = m .before .before .before .args in (
       subst (λ (t : List ℕ). Put (a .out .now) (a .at) t (p .put-refused .last .0) (p .put-refused .result))
-          (ap (λ (r : Reading). lineOf (readingAnswer r)) (sym (m .answer2 .given .1))) (p .put-refused .ensures .0),
+          (ap (λ (r : ReadAnswer). lineOf (readAnswer r)) (sym (m .answer2 .given .1))) (p .put-refused .ensures .0),
       p .put-refused .ensures .1,
     )
 

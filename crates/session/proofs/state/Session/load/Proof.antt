@@ -5,9 +5,10 @@ use mathlib.Core.Path.{_≡_}
 use mathlib.Core.Bool.{_&&_}
 use Rattle.model.specs.Calls.{mayLoad}
 use Rattle.session.specs.Records.{phaseOf, valid}
-use Rattle.session.specs.Tests.{Shaped}
-use Rattle.session.proofs.Shapes.{shaped}
-use Rattle.session.proofs.CallLaws.{may-by}
+use Rattle.session.specs.Shapes.{Shaped}
+use Rattle.formats.specs.Inputs.{inputsOf}
+use Rattle.session.proofs.ShapeLaws.{shaped}
+use Rattle.session.proofs.CallLaws.{allowed-by}
 use Rattle.session.proofs.LoadLaws.{load-1, load-headers, load-built, load-refused}
 use borrow.Author.Needs.{needs}
 use Rattle.session.proofs.state.Session.load.Statement.{statement}
@@ -19,22 +20,22 @@ shape c = shaped (c .args .t1) (c .good .0)
 abbrev lent : tie.Start → Inputs
 lent c = inputsOf (c .args .plan .now) (c .args .rules .now) (c .args .nums .now) (c .args .bytes .now)
 
--- where the record's head was read, and the call's beginning
-abbrev headed : tie.After-may-load → tie.After-head
-headed m = m .before .before .before .before .before .before .before .before .before .before
+-- where the state was tested, and the call's beginning
+abbrev tested : tie.After-allowed → tie.After-may-load
+tested m = m .before .before .before .before .before .before .before .before .before .before
 
-abbrev of : tie.After-may-load → tie.Start
-of m = headed m .before .before .before .before .before
+abbrev of : tie.After-allowed → tie.Start
+of m = tested m .before .before .before .before .before .before
 
-may : (m : tie.After-may-load) → m .may-load .result
-    ≡ (valid (of m .args .t1) && mayLoad (phaseOf (of m .args .t1 .phase)))
-may m = may-by mayLoad (of m .args .t1) _ (headed m .head .ensures) _ (m .may-load .ensures)
-
-head-requires : tie.Need-head-requires
-head-requires c κs = search needs
+may : (m : tie.After-allowed) → m .allowed .result
+    ≡ (valid (of m .args .t1) && mayLoad (phaseOf (of m .args .t1 .head .phase)))
+may m = allowed-by mayLoad (of m .args .t1) _ _ (tested m .may-load .ensures) (m .allowed .ensures)
 
 may-load-requires : tie.Need-may-load-requires
 may-load-requires c κs = search needs
+
+allowed-requires : tie.Need-allowed-requires
+allowed-requires c κs = search needs
 
 returns : tie.Need-returns
 returns c =
@@ -92,8 +93,8 @@ pub load-spec : {M : Type 1} → statement M
 load-spec =
     tie.close
     (tie.spec
-    head-requires
     may-load-requires
+    allowed-requires
     returns
     build-tables-requires
     enum-told

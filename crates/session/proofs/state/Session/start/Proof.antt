@@ -7,11 +7,11 @@ use mathlib.Core.Path.{_≡_, sym}
 use mathlib.Core.Bool.{_&&_}
 use Rattle.model.specs.Calls.{mayStart}
 use Rattle.session.specs.Records.{phaseOf, valid}
-use Rattle.session.specs.Tests.{Shaped}
-use Rattle.session.proofs.Shapes.{shaped}
-use Rattle.session.proofs.CallLaws.{may-by}
-use Rattle.session.proofs.StartLaws.{start-1, start-limits, start-17, start-room, start-list, start-listed, start-18}
-use Rattle.session.proofs.StartLaws.{start-count, start-yes}
+use Rattle.session.specs.Shapes.{Shaped}
+use Rattle.formats.specs.Inputs.{inputsOf}
+use Rattle.session.proofs.ShapeLaws.{shaped}
+use Rattle.session.proofs.CallLaws.{allowed-by}
+use Rattle.session.proofs.StartLaws.{start-1, start-limits, start-17, start-room, start-list, start-listed, start-18, start-count, start-yes}
 use native.Mathlib.Omega.{arith}
 use borrow.Author.Needs.{needs}
 use Rattle.session.proofs.state.Session.start.Statement.{statement}
@@ -23,22 +23,22 @@ shape c = shaped (c .args .t1) (c .good .0)
 abbrev lent : tie.Start → Inputs
 lent c = inputsOf (c .args .plan .now) (c .args .rules .now) (c .args .nums .now) (c .args .bytes .now)
 
--- where the record's head was read, and the call's beginning
-abbrev headed : tie.After-may-start → tie.After-head
-headed m = m .before .before .before .before .before .before .before .before .before .before
+-- where the state was tested, and the call's beginning
+abbrev tested : tie.After-allowed → tie.After-may-start
+tested m = m .before .before .before .before .before .before .before .before .before .before
 
-abbrev of : tie.After-may-start → tie.Start
-of m = headed m .before .before .before .before .before .before .before
+abbrev of : tie.After-allowed → tie.Start
+of m = tested m .before .before .before .before .before .before .before .before
 
-may : (m : tie.After-may-start) → m .may-start .result
-    ≡ (valid (of m .args .t1) && mayStart (phaseOf (of m .args .t1 .phase)))
-may m = may-by mayStart (of m .args .t1) _ (headed m .head .ensures) _ (m .may-start .ensures)
-
-head-requires : tie.Need-head-requires
-head-requires c κs = search needs
+may : (m : tie.After-allowed) → m .allowed .result
+    ≡ (valid (of m .args .t1) && mayStart (phaseOf (of m .args .t1 .head .phase)))
+may m = allowed-by mayStart (of m .args .t1) _ _ (tested m .may-start .ensures) (m .allowed .ensures)
 
 may-start-requires : tie.Need-may-start-requires
 may-start-requires c κs = search needs
+
+allowed-requires : tie.Need-allowed-requires
+allowed-requires c κs = search needs
 
 returns : tie.Need-returns
 returns c =
@@ -57,14 +57,15 @@ cast-k c = search needs
 
 rule-buffers-fit-requires : tie.Need-rule-buffers-fit-requires
 rule-buffers-fit-requires c κs =
-    let m = c .before in
+    let e = c .before .before .before in
+    let m = e .before in
     start-limits (of m .args .t1) (shape (of m)) (lent (of m)) (of m .args .nodes .now) (of m .args .labels .now) _
-    (may m) (c .if1 .left)
+    (may m) (e .if1 .left)
 
 returns-2 : tie.Need-returns-2
 returns-2 c =
     let k = c .before in
-    let e = k .before in
+    let e = k .before .before .before .before in
     let m = e .before in
     start-17 (of m .args .t1) (shape (of m)) (lent (of m)) (of m .args .nodes .now) (of m .args .labels .now) _
     (may m)
@@ -78,7 +79,7 @@ returns-3 c =
     let l = c .before in
     let t = l .before in
     let k = t .before in
-    let e = k .before in
+    let e = k .before .before .before .before in
     let m = e .before in
     start-list (of m .args .t1) (shape (of m)) (lent (of m)) (of m .args .nodes .now) (of m .args .labels .now) _
     (may m)
@@ -86,7 +87,7 @@ returns-3 c =
 
 mul-roots : tie.Need-mul-roots
 mul-roots c =
-    let e = c .before .before .before .before in
+    let e = c .before .before .before .before .before .before .before in
     let m = e .before in
     omega (
       arith,
@@ -98,12 +99,12 @@ slice-aggregate-roots : tie.Need-slice-aggregate-roots
 slice-aggregate-roots c =
     let t = c .before .before .before in
     let k = t .before in
-    let e = k .before in
+    let e = k .before .before .before .before in
     let m = e .before in
     let h =
     start-room (of m .args .t1) (shape (of m)) (lent (of m)) (of m .args .nodes .now) (of m .args .labels .now) _
     (may m) (e .if1 .left) _ (k .rule-buffers-fit .ensures) (t .if2 .left) in
-    sym (length-take-le (of m .args .t1 .n * 4) (of m .args .nums .now) h)
+    sym (length-take-le (of m .args .t1 .head .sizes .n * 4) (of m .args .nums .now) h)
 
 roots-requires : tie.Need-roots-requires
 roots-requires c κs = search needs
@@ -115,22 +116,22 @@ returns-4 c =
     let l = u .before in
     let t = l .before in
     let k = t .before in
-    let e = k .before in
+    let e = k .before .before .before .before in
     let m = e .before in
     start-18 (of m .args .t1) (shape (of m)) (lent (of m)) (of m .args .nodes .now) (of m .args .labels .now) _
     (may m)
     (e .if1 .left) _ (k .rule-buffers-fit .ensures) (t .if2 .left) _ (l .check-list .ensures) (u .if3 .left) _ (r .roots .ensures .told)
     (c .if4 .taken)
 
-cast-count : tie.Need-cast-count
-cast-count c =
+cast-parts : tie.Need-cast-parts
+cast-parts c =
     let w = c .before in
     let r = w .before .before in
     let u = r .before .before in
     let l = u .before in
     let t = l .before in
     let k = t .before in
-    let e = k .before in
+    let e = k .before .before .before .before in
     let m = e .before in
     omega (
       arith,
@@ -148,7 +149,7 @@ started-requires c κs =
     let l = u .before in
     let t = l .before in
     let k = t .before in
-    let e = k .before in
+    let e = k .before .before .before .before in
     let m = e .before in
     start-listed (of m .args .t1) (shape (of m)) (lent (of m)) (of m .args .nodes .now) (of m .args .labels .now) _
     (may m)
@@ -162,7 +163,7 @@ returns-5 c =
     let l = u .before in
     let t = l .before in
     let k = t .before in
-    let e = k .before in
+    let e = k .before .before .before .before in
     let m = e .before in
     start-yes (of m .args .t1) (shape (of m)) (lent (of m)) (of m .args .nodes .now) (of m .args .labels .now) _
     (may m)
@@ -174,12 +175,12 @@ pub start-spec : {M : Type 1} → statement M
 start-spec =
     tie.close
     (tie.spec
+    may-start-requires
+    allowed-requires
+    returns
     cast-n
     cast-s
     cast-k
-    head-requires
-    may-start-requires
-    returns
     rule-buffers-fit-requires
     returns-2
     check-list-requires
@@ -188,6 +189,6 @@ start-spec =
     slice-aggregate-roots
     roots-requires
     returns-4
-    cast-count
+    cast-parts
     started-requires
     returns-5)

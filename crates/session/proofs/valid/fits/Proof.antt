@@ -1,0 +1,82 @@
+-- `session::valid::fits` meets its contract. Each state has its arm.
+-- Assumes nothing.
+use Rattle.session.specs.declared.state.Session.{Session}
+use Rattle.session.specs.Records.{whole}
+use Rattle.session.proofs.ValidLaws.{empty-test, loaded-test, running-test, answered-test, phase-test}
+use borrow.Author.Needs.{needs}
+use Rattle.session.proofs.valid.fits.Statement.{statement}
+use Rattle.session.proofs.valid.fits.Tie as tie
+
+abbrev of : tie.Start → Session
+of a = whole (a .args .h) (a .args .nodes .now) (a .args .labels .now) (a .args .roots .now) (a .args .states .now)
+
+enum-told : tie.Need-enum-told
+enum-told c = search needs
+
+no-question-requires : tie.Need-no-question-requires
+no-question-requires c κs = search needs
+
+enum-told-2 : tie.Need-enum-told-2
+enum-told-2 c = search needs
+
+sizes-fit-requires : tie.Need-sizes-fit-requires
+sizes-fit-requires c κs = search needs
+
+no-question-requires-2 : tie.Need-no-question-requires-2
+no-question-requires-2 c κs = search needs
+
+enum-told-3 : tie.Need-enum-told-3
+enum-told-3 c = search needs
+
+question-fits-requires : tie.Need-question-fits-requires
+question-fits-requires c κs = search needs
+
+enum-told-4 : tie.Need-enum-told-4
+enum-told-4 c = search needs
+
+question-fits-requires-2 : tie.Need-question-fits-requires-2
+question-fits-requires-2 c κs = search needs
+
+returns : tie.Need-returns
+returns c =
+    let e = c .before .before .before .before in
+    let s = of (e .before .before .before .before .before .before) in
+    phase-test s _ _ (empty-test s _ (c .no-question .ensures)) (e .enum-told .given .1)
+
+returns-2 : tie.Need-returns-2
+returns-2 c =
+    let e = c .before .before in
+    let s = of (e .before .before .before .before .before .before) in
+    phase-test s _ _ (loaded-test s _ _ (c .before .sizes-fit .ensures) (c .no-question2 .ensures)) (e .enum-told2 .given .1)
+
+returns-3 : tie.Need-returns-3
+returns-3 c =
+    let q = c .before .before in
+    let e = q .before in
+    let s = of (e .before .before .before .before .before .before) in
+    phase-test s _ _ (running-test s _ (q .question-fits .ensures)) (e .enum-told3 .given .1)
+
+returns-4 : tie.Need-returns-4
+returns-4 c =
+    let q = c .before in
+    let e = q .before in
+    let s = of (e .before .before .before .before .before .before) in
+    phase-test s _ _ (answered-test s _ (q .question-fits2 .ensures)) (e .enum-told4 .given .1)
+
+pub fits-spec : {M : Type 1} → statement M
+fits-spec =
+    tie.close
+    (tie.spec
+    enum-told
+    no-question-requires
+    enum-told-2
+    sizes-fit-requires
+    no-question-requires-2
+    enum-told-3
+    question-fits-requires
+    enum-told-4
+    question-fits-requires-2
+    returns
+    returns-2
+    returns-3
+    returns-4)
