@@ -220,7 +220,7 @@ same-lent p p′ r r′ n n′ b b′ e f g h = rw (e, f, g, h) refl
 
 lent-is : (s : Session) (x : Inputs) (C : Cleared s x) → loaded (C .lent) ≡ x
 unfolding loaded
-lent-is s x C = same-lent _ (x .plan) _ (x .rules) _ (x .nodeTable) _ (x .stateTable) (C .plan) (C .rules) (C .nums) (C .bytes)
+lent-is s x C = same-lent _ (x .plan) _ (x .rules) _ (x .nodeTable) _ (x .stateTable) (C .plan) (C .rules) (C .nodeTable) (C .stateTable)
 
 pub cleared-answer : (s : Session) (x : Inputs) (vs bs : List ℕ) → Cleared s x → askedOn s x vs bs ≡ answerTo (x .plan) (x .rules) vs bs
 unfolding loaded

@@ -47,5 +47,5 @@ pub record Cleared (s : Session) (x : Inputs) : Type 0 where
   pub session : s ≡ recordOn freshSession (load lent)
   pub plan : x .plan ≡ lent .plan
   pub rules : x .rules ≡ lent .rules
-  pub nums : x .nodeTable ≡ written 0 (builtLinks (lent .plan)) (lent .nodeTable)
-  pub bytes : x .stateTable ≡ written 0 (builtStates (lent .plan) (lent .rules)) (lent .stateTable)
+  pub nodeTable : x .nodeTable ≡ written 0 (builtLinks (lent .plan)) (lent .nodeTable)
+  pub stateTable : x .stateTable ≡ written 0 (builtStates (lent .plan) (lent .rules)) (lent .stateTable)
