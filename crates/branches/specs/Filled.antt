@@ -8,7 +8,7 @@
 -- PartArgs p r n s k l m == plan and branch table pass 2 to 11 for buffers of l numbers and m bytes; n, s and k are
 --   their N, S and
 --   K, with the lengths that follow, for the parts handed on
--- BranchWritten p r nums bytes nums′ bytes′ == both buffers begin with the tables built from p and r, and their
+-- BranchWritten p r nodeTable bytes nodeTable′ bytes′ == both buffers begin with the tables built from p and r, and their
 --   excess is as it was
 --
 -- Assumes nothing.
@@ -17,11 +17,11 @@ use mathlib.Core.Path.{_≡_}
 use mathlib.Core.List.{List, _++_}
 use lib.ListN.{length, getD, drop}
 use Rattle.trees.specs.Tree.{Tree, size, kindsOf, labelsOf}
-use Rattle.trees.specs.Tables.{linkTable, branchTable}
+use Rattle.trees.specs.Tables.{nodeTableOf, branchTableOf}
 use Rattle.formats.specs.Plan.{nodeCount, planLength}
 use Rattle.formats.specs.Rules.{wordAutomaton, stateCount, labelCount, branchLength}
-use Rattle.formats.specs.Checks.{firstNo, branchBuildChecks, linkLength, stateLength}
-use Rattle.formats.specs.Built.{builtLinks, builtSteps}
+use Rattle.formats.specs.Checks.{firstNo, branchBuildChecks, nodeTableLength, stateTableLength}
+use Rattle.formats.specs.Built.{builtNodeTable, builtBranchTable}
 
 pub record FillArgs (ls ks st : List ℕ) (s k n l m : ℕ) : Type 0 where
   pub tree : Tree
@@ -30,20 +30,20 @@ pub record FillArgs (ls ks st : List ℕ) (s k n l m : ℕ) : Type 0 where
   pub count : size tree ≡ n
   pub most : n ≤ 65535
   pub few : s ≤ 16
-  pub nums-room : linkLength n ≤ l
-  pub room : stateLength n s ≤ m
+  pub node-table-room : nodeTableLength n ≤ l
+  pub room : stateTableLength n s ≤ m
   pub steps-room : s * k ≤ length st
   pub steps-below : (j : ℕ) → getD st j 0 < s
   pub labels-below : (j : ℕ) → getD ls j 0 < k
 
 pub record TablesFilled (st : List ℕ) (s k : ℕ) (mk : List ℕ) (t : Tree)
-    (nums bytes nums′ bytes′ : List ℕ) : Type 0 where
-  pub links : nums′ ≡ linkTable t ++ drop (linkLength (size t)) nums
-  pub states : bytes′ ≡ branchTable (wordAutomaton s k st mk) t ++ drop (stateLength (size t) s) bytes
+    (nodeTable stateTable nodeTable′ stateTable′ : List ℕ) : Type 0 where
+  pub links : nodeTable′ ≡ nodeTableOf t ++ drop (nodeTableLength (size t)) nodeTable
+  pub states : stateTable′ ≡ branchTableOf (wordAutomaton s k st mk) t ++ drop (stateTableLength (size t) s) stateTable
 
 abbrev pub BranchFilled : List ℕ → List ℕ → List ℕ → ℕ → ℕ → List ℕ → List ℕ → List ℕ → List ℕ → Type 0
-BranchFilled ls ks st s k nums bytes nums′ bytes′ =
-    (mk : List ℕ) (t : Tree) → kindsOf t ≡ ks → labelsOf t ≡ ls → TablesFilled st s k mk t nums bytes nums′ bytes′
+BranchFilled ls ks st s k nodeTable stateTable nodeTable′ stateTable′ =
+    (mk : List ℕ) (t : Tree) → kindsOf t ≡ ks → labelsOf t ≡ ls → TablesFilled st s k mk t nodeTable stateTable nodeTable′ stateTable′
 
 pub record PartArgs (p r : List ℕ) (n s k l m : ℕ) : Type 0 where
   pub passed : firstNo (branchBuildChecks p r l m) ≡ 0
@@ -53,6 +53,6 @@ pub record PartArgs (p r : List ℕ) (n s k l m : ℕ) : Type 0 where
   pub plan-exact : length p ≡ planLength n
   pub branch-exact : length r ≡ branchLength s k
 
-pub record BranchWritten (p r nums bytes nums′ bytes′ : List ℕ) : Type 0 where
-  pub links : nums′ ≡ builtLinks p ++ drop (length (builtLinks p)) nums
-  pub states : bytes′ ≡ builtSteps p r ++ drop (length (builtSteps p r)) bytes
+pub record BranchWritten (p r nodeTable stateTable nodeTable′ stateTable′ : List ℕ) : Type 0 where
+  pub links : nodeTable′ ≡ builtNodeTable p ++ drop (length (builtNodeTable p)) nodeTable
+  pub states : stateTable′ ≡ builtBranchTable p r ++ drop (length (builtBranchTable p r)) stateTable

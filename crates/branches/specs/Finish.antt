@@ -3,7 +3,7 @@
 -- firstOf s k ls st u == firstState on runs: the state after the upper node's label
 -- finish s k ls st mk u x == the answer of a composition x
 -- FinishArgs .. == what the last function reads is inside its runs, the map of s states in maps from `at` on included
--- AnswerArgs p r nums bytes u l == what the lent headers and lengths say where 17 and 13 pass
+-- AnswerArgs p r nodeTable bytes u l == what the lent headers and lengths say where 17 and 13 pass
 --
 -- Assumes nothing.
 use Prim.Native.Nat.{ℕ, _+_, _*_, _≤_, _<_}
@@ -35,7 +35,7 @@ pub record FinishArgs (s k : ℕ) (ls st mk : List ℕ) (u : ℕ) (maps : List �
   pub maps-room : at + s ≤ length maps
   pub below : (q : ℕ) → q < s → getD maps (at + q) 0 < s
 
-pub record AnswerArgs (p r nums bytes : List ℕ) (u l : ℕ) : Type 0 where
-  pub fits : headedBuffersFit branchTables p r (length nums) (length bytes) ≡ true
+pub record AnswerArgs (p r nodeTable stateTable : List ℕ) (u l : ℕ) : Type 0 where
+  pub fits : headedBuffersFit branchTables p r (length nodeTable) (length stateTable) ≡ true
   pub upper : u < nodeCount p
   pub lower : l < nodeCount p

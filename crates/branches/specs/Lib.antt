@@ -1,8 +1,8 @@
 pub mod Question
 pub mod Promise
 pub mod Finish
-pub mod Lent
+pub mod BranchGiven
 pub mod Maps
 pub mod Filled
-pub mod Told
-pub mod Astray
+pub mod BranchTests
+pub mod OutOfRange

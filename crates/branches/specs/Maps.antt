@@ -17,20 +17,20 @@ use lib.ListN.{length, getD}
 use Rattle.trees.specs.Tree.{Tree}
 use Rattle.trees.specs.Automaton.{WordAutomaton}
 use Rattle.trees.specs.Tables.{branchMap}
-use Rattle.links.specs.Cells.{parentCell, jumpCell}
+use Rattle.node_tables.specs.Cells.{parentCell, jumpCell}
 use Rattle.tables.specs.StateCells.{mapCell}
 use Rattle.tables.specs.Rows.{RowIn}
 use Rattle.tables.specs.MapTable.{MapsWritten}
-use Rattle.branches.specs.Lent.{BranchLent}
+use Rattle.branches.specs.BranchGiven.{BranchGiven}
 
 abbrev pub stepCell : ℕ → List ℕ → ℕ → ℕ → List ℕ → ℕ → ℕ → ℕ → ℕ
 stepCell s b p j st k a q = getD st (mapCell s b p (mapCell s b j q) * k + a) 0
 
 unfoldable pub nodeMap : List ℕ → List ℕ → List ℕ → ℕ → ℕ → List ℕ → ℕ → ℕ → ℕ
-nodeMap ls nums st s k b v q =
-    cond (eqb (jumpCell nums v) (parentCell nums v))
+nodeMap ls nodeTable st s k b v q =
+    cond (eqb (jumpCell nodeTable v) (parentCell nodeTable v))
     (getD st (getD ls v 0 + q * k) 0)
-    (stepCell s b (parentCell nums v) (jumpCell nums (parentCell nums v)) st k (getD ls v 0) q)
+    (stepCell s b (parentCell nodeTable v) (jumpCell nodeTable (parentCell nodeTable v)) st k (getD ls v 0) q)
 
 pub record StepRowArgs (b : List ℕ) (s v p j l k a : ℕ) : Type 0 where
   pub room : RowIn (length b) s v
@@ -41,13 +41,13 @@ pub record StepRowArgs (b : List ℕ) (s v p j l k a : ℕ) : Type 0 where
   pub far-below : (q : ℕ) → q < s → mapCell s b j q < s
   pub inside : (q : ℕ) → q < s → mapCell s b p q * k + a < l
 
-pub record NodeArgs (ls nums st : List ℕ) (s k : ℕ) (b : List ℕ) (v : ℕ) : Type 0 where
+pub record NodeArgs (ls nodeTable st : List ℕ) (s k : ℕ) (b : List ℕ) (v : ℕ) : Type 0 where
   pub label : v < length ls
-  pub links : v * 4 + 4 ≤ length nums
-  pub parent-links : parentCell nums v * 4 + 4 ≤ length nums
+  pub links : v * 4 + 4 ≤ length nodeTable
+  pub parent-links : parentCell nodeTable v * 4 + 4 ≤ length nodeTable
   pub near : (q : ℕ) → q < s → getD ls v 0 + q * k < length st
-  pub far : StepRowArgs b s v (parentCell nums v) (jumpCell nums (parentCell nums v)) (length st) k (getD ls v 0)
+  pub far : StepRowArgs b s v (parentCell nodeTable v) (jumpCell nodeTable (parentCell nodeTable v)) (length st) k (getD ls v 0)
 
 abbrev pub Mapped : List ℕ → List ℕ → List ℕ → ℕ → ℕ → ℕ → ℕ → List ℕ → List ℕ → Type 0
-Mapped ls nums st s k n i before after =
-    (B : WordAutomaton) (t : Tree) → BranchLent B t ls nums st s k n → MapsWritten s n (branchMap B t) i before after
+Mapped ls nodeTable st s k n i before after =
+    (B : WordAutomaton) (t : Tree) → BranchGiven B t ls nodeTable st s k n → MapsWritten s n (branchMap B t) i before after

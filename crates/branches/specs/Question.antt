@@ -1,7 +1,7 @@
 -- The branch question, on whatever is lent.
 --
 -- check 17 goes by the headers: headedBuffersFit branchTables (crate formats, Buffers)
--- check 16 goes by the lent size of the upper node u: isInSubtreeOn nums u l (crate links, Cells)
+-- check 16 goes by the lent size of the upper node u: isInSubtreeOn nodeTable u l (crate links, Cells)
 -- moveMap .. == what one move of the climb makes of the map from the node reached so far down to the lower node
 -- firstState .. == the state after the upper node's label
 -- branchOn .. == the answer on these tables: none where a value read leads outside the plan, the states or the labels, or a climb
@@ -25,16 +25,16 @@ use Rattle.formats.specs.Plan.{nodeCount, labelsIn}
 use Rattle.formats.specs.Rules.{stateCount, labelCount, branchAutomaton}
 use Rattle.formats.specs.Checks.{Check, check, firstNo}
 use Rattle.formats.specs.Buffers.{headedBuffersFit, branchTables}
-use Rattle.links.specs.Cells.{depthCell, cellForest, isInSubtreeOn}
+use Rattle.node_tables.specs.Cells.{depthCell, cellForest, isInSubtreeOn}
 use Rattle.tables.specs.Compose.{follow}
 use Rattle.tables.specs.StateCells.{mapCell}
 use Rattle.branches.specs.declared.answers.Branching.{Branching}
-use Rattle.branches.specs.declared.answers.Branching.the-variants.{Told, Refused}
+use Rattle.branches.specs.declared.answers.Branching.the-variants.{Answered, Refused}
 
 -- a jump applies the node's map; a move to the parent applies the node's own label
 unfoldable pub moveMap : List ℕ → List ℕ → List ℕ → Move → List ℕ → Option (List ℕ)
-moveMap p r bytes (byJump v) m = follow (stateCount r) m (mapCell (stateCount r) bytes v)
-moveMap p r bytes (toParent v) m =
+moveMap p r stateTable (byJump v) m = follow (stateCount r) m (mapCell (stateCount r) stateTable v)
+moveMap p r stateTable (toParent v) m =
     cond (ltb (getD (labelsIn p) v 0) (labelCount r))
     (follow (stateCount r) m (λ q. branchAutomaton r .step q (getD (labelsIn p) v 0)))
     none
@@ -54,9 +54,9 @@ abbrev pub branched : WordAutomaton → ℕ → ℕ → Branched
 branched B q n = record { state = q; marked = B .accepting q; links = n }
 
 unfoldable pub branchOn : List ℕ → List ℕ → List ℕ → List ℕ → ℕ → ℕ → Option Branched
-branchOn p r nums bytes u l =
-    andThen (climb (cellForest (nodeCount p) nums) l (depthCell nums u)) (λ ms.
-    andThen (carry (moveMap p r bytes) ms (tabulate (stateCount r) (λ q. q))) (λ m.
+branchOn p r nodeTable stateTable u l =
+    andThen (climb (cellForest (nodeCount p) nodeTable) l (depthCell nodeTable u)) (λ ms.
+    andThen (carry (moveMap p r stateTable) ms (tabulate (stateCount r) (λ q. q))) (λ m.
     andThen (firstState p r u) (λ q. some (branched (branchAutomaton r) (getD m q 0) (length ms)))))
 
 abbrev pub isSome : {X : Type 0} → Option X → Bool
@@ -64,26 +64,26 @@ isSome none = false
 isSome (some x) = true
 
 unfoldable pub askChecks : List ℕ → List ℕ → List ℕ → List ℕ → ℕ → ℕ → List Check
-askChecks p r nums bytes u l =
-    check 17 (headedBuffersFit branchTables p r (length nums) (length bytes))
+askChecks p r nodeTable stateTable u l =
+    check 17 (headedBuffersFit branchTables p r (length nodeTable) (length stateTable))
     ∷ check 13 (ltb u (nodeCount p) && ltb l (nodeCount p))
     -- "lower node at or below upper? 16"
-    ∷ check 16 (isInSubtreeOn nums u l)
-    ∷ check 18 (isSome (branchOn p r nums bytes u l))
+    ∷ check 16 (isInSubtreeOn nodeTable u l)
+    ∷ check 18 (isSome (branchOn p r nodeTable stateTable u l))
     ∷ []
 
 unfoldable pub askNumber : List ℕ → List ℕ → List ℕ → List ℕ → ℕ → ℕ → ℕ
-askNumber p r nums bytes u l = firstNo (askChecks p r nums bytes u l)
+askNumber p r nodeTable stateTable u l = firstNo (askChecks p r nodeTable stateTable u l)
 
 -- document 01's number of an answer: 0 accepted, else the refusal's
 unfoldable pub branchNumber : Branching → ℕ
-branchNumber (Told q marked links) = 0
+branchNumber (Answered q marked links) = 0
 branchNumber (Refused n) = n
 
-unfoldable pub toldBranch : ℕ → Option Branched → Branching
-toldBranch zero none = Refused 18
-toldBranch zero (some b) = Told (b .state) (b .marked) (b .links)
-toldBranch (suc n) b = Refused (suc n)
+unfoldable pub branchAnswer : ℕ → Option Branched → Branching
+branchAnswer zero none = Refused 18
+branchAnswer zero (some b) = Answered (b .state) (b .marked) (b .links)
+branchAnswer (suc n) b = Refused (suc n)
 
 unfoldable pub askAnswer : List ℕ → List ℕ → List ℕ → List ℕ → ℕ → ℕ → Branching
-askAnswer p r nums bytes u l = toldBranch (askNumber p r nums bytes u l) (branchOn p r nums bytes u l)
+askAnswer p r nodeTable stateTable u l = branchAnswer (askNumber p r nodeTable stateTable u l) (branchOn p r nodeTable stateTable u l)

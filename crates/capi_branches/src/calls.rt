@@ -8,7 +8,7 @@ use capi_numbers::numbers::build_number;
 use capi_numbers::numbers::check_number;
 ghost use lib.ListN.{length};
 ghost use Rattle.formats.specs.Checks.{firstNo, branchBuildChecks};
-ghost use Rattle.formats.specs.Built.{builtLinks, builtSteps};
+ghost use Rattle.formats.specs.Built.{builtNodeTable, builtBranchTable};
 ghost use Rattle.capi_numbers.specs.Numbers.{BuildExported, CheckExported};
 ghost use Rattle.capi_branches.specs.BranchExported.{AskNumber, AskExported};
 
@@ -23,7 +23,7 @@ pub extern "C" fn whatif_branch_build(
     ensures { λ r. ⌜
         BuildExported
         (firstNo (branchBuildChecks (now (plan .entry)) (now (branch .entry)) (length (now («node_table» .entry))) (length (now («state_table» .entry)))))
-        (builtLinks (now (plan .entry))) (builtSteps (now (plan .entry)) (now (branch .entry)))
+        (builtNodeTable (now (plan .entry))) (builtBranchTable (now (plan .entry)) (now (branch .entry)))
         (now («node_table» .entry)) (now («state_table» .entry)) r (now («node_table» .exit)) (now («state_table» .exit)) ⌝ }
 {
     let answer = build_branch_tables(plan, branch, node_table, state_table);
@@ -42,7 +42,7 @@ pub extern "C" fn whatif_branch_check(
     ensures { λ r. ⌜
         CheckExported
         (firstNo (branchBuildChecks (now (plan .entry)) (now (branch .entry)) (length (now («node_table» .entry))) (length (now («state_table» .entry)))))
-        (builtLinks (now (plan .entry))) (builtSteps (now (plan .entry)) (now (branch .entry)))
+        (builtNodeTable (now (plan .entry))) (builtBranchTable (now (plan .entry)) (now (branch .entry)))
         (now («node_table» .entry)) (now («state_table» .entry)) r (now (yes .entry)) (now (yes .exit)) ⌝ }
 {
     let answer = check_branch_tables(plan, branch, node_table, state_table);
@@ -56,7 +56,7 @@ fn ask_number(answer: Branching, state: &mut u32, yes: &mut u32, links: &mut u32
         r (now (state .exit)) (now (yes .exit)) (now (links .exit)) ⌝ }
 {
     match answer {
-        Branching::Told(q, marked, moves) => {
+        Branching::Answered(q, marked, moves) => {
             *state = q as u32;
             *yes = bit(marked);
             *links = moves;

@@ -19,12 +19,12 @@ not-built a n e = sym (ap buildingNumber e)
 
 pub checked-yes : (a : Checking) (old : ℕ) → a ≡ Yes → CheckNumber a old 0 1
 unfolding checkNumber
-checked-yes a old e = record { told = sym (ap checkNumber e); yes-told = sym (ap (λ (x : Checking). yesOf x old) e) }
+checked-yes a old e = record { result = sym (ap checkNumber e); yes-answer = sym (ap (λ (x : Checking). yesOf x old) e) }
 
 pub checked-no : (a : Checking) (old : ℕ) → a ≡ No → CheckNumber a old 0 0
 unfolding checkNumber
-checked-no a old e = record { told = sym (ap checkNumber e); yes-told = sym (ap (λ (x : Checking). yesOf x old) e) }
+checked-no a old e = record { result = sym (ap checkNumber e); yes-answer = sym (ap (λ (x : Checking). yesOf x old) e) }
 
 pub not-checked : (a : Checking) (old n : ℕ) → a ≡ NotChecked n → CheckNumber a old n old
 unfolding checkNumber
-not-checked a old n e = record { told = sym (ap checkNumber e); yes-told = sym (ap (λ (x : Checking). yesOf x old) e) }
+not-checked a old n e = record { result = sym (ap checkNumber e); yes-answer = sym (ap (λ (x : Checking). yesOf x old) e) }

@@ -23,10 +23,10 @@ bitOf false = 0
 abbrev pub BuildNumber : Building → ℕ → Type 0
 BuildNumber a r = r ≡ buildingNumber a
 
-pub record BuildExported (n : ℕ) (links states nums bytes : List ℕ) (r : ℕ) (nums′ bytes′ : List ℕ) : Type 0 where
+pub record BuildExported (n : ℕ) (links states nodeTable stateTable : List ℕ) (r : ℕ) (nodeTable′ stateTable′ : List ℕ) : Type 0 where
   pub answer : Building
-  pub done : BuildDone n links states nums bytes answer nums′ bytes′
-  pub told : r ≡ buildingNumber answer
+  pub done : BuildDone n links states nodeTable stateTable answer nodeTable′ stateTable′
+  pub result : r ≡ buildingNumber answer
 
 abbrev pub yesOf : Checking → ℕ → ℕ
 yesOf Yes old = 1
@@ -34,10 +34,10 @@ yesOf No old = 0
 yesOf (NotChecked n) old = old
 
 pub record CheckNumber (a : Checking) (yes₀ r yes₁ : ℕ) : Type 0 where
-  pub told : r ≡ checkNumber a
-  pub yes-told : yes₁ ≡ yesOf a yes₀
+  pub result : r ≡ checkNumber a
+  pub yes-answer : yes₁ ≡ yesOf a yes₀
 
-pub record CheckExported (n : ℕ) (links states nums bytes : List ℕ) (r yes₀ yes₁ : ℕ) : Type 0 where
+pub record CheckExported (n : ℕ) (links states nodeTable stateTable : List ℕ) (r yes₀ yes₁ : ℕ) : Type 0 where
   pub answer : Checking
-  pub done : CheckDone n links states nums bytes answer
+  pub done : CheckDone n links states nodeTable stateTable answer
   pub number : CheckNumber answer yes₀ r yes₁

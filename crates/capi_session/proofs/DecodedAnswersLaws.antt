@@ -17,7 +17,7 @@ use Rattle.model.specs.Refusals.{refusal}
 use Rattle.model.specs.Model.{stageOf}
 use Rattle.model.specs.Model.{Record, Acted, acted, stepped, marksBy, lastOf, proceeds, unless, act}
 use Rattle.model.specs.Model.{startWith, advanceWith}
-use Rattle.capi_session.specs.SessionExported.{answerNumber, partsOf, finishedOf, Places, toldPlaces}
+use Rattle.capi_session.specs.SessionExported.{answerNumber, partsOf, finishedOf, Places, answeredPlaces}
 use Rattle.capi_session.specs.DecodedAnswers.{decodedDone, decodedStart, decodedAdvance, decodedRead}
 
 abbrev DoneDecoded : Answer → Type 0
@@ -30,7 +30,7 @@ abbrev AdvanceDecoded : ℕ → Answer → Type 0
 AdvanceDecoded f a = decodedAdvance (answerNumber a) (finishedOf a f) ≡ a
 
 abbrev ReadDecoded : Places → Answer → Type 0
-ReadDecoded q a = decodedRead (answerNumber a) (toldPlaces a q) ≡ a
+ReadDecoded q a = decodedRead (answerNumber a) (answeredPlaces a q) ≡ a
 
 module _ (r : Record) where
   pub decoded-load : (x : Inputs) → DoneDecoded (act r (load x) .answer)
@@ -84,12 +84,12 @@ module _ (r : Record) where
       go (suc n) = refl
 
   reading : (q : Places) (s p l : ℕ) (y : Bool) → ReadDecoded q (readAnswer s y p l)
-  unfolding decodedRead answerNumber toldPlaces
+  unfolding decodedRead answerNumber answeredPlaces
   reading q s p l true = refl
   reading q s p l false = refl
 
   pub decoded-read : (q : Places) → ReadDecoded q (act r read .answer)
-  unfolding act unless proceeds decodedRead answerNumber toldPlaces
+  unfolding act unless proceeds decodedRead answerNumber answeredPlaces
   decoded-read q = go (refusal (stageOf r) read)
     where
       go : (n : ℕ) → ReadDecoded q (unless n r read .answer)

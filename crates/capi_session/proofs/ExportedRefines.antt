@@ -29,9 +29,9 @@ use Rattle.session.specs.Shapes.{Shaped}
 use Rattle.session.proofs.Holds.{struct-is}
 use Rattle.session.proofs.Refine.{Seen, fresh-seen, read-keeps, call-refines}
 use Rattle.records.specs.Layout.{encoded, decoded, laidOut, validBytes, InTypes, Bytes}
-use Rattle.records.proofs.Theorems.{decode-encode, encode-decode, encoded-valid, decoded-valid, decoded-types, fresh-bytes}
+use Rattle.records.proofs.Theorems.{decode-encode, encode-decode, encoded-valid, decoded-valid, decoded-types, fresh-state-table}
 use Rattle.records.proofs.ValidTypes.{valid-types}
-use Rattle.capi_session.specs.SessionExported.{answerFor, answerNumber, unlessRefused, recordFor, partsOf, finishedOf, toldPlaces}
+use Rattle.capi_session.specs.SessionExported.{answerFor, answerNumber, unlessRefused, recordFor, partsOf, finishedOf, answeredPlaces}
 use Rattle.capi_session.specs.DecodedAnswers.{decodedDone, decodedStart, decodedAdvance, decodedRead, Exports, loads, starts, advances, cancels, reads}
 use Rattle.capi_session.proofs.SessionExportedLaws.{laid-length}
 use Rattle.capi_session.proofs.DecodedAnswersLaws.{decoded-load, decoded-start, decoded-advance, decoded-cancel, decoded-read}
@@ -44,7 +44,7 @@ record ByteStep (b : List ℕ) (c : Call) (a : Answer) (b′ : List ℕ) : Type 
 -- the bytes of a struct that holds record r
 pub record Held (b : List ℕ) (r : Record) : Type 0 where
   pub struct : Session
-  pub bytes : b ≡ encoded struct
+  pub stateTable : b ≡ encoded struct
   pub seen : Seen struct r
 
 -- ---- a refusal leaves the record, so its bytes
@@ -123,7 +123,7 @@ module _ (s : Session) (r : Record) (i : Seen s r) (c : Call) where
   step-is : (a : Answer) (b′ : List ℕ) → ByteStep (encoded s) c a b′ → (r′ : Record) × Does r c a r′ × Held b′ r′
   step-is a b′ e =
       let d = call-refines s r i c a (recordOn s c) (e .tells ∙ answer-is) refl in
-      (d .0, d .1, record { struct = recordOn s c; bytes = e .leaves ∙ record-is; seen = d .2 })
+      (d .0, d .1, record { struct = recordOn s c; stateTable = e .leaves ∙ record-is; seen = d .2 })
 
 -- ---- a call as its number and values are decoded
 
@@ -141,17 +141,17 @@ module _ (s : Session) (r : Record) (i : Seen s r) where
       ∙ sym (record-is s r i read)
 
   exports-is : (c : Call) (a : Answer) (b b′ : List ℕ) → b ≡ encoded s → Exports b c a b′ → ByteStep (encoded s) c a b′
-  exports-is c a b b′ q (loads {x} n nums bytes e) = record {
+  exports-is c a b b′ q (loads {x} n nodeTable stateTable e) = record {
     tells = rw (e .call .number, q) (decoded-answer (load x) (λ (y : Answer). decodedDone (answerNumber y)) (decoded-load (recordOf s) x));
     leaves = e .call .left ∙ ap (λ (t : List ℕ). recordFor t (load x)) q;
   }
   exports-is c a b b′ q (starts {x} {vs} {bs} n p₀ p₁ e) = record {
-    tells = rw (e .call .number, e .parts-told, q)
+    tells = rw (e .call .number, e .parts-in, q)
         (decoded-answer (start x vs bs) (λ (y : Answer). decodedStart (answerNumber y) (partsOf y p₀)) (decoded-start (recordOf s) p₀ x vs bs));
     leaves = e .call .left ∙ ap (λ (t : List ℕ). recordFor t (start x vs bs)) q;
   }
   exports-is c a b b′ q (advances {x} n f₀ f₁ e) = record {
-    tells = rw (e .call .number, e .finished-told, q)
+    tells = rw (e .call .number, e .finished-answer, q)
         (decoded-answer (advance x) (λ (y : Answer). decodedAdvance (answerNumber y) (finishedOf y f₀)) (decoded-advance (recordOf s) f₀ x));
     leaves = e .call .left ∙ ap (λ (t : List ℕ). recordFor t (advance x)) q;
   }
@@ -160,17 +160,17 @@ module _ (s : Session) (r : Record) (i : Seen s r) where
     leaves = e .left ∙ ap (λ (t : List ℕ). recordFor t cancel) q;
   }
   exports-is c a b b′ q (reads n before after e) = record {
-    tells = rw (e .number, e .told-to, q)
-        (decoded-answer read (λ (y : Answer). decodedRead (answerNumber y) (toldPlaces y before)) (decoded-read (recordOf s) before));
+    tells = rw (e .number, e .values-are, q)
+        (decoded-answer read (λ (y : Answer). decodedRead (answerNumber y) (answeredPlaces y before)) (decoded-read (recordOf s) before));
     leaves = q ∙ read-leaves;
   }
 
 pub exported-refines : Refines Exports Does Held
 exported-refines b b′ r c a h e =
-    step-is (h .struct) r (h .seen) c a b′ (exports-is (h .struct) r (h .seen) c a b b′ (h .bytes) e)
+    step-is (h .struct) r (h .seen) c a b′ (exports-is (h .struct) r (h .seen) c a b b′ (h .stateTable) e)
 
 pub fresh-held : Held (replicate 967 0) freshRecord
-fresh-held = record { struct = freshSession; bytes = sym fresh-bytes; seen = fresh-seen }
+fresh-held = record { struct = freshSession; stateTable = sym fresh-state-table; seen = fresh-seen }
 
 -- ---- every record that a call leaves is a record again
 

@@ -9,7 +9,7 @@ use mathlib.Core.List.{List}
 use lib.Dec.{eqb}
 use lib.ListN.{length}
 use borrow.Author.Tests.{eq-eqb, eqb-true, not-true, not-false}
-use Rattle.formats.specs.Built.{builtLinks, builtStates}
+use Rattle.formats.specs.Built.{builtNodeTable, builtStateTable}
 use Rattle.formats.proofs.CheckLaws.{true-false, and-left, and-right}
 use Rattle.tables.specs.Answers.{written}
 use Rattle.formats.specs.Inputs.{Inputs}
@@ -33,12 +33,12 @@ use Rattle.session.specs.Promises.{answerOn, recordOn, refusalOn, CallDone, Loa
 use Rattle.records.specs.Layout.{recordLength, encoded, decoded, laidOut, validBytes}
 use Rattle.capi_numbers.specs.Numbers.{bitOf}
 use Rattle.capi_session.specs.SessionExported.{answerFor, answerNumber, unlessRefused, recordFor, CallExported, loadNumber, LoadExported, partsOf}
-use Rattle.capi_session.specs.SessionExported.{StartExported, finishedOf, AdvanceExported, Places, toldPlaces, ReadExported}
+use Rattle.capi_session.specs.SessionExported.{StartExported, finishedOf, AdvanceExported, Places, answeredPlaces, ReadExported}
 use Rattle.capi_session.specs.Stored.{places, Stored, DoneStored, StartStored, AdvanceStored, ReadStored}
 
 -- an accepted answer's bytes, from what encode ensures
-accepted-bytes : (s : Session) (b b′ : List ℕ) → length b ≡ recordLength → b′ ≡ cond (eqb (length b) recordLength) (encoded s) b → b′ ≡ encoded s
-accepted-bytes s b b′ h e = e ∙ rw (eq-eqb (length b) recordLength h)
+accepted-state-table : (s : Session) (b b′ : List ℕ) → length b ≡ recordLength → b′ ≡ cond (eqb (length b) recordLength) (encoded s) b → b′ ≡ encoded s
+accepted-state-table s b b′ h e = e ∙ rw (eq-eqb (length b) recordLength h)
 
 stored-new : (a : Answer) (s : Session) (b b′ : List ℕ) → answerNumber a ≡ 0 → unlessRefused a (encoded s) b ≡ encoded s
     → b′ ≡ encoded s → Stored a s b 0 b′
@@ -49,7 +49,7 @@ pub done-stored : (o : Called) (b b′ : List ℕ) → length b ≡ recordLength
 unfolding callAnswer answerNumber unlessRefused
 done-stored o b b′ h e q =
     stored-new (callAnswer (o .answer)) (o .session) b b′ (ap (λ (x : _). answerNumber (callAnswer x)) e)
-    (ap (λ (x : _). unlessRefused (callAnswer x) (encoded (o .session)) b) e) (accepted-bytes (o .session) b b′ h q)
+    (ap (λ (x : _). unlessRefused (callAnswer x) (encoded (o .session)) b) e) (accepted-state-table (o .session) b b′ h q)
 
 pub done-refused : (o : Called) (b : List ℕ) (n : ℕ) → o .answer ≡ NotDone n → DoneStored o b n b
 unfolding callAnswer answerNumber unlessRefused
@@ -63,8 +63,8 @@ pub start-stored : (o : Started) (b b′ : List ℕ) (p k : ℕ) → length b �
 unfolding startAnswer answerNumber unlessRefused partsOf
 start-stored o b b′ p k h e q = record {
   stored = stored-new (startAnswer (o .answer)) (o .session) b b′ (ap (λ (x : _). answerNumber (startAnswer x)) e)
-      (ap (λ (x : _). unlessRefused (startAnswer x) (encoded (o .session)) b) e) (accepted-bytes (o .session) b b′ h q);
-  parts-told = sym (ap (λ (x : _). partsOf (startAnswer x) p) e);
+      (ap (λ (x : _). unlessRefused (startAnswer x) (encoded (o .session)) b) e) (accepted-state-table (o .session) b b′ h q);
+  parts-in = sym (ap (λ (x : _). partsOf (startAnswer x) p) e);
 }
 
 pub start-refused : (o : Started) (b : List ℕ) (p n : ℕ) → o .answer ≡ NotStarted n → StartStored o b p n b p
@@ -74,7 +74,7 @@ start-refused o b p n e = record {
     number = sym (ap (λ (x : _). answerNumber (startAnswer x)) e);
     left = sym (ap (λ (x : _). unlessRefused (startAnswer x) (encoded (o .session)) b) e);
   };
-  parts-told = sym (ap (λ (x : _). partsOf (startAnswer x) p) e);
+  parts-in = sym (ap (λ (x : _). partsOf (startAnswer x) p) e);
 }
 
 pub more-stored : (o : Advanced) (b b′ : List ℕ) (f : ℕ) → length b ≡ recordLength → o .answer ≡ More
@@ -82,8 +82,8 @@ pub more-stored : (o : Advanced) (b b′ : List ℕ) (f : ℕ) → length b ≡ 
 unfolding advanceAnswer answerNumber unlessRefused finishedOf
 more-stored o b b′ f h e q = record {
   stored = stored-new (advanceAnswer (o .answer)) (o .session) b b′ (ap (λ (x : _). answerNumber (advanceAnswer x)) e)
-      (ap (λ (x : _). unlessRefused (advanceAnswer x) (encoded (o .session)) b) e) (accepted-bytes (o .session) b b′ h q);
-  finished-told = sym (ap (λ (x : _). finishedOf (advanceAnswer x) f) e);
+      (ap (λ (x : _). unlessRefused (advanceAnswer x) (encoded (o .session)) b) e) (accepted-state-table (o .session) b b′ h q);
+  finished-answer = sym (ap (λ (x : _). finishedOf (advanceAnswer x) f) e);
 }
 
 pub finished-stored : (o : Advanced) (b b′ : List ℕ) (f : ℕ) → length b ≡ recordLength → o .answer ≡ Finished
@@ -91,8 +91,8 @@ pub finished-stored : (o : Advanced) (b b′ : List ℕ) (f : ℕ) → length b 
 unfolding advanceAnswer answerNumber unlessRefused finishedOf
 finished-stored o b b′ f h e q = record {
   stored = stored-new (advanceAnswer (o .answer)) (o .session) b b′ (ap (λ (x : _). answerNumber (advanceAnswer x)) e)
-      (ap (λ (x : _). unlessRefused (advanceAnswer x) (encoded (o .session)) b) e) (accepted-bytes (o .session) b b′ h q);
-  finished-told = sym (ap (λ (x : _). finishedOf (advanceAnswer x) f) e);
+      (ap (λ (x : _). unlessRefused (advanceAnswer x) (encoded (o .session)) b) e) (accepted-state-table (o .session) b b′ h q);
+  finished-answer = sym (ap (λ (x : _). finishedOf (advanceAnswer x) f) e);
 }
 
 pub advance-refused : (o : Advanced) (b : List ℕ) (f n : ℕ) → o .answer ≡ NotAdvanced n → AdvanceStored o b f n b f
@@ -102,22 +102,22 @@ advance-refused o b f n e = record {
     number = sym (ap (λ (x : _). answerNumber (advanceAnswer x)) e);
     left = sym (ap (λ (x : _). unlessRefused (advanceAnswer x) (encoded (o .session)) b) e);
   };
-  finished-told = sym (ap (λ (x : _). finishedOf (advanceAnswer x) f) e);
+  finished-answer = sym (ap (λ (x : _). finishedOf (advanceAnswer x) f) e);
 }
 
-pub read-told : (a : ReadAnswer) (old : Places) (y : ℕ) (o : Outcome) → a ≡ Read o → y ≡ bitOf (o .yes)
+pub read-in : (a : ReadAnswer) (old : Places) (y : ℕ) (o : Outcome) → a ≡ Read o → y ≡ bitOf (o .yes)
     → ReadStored a old 0 (places (o .state) y (o .parts) (o .links))
-unfolding readAnswer answerNumber toldPlaces
-read-told a old y o e b = record {
+unfolding readAnswer answerNumber answeredPlaces
+read-in a old y o e b = record {
   number = sym (ap (λ (x : ReadAnswer). answerNumber (readAnswer x)) e);
-  told-to = ap (λ (z : ℕ). places (o .state) z (o .parts) (o .links)) b ∙ sym (ap (λ (x : ReadAnswer). toldPlaces (readAnswer x) old) e);
+  values-are = ap (λ (z : ℕ). places (o .state) z (o .parts) (o .links)) b ∙ sym (ap (λ (x : ReadAnswer). answeredPlaces (readAnswer x) old) e);
 }
 
 pub read-refused : (a : ReadAnswer) (old : Places) (n : ℕ) → a ≡ NotRead n → ReadStored a old n old
-unfolding readAnswer answerNumber toldPlaces
+unfolding readAnswer answerNumber answeredPlaces
 read-refused a old n e = record {
   number = sym (ap (λ (x : ReadAnswer). answerNumber (readAnswer x)) e);
-  told-to = sym (ap (λ (x : ReadAnswer). toldPlaces (readAnswer x) old) e);
+  values-are = sym (ap (λ (x : ReadAnswer). answeredPlaces (readAnswer x) old) e);
 }
 
 -- ---- the exported calls
@@ -151,11 +151,11 @@ module _ (b : List ℕ) (c : Call) where
             (D .kept (and-right (laidOut b) (valid (decoded b)) v));
       }
 
-  pub told-by : laidOut b ≡ true → (a : Answer) → a ≡ answerOn (decoded b) c → answerFor b c ≡ a
-  told-by h a e = answer-laid h ∙ sym e
+  pub answer-by : laidOut b ≡ true → (a : Answer) → a ≡ answerOn (decoded b) c → answerFor b c ≡ a
+  answer-by h a e = answer-laid h ∙ sym e
 
-  pub told-not : laidOut b ≡ false → answerFor b c ≡ refused 1
-  told-not h = answer-not h
+  pub not-answered : laidOut b ≡ false → answerFor b c ≡ refused 1
+  not-answered h = answer-not h
 
 -- bytes laid out as a record are as many as a record has
 pub laid-length : (b : List ℕ) → laidOut b ≡ true → length b ≡ recordLength
@@ -179,55 +179,55 @@ module _ (b : List ℕ) where
   unfolding loadNumber written
   load-not x h = record {
     call = not-laid b (load x) h;
-    links-written = sym (ap (λ (t : Bool). written (cond t (refusalOn (decoded b) (load x)) 1) (builtLinks (x .plan)) (x .nodeTable)) h);
-    states-written = sym (ap (λ (t : Bool). written (cond t (refusalOn (decoded b) (load x)) 1) (builtStates (x .plan) (x .rules)) (x .stateTable)) h);
+    node-table-written = sym (ap (λ (t : Bool). written (cond t (refusalOn (decoded b) (load x)) 1) (builtNodeTable (x .plan)) (x .nodeTable)) h);
+    state-table-written = sym (ap (λ (t : Bool). written (cond t (refusalOn (decoded b) (load x)) 1) (builtStateTable (x .plan) (x .rules)) (x .stateTable)) h);
   }
 
-  pub load-laid : (x : Inputs) → laidOut b ≡ true → (o : Called) (r : ℕ) (b′ nums′ bytes′ : List ℕ)
-      → LoadDone (decoded b) x (callAnswer (o .answer)) (o .session) nums′ bytes′ → DoneStored o b r b′ → LoadExported b x r b′ nums′ bytes′
+  pub load-laid : (x : Inputs) → laidOut b ≡ true → (o : Called) (r : ℕ) (b′ nodeTable′ stateTable′ : List ℕ)
+      → LoadDone (decoded b) x (callAnswer (o .answer)) (o .session) nodeTable′ stateTable′ → DoneStored o b r b′ → LoadExported b x r b′ nodeTable′ stateTable′
   unfolding loadNumber
-  load-laid x h o r b′ nums′ bytes′ D S = record {
+  load-laid x h o r b′ nodeTable′ stateTable′ D S = record {
     call = laid b (load x) h (callAnswer (o .answer)) (o .session) r b′ (D .call) S;
-    links-written = D .links-written ∙ sym (ap (λ (t : Bool). written (cond t (refusalOn (decoded b) (load x)) 1) (builtLinks (x .plan)) (x .nodeTable)) h);
-    states-written = D .states-written
-        ∙ sym (ap (λ (t : Bool). written (cond t (refusalOn (decoded b) (load x)) 1) (builtStates (x .plan) (x .rules)) (x .stateTable)) h);
+    node-table-written = D .node-table-written ∙ sym (ap (λ (t : Bool). written (cond t (refusalOn (decoded b) (load x)) 1) (builtNodeTable (x .plan)) (x .nodeTable)) h);
+    state-table-written = D .state-table-written
+        ∙ sym (ap (λ (t : Bool). written (cond t (refusalOn (decoded b) (load x)) 1) (builtStateTable (x .plan) (x .rules)) (x .stateTable)) h);
   }
 
   module _ (c : Call) where
     pub start-not : (p : ℕ) → laidOut b ≡ false → StartExported b c 1 b p p
     unfolding partsOf
-    start-not p h = record { call = not-laid b c h; parts-told = sym (ap (λ (a : Answer). partsOf a p) (told-not b c h)) }
+    start-not p h = record { call = not-laid b c h; parts-in = sym (ap (λ (a : Answer). partsOf a p) (not-answered b c h)) }
 
     pub start-laid : laidOut b ≡ true → (o : Started) (r : ℕ) (b′ : List ℕ) (p p′ : ℕ)
         → CallDone (decoded b) c (startAnswer (o .answer)) (o .session) → StartStored o b p r b′ p′ → StartExported b c r b′ p p′
     start-laid h o r b′ p p′ D S = record {
       call = laid b c h (startAnswer (o .answer)) (o .session) r b′ D (S .stored);
-      parts-told = S .parts-told ∙ sym (ap (λ (a : Answer). partsOf a p) (told-by b c h (startAnswer (o .answer)) (D .tells)));
+      parts-in = S .parts-in ∙ sym (ap (λ (a : Answer). partsOf a p) (answer-by b c h (startAnswer (o .answer)) (D .tells)));
     }
 
     pub advance-not : (f : ℕ) → laidOut b ≡ false → AdvanceExported b c 1 b f f
     unfolding finishedOf
-    advance-not f h = record { call = not-laid b c h; finished-told = sym (ap (λ (a : Answer). finishedOf a f) (told-not b c h)) }
+    advance-not f h = record { call = not-laid b c h; finished-answer = sym (ap (λ (a : Answer). finishedOf a f) (not-answered b c h)) }
 
     pub advance-laid : laidOut b ≡ true → (o : Advanced) (r : ℕ) (b′ : List ℕ) (f f′ : ℕ)
         → CallDone (decoded b) c (advanceAnswer (o .answer)) (o .session) → AdvanceStored o b f r b′ f′ → AdvanceExported b c r b′ f f′
     advance-laid h o r b′ f f′ D S = record {
       call = laid b c h (advanceAnswer (o .answer)) (o .session) r b′ D (S .stored);
-      finished-told = S .finished-told ∙ sym (ap (λ (a : Answer). finishedOf a f) (told-by b c h (advanceAnswer (o .answer)) (D .tells)));
+      finished-answer = S .finished-answer ∙ sym (ap (λ (a : Answer). finishedOf a f) (answer-by b c h (advanceAnswer (o .answer)) (D .tells)));
     }
 
   pub read-not : (old : Places) → laidOut b ≡ false → ReadExported b 1 old old
-  unfolding answerNumber toldPlaces
+  unfolding answerNumber answeredPlaces
   read-not old h = record {
-    number = sym (ap answerNumber (told-not b read h));
-    told-to = sym (ap (λ (a : Answer). toldPlaces a old) (told-not b read h));
+    number = sym (ap answerNumber (not-answered b read h));
+    values-are = sym (ap (λ (a : Answer). answeredPlaces a old) (not-answered b read h));
   }
 
   pub read-laid : laidOut b ≡ true → (a : ReadAnswer) (old new : Places) (r : ℕ) → readAnswer a ≡ answerOn (decoded b) read → ReadStored a old r new
       → ReadExported b r old new
   read-laid h a old new r D S =
-      let e : answerFor b read ≡ readAnswer a = told-by b read h (readAnswer a) D in
-      record { number = S .number ∙ sym (ap answerNumber e); told-to = S .told-to ∙ sym (ap (λ (x : Answer). toldPlaces x old) e) }
+      let e : answerFor b read ≡ readAnswer a = answer-by b read h (readAnswer a) D in
+      record { number = S .number ∙ sym (ap answerNumber e); values-are = S .values-are ∙ sym (ap (λ (x : Answer). answeredPlaces x old) e) }
 
 -- a promise on the struct that was decoded
 pub of-decoded : (b : List ℕ) (s : Session) (c : Call) (a : Answer) (s′ : Session) → s ≡ decoded b → CallDone s c a s′ → CallDone (decoded b) c a s′

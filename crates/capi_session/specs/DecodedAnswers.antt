@@ -31,7 +31,7 @@ decodedRead zero q = readAnswer (q .state) (eqb (q .yes) 1) (q .parts) (q .links
 decodedRead (suc n) q = refused (suc n)
 
 pub data Exports : List ℕ → Call → Answer → List ℕ → Type 0 where
-  loads : {b b′ : List ℕ} {x : Inputs} (r : ℕ) (nums bytes : List ℕ) → LoadExported b x r b′ nums bytes
+  loads : {b b′ : List ℕ} {x : Inputs} (r : ℕ) (nodeTable stateTable : List ℕ) → LoadExported b x r b′ nodeTable stateTable
       → Exports b (load x) (decodedDone r) b′
   starts : {b b′ : List ℕ} {x : Inputs} {vs bs : List ℕ} (r p₀ p₁ : ℕ) → StartExported b (start x vs bs) r b′ p₀ p₁
       → Exports b (start x vs bs) (decodedStart r p₁) b′

@@ -11,7 +11,7 @@ use Prim.Native.Nat.{ℕ}
 use mathlib.Core.Path.{_≡_}
 use mathlib.Core.Bool.{Bool, true, cond}
 use mathlib.Core.List.{List}
-use Rattle.formats.specs.Built.{builtLinks, builtStates}
+use Rattle.formats.specs.Built.{builtNodeTable, builtStateTable}
 use Rattle.tables.specs.Answers.{written}
 use Rattle.formats.specs.Inputs.{Inputs}
 use Rattle.model.specs.Calls.{Call, load, start, advance, cancel, read, Answer, refused, accepted, parts}
@@ -57,10 +57,10 @@ pub record CallExported (b : List ℕ) (c : Call) (r : ℕ) (b′ : List ℕ) : 
 unfoldable pub loadNumber : List ℕ → Inputs → ℕ
 loadNumber b x = cond (laidOut b) (refusalOn (decoded b) (load x)) 1
 
-pub record LoadExported (b : List ℕ) (x : Inputs) (r : ℕ) (b′ nums′ bytes′ : List ℕ) : Type 0 where
+pub record LoadExported (b : List ℕ) (x : Inputs) (r : ℕ) (b′ nodeTable′ stateTable′ : List ℕ) : Type 0 where
   pub call : CallExported b (load x) r b′
-  pub links-written : nums′ ≡ written (loadNumber b x) (builtLinks (x .plan)) (x .nodeTable)
-  pub states-written : bytes′ ≡ written (loadNumber b x) (builtStates (x .plan) (x .rules)) (x .stateTable)
+  pub node-table-written : nodeTable′ ≡ written (loadNumber b x) (builtNodeTable (x .plan)) (x .nodeTable)
+  pub state-table-written : stateTable′ ≡ written (loadNumber b x) (builtStateTable (x .plan) (x .rules)) (x .stateTable)
 
 unfoldable pub partsOf : Answer → ℕ → ℕ
 partsOf (parts p) old = p
@@ -72,7 +72,7 @@ partsOf (readAnswer q y p l) old = old
 
 pub record StartExported (b : List ℕ) (c : Call) (r : ℕ) (b′ : List ℕ) (parts₀ parts₁ : ℕ) : Type 0 where
   pub call : CallExported b c r b′
-  pub parts-told : parts₁ ≡ partsOf (answerFor b c) parts₀
+  pub parts-in : parts₁ ≡ partsOf (answerFor b c) parts₀
 
 unfoldable pub finishedOf : Answer → ℕ → ℕ
 finishedOf more old = 0
@@ -84,7 +84,7 @@ finishedOf (readAnswer q y p l) old = old
 
 pub record AdvanceExported (b : List ℕ) (c : Call) (r : ℕ) (b′ : List ℕ) (finished₀ finished₁ : ℕ) : Type 0 where
   pub call : CallExported b c r b′
-  pub finished-told : finished₁ ≡ finishedOf (answerFor b c) finished₀
+  pub finished-answer : finished₁ ≡ finishedOf (answerFor b c) finished₀
 
 -- the four values of Read, as one place each
 pub record Places : Type 0 where
@@ -93,14 +93,14 @@ pub record Places : Type 0 where
   pub parts : ℕ
   pub links : ℕ
 
-unfoldable pub toldPlaces : Answer → Places → Places
-toldPlaces (readAnswer q y p l) old = record { state = q; yes = bitOf y; parts = p; links = l }
-toldPlaces (refused n) old = old
-toldPlaces accepted old = old
-toldPlaces (parts p) old = old
-toldPlaces more old = old
-toldPlaces finished old = old
+unfoldable pub answeredPlaces : Answer → Places → Places
+answeredPlaces (readAnswer q y p l) old = record { state = q; yes = bitOf y; parts = p; links = l }
+answeredPlaces (refused n) old = old
+answeredPlaces accepted old = old
+answeredPlaces (parts p) old = old
+answeredPlaces more old = old
+answeredPlaces finished old = old
 
 pub record ReadExported (b : List ℕ) (r : ℕ) (before after : Places) : Type 0 where
   pub number : r ≡ answerNumber (answerFor b read)
-  pub told-to : after ≡ toldPlaces (answerFor b read) before
+  pub values-are : after ≡ answeredPlaces (answerFor b read) before

@@ -15,7 +15,7 @@ use Rattle.session.specs.declared.answers.ReadAnswer.{ReadAnswer}
 use Rattle.session.specs.declared.state.Session.{Session}
 use Rattle.session.specs.Answers.{callAnswer, startAnswer, advanceAnswer, readAnswer}
 use Rattle.records.specs.Layout.{encoded}
-use Rattle.capi_session.specs.SessionExported.{answerNumber, unlessRefused, partsOf, finishedOf, Places, toldPlaces}
+use Rattle.capi_session.specs.SessionExported.{answerNumber, unlessRefused, partsOf, finishedOf, Places, answeredPlaces}
 
 abbrev pub places : ℕ → ℕ → ℕ → ℕ → Places
 places a b c d = record { state = a; yes = b; parts = c; links = d }
@@ -30,12 +30,12 @@ DoneStored o b r b′ = Stored (callAnswer (o .answer)) (o .session) b r b′
 
 pub record StartStored (o : Started) (b : List ℕ) (p r : ℕ) (b′ : List ℕ) (p′ : ℕ) : Type 0 where
   pub stored : Stored (startAnswer (o .answer)) (o .session) b r b′
-  pub parts-told : p′ ≡ partsOf (startAnswer (o .answer)) p
+  pub parts-in : p′ ≡ partsOf (startAnswer (o .answer)) p
 
 pub record AdvanceStored (o : Advanced) (b : List ℕ) (f r : ℕ) (b′ : List ℕ) (f′ : ℕ) : Type 0 where
   pub stored : Stored (advanceAnswer (o .answer)) (o .session) b r b′
-  pub finished-told : f′ ≡ finishedOf (advanceAnswer (o .answer)) f
+  pub finished-answer : f′ ≡ finishedOf (advanceAnswer (o .answer)) f
 
 pub record ReadStored (a : ReadAnswer) (old : Places) (r : ℕ) (new : Places) : Type 0 where
   pub number : r ≡ answerNumber (readAnswer a)
-  pub told-to : new ≡ toldPlaces (readAnswer a) old
+  pub values-are : new ≡ answeredPlaces (readAnswer a) old

@@ -12,15 +12,15 @@ use Rattle.capi_tables.specs.RunExported.{RunNumber, stateOf, markedOf}
 pub ended : (a : Running) (q₀ y₀ q y : ℕ) (m : Bool) → a ≡ Ended q m → y ≡ bitOf m → RunNumber a q₀ y₀ 0 q y
 unfolding runningNumber
 ended a q₀ y₀ q y m e b = record {
-  told = sym (ap runningNumber e);
-  state-told = sym (ap (λ (x : Running). stateOf x q₀) e);
-  yes-told = b ∙ sym (ap (λ (x : Running). markedOf x y₀) e);
+  result = sym (ap runningNumber e);
+  state-answer = sym (ap (λ (x : Running). stateOf x q₀) e);
+  yes-answer = b ∙ sym (ap (λ (x : Running). markedOf x y₀) e);
 }
 
 pub not-run : (a : Running) (q₀ y₀ n : ℕ) → a ≡ NotRun n → RunNumber a q₀ y₀ n q₀ y₀
 unfolding runningNumber
 not-run a q₀ y₀ n e = record {
-  told = sym (ap runningNumber e);
-  state-told = sym (ap (λ (x : Running). stateOf x q₀) e);
-  yes-told = sym (ap (λ (x : Running). markedOf x y₀) e);
+  result = sym (ap runningNumber e);
+  state-answer = sym (ap (λ (x : Running). stateOf x q₀) e);
+  yes-answer = sym (ap (λ (x : Running). markedOf x y₀) e);
 }

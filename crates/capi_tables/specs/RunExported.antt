@@ -22,9 +22,9 @@ markedOf (Ended q m) old = bitOf m
 markedOf (NotRun n) old = old
 
 pub record RunNumber (a : Running) (state₀ yes₀ r state₁ yes₁ : ℕ) : Type 0 where
-  pub told : r ≡ runningNumber a
-  pub state-told : state₁ ≡ stateOf a state₀
-  pub yes-told : yes₁ ≡ markedOf a yes₀
+  pub result : r ≡ runningNumber a
+  pub state-answer : state₁ ≡ stateOf a state₀
+  pub yes-answer : yes₁ ≡ markedOf a yes₀
 
 pub record RunExported (p r vs bs : List ℕ) (n state₀ yes₀ state₁ yes₁ : ℕ) : Type 0 where
   pub answer : Running

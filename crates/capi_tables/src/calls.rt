@@ -8,7 +8,7 @@ use tables::build::build_tables;
 use tables::check::check_tables;
 ghost use lib.ListN.{length};
 ghost use Rattle.formats.specs.Checks.{firstNo, buildChecks};
-ghost use Rattle.formats.specs.Built.{builtLinks, builtStates};
+ghost use Rattle.formats.specs.Built.{builtNodeTable, builtStateTable};
 ghost use Rattle.capi_numbers.specs.Numbers.{BuildExported, CheckExported};
 ghost use Rattle.capi_tables.specs.RunExported.{RunNumber, RunExported};
 
@@ -23,7 +23,7 @@ pub extern "C" fn whatif_build(
     ensures { λ r. ⌜
         BuildExported
         (firstNo (buildChecks (now (plan .entry)) (now (rules .entry)) (length (now («node_table» .entry))) (length (now («state_table» .entry)))))
-        (builtLinks (now (plan .entry))) (builtStates (now (plan .entry)) (now (rules .entry)))
+        (builtNodeTable (now (plan .entry))) (builtStateTable (now (plan .entry)) (now (rules .entry)))
         (now («node_table» .entry)) (now («state_table» .entry)) r (now («node_table» .exit)) (now («state_table» .exit)) ⌝ }
 {
     let answer = build_tables(plan, rules, node_table, state_table);
@@ -42,7 +42,7 @@ pub extern "C" fn whatif_check(
     ensures { λ r. ⌜
         CheckExported
         (firstNo (buildChecks (now (plan .entry)) (now (rules .entry)) (length (now («node_table» .entry))) (length (now («state_table» .entry)))))
-        (builtLinks (now (plan .entry))) (builtStates (now (plan .entry)) (now (rules .entry)))
+        (builtNodeTable (now (plan .entry))) (builtStateTable (now (plan .entry)) (now (rules .entry)))
         (now («node_table» .entry)) (now («state_table» .entry)) r (now (yes .entry)) (now (yes .exit)) ⌝ }
 {
     let answer = check_tables(plan, rules, node_table, state_table);

@@ -18,7 +18,7 @@ use borrow.Author.Tests.{leb-true, eqb-true, le-leb, lt-leb, eq-eqb, ne-eqb}
 use Rattle.formats.specs.Limits.{nodeLimit, stateLimit, labelLimit, within}
 use Rattle.formats.specs.Plan.{nodeCount, planLength}
 use Rattle.formats.specs.Rules.{stateCount, labelCount}
-use Rattle.formats.specs.Checks.{linkLength, stateLength}
+use Rattle.formats.specs.Checks.{nodeTableLength, stateTableLength}
 use Rattle.formats.specs.InnerChecks.{countsFit, roomFits}
 use Rattle.formats.specs.Buffers.{limitsFit, buffersFit, TableKind, headersFit, headedBuffersFit}
 use Rattle.formats.proofs.CheckLaws.{and-both, and-left, and-right, and-no-left, and-next}
@@ -73,32 +73,32 @@ module _ (n s k : ℕ) where
 
 -- ---- lengths
 
-module _ (n s exact plan table nums bytes : ℕ) where
+module _ (n s exact plan table nodeTable stateTable : ℕ) where
   abbrev room : Bool
-  room = roomFits n s nums bytes
+  room = roomFits n s nodeTable stateTable
 
-  pub plan-no : ¬ (plan ≡ planLength n) → buffersFit n s exact plan table nums bytes ≡ false
+  pub plan-no : ¬ (plan ≡ planLength n) → buffersFit n s exact plan table nodeTable stateTable ≡ false
   unfolding buffersFit
   plan-no h = and-no-left (eqb plan (planLength n)) (eqb table exact && room) (ne-eqb plan (planLength n) h)
 
   module _ (p : plan ≡ planLength n) where
-    from-table : buffersFit n s exact plan table nums bytes ≡ (eqb table exact && room)
+    from-table : buffersFit n s exact plan table nodeTable stateTable ≡ (eqb table exact && room)
     unfolding buffersFit
     from-table = and-next (eqb plan (planLength n)) (eqb table exact && room) (eq-eqb plan (planLength n) p)
 
-    pub table-no : ¬ (table ≡ exact) → buffersFit n s exact plan table nums bytes ≡ false
+    pub table-no : ¬ (table ≡ exact) → buffersFit n s exact plan table nodeTable stateTable ≡ false
     table-no h = from-table ∙ and-no-left (eqb table exact) room (ne-eqb table exact h)
 
-    pub buffers-end : table ≡ exact → buffersFit n s exact plan table nums bytes ≡ roomFits n s nums bytes
+    pub buffers-end : table ≡ exact → buffersFit n s exact plan table nodeTable stateTable ≡ roomFits n s nodeTable stateTable
     buffers-end h = from-table ∙ and-next (eqb table exact) room (eq-eqb table exact h)
 
   pub record Lengths : Type 0 where
     pub plan-is : plan ≡ planLength n
     pub table-is : table ≡ exact
-    pub nums-room : linkLength n ≤ nums
-    pub bytes-room : stateLength n s ≤ bytes
+    pub node-table-room : nodeTableLength n ≤ nodeTable
+    pub state-table-room : stateTableLength n s ≤ stateTable
 
-  pub lengths-are : buffersFit n s exact plan table nums bytes ≡ true → Lengths
+  pub lengths-are : buffersFit n s exact plan table nodeTable stateTable ≡ true → Lengths
   unfolding buffersFit
   lengths-are h =
       let two : (eqb table exact && room) ≡ true = and-right (eqb plan (planLength n)) (eqb table exact && room) h in
@@ -106,16 +106,16 @@ module _ (n s exact plan table nums bytes : ℕ) where
       record {
         plan-is = eqb-true plan (planLength n) (and-left (eqb plan (planLength n)) (eqb table exact && room) h);
         table-is = eqb-true table exact (and-left (eqb table exact) room two);
-        nums-room = leb-true (linkLength n) nums (and-left (leb (linkLength n) nums) (leb (stateLength n s) bytes) three);
-        bytes-room =
-            leb-true (stateLength n s) bytes (and-right (leb (linkLength n) nums) (leb (stateLength n s) bytes) three);
+        node-table-room = leb-true (nodeTableLength n) nodeTable (and-left (leb (nodeTableLength n) nodeTable) (leb (stateTableLength n s) stateTable) three);
+        state-table-room =
+            leb-true (stateTableLength n s) stateTable (and-right (leb (nodeTableLength n) nodeTable) (leb (stateTableLength n s) stateTable) three);
       }
 
-  pub are-lengths : Lengths → buffersFit n s exact plan table nums bytes ≡ true
+  pub are-lengths : Lengths → buffersFit n s exact plan table nodeTable stateTable ≡ true
   are-lengths L =
       buffers-end (L .plan-is) (L .table-is)
-      ∙ and-both (leb (linkLength n) nums) (leb (stateLength n s) bytes) (le-leb (linkLength n) nums (L .nums-room))
-      (le-leb (stateLength n s) bytes (L .bytes-room))
+      ∙ and-both (leb (nodeTableLength n) nodeTable) (leb (stateTableLength n s) stateTable) (le-leb (nodeTableLength n) nodeTable (L .node-table-room))
+      (le-leb (stateTableLength n s) stateTable (L .state-table-room))
 
 -- ---- headers
 
@@ -164,62 +164,62 @@ module _ (header : ℕ) (p r : List ℕ) where
 
 -- ---- headers and lengths
 
-module _ (kind : TableKind) (p r : List ℕ) (nums bytes : ℕ) where
+module _ (kind : TableKind) (p r : List ℕ) (nodeTable stateTable : ℕ) where
   abbrev lengths : Bool
   lengths =
-      buffersFit (nodeCount p) (stateCount r) (kind .exact (stateCount r) (labelCount r)) (length p) (length r) nums
-      bytes
+      buffersFit (nodeCount p) (stateCount r) (kind .exact (stateCount r) (labelCount r)) (length p) (length r) nodeTable
+      stateTable
 
-  pub headers-no : headersFit (kind .header) p r ≡ false → headedBuffersFit kind p r nums bytes ≡ false
+  pub headers-no : headersFit (kind .header) p r ≡ false → headedBuffersFit kind p r nodeTable stateTable ≡ false
   unfolding headedBuffersFit
   headers-no h = and-no-left (headersFit (kind .header) p r) lengths h
 
   pub headed-end : headersFit (kind .header) p r ≡ true
-      → headedBuffersFit kind p r nums bytes
-      ≡ buffersFit (nodeCount p) (stateCount r) (kind .exact (stateCount r) (labelCount r)) (length p) (length r) nums
-      bytes
+      → headedBuffersFit kind p r nodeTable stateTable
+      ≡ buffersFit (nodeCount p) (stateCount r) (kind .exact (stateCount r) (labelCount r)) (length p) (length r) nodeTable
+      stateTable
   unfolding headedBuffersFit
   headed-end h = and-next (headersFit (kind .header) p r) lengths h
 
   -- with N, S and K as they were read
   pub headed-by : (n s k exact : ℕ) → n ≡ nodeCount p → s ≡ stateCount r → k ≡ labelCount r → exact ≡ kind .exact s k
       → headersFit (kind .header) p r ≡ true
-      → buffersFit n s exact (length p) (length r) nums bytes ≡ headedBuffersFit kind p r nums bytes
+      → buffersFit n s exact (length p) (length r) nodeTable stateTable ≡ headedBuffersFit kind p r nodeTable stateTable
   headed-by n s k exact e f g x h =
-      ap₂ (λ (i j : ℕ). buffersFit i s j (length p) (length r) nums bytes) e x
-      ∙ ap₂ (λ (i j : ℕ). buffersFit (nodeCount p) i (kind .exact i j) (length p) (length r) nums bytes) f g
+      ap₂ (λ (i j : ℕ). buffersFit i s j (length p) (length r) nodeTable stateTable) e x
+      ∙ ap₂ (λ (i j : ℕ). buffersFit (nodeCount p) i (kind .exact i j) (length p) (length r) nodeTable stateTable) f g
       ∙ sym (headed-end h)
 
   pub record Headed : Type 0 where
     pub headers : Headers (kind .header) p r
     pub plan-exact : length p ≡ planLength (nodeCount p)
     pub table-exact : length r ≡ kind .exact (stateCount r) (labelCount r)
-    pub nums-room : nodeCount p * 4 ≤ nums
-    pub bytes-room : nodeCount p * (stateCount r + 1) ≤ bytes
+    pub node-table-room : nodeCount p * 4 ≤ nodeTable
+    pub state-table-room : nodeCount p * (stateCount r + 1) ≤ stateTable
 
-  pub headed-are : headedBuffersFit kind p r nums bytes ≡ true → Headed
+  pub headed-are : headedBuffersFit kind p r nodeTable stateTable ≡ true → Headed
   unfolding headedBuffersFit
   headed-are h =
       let L = lengths-are (nodeCount p) (stateCount r) (kind .exact (stateCount r) (labelCount r)) (length p) (length r)
-      nums bytes (and-right (headersFit (kind .header) p r) lengths h) in
+      nodeTable stateTable (and-right (headersFit (kind .header) p r) lengths h) in
       record {
         headers = headers-are (kind .header) p r (and-left (headersFit (kind .header) p r) lengths h);
         plan-exact = L .plan-is;
         table-exact = L .table-is;
-        nums-room = L .nums-room;
-        bytes-room = L .bytes-room;
+        node-table-room = L .node-table-room;
+        state-table-room = L .state-table-room;
       }
 
-  pub are-headed : Headed → headedBuffersFit kind p r nums bytes ≡ true
+  pub are-headed : Headed → headedBuffersFit kind p r nodeTable stateTable ≡ true
   are-headed H =
       let L = H .headers in
       headed-end (headers-end (kind .header) p r (L .plan-long) (L .table-long)
       ∙ are-limits (nodeCount p) (stateCount r) (labelCount r) (L .in-limits))
-      ∙ are-lengths (nodeCount p) (stateCount r) (kind .exact (stateCount r) (labelCount r)) (length p) (length r) nums
-      bytes
+      ∙ are-lengths (nodeCount p) (stateCount r) (kind .exact (stateCount r) (labelCount r)) (length p) (length r) nodeTable
+      stateTable
       (record {
         plan-is = H .plan-exact;
         table-is = H .table-exact;
-        nums-room = H .nums-room;
-        bytes-room = H .bytes-room;
+        node-table-room = H .node-table-room;
+        state-table-room = H .state-table-room;
       })

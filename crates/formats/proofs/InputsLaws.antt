@@ -18,8 +18,8 @@ use borrow.Author.Tests.{eqb-true, eq-eqb}
 use Rattle.formats.specs.Bytes.{sameList, allBelow}
 use Rattle.formats.specs.Plan.{nodeCount, labelsIn}
 use Rattle.formats.specs.Rules.{stateCount, labelCount}
-use Rattle.formats.specs.Checks.{firstNo, ruleTableChecks, linkLength, stateLength}
-use Rattle.formats.specs.Built.{builtLinks}
+use Rattle.formats.specs.Checks.{firstNo, ruleTableChecks, nodeTableLength, stateTableLength}
+use Rattle.formats.specs.Built.{builtNodeTable}
 use Rattle.formats.proofs.CheckLaws.{and-both, and-left, and-right}
 use Rattle.formats.proofs.ListLaws.{sameList-true, sameList-is}
 use Rattle.formats.proofs.PlanLaws.{PlanPasses}
@@ -33,14 +33,14 @@ pub record Built (z : Sizes) (x : Inputs) : Type 0 where
   pub n-is : nodeCount (x .plan) ≡ z .n
   pub s-is : stateCount (x .rules) ≡ z .s
   pub k-is : labelCount (x .rules) ≡ z .k
-  pub nodeTable : usedNodeTable z x ≡ builtLinks (x .plan)
+  pub nodeTable : usedNodeTable z x ≡ builtNodeTable (x .plan)
 
 module _ (z : Sizes) (x : Inputs) where
   abbrev passes : Bool
   passes = eqb (firstNo (ruleTableChecks (x .plan) (x .rules))) 0
 
   abbrev tableBuilt : Bool
-  tableBuilt = sameList (usedNodeTable z x) (builtLinks (x .plan))
+  tableBuilt = sameList (usedNodeTable z x) (builtNodeTable (x .plan))
 
   abbrev sk : Bool
   sk = eqb (stateCount (x .rules)) (z .s) && eqb (labelCount (x .rules)) (z .k)
@@ -59,7 +59,7 @@ module _ (z : Sizes) (x : Inputs) where
             (and-left (eqb (stateCount (x .rules)) (z .s)) (eqb (labelCount (x .rules)) (z .k)) d);
         k-is = eqb-true (labelCount (x .rules)) (z .k)
             (and-right (eqb (stateCount (x .rules)) (z .s)) (eqb (labelCount (x .rules)) (z .k)) d);
-        nodeTable = sameList-true (usedNodeTable z x) (builtLinks (x .plan)) (and-right (namesSizes z x) tableBuilt b);
+        nodeTable = sameList-true (usedNodeTable z x) (builtNodeTable (x .plan)) (and-right (namesSizes z x) tableBuilt b);
       }
 
   pub built-node-table : Built z x → nodeTableBuilt z x ≡ true
@@ -72,7 +72,7 @@ module _ (z : Sizes) (x : Inputs) where
       (and-both (eqb (stateCount (x .rules)) (z .s)) (eqb (labelCount (x .rules)) (z .k))
       (eq-eqb (stateCount (x .rules)) (z .s) (B .s-is))
       (eq-eqb (labelCount (x .rules)) (z .k) (B .k-is))))
-      (sameList-is (usedNodeTable z x) (builtLinks (x .plan)) (B .nodeTable)))
+      (sameList-is (usedNodeTable z x) (builtNodeTable (x .plan)) (B .nodeTable)))
 
 module _ (z : Sizes) (x : Inputs) (B : Built z x) where
   pub plan-of : PlanPasses (x .plan)
@@ -133,8 +133,8 @@ take-longer (suc n) [] r h = absurd (omega arith)
 take-longer (suc n) (x ∷ l) r h = ap (λ (m : List ℕ). x ∷ m) (take-longer n l r (omega arith))
 
 -- "lent the same, excess aside"
-pub same-excess : (z : Sizes) (x : Inputs) (l r : List ℕ) → linkLength (z .n) ≤ length (x .nodeTable)
-    → stateLength (z .n) (z .s) ≤ length (x .stateTable)
+pub same-excess : (z : Sizes) (x : Inputs) (l r : List ℕ) → nodeTableLength (z .n) ≤ length (x .nodeTable)
+    → stateTableLength (z .n) (z .s) ≤ length (x .stateTable)
     → sameInputs z x (inputsOf (x .plan) (x .rules) (x .nodeTable ++ l) (x .stateTable ++ r)) ≡ true
 unfolding sameInputs
 same-excess z x l r h i =
@@ -143,7 +143,7 @@ same-excess z x l r h i =
     (node-inputs-same z x y (record {
       plan = refl;
       rules = refl;
-      nodeTable = take-longer (linkLength (z .n)) (x .nodeTable) l h;
+      nodeTable = take-longer (nodeTableLength (z .n)) (x .nodeTable) l h;
     }))
     (sameList-is (usedStateTable z x) (usedStateTable z y)
-    (take-longer (stateLength (z .n) (z .s)) (x .stateTable) r i))
+    (take-longer (stateTableLength (z .n) (z .s)) (x .stateTable) r i))

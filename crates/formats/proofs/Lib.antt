@@ -1,8 +1,8 @@
 pub mod CheckLaws
 pub mod ListLaws
 pub mod PartLaws
-pub mod TurnLaws
-pub mod KindTurns
+pub mod LoopLaws
+pub mod KindLoop
 pub mod ByteLaws
 pub mod PlanLaws
 pub mod PlanAnswers

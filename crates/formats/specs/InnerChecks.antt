@@ -8,7 +8,7 @@
 -- countsFit s k == check 7 as a test
 -- ruleShape b s k, branchShape b s k == check 8 as a test
 -- ruleValues b s k, branchValues b s k == check 9 as a test
--- roomFits n s nums bytes == check 11 as a test
+-- roomFits n s nodeTable bytes == check 11 as a test
 -- listsFit vs bs == check 12 as a test
 --
 -- Assumes nothing.
@@ -22,7 +22,7 @@ use Rattle.formats.specs.Bytes.{le32, allBelow}
 use Rattle.formats.specs.Limits.{stateLimit, labelLimit, changeLimit, within}
 use Rattle.formats.specs.Plan.{nodeCount}
 use Rattle.formats.specs.Rules.{ruleLength, branchLength}
-use Rattle.formats.specs.Checks.{linkLength, stateLength}
+use Rattle.formats.specs.Checks.{nodeTableLength, stateTableLength}
 
 pub record Counts (s k : ℕ) : Type 0 where
   pub states : s ≤ 16
@@ -80,7 +80,7 @@ branchValues b s k = allBelow s (take (s * k) (drop 16 b)) && allBelow 2 (take s
 
 -- check 11 as a test
 abbrev pub roomFits : ℕ → ℕ → ℕ → ℕ → Bool
-roomFits n s nums bytes = leb (linkLength n) nums && leb (stateLength n s) bytes
+roomFits n s nodeTable stateTable = leb (nodeTableLength n) nodeTable && leb (stateTableLength n s) stateTable
 
 -- check 12 as a test
 abbrev pub listsFit : List ℕ → List ℕ → Bool

@@ -20,8 +20,8 @@ use lib.ListN.{length, take}
 use Rattle.formats.specs.Bytes.{allBelow, sameList}
 use Rattle.formats.specs.Plan.{nodeCount, planLength}
 use Rattle.formats.specs.Rules.{stateCount, labelCount, ruleLength}
-use Rattle.formats.specs.Checks.{firstNo, ruleTableChecks, linkLength, stateLength}
-use Rattle.formats.specs.Built.{builtLinks, builtStates}
+use Rattle.formats.specs.Checks.{firstNo, ruleTableChecks, nodeTableLength, stateTableLength}
+use Rattle.formats.specs.Built.{builtNodeTable, builtStateTable}
 
 pub record Inputs : Type 0 where
   pub plan : List ℕ
@@ -46,13 +46,13 @@ unfoldable pub fits : Sizes → Inputs → Bool
 fits z x =
     eqb (length (x .plan)) (planLength (z .n))
     && (eqb (length (x .rules)) (ruleLength (z .s) (z .k))
-    && (leb (linkLength (z .n)) (length (x .nodeTable)) && leb (stateLength (z .n) (z .s)) (length (x .stateTable))))
+    && (leb (nodeTableLength (z .n)) (length (x .nodeTable)) && leb (stateTableLength (z .n) (z .s)) (length (x .stateTable))))
 
 abbrev pub usedNodeTable : Sizes → Inputs → List ℕ
-usedNodeTable z x = take (linkLength (z .n)) (x .nodeTable)
+usedNodeTable z x = take (nodeTableLength (z .n)) (x .nodeTable)
 
 abbrev pub usedStateTable : Sizes → Inputs → List ℕ
-usedStateTable z x = take (stateLength (z .n) (z .s)) (x .stateTable)
+usedStateTable z x = take (stateTableLength (z .n) (z .s)) (x .stateTable)
 
 unfoldable pub sameNodeInputs : Sizes → Inputs → Inputs → Bool
 sameNodeInputs z x y =
@@ -69,10 +69,10 @@ namesSizes z x =
 unfoldable pub nodeTableBuilt : Sizes → Inputs → Bool
 nodeTableBuilt z x =
     eqb (firstNo (ruleTableChecks (x .plan) (x .rules))) 0
-    && (namesSizes z x && sameList (usedNodeTable z x) (builtLinks (x .plan)))
+    && (namesSizes z x && sameList (usedNodeTable z x) (builtNodeTable (x .plan)))
 
 unfoldable pub stateTableBuilt : Sizes → Inputs → Bool
-stateTableBuilt z x = sameList (usedStateTable z x) (builtStates (x .plan) (x .rules))
+stateTableBuilt z x = sameList (usedStateTable z x) (builtStateTable (x .plan) (x .rules))
 
 -- "Sound means that plan and rules pass 2 to 10 with that N, S and K and the tables, excess aside, are what Load writes from them."
 unfoldable pub sound : Sizes → Inputs → Bool

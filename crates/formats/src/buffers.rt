@@ -32,11 +32,11 @@ pub fn buffers_fit(
     exact: usize,
     plan: usize,
     table: usize,
-    nums: usize,
-    bytes: usize,
+    node_table: usize,
+    state_table: usize,
 ) -> bool
     requires { ⌜ Sizes n s ⌝ }
-    ensures { λ r. ⌜ r ≡ buffersFit n s exact plan table nums bytes ⌝ }
+    ensures { λ r. ⌜ r ≡ buffersFit n s exact plan table «node_table» «state_table» ⌝ }
 {
     if plan != 12 + 2 * n {
         return false;
@@ -44,7 +44,7 @@ pub fn buffers_fit(
     if table != exact {
         return false;
     }
-    room_fits(n, s, nums, bytes)
+    room_fits(n, s, node_table, state_table)
 }
 
 // Check 17 of a rule table, where N, S and K are given: the last four are lengths.
@@ -54,14 +54,14 @@ pub fn rule_buffers_fit(
     k: usize,
     plan: usize,
     rules: usize,
-    nums: usize,
-    bytes: usize,
+    node_table: usize,
+    state_table: usize,
 ) -> bool
     requires { ⌜ LimitArgs n s k ⌝ }
-    ensures { λ r. ⌜ r ≡ buffersFit n s (ruleLength s k) plan rules nums bytes ⌝ }
+    ensures { λ r. ⌜ r ≡ buffersFit n s (ruleLength s k) plan rules «node_table» «state_table» ⌝ }
 {
     let exact = 20 + k + inner_count(s, k) + s;
-    buffers_fit(n, s, exact, plan, rules, nums, bytes)
+    buffers_fit(n, s, exact, plan, rules, node_table, state_table)
 }
 
 // Are the headers of plan and table there whole, that of the table being `header` bytes long, with N, S and K in their limits?
@@ -82,10 +82,10 @@ pub fn headers_fit(plan: &[u8], table: &[u8], header: usize) -> bool
 }
 
 // Check 17 of a branch table, where N, S and K are those of the headers.
-pub fn branch_buffers_fit(plan: &[u8], branch: &[u8], nums: &[u16], bytes: &[u8]) -> bool
+pub fn branch_buffers_fit(plan: &[u8], branch: &[u8], node_table: &[u16], state_table: &[u8]) -> bool
     ensures { λ r. ⌜ r
-        ≡ headedBuffersFit branchTables (now (plan .entry)) (now (branch .entry)) (length (now (nums .entry)))
-        (length (now (bytes .entry))) ⌝ }
+        ≡ headedBuffersFit branchTables (now (plan .entry)) (now (branch .entry)) (length (now («node_table» .entry)))
+        (length (now («state_table» .entry))) ⌝ }
 {
     if !headers_fit(plan, branch, 16) {
         return false;
@@ -100,7 +100,7 @@ pub fn branch_buffers_fit(plan: &[u8], branch: &[u8], nums: &[u16], bytes: &[u8]
         exact,
         plan.len(),
         branch.len(),
-        nums.len(),
-        bytes.len(),
+        node_table.len(),
+        state_table.len(),
     )
 }

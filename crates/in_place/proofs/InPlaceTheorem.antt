@@ -19,7 +19,7 @@ use Rattle.in_place.specs.CallsInPlace.{CallInPlace, loads, starts, adva
 
 -- each call in place is the call by value on the record at entry
 step-by-value : (s s′ : Session) (c : Call) (a : Answer) → CallInPlace s c a s′ → by-value.CallByValue s c a s′
-step-by-value s s′ c a (loads r nums bytes d) = by-value.loads (record { answer = r; session = s′ }) nums bytes d
+step-by-value s s′ c a (loads r nodeTable stateTable d) = by-value.loads (record { answer = r; session = s′ }) nodeTable stateTable d
 step-by-value s s′ c a (starts r d) = by-value.starts (record { answer = r; session = s′ }) d
 step-by-value s s′ c a (advances r d) = by-value.advances (record { answer = r; session = s′ }) d
 step-by-value s s′ c a (cancels r d) = by-value.cancels (record { answer = r; session = s′ }) d

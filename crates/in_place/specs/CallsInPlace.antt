@@ -18,7 +18,7 @@ use Rattle.session.specs.Answers.{callAnswer, startAnswer, advanceAnswer, readA
 use Rattle.session.specs.Promises.{CallDone, LoadDone, answerOn}
 
 pub data CallInPlace : Session → Call → Answer → Session → Type 0 where
-  loads : {s s′ : Session} {x : Inputs} (r : CallAnswer) (nums bytes : List ℕ) → LoadDone s x (callAnswer r) s′ nums bytes
+  loads : {s s′ : Session} {x : Inputs} (r : CallAnswer) (nodeTable stateTable : List ℕ) → LoadDone s x (callAnswer r) s′ nodeTable stateTable
       → CallInPlace s (load x) (callAnswer r) s′
   starts : {s s′ : Session} {x : Inputs} {vs bs : List ℕ} (r : StartAnswer) → CallDone s (start x vs bs) (startAnswer r) s′
       → CallInPlace s (start x vs bs) (startAnswer r) s′

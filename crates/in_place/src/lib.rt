@@ -17,16 +17,16 @@ pub fn load(
     s: &mut Session,
     plan: &[u8],
     rules: &[u8],
-    nums: &mut [u16],
-    bytes: &mut [u8],
+    node_table: &mut [u16],
+    state_table: &mut [u8],
 ) -> CallAnswer
     ensures { λ r. ⌜
         LoadDone (now (s .entry))
-        (inputsOf (now (plan .entry)) (now (rules .entry)) (now (nums .entry)) (now (bytes .entry)))
-        (callAnswer r) (now (s .exit)) (now (nums .exit)) (now (bytes .exit)) ⌝ }
+        (inputsOf (now (plan .entry)) (now (rules .entry)) (now («node_table» .entry)) (now («state_table» .entry)))
+        (callAnswer r) (now (s .exit)) (now («node_table» .exit)) (now («state_table» .exit)) ⌝ }
 {
     let old = *s;
-    let out = old.load(plan, rules, nums, bytes);
+    let out = old.load(plan, rules, node_table, state_table);
     *s = out.session;
     out.answer
 }
@@ -36,19 +36,19 @@ pub fn start(
     s: &mut Session,
     plan: &[u8],
     rules: &[u8],
-    nums: &[u16],
-    bytes: &[u8],
+    node_table: &[u16],
+    state_table: &[u8],
     nodes: &[u16],
     labels: &[u8],
 ) -> StartAnswer
     ensures { λ r. ⌜
         CallDone (now (s .entry))
-        (calls.start (inputsOf (now (plan .entry)) (now (rules .entry)) (now (nums .entry)) (now (bytes .entry)))
+        (calls.start (inputsOf (now (plan .entry)) (now (rules .entry)) (now («node_table» .entry)) (now («state_table» .entry)))
         (now (nodes .entry)) (now (labels .entry)))
         (startAnswer r) (now (s .exit)) ⌝ }
 {
     let old = *s;
-    let out = old.start(plan, rules, nums, bytes, nodes, labels);
+    let out = old.start(plan, rules, node_table, state_table, nodes, labels);
     *s = out.session;
     out.answer
 }
@@ -58,16 +58,16 @@ pub fn advance(
     s: &mut Session,
     plan: &[u8],
     rules: &[u8],
-    nums: &[u16],
-    bytes: &[u8],
+    node_table: &[u16],
+    state_table: &[u8],
 ) -> AdvanceAnswer
     ensures { λ r. ⌜
         CallDone (now (s .entry))
-        (calls.advance (inputsOf (now (plan .entry)) (now (rules .entry)) (now (nums .entry)) (now (bytes .entry))))
+        (calls.advance (inputsOf (now (plan .entry)) (now (rules .entry)) (now («node_table» .entry)) (now («state_table» .entry))))
         (advanceAnswer r) (now (s .exit)) ⌝ }
 {
     let old = *s;
-    let out = old.advance(plan, rules, nums, bytes);
+    let out = old.advance(plan, rules, node_table, state_table);
     *s = out.session;
     out.answer
 }

@@ -19,14 +19,14 @@ use Rattle.trees.proofs.RowLaws.{cell-in}
 use Rattle.formats.specs.Bytes.{allBelow, holds}
 use Rattle.formats.specs.Plan.{nodeCount, planTree, labelsIn, kindsIn, planLength}
 use Rattle.formats.specs.Rules.{stateCount, labelCount, leafStates, innerStates, ruleAutomaton}
-use Rattle.formats.specs.Checks.{linkLength, stateLength}
-use Rattle.formats.specs.Built.{builtLinks}
+use Rattle.formats.specs.Checks.{nodeTableLength, stateTableLength}
+use Rattle.formats.specs.Built.{builtNodeTable}
 use Rattle.formats.proofs.ListLaws.{allBelow-all}
 use Rattle.formats.proofs.PlanLaws.{PlanPasses, size-planTree, kinds-planTree, labels-planTree}
 use Rattle.formats.proofs.RuleLaws.{RulesPass, leaf-state-below, inner-state-below}
 use Rattle.formats.proofs.InputLaws.{ListPasses, list-passes, label-below}
-use Rattle.links.specs.LinkCells.{LinkCells}
-use Rattle.links.proofs.CellLaws.{link-cells, length-linkTable}
+use Rattle.node_tables.specs.NodeCells.{NodeCells}
+use Rattle.node_tables.proofs.CellLaws.{link-cells, length-nodeTableOf}
 use Rattle.tables.specs.StateCells.{stateCell, mapCell}
 use Rattle.tables.specs.Climbs.{View, viewOf}
 use Rattle.ready.specs.Members.{roots}
@@ -52,11 +52,11 @@ module _ (z : Sizes) (x : Inputs) (B : Built z x) where
   tree-size = sym (size-planTree (x .plan) (plan-of z x B) ∙ B .n-is)
 
   -- the node table in use is that of the definition, so their cells are the tree's
-  cells : LinkCells (planTree (x .plan)) (usedNodeTable z x)
+  cells : NodeCells (planTree (x .plan)) (usedNodeTable z x)
   cells =
       link-cells (planTree (x .plan)) (size (planTree (x .plan))) (usedNodeTable z x) refl
-      (take-all (linkLength (size (planTree (x .plan)))) (usedNodeTable z x)
-      (let e : length (usedNodeTable z x) ≡ size (planTree (x .plan)) * 4 = ap length (B .nodeTable) ∙ length-linkTable (planTree (x .plan)) in omega arith)
+      (take-all (nodeTableLength (size (planTree (x .plan)))) (usedNodeTable z x)
+      (let e : length (usedNodeTable z x) ≡ size (planTree (x .plan)) * 4 = ap length (B .nodeTable) ∙ length-nodeTableOf (planTree (x .plan)) in omega arith)
       ∙ B .nodeTable)
 
 start-fact : (z : Sizes) (x : Inputs) (vs : List ℕ) → nodeTableBuilt z x ≡ true → allBelow (z .n) vs ≡ true
@@ -138,9 +138,9 @@ module _ (z : Sizes) (y : Inputs) (vs bs : List ℕ) (x : Inputs) (F : SettledIn
   inner-same p a q =
       ap₂ (λ (m l : ℕ). ruled p a q m l (y .rules)) (B .s-is) (B .k-is) ∙ ap (ruled p a q (z .s) (z .k)) (S .rules)
 
-  bytes-small : (j : ℕ) → getD (usedStateTable z x) j 0 < z .s
+  state-table-small : (j : ℕ) → getD (usedStateTable z x) j 0 < z .s
   unfolding statesBelow
-  bytes-small j = allBelow-all (z .s) (usedStateTable z x) (F .below) s-pos j
+  state-table-small j = allBelow-all (z .s) (usedStateTable z x) (F .below) s-pos j
 
   reads : Reads (viewBy z x) (givenOf z y x vs bs)
   unfolding givenOf ruled
@@ -148,7 +148,7 @@ module _ (z : Sizes) (y : Inputs) (vs bs : List ℕ) (x : Inputs) (F : SettledIn
     count = tree-size z y B;
     labels = ap₂ (λ (n : ℕ) (p : List ℕ). take n (drop 12 p)) (sym (B .n-is)) (sym (S .plan)) ∙ sym (labels-planTree (y .plan) pp);
     kinds = ap₂ (λ (n : ℕ) (p : List ℕ). take n (drop (12 + n) p)) (sym (B .n-is)) (sym (S .plan)) ∙ sym (kinds-planTree (y .plan) pp);
-    cells = subst (λ (l : List ℕ). LinkCells (planTree (y .plan)) l) (S .nodeTable) (cells z y B);
+    cells = subst (λ (l : List ℕ). NodeCells (planTree (y .plan)) l) (S .nodeTable) (cells z y B);
     states = B .s-is;
     leaf = λ a. ap₂ (λ (k : ℕ) (r : List ℕ). getD (take k (drop 20 r)) a 0) (B .k-is) (S .rules);
     inner = λ p a q. inner-same p a q;
@@ -164,8 +164,8 @@ module _ (z : Sizes) (y : Inputs) (vs bs : List ℕ) (x : Inputs) (F : SettledIn
         (allBelow-all (z .k) bs (lp .labels-below) k-pos) v;
     run = λ v. refl;
     map = λ v q. refl;
-    run-below = λ v h. bytes-small (v * (z .s + 1));
-    map-below = λ v q h l. bytes-small (v * (z .s + 1) + (1 + q));
+    run-below = λ v h. state-table-small (v * (z .s + 1));
+    map-below = λ v q h l. state-table-small (v * (z .s + 1) + (1 + q));
   }
 
   module _ (ps : List Part) (H : Handled (z .s) (rootsIn y vs) ps) (l : length ps < length (rootsIn y vs)) where

@@ -28,8 +28,8 @@ use Rattle.questions.specs.Part.{partOn}
 use Rattle.questions.specs.Promises.{RootsAre}
 use Rattle.questions.proofs.RootsLaws.{rootsOn-are}
 use Rattle.questions.proofs.PartBounds.{part-bounded}
-use Rattle.questions.proofs.RootsAstray.{roots-astray}
-use Rattle.questions.proofs.PartAstray.{part-astray}
+use Rattle.questions.proofs.RootsRange.{roots-out-of-range}
+use Rattle.questions.proofs.PartRange.{part-out-of-range}
 use Rattle.formats.specs.Inputs.{Inputs, sameNodeInputs, usedNodeTable, nodeTableBuilt, statesBelow}
 use Rattle.model.specs.Calls.{Call, load, start, advance, cancel, read, refused, parts, more, finished, Phase}
 use Rattle.model.specs.Refusals.{refusal}
@@ -103,7 +103,7 @@ module _ (r : Record) (x : Inputs) (vs bs : List ℕ) where
   unfolding startWith started
   found e h none q = record {
     few = λ p w. absurd (let z : _≡_ {A = ℕ} 0 1 = cc in omega arith);
-    out-of-range = λ w. roots-astray (r .sizes .n) (usedNodeTable (r .sizes) x) vs h (listed e .nodes-below) q;
+    out-of-range = λ w. roots-out-of-range (r .sizes .n) (usedNodeTable (r .sizes) x) vs h (listed e .nodes-below) q;
     built = λ f l. absurd (none-some (sym q ∙ layers .roots-built (r .sizes) x vs l (listed e .nodes-below)));
   }
   found e h (some l) q = record {
@@ -212,7 +212,7 @@ module _ (r : Record) (x : Inputs) where
   after h e none q = record {
     stored = λ f. absurd (true-false f);
     counted = λ f. absurd (true-false f);
-    out-of-range = λ w. part-astray (viewBy (r .sizes) x) (r .states) (r .nodes) (r .labels) (take (length (r .states)) (r .roots))
+    out-of-range = λ w. part-out-of-range (viewBy (r .sizes) x) (r .states) (r .nodes) (r .labels) (take (length (r .states)) (r .roots))
         (getD (r .roots) (length (r .states)) 0) (h e) q;
     rule = λ ps f U. absurd (none-some (sym q ∙ by-rule ps e U));
   }

@@ -20,12 +20,12 @@ use lib.ListN.{length, getD, take}
 use Rattle.formats.specs.Bytes.{allBelow}
 use Rattle.formats.specs.Plan.{planTree}
 use Rattle.formats.specs.Checks.{firstNo, listChecks}
-use Rattle.links.specs.Astray.{LinksAstray}
+use Rattle.node_tables.specs.OutOfRange.{NodeTableOutOfRange}
 use Rattle.ready.specs.Members.{roots}
 use Rattle.ready.specs.Parts.{Part, nodesOf, statesOf, partState, partLinks}
 use Rattle.tables.specs.declared.answers.Reached.{Reached}
 use Rattle.tables.specs.Climbs.{reached}
-use Rattle.questions.specs.Astray.{Astray}
+use Rattle.questions.specs.OutOfRange.{PartOutOfRange}
 use Rattle.questions.specs.Promises.{RootsAre}
 use Rattle.formats.specs.Inputs.{Inputs, usedNodeTable, nodeTableBuilt, statesBelow}
 use Rattle.model.specs.Calls.{Call, load, start, advance, cancel, read, Answer, refused, parts, isRefused}
@@ -35,7 +35,7 @@ use Rattle.model.specs.PartInputs.{givenOf}
 
 pub record StartProperties (r : Record) (x : Inputs) (vs bs : List ℕ) (a : Answer) (r′ : Record) : Type 0 where
   pub few : (p : ℕ) → a ≡ parts p → (length (r′ .roots) ≡ p) × RootsAre (r .sizes .n) (length vs) (r′ .roots)
-  pub out-of-range : a ≡ refused 18 → LinksAstray (r .sizes .n) (usedNodeTable (r .sizes) x)
+  pub out-of-range : a ≡ refused 18 → NodeTableOutOfRange (r .sizes .n) (usedNodeTable (r .sizes) x)
   pub built : refusal (stageOf r) (start x vs bs) ≡ 0 → nodeTableBuilt (r .sizes) x ≡ true
       → (a ≡ parts (length (roots (planTree (x .plan)) vs))) × (r′ .roots ≡ roots (planTree (x .plan)) vs)
 
@@ -58,7 +58,7 @@ ruleGives r x ps =
 pub record AdvanceProperties (r : Record) (x : Inputs) (a : Answer) (r′ : Record) : Type 0 where
   pub stored : isRefused a ≡ false → (q : ℕ) × (r′ .states ≡ r .states ++ (q ∷ [])) × (q < r .sizes .s)
   pub counted : isRefused a ≡ false → r′ .links ≤ r .links + r .sizes .n
-  pub out-of-range : a ≡ refused 18 → Astray (viewBy (r .sizes) x) (r .states) (r .nodes) (r .labels)
+  pub out-of-range : a ≡ refused 18 → PartOutOfRange (viewBy (r .sizes) x) (r .states) (r .nodes) (r .labels)
   pub rule : (ps : List Part) → refusal (stageOf r) (advance x) ≡ 0 → Usable r x ps
       → (a ≡ advanceWith r x (some (ruleGives r x ps)) .answer) × (r′ ≡ advanceWith r x (some (ruleGives r x ps)) .record′)
 

@@ -23,35 +23,35 @@ use Rattle.session.specs.Promises.{answerOn, recordOn, CallDone}
 use Rattle.probes.specs.declared.layers.Part.{Part}
 use Rattle.probes.specs.declared.whole.Question.{Question}
 use Rattle.probes.specs.declared.whole.Steps.{Steps}
-use Rattle.probes.specs.Probed.{RootsProbed, partTold, advanced, partsTold, after, startParts, stepsTold}
-use Rattle.probes.specs.Probed.{nothingTold, readTold, questionTold}
+use Rattle.probes.specs.Probed.{RootsProbed, partIn, advanced, partsIn, after, startParts, stepsIn}
+use Rattle.probes.specs.Probed.{nothingIn, readIn, questionIn}
 
 pub roots-probed : (x y : Rooted) → x ≡ y → RootsProbed y (x .count) (x .nodes)
 roots-probed x y e = record { count = ap (λ (z : Rooted). z .count) e; roots = ap (λ (z : Rooted). z .nodes) e }
 
 pub part-reached : (x y : Climbed) (z : Reached) → x ≡ To z → x ≡ y
-    → _≡_ {A = Part} (record { state = z .state; links = z .links }) (partTold y)
-part-reached x y z e f = ap partTold (sym e ∙ f)
+    → _≡_ {A = Part} (record { state = z .state; links = z .links }) (partIn y)
+part-reached x y z e f = ap partIn (sym e ∙ f)
 
-pub part-outside : (x y : Climbed) → x ≡ OutOfRange → x ≡ y → _≡_ {A = Part} (record { state = 16; links = 0 }) (partTold y)
-part-outside x y e f = ap partTold (sym e ∙ f)
+pub part-outside : (x y : Climbed) → x ≡ OutOfRange → x ≡ y → _≡_ {A = Part} (record { state = 16; links = 0 }) (partIn y)
+part-outside x y e f = ap partIn (sym e ∙ f)
 
-pub parts-some : (t : StartAnswer) (p : ℕ) → t ≡ Parts p → p ≡ partsTold (startAnswer t)
-unfolding partsTold startAnswer
-parts-some t p e = sym (ap (λ (x : StartAnswer). partsTold (startAnswer x)) e)
+pub parts-some : (t : StartAnswer) (p : ℕ) → t ≡ Parts p → p ≡ partsIn (startAnswer t)
+unfolding partsIn startAnswer
+parts-some t p e = sym (ap (λ (x : StartAnswer). partsIn (startAnswer x)) e)
 
-pub parts-none : (t : StartAnswer) (n : ℕ) → t ≡ NotStarted n → 0 ≡ partsTold (startAnswer t)
-unfolding partsTold startAnswer
-parts-none t n e = sym (ap (λ (x : StartAnswer). partsTold (startAnswer x)) e)
+pub parts-none : (t : StartAnswer) (n : ℕ) → t ≡ NotStarted n → 0 ≡ partsIn (startAnswer t)
+unfolding partsIn startAnswer
+parts-none t n e = sym (ap (λ (x : StartAnswer). partsIn (startAnswer x)) e)
 
 pub read-some : (a : ReadAnswer) (o : Outcome) → a ≡ Read o
-    → _≡_ {A = Question} (record { state = o .state; yes = o .yes; parts = o .parts; links = o .links }) (readTold (readAnswer a))
-unfolding readTold readAnswer
-read-some a o e = sym (ap (λ (x : ReadAnswer). readTold (readAnswer x)) e)
+    → _≡_ {A = Question} (record { state = o .state; yes = o .yes; parts = o .parts; links = o .links }) (readIn (readAnswer a))
+unfolding readIn readAnswer
+read-some a o e = sym (ap (λ (x : ReadAnswer). readIn (readAnswer x)) e)
 
-pub read-none : (a : ReadAnswer) (n : ℕ) → a ≡ NotRead n → nothingTold ≡ readTold (readAnswer a)
-unfolding readTold readAnswer
-read-none a n e = sym (ap (λ (x : ReadAnswer). readTold (readAnswer x)) e)
+pub read-none : (a : ReadAnswer) (n : ℕ) → a ≡ NotRead n → nothingIn ≡ readIn (readAnswer a)
+unfolding readIn readAnswer
+read-none a n e = sym (ap (λ (x : ReadAnswer). readIn (readAnswer x)) e)
 
 module _ (x : Inputs) (u end : Session) (left : ℕ) (o : advanced left x u ≡ end) where
   pub once-more : (r : Session) → 0 < left → r ≡ recordOn u (advance x) → advanced (left - 1) x r ≡ end
@@ -75,23 +75,23 @@ module _ (x : Inputs) (vs bs : List ℕ) (s before : Session) (o : Started) (is 
   started : CallDone s (start x vs bs) (startAnswer (o .answer)) (o .session)
   started = subst (λ (z : Session). CallDone z (start x vs bs) (startAnswer (o .answer)) (o .session)) is D
 
-  parts-are : (p : ℕ) → p ≡ partsTold (startAnswer (o .answer)) → p ≡ startParts x vs bs s
+  parts-are : (p : ℕ) → p ≡ partsIn (startAnswer (o .answer)) → p ≡ startParts x vs bs s
   unfolding startParts
-  parts-are p e = e ∙ ap partsTold (started .tells)
+  parts-are p e = e ∙ ap partsIn (started .tells)
 
   ends-at : (i : ℕ) (end : Session) → end ≡ advanced i x (o .session) → end ≡ after x vs bs i s
   unfolding after
   ends-at i end e = e ∙ ap (advanced i x) (started .leaves)
 
-  pub steps-told : (i p : ℕ) (end : Session) → p ≡ partsTold (startAnswer (o .answer)) → end ≡ advanced i x (o .session)
-      → _≡_ {A = Steps} (record { parts = p; links = end .head .links }) (stepsTold x vs bs i s)
-  unfolding stepsTold
-  steps-told i p end e f = ap₂ stepsOf (parts-are p e) (ap (λ (z : Session). z .head .links) (ends-at i end f))
+  pub steps-answer : (i p : ℕ) (end : Session) → p ≡ partsIn (startAnswer (o .answer)) → end ≡ advanced i x (o .session)
+      → _≡_ {A = Steps} (record { parts = p; links = end .head .links }) (stepsIn x vs bs i s)
+  unfolding stepsIn
+  steps-answer i p end e f = ap₂ stepsOf (parts-are p e) (ap (λ (z : Session). z .head .links) (ends-at i end f))
 
-  pub question-told : (p : ℕ) (end : Session) (a : ReadAnswer) (r : Question) → p ≡ partsTold (startAnswer (o .answer))
+  pub question-answer : (p : ℕ) (end : Session) (a : ReadAnswer) (r : Question) → p ≡ partsIn (startAnswer (o .answer))
       → end ≡ advanced p x (o .session)
-      → readAnswer a ≡ answerOn end read → r ≡ readTold (readAnswer a) → r ≡ questionTold x vs bs s
-  unfolding questionTold
-  question-told p end a r e f g h =
-      h ∙ ap readTold (g ∙ ap (λ (z : Session). answerOn z read)
+      → readAnswer a ≡ answerOn end read → r ≡ readIn (readAnswer a) → r ≡ questionIn x vs bs s
+  unfolding questionIn
+  question-answer p end a r e f g h =
+      h ∙ ap readIn (g ∙ ap (λ (z : Session). answerOn z read)
       (ends-at p end f ∙ ap (λ (i : ℕ). after x vs bs i s) (parts-are p e)))

@@ -1,15 +1,15 @@
 -- What the probes promise, by the definitions of the layers below.
 --
 -- RootsProbed x n l == how many roots the answer x has, and the roots with zeros behind them; 0 and zeros where they are refused
--- partTold x == the state and the links of part x; 16 and 0 where it is refused
+-- partIn x == the state and the links of part x; 16 and 0 where it is refused
 --
 -- loadedWith n s k == a loaded session of N, S and K
 -- advanced i x s == session s after i advances with the inputs x
--- partsTold a == the parts that answer a tells; 0 for any other answer
--- stepsTold x vs bs i s == the parts of a question, and its links after i advances
+-- partsIn a == the parts that answer a tells; 0 for any other answer
+-- stepsIn x vs bs i s == the parts of a question, and its links after i advances
 -- after x vs bs i s == session s after Start and i advances; startParts x vs bs s == the parts that Start tells
--- readTold a == what answer a of Read tells; state 16 and zeros for any other
--- questionTold x vs bs s == what Read tells after Start and as many advances as it told parts
+-- readIn a == what answer a of Read tells; state 16 and zeros for any other
+-- questionIn x vs bs s == what Read tells after Start and as many advances as it told parts
 --
 -- Assumes nothing.
 use Prim.Native.Nat.{ℕ, zero, suc}
@@ -33,9 +33,9 @@ pub record RootsProbed (x : Rooted) (n : ℕ) (l : List ℕ) : Type 0 where
   pub count : n ≡ x .count
   pub roots : l ≡ x .nodes
 
-abbrev pub partTold : Climbed → Part
-partTold OutOfRange = record { state = 16; links = 0 }
-partTold (To x) = record { state = x .state; links = x .links }
+abbrev pub partIn : Climbed → Part
+partIn OutOfRange = record { state = 16; links = 0 }
+partIn (To x) = record { state = x .state; links = x .links }
 
 -- ---- the session by value
 
@@ -46,24 +46,24 @@ unfoldable pub advanced : ℕ → Inputs → Session → Session
 advanced zero x s = s
 advanced (suc i) x s = advanced i x (recordOn s (advance x))
 
-unfoldable pub partsTold : Answer → ℕ
-partsTold a = onParts (λ p. p) 0 a
+unfoldable pub partsIn : Answer → ℕ
+partsIn a = onParts (λ p. p) 0 a
 
 unfoldable pub after : Inputs → List ℕ → List ℕ → ℕ → Session → Session
 after x vs bs i s = advanced i x (recordOn s (start x vs bs))
 
 unfoldable pub startParts : Inputs → List ℕ → List ℕ → Session → ℕ
-startParts x vs bs s = partsTold (answerOn s (start x vs bs))
+startParts x vs bs s = partsIn (answerOn s (start x vs bs))
 
-unfoldable pub stepsTold : Inputs → List ℕ → List ℕ → ℕ → Session → Steps
-stepsTold x vs bs i s = record { parts = startParts x vs bs s; links = after x vs bs i s .head .links }
+unfoldable pub stepsIn : Inputs → List ℕ → List ℕ → ℕ → Session → Steps
+stepsIn x vs bs i s = record { parts = startParts x vs bs s; links = after x vs bs i s .head .links }
 
-abbrev pub nothingTold : Question
-nothingTold = record { state = 16; yes = false; parts = 0; links = 0 }
+abbrev pub nothingIn : Question
+nothingIn = record { state = 16; yes = false; parts = 0; links = 0 }
 
-unfoldable pub readTold : Answer → Question
-readTold a =
-    onOutcome (λ o. record { state = o .state; yes = o .yes; parts = o .parts; links = o .links }) nothingTold a
+unfoldable pub readIn : Answer → Question
+readIn a =
+    onOutcome (λ o. record { state = o .state; yes = o .yes; parts = o .parts; links = o .links }) nothingIn a
 
-unfoldable pub questionTold : Inputs → List ℕ → List ℕ → Session → Question
-questionTold x vs bs s = readTold (answerOn (after x vs bs (startParts x vs bs s) s) read)
+unfoldable pub questionIn : Inputs → List ℕ → List ℕ → Session → Question
+questionIn x vs bs s = readIn (answerOn (after x vs bs (startParts x vs bs s) s) read)

@@ -8,7 +8,7 @@ use session::state::idle;
 ghost use mathlib.Core.Path.{_≡_};
 ghost use Rattle.session.specs.Answers.{startAnswer, readAnswer};
 ghost use Rattle.formats.specs.Inputs.{inputsOf};
-ghost use Rattle.probes.specs.Probed.{loadedWith, partsTold, advanced, stepsTold, readTold, questionTold};
+ghost use Rattle.probes.specs.Probed.{loadedWith, partsIn, advanced, stepsIn, readIn, questionIn};
 
 // A question's parts, and its links so far.
 #[repr(C)]
@@ -35,8 +35,8 @@ fn loaded(n: u16, s: u8, k: u8) -> Session
 }
 
 // As many parts as Start tells; 0 where it is refused.
-fn parts_told(answer: StartAnswer) -> u32
-    ensures { λ r. ⌜ r ≡ partsTold (startAnswer answer) ⌝ }
+fn parts_in(answer: StartAnswer) -> u32
+    ensures { λ r. ⌜ r ≡ partsIn (startAnswer answer) ⌝ }
 {
     match answer {
         StartAnswer::Parts(p) => {
@@ -54,16 +54,16 @@ fn advance_by(
     s: Session,
     plan: &[u8],
     rules: &[u8],
-    nums: &[u16],
-    bytes: &[u8],
+    node_table: &[u16],
+    state_table: &[u8],
 ) -> Session
     ensures { λ r. ⌜ r
-        ≡ advanced count (inputsOf (now (plan .entry)) (now (rules .entry)) (now (nums .entry)) (now (bytes .entry))) s ⌝ }
+        ≡ advanced count (inputsOf (now (plan .entry)) (now (rules .entry)) (now («node_table» .entry)) (now («state_table» .entry))) s ⌝ }
 {
     let mut u = s;
     let mut left = count;
     while left > 0 {
-        let out = u.advance(plan, rules, nums, bytes);
+        let out = u.advance(plan, rules, node_table, state_table);
         u = out.session;
         left -= 1;
     }
@@ -78,22 +78,22 @@ pub extern "C" fn probe_steps(
     k: u8,
     plan: &[u8],
     rules: &[u8],
-    nums: &[u16],
-    bytes: &[u8],
+    node_table: &[u16],
+    state_table: &[u8],
     nodes: &[u16],
     labels: &[u8],
     count: u32,
 ) -> Steps
     ensures { λ r. ⌜ r
-        ≡ stepsTold (inputsOf (now (plan .entry)) (now (rules .entry)) (now (nums .entry)) (now (bytes .entry)))
+        ≡ stepsIn (inputsOf (now (plan .entry)) (now (rules .entry)) (now («node_table» .entry)) (now («state_table» .entry)))
         (now (nodes .entry)) (now (labels .entry)) count (loadedWith n s k) ⌝ }
 {
     let before = loaded(n, s, k);
-    let out = before.start(plan, rules, nums, bytes, nodes, labels);
+    let out = before.start(plan, rules, node_table, state_table, nodes, labels);
     let answer = out.answer;
     let put = out.session;
-    let parts = parts_told(answer);
-    let end = advance_by(count, put, plan, rules, nums, bytes);
+    let parts = parts_in(answer);
+    let end = advance_by(count, put, plan, rules, node_table, state_table);
     Steps {
         parts,
         links: end.head.links,
@@ -101,8 +101,8 @@ pub extern "C" fn probe_steps(
 }
 
 // What Read tells; state 16 where it is refused.
-fn read_told(answer: ReadAnswer) -> Question
-    ensures { λ r. ⌜ r ≡ readTold (readAnswer answer) ⌝ }
+fn read_in(answer: ReadAnswer) -> Question
+    ensures { λ r. ⌜ r ≡ readIn (readAnswer answer) ⌝ }
 {
     match answer {
         ReadAnswer::Outcome(o) => {
@@ -132,20 +132,20 @@ pub extern "C" fn probe_question(
     k: u8,
     plan: &[u8],
     rules: &[u8],
-    nums: &[u16],
-    bytes: &[u8],
+    node_table: &[u16],
+    state_table: &[u8],
     nodes: &[u16],
     labels: &[u8],
 ) -> Question
     ensures { λ r. ⌜ r
-        ≡ questionTold (inputsOf (now (plan .entry)) (now (rules .entry)) (now (nums .entry)) (now (bytes .entry)))
+        ≡ questionIn (inputsOf (now (plan .entry)) (now (rules .entry)) (now («node_table» .entry)) (now («state_table» .entry)))
         (now (nodes .entry)) (now (labels .entry)) (loadedWith n s k) ⌝ }
 {
     let before = loaded(n, s, k);
-    let out = before.start(plan, rules, nums, bytes, nodes, labels);
+    let out = before.start(plan, rules, node_table, state_table, nodes, labels);
     let answer = out.answer;
     let put = out.session;
-    let end = advance_by(parts_told(answer), put, plan, rules, nums, bytes);
+    let end = advance_by(parts_in(answer), put, plan, rules, node_table, state_table);
     let outcome = end.read();
-    read_told(outcome)
+    read_in(outcome)
 }

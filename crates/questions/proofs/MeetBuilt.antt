@@ -24,9 +24,9 @@ use Rattle.trees.proofs.JumpLaws.{jump-in, depth-jump}
 use Rattle.trees.proofs.MapLaws.{jump-ancestor}
 use Rattle.trees.proofs.SkewBinary.{jumpDepth-lt}
 use Rattle.trees.proofs.IntervalLaws.{ancestor-interval}
-use Rattle.links.specs.Cells.{sizeCell, cellForest}
-use Rattle.links.specs.LinkCells.{LinkCells}
-use Rattle.links.specs.Cells.{isInSubtreeOn}
+use Rattle.node_tables.specs.Cells.{sizeCell, cellForest}
+use Rattle.node_tables.specs.NodeCells.{NodeCells}
+use Rattle.node_tables.specs.Cells.{isInSubtreeOn}
 use Rattle.ready.specs.Ready.{Meet}
 use Rattle.ready.proofs.UnderLaws.{under-trans, under-root, meet-here, meet-up}
 use Rattle.ready.proofs.ClosedForm.{comparable}
@@ -64,27 +64,27 @@ module _ (t : Tree) where
       let b : InSubtree t y x = m .lowest y (k .inside) (k .first) (k .second) in
       omega arith
 
-  module _ (nums : List ℕ) (L : LinkCells t nums) where
-    pub below-is : (c v : ℕ) → c < size t → isInSubtreeOn nums c v ≡ isInSubtree c (size (sub t c)) v
+  module _ (nodeTable : List ℕ) (L : NodeCells t nodeTable) where
+    pub below-is : (c v : ℕ) → c < size t → isInSubtreeOn nodeTable c v ≡ isInSubtree c (size (sub t c)) v
     unfolding isInSubtree
     below-is c v h = ap (λ (s : ℕ). leb v c && ltb c (v + s)) (L .sizes c h)
 
     module _ (u : ℕ) (hu : u < size t) where
-      stops : (x : ℕ) → x < size t → isInSubtreeOn nums x u ≡ true → InSubtree t x u
+      stops : (x : ℕ) → x < size t → isInSubtreeOn nodeTable x u ≡ true → InSubtree t x u
       stops x h e = under-yes t x u (sym (below-is x u h) ∙ e)
 
-      goes : (x : ℕ) → x < size t → isInSubtreeOn nums x u ≡ false → InSubtree t x u → ⊥
+      goes : (x : ℕ) → x < size t → isInSubtreeOn nodeTable x u ≡ false → InSubtree t x u → ⊥
       goes x h e = under-no t x u (sym (below-is x u h) ∙ e)
 
       -- a node that has not u below it is not the root
-      proper : (v : ℕ) → v < size t → isInSubtreeOn nums v u ≡ false → v + 1 < size t
+      proper : (v : ℕ) → v < size t → isInSubtreeOn nodeTable v u ≡ false → v + 1 < size t
       proper v h e = elim (ℕ-discrete (v + 1) (size t)) [
         | yes z ↦ absurd (goes v h e (under-root t v u z hu))
         | no z ↦ omega arith
       ]
 
       -- the jump is above, in the tree and of smaller depth
-      jump-cell : (v : ℕ) → v < size t → cellForest (size t) nums .jump v < size t
+      jump-cell : (v : ℕ) → v < size t → cellForest (size t) nodeTable .jump v < size t
       jump-cell v h = omega (arith, L .jumps v h, jump-in t v h)
 
       jump-rises : (v : ℕ) → v + 1 < size t → depth t (jump t v) < depth t v
@@ -93,50 +93,50 @@ module _ (t : Tree) where
       jump-over : (v : ℕ) → v < size t → InSubtree t (jump t v) v
       jump-over v h = ancestor-interval t (jump t v) v (jumpLength t v) h (omega arith) (sym (jump-ancestor t v h))
 
-      move-parent : (v : ℕ) → v + 1 < size t → isInSubtreeOn nums (cellForest (size t) nums .jump v) u ≡ true
-          → nextUnless (cellForest (size t) nums) (λ x. isInSubtreeOn nums x u) v ≡ some (toParent v)
+      move-parent : (v : ℕ) → v + 1 < size t → isInSubtreeOn nodeTable (cellForest (size t) nodeTable .jump v) u ≡ true
+          → nextUnless (cellForest (size t) nodeTable) (λ x. isInSubtreeOn nodeTable x u) v ≡ some (toParent v)
       move-parent v h e =
           let p = L .parents v (omega arith) in
-          by-parent (cellForest (size t) nums) (λ x. isInSubtreeOn nums x u) v (jump-cell v (omega arith)) e
+          by-parent (cellForest (size t) nodeTable) (λ x. isInSubtreeOn nodeTable x u) v (jump-cell v (omega arith)) e
           (omega (arith, p, up t v h .below))
-          (omega (arith, ap (cellForest (size t) nums .depth) p, L .depths (parent t v) (up t v h .below), L .depths v (omega arith), up t v h .deeper))
+          (omega (arith, ap (cellForest (size t) nodeTable .depth) p, L .depths (parent t v) (up t v h .below), L .depths v (omega arith), up t v h .deeper))
 
-      move-jump : (v : ℕ) → v + 1 < size t → isInSubtreeOn nums (cellForest (size t) nums .jump v) u ≡ false
-          → nextUnless (cellForest (size t) nums) (λ x. isInSubtreeOn nums x u) v ≡ some (byJump v)
+      move-jump : (v : ℕ) → v + 1 < size t → isInSubtreeOn nodeTable (cellForest (size t) nodeTable .jump v) u ≡ false
+          → nextUnless (cellForest (size t) nodeTable) (λ x. isInSubtreeOn nodeTable x u) v ≡ some (byJump v)
       move-jump v h e =
           let j = L .jumps v (omega arith) in
-          by-jump (cellForest (size t) nums) (λ x. isInSubtreeOn nums x u) v (jump-cell v (omega arith)) e
-          (omega (arith, ap (cellForest (size t) nums .depth) j, L .depths (jump t v) (jump-in t v (omega arith)), L .depths v (omega arith), jump-rises v h))
+          by-jump (cellForest (size t) nodeTable) (λ x. isInSubtreeOn nodeTable x u) v (jump-cell v (omega arith)) e
+          (omega (arith, ap (cellForest (size t) nodeTable .depth) j, L .depths (jump t v) (jump-in t v (omega arith)), L .depths v (omega arith), jump-rises v h))
 
       -- what the search finds from v on
       abbrev Finds : ℕ → Type 0
-      Finds v = (x : ℕ) × (meetOn (size t) nums u v ≡ some x) × Meet t u v x
+      Finds v = (x : ℕ) × (meetOn (size t) nodeTable u v ≡ some x) × Meet t u v x
 
-      found-here : (v : ℕ) → v < size t → isInSubtreeOn nums v u ≡ true → Finds v
+      found-here : (v : ℕ) → v < size t → isInSubtreeOn nodeTable v u ≡ true → Finds v
       unfolding meetOn
-      found-here v h e = (v, search-here (cellForest (size t) nums) (λ x. isInSubtreeOn nums x u) v e, meet-here t u v h (stops v h e))
+      found-here v h e = (v, search-here (cellForest (size t) nodeTable) (λ x. isInSubtreeOn nodeTable x u) v e, meet-here t u v h (stops v h e))
 
       -- one move to node y, above v and without u below it unless it is v's parent
-      moved : (v y : ℕ) (m : Move) → v < size t → y < size t → isInSubtreeOn nums v u ≡ false
-          → nextUnless (cellForest (size t) nums) (λ x. isInSubtreeOn nums x u) v ≡ some m → target (cellForest (size t) nums) m ≡ y
+      moved : (v y : ℕ) (m : Move) → v < size t → y < size t → isInSubtreeOn nodeTable v u ≡ false
+          → nextUnless (cellForest (size t) nodeTable) (λ x. isInSubtreeOn nodeTable x u) v ≡ some m → target (cellForest (size t) nodeTable) m ≡ y
           → ((x : ℕ) → Meet t u y x → Meet t u v x) → Finds y → Finds v
       unfolding meetOn
       moved v y m hv hy e n q f F = (
         F .0,
-        search-move (cellForest (size t) nums) (λ x. isInSubtreeOn nums x u) v m e n
-            ∙ ap (search (cellForest (size t) nums) (λ x. isInSubtreeOn nums x u)) q ∙ F .1,
+        search-move (cellForest (size t) nodeTable) (λ x. isInSubtreeOn nodeTable x u) v m e n
+            ∙ ap (search (cellForest (size t) nodeTable) (λ x. isInSubtreeOn nodeTable x u)) q ∙ F .1,
         f (F .0) (F .2),
       )
 
       finds-in : (f v : ℕ) → depth t v ≤ f → v < size t → Finds v
-      finds-in zero v l h = go (isInSubtreeOn nums v u) refl
+      finds-in zero v l h = go (isInSubtreeOn nodeTable v u) refl
         where
-          go : (b : Bool) → isInSubtreeOn nums v u ≡ b → Finds v
+          go : (b : Bool) → isInSubtreeOn nodeTable v u ≡ b → Finds v
           go true e = found-here v h e
           go false e = absurd (omega (arith, up t v (proper v h e) .deeper))
-      finds-in (suc f) v l h = go (isInSubtreeOn nums v u) (isInSubtreeOn nums (cellForest (size t) nums .jump v) u) refl refl (λ y. finds-in f y)
+      finds-in (suc f) v l h = go (isInSubtreeOn nodeTable v u) (isInSubtreeOn nodeTable (cellForest (size t) nodeTable .jump v) u) refl refl (λ y. finds-in f y)
         where
-          go : (b c : Bool) → isInSubtreeOn nums v u ≡ b → isInSubtreeOn nums (cellForest (size t) nums .jump v) u ≡ c
+          go : (b c : Bool) → isInSubtreeOn nodeTable v u ≡ b → isInSubtreeOn nodeTable (cellForest (size t) nodeTable .jump v) u ≡ c
               → ((y : ℕ) → depth t y ≤ f → y < size t → Finds y) → Finds v
           go true c e d ih = found-here v h e
           go false true e d ih =
@@ -146,10 +146,10 @@ module _ (t : Tree) where
           go false false e d ih =
               let r : v + 1 < size t = proper v h e in
               let j = L .jumps v h in
-              let g : InSubtree t (jump t v) u → ⊥ = goes (jump t v) (jump-in t v h) (ap (λ (z : ℕ). isInSubtreeOn nums z u) (sym j) ∙ d) in
+              let g : InSubtree t (jump t v) u → ⊥ = goes (jump t v) (jump-in t v h) (ap (λ (z : ℕ). isInSubtreeOn nodeTable z u) (sym j) ∙ d) in
               moved v (jump t v) (byJump v) h (jump-in t v h) e (move-jump v r d) j
               (λ x m. meet-past u v (jump t v) x hu h (jump-in t v h) (jump-over v h) g m)
               (ih (jump t v) (omega (arith, jump-rises v r)) (jump-in t v h))
 
-      pub meet-built : (v : ℕ) → v < size t → (x : ℕ) × (meetOn (size t) nums u v ≡ some x) × Meet t u v x
+      pub meet-built : (v : ℕ) → v < size t → (x : ℕ) × (meetOn (size t) nodeTable u v ≡ some x) × Meet t u v x
       meet-built v h = finds-in (depth t v) v (omega arith) h

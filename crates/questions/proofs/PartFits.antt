@@ -15,10 +15,10 @@ use Rattle.formats.specs.Limits.{nodeLimit}
 use Rattle.formats.specs.Rules.{ruleLength}
 use Rattle.formats.specs.Buffers.{limitsFit, buffersFit}
 use Rattle.formats.proofs.CheckLaws.{and-no-left, and-next}
-use Rattle.tables.specs.Climbs.{toldReached}
+use Rattle.tables.specs.Climbs.{climbedOf}
 use Rattle.tables.specs.declared.answers.Climbed.the-variants.{OutOfRange}
 use Rattle.questions.specs.Part.{partOn}
-use Rattle.questions.specs.PartTold.{askedFits, partFits, lentView, partGiven}
+use Rattle.questions.specs.PartAnswers.{askedFits, partFits, viewIn, partGiven}
 
 -- ---- what is asked
 
@@ -91,37 +91,37 @@ module _ (n : ℕ) (roots states vs bs : List ℕ) where
 
 -- ---- the part that a caller asks for
 
-module _ (n s k : ℕ) (plan rules nums bytes roots states vs bs : List ℕ) where
+module _ (n s k : ℕ) (plan rules nodeTable stateTable roots states vs bs : List ℕ) where
   abbrev lengths : Bool
-  lengths = buffersFit n s (ruleLength s k) (length plan) (length rules) (length nums) (length bytes)
+  lengths = buffersFit n s (ruleLength s k) (length plan) (length rules) (length nodeTable) (length stateTable)
 
   abbrev asked : Bool
   asked = askedFits n roots states vs bs
 
-  unfit : partFits n s k plan rules nums bytes roots states vs bs ≡ false
-      → OutOfRange ≡ toldReached (partGiven n s k plan rules nums bytes roots states vs bs)
-  unfolding partGiven toldReached
+  unfit : partFits n s k plan rules nodeTable stateTable roots states vs bs ≡ false
+      → OutOfRange ≡ climbedOf (partGiven n s k plan rules nodeTable stateTable roots states vs bs)
+  unfolding partGiven climbedOf
   unfit h = rw h
 
   pub given-limits : limitsFit n s k ≡ false
-      → OutOfRange ≡ toldReached (partGiven n s k plan rules nums bytes roots states vs bs)
+      → OutOfRange ≡ climbedOf (partGiven n s k plan rules nodeTable stateTable roots states vs bs)
   unfolding partFits
   given-limits h = unfit (and-no-left (limitsFit n s k) (lengths && asked) h)
 
   module _ (l : limitsFit n s k ≡ true) where
     pub given-lengths : lengths ≡ false
-        → OutOfRange ≡ toldReached (partGiven n s k plan rules nums bytes roots states vs bs)
+        → OutOfRange ≡ climbedOf (partGiven n s k plan rules nodeTable stateTable roots states vs bs)
     unfolding partFits
     given-lengths h = unfit (and-next (limitsFit n s k) (lengths && asked) l ∙ and-no-left lengths asked h)
 
     module _ (m : lengths ≡ true) where
-      pub given-asked : asked ≡ false → OutOfRange ≡ toldReached (partGiven n s k plan rules nums bytes roots states vs bs)
+      pub given-asked : asked ≡ false → OutOfRange ≡ climbedOf (partGiven n s k plan rules nodeTable stateTable roots states vs bs)
       unfolding partFits
       given-asked h = unfit (and-next (limitsFit n s k) (lengths && asked) l ∙ and-next lengths asked m ∙ h)
 
       pub given-yes : asked ≡ true
-          → partGiven n s k plan rules nums bytes roots states vs bs
-          ≡ partOn (lentView n s k plan rules nums bytes) (take (length states) roots) states vs bs
+          → partGiven n s k plan rules nodeTable stateTable roots states vs bs
+          ≡ partOn (viewIn n s k plan rules nodeTable stateTable) (take (length states) roots) states vs bs
           (getD roots (length states) 0)
       unfolding partGiven partFits
       given-yes h = rw (and-next (limitsFit n s k) (lengths && asked) l ∙ and-next lengths asked m ∙ h)

@@ -21,8 +21,8 @@ use Rattle.trees.specs.Changes.{changed}
 use Rattle.trees.proofs.Choice.{by-test}
 use Rattle.trees.proofs.MoveLaws.{both}
 use Rattle.formats.proofs.CheckLaws.{true-false}
-use Rattle.links.specs.Cells.{sizeCell}
-use Rattle.links.specs.Cells.{isInSubtreeOn}
+use Rattle.node_tables.specs.Cells.{sizeCell}
+use Rattle.node_tables.specs.Cells.{isInSubtreeOn}
 use Rattle.questions.specs.Part.{found, lastFound, foundBelow}
 use Rattle.questions.specs.Scans.{lastFrom, lastIn, foundOf, labelOf}
 
@@ -116,7 +116,7 @@ module _ (c z : ℕ) where
 
 -- ---- the last root below c
 
-module _ (nums : List ℕ) (c : ℕ) (E Q : List ℕ) where
+module _ (nodeTable : List ℕ) (c : ℕ) (E Q : List ℕ) where
   found-pick : (b : Bool) (e q i at : ℕ) → e ≡ getD E i 0 → q ≡ getD Q i 0
       → cond b (some (found e q)) (foundOf E Q at) ≡ foundOf E Q (cond b (i + 1) at)
   unfolding foundOf
@@ -124,21 +124,21 @@ module _ (nums : List ℕ) (c : ℕ) (E Q : List ℕ) where
   found-pick false e q i at f g = refl
 
   found-from : (es qs : List ℕ) (i at : ℕ) → es ≡ drop i E → qs ≡ drop i Q → length es ≡ length qs
-      → lastFound nums c es qs (foundOf E Q at) ≡ foundOf E Q (lastFrom c (sizeCell nums c) es i at)
+      → lastFound nodeTable c es qs (foundOf E Q at) ≡ foundOf E Q (lastFrom c (sizeCell nodeTable c) es i at)
   unfolding lastFound lastFrom isInSubtree foundOf
   found-from [] qs i at a b l = refl
   found-from (e ∷ es) [] i at a b l = absurd (omega arith)
   found-from (e ∷ es) (q ∷ qs) i at a b l =
-      ap (lastFound nums c es qs) (found-pick (isInSubtree c (sizeCell nums c) e) e q i at (at-head e i es E a)
+      ap (lastFound nodeTable c es qs) (found-pick (isInSubtree c (sizeCell nodeTable c) e) e q i at (at-head e i es E a)
       (at-head q i qs Q b))
-      ∙ found-from es qs (i + 1) (cond (isInSubtree c (sizeCell nums c) e) (i + 1) at) (at-tail e i es E a)
+      ∙ found-from es qs (i + 1) (cond (isInSubtree c (sizeCell nodeTable c) e) (i + 1) at) (at-tail e i es E a)
       (at-tail q i qs Q b)
       (omega arith)
 
-pub found-scan : (nums : List ℕ) (c : ℕ) (es qs : List ℕ) → length es ≡ length qs
-    → foundBelow nums c es qs ≡ foundOf es qs (lastIn c (sizeCell nums c) es)
+pub found-scan : (nodeTable : List ℕ) (c : ℕ) (es qs : List ℕ) → length es ≡ length qs
+    → foundBelow nodeTable c es qs ≡ foundOf es qs (lastIn c (sizeCell nodeTable c) es)
 unfolding foundOf
-found-scan nums c es qs l = found-from nums c es qs es qs 0 0 refl refl l
+found-scan nodeTable c es qs l = found-from nodeTable c es qs es qs 0 0 refl refl l
 
 -- ---- the label as changed
 

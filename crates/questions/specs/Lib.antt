@@ -1,11 +1,11 @@
 pub mod Search
-pub mod SearchTold
+pub mod SearchAnswers
 pub mod Roots
 pub mod Rising
-pub mod RootsTold
+pub mod RootsAnswers
 pub mod Part
-pub mod PartTold
+pub mod PartAnswers
 pub mod Scans
 pub mod PartArgs
 pub mod Promises
-pub mod Astray
+pub mod OutOfRange

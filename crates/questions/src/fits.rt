@@ -1,7 +1,7 @@
 // Whether what a caller of a part asks for fits: the rest of what he lends is check 17 (crate formats, buffers).
 use formats::limits::NODE_LIMIT;
 ghost use mathlib.Core.Path.{_≡_};
-ghost use Rattle.questions.specs.PartTold.{askedFits};
+ghost use Rattle.questions.specs.PartAnswers.{askedFits};
 
 // Is there a root after as many as have states, is it one of n nodes, and have both lists one length?
 pub fn asked_fits(n: usize, roots: &[u16], states: &[u8], nodes: &[u16], labels: &[u8]) -> bool

@@ -44,18 +44,18 @@ module _ (t : Tree) (c : ℕ) where
       go true false x y z = omega (arith, ltb-false c (v + size (sub t c)) y)
       go false b x y z = omega (arith, leb-false v c x)
 
-  abbrev Told : List ℕ → ℕ → ℕ → Type 0
-  Told ms d h = ((h ≡ d) × ((u : ℕ) → List·Memᴰ u ms → InSubtree t c u → ⊥)) ⊎ Highest t (λ v. List·Memᴰ v ms) c h
+  abbrev Found : List ℕ → ℕ → ℕ → Type 0
+  Found ms d h = ((h ≡ d) × ((u : ℕ) → List·Memᴰ u ms → InSubtree t c u → ⊥)) ⊎ Highest t (λ v. List·Memᴰ v ms) c h
 
-  more-told : (v : ℕ) (ms : List ℕ) (lo d h : ℕ) → Rising lo (v ∷ ms) → (InSubtree t c v → ⊥) → Told ms d h → Told (v ∷ ms) d h
-  more-told v ms lo d h r n (inl e) = inl (
+  more-answer : (v : ℕ) (ms : List ℕ) (lo d h : ℕ) → Rising lo (v ∷ ms) → (InSubtree t c v → ⊥) → Found ms d h → Found (v ∷ ms) d h
+  more-answer v ms lo d h r n (inl e) = inl (
     e .0,
     λ u m p. elim (List·Memᴰ·cases-cons m) [
       | inl q ↦ n (subst (λ (x : ℕ). InSubtree t c x) q p)
       | inr k ↦ e .1 u k p
     ],
   )
-  more-told v ms lo d h r n (inr H) = inr (record {
+  more-answer v ms lo d h r n (inr H) = inr (record {
     member = List·Memᴰ·tail (H .member);
     below = H .below;
     greatest = λ u m p. elim (List·Memᴰ·cases-cons m) [
@@ -64,9 +64,9 @@ module _ (t : Tree) (c : ℕ) where
     ];
   })
 
-  first-told : (v : ℕ) (ms : List ℕ) (lo h : ℕ) → Rising lo (v ∷ ms) → InSubtree t c v → Told ms v h
+  first-answer : (v : ℕ) (ms : List ℕ) (lo h : ℕ) → Rising lo (v ∷ ms) → InSubtree t c v → Found ms v h
       → Highest t (λ x. List·Memᴰ x (v ∷ ms)) c h
-  first-told v ms lo h r y (inl e) = record {
+  first-answer v ms lo h r y (inl e) = record {
     member = List·Memᴰ·head (e .0);
     below = subst (λ (x : ℕ). InSubtree t c x) (sym (e .0)) y;
     greatest = λ u m p. elim (List·Memᴰ·cases-cons m) [
@@ -74,7 +74,7 @@ module _ (t : Tree) (c : ℕ) where
       | inr k ↦ absurd (e .1 u k p)
     ];
   }
-  first-told v ms lo h r y (inr H) = record {
+  first-answer v ms lo h r y (inr H) = record {
     member = List·Memᴰ·tail (H .member);
     below = H .below;
     greatest = λ u m p. elim (List·Memᴰ·cases-cons m) [
@@ -83,15 +83,15 @@ module _ (t : Tree) (c : ℕ) where
     ];
   }
 
-  last-told : (ms : List ℕ) (lo d : ℕ) → Rising lo ms → Told ms d (lastBelow ms t c d)
+  last-answer : (ms : List ℕ) (lo d : ℕ) → Rising lo ms → Found ms d (lastBelow ms t c d)
   unfolding lastBelow
-  last-told [] lo d r = inl (refl, λ u m p. List·Memᴰ·not-nil m)
-  last-told (v ∷ ms) lo d r = go (isInSubtree c (size (sub t c)) v) refl (last-told ms (suc v) v (r .1)) (last-told ms (suc v) d (r .1))
+  last-answer [] lo d r = inl (refl, λ u m p. List·Memᴰ·not-nil m)
+  last-answer (v ∷ ms) lo d r = go (isInSubtree c (size (sub t c)) v) refl (last-answer ms (suc v) v (r .1)) (last-answer ms (suc v) d (r .1))
     where
-      go : (b : Bool) → isInSubtree c (size (sub t c)) v ≡ b → Told ms v (lastBelow ms t c v) → Told ms d (lastBelow ms t c d)
-          → Told (v ∷ ms) d (lastBelow ms t c (cond b v d))
-      go true e x y = inr (first-told v ms lo (lastBelow ms t c v) r (under-yes v e) x)
-      go false e x y = more-told v ms lo d (lastBelow ms t c d) r (under-no v e) y
+      go : (b : Bool) → isInSubtree c (size (sub t c)) v ≡ b → Found ms v (lastBelow ms t c v) → Found ms d (lastBelow ms t c d)
+          → Found (v ∷ ms) d (lastBelow ms t c (cond b v d))
+      go true e x y = inr (first-answer v ms lo (lastBelow ms t c v) r (under-yes v e) x)
+      go false e x y = more-answer v ms lo d (lastBelow ms t c d) r (under-no v e) y
 
   pub none-below : (ms : List ℕ) → anyBelow ms t c ≡ false → (u : ℕ) → List·Memᴰ u ms → InSubtree t c u → ⊥
   unfolding anyBelow
@@ -106,10 +106,10 @@ module _ (t : Tree) (c : ℕ) where
         | inr k ↦ ih f u k p
       ]
 
-  none-told : (ms : List ℕ) → anyBelow ms t c ≡ true → ((u : ℕ) → List·Memᴰ u ms → InSubtree t c u → ⊥) → ⊥
+  none-answer : (ms : List ℕ) → anyBelow ms t c ≡ true → ((u : ℕ) → List·Memᴰ u ms → InSubtree t c u → ⊥) → ⊥
   unfolding anyBelow
-  none-told [] e n = true-false true refl (sym e)
-  none-told (v ∷ ms) e n = go (isInSubtree c (size (sub t c)) v) refl e (λ f. none-told ms f)
+  none-answer [] e n = true-false true refl (sym e)
+  none-answer (v ∷ ms) e n = go (isInSubtree c (size (sub t c)) v) refl e (λ f. none-answer ms f)
     where
       go : (b : Bool) → isInSubtree c (size (sub t c)) v ≡ b → (b || anyBelow ms t c) ≡ true
           → (anyBelow ms t c ≡ true → ((u : ℕ) → List·Memᴰ u ms → InSubtree t c u → ⊥) → ⊥) → ⊥
@@ -117,8 +117,8 @@ module _ (t : Tree) (c : ℕ) where
       go false q f ih = ih f (λ u m p. n u (List·Memᴰ·tail m) p)
 
   pub some-below : (ms : List ℕ) → Rising 0 ms → anyBelow ms t c ≡ true → Highest t (λ v. List·Memᴰ v ms) c (highestBelow ms t c)
-  some-below ms r e = go (last-told ms 0 c r)
+  some-below ms r e = go (last-answer ms 0 c r)
     where
-      go : Told ms c (lastBelow ms t c c) → Highest t (λ v. List·Memᴰ v ms) c (lastBelow ms t c c)
-      go (inl n) = absurd (none-told ms e (n .1))
+      go : Found ms c (lastBelow ms t c c) → Highest t (λ v. List·Memᴰ v ms) c (lastBelow ms t c c)
+      go (inl n) = absurd (none-answer ms e (n .1))
       go (inr H) = H

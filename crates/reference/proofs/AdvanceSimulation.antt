@@ -22,8 +22,8 @@ use Rattle.tables.specs.declared.answers.Reached.{Reached}
 use Rattle.ready.specs.Parts.{Given, Part, part, partOf, partsFrom, statesOf}
 use Rattle.ready.proofs.PartsRun.{nodes-more}
 use Rattle.questions.specs.Part.{partOn}
-use Rattle.questions.specs.Astray.{Astray}
-use Rattle.questions.proofs.PartAstray.{part-astray}
+use Rattle.questions.specs.OutOfRange.{PartOutOfRange}
+use Rattle.questions.proofs.PartRange.{part-out-of-range}
 use Rattle.questions.proofs.PartBounds.{part-bounded}
 use Rattle.trees.proofs.MoveLaws.{none-some}
 use Rattle.ready.proofs.PartsRun.{nodes-more}
@@ -189,16 +189,16 @@ module _ (L : Layers) (r : Record) (z : Sizes) (q : Question) (x : Inputs) (i : 
       }
 
   -- 18 has a cause
-  cause-of : partNext r x ≡ none → Astray (viewBy z x) (r .states) (q .nodes) (q .labels)
+  cause-of : partNext r x ≡ none → PartOutOfRange (viewBy z x) (r .states) (q .nodes) (q .labels)
   cause-of e =
       let v : ℕ = getD (r .roots) (length (r .states)) 0 in
       let inside : v < r .sizes .n =
       subst (λ (y : Sizes). v < y .n) (sym (i .sizes))
       (allBelow-at (z .n) (r .roots) (length (r .states)) (asked .roots) (asked .next)) in
-      subst (λ (y : Sizes). Astray (viewBy y x) (r .states) (q .nodes) (q .labels)) (i .sizes)
-      (subst (λ (l : List ℕ). Astray (viewBy (r .sizes) x) (r .states) l (q .labels)) (asked .nodes)
-      (subst (λ (l : List ℕ). Astray (viewBy (r .sizes) x) (r .states) (r .nodes) l) (asked .labels)
-      (part-astray (viewBy (r .sizes) x) (r .states) (r .nodes) (r .labels) (take (length (r .states)) (r .roots)) v inside e)))
+      subst (λ (y : Sizes). PartOutOfRange (viewBy y x) (r .states) (q .nodes) (q .labels)) (i .sizes)
+      (subst (λ (l : List ℕ). PartOutOfRange (viewBy (r .sizes) x) (r .states) l (q .labels)) (asked .nodes)
+      (subst (λ (l : List ℕ). PartOutOfRange (viewBy (r .sizes) x) (r .states) (r .nodes) l) (asked .labels)
+      (part-out-of-range (viewBy (r .sizes) x) (r .states) (r .nodes) (r .labels) (take (length (r .states)) (r .roots)) v inside e)))
 
   -- an advance that goes on as always, to settlement k
   goes-on : (k : Settlement) → Counted r z q → otherStates z q x ≡ true
@@ -342,7 +342,7 @@ module _ (L : Layers) (r : Record) (z : Sizes) (q : Question) (x : Inputs) (i : 
       → Cleanly z (onward clean)
   unfolding advanced longer givenOf
   cleanly-next c k e l = record {
-    bytes = k .bytes;
+    stateTable = k .stateTable;
     replayed =
         ap (λ (G : Given). q .results ++ (partOf G (rootsOf q) (q .results) v ∷ []))
         (given-same z q x (q .inputs) (sym (same-state-table z (q .inputs) x e)))
@@ -374,7 +374,7 @@ module _ (L : Layers) (r : Record) (z : Sizes) (q : Question) (x : Inputs) (i : 
       go true e =
           let low : statesBelow z x ≡ true =
           ap (allBelow (z .s)) (sym (same-state-table z (q .inputs) x e))
-          ∙ sound-below z q (node-table-built z (q .inputs) (s .0 .built)) (s .1 .bytes) in
+          ∙ sound-below z q (node-table-built z (q .inputs) (s .0 .built)) (s .1 .stateTable) in
           goes-on clean (s .0) (is-other z q x (s .0 .built) (same-inputs-nodes z (q .inputs) x e) low)
           (λ y d. (d, cleanly-next (s .0) (s .1) e left-over)) (λ y m n. (m, n))
       go false e = advance-by-rule (s .0)

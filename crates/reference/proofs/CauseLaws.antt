@@ -11,20 +11,20 @@ use native.Mathlib.Omega.{arith}
 use lib.Dec.{leb, ltb, eqb}
 use lib.ListN.{getD}
 use borrow.Author.Tests.{le-leb, lt-ltb, eq-eqb, ne-eqb}
-use Rattle.trees.specs.Stray.{jump-outside, jump-flat, parent-outside, parent-flat}
+use Rattle.trees.specs.LinkOutOfRange.{jump-outside, jump-flat, parent-outside, parent-flat}
 use Rattle.formats.specs.Bytes.{allBelow}
 use Rattle.formats.proofs.CheckLaws.{true-false, and-both}
-use Rattle.links.specs.Cells.{parentCell, jumpCell, depthCell, sizeCell, isInSubtreeOn}
-use Rattle.links.specs.Astray.{Childless, LinksAstray, link, childless, apart}
+use Rattle.node_tables.specs.Cells.{parentCell, jumpCell, depthCell, sizeCell, isInSubtreeOn}
+use Rattle.node_tables.specs.OutOfRange.{Childless, NodeTableOutOfRange, link, childless, apart}
 use Rattle.tables.specs.StateCells.{stateCell, mapCell}
 use Rattle.tables.specs.Climbs.{View}
 use Rattle.ready.specs.Members.{someIn}
 use Rattle.ready.proofs.ListLaws.{or-first, or-second, in-some}
 use Rattle.questions.specs.Part.{labelOn}
-use Rattle.questions.specs.Astray.{Astray, links, children, run, map, leaf, rule, handled, label, changed}
+use Rattle.questions.specs.OutOfRange.{PartOutOfRange, links, children, run, map, leaf, rule, handled, label, changed}
 use Rattle.formats.specs.Inputs.{Inputs, Sizes, usedNodeTable}
 use Rattle.model.specs.Calls.{refused}
-use Rattle.reference.specs.Causes.{isChildless, isFlat, strays, isApart, linksCause, nodeCause, rulesCause, cause}
+use Rattle.reference.specs.Causes.{isChildless, isFlat, strays, isApart, nodeTableCause, nodeCause, rulesCause, cause}
 use Rattle.reference.specs.Causes.{startCause, advanceCause}
 use Rattle.reference.specs.Reference.{mayStartWith, mayAdvanceWith}
 use Rattle.model.specs.Model.{viewBy}
@@ -37,17 +37,17 @@ bare b x (inl e) = or-first (eqb x 0) _ (eq-eqb x 0 e)
 bare b x (inr h) = or-second (eqb x 0) _ (lt-ltb (x - 1) (sizeCell b (x - 1)) h)
 
 module _ (n : ℕ) (b : List ℕ) where
-  at-node : (v : ℕ) → v < n → (strays n b v || isApart n b v) ≡ true → linksCause n b ≡ true
-  unfolding linksCause
+  at-node : (v : ℕ) → v < n → (strays n b v || isApart n b v) ≡ true → nodeTableCause n b ≡ true
+  unfolding nodeTableCause
   at-node v h e = in-some (λ u. strays n b u || isApart n b u) n 0 v (omega arith) (omega arith) e
 
-  stray-at : (v : ℕ) → v < n → strays n b v ≡ true → linksCause n b ≡ true
-  stray-at v h e = at-node v h (or-first (strays n b v) (isApart n b v) e)
+  out-of-range-at : (v : ℕ) → v < n → strays n b v ≡ true → nodeTableCause n b ≡ true
+  out-of-range-at v h e = at-node v h (or-first (strays n b v) (isApart n b v) e)
 
-  flat-at : (v : ℕ) → v < n → 0 < depthCell b v → isFlat b v ≡ true → linksCause n b ≡ true
+  flat-at : (v : ℕ) → v < n → 0 < depthCell b v → isFlat b v ≡ true → nodeTableCause n b ≡ true
   unfolding strays
   flat-at v h d e =
-      stray-at v h (or-second (leb n (jumpCell b v)) _ (or-second (leb n (parentCell b v)) _
+      out-of-range-at v h (or-second (leb n (jumpCell b v)) _ (or-second (leb n (parentCell b v)) _
       (and-both (ltb 0 (depthCell b v)) (isFlat b v) (lt-ltb 0 (depthCell b v) d) e)))
 
   -- the tests of a flat link, in their order
@@ -58,7 +58,7 @@ module _ (n : ℕ) (b : List ℕ) where
   parentFlat v = leb (depthCell b v) (depthCell b (parentCell b v))
 
   led : (v x : ℕ) → v < n → 0 < depthCell b v → (x ≡ parentCell b v) ⊎ (x ≡ jumpCell b v) → Childless b x
-      → linksCause n b ≡ true
+      → nodeTableCause n b ≡ true
   unfolding isFlat
   led v x h d (inl e) c =
       flat-at v h d (or-second (jumpFlat v) _ (or-second (parentFlat v) _ (or-first (isChildless b (parentCell b v)) _
@@ -67,13 +67,13 @@ module _ (n : ℕ) (b : List ℕ) where
       flat-at v h d (or-second (jumpFlat v) _ (or-second (parentFlat v) _ (or-second (isChildless b (parentCell b v)) _
       (subst (λ (y : ℕ). isChildless b y ≡ true) e (bare b x c)))))
 
-  pub links-cause : LinksAstray n b → linksCause n b ≡ true
+  pub links-cause : NodeTableOutOfRange n b → nodeTableCause n b ≡ true
   unfolding strays isFlat isApart
-  links-cause (link (jump-outside v h o)) = stray-at v h (or-first (leb n (jumpCell b v)) _ (le-leb n (jumpCell b v) o))
+  links-cause (link (jump-outside v h o)) = out-of-range-at v h (or-first (leb n (jumpCell b v)) _ (le-leb n (jumpCell b v) o))
   links-cause (link (jump-flat v h d e)) =
       flat-at v h d (or-first (jumpFlat v) _ (le-leb (depthCell b v) (depthCell b (jumpCell b v)) e))
   links-cause (link (parent-outside v h o)) =
-      stray-at v h (or-second (leb n (jumpCell b v)) _ (or-first (leb n (parentCell b v)) _ (le-leb n (parentCell b v) o)))
+      out-of-range-at v h (or-second (leb n (jumpCell b v)) _ (or-first (leb n (parentCell b v)) _ (le-leb n (parentCell b v) o)))
   links-cause (link (parent-flat v h d e)) =
       flat-at v h d (or-second (jumpFlat v) _ (or-first (parentFlat v) _
       (le-leb (depthCell b v) (depthCell b (parentCell b v)) e)))
@@ -88,19 +88,19 @@ module _ (X : View) (vs bs : List ℕ) where
   by-node : (v : ℕ) → v < X .n → nodeCause X vs bs v ≡ true → cause X vs bs ≡ true
   unfolding cause
   by-node v h e =
-      or-second (linksCause (X .n) (X .nums)) _
+      or-second (nodeTableCause (X .n) (X .nodeTable)) _
       (or-first _ (rulesCause X) (in-some (nodeCause X vs bs) (X .n) 0 v (omega arith) (omega arith) e))
 
   by-rules : rulesCause X ≡ true → cause X vs bs ≡ true
   unfolding cause
-  by-rules e = or-second (linksCause (X .n) (X .nums)) _ (or-second (someIn (nodeCause X vs bs) 0 (X .n)) (rulesCause X) e)
+  by-rules e = or-second (nodeTableCause (X .n) (X .nodeTable)) _ (or-second (someIn (nodeCause X vs bs) 0 (X .n)) (rulesCause X) e)
 
   -- the tests of a node, in their order
   abbrev noRun : ℕ → Bool
-  noRun v = leb (X .s) (stateCell (X .s) (X .bytes) v)
+  noRun v = leb (X .s) (stateCell (X .s) (X .stateTable) v)
 
   abbrev noMap : ℕ → ℕ → Bool
-  noMap v q = leb (X .s) (mapCell (X .s) (X .bytes) v q)
+  noMap v q = leb (X .s) (mapCell (X .s) (X .stateTable) v q)
 
   abbrev noLabel : ℕ → Bool
   noLabel v = leb (X .k) (getD (X .labels) v 0)
@@ -109,7 +109,7 @@ module _ (X : View) (vs bs : List ℕ) where
   noChange v = leb (X .k) (labelOn X vs bs v)
 
   abbrev noChild : ℕ → Bool
-  noChild v = not (eqb (getD (X .kinds) v 0) 0) && isChildless (X .nums) v
+  noChild v = not (eqb (getD (X .kinds) v 0) 0) && isChildless (X .nodeTable) v
 
   -- the tests of the rules
   abbrev noLeaf : ℕ → Bool
@@ -138,21 +138,21 @@ module _ (X : View) (vs bs : List ℕ) where
       (in-some (λ c. someIn (noRule p c) 0 (X .s)) (X .k) 0 a (omega arith) (omega arith)
       (in-some (noRule p a) (X .s) 0 q (omega arith) (omega arith) e))))
 
-  pub view-cause : (qs : List ℕ) → allBelow (X .s) qs ≡ true → Astray X qs vs bs → cause X vs bs ≡ true
+  pub view-cause : (qs : List ℕ) → allBelow (X .s) qs ≡ true → PartOutOfRange X qs vs bs → cause X vs bs ≡ true
   unfolding cause nodeCause
-  view-cause qs g (links a) = or-first (linksCause (X .n) (X .nums)) _ (links-cause (X .n) (X .nums) a)
+  view-cause qs g (links a) = or-first (nodeTableCause (X .n) (X .nodeTable)) _ (links-cause (X .n) (X .nodeTable) a)
   view-cause qs g (children v h k c) =
       after-map v h (noLabel v || (noChange v || noChild v))
       (or-second (noLabel v) (noChange v || noChild v) (or-second (noChange v) (noChild v)
-      (and-both (not (eqb (getD (X .kinds) v 0) 0)) (isChildless (X .nums) v) (ap not (ne-eqb (getD (X .kinds) v 0) 0 k))
-      (bare (X .nums) v c)))) refl
+      (and-both (not (eqb (getD (X .kinds) v 0) 0)) (isChildless (X .nodeTable) v) (ap not (ne-eqb (getD (X .kinds) v 0) 0 k))
+      (bare (X .nodeTable) v c)))) refl
   view-cause qs g (run v h e) =
       by-node v h (or-first (noRun v) (someIn (noMap v) 0 (X .s) || (noLabel v || (noChange v || noChild v)))
-      (le-leb (X .s) (stateCell (X .s) (X .bytes) v) e))
+      (le-leb (X .s) (stateCell (X .s) (X .stateTable) v) e))
   view-cause qs g (map v q h i e) =
       by-node v h (or-second (noRun v) (someIn (noMap v) 0 (X .s) || (noLabel v || (noChange v || noChild v)))
       (or-first (someIn (noMap v) 0 (X .s)) (noLabel v || (noChange v || noChild v))
-      (in-some (noMap v) (X .s) 0 q (omega arith) (omega arith) (le-leb (X .s) (mapCell (X .s) (X .bytes) v q) e))))
+      (in-some (noMap v) (X .s) 0 q (omega arith) (omega arith) (le-leb (X .s) (mapCell (X .s) (X .stateTable) v q) e))))
   view-cause qs g (leaf a h e) = leaves-cause a h (le-leb (X .s) (getD (X .leaves) a 0) e)
   view-cause qs g (rule p a q h i j e) =
       rules-cause p a q h i j (le-leb (X .s) (getD (X .inner) ((p * X .k + a) * X .s + q) 0) e)
@@ -166,11 +166,11 @@ module _ (X : View) (vs bs : List ℕ) where
 
 -- ---- what the reference model allows
 
-pub start-cause : (z : Sizes) (x : Inputs) → LinksAstray (z .n) (usedNodeTable z x) → mayStartWith (startCause z x) (refused 18) ≡ true
+pub start-cause : (z : Sizes) (x : Inputs) → NodeTableOutOfRange (z .n) (usedNodeTable z x) → mayStartWith (startCause z x) (refused 18) ≡ true
 unfolding mayStartWith startCause
 start-cause z x a = links-cause (z .n) (usedNodeTable z x) a
 
 pub advance-cause : (z : Sizes) (x : Inputs) (vs bs qs : List ℕ) (usable : Bool) → not usable ≡ true → allBelow (z .s) qs ≡ true
-    → Astray (viewBy z x) qs vs bs → mayAdvanceWith usable (advanceCause z x vs bs) (refused 18) ≡ true
+    → PartOutOfRange (viewBy z x) qs vs bs → mayAdvanceWith usable (advanceCause z x vs bs) (refused 18) ≡ true
 unfolding mayAdvanceWith advanceCause
 advance-cause z x vs bs qs usable n g a = and-both (not usable) _ n (view-cause (viewBy z x) vs bs qs g a)

@@ -9,7 +9,7 @@ use mathlib.Core.Bool.{Bool, true, false}
 use mathlib.Core.List.{List, [], _∷_, _++_}
 use mathlib.Core.Option.{Option, none, some}
 use lib.ListN.{set, replicate}
-use Rattle.formats.specs.Built.{builtLinks, builtStates}
+use Rattle.formats.specs.Built.{builtNodeTable, builtStateTable}
 use Rattle.formats.specs.Inputs.{Inputs}
 use Rattle.model.specs.Calls.{Call, load, start, advance, cancel, read, Answer, refused, parts, more, finished}
 use Rattle.model.specs.Calls.{readAnswer}
@@ -27,7 +27,7 @@ planB = 7 ∷ 0 ∷ 0 ∷ 0 ∷ 12 ∷ 0 ∷ 0 ∷ 0 ∷ 19 ∷ 0 ∷ 0 ∷ 0 �
 
 unfoldable pub inputsB : Inputs
 unfolding planB tableA computing
-inputsB = record { plan = planB; rules = tableA; nodeTable = builtLinks planB; stateTable = builtStates planB tableA }
+inputsB = record { plan = planB; rules = tableA; nodeTable = builtNodeTable planB; stateTable = builtStateTable planB tableA }
 
 -- tables with an excess
 abbrev pub longerBy : Inputs → List ℕ → Inputs
@@ -163,7 +163,7 @@ judged xs = agreed newReference (onNode0 inputsA inputsA inputsA) xs
 
 -- the answers; a state, links, parts that are not so; finished told early; 18 on sound inputs; a Load turned
 -- down; an answer missing
-pub turned-down :
+pub iterated-down :
     judged (Answer.accepted ∷ parts 2 ∷ more ∷ finished ∷ readAnswer 0 false 2 1 ∷ [])
     ∷ judged (Answer.accepted ∷ parts 2 ∷ more ∷ finished ∷ readAnswer 1 true 2 1 ∷ [])
     ∷ judged (Answer.accepted ∷ parts 2 ∷ more ∷ finished ∷ readAnswer 0 false 2 0 ∷ [])
@@ -175,19 +175,19 @@ pub turned-down :
     ∷ []
     ≡ true ∷ false ∷ false ∷ false ∷ false ∷ false ∷ false ∷ false ∷ []
 unfolding judged
-turned-down = refl
+iterated-down = refl
 
 -- the last advance on other bytes: what the rule gives; a fresh run's state; links reckoned and not followed; 18
 unfoldable pub judgedStates : List Answer → Bool
 unfolding computing onNode0 inputsA otherState
 judgedStates xs = agreed newReference (onNode0 inputsA inputsA (otherState 1 1)) (Answer.accepted ∷ parts 2 ∷ more ∷ xs)
 
-pub turned-down-states :
+pub iterated-down-states :
     judgedStates (finished ∷ readAnswer 1 true 2 1 ∷ []) ∷ judgedStates (finished ∷ readAnswer 0 false 2 1 ∷ [])
     ∷ judgedStates (finished ∷ readAnswer 1 true 2 0 ∷ []) ∷ judgedStates (refused 18 ∷ refused 1 ∷ []) ∷ []
     ≡ true ∷ false ∷ false ∷ false ∷ []
 unfolding judgedStates
-turned-down-states = refl
+iterated-down-states = refl
 
 -- in a question that an accepted advance on another plan made unclean, the tables given as at Start again: more
 -- or finished, never 18
@@ -195,13 +195,13 @@ unfoldable pub judgedUnsettled : List Answer → Bool
 unfolding computing onNode0 inputsA otherLabel
 judgedUnsettled xs = agreed newReference (onNode0 inputsA otherLabel inputsA) (Answer.accepted ∷ parts 2 ∷ more ∷ xs)
 
-pub turned-down-unsettled :
+pub iterated-down-unsettled :
     judgedUnsettled (finished ∷ readAnswer 1 true 9 9 ∷ []) ∷ judgedUnsettled (more ∷ refused 1 ∷ []) ∷ judgedUnsettled
     (refused 18 ∷ refused 1 ∷ [])
     ∷ judgedUnsettled (refused 17 ∷ refused 1 ∷ []) ∷ []
     ≡ true ∷ true ∷ false ∷ false ∷ []
 unfolding judgedUnsettled
-turned-down-unsettled = refl
+iterated-down-unsettled = refl
 
 -- 18 without a cause. Numbers that are not as built but lead nowhere outside: node 0's jump to the root, and an advance on another label;
 -- with a cause it is allowed: a jump outside the plan
@@ -214,9 +214,9 @@ unfolding computing loadA inputsA
 judgedAdvance x a =
     agreed newReference (load loadA ∷ start inputsA (0 ∷ []) (0 ∷ []) ∷ advance x ∷ []) (Answer.accepted ∷ parts 2 ∷ a ∷ [])
 
-pub turned-down-causeless :
+pub iterated-down-causeless :
     judgedStart (otherNumber 1 6) (refused 18) ∷ judgedStart (otherNumber 1 6) (parts 2) ∷ judgedStart (otherNumber 1 60000) (refused 18)
     ∷ judgedAdvance otherLabel (refused 18) ∷ judgedAdvance otherLabel more ∷ judgedAdvance (otherNumber 1 60000) (refused 18) ∷ []
     ≡ false ∷ true ∷ true ∷ false ∷ true ∷ true ∷ []
 unfolding judgedStart judgedAdvance otherNumber otherLabel inputsA
-turned-down-causeless = refl
+iterated-down-causeless = refl

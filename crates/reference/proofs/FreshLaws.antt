@@ -22,11 +22,11 @@ use Rattle.trees.specs.Tree.{Tree, size, kindsOf, kindAt, labelsOf, labelAt}
 use Rattle.trees.specs.Automaton.{Automaton, state}
 use Rattle.trees.specs.Numbering.{sub}
 use Rattle.trees.specs.Changes.{changed}
-use Rattle.trees.specs.Tables.{rows, stateMap, stateRow, stateTable}
+use Rattle.trees.specs.Tables.{rows, stateMap, stateRow, stateTableOf}
 use Rattle.trees.proofs.NodeLaws.{size-pos, sub-root}
 use Rattle.trees.proofs.PostorderLaws.{treeOf-kinds, treeOf-labels}
 use Rattle.trees.proofs.RowLaws.{Cell, cell-split, getD-tabulate, length-rows, getD-rows, length-stateRow}
-use Rattle.trees.proofs.RowLaws.{stateTable-state, stateTable-map}
+use Rattle.trees.proofs.RowLaws.{stateTableOf-state, stateTableOf-map}
 use Rattle.trees.proofs.MapLaws.{stateMap-below}
 use Rattle.trees.proofs.RunLaws.{state-below}
 use Rattle.formats.specs.Bytes.{allBelow, holds}
@@ -61,14 +61,14 @@ module _ (A : Automaton) (S : Sound A) (t : Tree) where
       rw (getD-tabulate (A .states) (stateMap A t v) q (omega arith))
       (stateMap-below A t (S .next) v q (omega arith))
 
-  pub length-stateTable : length (stateTable A t) ≡ size t * (A .states + 1)
-  unfolding stateTable
-  length-stateTable = length-rows (size t) (A .states + 1) (stateRow A t) (λ v h. length-stateRow A t v)
+  pub length-stateTableOf : length (stateTableOf A t) ≡ size t * (A .states + 1)
+  unfolding stateTableOf
+  length-stateTableOf = length-rows (size t) (A .states + 1) (stateRow A t) (λ v h. length-stateRow A t v)
 
-  pub table-below : allBelow (A .states) (stateTable A t) ≡ true
-  unfolding stateTable
+  pub table-below : allBelow (A .states) (stateTableOf A t) ≡ true
+  unfolding stateTableOf
   table-below = at-allBelow (A .states) (rows (size t) (stateRow A t))
-      (λ j h. each j (omega (arith, length-stateTable)))
+      (λ j h. each j (omega (arith, length-stateTableOf)))
     where
       each : (j : ℕ) → j < size t * (A .states + 1) → getD (rows (size t) (stateRow A t)) j 0 < A .states
       each j h =
@@ -191,17 +191,17 @@ module _ (z : Sizes) (q : Question) (B : Built z (q .inputs)) where
   -- ---- on the state table that Load writes
 
   module _ (e : stateTableBuilt z (q .inputs) ≡ true) where
-    bytes : usedStateTable z (q .inputs) ≡ stateTable A t
+    stateTable : usedStateTable z (q .inputs) ≡ stateTableOf A t
     unfolding stateTableBuilt
-    bytes = sameList-true (usedStateTable z (q .inputs)) (stateTable A t) e
+    stateTable = sameList-true (usedStateTable z (q .inputs)) (stateTableOf A t) e
 
-    table : take (size t * (A .states + 1)) (usedStateTable z (q .inputs)) ≡ stateTable A t
-    table = rw bytes (take-all (size t * (A .states + 1)) (stateTable A t)
-        (omega (arith, length-stateTable A sound-rules t)))
+    table : take (size t * (A .states + 1)) (usedStateTable z (q .inputs)) ≡ stateTableOf A t
+    table = rw stateTable (take-all (size t * (A .states + 1)) (stateTableOf A t)
+        (omega (arith, length-stateTableOf A sound-rules t)))
 
     pub sound-below : statesBelow z (q .inputs) ≡ true
     unfolding statesBelow
-    sound-below = rw (bytes, ← B .s-is) (table-below A sound-rules t)
+    sound-below = rw (stateTable, ← B .s-is) (table-below A sound-rules t)
 
     given-run : RunGiven (givenBy z q (q .inputs)) u
     unfolding givenOf
@@ -209,11 +209,11 @@ module _ (z : Sizes) (q : Question) (B : Built z (q .inputs)) where
       labels = sym u-labels;
       states = λ v h.
           ap (λ (s : ℕ). getD (usedStateTable z (q .inputs)) (v * (s + 1)) 0) (sym (B .s-is))
-          ∙ stateTable-state A t (usedStateTable z (q .inputs)) table v h;
+          ∙ stateTableOf-state A t (usedStateTable z (q .inputs)) table v h;
       maps = λ v x h l.
           let i : v * (z .s + 1) + (1 + x) ≡ v * (A .states + 1) + 1 + x =
           omega (arith, ap (λ (s : ℕ). v * (s + 1)) (B .s-is)) in
-          ap (λ (j : ℕ). getD (usedStateTable z (q .inputs)) j 0) i ∙ stateTable-map A t (usedStateTable z (q .inputs)) table v h x l;
+          ap (λ (j : ℕ). getD (usedStateTable z (q .inputs)) j 0) i ∙ stateTableOf-map A t (usedStateTable z (q .inputs)) table v h x l;
     }
 
     abbrev G : Given

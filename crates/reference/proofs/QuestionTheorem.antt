@@ -76,8 +76,8 @@ module _ (z : Sizes) (s : State) (x : Inputs) (vs bs : List ℕ) (n : ℕ) (soun
   unfolding settlementOf
   begins-clean = rw sounds
 
-  parts-told : (m : ℕ) → parts n ≡ parts m → n ≡ m
-  parts-told m e = cc
+  parts-in : (m : ℕ) → parts n ≡ parts m → n ≡ m
+  parts-in m e = cc
 
   abbrev opened : Settlement → Question
   opened k = record { nodes = vs; labels = bs; inputs = x; count = 0; settlement = k; results = [] }
@@ -91,7 +91,7 @@ module _ (z : Sizes) (s : State) (x : Inputs) (vs bs : List ℕ) (n : ℕ) (soun
   unfolding starting inState
   begins-at =
       subst (λ (k : Settlement). Begins (starting b (opened k) k)) (sym begins-clean)
-      (λ e. (parts-told (partCount (question x vs bs)) e, refl))
+      (λ e. (parts-in (partCount (question x vs bs)) e, refl))
 
   begun : Begins (step b (start x vs bs))
   unfolding step decided proceed asked

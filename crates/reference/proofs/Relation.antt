@@ -41,7 +41,7 @@ pub record Counted (r : Record) (z : Sizes) (q : Question) : Type 0 where
   pub count : q .count ≡ length (q .results)
 
 pub record Cleanly (z : Sizes) (q : Question) : Type 0 where
-  pub bytes : stateTableBuilt z (q .inputs) ≡ true
+  pub stateTable : stateTableBuilt z (q .inputs) ≡ true
   pub replayed : q .results ≡ partsFrom (givenBy z q (q .inputs)) (rootsOf q) [] (take (length (q .results)) (rootsOf q))
 
 -- some parts were handled, whatever their states

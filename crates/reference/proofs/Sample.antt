@@ -15,11 +15,11 @@ use Rattle.trees.specs.Postorder.{isPostorder, treeOf}
 use Rattle.trees.specs.Changes.{changed}
 use Rattle.trees.specs.Jumps.{jumpIn, jump}
 use Rattle.trees.specs.Climb.{nextMove, climbIn, climb, walk}
-use Rattle.trees.specs.Tables.{tabulate, rows, linkTable, stepUp, stateMap, stateTable}
+use Rattle.trees.specs.Tables.{tabulate, rows, nodeTableOf, stepUp, stateMap, stateTableOf}
 use Rattle.formats.specs.Bytes.{allBelow, holds, distinct, sameList}
 use Rattle.formats.specs.Checks.{firstNo, planChecks, ruleChecks, listChecks, ruleTableChecks, buildChecks}
-use Rattle.formats.specs.Built.{builtLinks, builtStates}
-use Rattle.links.specs.Cells.{isInSubtreeOn}
+use Rattle.formats.specs.Built.{builtNodeTable, builtStateTable}
+use Rattle.node_tables.specs.Cells.{isInSubtreeOn}
 use Rattle.tables.specs.Climbs.{below, runOn, ruleOn, siblingOn, parentOn, moveOn, climbOn}
 use Rattle.ready.specs.Members.{someIn, someBelow, forksAt, isMember, keep, readyList, roots}
 use Rattle.ready.specs.Parts.{anyBelow, lastBelow, moveState, climbMoves, climbedLinks, innerLinks}
@@ -40,7 +40,7 @@ use Rattle.reference.specs.Reference.{phase, newReference, inState, long
 use Rattle.reference.specs.Reference.{asked, mayStartWith, unlessRefused, starting, advanced, goesOn, otherStates}
 use Rattle.reference.specs.Reference.{mayAdvanceWith, byAnswer, advancingByProgram, advancingByRule, advancing}
 use Rattle.reference.specs.Reference.{isOutcome, reading, proceed, decided, step}
-use Rattle.reference.specs.Causes.{isChildless, isFlat, strays, isApart, linksCause, nodeCause, rulesCause, cause}
+use Rattle.reference.specs.Causes.{isChildless, isFlat, strays, isApart, nodeTableCause, nodeCause, rulesCause, cause}
 use Rattle.reference.specs.Causes.{startCause, advanceCause}
 use Rattle.model.specs.Model.{idle, freshRecord, started, startWith, stepped, advanceWith, lastOf, proceeds, unless}
 use Rattle.model.specs.Model.{act}
@@ -49,14 +49,14 @@ use Rattle.reference.specs.AgreementTest.{settledAnswers}
 
 unfoldable pub computing : ℕ
 unfolding split sub parent depth isPostorder treeOf changed jumpIn jump nextMove climbIn climb walk tabulate
-    rows linkTable stepUp stateMap stateTable allBelow holds distinct sameList firstNo planChecks ruleChecks
+    rows nodeTableOf stepUp stateMap stateTableOf allBelow holds distinct sameList firstNo planChecks ruleChecks
     listChecks ruleTableChecks buildChecks someIn someBelow forksAt isMember keep readyList roots isInSubtree anyBelow
     lastBelow moveState climbMoves climbedLinks innerLinks partLinks sumOf questionLinks stateOf climbedState
     innerState partState partOf partsFrom partsOf lastState allLinks nextUnless searchIn search meetOn
     insertRising risingOf wanted withFork withMeet forksOn rootsOn below runOn ruleOn siblingOn parentOn moveOn
     climbOn lastFound labelOn climbFrom runReached ownReached joinOn innerOn leafOn forkOn partOn fits sameNodeInputs
     sameInputs namesSizes nodeTableBuilt stateTableBuilt sound statesBelow mayLoad mayStart isRunning isAnswered refusal phase
-    isChildless isFlat strays isApart linksCause nodeCause rulesCause cause startCause advanceCause
+    isChildless isFlat strays isApart nodeTableCause nodeCause rulesCause cause startCause advanceCause
     newReference inState givenOf longer freshAnswer ruleAnswer settlementOf asked mayStartWith unlessRefused starting
     advanced goesOn otherStates mayAdvanceWith byAnswer advancingByProgram advancingByRule advancing isOutcome reading proceed decided step
     idle freshRecord started startWith stepped advanceWith lastOf proceeds unless act answersOf flag code sameAnswer
@@ -79,7 +79,7 @@ loadA = record { plan = planA; rules = tableA; nodeTable = replicate 28 9; state
 
 unfoldable pub inputsA : Inputs
 unfolding planA tableA computing
-inputsA = record { plan = planA; rules = tableA; nodeTable = builtLinks planA; stateTable = builtStates planA tableA }
+inputsA = record { plan = planA; rules = tableA; nodeTable = builtNodeTable planA; stateTable = builtStateTable planA tableA }
 
 pub tables-A :
     (inputsA .nodeTable ≡ 2 ∷ 2 ∷ 2 ∷ 1 ∷ 2 ∷ 2 ∷ 2 ∷ 1 ∷ 6 ∷ 6 ∷ 1 ∷ 3 ∷ 5 ∷ 5 ∷ 2 ∷ 1 ∷ 5 ∷ 5 ∷ 2 ∷ 1 ∷ 6 ∷ 6 ∷ 1 ∷ 3 ∷ 6

@@ -124,7 +124,7 @@ rule-fresh r z q c k e =
         (take-all (length (q .results)) (rootsOf q) (omega (arith, e, c .count)))
 
     s : lastState (q .results) 0 ≡ state (ruleAutomaton (q .inputs .rules)) (changedTree q)
-    s = ap (λ (l : List Part). lastState l 0) whole ∙ whole-state z q (node-table-built z (q .inputs) (c .built)) (k .bytes)
+    s = ap (λ (l : List Part). lastState l 0) whole ∙ whole-state z q (node-table-built z (q .inputs) (c .built)) (k .stateTable)
 
 read-as : (r : Record) (z : Sizes) (q : Question) (k : Settlement) → SettledAs r z q k → Ended r q k
     → Rel r (referenceOf (State.answered q) z)

@@ -20,7 +20,7 @@ use Rattle.ready.specs.Parts.{partsFrom, allLinks}
 use Rattle.ready.proofs.ListLaws.{list-last}
 use Rattle.questions.specs.Roots.{rootsOn}
 use Rattle.questions.proofs.RootsLaws.{rootsOn-some, rootsOn-allBelow}
-use Rattle.questions.proofs.RootsAstray.{roots-astray}
+use Rattle.questions.proofs.RootsRange.{roots-out-of-range}
 use Rattle.formats.specs.Inputs.{Inputs, Sizes, usedNodeTable, nodeTableBuilt, stateTableBuilt, sound}
 use Rattle.model.specs.Calls.{start, mayStart}
 use Rattle.model.specs.Refusals.{stage, refusal}
@@ -110,7 +110,7 @@ module _ (L : Layers) (r : Record) (s : State) (z : Sizes) (x : Inputs) (vs bs :
       (record {
         phases = refl;
         sizes = i .sizes;
-        holds = ((counted-first clean (f .0), record { bytes = f .1; replayed = refl }), λ h. some-part (opened clean));
+        holds = ((counted-first clean (f .0), record { stateTable = f .1; replayed = refl }), λ h. some-part (opened clean));
         asks = (counted, asking clean (rootsOf (opened clean)) (ready (f .0)));
       })
   start-as byRule f =
@@ -124,7 +124,7 @@ module _ (L : Layers) (r : Record) (s : State) (z : Sizes) (x : Inputs) (vs bs :
   start-as byProgram f = go found refl
     where
       go : (o : Option (List ℕ)) → found ≡ o → Sim (starting (referenceOf s z) (opened byProgram) byProgram) (startWith r vs bs o)
-      go none e = (start-cause z x (roots-astray (z .n) (usedNodeTable z x) vs counted below e), i)
+      go none e = (start-cause z x (roots-out-of-range (z .n) (usedNodeTable z x) vs counted below e), i)
       go (some rs) e = (
         refl,
         record {

@@ -1,6 +1,6 @@
 -- A clean question that is undisturbed, call by call and for whole lists.
 --     at q c tr            question q, clean, with c accepted advances counted
---     Turn, turn           one call while it runs: refused, or an advance; finished exactly at the number of parts
+--     Iteration, turn           one call while it runs: refused, or an advance; finished exactly at the number of parts
 --     Rest, rest           one call once it is answered: refused, or a Read that tells the fresh run's answer
 --     agrees-split         a list of calls in two parts
 --     UndisturbedFrom, undisturbed    a whole list: the advances it takes to finish, and what Reads tell
@@ -41,24 +41,24 @@ module _ (z : Sizes) (q : Question) (c : ℕ) (tr : List Part) where
   abbrev pub going : Reference
   going = referenceOf (State.running (at q c tr)) z
 
-  pub data Turn (a : Answer) (b : Reference) : Type 0 where
-    waits : (n : ℕ) → a ≡ refused n → b ≡ going → Turn a b
-    goes : (ps : List Part) → a ≡ more → suc c < partCount q → b ≡ referenceOf (State.running (at q (suc c) ps)) z → Turn a b
+  pub data Iteration (a : Answer) (b : Reference) : Type 0 where
+    waits : (n : ℕ) → a ≡ refused n → b ≡ going → Iteration a b
+    goes : (ps : List Part) → a ≡ more → suc c < partCount q → b ≡ referenceOf (State.running (at q (suc c) ps)) z → Iteration a b
     ends : (ps : List Part) → a ≡ finished → suc c ≡ partCount q → b ≡ referenceOf (State.answered (at q (suc c) ps)) z
-        → Turn a b
+        → Iteration a b
 
-  abbrev Turned : Call → Answer → Type 0
-  Turned k a = Conforms (step going k) a → UndisturbedBy z (q .inputs) k a → Turn a (after (step going k) a)
+  abbrev Iterated : Call → Answer → Type 0
+  Iterated k a = Conforms (step going k) a → UndisturbedBy z (q .inputs) k a → Iteration a (after (step going k) a)
 
-  turn-goes-on : c < partCount q → (ps : List Part) (a : Answer) → Conforms (goesOn going (at q (suc c) ps)) a
-      → Turn a (after (goesOn going (at q (suc c) ps)) a)
+  iteration-goes-on : c < partCount q → (ps : List Part) (a : Answer) → Conforms (goesOn going (at q (suc c) ps)) a
+      → Iteration a (after (goesOn going (at q (suc c) ps)) a)
   unfolding goesOn inState
-  turn-goes-on l ps a e = go (eqb (suc c) (partCount q)) refl e
+  iteration-goes-on l ps a e = go (eqb (suc c) (partCount q)) refl e
     where
       go : (b : Bool) → eqb (suc c) (partCount q) ≡ b
           → Conforms (cond b (settled finished (referenceOf (State.answered (at q (suc c) ps)) z))
           (settled more (referenceOf (State.running (at q (suc c) ps)) z))) a
-          → Turn a (after (cond b (settled finished (referenceOf (State.answered (at q (suc c) ps)) z))
+          → Iteration a (after (cond b (settled finished (referenceOf (State.answered (at q (suc c) ps)) z))
           (settled more (referenceOf (State.running (at q (suc c) ps)) z))) a)
       go true h e = ends ps e (eqb-true (suc c) (partCount q) h) refl
       go false h e = goes ps e (let n : suc c ≡ partCount q → ⊥ = eqb-false (suc c) (partCount q) h in
@@ -87,38 +87,38 @@ module _ (z : Sizes) (q : Question) (c : ℕ) (tr : List Part) where
       go true e = absurd (not-on onward n e)
       go false e = refl
 
-  turn-other : (x : Inputs) (a : Answer) → sameInputs z (q .inputs) x ≡ false → Conforms (advancingByRule going x (at q c tr)) a
-      → (isRefused a ≡ false → sameInputs z (q .inputs) x ≡ true) → Turn a (after (advancingByRule going x (at q c tr)) a)
-  turn-other x (refused n) h e f = waits n refl (other-waits x n e)
-  turn-other x Answer.accepted h e f = absurd (true-false (sym (f refl) ∙ h))
-  turn-other x (parts p) h e f = absurd (true-false (sym (f refl) ∙ h))
-  turn-other x more h e f = absurd (true-false (sym (f refl) ∙ h))
-  turn-other x finished h e f = absurd (true-false (sym (f refl) ∙ h))
-  turn-other x (outcome o) h e f = absurd (true-false (sym (f refl) ∙ h))
+  iteration-other : (x : Inputs) (a : Answer) → sameInputs z (q .inputs) x ≡ false → Conforms (advancingByRule going x (at q c tr)) a
+      → (isRefused a ≡ false → sameInputs z (q .inputs) x ≡ true) → Iteration a (after (advancingByRule going x (at q c tr)) a)
+  iteration-other x (refused n) h e f = waits n refl (other-waits x n e)
+  iteration-other x Answer.accepted h e f = absurd (true-false (sym (f refl) ∙ h))
+  iteration-other x (parts p) h e f = absurd (true-false (sym (f refl) ∙ h))
+  iteration-other x more h e f = absurd (true-false (sym (f refl) ∙ h))
+  iteration-other x finished h e f = absurd (true-false (sym (f refl) ∙ h))
+  iteration-other x (outcome o) h e f = absurd (true-false (sym (f refl) ∙ h))
 
-  turn-advance : c < partCount q → (x : Inputs) (a : Answer) → Turned (advance x) a
+  iteration-advance : c < partCount q → (x : Inputs) (a : Answer) → Iterated (advance x) a
   unfolding step decided proceed advancing advanced
-  turn-advance l x a e f = go (refusal (stage (phase (State.running (at q c tr))) z) (advance x)) e
+  iteration-advance l x a e f = go (refusal (stage (phase (State.running (at q c tr))) z) (advance x)) e
     where
       both : (b : Bool) → sameInputs z (q .inputs) x ≡ b
           → Conforms (cond b (goesOn going (at q (suc c) (longer z (at q c tr) x))) (advancingByRule going x (at q c tr))) a
-          → Turn a (after (cond b (goesOn going (at q (suc c) (longer z (at q c tr) x)))
+          → Iteration a (after (cond b (goesOn going (at q (suc c) (longer z (at q c tr) x)))
           (advancingByRule going x (at q c tr))) a)
-      both true h e = turn-goes-on l (longer z (at q c tr) x) a e
-      both false h e = turn-other x a h e f
+      both true h e = iteration-goes-on l (longer z (at q c tr) x) a e
+      both false h e = iteration-other x a h e f
 
-      go : (n : ℕ) → Conforms (decided n going (advance x)) a → Turn a (after (decided n going (advance x)) a)
+      go : (n : ℕ) → Conforms (decided n going (advance x)) a → Iteration a (after (decided n going (advance x)) a)
       go zero e = both (sameInputs z (q .inputs) x) refl e
       go (suc n) e = waits (suc n) e refl
 
   -- one call while the question runs
-  pub turn : c < partCount q → (k : Call) (a : Answer) → Turned k a
+  pub iteration : c < partCount q → (k : Call) (a : Answer) → Iterated k a
   unfolding step decided proceed refusal phase firstNo mayLoad mayStart isRunning isAnswered inState
-  turn l (load x) a e f = waits 1 e refl
-  turn l (start x vs bs) a e f = waits 1 e refl
-  turn l (advance x) a e f = turn-advance l x a e f
-  turn l cancel a e f = absurd (true-false (sym f ∙ ap isRefused e))
-  turn l read a e f = waits 1 e refl
+  iteration l (load x) a e f = waits 1 e refl
+  iteration l (start x vs bs) a e f = waits 1 e refl
+  iteration l (advance x) a e f = iteration-advance l x a e f
+  iteration l cancel a e f = absurd (true-false (sym f ∙ ap isRefused e))
+  iteration l read a e f = waits 1 e refl
 
 -- ---- once it is answered
 
@@ -214,10 +214,10 @@ undisturbed z q c tr l [] [] h f =
 undisturbed z q c tr l [] (a ∷ xs) h f = absurd h
 undisturbed z q c tr l (k ∷ cs) [] h f = absurd h
 undisturbed z q c tr l (k ∷ cs) (a ∷ xs) h f =
-    go (λ i ps m g. undisturbed z q i ps m cs xs g (f .1)) (turn z q c tr l k a (h .0) (f .0))
+    go (λ i ps m g. undisturbed z q i ps m cs xs g (f .1)) (iteration z q c tr l k a (h .0) (f .0))
   where
     go : ((i : ℕ) (ps : List Part) → i < partCount q → Agrees (going z q i ps) cs xs → UndisturbedFrom q i xs)
-        → Turn z q c tr a (after (step (going z q c tr) k) a) → UndisturbedFrom q c (a ∷ xs)
+        → Iteration z q c tr a (after (step (going z q c tr) k) a) → UndisturbedFrom q c (a ∷ xs)
     go later (waits n e d) =
         let A : UndisturbedFrom q c xs = later c tr l (subst (λ (b : Reference). Agrees b cs xs) d (h .1)) in
         subst (λ (x : Answer). UndisturbedFrom q c (x ∷ xs)) (sym e)

@@ -17,14 +17,14 @@ use borrow.Author.Tests.{eq-eqb, le-leb}
 use Rattle.trees.specs.Tree.{size}
 use Rattle.formats.specs.Plan.{nodeCount, planLength, planTree}
 use Rattle.formats.specs.Rules.{stateCount, labelCount, ruleLength, ruleAutomaton}
-use Rattle.formats.specs.Checks.{check, firstNo, ruleTableChecks, buildChecks, listChecks, linkLength, stateLength}
-use Rattle.formats.specs.Built.{builtLinks, builtStates}
+use Rattle.formats.specs.Checks.{check, firstNo, ruleTableChecks, buildChecks, listChecks, nodeTableLength, stateTableLength}
+use Rattle.formats.specs.Built.{builtNodeTable, builtStateTable}
 use Rattle.formats.proofs.CheckLaws.{and-both, firstNo-yes, firstNo-tail}
 use Rattle.formats.proofs.ListLaws.{sameList-is}
 use Rattle.formats.proofs.PlanLaws.{size-planTree}
 use Rattle.formats.proofs.InputLaws.{rule-table-passes, build-table}
 use Rattle.tables.specs.Answers.{written}
-use Rattle.links.proofs.CellLaws.{length-linkTable}
+use Rattle.node_tables.proofs.CellLaws.{length-nodeTableOf}
 use Rattle.formats.specs.Inputs.{Inputs, sizesIn, fits, usedNodeTable, usedStateTable, nodeTableBuilt, stateTableBuilt}
 use Rattle.formats.specs.Inputs.{sound}
 use Rattle.model.specs.Calls.{load, start, parts, mayLoad, mayStart}
@@ -32,7 +32,7 @@ use Rattle.model.specs.Refusals.{Stage, refusal}
 use Rattle.reference.specs.Reference.{clean, byRule, byProgram, Question, State, settled, phase, inState, step}
 use Rattle.reference.specs.Reference.{decided, proceed, partCount, settlementOf, asked, starting}
 use Rattle.formats.proofs.InputsLaws.{built-node-table}
-use Rattle.reference.proofs.FreshLaws.{rules-sound, length-stateTable}
+use Rattle.reference.proofs.FreshLaws.{rules-sound, length-stateTableOf}
 use Rattle.reference.proofs.Simulation.{referenceOf}
 use Rattle.reference.proofs.QuestionTheorem.{question}
 
@@ -41,8 +41,8 @@ unfoldable pub loaded : Inputs → Inputs
 loaded x = record {
   plan = x .plan;
   rules = x .rules;
-  nodeTable = written 0 (builtLinks (x .plan)) (x .nodeTable);
-  stateTable = written 0 (builtStates (x .plan) (x .rules)) (x .stateTable);
+  nodeTable = written 0 (builtNodeTable (x .plan)) (x .nodeTable);
+  stateTable = written 0 (builtStateTable (x .plan) (x .rules)) (x .stateTable);
 }
 
 load-passes : (t : Stage) (x : Inputs) → refusal t (load x) ≡ 0
@@ -63,24 +63,24 @@ module _ (x : Inputs) (passed : firstNo (ruleTableChecks (x .plan) (x .rules)) �
   count : size (planTree (x .plan)) ≡ nodeCount (x .plan)
   count = size-planTree (x .plan) (rule-table-passes (x .plan) (x .rules) passed .0)
 
-  bytes-length : length (builtStates (x .plan) (x .rules)) ≡ stateLength (nodeCount (x .plan)) (stateCount (x .rules))
-  bytes-length =
-      length-stateTable (ruleAutomaton (x .rules))
+  state-table-length : length (builtStateTable (x .plan) (x .rules)) ≡ stateTableLength (nodeCount (x .plan)) (stateCount (x .rules))
+  state-table-length =
+      length-stateTableOf (ruleAutomaton (x .rules))
       (rules-sound (x .rules) (rule-table-passes (x .plan) (x .rules) passed .1)) (planTree (x .plan))
-      ∙ ap (λ (n : ℕ). stateLength n (stateCount (x .rules))) count
+      ∙ ap (λ (n : ℕ). stateTableLength n (stateCount (x .rules))) count
 
-  node-table-written : usedNodeTable (sizesIn x) (loaded x) ≡ builtLinks (x .plan)
+  node-table-written : usedNodeTable (sizesIn x) (loaded x) ≡ builtNodeTable (x .plan)
   unfolding loaded written
   node-table-written =
-      take-at (builtLinks (x .plan)) (drop (length (builtLinks (x .plan))) (x .nodeTable)) (linkLength (nodeCount (x .plan)))
-      (length-linkTable (planTree (x .plan)) ∙ ap linkLength count)
+      take-at (builtNodeTable (x .plan)) (drop (length (builtNodeTable (x .plan))) (x .nodeTable)) (nodeTableLength (nodeCount (x .plan)))
+      (length-nodeTableOf (planTree (x .plan)) ∙ ap nodeTableLength count)
 
-  state-table-written : usedStateTable (sizesIn x) (loaded x) ≡ builtStates (x .plan) (x .rules)
+  state-table-written : usedStateTable (sizesIn x) (loaded x) ≡ builtStateTable (x .plan) (x .rules)
   unfolding loaded written
   state-table-written =
-      take-at (builtStates (x .plan) (x .rules)) (drop (length (builtStates (x .plan) (x .rules))) (x .stateTable))
-      (stateLength (nodeCount (x .plan)) (stateCount (x .rules)))
-      bytes-length
+      take-at (builtStateTable (x .plan) (x .rules)) (drop (length (builtStateTable (x .plan) (x .rules))) (x .stateTable))
+      (stateTableLength (nodeCount (x .plan)) (stateCount (x .rules)))
+      state-table-length
 
   pub written-links : nodeTableBuilt (sizesIn x) (loaded x) ≡ true
   unfolding loaded
@@ -88,14 +88,14 @@ module _ (x : Inputs) (passed : firstNo (ruleTableChecks (x .plan) (x .rules)) �
       built-node-table (sizesIn x) (loaded x)
       (record { passed = passed; n-is = refl; s-is = refl; k-is = refl; nodeTable = node-table-written })
 
-  written-bytes : stateTableBuilt (sizesIn x) (loaded x) ≡ true
+  written-state-table : stateTableBuilt (sizesIn x) (loaded x) ≡ true
   unfolding stateTableBuilt loaded
-  written-bytes = sameList-is (usedStateTable (sizesIn x) (loaded x)) (builtStates (x .plan) (x .rules)) state-table-written
+  written-state-table = sameList-is (usedStateTable (sizesIn x) (loaded x)) (builtStateTable (x .plan) (x .rules)) state-table-written
 
   pub passed-sound : sound (sizesIn x) (loaded x) ≡ true
   unfolding sound
   passed-sound = and-both (nodeTableBuilt (sizesIn x) (loaded x)) (stateTableBuilt (sizesIn x) (loaded x)) written-links
-      written-bytes
+      written-state-table
 
   -- and they are long enough: check 17
   pub passed-fits : fits (sizesIn x) (loaded x) ≡ true
@@ -103,29 +103,29 @@ module _ (x : Inputs) (passed : firstNo (ruleTableChecks (x .plan) (x .rules)) �
   passed-fits =
       fits-all (length (x .plan)) (planLength (nodeCount (x .plan))) (length (x .rules))
       (ruleLength (stateCount (x .rules)) (labelCount (x .rules)))
-      (linkLength (nodeCount (x .plan))) (length nums′) (stateLength (nodeCount (x .plan)) (stateCount (x .rules)))
-      (length bytes′)
+      (nodeTableLength (nodeCount (x .plan))) (length nodeTable′) (stateTableLength (nodeCount (x .plan)) (stateCount (x .rules)))
+      (length stateTable′)
       (rule-table-passes (x .plan) (x .rules) passed .0 .exact)
       (rule-table-passes (x .plan) (x .rules) passed .1 .exact)
       (omega (
         arith,
-        length-linkTable (planTree (x .plan)),
-        ap linkLength count,
-        length-append (builtLinks (x .plan))
-            (drop (length (builtLinks (x .plan))) (x .nodeTable)),
+        length-nodeTableOf (planTree (x .plan)),
+        ap nodeTableLength count,
+        length-append (builtNodeTable (x .plan))
+            (drop (length (builtNodeTable (x .plan))) (x .nodeTable)),
       ))
       (omega (
         arith,
-        bytes-length,
-        length-append (builtStates (x .plan) (x .rules))
-            (drop (length (builtStates (x .plan) (x .rules))) (x .stateTable)),
+        state-table-length,
+        length-append (builtStateTable (x .plan) (x .rules))
+            (drop (length (builtStateTable (x .plan) (x .rules))) (x .stateTable)),
       ))
     where
-      nums′ : List ℕ
-      nums′ = builtLinks (x .plan) ++ drop (length (builtLinks (x .plan))) (x .nodeTable)
+      nodeTable′ : List ℕ
+      nodeTable′ = builtNodeTable (x .plan) ++ drop (length (builtNodeTable (x .plan))) (x .nodeTable)
 
-      bytes′ : List ℕ
-      bytes′ = builtStates (x .plan) (x .rules) ++ drop (length (builtStates (x .plan) (x .rules))) (x .stateTable)
+      stateTable′ : List ℕ
+      stateTable′ = builtStateTable (x .plan) (x .rules) ++ drop (length (builtStateTable (x .plan) (x .rules))) (x .stateTable)
 
 -- whatever the buffers held, and however long they are
 pub written-sound : (t : Stage) (x : Inputs) → refusal t (load x) ≡ 0 → sound (sizesIn x) (loaded x) ≡ true

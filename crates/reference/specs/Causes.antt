@@ -5,20 +5,20 @@
 -- isChildless b x == by the node table b a child of node x would lie outside the plan
 -- strays n b v, isApart n b v == the links of node v lead outside the plan, do not rise or lead to a node without children; node v is at
 --   the top, and not above all
--- linksCause n b == some value of the n nodes does so: of what a Start reads
+-- nodeTableCause n b == some value of the n nodes does so: of what a Start reads
 -- nodeCause X vs bs v == a state, a label or the kind of node v leads outside, with the labels as the list changes them
 -- rulesCause X == a rule gives no state
 -- cause X vs bs == one of these: of what an advance reads
 -- startCause z x, advanceCause z x vs bs == of the inputs, excess aside
 --
--- The same as data, with the value's place: LinksAstray (crate links) and Astray (crate questions); proofs/CauseLaws.
+-- The same as data, with the value's place: NodeTableOutOfRange (crate links) and PartOutOfRange (crate questions); proofs/CauseLaws.
 -- Assumes nothing.
 use Prim.Native.Nat.{ℕ, _+_, _-_, _*_}
 use mathlib.Core.Bool.{Bool, not, _&&_, _||_}
 use mathlib.Core.List.{List}
 use lib.Dec.{leb, ltb, eqb}
 use lib.ListN.{getD}
-use Rattle.links.specs.Cells.{parentCell, jumpCell, depthCell, sizeCell, isInSubtreeOn}
+use Rattle.node_tables.specs.Cells.{parentCell, jumpCell, depthCell, sizeCell, isInSubtreeOn}
 use Rattle.tables.specs.StateCells.{stateCell, mapCell}
 use Rattle.tables.specs.Climbs.{View, viewOf}
 use Rattle.ready.specs.Members.{someIn}
@@ -41,16 +41,16 @@ strays n b v = leb n (jumpCell b v) || (leb n (parentCell b v) || (ltb 0 (depthC
 unfoldable pub isApart : ℕ → List ℕ → ℕ → Bool
 isApart n b v = eqb (depthCell b v) 0 && someIn (λ u. not (isInSubtreeOn b v u)) 0 n
 
-unfoldable pub linksCause : ℕ → List ℕ → Bool
-linksCause n b = someIn (λ v. strays n b v || isApart n b v) 0 n
+unfoldable pub nodeTableCause : ℕ → List ℕ → Bool
+nodeTableCause n b = someIn (λ v. strays n b v || isApart n b v) 0 n
 
 unfoldable pub nodeCause : View → List ℕ → List ℕ → ℕ → Bool
 nodeCause X vs bs v =
-    leb (X .s) (stateCell (X .s) (X .bytes) v)
-    || (someIn (λ q. leb (X .s) (mapCell (X .s) (X .bytes) v q)) 0 (X .s)
+    leb (X .s) (stateCell (X .s) (X .stateTable) v)
+    || (someIn (λ q. leb (X .s) (mapCell (X .s) (X .stateTable) v q)) 0 (X .s)
     || (leb (X .k) (getD (X .labels) v 0)
     || (leb (X .k) (labelOn X vs bs v)
-    || (not (eqb (getD (X .kinds) v 0) 0) && isChildless (X .nums) v))))
+    || (not (eqb (getD (X .kinds) v 0) 0) && isChildless (X .nodeTable) v))))
 
 unfoldable pub rulesCause : View → Bool
 rulesCause X =
@@ -59,10 +59,10 @@ rulesCause X =
     someIn (λ a. someIn (λ q. leb (X .s) (getD (X .inner) ((p * X .k + a) * X .s + q) 0)) 0 (X .s)) 0 (X .k)) 0 (X .s)
 
 unfoldable pub cause : View → List ℕ → List ℕ → Bool
-cause X vs bs = linksCause (X .n) (X .nums) || (someIn (nodeCause X vs bs) 0 (X .n) || rulesCause X)
+cause X vs bs = nodeTableCause (X .n) (X .nodeTable) || (someIn (nodeCause X vs bs) 0 (X .n) || rulesCause X)
 
 unfoldable pub startCause : Sizes → Inputs → Bool
-startCause z x = linksCause (z .n) (usedNodeTable z x)
+startCause z x = nodeTableCause (z .n) (usedNodeTable z x)
 
 unfoldable pub advanceCause : Sizes → Inputs → List ℕ → List ℕ → Bool
 advanceCause z x vs bs =

@@ -19,11 +19,11 @@ use Rattle.formats.specs.Buffers.{limitsFit, buffersFit, LimitArgs}
 use Rattle.formats.proofs.CheckLaws.{and-both, and-left, and-right, firstNo-yes, firstNo-no}
 use Rattle.formats.proofs.BufferLaws.{Lengths, lengths-are}
 use Rattle.tables.specs.declared.answers.Climbed.{Climbed}
-use Rattle.tables.specs.declared.answers.Climbed.the-variants.{Reached as Told, OutOfRange}
+use Rattle.tables.specs.declared.answers.Climbed.the-variants.{Reached as To, OutOfRange}
 use Rattle.tables.specs.declared.answers.Reached.{Reached}
-use Rattle.tables.specs.Climbs.{toldReached, reached}
+use Rattle.tables.specs.Climbs.{climbedOf, reached}
 use Rattle.tables.proofs.ClimbBounds.{Bounded}
-use Rattle.questions.specs.PartTold.{askedFits, partGiven}
+use Rattle.questions.specs.PartAnswers.{askedFits, partGiven}
 use Rattle.questions.proofs.PartFits.{given-yes}
 use Rattle.questions.proofs.PartBounds.{part-bounded}
 use Rattle.formats.specs.Inputs.{Inputs, fits}
@@ -219,34 +219,34 @@ module _ (s : Session) (h : Shaped s) (x : Inputs) (b : Bool) (may : b ≡ (vali
             (j ∙ ap (λ (z : Option Reached). sessionOf (advanceWith (recordOf s) x z .record′)) (sym e))
 
         module _ (K : Climbed)
-            (found : K ≡ toldReached (partGiven (s .head .sizes .n) (s .head .sizes .s) (s .head .sizes .k) (x .plan) (x .rules) (x .nodeTable) (x .stateTable)
+            (found : K ≡ climbedOf (partGiven (s .head .sizes .n) (s .head .sizes .s) (s .head .sizes .k) (x .plan) (x .rules) (x .nodeTable) (x .stateTable)
             (take (s .head .parts) (s .roots)) (take (s .head .handled) (s .states)) (take (s .head .m) (s .nodes))
             (take (s .head .m) (s .labels)))) where
           pub advance-18 : K ≡ OutOfRange → CallDone s C (advanceAnswer (NotAdvanced 18)) s
-          unfolding advanceAnswer advanceWith toldReached
-          advance-18 e = go (partNext (recordOf s) x) refl (found ∙ ap toldReached given)
+          unfolding advanceAnswer advanceWith climbedOf
+          advance-18 e = go (partNext (recordOf s) x) refl (found ∙ ap climbedOf given)
             where
-              go : (o : Option Reached) → partNext (recordOf s) x ≡ o → K ≡ toldReached (partNext (recordOf s) x)
+              go : (o : Option Reached) → partNext (recordOf s) x ≡ o → K ≡ climbedOf (partNext (recordOf s) x)
                   → CallDone s C (calls.Answer.refused 18) s
               go none i j = acts none i (calls.Answer.refused 18) s refl (sym (struct-is s h v))
               go (some y) i j =
-                  let k : K ≡ Told y = j ∙ ap toldReached i in
+                  let k : K ≡ To y = j ∙ ap climbedOf i in
                   let z : _≡_ {A = ℕ} 0 1 = cc in
                   absurd (omega arith)
 
-          module _ (q l : ℕ) (told : K ≡ Told (reached q l)) where
+          module _ (q l : ℕ) (result : K ≡ To (reached q l)) where
             one : (y : Reached) × (partNext (recordOf s) x ≡ some y) × (y .state ≡ q) × (y .links ≡ l)
-            unfolding toldReached
-            one = go (partNext (recordOf s) x) refl (found ∙ ap toldReached given)
+            unfolding climbedOf
+            one = go (partNext (recordOf s) x) refl (found ∙ ap climbedOf given)
               where
-                go : (o : Option Reached) → partNext (recordOf s) x ≡ o → K ≡ toldReached (partNext (recordOf s) x)
+                go : (o : Option Reached) → partNext (recordOf s) x ≡ o → K ≡ climbedOf (partNext (recordOf s) x)
                     → (y : Reached) × (partNext (recordOf s) x ≡ some y) × (y .state ≡ q) × (y .links ≡ l)
                 go none i j =
-                    let k : K ≡ OutOfRange = j ∙ ap toldReached i in
+                    let k : K ≡ OutOfRange = j ∙ ap climbedOf i in
                     let z : _≡_ {A = ℕ} 0 1 = cc in
                     absurd (omega arith)
                 go (some y) i j =
-                    let k : Told y ≡ Told (reached q l) = sym (j ∙ ap toldReached i) ∙ told in
+                    let k : To y ≡ To (reached q l) = sym (j ∙ ap climbedOf i) ∙ result in
                     let e : y ≡ reached q l = cc in
                     (y, i, ap (λ (w : Reached). w .state) e, ap (λ (w : Reached). w .links) e)
 

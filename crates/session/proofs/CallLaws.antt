@@ -11,7 +11,7 @@ use mathlib.Core.List.{List, [], _∷_}
 use native.Mathlib.Omega.{arith}
 use lib.ListN.{length, getD}
 use borrow.Author.Tests.{not-true, not-false}
-use Rattle.formats.proofs.TurnLaws.{and-yes}
+use Rattle.formats.proofs.LoopLaws.{and-yes}
 use Rattle.formats.specs.Checks.{Check, check, firstNo, listChecks}
 use Rattle.formats.proofs.CheckLaws.{true-false, firstNo-no, firstNo-head}
 use Rattle.formats.specs.Inputs.{Inputs, fits}

@@ -13,12 +13,12 @@ use borrow.Author.Tests.{not-true, not-false}
 use Rattle.formats.specs.Plan.{nodeCount}
 use Rattle.formats.specs.Rules.{stateCount, labelCount}
 use Rattle.formats.specs.Checks.{Check, check, firstNo, buildChecks}
-use Rattle.formats.specs.Built.{builtLinks, builtStates}
+use Rattle.formats.specs.Built.{builtNodeTable, builtStateTable}
 use Rattle.formats.proofs.CheckLaws.{and-left, and-right, firstNo-yes, firstNo-no}
 use Rattle.formats.proofs.InputLaws.{build-passes}
 use Rattle.tables.specs.declared.answers.Building.{Building}
 use Rattle.tables.specs.declared.answers.Building.the-variants.{Built, Refused}
-use Rattle.tables.specs.Answers.{buildingNumber, toldBuild, written, BuildDone}
+use Rattle.tables.specs.Answers.{buildingNumber, buildAnswer, written, BuildDone}
 use Rattle.formats.specs.Inputs.{Inputs}
 use Rattle.model.specs.Calls as calls
 use Rattle.model.specs.Calls.{load, mayLoad}
@@ -58,8 +58,8 @@ module _ (s : Session) (h : Shaped s) (x : Inputs) (b : Bool) (may : b ≡ (vali
       let n : refusalOn s (load x) ≡ 1 = no-number (sym may ∙ not-true b f) in
       record {
         call = unless-done s (load x) h (mayLoad (phaseOf (s .head .phase))) checks refl (sym may ∙ not-true b f);
-        links-written = rw n;
-        states-written = rw n;
+        node-table-written = rw n;
+        state-table-written = rw n;
       }
 
   module _ (now : not b ≡ false) where
@@ -77,13 +77,13 @@ module _ (s : Session) (h : Shaped s) (x : Inputs) (b : Bool) (may : b ≡ (vali
     unfolding refusalOn recordOf
     number = rw v on
 
-    module _ (a : Building) (nums′ bytes′ : List ℕ)
-        (D : BuildDone (firstNo checks) (builtLinks (x .plan)) (builtStates (x .plan) (x .rules)) (x .nodeTable) (x .stateTable) a nums′ bytes′) where
-      done : (k : calls.Answer) (t : Session) → CallDone s (load x) k t → LoadDone s x k t nums′ bytes′
+    module _ (a : Building) (nodeTable′ stateTable′ : List ℕ)
+        (D : BuildDone (firstNo checks) (builtNodeTable (x .plan)) (builtStateTable (x .plan) (x .rules)) (x .nodeTable) (x .stateTable) a nodeTable′ stateTable′) where
+      done : (k : calls.Answer) (t : Session) → CallDone s (load x) k t → LoadDone s x k t nodeTable′ stateTable′
       done k t c = record {
         call = c;
-        links-written = D .links-written ∙ ap (λ (i : ℕ). written i (builtLinks (x .plan)) (x .nodeTable)) (sym number);
-        states-written = D .states-written ∙ ap (λ (i : ℕ). written i (builtStates (x .plan) (x .rules)) (x .stateTable))
+        node-table-written = D .node-table-written ∙ ap (λ (i : ℕ). written i (builtNodeTable (x .plan)) (x .nodeTable)) (sym number);
+        state-table-written = D .state-table-written ∙ ap (λ (i : ℕ). written i (builtStateTable (x .plan) (x .rules)) (x .stateTable))
             (sym number);
       }
 
@@ -104,16 +104,16 @@ module _ (s : Session) (h : Shaped s) (x : Inputs) (b : Bool) (may : b ≡ (vali
             }
 
         pub load-built : (t : Session) → t ≡ sessionOf (loadedFrom (x .plan) (x .rules))
-            → LoadDone s x (callAnswer Accepted) t nums′ bytes′
+            → LoadDone s x (callAnswer Accepted) t nodeTable′ stateTable′
         unfolding callAnswer proceeds
         load-built t f =
             done calls.Answer.accepted t (proceeds-done s (load x) h v (on ∙ none-fails) calls.Answer.accepted t refl f)
 
-      pub load-refused : (k : ℕ) → a ≡ Refused k → LoadDone s x (callAnswer (NotDone k)) s nums′ bytes′
-      unfolding callAnswer toldBuild
-      load-refused k e = go (firstNo checks) refl (D .told)
+      pub load-refused : (k : ℕ) → a ≡ Refused k → LoadDone s x (callAnswer (NotDone k)) s nodeTable′ stateTable′
+      unfolding callAnswer buildAnswer
+      load-refused k e = go (firstNo checks) refl (D .result)
         where
-          go : (n : ℕ) → firstNo checks ≡ n → a ≡ toldBuild n → LoadDone s x (calls.Answer.refused k) s nums′ bytes′
+          go : (n : ℕ) → firstNo checks ≡ n → a ≡ buildAnswer n → LoadDone s x (calls.Answer.refused k) s nodeTable′ stateTable′
           go zero f g = let z : _≡_ {A = ℕ} 0 1 = cc in absurd (omega arith)
           go (suc n) f g =
               let q : k ≡ suc n = cc in

@@ -76,7 +76,7 @@ read-keeps r = go (refusal (stageOf r) read)
     go (suc n) = refl
 
 pub by-value-refines : Refines CallByValue Does Seen
-by-value-refines s s′ r c a i (loads o nums bytes d) = done-refines s r i _ _ _ (d .call)
+by-value-refines s s′ r c a i (loads o nodeTable stateTable d) = done-refines s r i _ _ _ (d .call)
 by-value-refines s s′ r c a i (starts o d) = done-refines s r i _ _ _ d
 by-value-refines s s′ r c a i (advances o d) = done-refines s r i _ _ _ d
 by-value-refines s s′ r c a i (cancels o d) = done-refines s r i _ _ _ d

@@ -19,7 +19,7 @@ use Rattle.formats.proofs.InputLaws.{ListPasses, list-passes}
 use Rattle.formats.proofs.BufferLaws.{lengths-are}
 use Rattle.questions.specs.declared.roots.Rooted.{Rooted}
 use Rattle.questions.specs.Roots.{rootsOn}
-use Rattle.questions.specs.RootsTold.{rootsGiven, rootedOf}
+use Rattle.questions.specs.RootsAnswers.{rootsGiven, rootedOf}
 use Rattle.questions.proofs.FitLaws.{fit-all, given-yes}
 use Rattle.questions.proofs.RootsLaws.{rootsOn-fits}
 use Rattle.formats.specs.Inputs.{Inputs, fits}
@@ -87,7 +87,7 @@ module _ (s : Session) (h : Shaped s) (x : Inputs) (vs bs : List ℕ) (b : Bool)
         pub start-room : s .head .sizes .n * 4 ≤ length (x .nodeTable)
         start-room =
             lengths-are (s .head .sizes .n) (s .head .sizes .s) (ruleLength (s .head .sizes .s) (s .head .sizes .k)) (length (x .plan)) (length (x .rules)) (length (x .nodeTable)) (length (x .stateTable))
-            (sym fit ∙ not-false f yes) .nums-room
+            (sym fit ∙ not-false f yes) .node-table-room
 
         onward : refusal (stage (phaseOf (s .head .phase)) (sizesOf s)) C ≡ firstNo (listChecks (s .head .sizes .n) (s .head .sizes .k) vs bs)
         onward = on ∙ firstNo-yes 17 (fits (sizesOf s) x) (listChecks (s .head .sizes .n) (s .head .sizes .k) vs bs) (fits-is ∙ not-false f yes)

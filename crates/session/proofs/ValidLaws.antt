@@ -12,7 +12,7 @@ use borrow.Author.Tests.{le-leb, lt-leb, not-true, not-false}
 use Rattle.formats.specs.Bytes.{allBelow}
 use Rattle.formats.specs.Limits.{within}
 use Rattle.formats.proofs.PlanLaws.{within-low}
-use Rattle.formats.proofs.TurnLaws.{and-yes, and-assoc}
+use Rattle.formats.proofs.LoopLaws.{and-yes, and-assoc}
 use Rattle.session.specs.declared.state.Sizes.{Sizes}
 use Rattle.session.specs.declared.state.Session.{Session}
 use Rattle.formats.proofs.CheckLaws.{and-left, and-no-right}

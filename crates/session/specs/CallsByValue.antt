@@ -18,7 +18,7 @@ use Rattle.session.specs.Answers.{callAnswer, startAnswer, advanceAnswer
 use Rattle.session.specs.Promises.{CallDone, LoadDone, answerOn}
 
 pub data CallByValue : Session → Call → Answer → Session → Type 0 where
-  loads : {s : Session} {x : Inputs} (o : Called) (nums bytes : List ℕ) → LoadDone s x (callAnswer (o .answer)) (o .session) nums bytes
+  loads : {s : Session} {x : Inputs} (o : Called) (nodeTable stateTable : List ℕ) → LoadDone s x (callAnswer (o .answer)) (o .session) nodeTable stateTable
       → CallByValue s (load x) (callAnswer (o .answer)) (o .session)
   starts : {s : Session} {x : Inputs} {vs bs : List ℕ} (o : Started) → CallDone s (start x vs bs) (startAnswer (o .answer)) (o .session)
       → CallByValue s (start x vs bs) (startAnswer (o .answer)) (o .session)

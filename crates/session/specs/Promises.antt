@@ -9,7 +9,7 @@ use Prim.Native.Nat.{ℕ}
 use mathlib.Core.Path.{_≡_}
 use mathlib.Core.Bool.{true, cond}
 use mathlib.Core.List.{List}
-use Rattle.formats.specs.Built.{builtLinks, builtStates}
+use Rattle.formats.specs.Built.{builtNodeTable, builtStateTable}
 use Rattle.tables.specs.Answers.{written}
 use Rattle.formats.specs.Inputs.{Inputs}
 use Rattle.model.specs.Calls.{Call, load, Answer, refused}
@@ -40,7 +40,7 @@ pub record CallDone (s : Session) (c : Call) (a : Answer) (s′ : Session) : Typ
   pub properties : valid s ≡ true → LeftOpen (recordOf s) c a (act (recordOf s) c .record′)
 
 -- Load's besides: the tables of the definition in the buffers given, excess untouched; as at entry where it is refused
-pub record LoadDone (s : Session) (x : Inputs) (a : Answer) (s′ : Session) (nums′ bytes′ : List ℕ) : Type 0 where
+pub record LoadDone (s : Session) (x : Inputs) (a : Answer) (s′ : Session) (nodeTable′ stateTable′ : List ℕ) : Type 0 where
   pub call : CallDone s (load x) a s′
-  pub links-written : nums′ ≡ written (refusalOn s (load x)) (builtLinks (x .plan)) (x .nodeTable)
-  pub states-written : bytes′ ≡ written (refusalOn s (load x)) (builtStates (x .plan) (x .rules)) (x .stateTable)
+  pub node-table-written : nodeTable′ ≡ written (refusalOn s (load x)) (builtNodeTable (x .plan)) (x .nodeTable)
+  pub state-table-written : stateTable′ ≡ written (refusalOn s (load x)) (builtStateTable (x .plan) (x .rules)) (x .stateTable)

@@ -13,8 +13,8 @@ use questions::part::part;
 use tables::answers::Climbed;
 ghost use mathlib.Core.Path.{_≡_};
 ghost use lib.ListN.{take};
-ghost use Rattle.questions.specs.PartTold.{partGiven};
-ghost use Rattle.tables.specs.Climbs.{toldReached};
+ghost use Rattle.questions.specs.PartAnswers.{partGiven};
+ghost use Rattle.tables.specs.Climbs.{climbedOf};
 ghost use Rattle.model.specs.Calls as calls;
 ghost use Rattle.session.specs.Answers.{advanceAnswer};
 ghost use Rattle.session.specs.Promises.{CallDone};
@@ -29,8 +29,8 @@ fn next_part<'a>(
     h: Head,
     plan: &[u8],
     rules: &[u8],
-    nums: &[u16],
-    bytes: &[u8],
+    node_table: &[u16],
+    state_table: &[u8],
     nodes: &'a [u16],
     labels: &'a [u8],
     roots: &'a [u16],
@@ -38,8 +38,8 @@ fn next_part<'a>(
 ) -> Climbed
     requires { ⌜ NextArgs (whole h (now nodes) (now labels) (now roots) (now states)) ⌝ }
     ensures { λ r. ⌜
-        r ≡ toldReached (partGiven (h .sizes .n) (h .sizes .s) (h .sizes .k) (now (plan .entry)) (now (rules .entry)) (now (nums .entry))
-        (now (bytes .entry)) (take (h .parts) (now (roots .entry))) (take (h .handled) (now (states .entry)))
+        r ≡ climbedOf (partGiven (h .sizes .n) (h .sizes .s) (h .sizes .k) (now (plan .entry)) (now (rules .entry)) (now («node_table» .entry))
+        (now («state_table» .entry)) (take (h .parts) (now (roots .entry))) (take (h .handled) (now (states .entry)))
         (take (h .m) (now (nodes .entry))) (take (h .m) (now (labels .entry)))) ⌝ }
 {
     let p = h.parts as usize;
@@ -51,8 +51,8 @@ fn next_part<'a>(
         h.sizes.k as usize,
         plan,
         rules,
-        nums,
-        bytes,
+        node_table,
+        state_table,
         &roots[..p],
         &states[..done],
         &nodes[..m],
@@ -127,8 +127,8 @@ fn next_step<'a>(
     h: Head,
     plan: &[u8],
     rules: &[u8],
-    nums: &[u16],
-    bytes: &[u8],
+    node_table: &[u16],
+    state_table: &[u8],
     nodes: &'a [u16],
     labels: &'a [u8],
     roots: &'a [u16],
@@ -137,7 +137,7 @@ fn next_step<'a>(
     requires { ⌜ Shaped (whole h (now nodes) (now labels) (now roots) (now states)) ⌝ }
     ensures { λ r. ⌜
         StepFound (whole h (now (nodes .entry)) (now (labels .entry)) (now (roots .entry)) (now (states .entry)))
-        (calls.advance (inputsOf (now (plan .entry)) (now (rules .entry)) (now (nums .entry)) (now (bytes .entry)))) r ⌝ }
+        (calls.advance (inputsOf (now (plan .entry)) (now (rules .entry)) (now («node_table» .entry)) (now («state_table» .entry)))) r ⌝ }
 {
     let phase = h.phase;
     let may = may_advance(phase);
@@ -147,10 +147,10 @@ fn next_step<'a>(
     let n = h.sizes.n as usize;
     let s = h.sizes.s as usize;
     let k = h.sizes.k as usize;
-    if !rule_buffers_fit(n, s, k, plan.len(), rules.len(), nums.len(), bytes.len()) {
+    if !rule_buffers_fit(n, s, k, plan.len(), rules.len(), node_table.len(), state_table.len()) {
         return refused_step(h, 17);
     }
-    match next_part(h, plan, rules, nums, bytes, nodes, labels, roots, states) {
+    match next_part(h, plan, rules, node_table, state_table, nodes, labels, roots, states) {
         Climbed::Reached(found) => {
             return handled(h, rules, found.state, found.links);
         }
@@ -162,10 +162,10 @@ fn next_step<'a>(
 
 impl Session {
     // Handles the next part. The record is made at one place, so that it is copied once.
-    pub fn advance(self, plan: &[u8], rules: &[u8], nums: &[u16], bytes: &[u8]) -> Advanced
+    pub fn advance(self, plan: &[u8], rules: &[u8], node_table: &[u16], state_table: &[u8]) -> Advanced
         ensures { λ r. ⌜
             CallDone self
-            (calls.advance (inputsOf (now (plan .entry)) (now (rules .entry)) (now (nums .entry)) (now (bytes .entry))))
+            (calls.advance (inputsOf (now (plan .entry)) (now (rules .entry)) (now («node_table» .entry)) (now («state_table» .entry))))
             (advanceAnswer (r .answer)) (r .session) ⌝ }
     {
         let h = self.head;
@@ -173,8 +173,8 @@ impl Session {
             h,
             plan,
             rules,
-            nums,
-            bytes,
+            node_table,
+            state_table,
             &self.nodes,
             &self.labels,
             &self.roots,

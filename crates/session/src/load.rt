@@ -13,11 +13,11 @@ ghost use Rattle.formats.specs.Inputs.{inputsOf};
 
 impl Session {
     // Builds the tables of a plan and rules into the lent buffers.
-    pub fn load(self, plan: &[u8], rules: &[u8], nums: &mut [u16], bytes: &mut [u8]) -> Called
+    pub fn load(self, plan: &[u8], rules: &[u8], node_table: &mut [u16], state_table: &mut [u8]) -> Called
         ensures { λ r. ⌜
             LoadDone self
-            (inputsOf (now (plan .entry)) (now (rules .entry)) (now (nums .entry)) (now (bytes .entry)))
-            (callAnswer (r .answer)) (r .session) (now (nums .exit)) (now (bytes .exit)) ⌝ }
+            (inputsOf (now (plan .entry)) (now (rules .entry)) (now («node_table» .entry)) (now («state_table» .entry)))
+            (callAnswer (r .answer)) (r .session) (now («node_table» .exit)) (now («state_table» .exit)) ⌝ }
     {
         let h = self.head;
         let phase = h.phase;
@@ -28,7 +28,7 @@ impl Session {
                 session: self,
             };
         }
-        match build_tables(plan, rules, nums, bytes) {
+        match build_tables(plan, rules, node_table, state_table) {
             Building::Built => {
                 let session = loaded_from(plan, rules);
                 return Called {

@@ -51,14 +51,14 @@ impl Session {
         self,
         plan: &[u8],
         rules: &[u8],
-        nums: &[u16],
-        bytes: &[u8],
+        node_table: &[u16],
+        state_table: &[u8],
         nodes: &[u16],
         labels: &[u8],
     ) -> Started
         ensures { λ r. ⌜
             CallDone self
-            (calls.start (inputsOf (now (plan .entry)) (now (rules .entry)) (now (nums .entry)) (now (bytes .entry)))
+            (calls.start (inputsOf (now (plan .entry)) (now (rules .entry)) (now («node_table» .entry)) (now («state_table» .entry)))
             (now (nodes .entry)) (now (labels .entry)))
             (startAnswer (r .answer)) (r .session) ⌝ }
     {
@@ -74,7 +74,7 @@ impl Session {
         let n = h.sizes.n as usize;
         let s = h.sizes.s as usize;
         let k = h.sizes.k as usize;
-        if !rule_buffers_fit(n, s, k, plan.len(), rules.len(), nums.len(), bytes.len()) {
+        if !rule_buffers_fit(n, s, k, plan.len(), rules.len(), node_table.len(), state_table.len()) {
             return Started {
                 answer: StartAnswer::Refused(17),
                 session: self,
@@ -87,7 +87,7 @@ impl Session {
                 session: self,
             };
         }
-        let found = roots(n, &nums[..n * 4], nodes);
+        let found = roots(n, &node_table[..n * 4], nodes);
         if !found.ok {
             return Started {
                 answer: StartAnswer::Refused(18),

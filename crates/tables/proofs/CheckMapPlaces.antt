@@ -9,7 +9,7 @@ use native.Mathlib.Omega.{arith}
 use borrow.Author.Tests.{eq-eqb, ne-eqb}
 use lib.ListN.{length, getD}
 use Rattle.trees.proofs.RowLaws.{stride}
-use Rattle.links.specs.Cells.{parentCell, jumpCell}
+use Rattle.node_tables.specs.Cells.{parentCell, jumpCell}
 use Rattle.tables.specs.StateCells.{mapCell}
 use Rattle.tables.specs.Rows.{NearArgs}
 use Rattle.tables.specs.Compare.{rowIs, nearEntry, farEntry, FarIsArgs}

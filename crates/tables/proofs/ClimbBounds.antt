@@ -20,7 +20,7 @@ use Rattle.trees.proofs.Choice.{by-test}
 use Rattle.trees.proofs.MoveLaws.{none-some, next-inside, next-rises}
 use Rattle.trees.proofs.ClimbLaws.{climb-cons}
 use Rattle.formats.proofs.CheckLaws.{true-false}
-use Rattle.links.specs.Cells.{parentCell, cellForest}
+use Rattle.node_tables.specs.Cells.{parentCell, cellForest}
 use Rattle.tables.specs.Climbs.{View, below, runOn, ruleOn, siblingOn}
 use Rattle.tables.specs.declared.answers.Reached.{Reached}
 use Rattle.tables.specs.Climbs.{parentOn, moveOn, reached, climbOn}
@@ -124,7 +124,7 @@ module _ (X : View) where
   pub move-state : (m : Move) (q y : ℕ) → moveOn X m q ≡ some y → y < X .s
   unfolding moveOn
   move-state (byJump v) q y e = let b = below-state (X .s) _ y e in omega (arith, b .0, b .1)
-  move-state (toParent v) q y e = parent-state v (parentCell (X .nums) v) q y e
+  move-state (toParent v) q y e = parent-state v (parentCell (X .nodeTable) v) q y e
 
   carry-state : (ms : List Move) (q y : ℕ) → q < X .s → carry (moveOn X) ms q ≡ some y → y < X .s
   carry-state [] q y h e = omega (arith, Option·some-injective q y e)
@@ -141,7 +141,7 @@ module _ (X : View) where
 
   pub climb-bounded : (h t q : ℕ) (x : Reached) → q < X .s → climbOn X h t q ≡ some x → Bounded x
   unfolding climbOn
-  climb-bounded h t q x l e = climbed (climb (cellForest (X .n) (X .nums)) h t) refl e
+  climb-bounded h t q x l e = climbed (climb (cellForest (X .n) (X .nodeTable)) h t) refl e
     where
       carried : (ms : List Move) → length ms ≤ X .n → (o : Option ℕ) → carry (moveOn X) ms q ≡ o
           → andThen o (λ y. some (reached y (length ms))) ≡ some x → Bounded x
@@ -150,8 +150,8 @@ module _ (X : View) where
           subst Bounded (Option·some-injective (reached y (length ms)) x i)
           (record { state = carry-state ms q y l a; links = f })
 
-      climbed : (o : Option (List Move)) → climb (cellForest (X .n) (X .nums)) h t ≡ o
+      climbed : (o : Option (List Move)) → climb (cellForest (X .n) (X .nodeTable)) h t ≡ o
           → andThen o (λ ms. andThen (carry (moveOn X) ms q) (λ y. some (reached y (length ms)))) ≡ some x → Bounded x
       climbed none c i = absurd (none-some i)
       climbed (some ms) c i =
-          carried ms (climb-few (cellForest (X .n) (X .nums)) h t ms c) (carry (moveOn X) ms q) refl i
+          carried ms (climb-few (cellForest (X .n) (X .nodeTable)) h t ms c) (carry (moveOn X) ms q) refl i

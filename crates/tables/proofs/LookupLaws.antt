@@ -15,7 +15,7 @@ use borrow.Author.Tests.{lt-ltb, le-ltb, le-leb, lt-leb, eq-eqb, ne-eqb}
 use Rattle.trees.proofs.MoveLaws.{none-some}
 use Rattle.trees.proofs.Choice.{by-lt}
 use Rattle.trees.proofs.RowLaws.{stride}
-use Rattle.links.specs.Cells.{sizeCell}
+use Rattle.node_tables.specs.Cells.{sizeCell}
 use Rattle.tables.specs.Climbs.{View, below, ruleOn, siblingOn}
 
 pub below-yes : (s q : ℕ) → q < s → below s q ≡ some q
@@ -65,13 +65,13 @@ module _ (X : View) (p a q : ℕ) where
 -- ---- siblings
 
 module _ (X : View) (v p : ℕ) where
-  pub sibling-left : v + 1 ≡ p → sizeCell (X .nums) v ≤ v → siblingOn X v p ≡ some (v - sizeCell (X .nums) v)
+  pub sibling-left : v + 1 ≡ p → sizeCell (X .nodeTable) v ≤ v → siblingOn X v p ≡ some (v - sizeCell (X .nodeTable) v)
   unfolding siblingOn
-  sibling-left e h = rw (eq-eqb (v + 1) p e, le-leb (sizeCell (X .nums) v) v h)
+  sibling-left e h = rw (eq-eqb (v + 1) p e, le-leb (sizeCell (X .nodeTable) v) v h)
 
-  pub sibling-outside : v + 1 ≡ p → v < sizeCell (X .nums) v → siblingOn X v p ≡ none
+  pub sibling-outside : v + 1 ≡ p → v < sizeCell (X .nodeTable) v → siblingOn X v p ≡ none
   unfolding siblingOn
-  sibling-outside e h = rw (eq-eqb (v + 1) p e, lt-leb (sizeCell (X .nums) v) v h)
+  sibling-outside e h = rw (eq-eqb (v + 1) p e, lt-leb (sizeCell (X .nodeTable) v) v h)
 
   pub sibling-right : ¬ (v + 1 ≡ p) → 0 < p → siblingOn X v p ≡ some (p - 1)
   unfolding siblingOn

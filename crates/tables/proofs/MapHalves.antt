@@ -1,9 +1,9 @@
 -- Maps in the halves of 32 bytes.
 --     getD-mapAt                   an entry of a map
 --     identity, identity-map       each state to itself
---     Turned                       the loop that writes the next map: q of its entries stand, and the map carried too
---     turned-start, turned-turn    no entry written, and one more
---     turned-done, turned-lost     all written, and a value that is no state
+--     Iterated                       the loop that writes the next map: q of its entries stand, and the map carried too
+--     iterated-start, iterated-iteration    no entry written, and one more
+--     iterated-done, iterated-lost     all written, and a value that is no state
 -- Assumes nothing.
 use Prim.Native.Nat.{ℕ, _+_, _-_, _≤_, _<_}
 use mathlib.Core.Path.{_≡_, refl, sym, ap, ap₂, _∙_}
@@ -46,15 +46,15 @@ identity-map s h = tabulate-ext s (λ q. getD identity (0 + q) 0) (λ q. q) each
 -- ---- the next map, entry by entry
 
 module _ (s : ℕ) (f : ℕ → ℕ) (here : ℕ) (maps : List ℕ) where
-  pub record Turned (q : ℕ) (a : List ℕ) : Type 0 where
+  pub record Iterated (q : ℕ) (a : List ℕ) : Type 0 where
     pub most : q ≤ s
     pub long : length a ≡ 32
     pub states : (j : ℕ) → j < q → f j < s
     pub done : (j : ℕ) → j < q → getD a (16 - here + j) 0 ≡ getD maps (here + f j) 0
     pub kept : (j : ℕ) → j < 16 → getD a (here + j) 0 ≡ getD maps (here + j) 0
 
-  pub turned-start : Halves s maps here → Turned 0 maps
-  turned-start H = record {
+  pub iterated-start : Halves s maps here → Iterated 0 maps
+  iterated-start H = record {
     most = omega arith;
     long = H .long;
     states = λ j h. absurd (omega arith);
@@ -62,9 +62,9 @@ module _ (s : ℕ) (f : ℕ → ℕ) (here : ℕ) (maps : List ℕ) where
     kept = λ j h. refl;
   }
 
-  pub turned-turn : Halves s maps here → (q : ℕ) (a : List ℕ) → q < s → f q < s → Turned q a
-      → Turned (q + 1) (set a (16 - here + q) (getD a (here + f q) 0))
-  turned-turn H q a h i T = record {
+  pub iterated-iteration : Halves s maps here → (q : ℕ) (a : List ℕ) → q < s → f q < s → Iterated q a
+      → Iterated (q + 1) (set a (16 - here + q) (getD a (here + f q) 0))
+  iterated-iteration H q a h i T = record {
     most = omega arith;
     long = length-set a (16 - here + q) (getD a (here + f q) 0) ∙ T .long;
     states = λ j l. elim (ℕ-discrete j q) [
@@ -81,16 +81,16 @@ module _ (s : ℕ) (f : ℕ → ℕ) (here : ℕ) (maps : List ℕ) where
         (λ e. omega (arith, H .few, H .half, H .within)) ∙ T .kept j l;
   }
 
-  pub turned-done : (a : List ℕ) → Halves s maps here → Turned s a
+  pub iterated-done : (a : List ℕ) → Halves s maps here → Iterated s a
       → Followed s here a true (follow s (mapAt s maps here) f)
   unfolding mapAt
-  turned-done a H T = record {
+  iterated-done a H T = record {
     long = T .long;
     made = follow-yes s f (mapAt s maps here) (T .states)
         ∙ ap some (tabulate-ext s (λ q. getD (mapAt s maps here) (f q) 0) (λ q. getD a (16 - here + q) 0)
         (λ q h. getD-mapAt s maps here (f q) (T .states q h) ∙ sym (T .done q h)));
   }
 
-  pub turned-lost : (q : ℕ) (a : List ℕ) → q < s → s ≤ f q → Turned q a
+  pub iterated-lost : (q : ℕ) (a : List ℕ) → q < s → s ≤ f q → Iterated q a
       → Followed s here a false (follow s (mapAt s maps here) f)
-  turned-lost q a h i T = record { long = T .long; made = follow-no s f (mapAt s maps here) q h i }
+  iterated-lost q a h i T = record { long = T .long; made = follow-no s f (mapAt s maps here) q h i }

@@ -16,7 +16,7 @@ use borrow.Author.Tests.{eq-eqb, ne-eqb}
 use lib.ListN.{length, getD}
 use Rattle.trees.proofs.RowLaws.{stride}
 use Rattle.formats.proofs.RuleLaws.{rule-in}
-use Rattle.links.specs.Cells.{parentCell, jumpCell, sizeCell}
+use Rattle.node_tables.specs.Cells.{parentCell, jumpCell, sizeCell}
 use Rattle.tables.specs.StateCells.{stateCell, mapCell}
 use Rattle.tables.specs.Rows.{Rowed, RowIn, NearArgs, FarArgs, farCell}
 use Rattle.tables.specs.Maps.{siblingOf, nearBase, nearStep, nearValue, farValue, mapValue, BaseArgs, StepArgs, FillArgs}

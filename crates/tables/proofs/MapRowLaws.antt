@@ -1,5 +1,5 @@
 -- A node's map written byte by byte.
---     row-start, row-turn     no byte written, and one more
+--     row-start, row-iteration     no byte written, and one more
 --     row-cell-in             a byte of a row is inside the buffer
 --     row-ahead               a byte of the row that is not written yet is as it was
 --     row-other, row-state    other rows, and every state byte, are as they were
@@ -22,8 +22,8 @@ pub row-cell-in : (s v q m : ℕ) → q < s → RowIn m s v → v * (s + 1) + (1
 row-cell-in s v q m l room = omega arith
 
 module _ (s : ℕ) (f : ℕ → ℕ) (v i : ℕ) (b₀ b : List ℕ) (r : RowTo s f v i b₀ b) where
-  pub row-turn : (x y : ℕ) → x ≡ v * (s + 1) + (1 + i) → x < length b → y ≡ f i → RowTo s f v (i + 1) b₀ (set b x y)
-  row-turn x y e room z = record {
+  pub row-iteration : (x y : ℕ) → x ≡ v * (s + 1) + (1 + i) → x < length b → y ≡ f i → RowTo s f v (i + 1) b₀ (set b x y)
+  row-iteration x y e room z = record {
     cells = λ q l. elim (ℕ-discrete q i) [
       | yes p ↦ rw (p, ← e) (getD-set-same b x y 0 room ∙ z)
       | no p ↦ getD-set-other b x (v * (s + 1) + (1 + q)) y 0 (omega arith) ∙ r .cells q (omega arith)

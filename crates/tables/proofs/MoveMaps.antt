@@ -15,7 +15,7 @@ use borrow.Author.Tests.{lt-ltb, le-ltb}
 use Rattle.trees.specs.Climb.{Move, byJump, toParent}
 use Rattle.trees.proofs.MoveLaws.{none-some}
 use Rattle.trees.proofs.RowLaws.{stride, cell-in}
-use Rattle.formats.specs.Checks.{stateLength}
+use Rattle.formats.specs.Checks.{stateTableLength}
 use Rattle.tables.specs.StateCells.{mapCell}
 use Rattle.tables.specs.Compose.{Halves, FollowArgs, LabelArgs, labelMove, runMove, follow}
 use Rattle.tables.proofs.FollowLaws.{MapOf, follow-ext, follow-map}
@@ -45,38 +45,38 @@ module _ (s k : ℕ) (ls st : List ℕ) (v : ℕ) where
 
 -- ---- by a jump
 
-module _ (s : ℕ) (bytes : List ℕ) (v : ℕ) where
+module _ (s : ℕ) (stateTable : List ℕ) (v : ℕ) where
   -- a function reads from behind the state byte on
-  jump-inside : (m : List ℕ) → follow s m (mapCell s bytes v) ≡ follow s m (λ q. getD bytes (v * (s + 1) + 1 + q * 1) 0)
+  jump-inside : (m : List ℕ) → follow s m (mapCell s stateTable v) ≡ follow s m (λ q. getD stateTable (v * (s + 1) + 1 + q * 1) 0)
   jump-inside m =
-      follow-ext s m (mapCell s bytes v) (λ q. getD bytes (v * (s + 1) + 1 + q * 1) 0)
-      (λ q l. let e : v * (s + 1) + (1 + q) ≡ v * (s + 1) + 1 + q * 1 = omega arith in ap (λ (i : ℕ). getD bytes i 0) e)
+      follow-ext s m (mapCell s stateTable v) (λ q. getD stateTable (v * (s + 1) + 1 + q * 1) 0)
+      (λ q l. let e : v * (s + 1) + (1 + q) ≡ v * (s + 1) + 1 + q * 1 = omega arith in ap (λ (i : ℕ). getD stateTable i 0) e)
 
-  pub jump-at : (n : ℕ) → v < n → stateLength n s ≤ length bytes → v * (s + 1) + 1 ≤ length bytes
-  jump-at n h room = omega (arith, cell-in (s + 1) n v 0 (length bytes) h (omega arith) room)
+  pub jump-at : (n : ℕ) → v < n → stateTableLength n s ≤ length stateTable → v * (s + 1) + 1 ≤ length stateTable
+  jump-at n h room = omega (arith, cell-in (s + 1) n v 0 (length stateTable) h (omega arith) room)
 
-  pub jump-reads : (maps : List ℕ) (here n : ℕ) → Halves s maps here → v < n → stateLength n s ≤ length bytes
-      → FollowArgs s maps here bytes (v * (s + 1) + 1) 1
+  pub jump-reads : (maps : List ℕ) (here n : ℕ) → Halves s maps here → v < n → stateTableLength n s ≤ length stateTable
+      → FollowArgs s maps here stateTable (v * (s + 1) + 1) 1
   jump-reads maps here n H h room = record {
     halves = H;
-    inside = λ q l. omega (arith, cell-in (s + 1) n v (1 + q) (length bytes) h (omega arith) room);
+    inside = λ q l. omega (arith, cell-in (s + 1) n v (1 + q) (length stateTable) h (omega arith) room);
   }
 
 -- ---- by either
 
-module _ (s k : ℕ) (ls st bytes : List ℕ) where
+module _ (s k : ℕ) (ls st stateTable : List ℕ) where
   pub run-jump : (v : ℕ) (m : List ℕ)
-      → runMove s k ls st bytes (byJump v) m ≡ follow s m (λ q. getD bytes (v * (s + 1) + 1 + q * 1) 0)
+      → runMove s k ls st stateTable (byJump v) m ≡ follow s m (λ q. getD stateTable (v * (s + 1) + 1 + q * 1) 0)
   unfolding runMove
-  run-jump v m = jump-inside s bytes v m
+  run-jump v m = jump-inside s stateTable v m
 
-  pub run-parent : (v : ℕ) (m : List ℕ) → runMove s k ls st bytes (toParent v) m ≡ labelMove s k ls st v m
+  pub run-parent : (v : ℕ) (m : List ℕ) → runMove s k ls st stateTable (toParent v) m ≡ labelMove s k ls st v m
   unfolding runMove
   run-parent v m = refl
 
-  pub run-move-map : (i : Move) (m m′ : List ℕ) → MapOf s m → runMove s k ls st bytes i m ≡ some m′ → MapOf s m′
+  pub run-move-map : (i : Move) (m m′ : List ℕ) → MapOf s m → runMove s k ls st stateTable i m ≡ some m′ → MapOf s m′
   unfolding runMove labelMove
-  run-move-map (byJump v) m m′ M e = follow-map s (mapCell s bytes v) m m′ M e
+  run-move-map (byJump v) m m′ M e = follow-map s (mapCell s stateTable v) m m′ M e
   run-move-map (toParent v) m m′ M e = go (ltb (getD ls v 0) k) e
     where
       go : (b : Bool) → cond b (follow s m (λ q. getD st (q * k + getD ls v 0) 0)) none ≡ some m′ → MapOf s m′

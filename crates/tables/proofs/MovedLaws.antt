@@ -13,10 +13,10 @@ use native.Mathlib.Omega.{arith}
 use lib.ListN.{length}
 use Rattle.trees.specs.Climb.{Forest, Move, byJump, toParent, target, nextMove, andThen}
 use Rattle.trees.proofs.MoveLaws.{next-start, none-some}
-use Rattle.links.specs.declared.moves.NextMove.{NextMove}
-use Rattle.links.specs.declared.moves.NextMove.the-variants.{Jump, Parent, Stuck}
-use Rattle.links.specs.ToldMove.{toldMove}
-use Rattle.links.proofs.ToldLaws.{told-jump, told-parent, told-stuck}
+use Rattle.node_tables.specs.declared.moves.NextMove.{NextMove}
+use Rattle.node_tables.specs.declared.moves.NextMove.the-variants.{Jump, Parent, Stuck}
+use Rattle.node_tables.specs.MoveAnswers.{nextMoveOf}
+use Rattle.node_tables.proofs.MoveAnswerLaws.{answer-jump, answer-parent, answer-stuck}
 use Rattle.tables.specs.Compose.{mapAt, Followed, NodeMap, movedBy, MovedTo}
 
 -- ---- what the move makes
@@ -36,20 +36,20 @@ module _ (F : Forest) (act : Move → List ℕ → Option (List ℕ)) (m : List 
         go true = refl
         go false = refl
 
-    pub moved-jump : (j : ℕ) (ok : Bool) → Jump j ≡ toldMove F (nextMove F v to)
+    pub moved-jump : (j : ℕ) (ok : Bool) → Jump j ≡ nextMoveOf F (nextMove F v to)
         → Followed s here after ok (act (byJump v) m)
         → MovedTo s here after (record { ok = ok; node = j }) (movedBy F act m (nextMove F v to))
-    moved-jump j ok e h = let t = told-jump F v to j e in moved-by (byJump v) j ok (t .0) (t .1) h
+    moved-jump j ok e h = let t = answer-jump F v to j e in moved-by (byJump v) j ok (t .0) (t .1) h
 
-    pub moved-parent : (p : ℕ) (ok : Bool) → Parent p ≡ toldMove F (nextMove F v to)
+    pub moved-parent : (p : ℕ) (ok : Bool) → Parent p ≡ nextMoveOf F (nextMove F v to)
         → Followed s here after ok (act (toParent v) m)
         → MovedTo s here after (record { ok = ok; node = p }) (movedBy F act m (nextMove F v to))
-    moved-parent p ok e h = let t = told-parent F v to p e in moved-by (toParent v) p ok (t .0) (t .1) h
+    moved-parent p ok e h = let t = answer-parent F v to p e in moved-by (toParent v) p ok (t .0) (t .1) h
 
-    pub moved-stuck : length after ≡ 32 → Stuck ≡ toldMove F (nextMove F v to)
+    pub moved-stuck : length after ≡ 32 → Stuck ≡ nextMoveOf F (nextMove F v to)
         → MovedTo s here after (record { ok = false; node = 0 }) (movedBy F act m (nextMove F v to))
     unfolding movedBy
-    moved-stuck l e = record { long = l; made = rw (told-stuck F v to e) }
+    moved-stuck l e = record { long = l; made = rw (answer-stuck F v to e) }
 
   -- ---- a move that was made, or not
 

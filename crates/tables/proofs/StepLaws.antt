@@ -16,26 +16,26 @@ use borrow.Author.Tests.{lt-ltb, le-ltb, eq-eqb, ne-eqb}
 use Rattle.trees.specs.Climb.{Forest, Move, byJump, toParent, target, nextMove, andThen}
 use Rattle.trees.proofs.Choice.{le-or}
 use Rattle.trees.proofs.MoveLaws.{none-some, next-start, next-inside}
-use Rattle.links.specs.Cells.{cellForest}
-use Rattle.links.specs.declared.moves.NextMove.{NextMove}
-use Rattle.links.specs.declared.moves.NextMove.the-variants.{Jump, Parent, Stuck}
-use Rattle.links.specs.ToldMove.{toldMove}
-use Rattle.links.proofs.ToldLaws.{told-jump, told-parent, told-stuck}
+use Rattle.node_tables.specs.Cells.{cellForest}
+use Rattle.node_tables.specs.declared.moves.NextMove.{NextMove}
+use Rattle.node_tables.specs.declared.moves.NextMove.the-variants.{Jump, Parent, Stuck}
+use Rattle.node_tables.specs.MoveAnswers.{nextMoveOf}
+use Rattle.node_tables.proofs.MoveAnswerLaws.{answer-jump, answer-parent, answer-stuck}
 use Rattle.tables.specs.StateCells.{mapCell}
 use Rattle.tables.specs.declared.climb.Landed.{Landed}
 use Rattle.tables.specs.Climbs.{View, below, runOn, ruleOn, siblingOn, parentOn, moveOn}
-use Rattle.tables.specs.PathViews.{rulesView, statesView, linksView}
+use Rattle.tables.specs.PathViews.{rulesView, statesView, nodesView}
 use Rattle.tables.specs.Steps.{landOn, stepOn, landed}
 use Rattle.tables.proofs.LookupLaws.{below-yes, below-no}
 
 -- ---- a move to the parent
 
-module _ (X : View) (v p q : ℕ) (u : ℕ) (e : below (X .n) u ≡ siblingOn (linksView (X .n) (X .nums)) v p) where
+module _ (X : View) (v p q : ℕ) (u : ℕ) (e : below (X .n) u ≡ siblingOn (nodesView (X .n) (X .nodeTable)) v p) where
   pub parent-alone : X .n ≤ u → parentOn X v p q ≡ none
   unfolding parentOn siblingOn
   parent-alone h = rw (sym e ∙ below-no (X .n) u h)
 
-  module _ (i : u < X .n) (x : ℕ) (f : below (X .s) x ≡ runOn (statesView (X .s) (X .bytes)) u) where
+  module _ (i : u < X .n) (x : ℕ) (f : below (X .s) x ≡ runOn (statesView (X .s) (X .stateTable)) u) where
     pub parent-lost : X .s ≤ x → parentOn X v p q ≡ none
     unfolding parentOn siblingOn runOn
     parent-lost h = rw (sym e ∙ below-yes (X .n) u i, sym f ∙ below-no (X .s) x h)
@@ -57,36 +57,36 @@ place u y = record { node = u; state = y }
 
 module _ (X : View) (v to q : ℕ) where
   abbrev forest : Forest
-  forest = cellForest (X .n) (X .nums)
+  forest = cellForest (X .n) (X .nodeTable)
 
-  land-told : (m : Move) (u y : ℕ) → u ≡ target forest m → below (X .s) y ≡ moveOn X m q
+  land-answer : (m : Move) (u y : ℕ) → u ≡ target forest m → below (X .s) y ≡ moveOn X m q
       → landed (X .s) (place u y) ≡ landOn X q m
   unfolding landed landOn
-  land-told m u y e h =
+  land-answer m u y e h =
       le-or (X .s) y
       (λ l. rw (le-ltb y (X .s) l, sym h ∙ below-no (X .s) y l))
       (λ l. rw (lt-ltb y (X .s) l, sym h ∙ below-yes (X .s) y l, e))
 
-  step-told : (m : Move) (u y : ℕ) → nextMove forest v to ≡ some m → u ≡ target forest m → below (X .s) y ≡ moveOn X m q
+  step-answer : (m : Move) (u y : ℕ) → nextMove forest v to ≡ some m → u ≡ target forest m → below (X .s) y ≡ moveOn X m q
       → landed (X .s) (place u y) ≡ stepOn X v to q
   unfolding stepOn
-  step-told m u y n e h = rw n (land-told m u y e h)
+  step-answer m u y n e h = rw n (land-answer m u y e h)
 
-  pub step-jump : (j y : ℕ) → Jump j ≡ toldMove forest (nextMove forest v to) → y ≡ mapCell (X .s) (X .bytes) v q
+  pub step-jump : (j y : ℕ) → Jump j ≡ nextMoveOf forest (nextMove forest v to) → y ≡ mapCell (X .s) (X .stateTable) v q
       → landed (X .s) (place j y) ≡ stepOn X v to q
   unfolding moveOn
-  step-jump j y e h = let t = told-jump forest v to j e in step-told (byJump v) j y (t .0) (t .1) (ap (below (X .s)) h)
+  step-jump j y e h = let t = answer-jump forest v to j e in step-answer (byJump v) j y (t .0) (t .1) (ap (below (X .s)) h)
 
-  pub step-parent : (p y : ℕ) → Parent p ≡ toldMove forest (nextMove forest v to) → below (X .s) y ≡ parentOn X v p q
+  pub step-parent : (p y : ℕ) → Parent p ≡ nextMoveOf forest (nextMove forest v to) → below (X .s) y ≡ parentOn X v p q
       → landed (X .s) (place p y) ≡ stepOn X v to q
   unfolding moveOn
   step-parent p y e h =
-      let t = told-parent forest v to p e in
-      step-told (toParent v) p y (t .0) (t .1) (h ∙ ap (λ (u : ℕ). parentOn X v u q) (t .1))
+      let t = answer-parent forest v to p e in
+      step-answer (toParent v) p y (t .0) (t .1) (h ∙ ap (λ (u : ℕ). parentOn X v u q) (t .1))
 
-  pub step-stuck : Stuck ≡ toldMove forest (nextMove forest v to) → landed (X .s) (place v (X .s)) ≡ stepOn X v to q
+  pub step-stuck : Stuck ≡ nextMoveOf forest (nextMove forest v to) → landed (X .s) (place v (X .s)) ≡ stepOn X v to q
   unfolding stepOn landed
-  step-stuck e = rw (told-stuck forest v to e, le-ltb (X .s) (X .s) (le-refl _))
+  step-stuck e = rw (answer-stuck forest v to e, le-ltb (X .s) (X .s) (le-refl _))
 
   -- ---- a step that was made, or not
 

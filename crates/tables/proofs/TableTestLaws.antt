@@ -31,8 +31,8 @@ module _ (s n : ℕ) (g : ℕ → ℕ) (b : List ℕ) where
   pub states-same-no : (v : ℕ) → v < n → (stateCell s b v ≡ g v → ⊥) → statesSame s n g b ≡ false
   states-same-no v h ne = every-not n (λ u. eqb (stateCell s b u) (g u)) v h (ne-eqb (stateCell s b v) (g v) ne)
 
-  pub states-same-told : statesSame s n g b ≡ true → (v : ℕ) → v < n → stateCell s b v ≡ g v
-  states-same-told e v h = eqb-true (stateCell s b v) (g v) (every-at n (λ u. eqb (stateCell s b u) (g u)) e v h)
+  pub states-same-answer : statesSame s n g b ≡ true → (v : ℕ) → v < n → stateCell s b v ≡ g v
+  states-same-answer e v h = eqb-true (stateCell s b v) (g v) (every-at n (λ u. eqb (stateCell s b u) (g u)) e v h)
 
 -- ---- maps
 
@@ -43,8 +43,8 @@ module _ (s n : ℕ) (f : ℕ → ℕ → ℕ) (b : List ℕ) where
   pub maps-same-no : (v : ℕ) → v < n → rowIs s b v (f v) ≡ false → mapsSame s n f b ≡ false
   maps-same-no v h ne = every-not n (λ u. rowIs s b u (f u)) v h ne
 
-  pub maps-same-told : mapsSame s n f b ≡ true → (v : ℕ) → v < n → (q : ℕ) → q < s → mapCell s b v q ≡ f v q
-  maps-same-told e v h = rowIs-map s b v (f v) (every-at n (λ u. rowIs s b u (f u)) e v h)
+  pub maps-same-answer : mapsSame s n f b ≡ true → (v : ℕ) → v < n → (q : ℕ) → q < s → mapCell s b v q ≡ f v q
+  maps-same-answer e v h = rowIs-map s b v (f v) (every-at n (λ u. rowIs s b u (f u)) e v h)
 
 -- ---- the table
 
@@ -84,7 +84,7 @@ module _ (s n : ℕ) (g : ℕ → ℕ) (f : ℕ → ℕ → ℕ) (b : List ℕ) 
 
       go : (x y : Bool) → statesSame s n g b ≡ x → mapsSame s n f b ≡ y → sameList lent (tableOf s n g f) ≡ (x && y)
       go true true d e =
-          sameList-is lent (tableOf s n g f) (cells-table room (states-same-told s n g b d) (maps-same-told s n f b e))
+          sameList-is lent (tableOf s n g f) (cells-table room (states-same-answer s n g b d) (maps-same-answer s n f b e))
       go true false d e =
           sameList-not lent (tableOf s n g f) (λ z. true-false (sym (maps-same-yes s n f b (table-maps z)) ∙ e))
       go false y d e =

@@ -1,10 +1,10 @@
 -- What the checks of a lent table of states tell.
 --
--- StatesTold s k lv inn ks ls b r == r is whether all state bytes of b are the run's
--- MapsTold ls nums inn s k b r == r is whether all maps of b are those to the jumps
--- TableTold s k lv inn ks ls b r == r is whether b begins with the table of states
+-- StatesTested s k lv inn ks ls b r == r is whether all state bytes of b are the run's
+-- MapsTested ls nodeTable inn s k b r == r is whether all maps of b are those to the jumps
+-- TableTested s k lv inn ks ls b r == r is whether b begins with the table of states
 -- each for the tree of kinds ks and labels ls and the rules of leaf states lv and inner states inn, whatever the marks;
--- MapsTold for the tree and the rule tables that the table is prepared for
+-- MapsTested for the tree and the rule tables that the table is prepared for
 --
 -- Assumes nothing.
 use Prim.Native.Nat.{ℕ}
@@ -13,22 +13,22 @@ use mathlib.Core.Bool.{Bool}
 use mathlib.Core.List.{List}
 use lib.ListN.{length, take}
 use Rattle.trees.specs.Tree.{Tree, kindsOf, labelsOf}
-use Rattle.trees.specs.Tables.{stateTable}
+use Rattle.trees.specs.Tables.{stateTableOf}
 use Rattle.formats.specs.Bytes.{sameList}
 use Rattle.formats.specs.Rules.{treeAutomaton}
-use Rattle.formats.specs.Checks.{stateLength}
+use Rattle.formats.specs.Checks.{stateTableLength}
 use Rattle.tables.specs.LocalTables.{statesAre, mapsAre}
 use Rattle.tables.specs.Maps.{Prepared}
 
-abbrev pub StatesTold : ℕ → ℕ → List ℕ → List ℕ → List ℕ → List ℕ → List ℕ → Bool → Type 0
-StatesTold s k lv inn ks ls b r =
+abbrev pub StatesTested : ℕ → ℕ → List ℕ → List ℕ → List ℕ → List ℕ → List ℕ → Bool → Type 0
+StatesTested s k lv inn ks ls b r =
     (mk : List ℕ) (t : Tree) → kindsOf t ≡ ks → labelsOf t ≡ ls → r ≡ statesAre (treeAutomaton s k lv inn mk) t b
 
-abbrev pub MapsTold : List ℕ → List ℕ → List ℕ → ℕ → ℕ → List ℕ → Bool → Type 0
-MapsTold ls nums inn s k b r =
-    (lv mk : List ℕ) (t : Tree) → Prepared s k lv inn mk t ls nums b → r ≡ mapsAre (treeAutomaton s k lv inn mk) t b
+abbrev pub MapsTested : List ℕ → List ℕ → List ℕ → ℕ → ℕ → List ℕ → Bool → Type 0
+MapsTested ls nodeTable inn s k b r =
+    (lv mk : List ℕ) (t : Tree) → Prepared s k lv inn mk t ls nodeTable b → r ≡ mapsAre (treeAutomaton s k lv inn mk) t b
 
-abbrev pub TableTold : ℕ → ℕ → List ℕ → List ℕ → List ℕ → List ℕ → List ℕ → Bool → Type 0
-TableTold s k lv inn ks ls b r =
+abbrev pub TableTested : ℕ → ℕ → List ℕ → List ℕ → List ℕ → List ℕ → List ℕ → Bool → Type 0
+TableTested s k lv inn ks ls b r =
     (mk : List ℕ) (t : Tree) → kindsOf t ≡ ks → labelsOf t ≡ ls
-    → r ≡ sameList (take (stateLength (length ks) s) b) (stateTable (treeAutomaton s k lv inn mk) t)
+    → r ≡ sameList (take (stateTableLength (length ks) s) b) (stateTableOf (treeAutomaton s k lv inn mk) t)

@@ -30,8 +30,8 @@ use lib.ListN.{length, getD}
 use Rattle.trees.specs.Climb.{Forest, Move, byJump, toParent, target, andThen, climb, carry}
 use Rattle.trees.specs.Tables.{tabulate}
 use Rattle.formats.specs.Bytes.{allBelow}
-use Rattle.formats.specs.Checks.{linkLength, stateLength}
-use Rattle.links.specs.Cells.{cellForest}
+use Rattle.formats.specs.Checks.{nodeTableLength, stateTableLength}
+use Rattle.node_tables.specs.Cells.{cellForest}
 use Rattle.tables.specs.StateCells.{mapCell}
 use Rattle.tables.specs.declared.branch_climb.Moved.{Moved}
 use Rattle.tables.specs.declared.branch_climb.Composed.{Composed}
@@ -71,8 +71,8 @@ unfoldable pub labelMove : ℕ → ℕ → List ℕ → List ℕ → ℕ → Lis
 labelMove s k ls st v m = cond (ltb (getD ls v 0) k) (follow s m (λ q. getD st (q * k + getD ls v 0) 0)) none
 
 unfoldable pub runMove : ℕ → ℕ → List ℕ → List ℕ → List ℕ → Move → List ℕ → Option (List ℕ)
-runMove s k ls st bytes (byJump v) m = follow s m (mapCell s bytes v)
-runMove s k ls st bytes (toParent v) m = labelMove s k ls st v m
+runMove s k ls st stateTable (byJump v) m = follow s m (mapCell s stateTable v)
+runMove s k ls st stateTable (toParent v) m = labelMove s k ls st v m
 
 pub record NodeMap : Type 0 where
   pub node : ℕ
@@ -92,9 +92,9 @@ pub record Counted : Type 0 where
   pub links : ℕ
 
 unfoldable pub composition : ℕ → ℕ → ℕ → List ℕ → List ℕ → List ℕ → List ℕ → ℕ → ℕ → List ℕ → Option Counted
-composition n s k ls st nums bytes l to m =
-    andThen (climb (cellForest n nums) l to) (λ ms.
-    andThen (carry (runMove s k ls st bytes) ms m) (λ m′.
+composition n s k ls st nodeTable stateTable l to m =
+    andThen (climb (cellForest n nodeTable) l to) (λ ms.
+    andThen (carry (runMove s k ls st stateTable) ms m) (λ m′.
     some (record { map = m′; links = length ms })))
 
 pub record ComposedTo (s : ℕ) (after : List ℕ) (x : Composed) (o : Option Counted) : Type 0 where
@@ -102,11 +102,11 @@ pub record ComposedTo (s : ℕ) (after : List ℕ) (x : Composed) (o : Option Co
   pub within : x .at ≤ 16
   pub made : o ≡ cond (x .ok) (some (record { map = mapAt s after (x .at); links = x .links })) none
 
-pub record ComposeArgs (n s k : ℕ) (maps : List ℕ) (here : ℕ) (ls st nums bytes : List ℕ) (v : ℕ) : Type 0 where
+pub record ComposeArgs (n s k : ℕ) (maps : List ℕ) (here : ℕ) (ls st nodeTable stateTable : List ℕ) (v : ℕ) : Type 0 where
   pub halves : Halves s maps here
   pub at : v < n
   pub most : n ≤ 65535
   pub labels-room : n ≤ length ls
   pub steps-room : s * k ≤ length st
-  pub nums-room : linkLength n ≤ length nums
-  pub bytes-room : stateLength n s ≤ length bytes
+  pub node-table-room : nodeTableLength n ≤ length nodeTable
+  pub state-table-room : stateTableLength n s ≤ length stateTable

@@ -23,8 +23,8 @@ use Rattle.trees.specs.Numbering.{sub, parent}
 use Rattle.trees.specs.Jumps.{jump}
 use Rattle.trees.specs.Tables.{stateMap}
 use Rattle.formats.specs.Rules.{treeAutomaton}
-use Rattle.formats.specs.Checks.{linkLength, stateLength}
-use Rattle.links.specs.Cells.{parentCell, jumpCell, sizeCell}
+use Rattle.formats.specs.Checks.{nodeTableLength, stateTableLength}
+use Rattle.node_tables.specs.Cells.{parentCell, jumpCell, sizeCell}
 use Rattle.tables.specs.StateCells.{stateCell, mapCell}
 use Rattle.tables.specs.Rows.{RowIn}
 use Rattle.tables.specs.States.{RuleRuns}
@@ -93,8 +93,8 @@ pub record FillArgs (ls b inn : List ℕ) (s k : ℕ) (st : List ℕ) (v : ℕ) 
   pub below : (j : ℕ) → getD ls j 0 < k
   pub inner-count : length inn ≡ s * k * s
   pub inner-below : (j : ℕ) → getD inn j 0 < s
-  pub link-room : linkLength (length ls) ≤ length b
-  pub room : stateLength (length ls) s ≤ length st
+  pub link-room : nodeTableLength (length ls) ≤ length b
+  pub room : stateTableLength (length ls) s ≤ length st
   pub above : v < parentCell b v
   pub inside : parentCell b v < length ls
   pub size-in : v + 1 ≡ parentCell b v → sizeCell b v ≤ v
@@ -122,8 +122,8 @@ pub record MapArgs (ls b inn : List ℕ) (s k : ℕ) (st : List ℕ) : Type 0 wh
   pub rules : RuleRuns s k leaves inn
   pub some : 0 < s
   pub below : (j : ℕ) → getD ls j 0 < k
-  pub link-room : linkLength (length ls) ≤ length b
-  pub room : stateLength (length ls) s ≤ length st
+  pub link-room : nodeTableLength (length ls) ≤ length b
+  pub room : stateTableLength (length ls) s ≤ length st
 
 -- the same for every tree and rule table that the table before is prepared for
 abbrev pub Maps : List ℕ → List ℕ → List ℕ → ℕ → ℕ → ℕ → List ℕ → List ℕ → Type 0

@@ -1,22 +1,22 @@
 -- What the functions of a climb are lent: runs of plan and rules, with the limits that keep every read inside.
 --
--- pathView n s k ls inn nums bytes == what a climb reads: labels, inner states and the two tables, no kinds and no leaf
+-- pathView n s k ls inn nodeTable bytes == what a climb reads: labels, inner states and the two tables, no kinds and no leaf
 --   states
--- rulesView s k inn, statesView s bytes, linksView n nums == what a rule, a run state and a sibling read
+-- rulesView s k inn, statesView s bytes, nodesView n nodeTable == what a rule, a run state and a sibling read
 -- RuleOnArgs s k inn p q == p and q are states and the rules have their S×K×S bytes
 -- RunOnArgs s bytes v == the bytes have node v's state
--- PairArgs n nums v p == v and p are among n nodes, and the numbers have four for each
--- PathArgs n s k ls inn nums bytes == n, s and k within their limits, and every run as long as they need
+-- PairArgs n nodeTable v p == v and p are among n nodes, and the numbers have four for each
+-- PathArgs n s k ls inn nodeTable bytes == n, s and k within their limits, and every run as long as they need
 --
 -- Assumes nothing.
 use Prim.Native.Nat.{ℕ, _+_, _*_, _≤_, _<_}
 use mathlib.Core.List.{List, []}
 use lib.ListN.{length}
-use Rattle.formats.specs.Checks.{linkLength, stateLength}
+use Rattle.formats.specs.Checks.{nodeTableLength, stateTableLength}
 use Rattle.tables.specs.Climbs.{View}
 
 abbrev pub pathView : ℕ → ℕ → ℕ → List ℕ → List ℕ → List ℕ → List ℕ → View
-pathView n s k ls inn nums bytes = record {
+pathView n s k ls inn nodeTable stateTable = record {
   n = n;
   s = s;
   k = k;
@@ -24,18 +24,18 @@ pathView n s k ls inn nums bytes = record {
   kinds = [];
   leaves = [];
   inner = inn;
-  nums = nums;
-  bytes = bytes;
+  nodeTable = nodeTable;
+  stateTable = stateTable;
 }
 
 abbrev pub rulesView : ℕ → ℕ → List ℕ → View
 rulesView s k inn = pathView 0 s k [] inn [] []
 
 abbrev pub statesView : ℕ → List ℕ → View
-statesView s bytes = pathView 0 s 0 [] [] [] bytes
+statesView s stateTable = pathView 0 s 0 [] [] [] stateTable
 
-abbrev pub linksView : ℕ → List ℕ → View
-linksView n nums = pathView n 0 0 [] [] nums []
+abbrev pub nodesView : ℕ → List ℕ → View
+nodesView n nodeTable = pathView n 0 0 [] [] nodeTable []
 
 pub record RuleOnArgs (s k : ℕ) (inn : List ℕ) (p q : ℕ) : Type 0 where
   pub few : s ≤ 16
@@ -44,21 +44,21 @@ pub record RuleOnArgs (s k : ℕ) (inn : List ℕ) (p q : ℕ) : Type 0 where
   pub right : q < s
   pub room : s * k * s ≤ length inn
 
-pub record RunOnArgs (s : ℕ) (bytes : List ℕ) (v : ℕ) : Type 0 where
+pub record RunOnArgs (s : ℕ) (stateTable : List ℕ) (v : ℕ) : Type 0 where
   pub few : s ≤ 16
-  pub at : v * (s + 1) < length bytes
+  pub at : v * (s + 1) < length stateTable
 
-pub record PairArgs (n : ℕ) (nums : List ℕ) (v p : ℕ) : Type 0 where
+pub record PairArgs (n : ℕ) (nodeTable : List ℕ) (v p : ℕ) : Type 0 where
   pub at : v < n
   pub up : p < n
   pub most : n ≤ 65535
-  pub room : linkLength n ≤ length nums
+  pub room : nodeTableLength n ≤ length nodeTable
 
-pub record PathArgs (n s k : ℕ) (ls inn nums bytes : List ℕ) : Type 0 where
+pub record PathArgs (n s k : ℕ) (ls inn nodeTable stateTable : List ℕ) : Type 0 where
   pub most : n ≤ 65535
   pub few : s ≤ 16
   pub labels : k ≤ 64
   pub labels-room : n ≤ length ls
   pub inner-room : s * k * s ≤ length inn
-  pub nums-room : linkLength n ≤ length nums
-  pub bytes-room : stateLength n s ≤ length bytes
+  pub node-table-room : nodeTableLength n ≤ length nodeTable
+  pub state-table-room : stateTableLength n s ≤ length stateTable

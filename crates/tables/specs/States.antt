@@ -20,9 +20,9 @@ use Rattle.trees.specs.Numbering.{sub}
 use Rattle.trees.specs.Postorder.{isPostorder}
 use Rattle.formats.specs.InnerChecks.{RuleArgs}
 use Rattle.formats.specs.Rules.{treeAutomaton}
-use Rattle.formats.specs.Checks.{linkLength, stateLength}
-use Rattle.links.specs.UpPass.{leftOf}
-use Rattle.links.specs.Cells.{sizeCell}
+use Rattle.formats.specs.Checks.{nodeTableLength, stateTableLength}
+use Rattle.node_tables.specs.UpPass.{leftOf}
+use Rattle.node_tables.specs.Cells.{sizeCell}
 use Rattle.tables.specs.StateCells.{stateCell}
 
 pub record RuleRuns (s k : ℕ) (lv inn : List ℕ) : Type 0 where
@@ -48,10 +48,10 @@ pub record StateArgs (ks ls b lv inn : List ℕ) (s k m : ℕ) : Type 0 where
   pub postorder : isPostorder ks ≡ true
   pub count : length ls ≡ length ks
   pub below : (j : ℕ) → getD ls j 0 < k
-  pub link-room : linkLength (length ks) ≤ length b
+  pub link-room : nodeTableLength (length ks) ≤ length b
   pub sizes : Sizes ks b
   pub rules : RuleRuns s k lv inn
-  pub room : stateLength (length ks) s ≤ m
+  pub room : stateTableLength (length ks) s ≤ m
 
 abbrev pub innerState : List ℕ → List ℕ → List ℕ → ℕ → ℕ → ℕ → ℕ → ℕ
 innerState b st inn s k v a = getD inn ((stateCell s st (leftOf b v) * k + a) * s + stateCell s st (v - 1)) 0

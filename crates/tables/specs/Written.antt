@@ -4,10 +4,10 @@
 --   as built
 -- StatesOver s k lv inn ks ls before after == the buffer begins with the state table of the tree with kinds ks and
 --   labels ls, whatever the marks are, and its excess is as before
--- Passed p r nums bytes == plan and rule table pass 2 to 10, and the buffers are long enough
--- BuildArgs p r n s k nums bytes == besides, n, s and k are their N, S and K, with the lengths that the parts handed
+-- Passed p r nodeTable bytes == plan and rule table pass 2 to 10, and the buffers are long enough
+-- BuildArgs p r n s k nodeTable bytes == besides, n, s and k are their N, S and K, with the lengths that the parts handed
 --   on go by
--- BothWritten p r nums bytes nums′ bytes′ == both buffers begin with the tables built from p and r, and their excess is
+-- BothWritten p r nodeTable bytes nodeTable′ bytes′ == both buffers begin with the tables built from p and r, and their excess is
 --   as before
 --
 -- Assumes nothing.
@@ -16,29 +16,29 @@ use mathlib.Core.Path.{_≡_}
 use mathlib.Core.List.{List, _++_}
 use lib.ListN.{length, drop}
 use Rattle.trees.specs.Tree.{Tree, kindsOf, labelsOf}
-use Rattle.trees.specs.Tables.{stateTable}
+use Rattle.trees.specs.Tables.{stateTableOf}
 use Rattle.formats.specs.Plan.{nodeCount, planLength}
 use Rattle.formats.specs.Rules.{treeAutomaton, stateCount, labelCount, ruleLength}
-use Rattle.formats.specs.Checks.{firstNo, buildChecks, stateLength}
-use Rattle.formats.specs.Built.{builtLinks, builtStates}
-use Rattle.links.specs.LinkCells.{LinkCells}
+use Rattle.formats.specs.Checks.{firstNo, buildChecks, stateTableLength}
+use Rattle.formats.specs.Built.{builtNodeTable, builtStateTable}
+use Rattle.node_tables.specs.NodeCells.{NodeCells}
 use Rattle.tables.specs.States.{StateArgs}
 
 pub record TableArgs (ks ls b lv inn : List ℕ) (s k m : ℕ) : Type 0 where
   pub run : StateArgs ks ls b lv inn s k m
-  pub links : (t : Tree) → kindsOf t ≡ ks → LinkCells t b
+  pub links : (t : Tree) → kindsOf t ≡ ks → NodeCells t b
   pub some : 0 < s
 
 abbrev pub StatesOver : ℕ → ℕ → List ℕ → List ℕ → List ℕ → List ℕ → List ℕ → List ℕ → Type 0
 StatesOver s k lv inn ks ls before after =
     (mk : List ℕ) (t : Tree) → kindsOf t ≡ ks → labelsOf t ≡ ls
-    → after ≡ stateTable (treeAutomaton s k lv inn mk) t ++ drop (stateLength (length ks) s) before
+    → after ≡ stateTableOf (treeAutomaton s k lv inn mk) t ++ drop (stateTableLength (length ks) s) before
 
 abbrev pub Passed : List ℕ → List ℕ → List ℕ → List ℕ → Type 0
-Passed p r nums bytes = firstNo (buildChecks p r (length nums) (length bytes)) ≡ 0
+Passed p r nodeTable stateTable = firstNo (buildChecks p r (length nodeTable) (length stateTable)) ≡ 0
 
-pub record BuildArgs (p r : List ℕ) (n s k : ℕ) (nums bytes : List ℕ) : Type 0 where
-  pub passed : Passed p r nums bytes
+pub record BuildArgs (p r : List ℕ) (n s k : ℕ) (nodeTable stateTable : List ℕ) : Type 0 where
+  pub passed : Passed p r nodeTable stateTable
   pub nodes : n ≡ nodeCount p
   pub states : s ≡ stateCount r
   pub labels : k ≡ labelCount r
@@ -48,6 +48,6 @@ pub record BuildArgs (p r : List ℕ) (n s k : ℕ) (nums bytes : List ℕ) : Ty
   pub plan-exact : length p ≡ planLength n
   pub rules-exact : length r ≡ ruleLength s k
 
-pub record BothWritten (p r nums bytes nums′ bytes′ : List ℕ) : Type 0 where
-  pub links : nums′ ≡ builtLinks p ++ drop (length (builtLinks p)) nums
-  pub states : bytes′ ≡ builtStates p r ++ drop (length (builtStates p r)) bytes
+pub record BothWritten (p r nodeTable stateTable nodeTable′ stateTable′ : List ℕ) : Type 0 where
+  pub links : nodeTable′ ≡ builtNodeTable p ++ drop (length (builtNodeTable p)) nodeTable
+  pub states : stateTable′ ≡ builtStateTable p r ++ drop (length (builtStateTable p r)) stateTable

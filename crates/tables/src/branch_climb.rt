@@ -1,13 +1,13 @@
 // Maps composed on the climb of a branch question: the word runs downward while the climb goes up, so each move puts
 // its own map before the map carried so far. The map carried stands in one half of 32 bytes, from byte 0 or from byte
 // 16 on, and a move writes the next one into the other half: nothing is copied.
-use links::moves::NextMove;
-use links::moves::depth_at;
-use links::moves::next_move;
+use node_tables::moves::NextMove;
+use node_tables::moves::depth_at;
+use node_tables::moves::next_move;
 ghost use Prim.Native.Nat.{ℕ, _+_, _*_};
 ghost use lib.ListN.{getD};
 ghost use Rattle.trees.specs.Climb.{nextMove};
-ghost use Rattle.links.specs.Cells.{cellForest};
+ghost use Rattle.node_tables.specs.Cells.{cellForest};
 ghost use Rattle.tables.specs.Compose.{mapAt, FollowArgs, LabelArgs, labelMove, runMove, movedBy, follow};
 ghost use Rattle.tables.specs.Compose.{Followed, MovedTo, composition, ComposeArgs, ComposedTo};
 
@@ -107,22 +107,22 @@ fn compose_move(
     here: usize,
     labels: &[u8],
     steps: &[u8],
-    nums: &[u16],
-    bytes: &[u8],
+    node_table: &[u16],
+    state_table: &[u8],
     n: usize,
     s: usize,
     k: usize,
     v: usize,
     to: usize,
 ) -> Moved
-    requires { ⌜ ComposeArgs n s k (now maps) here (now labels) (now steps) (now nums) (now bytes) v ⌝ }
-    ensures { λ r. ⌜ MovedTo s here (now (maps .exit)) r (movedBy (cellForest n (now (nums .entry)))
-        (runMove s k (now (labels .entry)) (now (steps .entry)) (now (bytes .entry))) (mapAt s (now (maps .entry)) here)
-        (nextMove (cellForest n (now (nums .entry))) v to)) ⌝ }
+    requires { ⌜ ComposeArgs n s k (now maps) here (now labels) (now steps) (now «node_table») (now «state_table») v ⌝ }
+    ensures { λ r. ⌜ MovedTo s here (now (maps .exit)) r (movedBy (cellForest n (now («node_table» .entry)))
+        (runMove s k (now (labels .entry)) (now (steps .entry)) (now («state_table» .entry))) (mapAt s (now (maps .entry)) here)
+        (nextMove (cellForest n (now («node_table» .entry))) v to)) ⌝ }
 {
-    match next_move(nums, n, v, to) {
+    match next_move(node_table, n, v, to) {
         NextMove::Jump(j) => {
-            let ok = after_map(maps, here, bytes, v * (s + 1) + 1, 1, s);
+            let ok = after_map(maps, here, state_table, v * (s + 1) + 1, 1, s);
             Moved { ok, node: j }
         }
         NextMove::Parent(p) => {
@@ -139,23 +139,23 @@ pub fn compose_climb(
     maps: &mut [u8],
     labels: &[u8],
     steps: &[u8],
-    nums: &[u16],
-    bytes: &[u8],
+    node_table: &[u16],
+    state_table: &[u8],
     n: usize,
     s: usize,
     k: usize,
     from: usize,
     to: usize,
 ) -> Composed
-    requires { ⌜ ComposeArgs n s k (now maps) 0 (now labels) (now steps) (now nums) (now bytes) from ⌝ }
+    requires { ⌜ ComposeArgs n s k (now maps) 0 (now labels) (now steps) (now «node_table») (now «state_table») from ⌝ }
     ensures { λ r. ⌜ ComposedTo s (now (maps .exit)) r (composition n s k (now (labels .entry)) (now (steps .entry))
-        (now (nums .entry)) (now (bytes .entry)) from to (mapAt s (now (maps .entry)) 0)) ⌝ }
+        (now («node_table» .entry)) (now («state_table» .entry)) from to (mapAt s (now (maps .entry)) 0)) ⌝ }
 {
     let mut v = from;
     let mut here: usize = 0;
     let mut links: u32 = 0;
-    while to < depth_at(nums, v) {
-        let x = compose_move(maps, here, labels, steps, nums, bytes, n, s, k, v, to);
+    while to < depth_at(node_table, v) {
+        let x = compose_move(maps, here, labels, steps, node_table, state_table, n, s, k, v, to);
         if !x.ok {
             return Composed {
                 ok: false,

@@ -4,11 +4,11 @@ use crate::answers::Reached;
 use crate::lookups::rule_on;
 use crate::lookups::run_on;
 use crate::lookups::sibling_on;
-use links::moves::NextMove;
-use links::moves::depth_at;
-use links::moves::next_move;
+use node_tables::moves::NextMove;
+use node_tables::moves::depth_at;
+use node_tables::moves::next_move;
 ghost use mathlib.Core.Path.{_≡_};
-ghost use Rattle.tables.specs.Climbs.{below, parentOn, climbOn, toldReached};
+ghost use Rattle.tables.specs.Climbs.{below, parentOn, climbOn, climbedOf};
 ghost use Rattle.tables.specs.PathViews.{pathView};
 ghost use Rattle.tables.specs.Steps.{stepOn, landed, ClimbArgs, ParentArgs};
 
@@ -23,8 +23,8 @@ pub struct Landed {
 fn parent_on(
     labels: &[u8],
     inner: &[u8],
-    nums: &[u16],
-    bytes: &[u8],
+    node_table: &[u16],
+    state_table: &[u8],
     n: usize,
     s: usize,
     k: usize,
@@ -32,15 +32,15 @@ fn parent_on(
     p: usize,
     q: usize,
 ) -> usize
-    requires { ⌜ ParentArgs n s k (now labels) (now inner) (now nums) (now bytes) v p q ⌝ }
+    requires { ⌜ ParentArgs n s k (now labels) (now inner) (now «node_table») (now «state_table») v p q ⌝ }
     ensures { λ r. ⌜ below s r ≡ parentOn (pathView n s k (now (labels .entry)) (now (inner .entry))
-        (now (nums .entry)) (now (bytes .entry))) v p q ⌝ }
+        (now («node_table» .entry)) (now («state_table» .entry))) v p q ⌝ }
 {
-    let u = sibling_on(nums, n, v, p);
+    let u = sibling_on(node_table, n, v, p);
     if n <= u {
         return s;
     }
-    let x = run_on(bytes, s, u);
+    let x = run_on(state_table, s, u);
     if s <= x {
         return s;
     }
@@ -55,8 +55,8 @@ fn parent_on(
 fn step_on(
     labels: &[u8],
     inner: &[u8],
-    nums: &[u16],
-    bytes: &[u8],
+    node_table: &[u16],
+    state_table: &[u8],
     n: usize,
     s: usize,
     k: usize,
@@ -64,18 +64,18 @@ fn step_on(
     to: usize,
     q: usize,
 ) -> Landed
-    requires { ⌜ ClimbArgs n s k (now labels) (now inner) (now nums) (now bytes) v q ⌝ }
+    requires { ⌜ ClimbArgs n s k (now labels) (now inner) (now «node_table») (now «state_table») v q ⌝ }
     ensures { λ r. ⌜ landed s r ≡ stepOn (pathView n s k (now (labels .entry)) (now (inner .entry))
-        (now (nums .entry)) (now (bytes .entry))) v to q ⌝ }
+        (now («node_table» .entry)) (now («state_table» .entry))) v to q ⌝ }
 {
-    match next_move(nums, n, v, to) {
+    match next_move(node_table, n, v, to) {
         NextMove::Jump(j) => Landed {
             node: j,
-            state: bytes[v * (s + 1) + (1 + q)] as usize,
+            state: state_table[v * (s + 1) + (1 + q)] as usize,
         },
         NextMove::Parent(p) => Landed {
             node: p,
-            state: parent_on(labels, inner, nums, bytes, n, s, k, v, p, q),
+            state: parent_on(labels, inner, node_table, state_table, n, s, k, v, p, q),
         },
         NextMove::Stuck => Landed { node: v, state: s },
     }
@@ -85,8 +85,8 @@ fn step_on(
 pub fn climb_state(
     labels: &[u8],
     inner: &[u8],
-    nums: &[u16],
-    bytes: &[u8],
+    node_table: &[u16],
+    state_table: &[u8],
     n: usize,
     s: usize,
     k: usize,
@@ -94,15 +94,15 @@ pub fn climb_state(
     to: usize,
     q: usize,
 ) -> Climbed
-    requires { ⌜ ClimbArgs n s k (now labels) (now inner) (now nums) (now bytes) from q ⌝ }
-    ensures { λ r. ⌜ r ≡ toldReached (climbOn (pathView n s k (now (labels .entry)) (now (inner .entry))
-        (now (nums .entry)) (now (bytes .entry))) from to q) ⌝ }
+    requires { ⌜ ClimbArgs n s k (now labels) (now inner) (now «node_table») (now «state_table») from q ⌝ }
+    ensures { λ r. ⌜ r ≡ climbedOf (climbOn (pathView n s k (now (labels .entry)) (now (inner .entry))
+        (now («node_table» .entry)) (now («state_table» .entry))) from to q) ⌝ }
 {
     let mut v = from;
     let mut x = q;
     let mut links: u32 = 0;
-    while to < depth_at(nums, v) {
-        let next = step_on(labels, inner, nums, bytes, n, s, k, v, to, x);
+    while to < depth_at(node_table, v) {
+        let next = step_on(labels, inner, node_table, state_table, n, s, k, v, to, x);
         let y = next.state;
         if s <= y {
             return Climbed::OutOfRange;

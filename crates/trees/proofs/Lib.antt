@@ -17,4 +17,4 @@ pub mod RowLaws
 pub mod RunLaws
 pub mod MapLaws
 pub mod BranchMapLaws
-pub mod StrayLaws
+pub mod LinkRangeLaws

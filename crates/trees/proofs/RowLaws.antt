@@ -3,9 +3,9 @@
 --     length-tabulate ..        a list by its entries
 --     length-rows, getD-rows    a table by its cells
 --     rows-of-cells .. take-over  a buffer whose cells are a table's begins with the table, and back
---     length-linkRow ..         the widths and cells of the rows that Load writes
---     linkRow-cells, mapRow-cells  such a row, from its cells by name
---     linkTable-parent ..       what a buffer that begins with one of Load's tables has at a node
+--     length-nodeRow ..         the widths and cells of the rows that Load writes
+--     nodeRow-cells, mapRow-cells  such a row, from its cells by name
+--     nodeTableOf-parent ..       what a buffer that begins with one of Load's tables has at a node
 --
 -- Assumes nothing.
 use Prim.Native.Nat.{ℕ, zero, suc, _+_, _-_, _*_, _≤_, _<_}
@@ -21,8 +21,8 @@ use Rattle.trees.specs.Tree.{Tree, size}
 use Rattle.trees.specs.Automaton.{Automaton, state, WordAutomaton}
 use Rattle.trees.specs.Numbering.{sub, parent, depth}
 use Rattle.trees.specs.Jumps.{jump}
-use Rattle.trees.specs.Tables.{tabulate, rows, linkRow, stateMap, stateRow, branchState, branchMap, branchRow}
-use Rattle.trees.specs.Tables.{linkTable, stateTable, branchTable}
+use Rattle.trees.specs.Tables.{tabulate, rows, nodeRow, stateMap, stateRow, branchState, branchMap, branchRow}
+use Rattle.trees.specs.Tables.{nodeTableOf, stateTableOf, branchTableOf}
 
 -- ---- places
 
@@ -174,20 +174,20 @@ module _ (n w : ℕ) (f : ℕ → List ℕ) (wide : (v : ℕ) → v < n → leng
 -- ---- the rows that Load writes
 
 module _ (t : Tree) (v : ℕ) where
-  pub length-linkRow : length (linkRow t v) ≡ 4
-  length-linkRow = refl
+  pub length-nodeRow : length (nodeRow t v) ≡ 4
+  length-nodeRow = refl
 
-  pub linkRow-parent : getD (linkRow t v) 0 0 ≡ parent t v
-  linkRow-parent = refl
+  pub nodeRow-parent : getD (nodeRow t v) 0 0 ≡ parent t v
+  nodeRow-parent = refl
 
-  pub linkRow-jump : getD (linkRow t v) 1 0 ≡ jump t v
-  linkRow-jump = refl
+  pub nodeRow-jump : getD (nodeRow t v) 1 0 ≡ jump t v
+  nodeRow-jump = refl
 
-  pub linkRow-depth : getD (linkRow t v) 2 0 ≡ depth t v
-  linkRow-depth = refl
+  pub nodeRow-depth : getD (nodeRow t v) 2 0 ≡ depth t v
+  nodeRow-depth = refl
 
-  pub linkRow-size : getD (linkRow t v) 3 0 ≡ size (sub t v)
-  linkRow-size = refl
+  pub nodeRow-size : getD (nodeRow t v) 3 0 ≡ size (sub t v)
+  nodeRow-size = refl
 
 -- the entry of a map behind its state
 behind : (x n : ℕ) (f : ℕ → ℕ) (q : ℕ) → q < n → getD (x ∷ tabulate n f) (1 + q) 0 ≡ f q
@@ -218,14 +218,14 @@ module _ (B : WordAutomaton) (t : Tree) (v : ℕ) where
 
 -- ---- a row from its cells by name
 
-pub linkRow-cells : (t : Tree) (v : ℕ) (b : List ℕ) → getD b (v * 4) 0 ≡ parent t v → getD b (v * 4 + 1) 0 ≡ jump t v
+pub nodeRow-cells : (t : Tree) (v : ℕ) (b : List ℕ) → getD b (v * 4) 0 ≡ parent t v → getD b (v * 4 + 1) 0 ≡ jump t v
     → getD b (v * 4 + 2) 0 ≡ depth t v → getD b (v * 4 + 3) 0 ≡ size (sub t v)
-    → (k : ℕ) → k < 4 → getD b (v * 4 + k) 0 ≡ getD (linkRow t v) k 0
-linkRow-cells t v b p j d s zero h = let e : v * 4 + 0 ≡ v * 4 = omega arith in rw e p
-linkRow-cells t v b p j d s (suc zero) h = j
-linkRow-cells t v b p j d s (suc (suc zero)) h = d
-linkRow-cells t v b p j d s (suc (suc (suc zero))) h = s
-linkRow-cells t v b p j d s (suc (suc (suc (suc k)))) h = absurd (omega arith)
+    → (k : ℕ) → k < 4 → getD b (v * 4 + k) 0 ≡ getD (nodeRow t v) k 0
+nodeRow-cells t v b p j d s zero h = let e : v * 4 + 0 ≡ v * 4 = omega arith in rw e p
+nodeRow-cells t v b p j d s (suc zero) h = j
+nodeRow-cells t v b p j d s (suc (suc zero)) h = d
+nodeRow-cells t v b p j d s (suc (suc (suc zero))) h = s
+nodeRow-cells t v b p j d s (suc (suc (suc (suc k)))) h = absurd (omega arith)
 
 -- a state x and a map f behind it: a row of a rule table or of a branch table
 pub mapRow-cells : (n x : ℕ) (f : ℕ → ℕ) (v : ℕ) (b : List ℕ) → getD b (v * (n + 1)) 0 ≡ x
@@ -239,22 +239,22 @@ mapRow-cells n x f v b e m (suc q) h =
 
 -- ---- what a table has at a node
 
-module _ (t : Tree) (b : List ℕ) (e : take (size t * 4) b ≡ linkTable t) (v : ℕ) (h : v < size t) where
-  link : (k : ℕ) → k < 4 → getD b (v * 4 + k) 0 ≡ getD (linkRow t v) k 0
-  unfolding linkTable
-  link k l = cells-of-rows (size t) 4 (linkRow t) (λ u q. length-linkRow t u) b e v k h l
+module _ (t : Tree) (b : List ℕ) (e : take (size t * 4) b ≡ nodeTableOf t) (v : ℕ) (h : v < size t) where
+  link : (k : ℕ) → k < 4 → getD b (v * 4 + k) 0 ≡ getD (nodeRow t v) k 0
+  unfolding nodeTableOf
+  link k l = cells-of-rows (size t) 4 (nodeRow t) (λ u q. length-nodeRow t u) b e v k h l
 
-  pub linkTable-parent : getD b (v * 4) 0 ≡ parent t v
-  linkTable-parent = let z : v * 4 ≡ v * 4 + 0 = omega arith in ap (λ (i : ℕ). getD b i 0) z ∙ link 0 (omega arith)
+  pub nodeTableOf-parent : getD b (v * 4) 0 ≡ parent t v
+  nodeTableOf-parent = let z : v * 4 ≡ v * 4 + 0 = omega arith in ap (λ (i : ℕ). getD b i 0) z ∙ link 0 (omega arith)
 
-  pub linkTable-jump : getD b (v * 4 + 1) 0 ≡ jump t v
-  linkTable-jump = link 1 (omega arith)
+  pub nodeTableOf-jump : getD b (v * 4 + 1) 0 ≡ jump t v
+  nodeTableOf-jump = link 1 (omega arith)
 
-  pub linkTable-depth : getD b (v * 4 + 2) 0 ≡ depth t v
-  linkTable-depth = link 2 (omega arith)
+  pub nodeTableOf-depth : getD b (v * 4 + 2) 0 ≡ depth t v
+  nodeTableOf-depth = link 2 (omega arith)
 
-  pub linkTable-size : getD b (v * 4 + 3) 0 ≡ size (sub t v)
-  linkTable-size = link 3 (omega arith)
+  pub nodeTableOf-size : getD b (v * 4 + 3) 0 ≡ size (sub t v)
+  nodeTableOf-size = link 3 (omega arith)
 
 -- a table of states and maps
 module _ (m n : ℕ) (g : ℕ → ℕ) (f : ℕ → ℕ → ℕ) (b : List ℕ)
@@ -272,22 +272,22 @@ module _ (m n : ℕ) (g : ℕ → ℕ) (f : ℕ → ℕ → ℕ) (b : List ℕ)
       let z : v * (n + 1) + 1 + q ≡ v * (n + 1) + (1 + q) = omega arith in
       ap (λ (i : ℕ). getD b i 0) z ∙ mapped (1 + q) (omega arith) ∙ behind (g v) n (f v) q l
 
-module _ (A : Automaton) (t : Tree) (b : List ℕ) (e : take (size t * (A .states + 1)) b ≡ stateTable A t) (v : ℕ)
+module _ (A : Automaton) (t : Tree) (b : List ℕ) (e : take (size t * (A .states + 1)) b ≡ stateTableOf A t) (v : ℕ)
     (h : v < size t) where
-  pub stateTable-state : getD b (v * (A .states + 1)) 0 ≡ state A (sub t v)
-  unfolding stateTable
-  stateTable-state = table-state (size t) (A .states) (λ u. state A (sub t u)) (stateMap A t) b e v h
+  pub stateTableOf-state : getD b (v * (A .states + 1)) 0 ≡ state A (sub t v)
+  unfolding stateTableOf
+  stateTableOf-state = table-state (size t) (A .states) (λ u. state A (sub t u)) (stateMap A t) b e v h
 
-  pub stateTable-map : (q : ℕ) → q < A .states → getD b (v * (A .states + 1) + 1 + q) 0 ≡ stateMap A t v q
-  unfolding stateTable
-  stateTable-map q l = table-map (size t) (A .states) (λ u. state A (sub t u)) (stateMap A t) b e v h q l
+  pub stateTableOf-map : (q : ℕ) → q < A .states → getD b (v * (A .states + 1) + 1 + q) 0 ≡ stateMap A t v q
+  unfolding stateTableOf
+  stateTableOf-map q l = table-map (size t) (A .states) (λ u. state A (sub t u)) (stateMap A t) b e v h q l
 
-module _ (B : WordAutomaton) (t : Tree) (b : List ℕ) (e : take (size t * (B .states + 1)) b ≡ branchTable B t) (v : ℕ)
+module _ (B : WordAutomaton) (t : Tree) (b : List ℕ) (e : take (size t * (B .states + 1)) b ≡ branchTableOf B t) (v : ℕ)
     (h : v < size t) where
   pub branchTable-state : getD b (v * (B .states + 1)) 0 ≡ branchState B t v
-  unfolding branchTable
+  unfolding branchTableOf
   branchTable-state = table-state (size t) (B .states) (branchState B t) (branchMap B t) b e v h
 
   pub branchTable-map : (q : ℕ) → q < B .states → getD b (v * (B .states + 1) + 1 + q) 0 ≡ branchMap B t v q
-  unfolding branchTable
+  unfolding branchTableOf
   branchTable-map q l = table-map (size t) (B .states) (branchState B t) (branchMap B t) b e v h q l

@@ -1,5 +1,5 @@
 -- The turns of a question: what each answer of a call comes to.
---     more-turn, finished-turn, refused-turn      an advance
+--     more-iteration, finished-iteration, refused-iteration      an advance
 --     started-on, start-refused                   a Start
 -- Assumes nothing.
 use Prim.Native.Nat.{ℕ, suc}
@@ -17,35 +17,35 @@ use Rattle.session.specs.Answers.{startAnswer, advanceAnswer, readAnswer}
 use Rattle.session.specs.Promises.{CallDone, answerOn}
 use Rattle.whatif.specs.Asked.{afterAdvance, finishedIn, mostParts, afterStart, askedOn}
 
-module _ (f : ℕ) (s s′ : Session) (x : Inputs) (told : AdvanceAnswer) (done : CallDone s (advance x) (advanceAnswer told) s′) where
+module _ (f : ℕ) (s s′ : Session) (x : Inputs) (result : AdvanceAnswer) (done : CallDone s (advance x) (advanceAnswer result) s′) where
   -- what the definition makes of the answer that was told
-  unfolded : finishedIn (suc f) s x ≡ afterAdvance (advanceAnswer told) (answerOn s′ read) (finishedIn f s′ x)
+  unfolded : finishedIn (suc f) s x ≡ afterAdvance (advanceAnswer result) (answerOn s′ read) (finishedIn f s′ x)
   unfolding finishedIn
   unfolded = rw (done .tells, done .leaves) refl
 
-  pub more-turn : told ≡ More → finishedIn (suc f) s x ≡ finishedIn f s′ x
+  pub more-iteration : result ≡ More → finishedIn (suc f) s x ≡ finishedIn f s′ x
   unfolding afterAdvance advanceAnswer
-  more-turn e = unfolded ∙ ap (λ (t : AdvanceAnswer). afterAdvance (advanceAnswer t) (answerOn s′ read) (finishedIn f s′ x)) e
+  more-iteration e = unfolded ∙ ap (λ (t : AdvanceAnswer). afterAdvance (advanceAnswer t) (answerOn s′ read) (finishedIn f s′ x)) e
 
-  pub finished-turn : told ≡ Finished → finishedIn (suc f) s x ≡ answerOn s′ read
+  pub finished-iteration : result ≡ Finished → finishedIn (suc f) s x ≡ answerOn s′ read
   unfolding afterAdvance advanceAnswer
-  finished-turn e = unfolded ∙ ap (λ (t : AdvanceAnswer). afterAdvance (advanceAnswer t) (answerOn s′ read) (finishedIn f s′ x)) e
+  finished-iteration e = unfolded ∙ ap (λ (t : AdvanceAnswer). afterAdvance (advanceAnswer t) (answerOn s′ read) (finishedIn f s′ x)) e
 
-  pub refused-turn : (n : ℕ) → told ≡ NotAdvanced n → finishedIn (suc f) s x ≡ readAnswer (NotRead n)
+  pub refused-iteration : (n : ℕ) → result ≡ NotAdvanced n → finishedIn (suc f) s x ≡ readAnswer (NotRead n)
   unfolding afterAdvance advanceAnswer readAnswer
-  refused-turn n e =
+  refused-iteration n e =
       unfolded ∙ ap (λ (t : AdvanceAnswer). afterAdvance (advanceAnswer t) (answerOn s′ read) (finishedIn f s′ x)) e
 
-module _ (s s′ : Session) (x : Inputs) (vs bs : List ℕ) (told : StartAnswer)
-    (done : CallDone s (start x vs bs) (startAnswer told) s′) where
-  begun : askedOn s x vs bs ≡ afterStart (startAnswer told) (finishedIn mostParts s′ x)
+module _ (s s′ : Session) (x : Inputs) (vs bs : List ℕ) (result : StartAnswer)
+    (done : CallDone s (start x vs bs) (startAnswer result) s′) where
+  begun : askedOn s x vs bs ≡ afterStart (startAnswer result) (finishedIn mostParts s′ x)
   unfolding askedOn
   begun = rw (done .tells, done .leaves) refl
 
-  pub started-on : (p : ℕ) → told ≡ Parts p → askedOn s x vs bs ≡ finishedIn mostParts s′ x
+  pub started-on : (p : ℕ) → result ≡ Parts p → askedOn s x vs bs ≡ finishedIn mostParts s′ x
   unfolding afterStart startAnswer
   started-on p e = begun ∙ ap (λ (t : StartAnswer). afterStart (startAnswer t) (finishedIn mostParts s′ x)) e
 
-  pub start-refused : (n : ℕ) → told ≡ NotStarted n → askedOn s x vs bs ≡ readAnswer (NotRead n)
+  pub start-refused : (n : ℕ) → result ≡ NotStarted n → askedOn s x vs bs ≡ readAnswer (NotRead n)
   unfolding afterStart startAnswer readAnswer
   start-refused n e = begun ∙ ap (λ (t : StartAnswer). afterStart (startAnswer t) (finishedIn mostParts s′ x)) e

@@ -15,7 +15,7 @@ use Rattle.formats.specs.Checks.{check, firstNo, listChecks}
 use Rattle.formats.proofs.CheckLaws.{firstNo-yes, and-both, and-left, true-false}
 use Rattle.formats.proofs.ListLaws.{sameList-is}
 use Rattle.formats.proofs.InputLaws.{list-passes}
-use Rattle.formats.specs.Built.{builtLinks, builtStates}
+use Rattle.formats.specs.Built.{builtNodeTable, builtStateTable}
 use Rattle.tables.specs.Answers.{written}
 use Rattle.ready.specs.Parts.{Part}
 use Rattle.formats.specs.Inputs.{Inputs, Sizes, sizesIn, fits, usedNodeTable, usedStateTable, sameNodeInputs}
@@ -160,18 +160,18 @@ module _ (y : Inputs) (passed : refusal (stage (phase (newReference .state)) (ne
       ∙ firstNo-yes 17 (fits (sizesIn y) (loaded y)) (listChecks (sizesIn y .n) (sizesIn y .k) vs bs)
       (written-fits (stage (phase (newReference .state)) (newReference .sizes)) y passed)
 
-  told-refused : (n : ℕ) → firstNo (listChecks (sizesIn y .n) (sizesIn y .k) vs bs) ≡ suc n
+  answer-refused : (n : ℕ) → firstNo (listChecks (sizesIn y .n) (sizesIn y .k) vs bs) ≡ suc n
       → askedOn s (loaded y) vs bs ≡ refused (suc n)
   unfolding askedOn afterStart step decided phase
-  told-refused n e =
+  answer-refused n e =
       ap (λ (a : Answer). afterStart a (finishedIn mostParts (recordOn s (start (loaded y) vs bs)) (loaded y)))
       (settled-answer s (referenceOf State.loaded (sizesIn y)) F (start (loaded y) vs bs) (refused (suc n)) (referenceOf State.loaded (sizesIn y))
       (ap (λ (k : ℕ). decided k (referenceOf State.loaded (sizesIn y)) (start (loaded y) vs bs)) (start-number ∙ e)))
 
-  told-clean : firstNo (listChecks (sizesIn y .n) (sizesIn y .k) vs bs) ≡ 0
+  answer-clean : firstNo (listChecks (sizesIn y .n) (sizesIn y .k) vs bs) ≡ 0
       → askedOn s (loaded y) vs bs ≡ freshAnswer (question (loaded y) vs bs)
   unfolding askedOn afterStart sound phase mayStart
-  told-clean e =
+  answer-clean e =
       let p = phase (newReference .state) in
       let q = question (loaded y) vs bs in
       let w = start-written (stage p (newReference .sizes)) y State.loaded vs bs passed refl e in
@@ -186,14 +186,14 @@ module _ (y : Inputs) (passed : refusal (stage (phase (newReference .state)) (ne
       ∙ finish-clean (sizesIn y) (loaded y) (written-fits (stage p (newReference .sizes)) y passed) mostParts
       (recordOn s (start (loaded y) vs bs)) q 0 [] refl G (some-part q) (omega arith)
 
-  told : askedOn s (loaded y) vs bs ≡ answerTo (y .plan) (y .rules) vs bs
+  result : askedOn s (loaded y) vs bs ≡ answerTo (y .plan) (y .rules) vs bs
   unfolding answerBy loaded freshAnswer
-  told = go (firstNo (listChecks (sizesIn y .n) (sizesIn y .k) vs bs)) refl
+  result = go (firstNo (listChecks (sizesIn y .n) (sizesIn y .k) vs bs)) refl
     where
       go : (n : ℕ) → firstNo (listChecks (sizesIn y .n) (sizesIn y .k) vs bs) ≡ n
           → askedOn s (loaded y) vs bs ≡ answerBy n (y .plan) (y .rules) vs bs
-      go zero e = told-clean e
-      go (suc n) e = told-refused n e
+      go zero e = answer-clean e
+      go (suc n) e = answer-refused n e
 
 -- ---- the theorem
 
@@ -215,12 +215,12 @@ load-follows y e =
     settled-follows freshSession newReference fresh-follows (load y) accepted (referenceOf State.loaded (sizesIn y))
     (ap (λ (n : ℕ). decided n newReference (load y)) e)
 
-same-lent : (p p′ r r′ n n′ b b′ : List ℕ) → p′ ≡ p → r′ ≡ r → n′ ≡ n → b′ ≡ b → inputsOf p r n b ≡ inputsOf p′ r′ n′ b′
-same-lent p p′ r r′ n n′ b b′ e f g h = rw (e, f, g, h) refl
+same-given : (p p′ r r′ n n′ b b′ : List ℕ) → p′ ≡ p → r′ ≡ r → n′ ≡ n → b′ ≡ b → inputsOf p r n b ≡ inputsOf p′ r′ n′ b′
+same-given p p′ r r′ n n′ b b′ e f g h = rw (e, f, g, h) refl
 
-lent-is : (s : Session) (x : Inputs) (C : Cleared s x) → loaded (C .lent) ≡ x
+given-is : (s : Session) (x : Inputs) (C : Cleared s x) → loaded (C .lent) ≡ x
 unfolding loaded
-lent-is s x C = same-lent _ (x .plan) _ (x .rules) _ (x .nodeTable) _ (x .stateTable) (C .plan) (C .rules) (C .nodeTable) (C .stateTable)
+given-is s x C = same-given _ (x .plan) _ (x .rules) _ (x .nodeTable) _ (x .stateTable) (C .plan) (C .rules) (C .nodeTable) (C .stateTable)
 
 pub cleared-answer : (s : Session) (x : Inputs) (vs bs : List ℕ) → Cleared s x → askedOn s x vs bs ≡ answerTo (x .plan) (x .rules) vs bs
 unfolding loaded
@@ -228,7 +228,7 @@ cleared-answer s x vs bs C =
     let y = C .lent in
     let passed = load-passed y (C .taken) in
     let F = subst (λ (t : Session). Follows t (referenceOf State.loaded (sizesIn y))) (sym (C .session)) (load-follows y passed) in
-    subst (λ (t : Inputs). askedOn s t vs bs ≡ answerTo (t .plan) (t .rules) vs bs) (lent-is s x C) (told y passed s F vs bs)
+    subst (λ (t : Inputs). askedOn s t vs bs ≡ answerTo (t .plan) (t .rules) vs bs) (given-is s x C) (result y passed s F vs bs)
 
 -- ---- an accepted Load of a fresh session clears it
 
@@ -251,8 +251,8 @@ fresh-cleared s p r n b n′ b′ t e L =
       session = L .call .leaves;
       plan = refl;
       rules = refl;
-      nodeTable = L .links-written ∙ ap (λ (k : ℕ). written k (builtLinks p) n) z;
-      stateTable = L .states-written ∙ ap (λ (k : ℕ). written k (builtStates p r) b) z;
+      nodeTable = L .node-table-written ∙ ap (λ (k : ℕ). written k (builtNodeTable p) n) z;
+      stateTable = L .state-table-written ∙ ap (λ (k : ℕ). written k (builtStateTable p r) b) z;
     }
 
 pub load-cleared : (f s : Session) (p r n b n′ b′ : List ℕ) (t : CallAnswer) → f ≡ freshSession → t ≡ Accepted

@@ -39,25 +39,25 @@ questionsA =
     ∷ []
 
 -- a line of one-digit numbers, by the codes of its digits
-toldText : ℕ → List ℕ → ℕ → ℕ → List ℕ
-toldText q y p l = (q ∷ y) ++ (p ∷ 32 ∷ l ∷ 10 ∷ [])
+outcomeText : ℕ → List ℕ → ℕ → ℕ → List ℕ
+outcomeText q y p l = (q ∷ y) ++ (p ∷ 32 ∷ l ∷ 10 ∷ [])
 
 refusedText : ℕ → List ℕ
 refusedText d = refusedWord ++ (49 ∷ d ∷ 10 ∷ [])
 
 -- "1 yes 1 0", "0 no 2 1", "1 yes 3 0", "0 no 5 0", "0 no 2 1", "1 yes 1 0", "refused 13", "refused 14", "refused 15"
 linesA : List ℕ
-unfolding toldText refusedText
+unfolding outcomeText refusedText
 linesA =
-    toldText 49 (32 ∷ 121 ∷ 101 ∷ 115 ∷ 32 ∷ []) 49 48
-    ++ (toldText 48 (32 ∷ 110 ∷ 111 ∷ 32 ∷ []) 50 49
-    ++ (toldText 49 (32 ∷ 121 ∷ 101 ∷ 115 ∷ 32 ∷ []) 51 48
-    ++ (toldText 48 (32 ∷ 110 ∷ 111 ∷ 32 ∷ []) 53 48
-    ++ (toldText 48 (32 ∷ 110 ∷ 111 ∷ 32 ∷ []) 50 49
-    ++ (toldText 49 (32 ∷ 121 ∷ 101 ∷ 115 ∷ 32 ∷ []) 49 48
+    outcomeText 49 (32 ∷ 121 ∷ 101 ∷ 115 ∷ 32 ∷ []) 49 48
+    ++ (outcomeText 48 (32 ∷ 110 ∷ 111 ∷ 32 ∷ []) 50 49
+    ++ (outcomeText 49 (32 ∷ 121 ∷ 101 ∷ 115 ∷ 32 ∷ []) 51 48
+    ++ (outcomeText 48 (32 ∷ 110 ∷ 111 ∷ 32 ∷ []) 53 48
+    ++ (outcomeText 48 (32 ∷ 110 ∷ 111 ∷ 32 ∷ []) 50 49
+    ++ (outcomeText 49 (32 ∷ 121 ∷ 101 ∷ 115 ∷ 32 ∷ []) 49 48
     ++ (refusedText 51 ++ (refusedText 52 ++ refusedText 53)))))))
 
 sample-lines : linesBy (questionLine planA tableA) [] questionsA ≡ linesA
 unfolding computing planA tableA questionsA linesA linesBy lineAfter openAfter questionLine nodesIn labelsIn answerBy lineOf decimal
-    placesIn toldText refusedText
+    placesIn outcomeText refusedText
 sample-lines = refl

@@ -17,7 +17,7 @@ use Rattle.trees.specs.Changes.{changed}
 use Rattle.formats.specs.Plan.{nodeCount, planTree, labelsIn, kindsIn}
 use Rattle.formats.specs.Rules.{labelCount, ruleAutomaton}
 use Rattle.formats.specs.Checks.{firstNo, listChecks}
-use Rattle.formats.specs.Built.{builtLinks, builtStates}
+use Rattle.formats.specs.Built.{builtNodeTable, builtStateTable}
 use Rattle.tables.specs.Answers.{written}
 use Rattle.ready.specs.Members.{roots}
 use Rattle.ready.specs.Parts.{questionLinks}
@@ -47,5 +47,5 @@ pub record Cleared (s : Session) (x : Inputs) : Type 0 where
   pub session : s ≡ recordOn freshSession (load lent)
   pub plan : x .plan ≡ lent .plan
   pub rules : x .rules ≡ lent .rules
-  pub nodeTable : x .nodeTable ≡ written 0 (builtLinks (lent .plan)) (lent .nodeTable)
-  pub stateTable : x .stateTable ≡ written 0 (builtStates (lent .plan) (lent .rules)) (lent .stateTable)
+  pub nodeTable : x .nodeTable ≡ written 0 (builtNodeTable (lent .plan)) (lent .nodeTable)
+  pub stateTable : x .stateTable ≡ written 0 (builtStateTable (lent .plan) (lent .rules)) (lent .stateTable)

@@ -25,11 +25,11 @@ newline = 10 ∷ []
 abbrev pub refusedWord : List ℕ
 refusedWord = 114 ∷ 101 ∷ 102 ∷ 117 ∷ 115 ∷ 101 ∷ 100 ∷ 32 ∷ []
 
-abbrev pub toldLine : ℕ → Bool → ℕ → ℕ → List ℕ
-toldLine q y p l = decimal q ++ (yesOrNo y ++ (decimal p ++ (space ++ (decimal l ++ newline))))
+abbrev pub outcomeLine : ℕ → Bool → ℕ → ℕ → List ℕ
+outcomeLine q y p l = decimal q ++ (yesOrNo y ++ (decimal p ++ (space ++ (decimal l ++ newline))))
 
 abbrev pub refusedLine : ℕ → List ℕ
 refusedLine n = refusedWord ++ (decimal n ++ newline)
 
 unfoldable pub lineOf : Answer → List ℕ
-lineOf a = onOutcome (λ o. toldLine (o .state) (o .yes) (o .parts) (o .links)) (onRefused refusedLine [] a) a
+lineOf a = onOutcome (λ o. outcomeLine (o .state) (o .yes) (o .parts) (o .links)) (onRefused refusedLine [] a) a

@@ -9,15 +9,15 @@ ghost use Rattle.formats.specs.Inputs.{inputsOf};
 ghost use Rattle.whatif.specs.Asked.{mostParts, finishedIn, askedOn};
 
 // Advances until finished, and reads.
-fn finish(started: Session, plan: &[u8], rules: &[u8], nums: &[u16], bytes: &[u8]) -> ReadAnswer
+fn finish(started: Session, plan: &[u8], rules: &[u8], node_table: &[u16], state_table: &[u8]) -> ReadAnswer
     ensures { λ r. ⌜
         readAnswer r
-        ≡ finishedIn mostParts started (inputsOf (now (plan .entry)) (now (rules .entry)) (now (nums .entry)) (now (bytes .entry))) ⌝ }
+        ≡ finishedIn mostParts started (inputsOf (now (plan .entry)) (now (rules .entry)) (now («node_table» .entry)) (now («state_table» .entry))) ⌝ }
 {
     let mut rec = started;
     let mut turns: u8 = 0;
     while turns < 254 {
-        let next = rec.advance(plan, rules, nums, bytes);
+        let next = rec.advance(plan, rules, node_table, state_table);
         rec = next.session;
         let answer = next.answer;
         match answer {
@@ -40,22 +40,22 @@ pub fn ask(
     loaded: Session,
     plan: &[u8],
     rules: &[u8],
-    nums: &[u16],
-    bytes: &[u8],
+    node_table: &[u16],
+    state_table: &[u8],
     nodes: &[u16],
     labels: &[u8],
 ) -> ReadAnswer
     ensures { λ r. ⌜
         readAnswer r
-        ≡ askedOn loaded (inputsOf (now (plan .entry)) (now (rules .entry)) (now (nums .entry)) (now (bytes .entry)))
+        ≡ askedOn loaded (inputsOf (now (plan .entry)) (now (rules .entry)) (now («node_table» .entry)) (now («state_table» .entry)))
         (now (nodes .entry)) (now (labels .entry)) ⌝ }
 {
-    let started = loaded.start(plan, rules, nums, bytes, nodes, labels);
+    let started = loaded.start(plan, rules, node_table, state_table, nodes, labels);
     let answer = started.answer;
     match answer {
         StartAnswer::Parts(_) => {
             let rec = started.session;
-            return finish(rec, plan, rules, nums, bytes);
+            return finish(rec, plan, rules, node_table, state_table);
         }
         StartAnswer::Refused(n) => {
             return ReadAnswer::Refused(n);

@@ -46,15 +46,15 @@ fn some_questions(
     loaded: Session,
     plan: &[u8],
     rules: &[u8],
-    nums: &[u16],
-    bytes: &[u8],
+    node_table: &[u16],
+    state_table: &[u8],
     asked: &mut [u8],
     have: usize,
     left: usize,
 ) -> Turn
     requires { ⌜ Keeps (now asked) have ⌝ }
     requires { ⌜ have + left ≤ 4294967295 ⌝ }
-    requires { ⌜ Cleared loaded (inputsOf (now plan) (now rules) (now nums) (now bytes)) ⌝ }
+    requires { ⌜ Cleared loaded (inputsOf (now plan) (now rules) (now «node_table») (now «state_table»)) ⌝ }
     ensures { λ r. ⌜ Keeps (now (asked .exit)) (r .have) ⌝ }
     ensures { λ r. ⌜ (r .came ≤ left) × (r .have ≤ have + r .came) ⌝ }
 {
@@ -65,8 +65,8 @@ fn some_questions(
         loaded,
         plan,
         rules,
-        nums,
-        bytes,
+        node_table,
+        state_table,
         &space[..n],
         asked,
         have,
@@ -86,18 +86,18 @@ fn put_questions(
     loaded: Session,
     plan: &[u8],
     rules: &[u8],
-    nums: &[u16],
-    bytes: &[u8],
+    node_table: &[u16],
+    state_table: &[u8],
     stated: usize,
 )
     requires { ⌜ stated ≤ 4294967295 ⌝ }
-    requires { ⌜ Cleared loaded (inputsOf (now plan) (now rules) (now nums) (now bytes)) ⌝ }
+    requires { ⌜ Cleared loaded (inputsOf (now plan) (now rules) (now «node_table») (now «state_table»)) ⌝ }
 {
     let mut asked = asked_space();
     let mut have = 0;
     let mut left = stated;
     while left > 0 {
-        let turn = some_questions(loaded, plan, rules, nums, bytes, &mut asked, have, left);
+        let turn = some_questions(loaded, plan, rules, node_table, state_table, &mut asked, have, left);
         if turn.came == 0 {
             return;
         }
@@ -119,15 +119,15 @@ fn say_refused(n: u8) {
 fn clear(plan: &[u8], rules: &[u8], stated: usize)
     requires { ⌜ stated ≤ 4294967295 ⌝ }
 {
-    let mut nums = nums_space();
-    let mut bytes = bytes_space();
+    let mut node_table = nums_space();
+    let mut state_table = bytes_space();
     let fresh = Session::fresh();
-    let done = fresh.load(plan, rules, &mut nums, &mut bytes);
+    let done = fresh.load(plan, rules, &mut node_table, &mut state_table);
     let answer = done.answer;
     match answer {
         CallAnswer::Accepted => {
             let loaded = done.session;
-            put_questions(loaded, plan, rules, &nums, &bytes, stated);
+            put_questions(loaded, plan, rules, &node_table, &state_table, stated);
         }
         CallAnswer::Refused(n) => {
             say_refused(n);

@@ -69,8 +69,8 @@ Promised κs a r e =
     LoadDone (now (a .0)) (inputsOf (now (a .1 .0)) (now (a .1 .1 .0)) (now (a .1 .1 .1 .0)) (now (a .1 .1 .1 .1 .0)))
     (callAnswer r) (now (e .0)) (now (e .1 .1 .1 .0)) (now (e .1 .1 .1 .1 .0))
 
-told-is : (r : Called) (v : Val) → Is O.the-row r (v ∷ []) → Is E.the-row (r .answer) (EL.vals E.the-type E′.the-laws (r .answer))
-told-is r v is = LL.owed O.the-type O′.the-laws r (v ∷ []) is .0
+result-is : (r : Called) (v : Val) → Is O.the-row r (v ∷ []) → Is E.the-row (r .answer) (EL.vals E.the-type E′.the-laws (r .answer))
+result-is r v is = LL.owed O.the-type O′.the-laws r (v ∷ []) is .0
 
 rec-is : (r : Called) (v : Val) → Is O.the-row r (v ∷ []) → Is T.the-row (r .session) (vals (r .session))
 rec-is r v is = LL.owed O.the-type O′.the-laws r (v ∷ []) is .1 .0
@@ -168,7 +168,7 @@ module _ {M : Type 1} (𝓤 : URA M) (H : Heap 𝓤) (A : Atoms 𝓤) (W : Given
         (store-raw ! 2 refl (LL.lawful T.the-type T′.the-laws 𝓤 H A W .typed (r .session) _ (rec-is r v is) .0)) $
         -- the answer
         assigns ! (of-opd ! (load ! (from ! (fld ! refl (stop !))) (look-in ! 14 (sub ! 0 refl (whole !))))) (from ! (stop !))
-        (init ! 28 refl (EL.lawful E.the-type E′.the-laws 𝓤 H A W tt .typed (r .answer) _ (told-is r v is) .0)) $
+        (init ! 28 refl (EL.lawful E.the-type E′.the-laws 𝓤 H A W tt .typed (r .answer) _ (result-is r v is) .0)) $
         owned ! T.the-row (Is T.the-row) (LL.makes T.the-type T′.the-plain 𝓤 H A) (r .session) _ (rec-is r v is) $
         move ! (3 ∷ 0 ∷ 4 ∷ 5 ∷ 6 ∷ []) $ closes ! tt T.the-row (r .session) (vals (r .session)) b o $
         -- [obs; the borrow; its token; Tokens; what is said of the slices; 5 the last local; ..; 27 _0; …]
@@ -179,7 +179,7 @@ module _ {M : Type 1} (𝓤 : URA M) (H : Heap 𝓤) (A : Atoms 𝓤) (W : Given
         move ! (21 ∷ 22 ∷ []) $ free1 ! $ move ! (19 ∷ 20 ∷ []) $ free1 ! $ move ! (17 ∷ 18 ∷ []) $ free1 ! $
         move ! (15 ∷ 16 ∷ []) $ free1 ! $ move ! (13 ∷ 14 ∷ []) $ free1 ! $ move ! (11 ∷ 12 ∷ []) $ free1 ! $
         move ! (9 ∷ 10 ∷ []) $ free1 ! $ move ! (7 ∷ 8 ∷ []) $ free1 ! $ move ! (5 ∷ 6 ∷ []) $ free1 ! $ free0 ! $
-        owned ! E.the-row (Is E.the-row) (EL.makes E.the-type E′.the-plain 𝓤 H A) (r .answer) _ (told-is r v is) $
+        owned ! E.the-row (Is E.the-row) (EL.makes E.the-type E′.the-plain 𝓤 H A) (r .answer) _ (result-is r v is) $
         keep ! (1 ∷ 2 ∷ 3 ∷ 4 ∷ 5 ∷ 0 ∷ []) $
         by ! (exits lends E.the-row 𝓤 H A Promised κs qs a (r .answer) (r .session) (ws .1) _ W e))))))))))))))))))))
 

@@ -11,11 +11,11 @@ use Rattle.whatif.proofs.input.nums_space.Reads as nums-space-reads
 use Rattle.whatif.proofs.put_questions.Reads as put-questions-reads
 use Rattle.whatif.proofs.say_refused.Reads as say-refused-reads
 
-nums-space-requires : tie.Need-nums-space-requires
-nums-space-requires c κs = search needs
+node-table-space-requires : tie.Need-node-table-space-requires
+node-table-space-requires c κs = search needs
 
-bytes-space-requires : tie.Need-bytes-space-requires
-bytes-space-requires c κs = search needs
+state-table-space-requires : tie.Need-state-table-space-requires
+state-table-space-requires c κs = search needs
 
 fresh-requires : tie.Need-fresh-requires
 fresh-requires c κs = search needs
@@ -48,8 +48,8 @@ put-questions-requires c κs =
     let s = n .before .before .before in
     let a = s .args in (
       s .pre,
-      load-cleared (f .fresh .result) (d .load .result .session) (a .plan .now) (a .rules .now) (n .nums-space .result)
-          (b .bytes-space .result) _ _ (d .load .result .answer) (f .fresh .ensures .0) (m .enum-told .given .1) (d .load .ensures),
+      load-cleared (f .fresh .result) (d .load .result .session) (a .plan .now) (a .rules .now) (n .node-table-space .result)
+          (b .state-table-space .result) _ _ (d .load .result .answer) (f .fresh .ensures .0) (m .enum-told .given .1) (d .load .ensures),
     )
 
 enum-known-answer : tie.Need-enum-known-answer
@@ -68,8 +68,8 @@ pub clear-spec : {M : Type 1} → statement M
 clear-spec =
     tie.close
     (tie.spec
-    nums-space-requires
-    bytes-space-requires
+    node-table-space-requires
+    state-table-space-requires
     fresh-requires
     slice-aggregate-load
     slice-aggregate-load-2

@@ -11,7 +11,7 @@ use Rattle.branches.proofs.AskParts.{Handed, handed}
 use Rattle.branches.proofs.AskAnswer.{compose-args, finish-args, answer-none, answer-some}
 use borrow.Author.Needs.{needs}
 use Rattle.formats.proofs.bytes.read32.Reads as read32-reads
-use Rattle.links.proofs.moves.depth_at.Reads as depth-at-reads
+use Rattle.node_tables.proofs.moves.depth_at.Reads as depth-at-reads
 use Rattle.tables.proofs.branch_climb.compose_climb.Reads as compose-climb-reads
 use Rattle.branches.proofs.ask.answer_branch.Statement.{statement}
 use Rattle.branches.proofs.ask.answer_branch.Tie as tie
@@ -21,7 +21,7 @@ use Rattle.branches.proofs.ask.finish_answer.Reads as finish-answer-rea
 
 -- what the lent headers and lengths say
 fit : (s : tie.Start) → let g = s .args in
-    Headed branchTables (g .plan .now) (g .branch .now) (length (g .nums .now)) (length (g .bytes .now))
+    Headed branchTables (g .plan .now) (g .branch .now) (length (g .node-table .now)) (length (g .state-table .now))
 fit s = headed-are _ _ _ _ _ (s .pre .fits)
 
 -- the steps end inside the branch table
@@ -62,7 +62,7 @@ mark-run c =
 
 on : (c : tie.After-depth-at)
     → let g = begun c .args in
-    Handed (g .plan .now) (g .branch .now) (g .nums .now) (g .u) (nodes c) (states c) (labels c) (c .depth-at .result)
+    Handed (g .plan .now) (g .branch .now) (g .node-table .now) (g .u) (nodes c) (states c) (labels c) (c .depth-at .result)
     (label-run c) (step-run c) (mark-run c)
 on c =
     handed _ _ _ _ (nodes c) (states c) (labels c) (c .depth-at .result)
@@ -119,7 +119,7 @@ depth-at-requires c κs =
     omega (
       arith,
       c .before .before .before .before .before .before .before .before .before .pre .upper,
-      fit (c .before .before .before .before .before .before .before .before .before) .nums-room,
+      fit (c .before .before .before .before .before .before .before .before .before) .node-table-room,
     )
 
 slice-aggregate-compose-climb : tie.Need-slice-aggregate-compose-climb

@@ -19,7 +19,7 @@ use Rattle.branches.proofs.ask.answer_branch.Reads as answer-branch-rea
 
 -- 17 passes
 fits : (c : tie.Else1) → let g = c .before .before .before .before .before .before .args in
-    headedBuffersFit branchTables (g .plan .now) (g .branch .now) (length (g .nums .now)) (length (g .bytes .now)) ≡ true
+    headedBuffersFit branchTables (g .plan .now) (g .branch .now) (length (g .node-table .now)) (length (g .state-table .now)) ≡ true
 fits c = sym (c .before .branch-buffers-fit .ensures) ∙ not-false _ (c .if1 .left)
 
 -- 13 passes
@@ -53,7 +53,7 @@ returns-3 c =
 
 is-below-requires : tie.Need-is-below-requires
 is-below-requires c κs =
-    omega (arith, upper-in (c .before), headed-are _ _ _ _ _ (fits (c .before .before .before)) .nums-room)
+    omega (arith, upper-in (c .before), headed-are _ _ _ _ _ (fits (c .before .before .before)) .node-table-room)
 
 returns-4 : tie.Need-returns-4
 returns-4 c =

@@ -3,7 +3,7 @@
 use mathlib.Core.Path.{_≡_, sym, _∙_}
 use lib.ListN.{length}
 use Rattle.formats.specs.Checks.{firstNo, branchBuildChecks}
-use Rattle.formats.specs.Built.{builtLinks, builtSteps}
+use Rattle.formats.specs.Built.{builtNodeTable, builtBranchTable}
 use Rattle.tables.proofs.BuildLaws.{build-refused, build-done}
 use Rattle.branches.proofs.BranchInputs.{Accepted, accepted, part-args}
 use native.Mathlib.Omega.{arith}
@@ -13,13 +13,13 @@ use Rattle.branches.proofs.build.build_branch_tables.Tie as tie
 
 -- all checks pass
 passed : (c : tie.Else1) → let g = c .before .before .before .before .before .before .args in
-    firstNo (branchBuildChecks (g .plan .now) (g .branch .now) (length (g .nums .now)) (length (g .bytes .now))) ≡ 0
+    firstNo (branchBuildChecks (g .plan .now) (g .branch .now) (length (g .node-table .now)) (length (g .state-table .now))) ≡ 0
 passed c = sym (c .before .check-branch-build .ensures) ∙ c .if1 .left
 
 accepts : (c : tie.Else1) → let g = c .before .before .before .before .before .before .args in
-    Accepted (g .plan .now) (g .branch .now) (length (g .nums .now)) (length (g .bytes .now))
+    Accepted (g .plan .now) (g .branch .now) (length (g .node-table .now)) (length (g .state-table .now))
 accepts c = let g = c .before .before .before .before .before .before .args in
-    accepted (g .plan .now) (g .branch .now) (length (g .nums .now)) (length (g .bytes .now)) (passed c)
+    accepted (g .plan .now) (g .branch .now) (length (g .node-table .now)) (length (g .state-table .now)) (passed c)
 
 check-branch-build-requires : tie.Need-check-branch-build-requires
 check-branch-build-requires c κs = search needs
@@ -28,8 +28,8 @@ returns : tie.Need-returns
 returns c =
     let g = c .before .before .before .before .before .before .args in
     let r = c .before .check-branch-build in
-    build-refused (builtLinks (g .plan .now)) (builtSteps (g .plan .now) (g .branch .now)) (g .nums .now)
-    (g .bytes .now) _
+    build-refused (builtNodeTable (g .plan .now)) (builtBranchTable (g .plan .now) (g .branch .now)) (g .node-table .now)
+    (g .state-table .now) _
     (r .result) (r .ensures) (c .if1 .taken)
 
 read32-requires : tie.Need-read32-requires
@@ -45,7 +45,7 @@ write-branch-requires : tie.Need-write-branch-requires
 write-branch-requires c κs =
     let i = c .before .before .before .before .before in
     let g = i .before .before .before .before .before .before .args in
-    part-args (g .plan .now) (g .branch .now) (length (g .nums .now)) (length (g .bytes .now)) (passed i) _ _ _
+    part-args (g .plan .now) (g .branch .now) (length (g .node-table .now)) (length (g .state-table .now)) (passed i) _ _ _
     (c .before .before .before .before .read32 .ensures) (c .before .before .before .read322 .ensures)
     (c .before .before .read323 .ensures)
 
@@ -60,7 +60,7 @@ returns-2 c =
     let w = c .before .before .before .before in
     let i = w .before .before .before .before .before .before in
     let g = i .before .before .before .before .before .before .args in
-    build-done (builtLinks (g .plan .now)) (builtSteps (g .plan .now) (g .branch .now)) (g .nums .now) (g .bytes .now) _
+    build-done (builtNodeTable (g .plan .now)) (builtBranchTable (g .plan .now) (g .branch .now)) (g .node-table .now) (g .state-table .now) _
     (w .write-branch .last .1 .1 .1 .1 .1 .0) (w .write-branch .last .1 .1 .1 .1 .1 .1 .0) (passed i)
     (w .write-branch .ensures .links) (w .write-branch .ensures .states)
 

@@ -49,8 +49,8 @@ fill-branch-requires : tie.Need-fill-branch-requires
 fill-branch-requires c κs =
     let s = c .before .before .before .before .before .before .before .before .before in
     parts-filled (s .args .plan .now) (s .args .branch .now) (s .args .n) (s .args .s) (s .args .k)
-    (length (s .args .nums .now))
-    (length (s .args .bytes .now)) (s .pre)
+    (length (s .args .node-table .now))
+    (length (s .args .state-table .now)) (s .pre)
 
 same-length : tie.Need-same-length
 same-length c = search needs
@@ -63,9 +63,9 @@ returns c =
     let f = c .before .before .before .before in
     let s = f .before .before .before .before .before .before .before .before .before .before in
     parts-written (s .args .plan .now) (s .args .branch .now) (s .args .n) (s .args .s) (s .args .k)
-    (length (s .args .nums .now))
-    (length (s .args .bytes .now)) (s .pre)
-    (s .args .nums .now) (s .args .bytes .now) (f .fill-branch .last .1 .1 .1 .1 .1 .0)
+    (length (s .args .node-table .now))
+    (length (s .args .state-table .now)) (s .pre)
+    (s .args .node-table .now) (s .args .state-table .now) (f .fill-branch .last .1 .1 .1 .1 .1 .0)
     (f .fill-branch .last .1 .1 .1 .1 .1 .1 .0)
     (f .fill-branch .ensures)
 

@@ -1,7 +1,7 @@
 -- `check::branch_matches` meets its contract: the parts are the runs of plan and branch table.
 -- Assumes nothing.
 use lib.ListN.{length}
-use Rattle.branches.proofs.BranchInputs.{parts-filled, parts-told}
+use Rattle.branches.proofs.BranchInputs.{parts-filled, parts-in}
 use borrow.Author.Needs.{needs}
 use Rattle.branches.proofs.check.branch_matches.Statement.{statement}
 use Rattle.branches.proofs.check.branch_matches.Tie as tie
@@ -49,16 +49,16 @@ tables-match-requires : tie.Need-tables-match-requires
 tables-match-requires c κs =
     let s = c .before .before .before .before .before .before .before in
     parts-filled (s .args .plan .now) (s .args .branch .now) (s .args .n) (s .args .s) (s .args .k)
-    (length (s .args .nums .now))
-    (length (s .args .bytes .now)) (s .pre)
+    (length (s .args .node-table .now))
+    (length (s .args .state-table .now)) (s .pre)
 
 returns : tie.Need-returns
 returns c =
     let s = c .before .before .before .before .before .before .before .before in
-    parts-told (s .args .plan .now) (s .args .branch .now) (s .args .n) (s .args .s) (s .args .k)
-    (length (s .args .nums .now))
-    (length (s .args .bytes .now)) (s .pre)
-    (s .args .nums .now) (s .args .bytes .now) (c .tables-match .result) (c .tables-match .ensures)
+    parts-in (s .args .plan .now) (s .args .branch .now) (s .args .n) (s .args .s) (s .args .k)
+    (length (s .args .node-table .now))
+    (length (s .args .state-table .now)) (s .pre)
+    (s .args .node-table .now) (s .args .state-table .now) (c .tables-match .result) (c .tables-match .ensures)
 
 pub branch-matches-spec : {M : Type 1} → statement M
 branch-matches-spec =

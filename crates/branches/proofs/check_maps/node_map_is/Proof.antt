@@ -3,11 +3,11 @@
 use Prim.Native.Nat.{_+_, _*_}
 use mathlib.Core.Path.{sym, _∙_}
 use lib.ListN.{getD}
-use Rattle.links.specs.Cells.{parentCell, jumpCell}
+use Rattle.node_tables.specs.Cells.{parentCell, jumpCell}
 use Rattle.tables.specs.Compare.{nearEntry}
 use Rattle.tables.proofs.CompareLaws.{rowIs-ext}
 use Rattle.branches.specs.Maps.{stepCell, nodeMap}
-use Rattle.branches.proofs.MapTurns.{nodeMap-near, nodeMap-far}
+use Rattle.branches.proofs.MapLoop.{nodeMap-near, nodeMap-far}
 use native.Mathlib.Omega.{arith}
 use borrow.Author.Needs.{needs}
 use Rattle.branches.proofs.check_maps.node_map_is.Statement.{statement}
@@ -54,9 +54,9 @@ returns : tie.Need-returns
 returns c =
     let g = c .before .before .before .before .before .before .before .before .before .args in
     c .near-row-is .ensures
-    ∙ rowIs-ext (g .s) (g .bytes .now) (g .v) (nearEntry (g .steps .now) (getD (g .labels .now) (g .v) 0) (g .k))
-    (nodeMap (g .labels .now) (g .nums .now) (g .steps .now) (g .s) (g .k) (g .bytes .now) (g .v))
-    (λ q l. sym (nodeMap-near (g .labels .now) (g .nums .now) (g .steps .now) (g .s) (g .k) (g .bytes .now) (g .v) q
+    ∙ rowIs-ext (g .s) (g .state-table .now) (g .v) (nearEntry (g .steps .now) (getD (g .labels .now) (g .v) 0) (g .k))
+    (nodeMap (g .labels .now) (g .node-table .now) (g .steps .now) (g .s) (g .k) (g .state-table .now) (g .v))
+    (λ q l. sym (nodeMap-near (g .labels .now) (g .node-table .now) (g .steps .now) (g .s) (g .k) (g .state-table .now) (g .v) q
     (c .before .if1 .taken)))
 
 mul-far : tie.Need-mul-far
@@ -80,13 +80,13 @@ step-row-is-requires c κs = search needs
 returns-2 : tie.Need-returns-2
 returns-2 c =
     let g = c .before .before .before .before .before .before .before .before .before .before .args in
-    let p = parentCell (g .nums .now) (g .v) in
+    let p = parentCell (g .node-table .now) (g .v) in
     c .step-row-is .ensures
-    ∙ rowIs-ext (g .s) (g .bytes .now) (g .v)
-    (stepCell (g .s) (g .bytes .now) p (jumpCell (g .nums .now) p) (g .steps .now) (g .k)
+    ∙ rowIs-ext (g .s) (g .state-table .now) (g .v)
+    (stepCell (g .s) (g .state-table .now) p (jumpCell (g .node-table .now) p) (g .steps .now) (g .k)
     (getD (g .labels .now) (g .v) 0))
-    (nodeMap (g .labels .now) (g .nums .now) (g .steps .now) (g .s) (g .k) (g .bytes .now) (g .v))
-    (λ q l. sym (nodeMap-far (g .labels .now) (g .nums .now) (g .steps .now) (g .s) (g .k) (g .bytes .now) (g .v) q
+    (nodeMap (g .labels .now) (g .node-table .now) (g .steps .now) (g .s) (g .k) (g .state-table .now) (g .v))
+    (λ q l. sym (nodeMap-far (g .labels .now) (g .node-table .now) (g .steps .now) (g .s) (g .k) (g .state-table .now) (g .v) q
     (c .before .before .if1 .left)))
 
 pub node-map-is-spec : {M : Type 1} → statement M

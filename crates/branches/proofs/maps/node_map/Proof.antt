@@ -3,10 +3,10 @@
 use Prim.Native.Nat.{_+_, _*_}
 use mathlib.Core.Path.{sym}
 use lib.ListN.{getD}
-use Rattle.links.specs.Cells.{parentCell, jumpCell}
+use Rattle.node_tables.specs.Cells.{parentCell, jumpCell}
 use Rattle.tables.proofs.MapTableLaws.{row-ext}
 use Rattle.branches.specs.Maps.{stepCell, nodeMap}
-use Rattle.branches.proofs.MapTurns.{nodeMap-near, nodeMap-far}
+use Rattle.branches.proofs.MapLoop.{nodeMap-near, nodeMap-far}
 use native.Mathlib.Omega.{arith}
 use borrow.Author.Needs.{needs}
 use Rattle.branches.proofs.maps.node_map.Statement.{statement}
@@ -76,10 +76,10 @@ returns c =
     let i = n .before .before in
     let g = i .before .before .before .before .before .before .before .before .args in
     row-ext (g .s) (λ q. getD (g .steps .now) (getD (g .labels .now) (g .v) 0 + q * g .k) 0)
-    (nodeMap (g .labels .now) (g .nums .now) (g .steps .now) (g .s) (g .k) (g .bytes .now) (g .v)) (g .v) (g .s)
-    (g .bytes .now)
+    (nodeMap (g .labels .now) (g .node-table .now) (g .steps .now) (g .s) (g .k) (g .state-table .now) (g .v)) (g .v) (g .s)
+    (g .state-table .now)
     (n .near-row .last .0) (n .near-row .ensures)
-    (λ q l. sym (nodeMap-near (g .labels .now) (g .nums .now) (g .steps .now) (g .s) (g .k) (g .bytes .now) (g .v) q
+    (λ q l. sym (nodeMap-near (g .labels .now) (g .node-table .now) (g .steps .now) (g .s) (g .k) (g .state-table .now) (g .v) q
     (i .if1 .taken)))
 
 same-length-2 : tie.Need-same-length-2
@@ -90,14 +90,14 @@ returns-2 c =
     let n = c .before .before in
     let i = n .before .before .before in
     let g = i .before .before .before .before .before .before .before .before .args in
-    let p = parentCell (g .nums .now) (g .v) in
+    let p = parentCell (g .node-table .now) (g .v) in
     row-ext (g .s)
-    (stepCell (g .s) (g .bytes .now) p (jumpCell (g .nums .now) p) (g .steps .now) (g .k)
+    (stepCell (g .s) (g .state-table .now) p (jumpCell (g .node-table .now) p) (g .steps .now) (g .k)
     (getD (g .labels .now) (g .v) 0))
-    (nodeMap (g .labels .now) (g .nums .now) (g .steps .now) (g .s) (g .k) (g .bytes .now) (g .v)) (g .v) (g .s)
-    (g .bytes .now)
+    (nodeMap (g .labels .now) (g .node-table .now) (g .steps .now) (g .s) (g .k) (g .state-table .now) (g .v)) (g .v) (g .s)
+    (g .state-table .now)
     (n .step-row .last .0) (n .step-row .ensures)
-    (λ q l. sym (nodeMap-far (g .labels .now) (g .nums .now) (g .steps .now) (g .s) (g .k) (g .bytes .now) (g .v) q
+    (λ q l. sym (nodeMap-far (g .labels .now) (g .node-table .now) (g .steps .now) (g .s) (g .k) (g .state-table .now) (g .v) q
     (i .if1 .left)))
 
 pub node-map-spec : {M : Type 1} → statement M

@@ -1,4 +1,4 @@
-use Rattle.capi_branches.proofs.BranchNumberLaws.{told, not-told}
+use Rattle.capi_branches.proofs.BranchNumberLaws.{result, not-answer}
 use native.Mathlib.Omega.{arith}
 use borrow.Author.Needs.{needs}
 use Rattle.capi_branches.proofs.calls.ask_number.Statement.{statement}
@@ -23,10 +23,10 @@ cast-result : tie.Need-cast-result
 cast-result c = search needs
 
 returns : tie.Need-returns
-returns c = told _ _ _ _ _ _ _ _ (c .before .before .answer .given .1) (c .bit .ensures)
+returns c = result _ _ _ _ _ _ _ _ (c .before .before .answer .given .1) (c .bit .ensures)
 
 returns-2 : tie.Need-returns-2
-returns-2 c = not-told _ _ _ _ _ (c .before .answer2 .given .1)
+returns-2 c = not-answer _ _ _ _ _ (c .before .answer2 .given .1)
 
 pub ask-number-spec : {M : Type 1} → statement M
 ask-number-spec =

@@ -1,4 +1,4 @@
-use Rattle.capi_session.proofs.SessionExportedLaws.{read-told, read-refused}
+use Rattle.capi_session.proofs.SessionExportedLaws.{read-in, read-refused}
 use native.Mathlib.Omega.{arith}
 use borrow.Author.Needs.{needs}
 use Rattle.capi_session.proofs.calls.tell_read.Statement.{statement}
@@ -22,7 +22,7 @@ cast-parts c = search needs
 returns : tie.Need-returns
 returns c =
     let b = c .before in
-    read-told _ _ _ _ (b .before .before .before .answer .given .1) (b .bit .ensures)
+    read-in _ _ _ _ (b .before .before .before .answer .given .1) (b .bit .ensures)
 
 enum-known-answer-2 : tie.Need-enum-known-answer-2
 enum-known-answer-2 c = search needs

@@ -5,7 +5,7 @@ use mathlib.Core.List.{List}
 use Rattle.formats.specs.InnerChecks.{countsFit, branchShape}
 use mathlib.Core.Path.{_≡_, sym, _∙_}
 use borrow.Author.Tests.{not-true, not-false}
-use Rattle.formats.proofs.RuleAnswers.{counts-told}
+use Rattle.formats.proofs.RuleAnswers.{counts-answer}
 use Rattle.formats.proofs.BranchAnswers.{branch-exact, branch-6, branch-7, branch-8, branch-9, branch-good}
 use native.Mathlib.Omega.{arith}
 use borrow.Author.Needs.{needs}
@@ -26,7 +26,7 @@ counted : (e : tie.Else2) → countsFit (states-of e) (labels-of e) ≡ true
 counted e = sym (e .before .counts-fit .ensures) ∙ not-false _ (e .if2 .left)
 
 limits : (e : tie.Else2) → (1 ≤ states-of e) × (states-of e ≤ 16) × (1 ≤ labels-of e) × (labels-of e ≤ 64)
-limits e = counts-told _ _ (counted e)
+limits e = counts-answer _ _ (counted e)
 
 shaped : (f : tie.Else3) → branchShape (table-of (f .before .before)) (states-of (f .before .before)) (labels-of (f .before .before)) ≡ true
 shaped f = sym (f .before .branch-shape .ensures) ∙ not-false _ (f .if3 .left)

@@ -15,12 +15,12 @@ add-if1 c = search needs
 returns : tie.Need-returns
 returns c =
     let g = c .before .args in
-    sym (plan-no (g .n) (g .s) (g .exact) (g .plan) (g .table) (g .nums) (g .bytes) (c .if1 .taken))
+    sym (plan-no (g .n) (g .s) (g .exact) (g .plan) (g .table) (g .node-table) (g .state-table) (c .if1 .taken))
 
 returns-2 : tie.Need-returns-2
 returns-2 c =
     let g = c .before .before .args in
-    sym (table-no (g .n) (g .s) (g .exact) (g .plan) (g .table) (g .nums) (g .bytes) (c .before .if1 .left) (c .if2 .taken))
+    sym (table-no (g .n) (g .s) (g .exact) (g .plan) (g .table) (g .node-table) (g .state-table) (c .before .if1 .left) (c .if2 .taken))
 
 room-fits-requires : tie.Need-room-fits-requires
 room-fits-requires c κs = c .before .before .pre
@@ -30,7 +30,7 @@ returns-3 c =
     let e = c .before in
     let g = e .before .before .args in
     c .room-fits .ensures
-    ∙ sym (buffers-end (g .n) (g .s) (g .exact) (g .plan) (g .table) (g .nums) (g .bytes) (e .before .if1 .left) (e .if2 .left))
+    ∙ sym (buffers-end (g .n) (g .s) (g .exact) (g .plan) (g .table) (g .node-table) (g .state-table) (e .before .if1 .left) (e .if2 .left))
 
 pub buffers-fit-spec : {M : Type 1} → statement M
 buffers-fit-spec =

@@ -27,7 +27,7 @@ returns c =
     let i = c .before in
     let g = i .before .args in
     c .buffers-fit .ensures
-    ∙ ap (λ (x : ℕ). buffersFit (g .n) (g .s) x (g .plan) (g .rules) (g .nums) (g .bytes))
+    ∙ ap (λ (x : ℕ). buffersFit (g .n) (g .s) x (g .plan) (g .rules) (g .node-table) (g .state-table))
     (omega (arith, i .inner-count .ensures .value))
 
 pub rule-buffers-fit-spec : {M : Type 1} → statement M

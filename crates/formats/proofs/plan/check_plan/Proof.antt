@@ -20,8 +20,8 @@ use Rattle.formats.proofs.plan.is_postorder.Reads as is-postorder-reads
 abbrev plan-of : tie.After-is-postorder → List ℕ
 plan-of c = c .before .before .before .before .before .before .before .before .before .before .before .before .args .plan .now
 
-kinds-told : (c : tie.After-is-postorder) → c .is-postorder .result ≡ isPostorder (kindsIn (plan-of c))
-kinds-told c = c .is-postorder .ensures ∙ ap isPostorder (kinds-part-exact (plan-of c) _ (omega arith) (omega arith))
+kinds-answer : (c : tie.After-is-postorder) → c .is-postorder .result ≡ isPostorder (kindsIn (plan-of c))
+kinds-answer c = c .is-postorder .ensures ∙ ap isPostorder (kinds-part-exact (plan-of c) _ (omega arith) (omega arith))
 
 returns : tie.Need-returns
 returns c = plan-2 _ (c .if1 .taken)
@@ -76,11 +76,11 @@ is-postorder-requires c κs = search needs
 
 returns-7 : tie.Need-returns-7
 returns-7 c = plan-5 _ (omega arith) (omega arith) (omega arith) (omega arith) (omega arith) (omega arith)
-    (sym (kinds-told (c .before)) ∙ not-true _ (c .if7 .taken))
+    (sym (kinds-answer (c .before)) ∙ not-true _ (c .if7 .taken))
 
 returns-8 : tie.Need-returns-8
 returns-8 c = plan-good _ (omega arith) (omega arith) (omega arith) (omega arith) (omega arith) (omega arith)
-    (sym (kinds-told (c .before)) ∙ not-false _ (c .if7 .left))
+    (sym (kinds-answer (c .before)) ∙ not-false _ (c .if7 .left))
 
 pub check-plan-spec : {M : Type 1} → statement M
 check-plan-spec =

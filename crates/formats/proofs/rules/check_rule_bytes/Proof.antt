@@ -5,7 +5,7 @@ use mathlib.Core.List.{List}
 use Rattle.formats.specs.InnerChecks.{countsFit, ruleShape}
 use mathlib.Core.Path.{_≡_, sym, _∙_}
 use borrow.Author.Tests.{not-true, not-false}
-use Rattle.formats.proofs.RuleAnswers.{counts-told, shape-exact, rules-6, rules-7, rules-8, rules-9, rules-good}
+use Rattle.formats.proofs.RuleAnswers.{counts-answer, shape-exact, rules-6, rules-7, rules-8, rules-9, rules-good}
 use native.Mathlib.Omega.{arith}
 use borrow.Author.Needs.{needs}
 use Rattle.formats.proofs.rules.check_rule_bytes.Statement.{statement}
@@ -25,7 +25,7 @@ counted : (e : tie.Else2) → countsFit (states-of e) (labels-of e) ≡ true
 counted e = sym (e .before .counts-fit .ensures) ∙ not-false _ (e .if2 .left)
 
 limits : (e : tie.Else2) → (1 ≤ states-of e) × (states-of e ≤ 16) × (1 ≤ labels-of e) × (labels-of e ≤ 64)
-limits e = counts-told _ _ (counted e)
+limits e = counts-answer _ _ (counted e)
 
 shaped : (f : tie.Else3) → ruleShape (table-of (f .before .before)) (states-of (f .before .before)) (labels-of (f .before .before)) ≡ true
 shaped f = sym (f .before .rule-shape .ensures) ∙ not-false _ (f .if3 .left)

@@ -19,13 +19,13 @@ cast-t15 c = search needs
 returns : tie.Need-returns
 returns c =
     let f = c .before in
-    part-reached _ _ (f .found .given .0 .0) (f .found .given .1) (f .before .before .part .ensures .told)
+    part-reached _ _ (f .found .given .0 .0) (f .found .given .1) (f .before .before .part .ensures .result)
 
 enum-told : tie.Need-enum-told
 enum-told c = search needs
 
 returns-2 : tie.Need-returns-2
-returns-2 c = part-outside _ _ (c .enum-told .given .1) (c .before .before .part .ensures .told)
+returns-2 c = part-outside _ _ (c .enum-told .given .1) (c .before .before .part .ensures .result)
 
 pub probe-part-spec : {M : Type 1} → statement M
 probe-part-spec =

@@ -11,11 +11,11 @@ use Rattle.probes.proofs.whole.advance_by.Lts as lts
 use Rattle.session.proofs.state.Session.advance.Reads as advance-reads
 
 abbrev Inv-loop : tie.InvT-loop
-Inv-loop count plan rules nums bytes u₀ left₀ u left =
-    advanced left (inputsOf plan rules nums bytes) u ≡ advanced left₀ (inputsOf plan rules nums bytes) u₀
+Inv-loop count plan rules nodeTable stateTable u₀ left₀ u left =
+    advanced left (inputsOf plan rules nodeTable stateTable) u ≡ advanced left₀ (inputsOf plan rules nodeTable stateTable) u₀
 
 abbrev μ-loop : tie.MeasureT-loop
-μ-loop count plan rules nums bytes u₀ left₀ u left = left
+μ-loop count plan rules nodeTable stateTable u₀ left₀ u left = left
 
 loop-holds : tie.Need-loop-holds Inv-loop μ-loop
 loop-holds c = refl

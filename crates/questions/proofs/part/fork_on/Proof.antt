@@ -5,14 +5,14 @@ use Prim.Native.Nat.{ℕ, _+_, _-_, _*_}
 use mathlib.Core.Path.{ap}
 use Rattle.tables.specs.Climbs.{View}
 use Rattle.tables.specs.PathViews.{pathView}
-use Rattle.questions.proofs.PartTurns.{side-args, side-few, fork-told}
+use Rattle.questions.proofs.PartLoop.{side-args, side-few, fork-answer}
 use Rattle.questions.proofs.part.fork_on.Statement.{statement}
 use Rattle.questions.proofs.part.fork_on.Tie as tie
 
 abbrev view : tie.Start → View
 view s =
     let g = s .args in
-    pathView (g .n) (g .s) (g .k) (g .labels .now) (g .inner .now) (g .nums .now) (g .bytes .now)
+    pathView (g .n) (g .s) (g .k) (g .labels .now) (g .inner .now) (g .node-table .now) (g .state-table .now)
 
 depth-at-requires : tie.Need-depth-at-requires
 depth-at-requires c κs = search needs
@@ -68,7 +68,7 @@ returns c =
     let i = j .before in
     let s = i .before .before .before .before .before .before .before .before in
     let g = s .args in
-    fork-told (view s) (g .earlier .now) (g .states .now) (g .v) (g .l) (g .a) (i .last-below .result)
+    fork-answer (view s) (g .earlier .now) (g .states .now) (g .v) (g .l) (g .a) (i .last-below .result)
     (j .last-below2 .result)
     (i .before .depth-at .result + 1) (s .pre .same) (ap (λ (d : ℕ). d + 1) (i .before .depth-at .ensures))
     (i .last-below .ensures) (j .last-below2 .ensures) (l .side-on .result) (r .side-on2 .result) (c .join-on .result)

@@ -5,10 +5,10 @@ use Prim.Native.Nat.{ℕ}
 use mathlib.Core.Path.{_≡_, refl, sym, ap, ap₂, _∙_}
 use mathlib.Core.Option.{Option, some}
 use Rattle.tables.specs.declared.answers.Reached.{Reached}
-use Rattle.tables.specs.Climbs.{View, toldReached}
+use Rattle.tables.specs.Climbs.{View, climbedOf}
 use Rattle.tables.specs.PathViews.{rulesView}
 use Rattle.questions.specs.Part.{joinOn}
-use Rattle.questions.specs.PartArgs.{heard, Few}
+use Rattle.questions.specs.PartArgs.{reachedIn, Few}
 use Rattle.questions.proofs.PartLaws.{join-lost, join-made, join-left, join-right}
 use Rattle.questions.proofs.part.join_on.Statement.{statement}
 use Rattle.questions.proofs.part.join_on.Tie as tie
@@ -17,16 +17,16 @@ abbrev view : tie.Start → View
 view s = rulesView (s .args .s) (s .args .k) (s .args .inner .now)
 
 same-join : (X : View) (a : ℕ) (x y l r : Option Reached) → l ≡ x → r ≡ y
-    → toldReached (joinOn X a x y) ≡ toldReached (joinOn X a l r)
-same-join X a x y l r e f = ap₂ (λ (i j : Option Reached). toldReached (joinOn X a i j)) (sym e) (sym f)
+    → climbedOf (joinOn X a x y) ≡ climbedOf (joinOn X a l r)
+same-join X a x y l r e f = ap₂ (λ (i j : Option Reached). climbedOf (joinOn X a i j)) (sym e) (sym f)
 
-left-is : (l : tie.After-left) → heard (l .before .before .before .args .left)
+left-is : (l : tie.After-left) → reachedIn (l .before .before .before .args .left)
     ≡ some (l .left .given .0 .0)
-left-is l = ap heard (l .left .given .1)
+left-is l = ap reachedIn (l .left .given .1)
 
-right-is : (r : tie.After-right) → heard (r .before .before .before .before .before .before .args .right)
+right-is : (r : tie.After-right) → reachedIn (r .before .before .before .before .before .before .args .right)
     ≡ some (r .right .given .0 .0)
-right-is r = ap heard (r .right .given .1)
+right-is r = ap reachedIn (r .right .given .1)
 
 left-few : (l : tie.After-left)
     → Few (l .before .before .before .args .s) (l .left .given .0 .0)
@@ -101,13 +101,13 @@ returns-3 c =
     let l = c .before .before .before in
     let s = l .before .before .before in
     join-right (view s) (s .args .a) _
-    ∙ same-join (view s) (s .args .a) _ _ _ _ (left-is l) (ap heard (c .enum-told .given .1))
+    ∙ same-join (view s) (s .args .a) _ _ _ _ (left-is l) (ap reachedIn (c .enum-told .given .1))
 
 returns-4 : tie.Need-returns-4
 returns-4 c =
     let s = c .before .before .before in
-    join-left (view s) (s .args .a) (heard (s .args .right))
-    ∙ same-join (view s) (s .args .a) _ _ _ _ (ap heard (c .enum-told2 .given .1)) refl
+    join-left (view s) (s .args .a) (reachedIn (s .args .right))
+    ∙ same-join (view s) (s .args .a) _ _ _ _ (ap reachedIn (c .enum-told2 .given .1)) refl
 
 pub join-on-spec : {M : Type 1} → statement M
 join-on-spec =

@@ -10,9 +10,9 @@ use lib.Seq.{length-take-le}
 use Rattle.formats.specs.Rules.{ruleLength}
 use Rattle.formats.specs.Buffers.{limitsFit, buffersFit}
 use Rattle.formats.proofs.BufferLaws.{limits-are}
-use Rattle.questions.specs.PartTold.{askedFits}
+use Rattle.questions.specs.PartAnswers.{askedFits}
 use Rattle.questions.proofs.PartFits.{given-limits, given-lengths, given-asked}
-use Rattle.questions.proofs.PartHanded.{Fit, fit-by, part-args, part-told}
+use Rattle.questions.proofs.PartHanded.{Fit, fit-by, part-args, part-answer}
 use Rattle.questions.proofs.Promised.{part-done}
 use Rattle.questions.proofs.part.part.Statement.{statement}
 use Rattle.questions.proofs.part.part.Tie as tie
@@ -24,8 +24,8 @@ limits : (c : tie.Else1) → let g = start (c .before) .args in limitsFit (g .n)
 limits c = sym (c .before .limits-fit .ensures) ∙ not-false _ (c .if1 .left)
 
 lengths : (c : tie.Else2) → let g = start (c .before .before .before) .args in
-    buffersFit (g .n) (g .s) (ruleLength (g .s) (g .k)) (length (g .plan .now)) (length (g .rules .now)) (length (g .nums .now))
-    (length (g .bytes .now)) ≡ true
+    buffersFit (g .n) (g .s) (ruleLength (g .s) (g .k)) (length (g .plan .now)) (length (g .rules .now)) (length (g .node-table .now))
+    (length (g .state-table .now)) ≡ true
 lengths c = sym (c .before .rule-buffers-fit .ensures) ∙ not-false _ (c .if2 .left)
 
 asked : (c : tie.Else3) → let g = start (c .before .before .before .before .before) .args in
@@ -33,7 +33,7 @@ asked : (c : tie.Else3) → let g = start (c .before .before .before .before .be
 asked c = sym (c .before .asked-fits .ensures) ∙ not-false _ (c .if3 .left)
 
 fit : (c : tie.Else3) → let g = start (c .before .before .before .before .before) .args in
-    Fit (g .n) (g .s) (g .k) (g .plan .now) (g .rules .now) (g .nums .now) (g .bytes .now) (g .roots .now)
+    Fit (g .n) (g .s) (g .k) (g .plan .now) (g .rules .now) (g .node-table .now) (g .state-table .now) (g .roots .now)
     (g .states .now)
     (g .nodes .now) (g .labels .now)
 fit c = fit-by _ _ _ _ _ _ _ _ _ _ _ (limits (c .before .before .before .before)) (lengths (c .before .before))
@@ -142,7 +142,7 @@ mul-part-on-4 c = omega (arith, fit (c .before .before .before .before .before))
 
 slice-aggregate-part-on-2 : tie.Need-slice-aggregate-part-on-2
 slice-aggregate-part-on-2 c =
-    sym (length-take-le _ _ (fit (c .before .before .before .before .before .before) .lengths .bytes-room))
+    sym (length-take-le _ _ (fit (c .before .before .before .before .before .before) .lengths .state-table-room))
 
 slice-aggregate-part-on-3 : tie.Need-slice-aggregate-part-on-3
 slice-aggregate-part-on-3 c =
@@ -169,7 +169,7 @@ returns-4 : tie.Need-returns-4
 returns-4 c =
     let e = c .before .before .before .before .before .before .before .before .before in
     part-done _ _ _ _ _ _ _ _ _ _ _ _
-    (part-told _ _ _ _ _ _ _ _ _ _ _ (limits (e .before .before .before .before)) (lengths (e .before .before)) (asked e)
+    (part-answer _ _ _ _ _ _ _ _ _ _ _ (limits (e .before .before .before .before)) (lengths (e .before .before)) (asked e)
     (c .part-on .result) (c .part-on .ensures))
 
 pub part-spec : {M : Type 1} → statement M

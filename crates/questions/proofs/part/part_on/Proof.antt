@@ -4,15 +4,15 @@ use borrow.Author.Needs.{needs}
 use Prim.Native.Nat.{_-_}
 use Rattle.tables.specs.Climbs.{View}
 use Rattle.questions.specs.PartArgs.{partView}
-use Rattle.questions.proofs.PartTurns.{part-leaf, part-first, part-outside, part-fork}
+use Rattle.questions.proofs.PartLoop.{part-leaf, part-first, part-outside, part-fork}
 use Rattle.questions.proofs.part.part_on.Statement.{statement}
 use Rattle.questions.proofs.part.part_on.Tie as tie
 
 abbrev view : tie.Start → View
 view s =
     let g = s .args in
-    partView (g .n) (g .s) (g .k) (g .labels .now) (g .kinds .now) (g .leaves .now) (g .inner .now) (g .nums .now)
-    (g .bytes .now)
+    partView (g .n) (g .s) (g .k) (g .labels .now) (g .kinds .now) (g .leaves .now) (g .inner .now) (g .node-table .now)
+    (g .state-table .now)
 
 abbrev start : tie.After-label-on → tie.Start
 start a = a .before .before .before .before .before .before .before .before .before .before .before

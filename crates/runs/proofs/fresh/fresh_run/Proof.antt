@@ -6,7 +6,7 @@ use mathlib.Core.Path.{sym, _∙_}
 use Rattle.formats.specs.Plan.{nodeCount}
 use Rattle.formats.specs.Rules.{stateCount, labelCount}
 use Rattle.runs.specs.Pass.{RunArgs}
-use Rattle.runs.proofs.RunLaws.{run-args, done-told, done-refused}
+use Rattle.runs.proofs.RunLaws.{run-args, done-answer, done-refused}
 use Rattle.runs.proofs.fresh.fresh_run.Statement.{statement}
 use Rattle.runs.proofs.fresh.fresh_run.Tie as tie
 use Rattle.runs.proofs.fresh.fresh_run.Reads as reads
@@ -51,7 +51,7 @@ run-passed-requires c κs =
 returns-2 : tie.Need-returns-2
 returns-2 c =
     let a = c .before .before .before .before .before .before .before .before .before .before .args in
-    done-told (a .plan .now) (a .rules .now) (a .nodes .now) (a .labels .now) (c .run-passed .ensures)
+    done-answer (a .plan .now) (a .rules .now) (a .nodes .now) (a .labels .now) (c .run-passed .ensures)
 
 pub fresh-run-spec : {M : Type 1} → statement M
 fresh-run-spec =

@@ -3,7 +3,7 @@
 -- Assumes nothing.
 use native.Mathlib.Omega.{arith}
 use borrow.Author.Needs.{needs}
-use Rattle.runs.proofs.RunLaws.{parts-args, root-in, told-is}
+use Rattle.runs.proofs.RunLaws.{parts-args, root-in, result-is}
 use Rattle.runs.proofs.fresh.run_passed.Statement.{statement}
 use Rattle.runs.proofs.fresh.run_passed.Tie as tie
 use Rattle.runs.proofs.fresh.run_passed.Reads as reads
@@ -87,7 +87,7 @@ shared-slice-read-t31 c =
 returns : tie.Need-returns
 returns c =
     let p = c .before .before .before .before .before .before .before .before .before .before .pre in
-    told-is p (c .before .pass .ensures)
+    result-is p (c .before .pass .ensures)
 
 pub run-passed-spec : {M : Type 1} → statement M
 run-passed-spec =

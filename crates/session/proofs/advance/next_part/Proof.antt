@@ -51,7 +51,7 @@ part-requires : tie.Need-part-requires
 part-requires c κs = search needs
 
 returns : tie.Need-returns
-returns c = c .part .ensures .told
+returns c = c .part .ensures .result
 
 pub next-part-spec : {M : Type 1} → statement M
 next-part-spec =

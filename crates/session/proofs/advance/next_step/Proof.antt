@@ -23,7 +23,7 @@ of a =
     let b = at a .args in whole (b .h) (b .nodes .now) (b .labels .now) (b .roots .now) (b .states .now)
 
 abbrev lent : tie.After-allowed → Inputs
-lent a = let b = at a .args in inputsOf (b .plan .now) (b .rules .now) (b .nums .now) (b .bytes .now)
+lent a = let b = at a .args in inputsOf (b .plan .now) (b .rules .now) (b .node-table .now) (b .state-table .now)
 
 may : (a : tie.After-allowed) → a .allowed .result ≡ (valid (of a) && isRunning (phaseOf (of a .head .phase)))
 may a = allowed-by isRunning (of a) _ _ (a .before .may-advance .ensures) (a .allowed .ensures)

@@ -2,7 +2,7 @@ use Prim.Native.Nat.{ℕ, _+_, _-_, _*_, _<_}
 use mathlib.Core.Path.{_≡_, subst}
 use native.Mathlib.Omega.{arith}
 use lib.ListN.{length, getD}
-use Rattle.tables.proofs.MapHalves.{Turned, turned-start, turned-turn, turned-done, turned-lost}
+use Rattle.tables.proofs.MapHalves.{Iterated, iterated-start, iterated-iteration, iterated-done, iterated-lost}
 use borrow.Author.Needs.{needs}
 use Rattle.tables.proofs.branch_climb.after_map.Statement.{statement}
 use Rattle.tables.proofs.branch_climb.after_map.Tie as tie
@@ -11,7 +11,7 @@ use Rattle.tables.proofs.branch_climb.after_map.Lts as lts
 
 abbrev Inv-loop : tie.InvT-loop
 Inv-loop maps₀ here from at stride s there q₀ maps q =
-    Turned s (λ (i : ℕ). getD from (at + i * stride) 0) here maps₀ q maps
+    Iterated s (λ (i : ℕ). getD from (at + i * stride) 0) here maps₀ q maps
 
 abbrev μ-loop : tie.MeasureT-loop
 μ-loop maps₀ here from at stride s there q₀ maps q = s - q
@@ -29,7 +29,7 @@ sub-there : tie.Need-sub-there Inv-loop μ-loop
 sub-there c = search needs
 
 loop-holds : tie.Need-loop-holds Inv-loop μ-loop
-loop-holds c = turned-start _ _ _ _ (c .pre .halves)
+loop-holds c = iterated-start _ _ _ _ (c .pre .halves)
 
 mul-x : tie.Need-mul-x Inv-loop μ-loop
 mul-x c = omega (arith, inside c)
@@ -52,7 +52,7 @@ returns : tie.Need-returns Inv-loop μ-loop
 returns c =
     let a = c .before .before .before in
     let s = a .before in
-    turned-lost (s .args .s) (read s) (s .args .here) (s .args .maps .now) (a .loop .q) (a .loop .maps)
+    iterated-lost (s .args .s) (read s) (s .args .here) (s .args .maps .now) (a .loop .q) (a .loop .maps)
     (c .before .before .loop-test .taken) (c .if1 .taken) (a .loop .inv)
 
 add-maps : tie.Need-add-maps Inv-loop μ-loop
@@ -77,7 +77,7 @@ loop-again : tie.Need-loop-again Inv-loop μ-loop
 loop-again c =
     let a = c .before .before .before .before in
     let s = a .before in
-    turned-turn (s .args .s) (read s) (s .args .here) (s .args .maps .now) (s .pre .halves) (a .loop .q) (a .loop .maps)
+    iterated-iteration (s .args .s) (read s) (s .args .here) (s .args .maps .now) (s .pre .halves) (a .loop .q) (a .loop .maps)
     (c .before .before .before .loop-test .taken) (c .before .if1 .left) (a .loop .inv)
 
 same-length-2 : tie.Need-same-length-2 Inv-loop μ-loop
@@ -88,8 +88,8 @@ returns-2 c =
     let a = c .before in
     let s = a .before in
     let e : a .loop .q ≡ s .args .s = omega (arith, a .loop .inv .most, c .loop-test .left) in
-    turned-done (s .args .s) (read s) (s .args .here) (s .args .maps .now) (a .loop .maps) (s .pre .halves)
-    (subst (λ (n : ℕ). Turned (s .args .s) (read s) (s .args .here) (s .args .maps .now) n (a .loop .maps)) e
+    iterated-done (s .args .s) (read s) (s .args .here) (s .args .maps .now) (a .loop .maps) (s .pre .halves)
+    (subst (λ (n : ℕ). Iterated (s .args .s) (read s) (s .args .here) (s .args .maps .now) n (a .loop .maps)) e
     (a .loop .inv))
 
 pub after-map-spec : {M : Type 1} → statement M

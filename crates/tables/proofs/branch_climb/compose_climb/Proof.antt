@@ -1,11 +1,11 @@
 use Prim.Native.Nat.{_+_, _*_, _<_}
 use native.Mathlib.Omega.{arith}
 use borrow.Author.Tests.{not-true, not-false}
-use Rattle.links.specs.Cells.{depthCell}
-use Rattle.tables.proofs.ComposeTurns.{Climbing, climbing-start, climbing-turn, climbing-rises}
-use Rattle.tables.proofs.ComposeTurns.{climbing-done, climbing-lost}
+use Rattle.node_tables.specs.Cells.{depthCell}
+use Rattle.tables.proofs.ComposeLoop.{Climbing, climbing-start, climbing-iteration, climbing-rises}
+use Rattle.tables.proofs.ComposeLoop.{climbing-done, climbing-lost}
 use borrow.Author.Needs.{needs}
-use Rattle.links.proofs.moves.depth_at.Reads as depth-at-reads
+use Rattle.node_tables.proofs.moves.depth_at.Reads as depth-at-reads
 use Rattle.tables.proofs.branch_climb.compose_climb.Statement.{statement}
 use Rattle.tables.proofs.branch_climb.compose_climb.Tie as tie
 use Rattle.tables.proofs.branch_climb.compose_climb.Reads as reads
@@ -13,15 +13,15 @@ use Rattle.tables.proofs.branch_climb.compose_climb.Lts as lts
 use Rattle.tables.proofs.branch_climb.compose_move.Reads as compose-move-reads
 
 abbrev Inv-loop : tie.InvT-loop
-Inv-loop maps₀ labels steps nums bytes n s k from to v₀ here₀ links₀ maps v here links =
-    Climbing n s k labels steps nums bytes from to maps₀ maps here v links
+Inv-loop maps₀ labels steps nodeTable stateTable n s k from to v₀ here₀ links₀ maps v here links =
+    Climbing n s k labels steps nodeTable stateTable from to maps₀ maps here v links
 
 abbrev μ-loop : tie.MeasureT-loop
-μ-loop maps₀ labels steps nums bytes n s k from to v₀ here₀ links₀ maps v here links = depthCell nums v
+μ-loop maps₀ labels steps nodeTable stateTable n s k from to v₀ here₀ links₀ maps v here links = depthCell nodeTable v
 
 deeper : (c : tie.Then1 Inv-loop μ-loop)
     → c .before .before .before .before .before .before .before .before .args .to
-    < depthCell (c .before .before .before .before .before .before .before .before .args .nums .now)
+    < depthCell (c .before .before .before .before .before .before .before .before .args .node-table .now)
     (c .before .before .loop .v)
 deeper c = omega (arith, c .if1 .taken, c .before .depth-at .ensures)
 
@@ -31,7 +31,7 @@ loop-holds c =
     climbing-start _ _ _ _ _ _ _ _ _ (s .args .maps .now) (s .pre .at) (s .pre .halves)
 
 depth-at-requires : tie.Need-depth-at-requires Inv-loop μ-loop
-depth-at-requires c κs = omega (arith, c .loop .inv .inside, c .before .before .before .before .before .before .pre .nums-room)
+depth-at-requires c κs = omega (arith, c .loop .inv .inside, c .before .before .before .before .before .before .pre .node-table-room)
 
 compose-move-requires : tie.Need-compose-move-requires Inv-loop μ-loop
 compose-move-requires c κs =
@@ -43,8 +43,8 @@ compose-move-requires c κs =
       most = p .most;
       labels-room = p .labels-room;
       steps-room = p .steps-room;
-      nums-room = p .nums-room;
-      bytes-room = p .bytes-room;
+      node-table-room = p .node-table-room;
+      state-table-room = p .state-table-room;
     }
 
 same-length : tie.Need-same-length Inv-loop μ-loop
@@ -86,7 +86,7 @@ loop-again c =
     let m = c .before .before .before .before in
     let t = m .before .before in
     let a = t .before .before in
-    climbing-turn _ _ _ _ _ _ _ _ _ _ (a .loop .maps) (a .loop .here) (a .loop .v) (a .loop .links) (a .loop .inv) (deeper t)
+    climbing-iteration _ _ _ _ _ _ _ _ _ _ (a .loop .maps) (a .loop .here) (a .loop .v) (a .loop .links) (a .loop .inv) (deeper t)
     (m .compose-move .result) _ (m .compose-move .ensures) (not-false _ (c .if2 .left))
 
 same-length-2 : tie.Need-same-length-2 Inv-loop μ-loop

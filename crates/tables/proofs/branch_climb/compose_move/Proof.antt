@@ -5,12 +5,12 @@ use mathlib.Core.Option.{Option}
 use native.Mathlib.Omega.{arith}
 use lib.ListN.{length}
 use Rattle.trees.specs.Climb.{Forest, Move}
-use Rattle.links.specs.Cells.{cellForest}
+use Rattle.node_tables.specs.Cells.{cellForest}
 use Rattle.tables.specs.Compose.{mapAt, Followed, runMove}
 use Rattle.tables.proofs.MoveMaps.{jump-at, jump-reads, run-jump, run-parent}
 use Rattle.tables.proofs.MovedLaws.{moved-jump, moved-parent, moved-stuck}
 use borrow.Author.Needs.{needs}
-use Rattle.links.proofs.moves.next_move.Reads as next-move-reads
+use Rattle.node_tables.proofs.moves.next_move.Reads as next-move-reads
 use Rattle.tables.proofs.branch_climb.compose_move.Statement.{statement}
 use Rattle.tables.proofs.branch_climb.compose_move.Tie as tie
 use Rattle.tables.proofs.branch_climb.compose_move.Reads as reads
@@ -19,17 +19,17 @@ use Rattle.tables.proofs.branch_climb.after_label.Reads as after-label-
 use Rattle.tables.proofs.branch_climb.after_map.Reads as after-map-reads
 
 abbrev forest : tie.Start → Forest
-forest s = cellForest (s .args .n) (s .args .nums .now)
+forest s = cellForest (s .args .n) (s .args .node-table .now)
 
 abbrev act : tie.Start → Move → List ℕ → Option (List ℕ)
-act s = runMove (s .args .s) (s .args .k) (s .args .labels .now) (s .args .steps .now) (s .args .bytes .now)
+act s = runMove (s .args .s) (s .args .k) (s .args .labels .now) (s .args .steps .now) (s .args .state-table .now)
 
 -- the map carried
 abbrev carried : tie.Start → List ℕ
 carried s = mapAt (s .args .s) (s .args .maps .now) (s .args .here)
 
-map-at : (s : tie.Start) → s .args .v * (s .args .s + 1) + 1 ≤ length (s .args .bytes .now)
-map-at s = jump-at (s .args .s) (s .args .bytes .now) (s .args .v) (s .args .n) (s .pre .at) (s .pre .bytes-room)
+map-at : (s : tie.Start) → s .args .v * (s .args .s + 1) + 1 ≤ length (s .args .state-table .now)
+map-at s = jump-at (s .args .s) (s .args .state-table .now) (s .args .v) (s .args .n) (s .pre .at) (s .pre .state-table-room)
 
 next-move-requires : tie.Need-next-move-requires
 next-move-requires c κs = search needs
@@ -49,8 +49,8 @@ add-after-map-2 c = omega (arith, map-at (c .before .before .before .before .bef
 after-map-requires : tie.Need-after-map-requires
 after-map-requires c κs =
     let s = c .before .before .before .before .before .before .before .before .before .before in
-    jump-reads (s .args .s) (s .args .bytes .now) (s .args .v) (s .args .maps .now) (s .args .here) (s .args .n)
-    (s .pre .halves) (s .pre .at) (s .pre .bytes-room)
+    jump-reads (s .args .s) (s .args .state-table .now) (s .args .v) (s .args .maps .now) (s .args .here) (s .args .n)
+    (s .pre .halves) (s .pre .at) (s .pre .state-table-room)
 
 enum-known-p : tie.Need-enum-known-p
 enum-known-p c = search needs
@@ -72,7 +72,7 @@ returns c =
     let t = m .before .before .before in
     moved-jump (forest s) (act s) (carried s) (g .v) (g .to) (g .s) (g .here) _ (t .j .given .0 .0) (m .after-map .result)
     (sym (t .j .given .1) ∙ t .before .before .next-move .ensures)
-    (subst (Followed _ _ _ _) (sym (run-jump (g .s) (g .k) (g .labels .now) (g .steps .now) (g .bytes .now) (g .v)
+    (subst (Followed _ _ _ _) (sym (run-jump (g .s) (g .k) (g .labels .now) (g .steps .now) (g .state-table .now) (g .v)
     (carried s))) (m .after-map .ensures))
 
 same-length-2 : tie.Need-same-length-2
@@ -86,7 +86,7 @@ returns-2 c =
     let t = m .before .before .before in
     moved-parent (forest s) (act s) (carried s) (g .v) (g .to) (g .s) (g .here) _ (t .p .given .0 .0) (m .after-label .result)
     (sym (t .p .given .1) ∙ t .before .before .next-move .ensures)
-    (subst (Followed _ _ _ _) (sym (run-parent (g .s) (g .k) (g .labels .now) (g .steps .now) (g .bytes .now) (g .v)
+    (subst (Followed _ _ _ _) (sym (run-parent (g .s) (g .k) (g .labels .now) (g .steps .now) (g .state-table .now) (g .v)
     (carried s))) (m .after-label .ensures))
 
 returns-3 : tie.Need-returns-3

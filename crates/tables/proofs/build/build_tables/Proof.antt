@@ -3,7 +3,7 @@
 use mathlib.Core.Path.{sym, _∙_}
 use lib.ListN.{length}
 use Rattle.formats.specs.Checks.{firstNo, buildChecks}
-use Rattle.formats.specs.Built.{builtLinks, builtStates}
+use Rattle.formats.specs.Built.{builtNodeTable, builtStateTable}
 use Rattle.tables.specs.Written.{Passed}
 use Rattle.tables.proofs.BuildLaws.{plan-headed, rules-headed, build-args, build-refused, build-done}
 use native.Mathlib.Omega.{arith}
@@ -15,8 +15,8 @@ use Rattle.tables.proofs.build.build_tables.Tie as tie
 passed : (c : tie.Else1)
     → Passed (c .before .before .before .before .before .before .args .plan .now)
     (c .before .before .before .before .before .before .args .rules .now)
-    (c .before .before .before .before .before .before .args .nums .now)
-    (c .before .before .before .before .before .before .args .bytes .now)
+    (c .before .before .before .before .before .before .args .node-table .now)
+    (c .before .before .before .before .before .before .args .state-table .now)
 passed c = sym (c .before .check-build .ensures) ∙ c .if1 .left
 
 check-build-requires : tie.Need-check-build-requires
@@ -26,10 +26,10 @@ returns : tie.Need-returns
 returns c =
     let k = c .before in
     let s = k .before .before .before .before .before in
-    build-refused (builtLinks (s .args .plan .now)) (builtStates (s .args .plan .now) (s .args .rules .now))
-    (s .args .nums .now) (s .args .bytes .now)
-    (firstNo (buildChecks (s .args .plan .now) (s .args .rules .now) (length (s .args .nums .now))
-    (length (s .args .bytes .now))))
+    build-refused (builtNodeTable (s .args .plan .now)) (builtStateTable (s .args .plan .now) (s .args .rules .now))
+    (s .args .node-table .now) (s .args .state-table .now)
+    (firstNo (buildChecks (s .args .plan .now) (s .args .rules .now) (length (s .args .node-table .now))
+    (length (s .args .state-table .now))))
     (k .check-build .result) (k .check-build .ensures) (c .if1 .taken)
 
 read32-requires : tie.Need-read32-requires
@@ -37,7 +37,7 @@ read32-requires c κs =
     let s = c .before .before .before .before .before .before in
     omega (
       arith,
-      plan-headed (s .args .plan .now) (s .args .rules .now) (s .args .nums .now) (s .args .bytes .now)
+      plan-headed (s .args .plan .now) (s .args .rules .now) (s .args .node-table .now) (s .args .state-table .now)
           (passed c),
     )
 
@@ -46,7 +46,7 @@ read32-requires-2 c κs =
     let s = c .before .before .before .before .before .before .before in
     omega (
       arith,
-      rules-headed (s .args .plan .now) (s .args .rules .now) (s .args .nums .now) (s .args .bytes .now)
+      rules-headed (s .args .plan .now) (s .args .rules .now) (s .args .node-table .now) (s .args .state-table .now)
           (passed (c .before)),
     )
 
@@ -55,7 +55,7 @@ read32-requires-3 c κs =
     let s = c .before .before .before .before .before .before .before .before in
     omega (
       arith,
-      rules-headed (s .args .plan .now) (s .args .rules .now) (s .args .nums .now) (s .args .bytes .now)
+      rules-headed (s .args .plan .now) (s .args .rules .now) (s .args .node-table .now) (s .args .state-table .now)
           (passed (c .before .before)),
     )
 
@@ -64,7 +64,7 @@ write-tables-requires c κs =
     let k = c .before .before in
     let e = k .before .before .before in
     let s = e .before .before .before .before .before .before in
-    build-args (s .args .plan .now) (s .args .rules .now) (s .args .nums .now) (s .args .bytes .now)
+    build-args (s .args .plan .now) (s .args .rules .now) (s .args .node-table .now) (s .args .state-table .now)
     (k .before .before .read32 .result) (k .before .read322 .result) (k .read323 .result)
     (passed e) (k .before .before .read32 .ensures) (k .before .read322 .ensures) (k .read323 .ensures)
 
@@ -79,10 +79,10 @@ returns-2 c =
     let w = c .before .before .before .before in
     let e = w .before .before .before .before .before .before in
     let s = e .before .before .before .before .before .before in
-    build-done (builtLinks (s .args .plan .now)) (builtStates (s .args .plan .now) (s .args .rules .now))
-    (s .args .nums .now) (s .args .bytes .now)
-    (firstNo (buildChecks (s .args .plan .now) (s .args .rules .now) (length (s .args .nums .now))
-    (length (s .args .bytes .now))))
+    build-done (builtNodeTable (s .args .plan .now)) (builtStateTable (s .args .plan .now) (s .args .rules .now))
+    (s .args .node-table .now) (s .args .state-table .now)
+    (firstNo (buildChecks (s .args .plan .now) (s .args .rules .now) (length (s .args .node-table .now))
+    (length (s .args .state-table .now))))
     (w .write-tables .last .1 .1 .1 .1 .1 .0) (w .write-tables .last .1 .1 .1 .1 .1 .1 .0) (passed e)
     (w .write-tables .ensures .links) (w .write-tables .ensures .states)
 

@@ -15,22 +15,22 @@ inner-count-requires c κs = search needs
 add-end-2 : tie.Need-add-end-2
 add-end-2 c = search needs
 
-add-build-links : tie.Need-add-build-links
-add-build-links c = search needs
+add-build-node-table : tie.Need-add-build-node-table
+add-build-node-table c = search needs
 
-sub-build-links : tie.Need-sub-build-links
-sub-build-links c = search needs
+sub-build-node-table : tie.Need-sub-build-node-table
+sub-build-node-table c = search needs
 
-part-build-links-start : tie.Need-part-build-links-start
-part-build-links-start c = search needs
+part-build-node-table-start : tie.Need-part-build-node-table-start
+part-build-node-table-start c = search needs
 
-part-build-links-end : tie.Need-part-build-links-end
-part-build-links-end c = search needs
+part-build-node-table-end : tie.Need-part-build-node-table-end
+part-build-node-table-end c = search needs
 
-build-links-requires : tie.Need-build-links-requires
-build-links-requires c κs =
+build-node-table-requires : tie.Need-build-node-table-requires
+build-node-table-requires c κs =
     let s = c .before .before .before .before .before .before .before in
-    link-args-of (s .args .plan .now) (s .args .rules .now) (s .args .nums .now) (s .args .bytes .now) (s .args .n)
+    link-args-of (s .args .plan .now) (s .args .rules .now) (s .args .node-table .now) (s .args .state-table .now) (s .args .n)
     (s .args .s) (s .args .k) (s .pre)
 
 add-write-states : tie.Need-add-write-states
@@ -86,9 +86,9 @@ write-states-requires c κs =
     let l = c .before .before .before .before .before .before .before .before in
     let i = l .before .before .before in
     let s = i .before .before .before .before .before in
-    table-args-of (s .args .plan .now) (s .args .rules .now) (s .args .nums .now) (s .args .bytes .now) (s .args .n)
+    table-args-of (s .args .plan .now) (s .args .rules .now) (s .args .node-table .now) (s .args .state-table .now) (s .args .n)
     (s .args .s) (s .args .k) (s .pre)
-    (l .build-links .last .1 .0) (omega arith) (l .build-links .ensures) (i .inner-count .result)
+    (l .build-node-table .last .1 .0) (omega arith) (l .build-node-table .ensures) (i .inner-count .result)
     (i .inner-count .ensures .value)
 
 same-length : tie.Need-same-length
@@ -103,9 +103,9 @@ returns c =
     let l = w .before .before .before .before .before .before .before .before .before in
     let i = l .before .before .before in
     let s = i .before .before .before .before .before in
-    both-written-of (s .args .plan .now) (s .args .rules .now) (s .args .nums .now) (s .args .bytes .now) (s .args .n)
+    both-written-of (s .args .plan .now) (s .args .rules .now) (s .args .node-table .now) (s .args .state-table .now) (s .args .n)
     (s .args .s) (s .args .k) (s .pre)
-    (l .build-links .last .1 .0) (omega arith) (l .build-links .ensures) (i .inner-count .result)
+    (l .build-node-table .last .1 .0) (omega arith) (l .build-node-table .ensures) (i .inner-count .result)
     (i .inner-count .ensures .value)
     (w .write-states .last .1 .1 .1 .1 .1 .1 .1 .0) (w .write-states .ensures)
 
@@ -116,11 +116,11 @@ write-tables-spec =
     add-end
     inner-count-requires
     add-end-2
-    add-build-links
-    sub-build-links
-    part-build-links-start
-    part-build-links-end
-    build-links-requires
+    add-build-node-table
+    sub-build-node-table
+    part-build-node-table-start
+    part-build-node-table-end
+    build-node-table-requires
     add-write-states
     sub-write-states
     part-write-states-start

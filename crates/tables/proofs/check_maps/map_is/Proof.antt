@@ -2,7 +2,7 @@
 -- Assumes nothing.
 use Prim.Native.Nat.{_+_, _*_}
 use mathlib.Core.Path.{_∙_}
-use Rattle.links.specs.Cells.{parentCell}
+use Rattle.node_tables.specs.Cells.{parentCell}
 use Rattle.tables.proofs.MapPlaces.{base-args}
 use Rattle.tables.proofs.CheckMapPlaces.{near-is-args, far-is-args, near-is-row, far-is-row}
 use native.Mathlib.Omega.{arith}
@@ -29,13 +29,13 @@ cast-a : tie.Need-cast-a
 cast-a c =
     let s = c .before .before .before .before .before .before in
     let g = s .args in
-    omega (arith, c .shared-slice-known6 .given (parentCell (g .nums .now) (g .v)))
+    omega (arith, c .shared-slice-known6 .given (parentCell (g .node-table .now) (g .v)))
 
 near-base-requires : tie.Need-near-base-requires
 near-base-requires c κs =
     let s = c .before .before .before .before .before .before in
     let g = s .args in
-    base-args (g .labels .now) (g .nums .now) (g .inner .now) (g .s) (g .k) (g .bytes .now) (g .v) (s .pre)
+    base-args (g .labels .now) (g .node-table .now) (g .inner .now) (g .s) (g .k) (g .state-table .now) (g .v) (s .pre)
 
 near-step-requires : tie.Need-near-step-requires
 near-step-requires c κs = search needs
@@ -64,7 +64,7 @@ near-row-is-requires c κs =
     let g = s .args in
     let nb = c .before .before .before .near-base in
     let ns = c .before .before .near-step in
-    near-is-args (g .labels .now) (g .nums .now) (g .inner .now) (g .s) (g .k) (g .bytes .now)
+    near-is-args (g .labels .now) (g .node-table .now) (g .inner .now) (g .s) (g .k) (g .state-table .now)
     (g .v) (s .pre) (nb .result) (ns .result) (nb .ensures) (ns .ensures)
 
 returns : tie.Need-returns
@@ -73,7 +73,7 @@ returns c =
     let g = s .args in
     let nb = c .before .before .before .before .near-base in
     let ns = c .before .before .before .near-step in
-    c .near-row-is .ensures ∙ near-is-row (g .labels .now) (g .nums .now) (g .inner .now) (g .s) (g .k) (g .bytes .now)
+    c .near-row-is .ensures ∙ near-is-row (g .labels .now) (g .node-table .now) (g .inner .now) (g .s) (g .k) (g .state-table .now)
     (g .v) (s .pre) (nb .result) (ns .result) (nb .ensures) (ns .ensures) (c .before .if1 .taken)
 
 mul-far-row-is : tie.Need-mul-far-row-is
@@ -97,7 +97,7 @@ far-row-is-requires c κs =
     let g = s .args in
     let nb = c .before .before .before .before .near-base in
     let ns = c .before .before .before .near-step in
-    far-is-args (g .labels .now) (g .nums .now) (g .inner .now) (g .s) (g .k) (g .bytes .now)
+    far-is-args (g .labels .now) (g .node-table .now) (g .inner .now) (g .s) (g .k) (g .state-table .now)
     (g .v) (s .pre) (nb .result) (ns .result) (nb .ensures) (ns .ensures)
 
 returns-2 : tie.Need-returns-2
@@ -106,7 +106,7 @@ returns-2 c =
     let g = s .args in
     let nb = c .before .before .before .before .before .near-base in
     let ns = c .before .before .before .before .near-step in
-    c .far-row-is .ensures ∙ far-is-row (g .labels .now) (g .nums .now) (g .inner .now) (g .s) (g .k) (g .bytes .now)
+    c .far-row-is .ensures ∙ far-is-row (g .labels .now) (g .node-table .now) (g .inner .now) (g .s) (g .k) (g .state-table .now)
     (g .v) (s .pre) (nb .result) (ns .result) (nb .ensures) (ns .ensures) (c .before .before .if1 .left)
 
 pub map-is-spec : {M : Type 1} → statement M

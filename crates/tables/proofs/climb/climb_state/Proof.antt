@@ -2,28 +2,28 @@
 -- Assumes nothing.
 use Prim.Native.Nat.{_+_, _*_, _<_}
 use native.Mathlib.Omega.{arith}
-use Rattle.links.specs.Cells.{depthCell}
+use Rattle.node_tables.specs.Cells.{depthCell}
 use Rattle.tables.specs.Climbs.{View}
 use Rattle.tables.specs.PathViews.{pathView}
-use Rattle.tables.proofs.ClimbTurns.{Climbing, climbing-start, climbing-turn}
-use Rattle.tables.proofs.ClimbTurns.{climbing-rises, climbing-done, climbing-lost}
+use Rattle.tables.proofs.ClimbLoop.{Climbing, climbing-start, climbing-iteration}
+use Rattle.tables.proofs.ClimbLoop.{climbing-rises, climbing-done, climbing-lost}
 use Rattle.tables.proofs.climb.climb_state.Statement.{statement}
 use Rattle.tables.proofs.climb.climb_state.Tie as tie
 
 abbrev Inv-loop : tie.InvT-loop
-Inv-loop labels inner nums bytes n s k from to q v₀ x₀ links₀ v x links =
-    Climbing (pathView n s k labels inner nums bytes) from to q v x links
+Inv-loop labels inner nodeTable stateTable n s k from to q v₀ x₀ links₀ v x links =
+    Climbing (pathView n s k labels inner nodeTable stateTable) from to q v x links
 
 abbrev μ-loop : tie.MeasureT-loop
-μ-loop labels inner nums bytes n s k from to q v₀ x₀ links₀ v x links = depthCell nums v
+μ-loop labels inner nodeTable stateTable n s k from to q v₀ x₀ links₀ v x links = depthCell nodeTable v
 
 abbrev view : tie.Start Inv-loop μ-loop → View
 view s =
     let g = s .args in
-    pathView (g .n) (g .s) (g .k) (g .labels .now) (g .inner .now) (g .nums .now) (g .bytes .now)
+    pathView (g .n) (g .s) (g .k) (g .labels .now) (g .inner .now) (g .node-table .now) (g .state-table .now)
 
 deeper : (c : tie.Then1 Inv-loop μ-loop) → let s = c .before .before .before .before .before .before .before in
-    s .args .to < depthCell (s .args .nums .now) (c .before .before .loop .v)
+    s .args .to < depthCell (s .args .node-table .now) (c .before .before .loop .v)
 deeper c = omega (arith, c .if1 .taken, c .before .depth-at .ensures)
 
 loop-holds : tie.Need-loop-holds Inv-loop μ-loop
@@ -33,7 +33,7 @@ loop-holds c =
 
 depth-at-requires : tie.Need-depth-at-requires Inv-loop μ-loop
 depth-at-requires c κs =
-    omega (arith, c .loop .inv .inside, c .before .before .before .before .before .pre .path .nums-room)
+    omega (arith, c .loop .inv .inside, c .before .before .before .before .before .pre .path .node-table-room)
 
 step-on-requires : tie.Need-step-on-requires Inv-loop μ-loop
 step-on-requires c κs =
@@ -77,7 +77,7 @@ loop-again c =
     let m = c .before in
     let a = m .before .before .before in
     let s = a .before .before .before .before .before in
-    climbing-turn (view s) (s .args .from) (s .args .to) (s .args .q) (a .loop .v) (a .loop .x) (a .loop .links)
+    climbing-iteration (view s) (s .args .from) (s .args .to) (s .args .q) (a .loop .v) (a .loop .x) (a .loop .links)
     (a .loop .inv) (deeper (m .before)) (m .step-on .result) (m .step-on .ensures) (c .if2 .left)
 
 cast-t18 : tie.Need-cast-t18 Inv-loop μ-loop

@@ -14,7 +14,7 @@ use Rattle.tables.proofs.climb.parent_on.Tie as tie
 abbrev view : tie.Start → View
 view s =
     let g = s .args in
-    pathView (g .n) (g .s) (g .k) (g .labels .now) (g .inner .now) (g .nums .now) (g .bytes .now)
+    pathView (g .n) (g .s) (g .k) (g .labels .now) (g .inner .now) (g .node-table .now) (g .state-table .now)
 
 sibling-on-requires : tie.Need-sibling-on-requires
 sibling-on-requires c κs = search needs
@@ -33,8 +33,8 @@ run-on-requires c κs =
     let g = s .args in
     record {
       few = s .pre .path .few;
-      at = state-place (g .n) (g .s) (c .before .sibling-on .result) (length (g .bytes .now)) (c .if1 .left)
-          (s .pre .path .bytes-room);
+      at = state-place (g .n) (g .s) (c .before .sibling-on .result) (length (g .state-table .now)) (c .if1 .left)
+          (s .pre .path .state-table-room);
     }
 
 returns-2 : tie.Need-returns-2

@@ -4,8 +4,8 @@ use mathlib.Core.Path.{refl, sym, _∙_}
 use native.Mathlib.Omega.{arith}
 use lib.ListN.{length}
 use borrow.Author.Needs.{needs}
-use Rattle.links.specs.Cells.{cellForest}
-use Rattle.links.proofs.ToldLaws.{told-inside}
+use Rattle.node_tables.specs.Cells.{cellForest}
+use Rattle.node_tables.proofs.MoveAnswerLaws.{answer-inside}
 use Rattle.tables.specs.Climbs.{View}
 use Rattle.tables.specs.PathViews.{pathView}
 use Rattle.tables.proofs.LookupLaws.{map-place}
@@ -16,13 +16,13 @@ use Rattle.tables.proofs.climb.step_on.Tie as tie
 abbrev view : tie.Start → View
 view s =
     let g = s .args in
-    pathView (g .n) (g .s) (g .k) (g .labels .now) (g .inner .now) (g .nums .now) (g .bytes .now)
+    pathView (g .n) (g .s) (g .k) (g .labels .now) (g .inner .now) (g .node-table .now) (g .state-table .now)
 
-map-at : (s : tie.Start) → let g = s .args in g .v * (g .s + 1) + (1 + g .q) < length (g .bytes .now)
+map-at : (s : tie.Start) → let g = s .args in g .v * (g .s + 1) + (1 + g .q) < length (g .state-table .now)
 map-at s =
     let g = s .args in
-    map-place (g .n) (g .s) (g .v) (g .q) (length (g .bytes .now)) (s .pre .at) (s .pre .state)
-    (s .pre .path .bytes-room)
+    map-place (g .n) (g .s) (g .v) (g .q) (length (g .state-table .now)) (s .pre .at) (s .pre .state)
+    (s .pre .path .state-table-room)
 
 next-move-requires : tie.Need-next-move-requires
 next-move-requires c κs = search needs
@@ -60,7 +60,7 @@ parent-on-requires c κs =
     record {
       path = s .pre .path;
       at = s .pre .at;
-      up = told-inside (cellForest (g .n) (g .nums .now)) (g .v) (g .to) (c .before .p .given .0 .0)
+      up = answer-inside (cellForest (g .n) (g .node-table .now)) (g .v) (g .to) (c .before .p .given .0 .0)
           (sym (c .before .p .given .1) ∙ c .before .before .before .next-move .ensures);
       state = s .pre .state;
     }

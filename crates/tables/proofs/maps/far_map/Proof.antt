@@ -54,7 +54,7 @@ cast-far-row c = search needs
 far-row-requires : tie.Need-far-row-requires
 far-row-requires c κs =
     let s = c .before .before .before .before .before .before .before in
-    far-args (s .args .nums .now) (s .args .s) (s .args .bytes .now) (s .args .v) (s .pre)
+    far-args (s .args .node-table .now) (s .args .s) (s .args .state-table .now) (s .args .v) (s .pre)
 
 same-length : tie.Need-same-length
 same-length c = search needs
@@ -63,13 +63,13 @@ returns : tie.Need-returns
 returns c =
     let r = c .before .before in
     let s = r .before .before .before .before .before .before .before .before in
-    far-done (s .args .nums .now) (s .args .s) (s .args .bytes .now) (s .args .v) (r .far-row .last .0)
+    far-done (s .args .node-table .now) (s .args .s) (s .args .state-table .now) (s .args .v) (r .far-row .last .0)
     (r .before .before .before .if1 .taken) (r .far-row .ensures)
 
 returns-2 : tie.Need-returns-2
 returns-2 c =
     let s = c .before .before .before .before .before in
-    near-done (s .args .nums .now) (s .args .s) (s .args .bytes .now) (s .args .v) (c .if1 .left)
+    near-done (s .args .node-table .now) (s .args .s) (s .args .state-table .now) (s .args .v) (c .if1 .left)
 
 pub far-map-spec : {M : Type 1} → statement M
 far-map-spec =

@@ -3,7 +3,7 @@
 use Prim.Native.Nat.{_+_, _*_}
 use native.Mathlib.Omega.{arith}
 use borrow.Author.Needs.{needs}
-use Rattle.links.specs.UpPass.{leftOf}
+use Rattle.node_tables.specs.UpPass.{leftOf}
 use Rattle.tables.proofs.states.inner_state.Statement.{statement}
 use Rattle.tables.proofs.states.inner_state.Tie as tie
 
@@ -40,7 +40,7 @@ shared-slice-read-p c = search needs
 cast-p : tie.Need-cast-p
 cast-p c =
     let s = c .before .before .before .before .before in
-    omega (arith, c .shared-slice-known5 .given (leftOf (s .args .nums .now) (s .args .v) * (s .args .s + 1)))
+    omega (arith, c .shared-slice-known5 .given (leftOf (s .args .node-table .now) (s .args .v) * (s .args .s + 1)))
 
 mul-q : tie.Need-mul-q
 mul-q c = search needs

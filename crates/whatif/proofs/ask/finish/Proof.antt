@@ -4,7 +4,7 @@ use Prim.Native.Nat.{ℕ, suc, _+_, _-_, _≤_}
 use mathlib.Core.Path.{_≡_, refl, ap, sym, _∙_}
 use Rattle.formats.specs.Inputs.{inputsOf}
 use Rattle.whatif.specs.Asked.{finishedIn, mostParts}
-use Rattle.whatif.proofs.AskLaws.{more-turn, finished-turn, refused-turn}
+use Rattle.whatif.proofs.AskLaws.{more-iteration, finished-iteration, refused-iteration}
 use Rattle.whatif.proofs.ask.finish.Statement.{statement}
 use Rattle.whatif.proofs.ask.finish.Tie as tie
 use Rattle.whatif.proofs.ask.finish.Reads as reads
@@ -13,11 +13,11 @@ use Rattle.session.proofs.state.Session.advance.Reads as advance-reads
 use Rattle.session.proofs.state.Session.read.Reads as read-reads
 
 abbrev Inv-loop : tie.InvT-loop
-Inv-loop plan rules nums bytes rec₀ turns₀ rec turns =
-    (turns ≤ 254) × (finishedIn (254 - turns) rec (inputsOf plan rules nums bytes) ≡ finishedIn mostParts rec₀ (inputsOf plan rules nums bytes))
+Inv-loop plan rules nodeTable stateTable rec₀ iterations₀ rec iterations =
+    (iterations ≤ 254) × (finishedIn (254 - iterations) rec (inputsOf plan rules nodeTable stateTable) ≡ finishedIn mostParts rec₀ (inputsOf plan rules nodeTable stateTable))
 
 abbrev μ-loop : tie.MeasureT-loop
-μ-loop plan rules nums bytes rec₀ turns₀ rec turns = 254 - turns
+μ-loop plan rules nodeTable stateTable rec₀ iterations₀ rec iterations = 254 - iterations
 
 loop-holds : tie.Need-loop-holds Inv-loop μ-loop
 loop-holds c = (omega arith, refl)
@@ -37,13 +37,13 @@ loop-less c = search needs
 loop-again : tie.Need-loop-again Inv-loop μ-loop
 loop-again c =
     let a = c .before .before .before .before .before .before .before .before .before .before .args in
-    let x = inputsOf (a .plan .now) (a .rules .now) (a .nums .now) (a .bytes .now) in
+    let x = inputsOf (a .plan .now) (a .rules .now) (a .node-table .now) (a .state-table .now) in
     let l = c .before .before .before .before .before .loop in
     let d = c .before .before .before .advance in
-    let e : suc (254 - (l .turns + 1)) ≡ 254 - l .turns = omega arith in
-    let f = 254 - (l .turns + 1) in
+    let e : suc (254 - (l .iterations + 1)) ≡ 254 - l .iterations = omega arith in
+    let f = 254 - (l .iterations + 1) in
     let i = ap (λ (n : ℕ). finishedIn n (l .rec) x) e ∙ l .inv .1 in
-    (omega arith, sym (more-turn f (l .rec) (d .result .session) x (d .result .answer) (d .ensures) (c .enum-told .given .1)) ∙ i)
+    (omega arith, sym (more-iteration f (l .rec) (d .result .session) x (d .result .answer) (d .ensures) (c .enum-told .given .1)) ∙ i)
 
 enum-told-2 : tie.Need-enum-told-2 Inv-loop μ-loop
 enum-told-2 c = search needs
@@ -54,13 +54,13 @@ read-requires c κs = search needs
 returns : tie.Need-returns Inv-loop μ-loop
 returns c =
     let a = c .before .before .before .before .before .before .before .before .before .before .before .args in
-    let x = inputsOf (a .plan .now) (a .rules .now) (a .nums .now) (a .bytes .now) in
+    let x = inputsOf (a .plan .now) (a .rules .now) (a .node-table .now) (a .state-table .now) in
     let l = c .before .before .before .before .before .before .loop in
     let d = c .before .before .before .before .advance in
-    let e : suc (254 - (l .turns + 1)) ≡ 254 - l .turns = omega arith in
-    let f = 254 - (l .turns + 1) in
+    let e : suc (254 - (l .iterations + 1)) ≡ 254 - l .iterations = omega arith in
+    let f = 254 - (l .iterations + 1) in
     let i = ap (λ (n : ℕ). finishedIn n (l .rec) x) e ∙ l .inv .1 in
-    let t = finished-turn f (l .rec) (d .result .session) x (d .result .answer) (d .ensures) (c .before .enum-told2 .given .1) in
+    let t = finished-iteration f (l .rec) (d .result .session) x (d .result .answer) (d .ensures) (c .before .enum-told2 .given .1) in
     c .read .ensures ∙ (sym t ∙ i)
 
 enum-known-answer : tie.Need-enum-known-answer Inv-loop μ-loop
@@ -69,13 +69,13 @@ enum-known-answer c = search needs
 returns-2 : tie.Need-returns-2 Inv-loop μ-loop
 returns-2 c =
     let a = c .before .before .before .before .before .before .before .before .before .before .before .args in
-    let x = inputsOf (a .plan .now) (a .rules .now) (a .nums .now) (a .bytes .now) in
+    let x = inputsOf (a .plan .now) (a .rules .now) (a .node-table .now) (a .state-table .now) in
     let l = c .before .before .before .before .before .before .loop in
     let d = c .before .before .before .before .advance in
-    let e : suc (254 - (l .turns + 1)) ≡ 254 - l .turns = omega arith in
-    let f = 254 - (l .turns + 1) in
+    let e : suc (254 - (l .iterations + 1)) ≡ 254 - l .iterations = omega arith in
+    let f = 254 - (l .iterations + 1) in
     let i = ap (λ (n : ℕ). finishedIn n (l .rec) x) e ∙ l .inv .1 in
-    sym (refused-turn f (l .rec) (d .result .session) x (d .result .answer) (d .ensures) _ (c .before .answer .given .1)) ∙ i
+    sym (refused-iteration f (l .rec) (d .result .session) x (d .result .answer) (d .ensures) _ (c .before .answer .given .1)) ∙ i
 
 read-requires-2 : tie.Need-read-requires-2 Inv-loop μ-loop
 read-requires-2 c κs = search needs
@@ -84,9 +84,9 @@ returns-3 : tie.Need-returns-3 Inv-loop μ-loop
 unfolding finishedIn
 returns-3 c =
     let a = c .before .before .before .before .before .before .before .args in
-    let x = inputsOf (a .plan .now) (a .rules .now) (a .nums .now) (a .bytes .now) in
+    let x = inputsOf (a .plan .now) (a .rules .now) (a .node-table .now) (a .state-table .now) in
     let l = c .before .before .loop in
-    let e : 0 ≡ 254 - l .turns = omega arith in
+    let e : 0 ≡ 254 - l .iterations = omega arith in
     c .read2 .ensures ∙ (ap (λ (n : ℕ). finishedIn n (l .rec) x) e ∙ l .inv .1)
 
 pub finish-spec : {M : Type 1} → statement M

@@ -11,13 +11,13 @@ use Rattle.whatif.proofs.line.put_line.Tie as tie
 use Rattle.whatif.proofs.line.put_line.Reads as reads
 use Rattle.whatif.proofs.line.put_line.Lts as lts
 use Rattle.whatif.proofs.line.put_refused.Reads as put-refused-reads
-use Rattle.whatif.proofs.line.put_told.Reads as put-told-reads
+use Rattle.whatif.proofs.line.put_outcome.Reads as put-told-reads
 
 enum-known-answer : tie.Need-enum-known-answer
 enum-known-answer c = search needs
 
-put-told-requires : tie.Need-put-told-requires
-put-told-requires c κs = search needs
+put-outcome-requires : tie.Need-put-outcome-requires
+put-outcome-requires c κs = search needs
 
 same-length : tie.Need-same-length
 same-length c = search needs
@@ -28,9 +28,9 @@ returns c =
     let p = c .before .before in
     let m = p .before .before .before in
     let a = m .before .before .before .args in (
-      subst (λ (t : List ℕ). Put (a .out .now) (a .at) t (p .put-told .last .0) (p .put-told .result))
-          (ap (λ (r : ReadAnswer). lineOf (readAnswer r)) (sym (m .answer .given .1))) (p .put-told .ensures .0),
-      p .put-told .ensures .1,
+      subst (λ (t : List ℕ). Put (a .out .now) (a .at) t (p .put-outcome .last .0) (p .put-outcome .result))
+          (ap (λ (r : ReadAnswer). lineOf (readAnswer r)) (sym (m .answer .given .1))) (p .put-outcome .ensures .0),
+      p .put-outcome .ensures .1,
     )
 
 enum-known-answer-2 : tie.Need-enum-known-answer-2
@@ -58,7 +58,7 @@ put-line-spec =
     tie.close
     (tie.spec
     enum-known-answer
-    put-told-requires
+    put-outcome-requires
     same-length
     returns
     enum-known-answer-2

@@ -18,7 +18,7 @@ abbrev of : tie.After-next-step → tie.Start
 of a = a .before .before .before .before .before .before .before .before .before .before .before .before .before .before .before
 
 abbrev lent : tie.Start → Inputs
-lent c = inputsOf (c .args .plan .now) (c .args .rules .now) (c .args .nums .now) (c .args .bytes .now)
+lent c = inputsOf (c .args .plan .now) (c .args .rules .now) (c .args .node-table .now) (c .args .state-table .now)
 
 found : (c : tie.After-next-step) → StepFound (of c .args .t1) (advance (lent (of c))) (c .next-step .result)
 found c = c .next-step .ensures

@@ -18,7 +18,7 @@ shape : (c : tie.Start) → Shaped (c .args .t1)
 shape c = shaped (c .args .t1) (c .good .0)
 
 abbrev lent : tie.Start → Inputs
-lent c = inputsOf (c .args .plan .now) (c .args .rules .now) (c .args .nums .now) (c .args .bytes .now)
+lent c = inputsOf (c .args .plan .now) (c .args .rules .now) (c .args .node-table .now) (c .args .state-table .now)
 
 -- where the state was tested, and the call's beginning
 abbrev tested : tie.After-allowed → tie.After-may-load

@@ -21,7 +21,7 @@ shape : (c : tie.Start) → Shaped (c .args .t1)
 shape c = shaped (c .args .t1) (c .good .0)
 
 abbrev lent : tie.Start → Inputs
-lent c = inputsOf (c .args .plan .now) (c .args .rules .now) (c .args .nums .now) (c .args .bytes .now)
+lent c = inputsOf (c .args .plan .now) (c .args .rules .now) (c .args .node-table .now) (c .args .state-table .now)
 
 -- where the state was tested, and the call's beginning
 abbrev tested : tie.After-allowed → tie.After-may-start
@@ -104,7 +104,7 @@ slice-aggregate-roots c =
     let h =
     start-room (of m .args .t1) (shape (of m)) (lent (of m)) (of m .args .nodes .now) (of m .args .labels .now) _
     (may m) (e .if1 .left) _ (k .rule-buffers-fit .ensures) (t .if2 .left) in
-    sym (length-take-le (of m .args .t1 .head .sizes .n * 4) (of m .args .nums .now) h)
+    sym (length-take-le (of m .args .t1 .head .sizes .n * 4) (of m .args .node-table .now) h)
 
 roots-requires : tie.Need-roots-requires
 roots-requires c κs = search needs
@@ -120,7 +120,7 @@ returns-4 c =
     let m = e .before in
     start-18 (of m .args .t1) (shape (of m)) (lent (of m)) (of m .args .nodes .now) (of m .args .labels .now) _
     (may m)
-    (e .if1 .left) _ (k .rule-buffers-fit .ensures) (t .if2 .left) _ (l .check-list .ensures) (u .if3 .left) _ (r .roots .ensures .told)
+    (e .if1 .left) _ (k .rule-buffers-fit .ensures) (t .if2 .left) _ (l .check-list .ensures) (u .if3 .left) _ (r .roots .ensures .result)
     (c .if4 .taken)
 
 cast-parts : tie.Need-cast-parts
@@ -138,7 +138,7 @@ cast-parts c =
       start-count (of m .args .t1) (shape (of m)) (lent (of m)) (of m .args .nodes .now) (of m .args .labels .now) _
           (may m)
           (e .if1 .left) _ (k .rule-buffers-fit .ensures) (t .if2 .left) _ (l .check-list .ensures) (u .if3 .left) _
-          (r .roots .ensures .told) (w .if4 .left),
+          (r .roots .ensures .result) (w .if4 .left),
     )
 
 started-requires : tie.Need-started-requires
@@ -167,7 +167,7 @@ returns-5 c =
     let m = e .before in
     start-yes (of m .args .t1) (shape (of m)) (lent (of m)) (of m .args .nodes .now) (of m .args .labels .now) _
     (may m)
-    (e .if1 .left) _ (k .rule-buffers-fit .ensures) (t .if2 .left) _ (l .check-list .ensures) (u .if3 .left) _ (r .roots .ensures .told)
+    (e .if1 .left) _ (k .rule-buffers-fit .ensures) (t .if2 .left) _ (l .check-list .ensures) (u .if3 .left) _ (r .roots .ensures .result)
     (w .if4 .left)
     _ (c .started .ensures)
 

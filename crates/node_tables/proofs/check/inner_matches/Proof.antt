@@ -1,0 +1,96 @@
+-- `inner_matches` meets its contract, by the way each test went. Assumes nothing.
+use Prim.Native.Nat.{_-_, _*_}
+use mathlib.Core.Path.{_∙_}
+use borrow.Author.Tests.{eq-eqb, ne-eqb}
+use Rattle.node_tables.specs.CheckPass.{innerMatches}
+use native.Mathlib.Omega.{arith}
+use borrow.Author.Needs.{needs}
+use Rattle.node_tables.proofs.check.inner_matches.Statement.{statement}
+use Rattle.node_tables.proofs.check.inner_matches.Tie as tie
+
+mul-if1 : tie.Need-mul-if1
+mul-if1 c = search needs
+
+add-if1 : tie.Need-add-if1
+add-if1 c = search needs
+
+mul-if1-2 : tie.Need-mul-if1-2
+mul-if1-2 c = search needs
+
+shared-slice-read-if1 : tie.Need-shared-slice-read-if1
+shared-slice-read-if1 c = search needs
+
+inner-size-requires : tie.Need-inner-size-requires
+inner-size-requires c κs = search needs
+
+returns : tie.Need-returns
+unfolding innerMatches
+returns c = rw (← c .before .inner-size .ensures, ne-eqb _ _ (c .if1 .taken))
+
+sub-right : tie.Need-sub-right
+sub-right c = search needs
+
+mul-if2 : tie.Need-mul-if2
+mul-if2 c = search needs
+
+mul-if2-2 : tie.Need-mul-if2-2
+mul-if2-2 c = search needs
+
+shared-slice-read-if2 : tie.Need-shared-slice-read-if2
+shared-slice-read-if2 c = search needs
+
+cast-if2 : tie.Need-cast-if2
+cast-if2 c = omega (arith, c .shared-slice-known3 .given ((c .before .before .before .before .before .args .v - 1) * 4))
+
+returns-2 : tie.Need-returns-2
+unfolding innerMatches
+returns-2 c =
+    let f = c .before .before in
+    let e = f .if1 .left ∙ f .before .inner-size .ensures in
+    rw (eq-eqb _ _ e, ne-eqb _ _ (c .if2 .taken))
+
+left-child-requires : tie.Need-left-child-requires
+left-child-requires c κs = search needs
+
+mul-result : tie.Need-mul-result
+mul-result c = search needs
+
+mul-result-2 : tie.Need-mul-result-2
+mul-result-2 c = search needs
+
+shared-slice-read-result : tie.Need-shared-slice-read-result
+shared-slice-read-result c = search needs
+
+cast-result : tie.Need-cast-result
+cast-result c =
+    omega (arith, c .shared-slice-known4 .given (c .before .left-child .result * 4))
+
+returns-3 : tie.Need-returns-3
+unfolding innerMatches
+returns-3 c =
+    let f = c .before .before .before .before in
+    let e = f .if1 .left ∙ f .before .inner-size .ensures in
+    rw (eq-eqb _ _ e, eq-eqb _ _ (c .before .before .if2 .left), c .before .left-child .ensures)
+
+pub inner-matches-spec : {M : Type 1} → statement M
+inner-matches-spec =
+    tie.close
+    (tie.spec
+    mul-if1
+    add-if1
+    mul-if1-2
+    shared-slice-read-if1
+    inner-size-requires
+    returns
+    sub-right
+    mul-if2
+    mul-if2-2
+    shared-slice-read-if2
+    cast-if2
+    returns-2
+    left-child-requires
+    mul-result
+    mul-result-2
+    shared-slice-read-result
+    cast-result
+    returns-3)
