@@ -11,11 +11,11 @@ use mathlib.Core.Option.{Option, none, some}
 use native.Mathlib.Omega.{arith}
 use lib.ListN.{length}
 use Rattle.trees.specs.Climb.{andThen}
-use Rattle.trees.specs.Tables.{tabulate}
+use Rattle.list_laws.specs.Rows.{tabulate}
 use Rattle.formats.specs.Plan.{nodeCount}
 use Rattle.formats.specs.Rules.{stateCount, labelCount}
 use Rattle.formats.specs.Buffers.{branchTables}
-use Rattle.formats.proofs.PartLaws.{length-part}
+use Rattle.list_laws.proofs.SliceLaws.{length-part}
 use Rattle.formats.proofs.BufferLaws.{Headed, headed-are}
 use Rattle.tables.specs.declared.branch_climb.Composed.{Composed}
 use Rattle.tables.specs.Compose.{mapAt, Counted, composition, ComposeArgs, ComposedTo}

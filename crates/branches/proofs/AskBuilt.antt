@@ -14,7 +14,8 @@ use Rattle.trees.specs.Tree.{Tree, size, labelAt}
 use Rattle.trees.specs.Automaton.{WordAutomaton}
 use Rattle.trees.specs.Climb.{forestOf, climb}
 use Rattle.trees.specs.Tables.{nodeTableOf, branchTableOf, branchRow, branchMap}
-use Rattle.trees.proofs.RowLaws.{length-rows, length-branchRow, branchTable-map}
+use Rattle.list_laws.proofs.RowLaws.{length-rows}
+use Rattle.trees.proofs.TableRows.{length-branchRow, branchTable-map}
 use Rattle.trees.proofs.ClimbLaws.{Tells, same-climb}
 use Rattle.formats.specs.Plan.{nodeCount, labelsIn, planTree}
 use Rattle.formats.specs.Rules.{stateCount, labelCount, branchAutomaton}
@@ -22,7 +23,7 @@ use Rattle.formats.specs.Built.{BranchBuilt}
 use Rattle.formats.specs.Buffers.{headedBuffersFit, branchTables}
 use Rattle.formats.proofs.PlanLaws.{PlanPasses, labels-planTree, size-planTree}
 use Rattle.formats.proofs.BranchLaws.{BranchPasses, step-below}
-use Rattle.formats.proofs.ListLaws.{allBelow-all}
+use Rattle.list_laws.proofs.TestLaws.{allBelow-all}
 use Rattle.formats.proofs.InputLaws.{branch-table-passes}
 use Rattle.formats.proofs.BufferLaws.{are-headed}
 use Rattle.node_tables.specs.Cells.{cellForest}

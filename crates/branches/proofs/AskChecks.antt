@@ -14,8 +14,8 @@ use borrow.Author.Tests.{lt-ltb, le-ltb}
 use Rattle.formats.specs.Plan.{nodeCount}
 use Rattle.formats.specs.Checks.{firstNo}
 use Rattle.formats.specs.Buffers.{headedBuffersFit, branchTables}
-use Rattle.formats.proofs.CheckLaws.{and-both, and-no-left, and-no-right}
-use Rattle.formats.proofs.PartLaws.{four, four-1, four-2, four-3}
+use Rattle.list_laws.proofs.BoolLaws.{and-both, and-no-left, and-no-right}
+use Rattle.formats.proofs.FourChecks.{four, four-1, four-2, four-3}
 use Rattle.node_tables.specs.Cells.{isInSubtreeOn}
 use Rattle.branches.specs.declared.answers.Branching.the-variants.{Refused}
 use Rattle.branches.specs.Question.{Branched, branchOn, isSome, askChecks}

@@ -14,8 +14,9 @@ use Rattle.trees.specs.Automaton.{WordAutomaton, wordRun}
 use Rattle.trees.specs.Numbering.{depth, labelsDown}
 use Rattle.trees.specs.Jumps.{jump}
 use Rattle.trees.specs.Climb.{forestOf, Move, byJump, toParent, climb, carry, walk}
-use Rattle.trees.specs.Tables.{tabulate, branchMap}
-use Rattle.trees.proofs.RowLaws.{length-tabulate, tabulate-ext}
+use Rattle.list_laws.specs.Rows.{tabulate}
+use Rattle.trees.specs.Tables.{branchMap}
+use Rattle.list_laws.proofs.RowLaws.{length-tabulate, tabulate-ext}
 use Rattle.trees.proofs.BranchMapLaws.{branchMap-below}
 use Rattle.trees.proofs.CarryLaws.{carry-walk}
 use Rattle.formats.specs.Plan.{labelsIn, planTree}

@@ -10,7 +10,7 @@ use mathlib.Core.List.{List, [], _∷_}
 use mathlib.Core.Option.{Option, none, some, Option·some-injective}
 use lib.ListN.{length, getD, take, drop}
 use Rattle.trees.specs.Climb.{Move, byJump, toParent, andThen, climb, carry}
-use Rattle.trees.specs.Tables.{tabulate}
+use Rattle.list_laws.specs.Rows.{tabulate}
 use Rattle.trees.proofs.MoveLaws.{none-some}
 use Rattle.formats.specs.Plan.{nodeCount, labelsIn}
 use Rattle.formats.specs.Rules.{stateCount, labelCount, branchLength, branchSteps, branchMarks, branchAutomaton}

@@ -16,19 +16,19 @@ use lib.ListN.{length, getD}
 use borrow.Author.Tests.{ltb-true, ltb-false}
 use Rattle.trees.specs.Climb.{Forest, Move, byJump, toParent, andThen, climb, carry}
 use Rattle.trees.specs.LinkOutOfRange.{LinkOutOfRange}
-use Rattle.trees.specs.Tables.{tabulate}
+use Rattle.list_laws.specs.Rows.{tabulate}
 use Rattle.trees.proofs.MoveLaws.{none-some, next-starts}
 use Rattle.trees.proofs.CarryLaws.{carried}
 use Rattle.trees.proofs.LinkRangeLaws.{Failed, carried-none}
-use Rattle.trees.proofs.RowLaws.{length-tabulate, getD-tabulate}
+use Rattle.list_laws.proofs.RowLaws.{length-tabulate, getD-tabulate}
 use Rattle.trees.proofs.BranchMapLaws.{branchMap-below}
-use Rattle.formats.specs.Bytes.{allBelow}
+use Rattle.list_laws.specs.Tests.{allBelow}
 use Rattle.formats.specs.Plan.{nodeCount, labelsIn, planTree}
 use Rattle.formats.specs.Rules.{stateCount, labelCount, branchAutomaton}
 use Rattle.formats.specs.Checks.{check, firstNo}
 use Rattle.formats.specs.Built.{BranchBuilt}
 use Rattle.formats.specs.Buffers.{headedBuffersFit, branchTables}
-use Rattle.formats.proofs.ListLaws.{allBelow-not}
+use Rattle.list_laws.proofs.TestLaws.{allBelow-not}
 use Rattle.formats.proofs.BufferLaws.{headed-are}
 use Rattle.node_tables.specs.Cells.{depthCell, cellForest, isInSubtreeOn}
 use Rattle.node_tables.proofs.RangeLaws.{cell-links-in-range}

@@ -16,12 +16,12 @@ use Rattle.trees.specs.Tree.{Tree, size, height, labelAt}
 use Rattle.trees.specs.Automaton.{WordAutomaton, wordRun}
 use Rattle.trees.specs.Numbering.{sub, depth, ancestor, labelsDown, word, AtOrBelow}
 use Rattle.trees.specs.Climb.{Move, andThen, climb, carry, walk, moveCount, digits}
-use Rattle.trees.specs.Tables.{tabulate}
+use Rattle.list_laws.specs.Rows.{tabulate}
 use Rattle.trees.proofs.BranchMapLaws.{labelsDown-one, labelsDown-add}
 use Rattle.trees.proofs.HeightLaws.{depth-height}
 use Rattle.trees.proofs.IntervalLaws.{ancestor-interval, interval-ancestor, above-at}
 use Rattle.trees.proofs.MoveCount.{moveCount-done, moveCount-bound}
-use Rattle.trees.proofs.Choice.{le-or}
+use Rattle.list_laws.proofs.Choice.{le-or}
 use Rattle.trees.proofs.TreeClimbs.{Climbed, climb-tree}
 use Rattle.formats.specs.Plan.{nodeCount, labelsIn, planTree}
 use Rattle.formats.specs.Rules.{stateCount, labelCount, branchAutomaton}

@@ -14,8 +14,9 @@ use lib.ListN.{length, take, drop}
 use Rattle.trees.specs.Tree.{Tree, size}
 use Rattle.trees.specs.Automaton.{WordAutomaton}
 use Rattle.trees.specs.Tables.{nodeTableOf, branchRow, branchTableOf}
-use Rattle.trees.proofs.RowLaws.{length-rows, length-branchRow}
-use Rattle.formats.specs.Bytes.{allBelow}
+use Rattle.list_laws.proofs.RowLaws.{length-rows}
+use Rattle.trees.proofs.TableRows.{length-branchRow}
+use Rattle.list_laws.specs.Tests.{allBelow}
 use Rattle.formats.specs.Plan.{nodeCount, labelsIn, kindsIn, planTree}
 use Rattle.formats.specs.Rules.{stateCount, labelCount, branchSteps, branchMarks, wordAutomaton, branchAutomaton}
 use Rattle.formats.specs.Checks.{firstNo, branchBuildChecks, nodeTableLength, stateTableLength}

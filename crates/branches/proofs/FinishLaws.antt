@@ -13,8 +13,8 @@ use lib.Dec.{leb, ltb, eqb}
 use lib.ListN.{getD}
 use borrow.Author.Tests.{leb-true, le-leb, lt-leb, ltb-true, lt-ltb, le-ltb}
 use Rattle.trees.specs.Numbering.{isInSubtree}
-use Rattle.trees.proofs.Choice.{le-or}
-use Rattle.formats.proofs.CheckLaws.{and-both, and-left, and-right, and-no-left, and-no-right}
+use Rattle.list_laws.proofs.Choice.{le-or}
+use Rattle.list_laws.proofs.BoolLaws.{and-both, and-left, and-right, and-no-left, and-no-right}
 use Rattle.node_tables.specs.Cells.{sizeCell}
 use Rattle.node_tables.specs.Cells.{isInSubtreeOn}
 use Rattle.tables.specs.Compose.{mapAt}

@@ -19,7 +19,7 @@ use Rattle.trees.specs.Jumps.{jump}
 use Rattle.trees.specs.Tables.{branchMap}
 use Rattle.trees.proofs.NodeLaws.{up}
 use Rattle.trees.proofs.JumpLaws.{jump-in, jump-above}
-use Rattle.trees.proofs.RowLaws.{stride}
+use Rattle.list_laws.proofs.RowLaws.{stride}
 use Rattle.trees.proofs.BranchMapLaws.{branchMap-root, branchMap-near, branchMap-far, branchMap-below}
 use Rattle.formats.specs.Checks.{stateTableLength}
 use Rattle.node_tables.specs.Cells.{parentCell, jumpCell}

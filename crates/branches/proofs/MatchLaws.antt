@@ -13,10 +13,10 @@ use lib.ListN.{length, take}
 use Rattle.trees.specs.Tree.{Tree, size, kindsOf, labelsOf}
 use Rattle.trees.specs.Tables.{nodeTableOf, branchState, branchMap, branchTableOf}
 use Rattle.trees.proofs.NodeLaws.{length-labels}
-use Rattle.formats.specs.Bytes.{sameList}
+use Rattle.list_laws.specs.Tests.{sameList}
 use Rattle.formats.specs.Rules.{wordAutomaton}
 use Rattle.formats.specs.Checks.{nodeTableLength}
-use Rattle.formats.proofs.ListLaws.{sameList-true}
+use Rattle.list_laws.proofs.TestLaws.{sameList-true}
 use Rattle.node_tables.proofs.CellLaws.{length-nodeTableOf, link-cells}
 use Rattle.tables.specs.Answers.{sameTables}
 use Rattle.tables.specs.TableTests.{statesSame, mapsSame}

@@ -18,7 +18,7 @@ use Rattle.trees.specs.Automaton.{WordAutomaton}
 use Rattle.trees.specs.Numbering.{parent}
 use Rattle.trees.specs.Tables.{branchState}
 use Rattle.trees.proofs.NodeLaws.{up, size-pos, length-labels}
-use Rattle.trees.proofs.RowLaws.{stride, cell-in, cells-apart}
+use Rattle.list_laws.proofs.RowLaws.{stride, cell-in, cells-apart}
 use Rattle.trees.proofs.BranchMapLaws.{branchState-root, branchState-down, branchState-below}
 use Rattle.formats.specs.Checks.{stateTableLength}
 use Rattle.node_tables.specs.Cells.{parentCell}

@@ -20,7 +20,7 @@ use lib.Dec.{ltb}
 use lib.ListN.{length, getD}
 use Rattle.trees.specs.Automaton.{WordAutomaton}
 use Rattle.trees.specs.Climb.{Move, byJump, toParent, andThen, climb, carry}
-use Rattle.trees.specs.Tables.{tabulate}
+use Rattle.list_laws.specs.Rows.{tabulate}
 use Rattle.formats.specs.Plan.{nodeCount, labelsIn}
 use Rattle.formats.specs.Rules.{stateCount, labelCount, branchAutomaton}
 use Rattle.formats.specs.Checks.{Check, check, firstNo}

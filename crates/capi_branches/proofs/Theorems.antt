@@ -25,7 +25,8 @@ use Rattle.trees.proofs.RunLaws.{run-at}
 use Rattle.trees.proofs.TreeClimbs.{climb-ends, climb-bound}
 use Rattle.trees.proofs.CarryLaws.{carry-walk}
 use Rattle.trees.proofs.Samples as samples
-use Rattle.formats.specs.Bytes.{le32, allBelow}
+use Rattle.formats.specs.Bytes.{le32}
+use Rattle.list_laws.specs.Tests.{allBelow}
 use Rattle.formats.specs.Plan.{nodeCount, planTree, planBytes}
 use Rattle.formats.specs.Checks.{firstNo, planChecks, buildChecks, branchBuildChecks, ruleTableChecks, branchTableChecks}
 use Rattle.formats.specs.Built.{builtNodeTable, builtStateTable, builtBranchTable, AsBuilt, BranchBuilt}

@@ -13,7 +13,7 @@ use mathlib.Core.Option.{Option, none, some}
 use mathlib.Core.List.{List}
 use lib.Dec.{eqb}
 use lib.ListN.{length, getD, replicate}
-use Rattle.formats.proofs.CheckLaws.{and-left}
+use Rattle.list_laws.proofs.BoolLaws.{and-left}
 use Rattle.tables.specs.declared.answers.Reached.{Reached}
 use Rattle.formats.specs.Inputs.{Inputs}
 use Rattle.model.specs.Calls.{Call, load, start, advance, cancel, read, Answer, more, finished, Phase}

@@ -10,7 +10,7 @@ use lib.Dec.{eqb}
 use lib.ListN.{length}
 use borrow.Author.Tests.{eq-eqb, eqb-true, not-true, not-false}
 use Rattle.formats.specs.Built.{builtNodeTable, builtStateTable}
-use Rattle.formats.proofs.CheckLaws.{true-false, and-left, and-right}
+use Rattle.list_laws.proofs.BoolLaws.{true-false, and-left, and-right}
 use Rattle.tables.specs.Answers.{written}
 use Rattle.formats.specs.Inputs.{Inputs}
 use Rattle.model.specs.Calls.{Call, load, read, Answer, refused, accepted, parts, more, finished}

@@ -11,12 +11,14 @@ use native.Mathlib.Omega.{arith}
 use lib.Dec.{leb, eqb}
 use lib.ListN.{length, take, drop}
 use borrow.Author.Tests.{le-leb, lt-leb, eq-eqb, ne-eqb, eqb-true, not-true, not-false}
-use Rattle.formats.specs.Bytes.{le32, allBelow}
+use Rattle.formats.specs.Bytes.{le32}
+use Rattle.list_laws.specs.Tests.{allBelow}
 use Rattle.formats.specs.Rules.{stateCount, labelCount, branchLength}
 use Rattle.formats.specs.Checks.{firstNo, branchChecks}
 use Rattle.formats.specs.InnerChecks.{countsFit, branchShape, branchValues}
-use Rattle.formats.proofs.CheckLaws.{and-right}
-use Rattle.formats.proofs.PartLaws.{four-1, four-2, four-3, four-4, pass-four, end-part}
+use Rattle.list_laws.proofs.BoolLaws.{and-right}
+use Rattle.formats.proofs.FourChecks.{four-1, four-2, four-3, four-4, pass-four}
+use Rattle.list_laws.proofs.SliceLaws.{end-part}
 
 -- ---- check 8
 

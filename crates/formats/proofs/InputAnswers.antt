@@ -13,7 +13,7 @@ use native.Mathlib.Omega.{arith}
 use native.Mathlib.Nat.{mul-le-mul}
 use lib.Dec.{leb}
 use borrow.Author.Tests.{le-leb, lt-leb, not-true, not-false}
-use Rattle.formats.specs.Bytes.{allBelow}
+use Rattle.list_laws.specs.Tests.{allBelow}
 use Rattle.formats.specs.Plan.{labelsIn}
 use Rattle.formats.specs.Checks.{Check, firstNo, planChecks, labelCheck, roomCheck}
 use Rattle.formats.specs.InnerChecks.{roomFits}

@@ -15,7 +15,7 @@ use native.Mathlib.Omega.{arith}
 use lib.Dec.{leb, eqb}
 use lib.ListN.{length, getD}
 use borrow.Author.Tests.{leb-true, le-leb}
-use Rattle.formats.specs.Bytes.{allBelow, distinct}
+use Rattle.list_laws.specs.Tests.{allBelow, distinct}
 use Rattle.formats.specs.Limits.{changeLimit}
 use Rattle.formats.specs.Plan.{nodeCount, labelsIn}
 use Rattle.formats.specs.Rules.{stateCount, labelCount}
@@ -24,9 +24,10 @@ use Rattle.formats.specs.Checks.{nodeTableLength, stateTableLength, rule
 use Rattle.formats.specs.Checks.{buildChecks, branchBuildChecks, freshRunChecks}
 use Rattle.formats.specs.InnerChecks.{listsFit, roomFits}
 use Rattle.formats.proofs.CheckLaws.{Numbered, numbered-append, firstNo-none, firstNo-yes, firstNo-head}
-use Rattle.formats.proofs.CheckLaws.{firstNo-append-zero, firstNo-append-left, firstNo-append-right, and-both, and-left, and-right}
-use Rattle.formats.proofs.ListLaws.{allBelow-all}
-use Rattle.formats.proofs.PartLaws.{four-pass, pass-four}
+use Rattle.formats.proofs.CheckLaws.{firstNo-append-zero, firstNo-append-left, firstNo-append-right}
+use Rattle.list_laws.proofs.BoolLaws.{and-both, and-left, and-right}
+use Rattle.list_laws.proofs.TestLaws.{allBelow-all}
+use Rattle.formats.proofs.FourChecks.{four-pass, pass-four}
 use Rattle.formats.proofs.PlanLaws.{PlanPasses, plan-passes, passes-plan, plan-numbered, same-left, same-both}
 use Rattle.formats.proofs.RuleLaws.{RulesPass, rules-pass, pass-rules, rules-numbered}
 use Rattle.formats.proofs.BranchLaws.{BranchPasses, branch-passes, passes-branch, branch-numbered}

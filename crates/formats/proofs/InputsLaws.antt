@@ -15,13 +15,13 @@ use native.Mathlib.Omega.{arith}
 use lib.Dec.{eqb}
 use lib.ListN.{length, take}
 use borrow.Author.Tests.{eqb-true, eq-eqb}
-use Rattle.formats.specs.Bytes.{sameList, allBelow}
+use Rattle.list_laws.specs.Tests.{sameList, allBelow}
 use Rattle.formats.specs.Plan.{nodeCount, labelsIn}
 use Rattle.formats.specs.Rules.{stateCount, labelCount}
 use Rattle.formats.specs.Checks.{firstNo, ruleTableChecks, nodeTableLength, stateTableLength}
 use Rattle.formats.specs.Built.{builtNodeTable}
-use Rattle.formats.proofs.CheckLaws.{and-both, and-left, and-right}
-use Rattle.formats.proofs.ListLaws.{sameList-true, sameList-is}
+use Rattle.list_laws.proofs.BoolLaws.{and-both, and-left, and-right}
+use Rattle.list_laws.proofs.TestLaws.{sameList-true, sameList-is}
 use Rattle.formats.proofs.PlanLaws.{PlanPasses}
 use Rattle.formats.proofs.RuleLaws.{RulesPass}
 use Rattle.formats.proofs.InputLaws.{rule-table-passes}

@@ -14,7 +14,7 @@ use lib.ListN.{length, getD, drop}
 use borrow.Author.Tests.{lt-ltb, le-ltb, ltb-true, eq-eqb, ne-eqb}
 use Rattle.trees.specs.Postorder.{waiting, isOne, isPostorder}
 use Rattle.trees.proofs.PostorderLaws.{leaf-at, inner-at, short-at, other-at, end-at}
-use Rattle.formats.proofs.CheckLaws.{and-right}
+use Rattle.list_laws.proofs.BoolLaws.{and-right}
 
 pub record Counted (ks : List ℕ) (none w : ℕ) (ok : Bool) (i : ℕ) : Type 0 where
   pub all : none ≡ length ks

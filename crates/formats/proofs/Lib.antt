@@ -1,7 +1,5 @@
 pub mod CheckLaws
-pub mod ListLaws
-pub mod PartLaws
-pub mod LoopLaws
+pub mod FourChecks
 pub mod KindLoop
 pub mod ByteLaws
 pub mod PlanLaws

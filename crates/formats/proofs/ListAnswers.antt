@@ -5,10 +5,10 @@ use mathlib.Core.Path.{_≡_, sym, _∙_}
 use mathlib.Core.Bool.{Bool, true, false, not}
 use mathlib.Core.List.{List}
 use borrow.Author.Tests.{not-true, not-false}
-use Rattle.formats.specs.Bytes.{allBelow, distinct}
+use Rattle.list_laws.specs.Tests.{allBelow, distinct}
 use Rattle.formats.specs.Checks.{firstNo, listChecks}
 use Rattle.formats.specs.InnerChecks.{listsFit}
-use Rattle.formats.proofs.PartLaws.{four-1, four-2, four-3, four-4, pass-four}
+use Rattle.formats.proofs.FourChecks.{four-1, four-2, four-3, four-4, pass-four}
 
 module _ (n k : ℕ) (vs bs : List ℕ) where
   pub list-12 : (a : Bool) → a ≡ listsFit vs bs → not a ≡ true → 12 ≡ firstNo (listChecks n k vs bs)

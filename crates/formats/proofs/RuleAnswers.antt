@@ -14,13 +14,15 @@ use native.Mathlib.Nat.{mul-le-mul}
 use lib.Dec.{leb, eqb}
 use lib.ListN.{length, take, drop}
 use borrow.Author.Tests.{le-leb, lt-leb, eq-eqb, ne-eqb, eqb-true, not-true, not-false}
-use Rattle.formats.specs.Bytes.{le32, allBelow}
+use Rattle.formats.specs.Bytes.{le32}
+use Rattle.list_laws.specs.Tests.{allBelow}
 use Rattle.formats.specs.Limits.{stateLimit, labelLimit, within}
 use Rattle.formats.specs.Rules.{stateCount, labelCount, ruleLength}
 use Rattle.formats.specs.Checks.{firstNo, ruleChecks}
 use Rattle.formats.specs.InnerChecks.{countsFit, ruleShape, ruleValues}
-use Rattle.formats.proofs.CheckLaws.{and-left, and-right, and-no-left, and-no-right}
-use Rattle.formats.proofs.PartLaws.{four-1, four-2, four-3, four-4, pass-four, run-part, end-part}
+use Rattle.list_laws.proofs.BoolLaws.{and-left, and-right, and-no-left, and-no-right}
+use Rattle.formats.proofs.FourChecks.{four-1, four-2, four-3, four-4, pass-four}
+use Rattle.list_laws.proofs.SliceLaws.{run-part, end-part}
 use Rattle.formats.proofs.PlanLaws.{within-low, within-high}
 
 pub product-inner : (s k : ℕ) → s ≤ 16 → k ≤ 64 → (s * k ≤ 1024) × (s * k * s ≤ 16384)

@@ -16,15 +16,18 @@ use native.Mathlib.Omega.{arith}
 use lib.Dec.{leb, eqb}
 use lib.ListN.{length, take, drop, getD}
 use borrow.Author.Tests.{leb-true, le-leb, eqb-true, eq-eqb}
-use Rattle.trees.proofs.RowLaws.{stride}
-use Rattle.formats.specs.Bytes.{le32, allBelow}
+use Rattle.list_laws.proofs.RowLaws.{stride}
+use Rattle.formats.specs.Bytes.{le32}
+use Rattle.list_laws.specs.Tests.{allBelow}
 use Rattle.formats.specs.Limits.{stateLimit, labelLimit, within}
 use Rattle.formats.specs.Rules.{stateCount, labelCount, ruleLength, leafStates, innerStates, ruleMarks}
 use Rattle.formats.specs.Checks.{firstNo, ruleChecks}
 use Rattle.formats.specs.InnerChecks.{countsFit, ruleShape, ruleValues}
-use Rattle.formats.proofs.CheckLaws.{Numbered, and-both, and-left, and-right}
-use Rattle.formats.proofs.ListLaws.{allBelow-all}
-use Rattle.formats.proofs.PartLaws.{four-pass, pass-four, end-part, run-part, length-part}
+use Rattle.formats.proofs.CheckLaws.{Numbered}
+use Rattle.list_laws.proofs.BoolLaws.{and-both, and-left, and-right}
+use Rattle.list_laws.proofs.TestLaws.{allBelow-all}
+use Rattle.formats.proofs.FourChecks.{four-pass, pass-four}
+use Rattle.list_laws.proofs.SliceLaws.{end-part, run-part, length-part}
 use Rattle.formats.proofs.PlanLaws.{within-low, within-high, is-within, same-left, same-both}
 
 pub record RulesPass (r : List ℕ) : Type 0 where

@@ -16,7 +16,8 @@ use mathlib.Core.List.{List, [], _∷_, _++_}
 use lib.Dec.{leb, eqb}
 use lib.ListN.{length}
 use Rattle.trees.specs.Postorder.{isPostorder}
-use Rattle.formats.specs.Bytes.{le32, allBelow, distinct}
+use Rattle.formats.specs.Bytes.{le32}
+use Rattle.list_laws.specs.Tests.{allBelow, distinct}
 use Rattle.formats.specs.Limits.{nodeLimit, stateLimit, labelLimit, changeLimit, within}
 use Rattle.formats.specs.Plan.{nodeCount, planLength, labelsIn, kindsIn}
 use Rattle.formats.specs.Rules.{stateCount, labelCount, ruleLength, leafStates, innerStates, ruleMarks, branchLength, branchSteps, branchMarks}

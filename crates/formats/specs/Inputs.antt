@@ -17,7 +17,7 @@ use mathlib.Core.Bool.{Bool, _&&_}
 use mathlib.Core.List.{List}
 use lib.Dec.{leb, eqb}
 use lib.ListN.{length, take}
-use Rattle.formats.specs.Bytes.{allBelow, sameList}
+use Rattle.list_laws.specs.Tests.{allBelow, sameList}
 use Rattle.formats.specs.Plan.{nodeCount, planLength}
 use Rattle.formats.specs.Rules.{stateCount, labelCount, ruleLength}
 use Rattle.formats.specs.Checks.{firstNo, ruleTableChecks, nodeTableLength, stateTableLength}

@@ -6,7 +6,7 @@ use crate::plan::check_plan;
 use crate::rules::all_below;
 use crate::rules::check_rule_bytes;
 ghost use mathlib.Core.Path.{_≡_};
-ghost use Rattle.formats.specs.Bytes.{allBelow};
+ghost use Rattle.list_laws.specs.Tests.{allBelow};
 ghost use Rattle.formats.specs.Plan.{labelsIn};
 ghost use Rattle.formats.specs.Checks.{firstNo, ruleTableChecks, branchTableChecks, buildChecks, branchBuildChecks, freshRunChecks};
 ghost use Rattle.formats.specs.InnerChecks.{Labelled, Sizes, roomFits};

@@ -2,7 +2,7 @@
 use crate::limits::CHANGE_LIMIT;
 use crate::rules::all_below;
 ghost use mathlib.Core.Path.{_≡_};
-ghost use Rattle.formats.specs.Bytes.{allBelow, holds, distinct};
+ghost use Rattle.list_laws.specs.Tests.{allBelow, holds, distinct};
 ghost use Rattle.formats.specs.Checks.{firstNo, listChecks};
 ghost use Rattle.formats.specs.InnerChecks.{listsFit};
 

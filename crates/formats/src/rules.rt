@@ -5,7 +5,7 @@ use crate::limits::STATE_LIMIT;
 ghost use mathlib.Core.Path.{_≡_};
 ghost use Prim.Native.Nat.{_+_, _*_};
 ghost use lib.ListN.{getD};
-ghost use Rattle.formats.specs.Bytes.{allBelow};
+ghost use Rattle.list_laws.specs.Tests.{allBelow};
 ghost use Rattle.formats.specs.Checks.{firstNo, ruleChecks};
 ghost use Rattle.formats.specs.InnerChecks.{Counts, Headed, RuleSized, RuleArgs, Product, countsFit, ruleShape, ruleValues};
 

@@ -13,7 +13,7 @@ use mathlib.Core.Bool.{true}
 use mathlib.Core.List.{List}
 use mathlib.Core.Option.{some}
 use lib.ListN.{length, getD, take}
-use Rattle.formats.specs.Bytes.{allBelow}
+use Rattle.list_laws.specs.Tests.{allBelow}
 use Rattle.formats.specs.Plan.{planTree}
 use Rattle.formats.specs.Checks.{firstNo, listChecks}
 use Rattle.formats.specs.Inputs.{Inputs, Sizes, fits, usedNodeTable, sameNodeInputs, nodeTableBuilt, statesBelow}

@@ -15,13 +15,13 @@ use lib.Seq.{take-all, drop-cons, getD-set-same, getD-set-other, set-out}
 use borrow.Author.Tests.{ltb-true, eqb-true}
 use Rattle.trees.specs.Tree.{Tree, size, kindsOf, labelsOf, labelAt}
 use Rattle.trees.specs.Changes.{changed}
-use Rattle.trees.proofs.RowLaws.{cell-in}
-use Rattle.formats.specs.Bytes.{allBelow, holds}
+use Rattle.list_laws.proofs.RowLaws.{cell-in}
+use Rattle.list_laws.specs.Tests.{allBelow, holds}
 use Rattle.formats.specs.Plan.{nodeCount, planTree, labelsIn, kindsIn, planLength}
 use Rattle.formats.specs.Rules.{stateCount, labelCount, leafStates, innerStates, ruleAutomaton}
 use Rattle.formats.specs.Checks.{nodeTableLength, stateTableLength}
 use Rattle.formats.specs.Built.{builtNodeTable}
-use Rattle.formats.proofs.ListLaws.{allBelow-all}
+use Rattle.list_laws.proofs.TestLaws.{allBelow-all}
 use Rattle.formats.proofs.PlanLaws.{PlanPasses, size-planTree, kinds-planTree, labels-planTree}
 use Rattle.formats.proofs.RuleLaws.{RulesPass, leaf-state-below, inner-state-below}
 use Rattle.formats.proofs.InputLaws.{ListPasses, list-passes, label-below}

@@ -14,12 +14,12 @@ use native.Mathlib.Omega.{arith}
 use lib.Dec.{eqb}
 use lib.ListN.{length, getD, take}
 use Rattle.trees.proofs.MoveLaws.{none-some}
-use Rattle.formats.specs.Bytes.{allBelow, sameList}
+use Rattle.list_laws.specs.Tests.{allBelow, sameList}
 use Rattle.formats.specs.Plan.{planTree}
 use Rattle.formats.specs.Checks.{check, firstNo, listChecks}
-use Rattle.formats.proofs.CheckLaws.{and-both, true-false}
+use Rattle.list_laws.proofs.BoolLaws.{and-both, true-false}
 use Rattle.formats.proofs.InputLaws.{ListPasses, list-passes}
-use Rattle.formats.proofs.ListLaws.{sameList-refl}
+use Rattle.list_laws.proofs.TestLaws.{sameList-refl}
 use Rattle.tables.specs.declared.answers.Reached.{Reached}
 use Rattle.ready.specs.Members.{roots}
 use Rattle.ready.specs.Parts.{Part, nodesOf, statesOf, partOf}

@@ -13,7 +13,7 @@ use native.Mathlib.Omega.{arith}
 use lib.ListN.{length, take, drop}
 use Rattle.trees.specs.Tree.{size}
 use Rattle.trees.proofs.NodeLaws.{size-pos}
-use Rattle.formats.specs.Bytes.{holds}
+use Rattle.list_laws.specs.Tests.{holds}
 use Rattle.formats.specs.Plan.{planTree}
 use Rattle.formats.specs.Rules.{ruleMarks}
 use Rattle.formats.specs.Checks.{check, firstNo, listChecks}

@@ -13,8 +13,8 @@ use native.Mathlib.Omega.{arith}
 use lib.Dec.{ltb}
 use lib.ListN.{length}
 use borrow.Author.Tests.{lt-ltb}
-use Rattle.formats.specs.Bytes.{allBelow}
-use Rattle.formats.proofs.CheckLaws.{and-both, and-left, and-right}
+use Rattle.list_laws.specs.Tests.{allBelow}
+use Rattle.list_laws.proofs.BoolLaws.{and-both, and-left, and-right}
 use Rattle.ready.specs.Parts.{Given, Part, partOf, partLinks, sumOf, partsFrom, lastState, allLinks}
 use Rattle.ready.proofs.PartsRun.{nodes-more}
 use Rattle.model.specs.Model.{lastOf}

@@ -17,7 +17,7 @@ use mathlib.Core.Bool.{true, false}
 use mathlib.Core.List.{List, [], _∷_, _++_}
 use mathlib.Core.Option.{some}
 use lib.ListN.{length, getD, take}
-use Rattle.formats.specs.Bytes.{allBelow}
+use Rattle.list_laws.specs.Tests.{allBelow}
 use Rattle.formats.specs.Plan.{planTree}
 use Rattle.formats.specs.Checks.{firstNo, listChecks}
 use Rattle.node_tables.specs.OutOfRange.{NodeTableOutOfRange}

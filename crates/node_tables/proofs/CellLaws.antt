@@ -13,8 +13,9 @@ use native.Mathlib.Omega.{arith}
 use lib.ListN.{length, getD, take, drop}
 use Rattle.trees.specs.Tree.{Tree, kindsOf, size}
 use Rattle.trees.specs.Tables.{nodeRow, nodeTableOf}
-use Rattle.trees.proofs.RowLaws.{length-rows, length-nodeRow, nodeRow-cells, rows-of-cells, rows-over, take-over}
-use Rattle.trees.proofs.RowLaws.{nodeTableOf-parent, nodeTableOf-jump, nodeTableOf-depth, nodeTableOf-size}
+use Rattle.list_laws.proofs.RowLaws.{length-rows, rows-of-cells, rows-over, take-over}
+use Rattle.trees.proofs.TableRows.{length-nodeRow, nodeRow-cells}
+use Rattle.trees.proofs.TableRows.{nodeTableOf-parent, nodeTableOf-jump, nodeTableOf-depth, nodeTableOf-size}
 use Rattle.trees.proofs.PostorderLaws.{size-of, some-tree}
 use Rattle.formats.specs.Checks.{nodeTableLength}
 use Rattle.node_tables.specs.Cells.{NodeTableArgs}

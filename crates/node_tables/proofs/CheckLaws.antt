@@ -10,9 +10,9 @@ use lib.ListN.{length, take}
 use Rattle.trees.specs.Tree.{Tree, kindsOf}
 use Rattle.trees.specs.Tables.{nodeTableOf}
 use Rattle.trees.proofs.PostorderLaws.{size-of}
-use Rattle.formats.specs.Bytes.{sameList}
+use Rattle.list_laws.specs.Tests.{sameList}
 use Rattle.formats.specs.Checks.{nodeTableLength}
-use Rattle.formats.proofs.ListLaws.{sameList-is, sameList-not}
+use Rattle.list_laws.proofs.TestLaws.{sameList-is, sameList-not}
 use Rattle.node_tables.specs.Cells.{NodeTableArgs}
 use Rattle.node_tables.specs.NodeCells.{NodeCells, UpCells}
 use Rattle.node_tables.specs.DownPass.{DownArgs}

@@ -14,7 +14,7 @@ use lib.Dec.{ltb}
 use borrow.Author.Tests.{lt-ltb, le-ltb, le-leb, lt-leb}
 use Rattle.trees.specs.Numbering.{isInSubtree}
 use Rattle.trees.specs.Climb.{Forest, nextMove}
-use Rattle.trees.proofs.Choice.{le-or}
+use Rattle.list_laws.proofs.Choice.{le-or}
 use Rattle.node_tables.specs.Cells.{sizeCell, isInSubtreeOn}
 use Rattle.node_tables.specs.declared.moves.NextMove.the-variants.{Jump, Parent, Stuck}
 use Rattle.node_tables.specs.MoveAnswers.{nextMoveOf, risesTo}

@@ -24,7 +24,7 @@ use Rattle.trees.proofs.SkewBinary.{jumpDepth-lt}
 use Rattle.trees.proofs.TreeClimbs.{below-root}
 use Rattle.trees.proofs.IntervalLaws.{ancestor-interval}
 use Rattle.trees.proofs.LinkRangeLaws.{tree-links-in-range}
-use Rattle.formats.proofs.CheckLaws.{true-false, and-both}
+use Rattle.list_laws.proofs.BoolLaws.{true-false, and-both}
 use Rattle.node_tables.specs.Cells.{parentCell, jumpCell, depthCell, sizeCell, cellForest, isInSubtreeOn}
 use Rattle.node_tables.specs.NodeCells.{NodeCells}
 use Rattle.node_tables.specs.OutOfRange.{Childless, NodeTableOutOfRange, link, childless, apart}

@@ -7,7 +7,7 @@ ghost use mathlib.Core.Path.{_≡_};
 ghost use lib.ListN.{length, take};
 ghost use Rattle.trees.specs.Tree.{Tree, kindsOf};
 ghost use Rattle.trees.specs.Tables.{nodeTableOf};
-ghost use Rattle.formats.specs.Bytes.{sameList};
+ghost use Rattle.list_laws.specs.Tests.{sameList};
 ghost use Rattle.formats.specs.Checks.{nodeTableLength};
 ghost use Rattle.node_tables.specs.Cells.{NodeTableArgs};
 ghost use Rattle.node_tables.specs.NodeCells.{NodeCells, UpCells, DownFrom, Parents};

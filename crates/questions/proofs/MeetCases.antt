@@ -12,7 +12,7 @@ use native.Mathlib.Omega.{arith}
 use lib.Dec.{ltb}
 use borrow.Author.Tests.{lt-ltb, le-ltb, le-leb, lt-leb}
 use Rattle.trees.specs.Climb.{Forest, Move, byJump, toParent, target, rising}
-use Rattle.trees.proofs.Choice.{le-or}
+use Rattle.list_laws.proofs.Choice.{le-or}
 use Rattle.node_tables.specs.Cells.{sizeCell, depthCell, cellForest}
 use Rattle.node_tables.specs.Cells.{isInSubtreeOn}
 use Rattle.questions.specs.declared.search.Meeting.the-variants.{At, Outside}

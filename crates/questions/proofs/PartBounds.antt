@@ -18,7 +18,7 @@ use Rattle.trees.specs.Climb.{andThen}
 use Rattle.trees.proofs.MoveLaws.{none-some, cond-some}
 use Rattle.formats.specs.Limits.{nodeLimit, within}
 use Rattle.formats.specs.Buffers.{limitsFit}
-use Rattle.formats.proofs.CheckLaws.{and-left, and-right}
+use Rattle.list_laws.proofs.BoolLaws.{and-left, and-right}
 use Rattle.node_tables.specs.Cells.{sizeCell}
 use Rattle.tables.specs.declared.answers.Reached.{Reached}
 use Rattle.tables.specs.Climbs.{View, below, runOn, ruleOn, reached, climbOn}

@@ -14,7 +14,7 @@ use Rattle.trees.proofs.MoveLaws.{both}
 use Rattle.formats.specs.Limits.{nodeLimit}
 use Rattle.formats.specs.Rules.{ruleLength}
 use Rattle.formats.specs.Buffers.{limitsFit, buffersFit}
-use Rattle.formats.proofs.CheckLaws.{and-no-left, and-next}
+use Rattle.list_laws.proofs.BoolLaws.{and-no-left, and-next}
 use Rattle.tables.specs.Climbs.{climbedOf}
 use Rattle.tables.specs.declared.answers.Climbed.the-variants.{OutOfRange}
 use Rattle.questions.specs.Part.{partOn}

@@ -18,8 +18,8 @@ use Rattle.trees.specs.Numbering.{isInSubtree}
 use Rattle.trees.specs.Climb.{Forest, Move, byJump, toParent, target, andThen, climb, carry}
 use Rattle.trees.proofs.MoveLaws.{none-some, next-inside, next-starts}
 use Rattle.trees.proofs.LinkRangeLaws.{Failed, carried-none}
-use Rattle.formats.specs.Bytes.{allBelow}
-use Rattle.formats.proofs.CheckLaws.{and-left, and-right}
+use Rattle.list_laws.specs.Tests.{allBelow}
+use Rattle.list_laws.proofs.BoolLaws.{and-left, and-right}
 use Rattle.node_tables.specs.Cells.{parentCell, depthCell, sizeCell, cellForest, isInSubtreeOn}
 use Rattle.node_tables.specs.OutOfRange.{Childless, link, childless}
 use Rattle.tables.specs.StateCells.{stateCell}

@@ -15,10 +15,10 @@ use lib.ListN.{length, getD, take, drop, take-append-drop}
 use lib.Seq.{drop-cons}
 use borrow.Author.Tests.{ltb-true}
 use Rattle.trees.specs.Tree.{Tree, size}
-use Rattle.formats.specs.Bytes.{allBelow, holds}
+use Rattle.list_laws.specs.Tests.{allBelow, holds}
 use Rattle.formats.specs.Rules.{ruleLength}
 use Rattle.formats.specs.Buffers.{limitsFit, buffersFit}
-use Rattle.formats.proofs.CheckLaws.{and-right}
+use Rattle.list_laws.proofs.BoolLaws.{and-right}
 use Rattle.node_tables.specs.NodeCells.{NodeCells}
 use Rattle.node_tables.specs.OutOfRange.{NodeTableOutOfRange}
 use Rattle.tables.specs.declared.answers.Climbed.{Climbed}

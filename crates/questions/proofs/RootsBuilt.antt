@@ -15,7 +15,7 @@ use borrow.Author.Tests.{eqb-true, eq-eqb}
 use Rattle.trees.specs.Tree.{Tree, size, kindAt}
 use Rattle.trees.specs.Numbering.{sub, InSubtree}
 use Rattle.trees.proofs.NodeLaws.{size-pos, Inner, inner, sub-size}
-use Rattle.formats.specs.Bytes.{holds}
+use Rattle.list_laws.specs.Tests.{holds}
 use Rattle.node_tables.specs.NodeCells.{NodeCells}
 use Rattle.ready.specs.Ready.{Meet, leftChild, rightChild}
 use Rattle.ready.specs.Members.{Rising, readyList, roots}

@@ -16,10 +16,10 @@ use lib.Dec.{leb, ltb, eqb}
 use borrow.Author.Tests.{ltb-false, leb-false, eqb-false}
 use Rattle.trees.specs.Climb.{Forest, Move, byJump, toParent, target, andThen}
 use Rattle.trees.specs.LinkOutOfRange.{LinkOutOfRange}
-use Rattle.trees.proofs.Choice.{by-test, le-or}
+use Rattle.list_laws.proofs.Choice.{by-test, le-or}
 use Rattle.trees.proofs.MoveLaws.{none-some}
 use Rattle.trees.proofs.LinkRangeLaws.{next-out-of-range}
-use Rattle.formats.specs.Bytes.{allBelow}
+use Rattle.list_laws.specs.Tests.{allBelow}
 use Rattle.node_tables.specs.Cells.{sizeCell, cellForest, isInSubtreeOn}
 use Rattle.node_tables.specs.OutOfRange.{Childless, NodeTableOutOfRange, link, childless, apart}
 use Rattle.questions.specs.Search.{nextUnless, searchIn, search, meetOn}

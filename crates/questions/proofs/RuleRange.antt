@@ -9,8 +9,8 @@ use native.Mathlib.Omega.{arith}
 use lib.ListN.{getD}
 use Rattle.trees.specs.Tree.{size, labelsOf}
 use Rattle.trees.specs.Changes as changes
-use Rattle.formats.specs.Bytes.{allBelow}
-use Rattle.formats.proofs.CheckLaws.{true-false}
+use Rattle.list_laws.specs.Tests.{allBelow}
+use Rattle.list_laws.proofs.BoolLaws.{true-false}
 use Rattle.node_tables.specs.OutOfRange.{NodeTableOutOfRange}
 use Rattle.node_tables.proofs.RangeLaws.{children-inside, cells-in-range}
 use Rattle.tables.specs.Climbs.{View}

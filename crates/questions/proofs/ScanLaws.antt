@@ -18,9 +18,9 @@ use lib.Seq.{drop-cons, drop-drop, getD-drop, getD-set-same, getD-set-other}
 use borrow.Author.Tests.{lt-ltb, le-ltb, le-leb, lt-leb, leb-true, ltb-true}
 use Rattle.trees.specs.Numbering.{isInSubtree}
 use Rattle.trees.specs.Changes.{changed}
-use Rattle.trees.proofs.Choice.{by-test}
+use Rattle.list_laws.proofs.Choice.{by-test}
 use Rattle.trees.proofs.MoveLaws.{both}
-use Rattle.formats.proofs.CheckLaws.{true-false}
+use Rattle.list_laws.proofs.BoolLaws.{true-false}
 use Rattle.node_tables.specs.Cells.{sizeCell}
 use Rattle.node_tables.specs.Cells.{isInSubtreeOn}
 use Rattle.questions.specs.Part.{found, lastFound, foundBelow}

@@ -19,7 +19,7 @@ use Rattle.trees.specs.Tree.{Tree, size, labelsOf}
 use Rattle.trees.specs.Automaton.{state}
 use Rattle.trees.specs.Changes.{changed}
 use Rattle.trees.specs.Numbering.{sub, InSubtree}
-use Rattle.formats.specs.Bytes.{allBelow}
+use Rattle.list_laws.specs.Tests.{allBelow}
 use Rattle.node_tables.specs.OutOfRange.{NodeTableOutOfRange}
 use Rattle.node_tables.specs.NodeCells.{NodeCells}
 use Rattle.tables.specs.Climbs.{View, reached}

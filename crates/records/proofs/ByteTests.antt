@@ -16,7 +16,7 @@ use lib.Dec.{leb, eqb}
 use lib.ListN.{length, getD, take, drop, set, length-append, drop-of-length-le}
 use lib.Seq.{sets, sets-eq, take-at, drop-at, drop-drop}
 use borrow.Author.Tests.{eq-eqb, ne-eqb, eqb-true, not-true, not-false}
-use Rattle.formats.proofs.CheckLaws.{and-left}
+use Rattle.list_laws.proofs.BoolLaws.{and-left}
 use Rattle.formats.specs.Bytes.{le16, le32}
 use Rattle.session.specs.declared.state.Phase.{Phase}
 use Rattle.session.specs.declared.state.Head.{Head}

@@ -8,7 +8,7 @@ use mathlib.Core.Path.{_≡_, refl}
 use mathlib.Core.Bool.{true, false}
 use mathlib.Core.List.{List, [], _∷_, _++_}
 use lib.ListN.{set, drop, replicate}
-use Rattle.formats.specs.Bytes.{allBelow}
+use Rattle.list_laws.specs.Tests.{allBelow}
 use Rattle.session.specs.Records.{sizesFit, listFits, partsFit, questionFits, risesTo, zeroFrom, noQuestion, validIn, valid}
 use Rattle.records.specs.Layout.{numbers16, decoded, laidOut, validBytes}
 

@@ -16,10 +16,10 @@ use lib.Dec.{leb, eqb}
 use lib.ListN.{length, getD, drop, replicate, length-append, length-drop}
 use lib.Seq.{take-all}
 use borrow.Author.Tests.{leb-true, eq-eqb, le-leb}
-use Rattle.formats.specs.Bytes.{allBelow}
+use Rattle.list_laws.specs.Tests.{allBelow}
 use Rattle.formats.proofs.ByteLaws.{bytes-number, number-bytes}
-use Rattle.formats.proofs.PartLaws.{length-part}
-use Rattle.formats.proofs.CheckLaws.{and-left, and-right, and-both}
+use Rattle.list_laws.proofs.SliceLaws.{length-part}
+use Rattle.list_laws.proofs.BoolLaws.{and-left, and-right, and-both}
 use Rattle.session.specs.declared.state.Session.{Session}
 use Rattle.session.specs.Records.{zeroFrom, noQuestion, validIn, valid, freshSession}
 use Rattle.records.specs.Layout.{numbers16, bytes16, phaseByte, yesByte, headBytes, restBytes, encoded}

@@ -13,11 +13,12 @@ use lib.ListN.{length, getD, take}
 use lib.Seq.{take-suc}
 use borrow.Author.Tests.{eqb-true, eqb-false}
 use Rattle.trees.proofs.MoveLaws.{none-some}
-use Rattle.formats.specs.Bytes.{allBelow}
+use Rattle.list_laws.specs.Tests.{allBelow}
 use Rattle.formats.specs.Rules.{ruleAutomaton}
 use Rattle.formats.specs.Checks.{check, firstNo}
-use Rattle.formats.proofs.CheckLaws.{true-false, and-both, and-left, and-right, firstNo-head, firstNo-tail}
-use Rattle.formats.proofs.ListLaws.{allBelow-at}
+use Rattle.list_laws.proofs.BoolLaws.{true-false, and-both, and-left, and-right}
+use Rattle.formats.proofs.CheckLaws.{firstNo-head, firstNo-tail}
+use Rattle.list_laws.proofs.TestLaws.{allBelow-at}
 use Rattle.tables.specs.declared.answers.Reached.{Reached}
 use Rattle.ready.specs.Parts.{Given, Part, part, partOf, partsFrom, statesOf}
 use Rattle.ready.proofs.PartsRun.{nodes-more}

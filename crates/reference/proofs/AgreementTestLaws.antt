@@ -7,8 +7,8 @@ use mathlib.Core.Path.{_≡_, refl, sym, ap, _∙_}
 use mathlib.Core.Bool.{Bool, true, false}
 use mathlib.Core.List.{List, [], _∷_}
 use lib.Dec.{eqb}
-use Rattle.formats.proofs.CheckLaws.{true-false, and-left, and-right}
-use Rattle.formats.proofs.ListLaws.{sameList-true}
+use Rattle.list_laws.proofs.BoolLaws.{true-false, and-left, and-right}
+use Rattle.list_laws.proofs.TestLaws.{sameList-true}
 use Rattle.model.specs.Calls.{Call, Answer, refused, parts, more, finished, outcome, readAnswer}
 use Rattle.reference.specs.Reference.{Reference, Reply, settled, unsettled, step}
 use Rattle.reference.specs.Demand3.{Conforms, after, Agrees}

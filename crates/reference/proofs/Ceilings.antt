@@ -16,7 +16,7 @@ use Rattle.trees.specs.Numbering.{depth}
 use Rattle.trees.specs.Climb.{digits}
 use Rattle.trees.proofs.IntervalLaws.{interval-ancestor, above-at}
 use Rattle.trees.proofs.TreeClimbs.{climb-tree, climb-bound}
-use Rattle.formats.specs.Bytes.{allBelow, holds}
+use Rattle.list_laws.specs.Tests.{allBelow, holds}
 use Rattle.formats.specs.Plan.{planTree}
 use Rattle.ready.specs.Ready.{leftChild, rightChild}
 use Rattle.ready.specs.Members.{readyList, roots}

@@ -22,17 +22,19 @@ use Rattle.trees.specs.Tree.{Tree, size, kindsOf, kindAt, labelsOf, labelAt}
 use Rattle.trees.specs.Automaton.{Automaton, state}
 use Rattle.trees.specs.Numbering.{sub}
 use Rattle.trees.specs.Changes.{changed}
-use Rattle.trees.specs.Tables.{rows, stateMap, stateRow, stateTableOf}
+use Rattle.list_laws.specs.Rows.{rows}
+use Rattle.trees.specs.Tables.{stateMap, stateRow, stateTableOf}
 use Rattle.trees.proofs.NodeLaws.{size-pos, sub-root}
 use Rattle.trees.proofs.PostorderLaws.{treeOf-kinds, treeOf-labels}
-use Rattle.trees.proofs.RowLaws.{Cell, cell-split, getD-tabulate, length-rows, getD-rows, length-stateRow}
-use Rattle.trees.proofs.RowLaws.{stateTableOf-state, stateTableOf-map}
+use Rattle.list_laws.proofs.RowLaws.{Cell, cell-split, getD-tabulate, length-rows, getD-rows}
+use Rattle.trees.proofs.TableRows.{length-stateRow}
+use Rattle.trees.proofs.TableRows.{stateTableOf-state, stateTableOf-map}
 use Rattle.trees.proofs.MapLaws.{stateMap-below}
 use Rattle.trees.proofs.RunLaws.{state-below}
-use Rattle.formats.specs.Bytes.{allBelow, holds}
+use Rattle.list_laws.specs.Tests.{allBelow, holds}
 use Rattle.formats.specs.Plan.{planTree, labelsIn, kindsIn}
 use Rattle.formats.specs.Rules.{ruleAutomaton}
-use Rattle.formats.proofs.ListLaws.{at-allBelow, sameList-true}
+use Rattle.list_laws.proofs.TestLaws.{at-allBelow, sameList-true}
 use Rattle.formats.proofs.PlanLaws.{labels-as-kinds, kinds-planTree, labels-planTree}
 use Rattle.formats.proofs.RuleLaws.{RulesPass, leaf-state-below, inner-state-below}
 use Rattle.runs.proofs.ListedLaws.{label-changed, label-unlisted, length-changed}

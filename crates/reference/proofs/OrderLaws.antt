@@ -13,7 +13,7 @@ use Rattle.trees.specs.Tree.{Tree}
 use Rattle.trees.specs.Changes.{changed}
 use Rattle.trees.specs.Postorder.{treeOf}
 use Rattle.trees.specs.Automaton.{state, accepts}
-use Rattle.formats.specs.Bytes.{holds, distinct}
+use Rattle.list_laws.specs.Tests.{holds, distinct}
 use Rattle.formats.specs.Plan.{planTree, labelsIn, kindsIn}
 use Rattle.formats.specs.Rules.{ruleAutomaton}
 use Rattle.formats.specs.Checks.{firstNo}

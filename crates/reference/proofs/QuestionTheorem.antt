@@ -16,10 +16,10 @@ use native.Mathlib.Omega.{arith}
 use lib.ListN.{length}
 use Rattle.trees.specs.Tree.{height}
 use Rattle.trees.specs.Climb.{digits}
-use Rattle.formats.specs.Bytes.{distinct}
+use Rattle.list_laws.specs.Tests.{distinct}
 use Rattle.formats.specs.Plan.{planTree}
 use Rattle.formats.specs.Checks.{firstNo, listChecks}
-use Rattle.formats.proofs.CheckLaws.{true-false, and-left}
+use Rattle.list_laws.proofs.BoolLaws.{true-false, and-left}
 use Rattle.formats.proofs.InputLaws.{list-passes}
 use Rattle.formats.specs.Inputs.{Inputs, Sizes, nodeTableBuilt, stateTableBuilt, sound}
 use Rattle.model.specs.Calls.{Call, start, Answer, refused, parts, more, finished, outcome, onOutcome, isRefused}

@@ -15,8 +15,9 @@ use Rattle.trees.specs.Postorder.{isPostorder, treeOf}
 use Rattle.trees.specs.Changes.{changed}
 use Rattle.trees.specs.Jumps.{jumpIn, jump}
 use Rattle.trees.specs.Climb.{nextMove, climbIn, climb, walk}
-use Rattle.trees.specs.Tables.{tabulate, rows, nodeTableOf, stepUp, stateMap, stateTableOf}
-use Rattle.formats.specs.Bytes.{allBelow, holds, distinct, sameList}
+use Rattle.list_laws.specs.Rows.{tabulate, rows}
+use Rattle.trees.specs.Tables.{nodeTableOf, stepUp, stateMap, stateTableOf}
+use Rattle.list_laws.specs.Tests.{allBelow, holds, distinct, sameList}
 use Rattle.formats.specs.Checks.{firstNo, planChecks, ruleChecks, listChecks, ruleTableChecks, buildChecks}
 use Rattle.formats.specs.Built.{builtNodeTable, builtStateTable}
 use Rattle.node_tables.specs.Cells.{isInSubtreeOn}

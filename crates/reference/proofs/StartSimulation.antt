@@ -10,10 +10,11 @@ use mathlib.Core.Option.{Option, none, some}
 use native.Mathlib.Omega.{arith}
 use Rattle.trees.specs.Tree.{size}
 use Rattle.trees.proofs.NodeLaws.{size-pos}
-use Rattle.formats.specs.Bytes.{holds, allBelow}
+use Rattle.list_laws.specs.Tests.{holds, allBelow}
 use Rattle.formats.specs.Plan.{planTree}
 use Rattle.formats.specs.Checks.{check, firstNo, listChecks}
-use Rattle.formats.proofs.CheckLaws.{true-false, firstNo-tail}
+use Rattle.list_laws.proofs.BoolLaws.{true-false}
+use Rattle.formats.proofs.CheckLaws.{firstNo-tail}
 use Rattle.formats.proofs.InputLaws.{list-passes}
 use Rattle.ready.specs.Members.{roots}
 use Rattle.ready.specs.Parts.{partsFrom, allLinks}

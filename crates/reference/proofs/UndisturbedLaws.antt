@@ -15,7 +15,7 @@ use lib.Dec.{eqb}
 use lib.ListN.{length}
 use borrow.Author.Tests.{eqb-true, eqb-false}
 use Rattle.formats.specs.Checks.{firstNo}
-use Rattle.formats.proofs.CheckLaws.{true-false}
+use Rattle.list_laws.proofs.BoolLaws.{true-false}
 use Rattle.ready.specs.Parts.{Part}
 use Rattle.trees.proofs.MoveLaws.{none-some}
 use Rattle.formats.specs.Inputs.{Inputs, Sizes, sameInputs}

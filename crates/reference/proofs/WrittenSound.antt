@@ -19,8 +19,9 @@ use Rattle.formats.specs.Plan.{nodeCount, planLength, planTree}
 use Rattle.formats.specs.Rules.{stateCount, labelCount, ruleLength, ruleAutomaton}
 use Rattle.formats.specs.Checks.{check, firstNo, ruleTableChecks, buildChecks, listChecks, nodeTableLength, stateTableLength}
 use Rattle.formats.specs.Built.{builtNodeTable, builtStateTable}
-use Rattle.formats.proofs.CheckLaws.{and-both, firstNo-yes, firstNo-tail}
-use Rattle.formats.proofs.ListLaws.{sameList-is}
+use Rattle.list_laws.proofs.BoolLaws.{and-both}
+use Rattle.formats.proofs.CheckLaws.{firstNo-yes, firstNo-tail}
+use Rattle.list_laws.proofs.TestLaws.{sameList-is}
 use Rattle.formats.proofs.PlanLaws.{size-planTree}
 use Rattle.formats.proofs.InputLaws.{rule-table-passes, build-table}
 use Rattle.tables.specs.Answers.{written}

@@ -11,7 +11,7 @@ use Prim.Native.Nat.{ℕ}
 use mathlib.Core.Bool.{Bool, true, false, _&&_}
 use mathlib.Core.List.{List, [], _∷_}
 use mathlib.Core.Option.{Option, none, some}
-use Rattle.formats.specs.Bytes.{sameList}
+use Rattle.list_laws.specs.Tests.{sameList}
 use Rattle.model.specs.Calls.{Call, Answer, refused, parts, more, finished, outcome}
 use Rattle.reference.specs.Reference.{Reference, Reply, settled, unsettled, step}
 use Rattle.reference.specs.Demand3.{after}

@@ -16,8 +16,8 @@ use lib.Dec.{eqb}
 use lib.ListN.{length, getD, drop, set, length-set, drop-of-length-le}
 use lib.Seq.{drop-cons, getD-set-same, getD-set-other}
 use Rattle.trees.specs.Changes.{changed}
-use Rattle.formats.specs.Bytes.{holds}
-use Rattle.formats.proofs.CheckLaws.{true-false}
+use Rattle.list_laws.specs.Tests.{holds}
+use Rattle.list_laws.proofs.BoolLaws.{true-false}
 use Rattle.runs.specs.Listed.{labelFor}
 
 -- ---- the scan for a label

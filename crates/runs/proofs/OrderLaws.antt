@@ -20,12 +20,12 @@ use lib.Seq.{set-comm}
 use Rattle.trees.specs.Automaton.{state, accepts}
 use Rattle.trees.specs.Postorder.{treeOf}
 use Rattle.trees.specs.Changes.{changed}
-use Rattle.formats.specs.Bytes.{allBelow, holds, distinct}
+use Rattle.list_laws.specs.Tests.{allBelow, holds, distinct}
 use Rattle.formats.specs.Plan.{nodeCount, labelsIn, kindsIn}
 use Rattle.formats.specs.Rules.{labelCount, ruleAutomaton}
 use Rattle.formats.specs.Checks.{Check, firstNo, listChecks, ruleTableChecks, freshRunChecks}
-use Rattle.formats.proofs.CheckLaws.{true-false}
-use Rattle.formats.proofs.ListLaws.{distinct-head, distinct-tail}
+use Rattle.list_laws.proofs.BoolLaws.{true-false}
+use Rattle.list_laws.proofs.TestLaws.{distinct-head, distinct-tail}
 use Rattle.formats.proofs.InputLaws.{list-passes, fresh-run-list}
 use Rattle.runs.specs.declared.answer.Running.the-variants.{Ended}
 use Rattle.runs.specs.FreshRun.{runAnswer, rootState, rootAccepted, freshRun}

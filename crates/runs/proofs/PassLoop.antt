@@ -20,7 +20,7 @@ use Rattle.trees.specs.Postorder.{waiting, isOne, isPostorder, read, treeOf}
 use Rattle.trees.proofs.PostorderLaws.{state-fold, read-whole, treeOf-kinds, treeOf-labels}
 use Rattle.trees.proofs.PostorderLaws.{leaf-at, inner-at, short-at, other-at, end-at}
 use Rattle.trees.proofs.MoveLaws.{none-some}
-use Rattle.trees.proofs.RowLaws.{stride}
+use Rattle.list_laws.proofs.RowLaws.{stride}
 use Rattle.formats.specs.InnerChecks.{RuleArgs}
 use Rattle.formats.specs.Rules.{treeAutomaton}
 use Rattle.runs.proofs.StackLaws.{stackOf, stack-push, stack-two, some-some, waiting-most}

@@ -20,9 +20,9 @@ use Rattle.trees.specs.Tree.{Tree, leaf, node}
 use Rattle.trees.specs.Automaton.{Automaton, state}
 use Rattle.formats.specs.Plan.{nodeCount, labelsIn, kindsIn}
 use Rattle.formats.specs.Rules.{stateCount, labelCount, leafStates, innerStates, ruleMarks, ruleAutomaton}
-use Rattle.formats.specs.Bytes.{allBelow}
+use Rattle.list_laws.specs.Tests.{allBelow}
 use Rattle.formats.specs.Checks.{firstNo, freshRunChecks}
-use Rattle.formats.proofs.ListLaws.{allBelow-all}
+use Rattle.list_laws.proofs.TestLaws.{allBelow-all}
 use Rattle.formats.proofs.PlanLaws.{PlanPasses, length-kindsIn, labels-as-kinds, labels-part, kinds-part}
 use Rattle.formats.proofs.RuleLaws.{RulesPass, length-leafStates, length-innerStates, leaf-state-below}
 use Rattle.formats.proofs.RuleLaws.{inner-state-below, leaves-part, inner-part}

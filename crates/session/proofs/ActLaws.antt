@@ -12,8 +12,9 @@ use native.Mathlib.Omega.{arith}
 use lib.Dec.{leb, ltb, eqb}
 use lib.ListN.{length, getD, length-append}
 use borrow.Author.Tests.{le-leb, lt-ltb, ltb-true, eq-eqb, eqb-true, eqb-false}
-use Rattle.formats.specs.Bytes.{allBelow}
-use Rattle.formats.proofs.CheckLaws.{and-both, and-left, and-right, firstNo-head, firstNo-tail, true-false}
+use Rattle.list_laws.specs.Tests.{allBelow}
+use Rattle.list_laws.proofs.BoolLaws.{and-both, and-left, and-right, true-false}
+use Rattle.formats.proofs.CheckLaws.{firstNo-head, firstNo-tail}
 use Rattle.formats.proofs.InputLaws.{ListPasses, list-passes, build-passes}
 use Rattle.tables.specs.declared.answers.Reached.{Reached}
 use Rattle.tables.proofs.ClimbBounds.{Bounded}

@@ -16,7 +16,8 @@ use borrow.Author.Tests.{not-true, not-false, le-leb, lt-ltb, eq-eqb}
 use Rattle.formats.specs.Checks.{check, firstNo}
 use Rattle.formats.specs.Rules.{ruleLength}
 use Rattle.formats.specs.Buffers.{limitsFit, buffersFit, LimitArgs}
-use Rattle.formats.proofs.CheckLaws.{and-both, and-left, and-right, firstNo-yes, firstNo-no}
+use Rattle.list_laws.proofs.BoolLaws.{and-both, and-left, and-right}
+use Rattle.formats.proofs.CheckLaws.{firstNo-yes, firstNo-no}
 use Rattle.formats.proofs.BufferLaws.{Lengths, lengths-are}
 use Rattle.tables.specs.declared.answers.Climbed.{Climbed}
 use Rattle.tables.specs.declared.answers.Climbed.the-variants.{Reached as To, OutOfRange}

@@ -11,9 +11,10 @@ use mathlib.Core.List.{List, [], _∷_}
 use native.Mathlib.Omega.{arith}
 use lib.ListN.{length, getD}
 use borrow.Author.Tests.{not-true, not-false}
-use Rattle.formats.proofs.LoopLaws.{and-yes}
+use Rattle.list_laws.proofs.BoolLaws.{and-yes}
 use Rattle.formats.specs.Checks.{Check, check, firstNo, listChecks}
-use Rattle.formats.proofs.CheckLaws.{true-false, firstNo-no, firstNo-head}
+use Rattle.list_laws.proofs.BoolLaws.{true-false}
+use Rattle.formats.proofs.CheckLaws.{firstNo-no, firstNo-head}
 use Rattle.formats.specs.Inputs.{Inputs, fits}
 use Rattle.model.specs.Calls as calls
 use Rattle.model.specs.Calls.{Call, load, start, advance, cancel, read, Answer, refused, mayStart, isRunning}

@@ -5,7 +5,7 @@ use mathlib.Core.Bool.{Bool, true, false, not, _&&_}
 use mathlib.Core.List.{[]}
 use borrow.Author.Tests.{not-true, not-false}
 use Rattle.formats.specs.Checks.{firstNo}
-use Rattle.formats.proofs.CheckLaws.{and-left, and-right}
+use Rattle.list_laws.proofs.BoolLaws.{and-left, and-right}
 use Rattle.model.specs.Calls as calls
 use Rattle.model.specs.Calls.{cancel, isRunning}
 use Rattle.model.specs.Refusals.{refusal}

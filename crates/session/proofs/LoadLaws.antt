@@ -14,7 +14,8 @@ use Rattle.formats.specs.Plan.{nodeCount}
 use Rattle.formats.specs.Rules.{stateCount, labelCount}
 use Rattle.formats.specs.Checks.{Check, check, firstNo, buildChecks}
 use Rattle.formats.specs.Built.{builtNodeTable, builtStateTable}
-use Rattle.formats.proofs.CheckLaws.{and-left, and-right, firstNo-yes, firstNo-no}
+use Rattle.list_laws.proofs.BoolLaws.{and-left, and-right}
+use Rattle.formats.proofs.CheckLaws.{firstNo-yes, firstNo-no}
 use Rattle.formats.proofs.InputLaws.{build-passes}
 use Rattle.tables.specs.declared.answers.Building.{Building}
 use Rattle.tables.specs.declared.answers.Building.the-variants.{Built, Refused}

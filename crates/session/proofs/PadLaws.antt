@@ -18,8 +18,8 @@ use lib.ListN.{length, getD, set, take, drop, replicate, length-append, length-r
 use lib.Seq.{set-split, drop-drop, take-append-seam, drop-append-seam, take-at, drop-cons, set-at, take-suc, length-take-le}
 use lib.Seq.{take-length}
 use borrow.Author.Tests.{ltb-true}
-use Rattle.formats.specs.Bytes.{allBelow}
-use Rattle.formats.proofs.CheckLaws.{and-left, and-right}
+use Rattle.list_laws.specs.Tests.{allBelow}
+use Rattle.list_laws.proofs.BoolLaws.{and-left, and-right}
 use Rattle.session.specs.Records.{padded, zeroFrom}
 
 pub zero-replicate : (n : ℕ) → allBelow 1 (replicate n 0) ≡ true

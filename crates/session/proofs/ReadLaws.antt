@@ -11,7 +11,7 @@ use lib.ListN.{length, getD, take}
 use lib.Seq.{length-take-le, getD-take}
 use borrow.Author.Tests.{not-true, not-false}
 use Rattle.formats.specs.Checks.{firstNo}
-use Rattle.formats.proofs.CheckLaws.{and-left, and-right, true-false}
+use Rattle.list_laws.proofs.BoolLaws.{and-left, and-right, true-false}
 use Rattle.model.specs.Calls as calls
 use Rattle.model.specs.Calls.{read, isAnswered}
 use Rattle.model.specs.Refusals.{refusal}

@@ -9,7 +9,7 @@ use native.Mathlib.Numerals.{add-one}
 use lib.Dec.{ltb, eqb}
 use lib.ListN.{length, getD, drop, drop-of-length-le}
 use lib.Seq.{drop-cons}
-use Rattle.formats.proofs.LoopLaws.{and-assoc}
+use Rattle.list_laws.proofs.BoolLaws.{and-assoc}
 use Rattle.session.specs.Records.{risesTo}
 
 -- the elements from place i on: the one there, and those after it

@@ -14,7 +14,8 @@ use borrow.Author.Tests.{not-true, not-false}
 use Rattle.formats.specs.Checks.{check, firstNo, listChecks}
 use Rattle.formats.specs.Rules.{ruleLength}
 use Rattle.formats.specs.Buffers.{buffersFit, LimitArgs}
-use Rattle.formats.proofs.CheckLaws.{and-left, and-right, firstNo-yes, firstNo-no, true-false}
+use Rattle.list_laws.proofs.BoolLaws.{and-left, and-right, true-false}
+use Rattle.formats.proofs.CheckLaws.{firstNo-yes, firstNo-no}
 use Rattle.formats.proofs.InputLaws.{ListPasses, list-passes}
 use Rattle.formats.proofs.BufferLaws.{lengths-are}
 use Rattle.questions.specs.declared.roots.Rooted.{Rooted}

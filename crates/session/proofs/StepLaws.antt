@@ -12,7 +12,7 @@ use lib.Dec.{eqb}
 use lib.ListN.{getD, drop, set}
 use lib.Seq.{getD-take, getD-drop}
 use borrow.Author.Tests.{eq-eqb, ne-eqb}
-use Rattle.formats.proofs.CheckLaws.{true-false}
+use Rattle.list_laws.proofs.BoolLaws.{true-false}
 use Rattle.model.specs.Calls.{Call}
 use Rattle.session.specs.declared.state.Phase.the-variants.{Running, Answered}
 use Rattle.session.specs.declared.state.Head.{Head}

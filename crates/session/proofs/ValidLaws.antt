@@ -9,13 +9,13 @@ use lib.Dec.{leb, ltb, eqb}
 use lib.ListN.{length, take, drop, length-drop}
 use lib.Seq.{take-all}
 use borrow.Author.Tests.{le-leb, lt-leb, not-true, not-false}
-use Rattle.formats.specs.Bytes.{allBelow}
+use Rattle.list_laws.specs.Tests.{allBelow}
 use Rattle.formats.specs.Limits.{within}
 use Rattle.formats.proofs.PlanLaws.{within-low}
-use Rattle.formats.proofs.LoopLaws.{and-yes, and-assoc}
+use Rattle.list_laws.proofs.BoolLaws.{and-yes, and-assoc}
 use Rattle.session.specs.declared.state.Sizes.{Sizes}
 use Rattle.session.specs.declared.state.Session.{Session}
-use Rattle.formats.proofs.CheckLaws.{and-left, and-no-right}
+use Rattle.list_laws.proofs.BoolLaws.{and-left, and-no-right}
 use Rattle.session.specs.declared.state.Phase.{Phase}
 use Rattle.session.specs.declared.state.Phase.the-variants.{Empty, Loaded, Running, Answered}
 use Rattle.session.specs.Records.{sizesFit, noQuestion, listFits, partsFit, questionFits, zeroFrom, risesTo, validIn, valid}

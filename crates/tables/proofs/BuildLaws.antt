@@ -17,7 +17,7 @@ use lib.Seq.{take-at}
 use Rattle.trees.specs.Tree.{Tree, kindsOf, size}
 use Rattle.trees.specs.Tables.{nodeTableOf}
 use Rattle.trees.proofs.PostorderLaws.{size-of}
-use Rattle.formats.specs.Bytes.{allBelow}
+use Rattle.list_laws.specs.Tests.{allBelow}
 use Rattle.formats.specs.Plan.{nodeCount, labelsIn, kindsIn, planTree}
 use Rattle.formats.specs.Rules.{stateCount, labelCount, leafStates, innerStates, ruleMarks, ruleAutomaton}
 use Rattle.formats.specs.Checks.{firstNo, ruleTableChecks, buildChecks, nodeTableLength, stateTableLength}

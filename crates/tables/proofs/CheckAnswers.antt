@@ -10,9 +10,9 @@ use mathlib.Core.Bool.{Bool, true, false}
 use mathlib.Core.List.{List}
 use native.Mathlib.Omega.{arith}
 use lib.ListN.{length, take, length-take}
-use Rattle.formats.specs.Bytes.{sameList}
-use Rattle.formats.proofs.CheckLaws.{true-false, and-both, and-left, and-right}
-use Rattle.formats.proofs.ListLaws.{sameList-is, sameList-true}
+use Rattle.list_laws.specs.Tests.{sameList}
+use Rattle.list_laws.proofs.BoolLaws.{true-false, and-both, and-left, and-right}
+use Rattle.list_laws.proofs.TestLaws.{sameList-is, sameList-true}
 use Rattle.tables.specs.declared.answers.Checking.{Checking}
 use Rattle.tables.specs.declared.answers.Checking.the-variants.{Yes, No, Refused}
 use Rattle.tables.specs.Answers.{checkNumber, checkAnswer, sameTables, CheckDone}

@@ -9,12 +9,12 @@ use mathlib.Core.List.{List, _++_}
 use lib.ListN.{length, take, drop, take-append-drop}
 use Rattle.trees.specs.Tree.{Tree, kindsOf}
 use Rattle.trees.specs.Tables.{nodeTableOf}
-use Rattle.formats.specs.Bytes.{sameList}
+use Rattle.list_laws.specs.Tests.{sameList}
 use Rattle.formats.specs.Plan.{nodeCount, labelsIn, kindsIn, planTree}
 use Rattle.formats.specs.Rules.{stateCount, labelCount, leafStates, innerStates, ruleMarks}
 use Rattle.formats.specs.Checks.{nodeTableLength}
 use Rattle.formats.specs.Built.{builtNodeTable, builtStateTable}
-use Rattle.formats.proofs.ListLaws.{sameList-true}
+use Rattle.list_laws.proofs.TestLaws.{sameList-true}
 use Rattle.formats.proofs.PlanLaws.{PlanPasses, length-kindsIn, kinds-planTree, labels-planTree}
 use Rattle.formats.proofs.PlanLaws.{labels-part, kinds-part}
 use Rattle.formats.proofs.RuleLaws.{leaves-part, inner-part}

@@ -13,7 +13,7 @@ use Rattle.trees.specs.Tree.{Tree, size}
 use Rattle.trees.specs.Automaton.{Automaton, state}
 use Rattle.trees.specs.Numbering.{sub}
 use Rattle.trees.specs.Tables.{stateMap, stateTableOf}
-use Rattle.formats.specs.Bytes.{sameList}
+use Rattle.list_laws.specs.Tests.{sameList}
 use Rattle.tables.specs.StateCells.{stateCell}
 use Rattle.tables.specs.Compare.{rowIs}
 use Rattle.tables.specs.LocalTables.{statesAre, mapsAre}

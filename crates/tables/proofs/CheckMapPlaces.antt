@@ -8,7 +8,7 @@ use mathlib.Core.List.{List}
 use native.Mathlib.Omega.{arith}
 use borrow.Author.Tests.{eq-eqb, ne-eqb}
 use lib.ListN.{length, getD}
-use Rattle.trees.proofs.RowLaws.{stride}
+use Rattle.list_laws.proofs.RowLaws.{stride}
 use Rattle.node_tables.specs.Cells.{parentCell, jumpCell}
 use Rattle.tables.specs.StateCells.{mapCell}
 use Rattle.tables.specs.Rows.{NearArgs}

@@ -13,7 +13,7 @@ use lib.ListN.{length, getD, set}
 use lib.Seq.{set-getD, getD-set-same}
 use Rattle.trees.specs.Automaton.{state}
 use Rattle.trees.specs.Numbering.{sub}
-use Rattle.trees.proofs.RowLaws.{stride}
+use Rattle.list_laws.proofs.RowLaws.{stride}
 use Rattle.trees.proofs.PostorderLaws.{size-of}
 use Rattle.formats.specs.Rules.{treeAutomaton}
 use Rattle.tables.specs.StateCells.{stateCell}

@@ -11,7 +11,7 @@ use lib.ListN.{length, take}
 use Rattle.trees.specs.Tree.{Tree, kindsOf, labelsOf, size}
 use Rattle.trees.specs.Tables.{stateTableOf}
 use Rattle.trees.proofs.PostorderLaws.{size-of}
-use Rattle.formats.specs.Bytes.{sameList}
+use Rattle.list_laws.specs.Tests.{sameList}
 use Rattle.formats.specs.Rules.{treeAutomaton}
 use Rattle.formats.specs.Checks.{stateTableLength}
 use Rattle.node_tables.specs.NodeCells.{NodeCells}

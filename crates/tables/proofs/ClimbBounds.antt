@@ -16,10 +16,10 @@ use lib.Dec.{ltb, eqb}
 use lib.ListN.{length, getD}
 use borrow.Author.Tests.{ltb-true, lt-ltb, le-ltb}
 use Rattle.trees.specs.Climb.{Forest, Move, byJump, toParent, target, andThen, climb, carry}
-use Rattle.trees.proofs.Choice.{by-test}
+use Rattle.list_laws.proofs.Choice.{by-test}
 use Rattle.trees.proofs.MoveLaws.{none-some, next-inside, next-rises}
 use Rattle.trees.proofs.ClimbLaws.{climb-cons}
-use Rattle.formats.proofs.CheckLaws.{true-false}
+use Rattle.list_laws.proofs.BoolLaws.{true-false}
 use Rattle.node_tables.specs.Cells.{parentCell, cellForest}
 use Rattle.tables.specs.Climbs.{View, below, runOn, ruleOn, siblingOn}
 use Rattle.tables.specs.declared.answers.Reached.{Reached}

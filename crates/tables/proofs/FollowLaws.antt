@@ -10,11 +10,11 @@ use mathlib.Core.List.{List}
 use mathlib.Core.Option.{Option, none, some, Option·some-injective}
 use native.Mathlib.Omega.{arith}
 use lib.ListN.{length, getD}
-use Rattle.trees.specs.Tables.{tabulate}
-use Rattle.trees.proofs.RowLaws.{length-tabulate, getD-tabulate, tabulate-ext}
+use Rattle.list_laws.specs.Rows.{tabulate}
+use Rattle.list_laws.proofs.RowLaws.{length-tabulate, getD-tabulate, tabulate-ext}
 use Rattle.trees.proofs.MoveLaws.{none-some}
-use Rattle.formats.specs.Bytes.{allBelow}
-use Rattle.formats.proofs.ListLaws.{allBelow-at, at-allBelow}
+use Rattle.list_laws.specs.Tests.{allBelow}
+use Rattle.list_laws.proofs.TestLaws.{allBelow-at, at-allBelow}
 use Rattle.tables.specs.Compose.{follow}
 
 module _ (s : ℕ) (f : ℕ → ℕ) where

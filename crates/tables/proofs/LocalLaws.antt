@@ -19,7 +19,7 @@ use Rattle.trees.specs.Jumps.{jump}
 use Rattle.trees.specs.Tables.{stepUp, stateMap, stateTableOf}
 use Rattle.trees.proofs.NodeLaws.{up}
 use Rattle.trees.proofs.JumpLaws.{jump-in, jump-above}
-use Rattle.trees.proofs.RowLaws.{stateTableOf-state}
+use Rattle.trees.proofs.TableRows.{stateTableOf-state}
 use Rattle.trees.proofs.RunLaws.{Children, children, state-leaf, state-inner}
 use Rattle.trees.proofs.MapLaws.{left-sibling-in, right-sibling-in, stepUp-right, stepUp-left, stepUp-below}
 use Rattle.trees.proofs.MapLaws.{stateMap-root, stateMap-near, stateMap-far, stateMap-below}

@@ -13,8 +13,8 @@ use native.Mathlib.Nat.{mul-le-mul-right}
 use lib.ListN.{getD}
 use borrow.Author.Tests.{lt-ltb, le-ltb, le-leb, lt-leb, eq-eqb, ne-eqb}
 use Rattle.trees.proofs.MoveLaws.{none-some}
-use Rattle.trees.proofs.Choice.{by-lt}
-use Rattle.trees.proofs.RowLaws.{stride}
+use Rattle.list_laws.proofs.Choice.{by-lt}
+use Rattle.list_laws.proofs.RowLaws.{stride}
 use Rattle.node_tables.specs.Cells.{sizeCell}
 use Rattle.tables.specs.Climbs.{View, below, ruleOn, siblingOn}
 

@@ -14,8 +14,8 @@ use native.Mathlib.Decide.{ℕ-discrete}
 use native.Mathlib.Omega.{arith}
 use lib.ListN.{length, getD, set, replicate, length-set, List·getD-append}
 use lib.Seq.{getD-set-same, getD-set-other}
-use Rattle.trees.specs.Tables.{tabulate}
-use Rattle.trees.proofs.RowLaws.{length-tabulate, getD-tabulate, tabulate-ext}
+use Rattle.list_laws.specs.Rows.{tabulate}
+use Rattle.list_laws.proofs.RowLaws.{length-tabulate, getD-tabulate, tabulate-ext}
 use Rattle.tables.specs.Compose.{mapAt, Halves, Followed, follow}
 use Rattle.tables.proofs.FollowLaws.{follow-yes, follow-no}
 

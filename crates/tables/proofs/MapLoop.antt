@@ -17,7 +17,7 @@ use Rattle.trees.specs.Jumps.{jump}
 use Rattle.trees.specs.Tables.{stepUp, stateMap}
 use Rattle.trees.proofs.NodeLaws.{Up, up, length-labels, size-pos}
 use Rattle.trees.proofs.JumpLaws.{jump-in, jump-above}
-use Rattle.trees.proofs.RowLaws.{stride}
+use Rattle.list_laws.proofs.RowLaws.{stride}
 use Rattle.trees.proofs.MapLaws.{stepUp-right, stepUp-left, stepUp-below, stateMap-root, stateMap-near, stateMap-far}
 use Rattle.trees.proofs.MapLaws.{stateMap-below, right-child-size}
 use Rattle.formats.specs.Rules.{treeAutomaton}

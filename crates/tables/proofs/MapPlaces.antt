@@ -14,7 +14,7 @@ use native.Mathlib.Nat.{mul-le-mul-right}
 use native.Mathlib.Omega.{arith}
 use borrow.Author.Tests.{eq-eqb, ne-eqb}
 use lib.ListN.{length, getD}
-use Rattle.trees.proofs.RowLaws.{stride}
+use Rattle.list_laws.proofs.RowLaws.{stride}
 use Rattle.formats.proofs.RuleLaws.{rule-in}
 use Rattle.node_tables.specs.Cells.{parentCell, jumpCell, sizeCell}
 use Rattle.tables.specs.StateCells.{stateCell, mapCell}

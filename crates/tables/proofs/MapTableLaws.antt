@@ -13,8 +13,9 @@ use mathlib.Core.List.{List, _∷_, _++_}
 use native.Mathlib.Decide.{ℕ-discrete}
 use native.Mathlib.Omega.{arith}
 use lib.ListN.{length, getD, drop}
-use Rattle.trees.specs.Tables.{tabulate, rows}
-use Rattle.trees.proofs.RowLaws.{stride, cells-apart, length-tabulate, rows-over, mapRow-cells}
+use Rattle.list_laws.specs.Rows.{tabulate, rows}
+use Rattle.list_laws.proofs.RowLaws.{stride, cells-apart, length-tabulate, rows-over}
+use Rattle.trees.proofs.TableRows.{mapRow-cells}
 use Rattle.tables.specs.StateCells.{stateCell, mapCell}
 use Rattle.tables.specs.Rows.{RowTo, Rowed}
 use Rattle.tables.specs.Compare.{rowIs}

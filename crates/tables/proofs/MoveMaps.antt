@@ -14,7 +14,7 @@ use lib.ListN.{length, getD}
 use borrow.Author.Tests.{lt-ltb, le-ltb}
 use Rattle.trees.specs.Climb.{Move, byJump, toParent}
 use Rattle.trees.proofs.MoveLaws.{none-some}
-use Rattle.trees.proofs.RowLaws.{stride, cell-in}
+use Rattle.list_laws.proofs.RowLaws.{stride, cell-in}
 use Rattle.formats.specs.Checks.{stateTableLength}
 use Rattle.tables.specs.StateCells.{mapCell}
 use Rattle.tables.specs.Compose.{Halves, FollowArgs, LabelArgs, labelMove, runMove, follow}

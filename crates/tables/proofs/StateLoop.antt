@@ -16,7 +16,7 @@ use Rattle.trees.specs.Tree.{Tree, kindsOf, labelsOf, size, kindAt}
 use Rattle.trees.specs.Automaton.{Automaton, state}
 use Rattle.trees.specs.Numbering.{sub}
 use Rattle.trees.proofs.PostorderLaws.{postorder-tree, size-of}
-use Rattle.trees.proofs.RowLaws.{stride, cells-apart}
+use Rattle.list_laws.proofs.RowLaws.{stride, cells-apart}
 use Rattle.trees.proofs.RunLaws.{Children, children, state-leaf, state-inner, state-below}
 use Rattle.formats.specs.InnerChecks.{RuleArgs}
 use Rattle.formats.specs.Rules.{treeAutomaton}

@@ -14,7 +14,7 @@ use lib.Dec.{ltb}
 use lib.ListN.{getD}
 use borrow.Author.Tests.{lt-ltb, le-ltb, eq-eqb, ne-eqb}
 use Rattle.trees.specs.Climb.{Forest, Move, byJump, toParent, target, nextMove, andThen}
-use Rattle.trees.proofs.Choice.{le-or}
+use Rattle.list_laws.proofs.Choice.{le-or}
 use Rattle.trees.proofs.MoveLaws.{none-some, next-start, next-inside}
 use Rattle.node_tables.specs.Cells.{cellForest}
 use Rattle.node_tables.specs.declared.moves.NextMove.{NextMove}

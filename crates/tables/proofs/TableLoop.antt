@@ -13,7 +13,8 @@ use Rattle.trees.specs.Automaton.{Automaton, state}
 use Rattle.trees.specs.Numbering.{sub}
 use Rattle.trees.specs.Tables.{stateMap, stateRow, stateTableOf}
 use Rattle.trees.proofs.PostorderLaws.{postorder-tree}
-use Rattle.trees.proofs.RowLaws.{length-rows, length-stateRow}
+use Rattle.list_laws.proofs.RowLaws.{length-rows}
+use Rattle.trees.proofs.TableRows.{length-stateRow}
 use Rattle.trees.proofs.PostorderLaws.{size-of}
 use Rattle.formats.specs.Rules.{treeAutomaton}
 use Rattle.node_tables.specs.NodeCells.{NodeCells}

@@ -12,11 +12,12 @@ use native.Mathlib.Omega.{arith}
 use lib.Dec.{eqb}
 use lib.ListN.{length, getD, take}
 use borrow.Author.Tests.{eq-eqb, ne-eqb, eqb-true}
-use Rattle.trees.specs.Tables.{tabulate}
-use Rattle.trees.proofs.RowLaws.{length-tabulate, getD-tabulate, rows-of-cells, cells-of-rows, mapRow-cells}
-use Rattle.formats.specs.Bytes.{sameList}
-use Rattle.formats.proofs.CheckLaws.{true-false}
-use Rattle.formats.proofs.ListLaws.{sameList-is, sameList-not}
+use Rattle.list_laws.specs.Rows.{tabulate}
+use Rattle.list_laws.proofs.RowLaws.{length-tabulate, getD-tabulate, rows-of-cells, cells-of-rows}
+use Rattle.trees.proofs.TableRows.{mapRow-cells}
+use Rattle.list_laws.specs.Tests.{sameList}
+use Rattle.list_laws.proofs.BoolLaws.{true-false}
+use Rattle.list_laws.proofs.TestLaws.{sameList-is, sameList-not}
 use Rattle.tables.specs.StateCells.{stateCell, mapCell}
 use Rattle.tables.specs.Compare.{rowIs}
 use Rattle.tables.specs.TableTests.{tableOf, statesSame, mapsSame}

@@ -13,7 +13,7 @@ use mathlib.Core.Bool.{Bool, cond, _&&_}
 use mathlib.Core.List.{List, _++_}
 use lib.Dec.{eqb}
 use lib.ListN.{length, take, drop}
-use Rattle.formats.specs.Bytes.{sameList}
+use Rattle.list_laws.specs.Tests.{sameList}
 use Rattle.tables.specs.declared.answers.Building.{Building}
 use Rattle.tables.specs.declared.answers.Building.the-variants.{Built, Refused}
 use Rattle.tables.specs.declared.answers.Checking.{Checking}

@@ -14,7 +14,7 @@ use mathlib.Core.List.{List}
 use lib.ListN.{length, take}
 use Rattle.trees.specs.Tree.{Tree, kindsOf, labelsOf}
 use Rattle.trees.specs.Tables.{stateTableOf}
-use Rattle.formats.specs.Bytes.{sameList}
+use Rattle.list_laws.specs.Tests.{sameList}
 use Rattle.formats.specs.Rules.{treeAutomaton}
 use Rattle.formats.specs.Checks.{stateTableLength}
 use Rattle.tables.specs.LocalTables.{statesAre, mapsAre}

@@ -28,8 +28,8 @@ use mathlib.Core.Option.{Option, none, some}
 use lib.Dec.{ltb}
 use lib.ListN.{length, getD}
 use Rattle.trees.specs.Climb.{Forest, Move, byJump, toParent, target, andThen, climb, carry}
-use Rattle.trees.specs.Tables.{tabulate}
-use Rattle.formats.specs.Bytes.{allBelow}
+use Rattle.list_laws.specs.Rows.{tabulate}
+use Rattle.list_laws.specs.Tests.{allBelow}
 use Rattle.formats.specs.Checks.{nodeTableLength, stateTableLength}
 use Rattle.node_tables.specs.Cells.{cellForest}
 use Rattle.tables.specs.StateCells.{mapCell}

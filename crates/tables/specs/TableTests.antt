@@ -9,7 +9,7 @@ use Prim.Native.Nat.{ℕ}
 use mathlib.Core.Bool.{Bool}
 use mathlib.Core.List.{List, _∷_}
 use lib.Dec.{eqb}
-use Rattle.trees.specs.Tables.{tabulate, rows}
+use Rattle.list_laws.specs.Rows.{tabulate, rows}
 use Rattle.tables.specs.StateCells.{stateCell}
 use Rattle.tables.specs.Compare.{every, rowIs}
 

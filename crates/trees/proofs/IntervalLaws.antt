@@ -11,7 +11,7 @@ use native.Mathlib.Omega.{arith}
 use lib.ListN.{getD}
 use Rattle.trees.specs.Tree.{Tree, size, kindsOf}
 use Rattle.trees.specs.Numbering.{sub, parent, depth, ancestor, InSubtree, AtOrBelow}
-use Rattle.trees.proofs.Choice.{le-or}
+use Rattle.list_laws.proofs.Choice.{le-or}
 use Rattle.trees.proofs.NodeLaws.{Inner, inner, Up, up, sub-leaf, size-pos}
 use Rattle.trees.proofs.JumpLaws.{ancestor-in, ancestor-depth}
 use Rattle.trees.proofs.TreeClimbs.{below-root}

@@ -19,7 +19,7 @@ use Rattle.trees.specs.Jumps.{jump}
 use Rattle.trees.specs.Climb.{Forest, forestOf, Move, byJump, toParent, target, rising, nextMove}
 use Rattle.trees.specs.Climb.{andThen, before, climbIn, climb, carry}
 use Rattle.trees.specs.LinkOutOfRange.{LinkOutOfRange, jump-outside, jump-flat, parent-outside, parent-flat}
-use Rattle.trees.proofs.Choice.{by-test}
+use Rattle.list_laws.proofs.Choice.{by-test}
 use Rattle.trees.proofs.NodeLaws.{up, parent-root}
 use Rattle.trees.proofs.JumpLaws.{jump-in, depth-jump}
 use Rattle.trees.proofs.SkewBinary.{jumpDepth-lt}

@@ -1,7 +1,5 @@
 -- The tables that Load writes, as whole lists.
 --
--- tabulate n f == f 0, f 1, .. f (n - 1)
--- rows n f == the lists f 0, f 1, .. f (n - 1), one after the other
 -- nodeTableOf t == the 16-bit numbers of a tree: parent, jump, depth and size of the subtree, for each node in node order
 -- stateTable A t == the bytes for a rule table: the state in the run, then the map, for each node
 -- branchTableOf B t == the bytes for a branch table: the state on the word from the root, then the map, for each node
@@ -14,19 +12,13 @@ use Prim.Native.Nat.{ℕ, zero, suc, _+_, _-_}
 use mathlib.Core.Bool.{Bool, cond}
 use mathlib.Core.List.{List, [], _∷_, _++_}
 use lib.Dec.{eqb}
+use Rattle.list_laws.specs.Rows.{tabulate, rows}
 use Rattle.trees.specs.Tree.{Tree, leaf, node, size}
 use Rattle.trees.specs.Automaton.{Automaton, state, WordAutomaton, wordRun}
 use Rattle.trees.specs.Numbering.{sub, parent, depth, labelsDown}
 use Rattle.trees.specs.Jumps.{jump}
 use Rattle.trees.specs.Climb.{walk}
 
-unfoldable pub tabulate : ℕ → (ℕ → ℕ) → List ℕ
-tabulate zero f = []
-tabulate (suc n) f = tabulate n f ++ (f n ∷ [])
-
-unfoldable pub rows : ℕ → (ℕ → List ℕ) → List ℕ
-rows zero f = []
-rows (suc n) f = rows n f ++ f n
 
 -- "16-bit numbers, four for each node in node order (parent, jump, depth, size of its subtree)"
 abbrev pub nodeRow : Tree → ℕ → List ℕ

@@ -12,8 +12,9 @@ use lib.Dec.{eqb}
 use lib.ListN.{length}
 use borrow.Author.Tests.{eqb-false}
 use Rattle.formats.specs.Checks.{check, firstNo, listChecks}
-use Rattle.formats.proofs.CheckLaws.{firstNo-yes, and-both, and-left, true-false}
-use Rattle.formats.proofs.ListLaws.{sameList-is}
+use Rattle.formats.proofs.CheckLaws.{firstNo-yes}
+use Rattle.list_laws.proofs.BoolLaws.{and-both, and-left, true-false}
+use Rattle.list_laws.proofs.TestLaws.{sameList-is}
 use Rattle.formats.proofs.InputLaws.{list-passes}
 use Rattle.formats.specs.Built.{builtNodeTable, builtStateTable}
 use Rattle.tables.specs.Answers.{written}

@@ -1,7 +1,7 @@
 use Prim.Native.Nat.{ℕ, _+_}
 use native.Mathlib.Omega.{arith}
 use lib.ListN.{getD}
-use Rattle.trees.proofs.RowLaws.{stride}
+use Rattle.list_laws.proofs.RowLaws.{stride}
 use Rattle.branches.proofs.FinishLaws.{finish-no-label, finish-no-state, finish-result}
 use borrow.Author.Needs.{needs}
 use Rattle.branches.proofs.ask.finish_answer.Statement.{statement}

@@ -1,6 +1,6 @@
 -- `formats::inputs::plan_labels_below` meets its contract: the labels are the part of the plan that is handed on. Assumes nothing.
 use mathlib.Core.Path.{ap, _∙_}
-use Rattle.formats.specs.Bytes.{allBelow}
+use Rattle.list_laws.specs.Tests.{allBelow}
 use Rattle.formats.proofs.PlanLaws.{labels-part}
 use borrow.Author.Needs.{needs}
 use Rattle.formats.proofs.inputs.plan_labels_below.Statement.{statement}

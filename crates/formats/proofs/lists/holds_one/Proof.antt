@@ -4,8 +4,8 @@ use Prim.Native.Nat.{_-_, _≤_}
 use mathlib.Core.Path.{_≡_, refl, sym, _∙_}
 use mathlib.Core.Bool.{_||_}
 use lib.ListN.{length, drop}
-use Rattle.formats.specs.Bytes.{holds}
-use Rattle.formats.proofs.LoopLaws.{holds-iteration, holds-end}
+use Rattle.list_laws.specs.Tests.{holds}
+use Rattle.list_laws.proofs.LoopLaws.{holds-iteration, holds-end}
 use native.Mathlib.Omega.{arith}
 use borrow.Author.Needs.{needs}
 use Rattle.formats.proofs.lists.holds_one.Statement.{statement}

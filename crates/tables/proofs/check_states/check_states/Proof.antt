@@ -4,7 +4,7 @@ use Prim.Native.Nat.{_+_, _-_, _*_, _≤_, _<_}
 use mathlib.Core.Path.{_≡_, refl, _∙_}
 use mathlib.Core.Logic.{inl, inr}
 use lib.ListN.{length, set}
-use Rattle.trees.proofs.RowLaws.{stride}
+use Rattle.list_laws.proofs.RowLaws.{stride}
 use Rattle.tables.specs.States.{Runs}
 use Rattle.tables.proofs.StateLoop.{leaf-states, inner-states, inner-args}
 use Rattle.tables.proofs.CheckStateLoop.{states-start, state-same, state-differs, all-same}

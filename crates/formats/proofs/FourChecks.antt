@@ -1,7 +1,6 @@
--- The laws of four checks in a row, and of the parts of a lent slice.
+-- The laws of four checks in a row.
 --     four-pass, pass-four        where no number is given all four pass, and back
 --     four-1 .. four-4            the first no of four
---     rest-part, run-part         what `&s[a..]` and `&s[a..a + n]` are to a proof
 -- Assumes nothing.
 use Prim.Native.Nat.{ℕ, suc, _+_, _-_, _≤_}
 use mathlib.Core.Path.{_≡_, refl, ap}
@@ -11,6 +10,7 @@ use native.Mathlib.Omega.{arith}
 use lib.ListN.{length, take, drop, length-take, length-drop}
 use lib.Seq.{take-all}
 use Rattle.formats.specs.Checks.{Check, check, firstNo}
+
 
 -- ---- four checks in a row, with numbers above 0
 
@@ -47,19 +47,3 @@ module _ (k l m n : ℕ) (a b c d : Bool) where
   unfolding firstNo
   four-4 e f g h = rw (e, f, g, h)
 
--- ---- the parts of a lent slice
-
--- `&s[a..]` is to a callee the rest of the list
-pub rest-part : (s : List ℕ) (a : ℕ) → take (length s - a) (drop a s) ≡ drop a s
-rest-part s a = take-all (length s - a) (drop a s) (simp length-drop (omega arith))
-
--- `&s[a..]`, where n elements follow
-pub end-part : (s : List ℕ) (a n : ℕ) → length s ≡ a + n → take (length s - a) (drop a s) ≡ take n (drop a s)
-end-part s a n e = let q : length s - a ≡ n = omega arith in ap (λ (i : ℕ). take i (drop a s)) q
-
--- `&s[a..a + n]`
-pub run-part : (s : List ℕ) (a n : ℕ) → take (a + n - a) (drop a s) ≡ take n (drop a s)
-run-part s a n = let q : a + n - a ≡ n = omega arith in ap (λ (i : ℕ). take i (drop a s)) q
-
-pub length-part : (s : List ℕ) (a n : ℕ) → a + n ≤ length s → length (take n (drop a s)) ≡ n
-length-part s a n h = simp (length-take, length-drop) (omega arith)

@@ -14,8 +14,8 @@ use native.Mathlib.Decide.{decLt}
 use lib.ListN.{length, getD, List·getD-eq-default}
 use lib.Dec.{ltb, eqb}
 use borrow.Author.Tests.{ltb-true, ltb-false, lt-ltb, eqb-true, eq-eqb, ne-eqb, not-true}
-use Rattle.formats.specs.Bytes.{allBelow, holds, distinct, sameList}
-use Rattle.formats.proofs.CheckLaws.{true-false, and-both, and-left, and-right}
+use Rattle.list_laws.specs.Tests.{allBelow, holds, distinct, sameList}
+use Rattle.list_laws.proofs.BoolLaws.{true-false, and-both, and-left, and-right}
 
 -- ---- every element below a number
 

@@ -12,24 +12,10 @@ use native.Mathlib.Numerals.{add-one}
 use lib.Dec.{ltb, eqb}
 use lib.ListN.{length, getD, take, drop, drop-of-length-le}
 use lib.Seq.{drop-cons}
-use Rattle.formats.specs.Bytes.{allBelow, holds, distinct}
-use Rattle.formats.proofs.PartLaws.{rest-part}
+use Rattle.list_laws.specs.Tests.{allBelow, holds, distinct}
+use Rattle.list_laws.proofs.BoolLaws.{and-assoc, or-assoc, and-yes, or-no}
+use Rattle.list_laws.proofs.SliceLaws.{rest-part}
 
-pub and-assoc : (a b c : Bool) → (a && b && c) ≡ (a && (b && c))
-and-assoc true b c = refl
-and-assoc false b c = refl
-
-or-assoc : (a b c : Bool) → (a || b || c) ≡ (a || (b || c))
-or-assoc true b c = refl
-or-assoc false b c = refl
-
-pub and-yes : (a : Bool) → (a && true) ≡ a
-and-yes true = refl
-and-yes false = refl
-
-or-no : (a : Bool) → (a || false) ≡ a
-or-no true = refl
-or-no false = refl
 
 -- the elements from place i on: the one there, and those after it
 from : (l : List ℕ) (i : ℕ) → i < length l → drop i l ≡ getD l i 0 ∷ drop (i + 1) l
