@@ -24,7 +24,7 @@ use Rattle.tables.proofs.MapHalves.{getD-mapAt, identity, identity-map as ident
 use Rattle.branches.specs.declared.answers.Branching.{Branching}
 use Rattle.branches.specs.declared.answers.Branching.the-variants.{Refused}
 use Rattle.branches.specs.Question.{branchOn, branchAnswer}
-use Rattle.branches.specs.Finish.{finish, FinishArgs, AnswerArgs}
+use Rattle.branches.specs.inner.Finish.{finish, FinishArgs, AnswerArgs}
 use Rattle.branches.proofs.AskParts.{Handed, composition-map, composition-is, finish-is}
 use Rattle.branches.proofs.AskParts.{branch-on-parts, branchFinish}
 

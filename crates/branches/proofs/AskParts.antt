@@ -21,7 +21,7 @@ use Rattle.tables.specs.Compose.{runMove, Counted, composition, labelMove}
 use Rattle.tables.proofs.FollowLaws.{MapOf}
 use Rattle.tables.proofs.MoveMaps.{run-move-map}
 use Rattle.branches.specs.Question.{moveMap, firstState, Branched, branched, branchOn}
-use Rattle.branches.specs.Finish.{firstOf, finish}
+use Rattle.branches.specs.inner.Finish.{firstOf, finish}
 
 move-map-run : (p r stateTable : List ℕ) (i : Move) (m : List ℕ)
     → moveMap p r stateTable i m ≡ runMove (stateCount r) (labelCount r) (labelsIn p) (branchSteps r) stateTable i m

@@ -27,8 +27,8 @@ use Rattle.formats.proofs.BranchLaws.{BranchPasses, length-branchSteps, step-be
 use Rattle.formats.proofs.InputLaws.{branch-build-passes, label-below}
 use Rattle.node_tables.proofs.CellLaws.{length-nodeTableOf}
 use Rattle.tables.specs.Answers.{sameTables}
-use Rattle.branches.specs.BranchTests.{TablesTested}
-use Rattle.branches.specs.Filled.{FillArgs, TablesFilled, BranchFilled, PartArgs, BranchWritten}
+use Rattle.branches.specs.inner.BranchTests.{TablesTested}
+use Rattle.branches.specs.inner.Filled.{FillArgs, TablesFilled, BranchFilled, PartArgs, BranchWritten}
 
 pub length-branchTable : (B : WordAutomaton) (t : Tree) → length (branchTableOf B t) ≡ size t * (B .states + 1)
 unfolding branchTableOf

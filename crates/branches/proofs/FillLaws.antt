@@ -18,9 +18,9 @@ use Rattle.node_tables.specs.Cells.{NodeTableArgs}
 use Rattle.node_tables.specs.NodeCells.{NodeCells}
 use Rattle.node_tables.proofs.CellLaws.{take-table, link-cells}
 use Rattle.tables.proofs.MapTableLaws.{passes-written}
-use Rattle.branches.specs.BranchGiven.{BranchGiven, BranchArgs, StatesFrom, Stepped}
-use Rattle.branches.specs.Maps.{Mapped}
-use Rattle.branches.specs.Filled.{FillArgs, BranchFilled}
+use Rattle.branches.specs.inner.BranchGiven.{BranchGiven, BranchArgs, StatesFrom, Stepped}
+use Rattle.branches.specs.inner.Maps.{Mapped}
+use Rattle.branches.specs.inner.Filled.{FillArgs, BranchFilled}
 
 -- what the build of the links leaves
 abbrev pub Linked : List ℕ → List ℕ → List ℕ → Type 0

@@ -21,7 +21,7 @@ use Rattle.tables.specs.Compose.{mapAt}
 use Rattle.tables.proofs.MapHalves.{getD-mapAt}
 use Rattle.branches.specs.declared.answers.Branching.the-variants.{Answered, Refused}
 use Rattle.branches.specs.Question.{branchAnswer}
-use Rattle.branches.specs.Finish.{firstOf, finish}
+use Rattle.branches.specs.inner.Finish.{firstOf, finish}
 
 -- ---- check 16
 

@@ -24,11 +24,11 @@ use Rattle.trees.proofs.BranchMapLaws.{branchMap-root, branchMap-near, branchMa
 use Rattle.formats.specs.Checks.{stateTableLength}
 use Rattle.node_tables.specs.Cells.{parentCell, jumpCell}
 use Rattle.tables.specs.StateCells.{mapCell}
-use Rattle.tables.specs.Rows.{RowIn, Rowed}
-use Rattle.tables.specs.MapTable.{MapsWritten}
+use Rattle.tables.specs.inner.Rows.{RowIn, Rowed}
+use Rattle.tables.specs.inner.MapTable.{MapsWritten}
 use Rattle.tables.proofs.MapTableLaws.{row-ext, written-start, written-iteration}
-use Rattle.branches.specs.BranchGiven.{BranchGiven, BranchArgs}
-use Rattle.branches.specs.Maps.{stepCell, nodeMap, NodeArgs, Mapped}
+use Rattle.branches.specs.inner.BranchGiven.{BranchGiven, BranchArgs}
+use Rattle.branches.specs.inner.Maps.{stepCell, nodeMap, NodeArgs, Mapped}
 use Rattle.branches.proofs.StepLoop.{given-label, given-parent, given-below, args-labels, args-parent, step-at}
 
 -- ---- a node's map by its test

@@ -19,11 +19,11 @@ use Rattle.formats.specs.Checks.{nodeTableLength}
 use Rattle.list_laws.proofs.TestLaws.{sameList-true}
 use Rattle.node_tables.proofs.CellLaws.{length-nodeTableOf, link-cells}
 use Rattle.tables.specs.Answers.{sameTables}
-use Rattle.tables.specs.TableTests.{statesSame, mapsSame}
+use Rattle.tables.specs.inner.TableTests.{statesSame, mapsSame}
 use Rattle.tables.proofs.TableTestLaws.{table-test}
-use Rattle.branches.specs.BranchGiven.{BranchGiven}
-use Rattle.branches.specs.Filled.{FillArgs}
-use Rattle.branches.specs.BranchTests.{StepsTested, MapsTested, TablesTested}
+use Rattle.branches.specs.inner.BranchGiven.{BranchGiven}
+use Rattle.branches.specs.inner.Filled.{FillArgs}
+use Rattle.branches.specs.inner.BranchTests.{StepsTested, MapsTested, TablesTested}
 use Rattle.branches.proofs.BranchInputs.{length-branchTable}
 use Rattle.branches.proofs.FillLaws.{AllCells, kinds-size, lent}
 

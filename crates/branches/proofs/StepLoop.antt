@@ -23,7 +23,7 @@ use Rattle.trees.proofs.BranchMapLaws.{branchState-root, branchState-down, bran
 use Rattle.formats.specs.Checks.{stateTableLength}
 use Rattle.node_tables.specs.Cells.{parentCell}
 use Rattle.tables.specs.StateCells.{stateCell}
-use Rattle.branches.specs.BranchGiven.{BranchGiven, BranchArgs, StatesFrom, Stepped}
+use Rattle.branches.specs.inner.BranchGiven.{BranchGiven, BranchArgs, StatesFrom, Stepped}
 
 -- ---- what is lent
 

@@ -8,9 +8,9 @@ use mathlib.Core.List.{List}
 use native.Mathlib.Omega.{arith}
 use lib.ListN.{length, getD}
 use Rattle.tables.specs.StateCells.{mapCell}
-use Rattle.tables.specs.Rows.{RowTo}
+use Rattle.tables.specs.inner.Rows.{RowTo}
 use Rattle.tables.proofs.MapRowLaws.{row-other}
-use Rattle.branches.specs.Maps.{stepCell, StepRowArgs}
+use Rattle.branches.specs.inner.Maps.{stepCell, StepRowArgs}
 
 module _ (s v p j k a i : ℕ) (st b₀ b : List ℕ) (r : RowTo s (stepCell s b₀ p j st k a) v i b₀ b)
     (args : StepRowArgs b₀ s v p j (length st) k a) (h : i < s) where

@@ -15,13 +15,13 @@ use Rattle.trees.specs.Tables.{branchState, branchMap}
 use Rattle.trees.proofs.BranchMapLaws.{branchMap-root}
 use Rattle.node_tables.specs.Cells.{parentCell}
 use Rattle.tables.specs.StateCells.{stateCell}
-use Rattle.tables.specs.Compare.{rowIs}
+use Rattle.tables.specs.inner.Compare.{rowIs}
 use Rattle.tables.proofs.CompareLaws.{rowIs-ext}
 use Rattle.tables.proofs.MapTableLaws.{kept-row}
 use Rattle.tables.proofs.TableTestLaws.{states-same-yes, states-same-no, maps-same-yes, maps-same-no}
-use Rattle.branches.specs.BranchGiven.{BranchArgs, Stepped}
-use Rattle.branches.specs.Maps.{nodeMap, Mapped}
-use Rattle.branches.specs.BranchTests.{StepsTested, MapsTested}
+use Rattle.branches.specs.inner.BranchGiven.{BranchArgs, Stepped}
+use Rattle.branches.specs.inner.Maps.{nodeMap, Mapped}
+use Rattle.branches.specs.inner.BranchTests.{StepsTested, MapsTested}
 use Rattle.branches.proofs.StepLoop.{states-start, states-kept, step-is, root-is}
 use Rattle.branches.proofs.MapLoop.{nodeMap-is, map-iteration, map-root}
 

@@ -1,8 +1,4 @@
 pub mod Question
 pub mod Promise
-pub mod Finish
-pub mod BranchGiven
-pub mod Maps
-pub mod Filled
-pub mod BranchTests
 pub mod OutOfRange
+pub mod inner

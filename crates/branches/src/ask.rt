@@ -14,7 +14,7 @@ ghost use Rattle.node_tables.specs.Cells.{isInSubtreeOn};
 ghost use Rattle.tables.specs.Compose.{mapAt};
 ghost use Rattle.branches.specs.Question.{branchOn, branchAnswer};
 ghost use Rattle.branches.specs.Promise.{AskDone};
-ghost use Rattle.branches.specs.Finish.{finish, FinishArgs, AnswerArgs};
+ghost use Rattle.branches.specs.inner.Finish.{finish, FinishArgs, AnswerArgs};
 
 // What is told of the map of a climb: the state after the upper node's label goes through it.
 fn finish_answer(

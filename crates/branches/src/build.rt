@@ -9,7 +9,7 @@ ghost use lib.ListN.{length};
 ghost use Rattle.formats.specs.Checks.{firstNo, branchBuildChecks};
 ghost use Rattle.formats.specs.Built.{builtNodeTable, builtBranchTable};
 ghost use Rattle.tables.specs.Answers.{BuildDone};
-ghost use Rattle.branches.specs.Filled.{FillArgs, BranchFilled, PartArgs, BranchWritten};
+ghost use Rattle.branches.specs.inner.Filled.{FillArgs, BranchFilled, PartArgs, BranchWritten};
 
 // Writes both tables, once all checks have passed. The excess of a longer buffer is untouched.
 fn fill_branch(

@@ -10,8 +10,8 @@ ghost use lib.ListN.{length};
 ghost use Rattle.formats.specs.Checks.{firstNo, branchBuildChecks};
 ghost use Rattle.formats.specs.Built.{builtNodeTable, builtBranchTable};
 ghost use Rattle.tables.specs.Answers.{sameTables, CheckDone};
-ghost use Rattle.branches.specs.Filled.{FillArgs, PartArgs};
-ghost use Rattle.branches.specs.BranchTests.{TablesTested};
+ghost use Rattle.branches.specs.inner.Filled.{FillArgs, PartArgs};
+ghost use Rattle.branches.specs.inner.BranchTests.{TablesTested};
 
 // Whether both buffers begin with the tables of the tree with these labels and kinds: the links first, since the rest
 // is read by them.

@@ -3,10 +3,10 @@ use tables::compare::near_row_is;
 use tables::compare::root_row_is;
 ghost use mathlib.Core.Path.{_≡_};
 ghost use lib.ListN.{length};
-ghost use Rattle.tables.specs.Compare.{rowIs};
-ghost use Rattle.branches.specs.BranchGiven.{BranchArgs};
-ghost use Rattle.branches.specs.Maps.{stepCell, nodeMap, StepRowArgs, NodeArgs};
-ghost use Rattle.branches.specs.BranchTests.{MapsTested};
+ghost use Rattle.tables.specs.inner.Compare.{rowIs};
+ghost use Rattle.branches.specs.inner.BranchGiven.{BranchArgs};
+ghost use Rattle.branches.specs.inner.Maps.{stepCell, nodeMap, StepRowArgs, NodeArgs};
+ghost use Rattle.branches.specs.inner.BranchTests.{MapsTested};
 
 // Whether node v's map is the map of j, then that of p, and then a step by label a.
 fn step_row_is(

@@ -1,8 +1,8 @@
 // The state bytes of a lent table compared with those of a branch table's build, from the root down.
 use crate::steps::START;
 ghost use lib.ListN.{length};
-ghost use Rattle.branches.specs.BranchGiven.{BranchArgs};
-ghost use Rattle.branches.specs.BranchTests.{StepsTested};
+ghost use Rattle.branches.specs.inner.BranchGiven.{BranchArgs};
+ghost use Rattle.branches.specs.inner.BranchTests.{StepsTested};
 
 // Whether each of the n nodes has the state of the build. Where one has not, those below it are not looked at: they
 // would be read from it.

@@ -2,9 +2,9 @@
 use tables::rows::near_row;
 use tables::rows::same_row;
 ghost use lib.ListN.{length};
-ghost use Rattle.tables.specs.Rows.{Rowed};
-ghost use Rattle.branches.specs.BranchGiven.{BranchArgs};
-ghost use Rattle.branches.specs.Maps.{stepCell, nodeMap, StepRowArgs, NodeArgs, Mapped};
+ghost use Rattle.tables.specs.inner.Rows.{Rowed};
+ghost use Rattle.branches.specs.inner.BranchGiven.{BranchArgs};
+ghost use Rattle.branches.specs.inner.Maps.{stepCell, nodeMap, StepRowArgs, NodeArgs, Mapped};
 
 // Node v's map: the map of j, then that of p, and then a step by label a.
 fn step_row(

@@ -1,6 +1,6 @@
 // The state bytes of a branch table's build: the state after each node's label on the word from the root.
 ghost use lib.ListN.{length};
-ghost use Rattle.branches.specs.BranchGiven.{BranchArgs, Stepped};
+ghost use Rattle.branches.specs.inner.BranchGiven.{BranchArgs, Stepped};
 
 // "State 0 is the start."
 pub const START: usize = 0;

@@ -25,7 +25,7 @@ use Rattle.model.proofs.Refinement.{Refines}
 use Rattle.session.specs.declared.state.Session.{Session}
 use Rattle.session.specs.Records.{recordOf, sessionOf, valid, freshSession}
 use Rattle.session.specs.Promises.{answerOn, recordOn}
-use Rattle.session.specs.Shapes.{Shaped}
+use Rattle.session.specs.inner.Shapes.{Shaped}
 use Rattle.session.proofs.Holds.{struct-is}
 use Rattle.session.proofs.Refine.{Seen, fresh-seen, read-keeps, call-refines}
 use Rattle.records.specs.Layout.{encoded, decoded, laidOut, validBytes, InTypes, Bytes}

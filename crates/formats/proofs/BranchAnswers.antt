@@ -15,7 +15,7 @@ use Rattle.formats.specs.Bytes.{le32}
 use Rattle.list_laws.specs.Tests.{allBelow}
 use Rattle.formats.specs.Rules.{stateCount, labelCount, branchLength}
 use Rattle.formats.specs.Checks.{firstNo, branchChecks}
-use Rattle.formats.specs.InnerChecks.{countsFit, branchShape, branchValues}
+use Rattle.formats.specs.inner.InnerChecks.{countsFit, branchShape, branchValues}
 use Rattle.list_laws.proofs.BoolLaws.{and-right}
 use Rattle.formats.proofs.FourChecks.{four-1, four-2, four-3, four-4, pass-four}
 use Rattle.list_laws.proofs.SliceLaws.{end-part}

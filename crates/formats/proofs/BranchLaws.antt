@@ -21,7 +21,7 @@ use Rattle.list_laws.specs.Tests.{allBelow}
 use Rattle.formats.specs.Limits.{stateLimit, labelLimit, within}
 use Rattle.formats.specs.Rules.{stateCount, labelCount, branchLength, branchSteps, branchMarks}
 use Rattle.formats.specs.Checks.{firstNo, branchChecks}
-use Rattle.formats.specs.InnerChecks.{countsFit, branchShape, branchValues}
+use Rattle.formats.specs.inner.InnerChecks.{countsFit, branchShape, branchValues}
 use Rattle.formats.proofs.CheckLaws.{Numbered}
 use Rattle.list_laws.proofs.BoolLaws.{and-both, and-left, and-right}
 use Rattle.list_laws.proofs.TestLaws.{allBelow-all}

@@ -19,7 +19,7 @@ use Rattle.formats.specs.Limits.{nodeLimit, stateLimit, labelLimit, with
 use Rattle.formats.specs.Plan.{nodeCount, planLength}
 use Rattle.formats.specs.Rules.{stateCount, labelCount}
 use Rattle.formats.specs.Checks.{nodeTableLength, stateTableLength}
-use Rattle.formats.specs.InnerChecks.{countsFit, roomFits}
+use Rattle.formats.specs.inner.InnerChecks.{countsFit, roomFits}
 use Rattle.formats.specs.Buffers.{limitsFit, buffersFit, TableKind, headersFit, headedBuffersFit}
 use Rattle.list_laws.proofs.BoolLaws.{and-both, and-left, and-right, and-no-left, and-next}
 use Rattle.formats.proofs.PlanLaws.{within-low, within-high, within-no-low, within-no-high, is-within}

@@ -16,7 +16,7 @@ use borrow.Author.Tests.{le-leb, lt-leb, not-true, not-false}
 use Rattle.list_laws.specs.Tests.{allBelow}
 use Rattle.formats.specs.Plan.{labelsIn}
 use Rattle.formats.specs.Checks.{Check, firstNo, planChecks, labelCheck, roomCheck}
-use Rattle.formats.specs.InnerChecks.{roomFits}
+use Rattle.formats.specs.inner.InnerChecks.{roomFits}
 use Rattle.formats.proofs.CheckLaws.{Numbered, firstNo-none, firstNo-yes, firstNo-no, firstNo-append-zero, firstNo-append-no}
 use Rattle.formats.proofs.PlanLaws.{plan-numbered}
 

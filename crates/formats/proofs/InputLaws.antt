@@ -22,7 +22,7 @@ use Rattle.formats.specs.Rules.{stateCount, labelCount}
 use Rattle.formats.specs.Checks.{Check, firstNo, planChecks, ruleChecks, branchChecks, labelCheck, roomCheck, listChecks}
 use Rattle.formats.specs.Checks.{nodeTableLength, stateTableLength, ruleTableChecks, branchTableChecks}
 use Rattle.formats.specs.Checks.{buildChecks, branchBuildChecks, freshRunChecks}
-use Rattle.formats.specs.InnerChecks.{listsFit, roomFits}
+use Rattle.formats.specs.inner.InnerChecks.{listsFit, roomFits}
 use Rattle.formats.proofs.CheckLaws.{Numbered, numbered-append, firstNo-none, firstNo-yes, firstNo-head}
 use Rattle.formats.proofs.CheckLaws.{firstNo-append-zero, firstNo-append-left, firstNo-append-right}
 use Rattle.list_laws.proofs.BoolLaws.{and-both, and-left, and-right}

@@ -7,7 +7,7 @@ use mathlib.Core.List.{List}
 use borrow.Author.Tests.{not-true, not-false}
 use Rattle.list_laws.specs.Tests.{allBelow, distinct}
 use Rattle.formats.specs.Checks.{firstNo, listChecks}
-use Rattle.formats.specs.InnerChecks.{listsFit}
+use Rattle.formats.specs.inner.InnerChecks.{listsFit}
 use Rattle.formats.proofs.FourChecks.{four-1, four-2, four-3, four-4, pass-four}
 
 module _ (n k : ℕ) (vs bs : List ℕ) where

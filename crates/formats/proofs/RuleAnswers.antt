@@ -19,7 +19,7 @@ use Rattle.list_laws.specs.Tests.{allBelow}
 use Rattle.formats.specs.Limits.{stateLimit, labelLimit, within}
 use Rattle.formats.specs.Rules.{stateCount, labelCount, ruleLength}
 use Rattle.formats.specs.Checks.{firstNo, ruleChecks}
-use Rattle.formats.specs.InnerChecks.{countsFit, ruleShape, ruleValues}
+use Rattle.formats.specs.inner.InnerChecks.{countsFit, ruleShape, ruleValues}
 use Rattle.list_laws.proofs.BoolLaws.{and-left, and-right, and-no-left, and-no-right}
 use Rattle.formats.proofs.FourChecks.{four-1, four-2, four-3, four-4, pass-four}
 use Rattle.list_laws.proofs.SliceLaws.{run-part, end-part}

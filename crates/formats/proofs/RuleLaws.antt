@@ -22,7 +22,7 @@ use Rattle.list_laws.specs.Tests.{allBelow}
 use Rattle.formats.specs.Limits.{stateLimit, labelLimit, within}
 use Rattle.formats.specs.Rules.{stateCount, labelCount, ruleLength, leafStates, innerStates, ruleMarks}
 use Rattle.formats.specs.Checks.{firstNo, ruleChecks}
-use Rattle.formats.specs.InnerChecks.{countsFit, ruleShape, ruleValues}
+use Rattle.formats.specs.inner.InnerChecks.{countsFit, ruleShape, ruleValues}
 use Rattle.formats.proofs.CheckLaws.{Numbered}
 use Rattle.list_laws.proofs.BoolLaws.{and-both, and-left, and-right}
 use Rattle.list_laws.proofs.TestLaws.{allBelow-all}

@@ -4,6 +4,6 @@ pub mod Plan
 pub mod Rules
 pub mod Checks
 pub mod Built
-pub mod InnerChecks
 pub mod Buffers
 pub mod Inputs
+pub mod inner

@@ -5,7 +5,7 @@ use crate::rules::counts_fit;
 ghost use mathlib.Core.Path.{_≡_};
 ghost use Prim.Native.Nat.{_*_};
 ghost use Rattle.formats.specs.Checks.{firstNo, branchChecks};
-ghost use Rattle.formats.specs.InnerChecks.{Counts, Headed, BranchSized, Product, branchShape, branchValues};
+ghost use Rattle.formats.specs.inner.InnerChecks.{Counts, Headed, BranchSized, Product, branchShape, branchValues};
 
 // How many steps a branch table has.
 pub fn step_count(s: usize, k: usize) -> usize

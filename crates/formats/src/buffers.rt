@@ -9,7 +9,7 @@ ghost use mathlib.Core.Path.{_≡_};
 ghost use Prim.Native.Nat.{_≤_};
 ghost use lib.ListN.{length};
 ghost use Rattle.formats.specs.Rules.{ruleLength};
-ghost use Rattle.formats.specs.InnerChecks.{Sizes};
+ghost use Rattle.formats.specs.inner.InnerChecks.{Sizes};
 ghost use Rattle.formats.specs.Buffers.{limitsFit, buffersFit, headersFit, headedBuffersFit, branchTables, LimitArgs};
 
 // Are n, s and k within their limits?

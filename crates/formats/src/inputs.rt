@@ -9,7 +9,7 @@ ghost use mathlib.Core.Path.{_≡_};
 ghost use Rattle.list_laws.specs.Tests.{allBelow};
 ghost use Rattle.formats.specs.Plan.{labelsIn};
 ghost use Rattle.formats.specs.Checks.{firstNo, ruleTableChecks, branchTableChecks, buildChecks, branchBuildChecks, freshRunChecks};
-ghost use Rattle.formats.specs.InnerChecks.{Labelled, Sizes, roomFits};
+ghost use Rattle.formats.specs.inner.InnerChecks.{Labelled, Sizes, roomFits};
 
 // Check 10: every label of the plan below k.
 fn plan_labels_below(plan: &[u8], k: usize) -> bool

@@ -4,7 +4,7 @@ use crate::rules::all_below;
 ghost use mathlib.Core.Path.{_≡_};
 ghost use Rattle.list_laws.specs.Tests.{allBelow, holds, distinct};
 ghost use Rattle.formats.specs.Checks.{firstNo, listChecks};
-ghost use Rattle.formats.specs.InnerChecks.{listsFit};
+ghost use Rattle.formats.specs.inner.InnerChecks.{listsFit};
 
 // Check 12: both lists of one length, at most the limit.
 pub fn lists_fit(nodes: &[u16], labels: &[u8]) -> bool

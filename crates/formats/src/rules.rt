@@ -7,7 +7,7 @@ ghost use Prim.Native.Nat.{_+_, _*_};
 ghost use lib.ListN.{getD};
 ghost use Rattle.list_laws.specs.Tests.{allBelow};
 ghost use Rattle.formats.specs.Checks.{firstNo, ruleChecks};
-ghost use Rattle.formats.specs.InnerChecks.{Counts, Headed, RuleSized, RuleArgs, Product, countsFit, ruleShape, ruleValues};
+ghost use Rattle.formats.specs.inner.InnerChecks.{Counts, Headed, RuleSized, RuleArgs, Product, countsFit, ruleShape, ruleValues};
 
 // Whether every byte is below the bound. There is no early exit: the loop can be done many bytes at a time.
 pub fn all_below(xs: &[u8], bound: u8) -> bool

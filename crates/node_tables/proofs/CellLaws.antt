@@ -20,7 +20,7 @@ use Rattle.trees.proofs.PostorderLaws.{size-of, some-tree}
 use Rattle.formats.specs.Checks.{nodeTableLength}
 use Rattle.node_tables.specs.Cells.{NodeTableArgs}
 use Rattle.node_tables.specs.NodeCells.{NodeCells, UpCells, DownFrom, Parents, AllUpWritten, DownWritten}
-use Rattle.node_tables.specs.DownPass.{DownArgs}
+use Rattle.node_tables.specs.inner.DownPass.{DownArgs}
 
 pub length-nodeTableOf : (t : Tree) → length (nodeTableOf t) ≡ size t * 4
 unfolding nodeTableOf

@@ -15,7 +15,7 @@ use Rattle.formats.specs.Checks.{nodeTableLength}
 use Rattle.list_laws.proofs.TestLaws.{sameList-is, sameList-not}
 use Rattle.node_tables.specs.Cells.{NodeTableArgs}
 use Rattle.node_tables.specs.NodeCells.{NodeCells, UpCells}
-use Rattle.node_tables.specs.DownPass.{DownArgs}
+use Rattle.node_tables.specs.inner.DownPass.{DownArgs}
 use Rattle.node_tables.proofs.CellLaws.{link-cells, cells-link, both-passes, up-parents, down-args}
 use Rattle.node_tables.proofs.CheckLoop.{UpTells, DownTells}
 

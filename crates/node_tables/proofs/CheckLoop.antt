@@ -22,9 +22,9 @@ use Rattle.trees.proofs.JumpLaws.{jump-root}
 use Rattle.trees.proofs.PostorderLaws.{size-of, kind-of}
 use Rattle.node_tables.specs.Cells.{parentCell, jumpCell, depthCell, sizeCell, NodeTableArgs}
 use Rattle.node_tables.specs.NodeCells.{NodeCells, UpCells, UpTo, DownFrom, Parents}
-use Rattle.node_tables.specs.UpPass.{leftOf, innerSize}
-use Rattle.node_tables.specs.DownPass.{childJump, NodeArgs, DownArgs}
-use Rattle.node_tables.specs.CheckPass.{innerMatches, upMatches, downMatches, UpArgs, Tells}
+use Rattle.node_tables.specs.inner.UpPass.{leftOf, innerSize}
+use Rattle.node_tables.specs.inner.DownPass.{childJump, NodeArgs, DownArgs}
+use Rattle.node_tables.specs.inner.CheckPass.{innerMatches, upMatches, downMatches, UpArgs, Tells}
 use Rattle.node_tables.proofs.UpLoop.{no-parent, child-is, at-left, new-size, inner-room}
 use Rattle.node_tables.proofs.DownLoop.{jump-of, depth-of, args-of}
 

@@ -18,7 +18,7 @@ use Rattle.trees.proofs.NodeLaws.{up, depth-root, depth-small, size-pos}
 use Rattle.trees.proofs.JumpLaws.{jump-in, jump-above, jump-rule, jump-root, depth-jump, jumpDepth-le}
 use Rattle.node_tables.specs.Cells.{parentCell, jumpCell, depthCell}
 use Rattle.node_tables.specs.NodeCells.{DownFrom, Parents, DownWritten}
-use Rattle.node_tables.specs.DownPass.{childJump, put, nodeIteration, JumpArgs, NodeArgs, DownArgs}
+use Rattle.node_tables.specs.inner.DownPass.{childJump, put, nodeIteration, JumpArgs, NodeArgs, DownArgs}
 
 -- ---- what a turn leaves and what it writes
 

@@ -10,7 +10,7 @@ use Rattle.trees.specs.Climb.{Forest, Move, byJump, toParent, nextMove}
 use Rattle.trees.proofs.MoveLaws.{next-start, next-inside}
 use Rattle.node_tables.specs.declared.moves.NextMove.{NextMove}
 use Rattle.node_tables.specs.declared.moves.NextMove.the-variants.{Jump, Parent, Stuck}
-use Rattle.node_tables.specs.MoveAnswers.{nextMoveOf}
+use Rattle.node_tables.specs.inner.MoveAnswers.{nextMoveOf}
 
 abbrev kind : NextMove → ℕ
 kind (Jump j) = 0

@@ -17,7 +17,7 @@ use Rattle.trees.specs.Climb.{Forest, nextMove}
 use Rattle.list_laws.proofs.Choice.{le-or}
 use Rattle.node_tables.specs.Cells.{sizeCell, isInSubtreeOn}
 use Rattle.node_tables.specs.declared.moves.NextMove.the-variants.{Jump, Parent, Stuck}
-use Rattle.node_tables.specs.MoveAnswers.{nextMoveOf, risesTo}
+use Rattle.node_tables.specs.inner.MoveAnswers.{nextMoveOf, risesTo}
 
 module _ (F : Forest) (v to j : ℕ) (ej : j ≡ F .jump v) where
   pub outside : F .nodes ≤ j → Stuck ≡ nextMoveOf F (nextMove F v to)

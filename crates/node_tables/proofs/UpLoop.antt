@@ -20,7 +20,7 @@ use Rattle.trees.proofs.NodeLaws.{Inner, inner, Up, up, sub-leaf, sub-size, siz
 use Rattle.trees.proofs.PostorderLaws.{size-of, kind-of, some-tree}
 use Rattle.node_tables.specs.Cells.{parentCell, sizeCell, NodeTableArgs}
 use Rattle.node_tables.specs.NodeCells.{UpTo, UpWritten, AllUpWritten}
-use Rattle.node_tables.specs.UpPass.{leftOf, innerSize, iteration, innerIteration, InnerArgs}
+use Rattle.node_tables.specs.inner.UpPass.{leftOf, innerSize, iteration, innerIteration, InnerArgs}
 
 -- ---- what a turn leaves and what it writes
 

@@ -11,9 +11,9 @@ ghost use Rattle.list_laws.specs.Tests.{sameList};
 ghost use Rattle.formats.specs.Checks.{nodeTableLength};
 ghost use Rattle.node_tables.specs.Cells.{NodeTableArgs};
 ghost use Rattle.node_tables.specs.NodeCells.{NodeCells, UpCells, DownFrom, Parents};
-ghost use Rattle.node_tables.specs.UpPass.{InnerArgs};
-ghost use Rattle.node_tables.specs.DownPass.{NodeArgs, DownArgs};
-ghost use Rattle.node_tables.specs.CheckPass.{innerMatches, upMatches, downMatches, UpArgs, Tells};
+ghost use Rattle.node_tables.specs.inner.UpPass.{InnerArgs};
+ghost use Rattle.node_tables.specs.inner.DownPass.{NodeArgs, DownArgs};
+ghost use Rattle.node_tables.specs.inner.CheckPass.{innerMatches, upMatches, downMatches, UpArgs, Tells};
 
 // Whether inner node v has its size, and is its children's parent.
 fn inner_matches(node_table: &[u16], v: usize) -> bool

@@ -2,7 +2,7 @@
 ghost use mathlib.Core.Path.{_≡_};
 ghost use Rattle.trees.specs.Tree.{Tree};
 ghost use Rattle.node_tables.specs.NodeCells.{Parents, DownWritten};
-ghost use Rattle.node_tables.specs.DownPass.{childJump, nodeIteration, JumpArgs, NodeArgs, DownArgs};
+ghost use Rattle.node_tables.specs.inner.DownPass.{childJump, nodeIteration, JumpArgs, NodeArgs, DownArgs};
 
 // The jump of a child of node p.
 pub fn child_jump(node_table: &[u16], p: usize) -> u16

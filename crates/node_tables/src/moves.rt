@@ -4,7 +4,7 @@ ghost use Prim.Native.Nat.{_+_, _*_, _≤_, _<_};
 ghost use lib.ListN.{length};
 ghost use Rattle.trees.specs.Climb.{nextMove};
 ghost use Rattle.node_tables.specs.Cells.{parentCell, jumpCell, depthCell, sizeCell, isInSubtreeOn, cellForest};
-ghost use Rattle.node_tables.specs.MoveAnswers.{nextMoveOf, risesTo, MoveArgs};
+ghost use Rattle.node_tables.specs.inner.MoveAnswers.{nextMoveOf, risesTo, MoveArgs};
 
 // Where a climb goes next: by a jump or to a parent, each with the node it leads to. Stuck where the move would leave
 // the plan or not rise, which never happens on a table as built.

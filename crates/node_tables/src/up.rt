@@ -4,7 +4,7 @@ ghost use lib.ListN.{length};
 ghost use Rattle.trees.specs.Tree.{Tree, kindsOf};
 ghost use Rattle.node_tables.specs.Cells.{NodeTableArgs};
 ghost use Rattle.node_tables.specs.NodeCells.{AllUpWritten};
-ghost use Rattle.node_tables.specs.UpPass.{leftOf, innerSize, innerIteration, InnerArgs};
+ghost use Rattle.node_tables.specs.inner.UpPass.{leftOf, innerSize, innerIteration, InnerArgs};
 
 // The left child of inner node v: it stands before the subtree of the right child, v - 1.
 pub fn left_child(node_table: &[u16], v: usize) -> usize

@@ -24,7 +24,7 @@ use Rattle.model.specs.Calls.{start, advance, read, Answer, parts, onParts, onO
 use Rattle.session.specs.declared.state.Session.{Session}
 use Rattle.session.specs.Promises.{answerOn, recordOn}
 use Rattle.session.specs.Records.{sessionOf}
-use Rattle.session.specs.Shapes.{loadedBy}
+use Rattle.session.specs.inner.Shapes.{loadedBy}
 use Rattle.probes.specs.declared.layers.Part.{Part}
 use Rattle.probes.specs.declared.whole.Steps.{Steps}
 use Rattle.probes.specs.declared.whole.Question.{Question}

@@ -17,7 +17,7 @@ use Rattle.node_tables.specs.Cells.{sizeCell, depthCell, cellForest}
 use Rattle.node_tables.specs.Cells.{isInSubtreeOn}
 use Rattle.questions.specs.declared.search.Meeting.the-variants.{At, Outside}
 use Rattle.questions.specs.Search.{nextUnless, meetOn}
-use Rattle.questions.specs.SearchAnswers.{meetingOf, targetOf, risingMeeting}
+use Rattle.questions.specs.inner.SearchAnswers.{meetingOf, targetOf, risingMeeting}
 use Rattle.questions.proofs.SearchLaws.{unless, Taken, taken, search-here, search-move, search-stuck}
 use Rattle.questions.proofs.SearchLaws.{search-inside}
 

@@ -27,8 +27,8 @@ use Rattle.tables.proofs.ClimbBounds.{rule-state, Bounded, climb-bounded}
 use Rattle.questions.specs.Part.{Found, climbFrom, runReached, ownReached, joinOn}
 use Rattle.questions.specs.Part.{innerOn, leafOn, forkOn, partOn}
 use Rattle.questions.specs.Part.{labelOn}
-use Rattle.questions.specs.Scans.{sideOn}
-use Rattle.questions.specs.PartArgs.{unmoved}
+use Rattle.questions.specs.inner.Scans.{sideOn}
+use Rattle.questions.specs.inner.PartArgs.{unmoved}
 use Rattle.questions.specs.PartAnswers.{partFits, viewIn, partGiven}
 
 module _ (X : View) where

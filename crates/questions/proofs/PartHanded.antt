@@ -16,7 +16,7 @@ use Rattle.formats.proofs.BufferLaws.{Limits, limits-are, Lengths, lengths-are}
 use Rattle.tables.specs.Climbs.{climbedOf}
 use Rattle.tables.specs.declared.answers.Climbed.{Climbed}
 use Rattle.questions.specs.Part.{partOn}
-use Rattle.questions.specs.PartArgs.{partView, PartArgs}
+use Rattle.questions.specs.inner.PartArgs.{partView, PartArgs}
 use Rattle.questions.specs.PartAnswers.{askedFits, partGiven}
 use Rattle.questions.proofs.PartFits.{Asked, asked-are, given-yes}
 

@@ -20,11 +20,11 @@ use Rattle.trees.specs.Climb.{andThen}
 use Rattle.tables.specs.declared.answers.Climbed.the-variants.{Reached as To, OutOfRange}
 use Rattle.tables.specs.declared.answers.Reached.{Reached}
 use Rattle.tables.specs.Climbs.{View, below, runOn, ruleOn, reached, climbOn, climbedOf}
-use Rattle.tables.specs.PathViews.{statesView}
+use Rattle.tables.specs.inner.PathViews.{statesView}
 use Rattle.tables.proofs.LookupLaws.{below-yes, below-no}
 use Rattle.questions.specs.Part.{Found, found, climbFrom, runReached, ownReached, joinOn, leafOn}
-use Rattle.questions.specs.Scans.{foundOf, labelOf, sideOn}
-use Rattle.questions.specs.PartArgs.{unmoved, reachedIn}
+use Rattle.questions.specs.inner.Scans.{foundOf, labelOf, sideOn}
+use Rattle.questions.specs.inner.PartArgs.{unmoved, reachedIn}
 
 pub reached-answer : (o : Option Reached) → reachedIn (climbedOf o) ≡ o
 unfolding climbedOf

@@ -15,11 +15,11 @@ use Rattle.tables.specs.declared.answers.Climbed.{Climbed}
 use Rattle.tables.specs.declared.answers.Climbed.the-variants.{OutOfRange}
 use Rattle.tables.specs.declared.answers.Reached.{Reached}
 use Rattle.tables.specs.Climbs.{View, ruleOn, climbedOf}
-use Rattle.tables.specs.PathViews.{rulesView, PathArgs}
+use Rattle.tables.specs.inner.PathViews.{rulesView, PathArgs}
 use Rattle.tables.proofs.ClimbBounds.{Bounded}
 use Rattle.questions.specs.Part.{Found, joinOn, leafOn, forkOn, partOn, foundBelow, labelOn}
-use Rattle.questions.specs.Scans.{lastIn, foundOf, sideOn}
-use Rattle.questions.specs.PartArgs.{pathOf, leavesView, reachedIn, Few, SideArgs}
+use Rattle.questions.specs.inner.Scans.{lastIn, foundOf, sideOn}
+use Rattle.questions.specs.inner.PartArgs.{pathOf, leavesView, reachedIn, Few, SideArgs}
 use Rattle.questions.proofs.ScanLaws.{last-bound, last-covers, found-scan}
 use Rattle.questions.proofs.PartBounds.{side-bounded, inner-sides}
 use Rattle.questions.proofs.PartLaws.{reached-answer}

@@ -29,7 +29,7 @@ use Rattle.tables.proofs.LookupLaws.{below-state, below-none}
 use Rattle.tables.proofs.ClimbBounds.{move-state}
 use Rattle.questions.specs.Part.{Found, found, lastFound, foundBelow, labelOn, climbFrom, runReached, ownReached}
 use Rattle.questions.specs.Part.{joinOn, leafOn, forkOn, partOn}
-use Rattle.questions.specs.Scans.{sideOn}
+use Rattle.questions.specs.inner.Scans.{sideOn}
 use Rattle.questions.specs.OutOfRange.{PartOutOfRange, links, children, run, map, leaf, rule, handled, label, changed}
 use Rattle.questions.proofs.PartBounds.{inner-sides, side-bounded}
 use Rattle.questions.proofs.RootsRange.{fork-test}

@@ -12,8 +12,8 @@ use Rattle.tables.specs.Climbs.{View, below, runOn, ruleOn, siblingOn}
 use Rattle.tables.specs.declared.answers.Reached.{Reached}
 use Rattle.tables.specs.Climbs.{parentOn, moveOn, reached, climbOn}
 use Rattle.questions.specs.Part.{Found, climbFrom, runReached, ownReached, joinOn, forkOn, foundBelow}
-use Rattle.questions.specs.Scans.{sideOn}
-use Rattle.questions.specs.PartArgs.{pathOf}
+use Rattle.questions.specs.inner.Scans.{sideOn}
+use Rattle.questions.specs.inner.PartArgs.{pathOf}
 use Rattle.questions.proofs.PartBounds.{inner-sides}
 
 module _ (X : View) where

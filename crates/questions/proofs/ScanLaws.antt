@@ -24,7 +24,7 @@ use Rattle.list_laws.proofs.BoolLaws.{true-false}
 use Rattle.node_tables.specs.Cells.{sizeCell}
 use Rattle.node_tables.specs.Cells.{isInSubtreeOn}
 use Rattle.questions.specs.Part.{found, lastFound, foundBelow}
-use Rattle.questions.specs.Scans.{lastFrom, lastIn, foundOf, labelOf}
+use Rattle.questions.specs.inner.Scans.{lastFrom, lastIn, foundOf, labelOf}
 
 -- the first entry of a rest, and the rest after it
 at-head : (e i : ℕ) (es l : List ℕ) → e ∷ es ≡ drop i l → e ≡ getD l i 0

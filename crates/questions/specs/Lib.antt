@@ -1,11 +1,9 @@
 pub mod Search
-pub mod SearchAnswers
 pub mod Roots
 pub mod Rising
 pub mod RootsAnswers
 pub mod Part
 pub mod PartAnswers
-pub mod Scans
-pub mod PartArgs
 pub mod Promises
 pub mod OutOfRange
+pub mod inner

@@ -17,11 +17,11 @@ ghost use lib.ListN.{getD};
 ghost use Rattle.trees.specs.Changes.{changed};
 ghost use Rattle.node_tables.specs.Cells.{sizeCell};
 ghost use Rattle.tables.specs.Climbs.{below, climbedOf};
-ghost use Rattle.tables.specs.PathViews.{pathView, rulesView};
+ghost use Rattle.tables.specs.inner.PathViews.{pathView, rulesView};
 ghost use Rattle.questions.specs.Part.{joinOn, leafOn, forkOn, partOn};
-ghost use Rattle.questions.specs.Scans.{lastIn, foundOf, sideOn};
-ghost use Rattle.questions.specs.PartArgs.{partView, leavesView, unmoved, reachedIn, LastArgs, LabelArgs, LeafArgs};
-ghost use Rattle.questions.specs.PartArgs.{JoinArgs, SideArgs, ForkArgs, PartArgs};
+ghost use Rattle.questions.specs.inner.Scans.{lastIn, foundOf, sideOn};
+ghost use Rattle.questions.specs.inner.PartArgs.{partView, leavesView, unmoved, reachedIn, LastArgs, LabelArgs, LeafArgs};
+ghost use Rattle.questions.specs.inner.PartArgs.{JoinArgs, SideArgs, ForkArgs, PartArgs};
 ghost use Rattle.questions.specs.Promises.{PartDone};
 
 // The place, from 1, of the last of the earlier roots that is c or below it; 0 where there is none.

@@ -4,7 +4,7 @@ ghost use Prim.Native.Nat.{_≤_};
 ghost use mathlib.Core.Bool.{cond};
 ghost use lib.ListN.{length};
 ghost use Rattle.trees.specs.Numbering.{isInSubtree};
-ghost use Rattle.questions.specs.Scans.{lastIn};
+ghost use Rattle.questions.specs.inner.Scans.{lastIn};
 
 // Place i where e is in the run of z numbers that ends at c, else 0.
 fn place_if_covered(e: u16, c: u16, z: u16, i: u16) -> u16

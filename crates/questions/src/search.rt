@@ -7,10 +7,10 @@ ghost use mathlib.Core.Path.{_≡_};
 ghost use Prim.Native.Nat.{ℕ, _+_, _*_, _≤_};
 ghost use lib.ListN.{length};
 ghost use Rattle.node_tables.specs.Cells.{cellForest};
-ghost use Rattle.node_tables.specs.MoveAnswers.{MoveArgs};
+ghost use Rattle.node_tables.specs.inner.MoveAnswers.{MoveArgs};
 ghost use Rattle.node_tables.specs.Cells.{isInSubtreeOn};
 ghost use Rattle.questions.specs.Search.{nextUnless, meetOn};
-ghost use Rattle.questions.specs.SearchAnswers.{meetingOf, targetOf, risingMeeting};
+ghost use Rattle.questions.specs.inner.SearchAnswers.{meetingOf, targetOf, risingMeeting};
 
 // A node, or that a value read leads outside the plan or a move does not rise.
 pub enum Meeting {

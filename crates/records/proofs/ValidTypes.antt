@@ -16,7 +16,7 @@ use Rattle.model.specs.Calls as calls
 use Rattle.model.specs.Model.{Record, idle, freshRecord}
 use Rattle.session.specs.declared.state.Session.{Session}
 use Rattle.session.specs.Records.{sessionOf, recordOf, padded, valid}
-use Rattle.session.specs.Shapes.{Shaped}
+use Rattle.session.specs.inner.Shapes.{Shaped}
 use Rattle.session.proofs.PadLaws.{zero-replicate, length-padded}
 use Rattle.session.proofs.Holds.{Sized, Asked, Holds, HoldsIn, holds-of, struct-is}
 use Rattle.session.proofs.ActLaws.{rises-below}

@@ -18,7 +18,7 @@ use lib.Seq.{drop-cons, getD-set-same, getD-set-other}
 use Rattle.trees.specs.Changes.{changed}
 use Rattle.list_laws.specs.Tests.{holds}
 use Rattle.list_laws.proofs.BoolLaws.{true-false}
-use Rattle.runs.specs.Listed.{labelFor}
+use Rattle.runs.specs.inner.Listed.{labelFor}
 
 -- ---- the scan for a label
 

@@ -21,7 +21,7 @@ use Rattle.trees.proofs.PostorderLaws.{state-fold, read-whole, treeOf-kinds, tr
 use Rattle.trees.proofs.PostorderLaws.{leaf-at, inner-at, short-at, other-at, end-at}
 use Rattle.trees.proofs.MoveLaws.{none-some}
 use Rattle.list_laws.proofs.RowLaws.{stride}
-use Rattle.formats.specs.InnerChecks.{RuleArgs}
+use Rattle.formats.specs.inner.InnerChecks.{RuleArgs}
 use Rattle.formats.specs.Rules.{treeAutomaton}
 use Rattle.runs.proofs.StackLaws.{stackOf, stack-push, stack-two, some-some, waiting-most}
 use Rattle.runs.proofs.StackLaws.{read-leaf, read-inner}

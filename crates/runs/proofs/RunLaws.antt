@@ -29,7 +29,7 @@ use Rattle.formats.proofs.RuleLaws.{inner-state-below, leaves-part, inner-part}
 use Rattle.formats.proofs.InputLaws.{ListPasses, fresh-run-passes, label-below}
 use Rattle.runs.specs.declared.answer.Running.{Running}
 use Rattle.runs.specs.declared.answer.Running.the-variants.{Ended, Refused}
-use Rattle.runs.specs.Pass.{PassArgs, PassDone, RunArgs}
+use Rattle.runs.specs.inner.Pass.{PassArgs, PassDone, RunArgs}
 use Rattle.runs.specs.FreshRun.{runningNumber, runAnswer, changedTree, rootState, rootAccepted, freshRun, FreshRunDone}
 
 abbrev Passes : List ℕ → List ℕ → List ℕ → List ℕ → Type 0

@@ -5,7 +5,7 @@ use formats::rules::rule;
 ghost use mathlib.Core.Path.{_≡_};
 ghost use Prim.Native.Nat.{ℕ, _+_, _*_, _<_};
 ghost use lib.ListN.{length, getD};
-ghost use Rattle.runs.specs.Pass.{PassArgs, PassDone};
+ghost use Rattle.runs.specs.inner.Pass.{PassArgs, PassDone};
 
 // Room for the states of the trees that wait: of N nodes at most (N + 1) / 2.
 fn room() -> [u8; 32768]

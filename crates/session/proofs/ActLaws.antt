@@ -33,7 +33,7 @@ use Rattle.session.specs.declared.state.Phase.the-variants.{Empty}
 use Rattle.session.specs.declared.state.Session.{Session}
 use Rattle.session.specs.Records.{phaseTo, recordOf, sessionOf, padded, zeroFrom, risesTo}
 use Rattle.session.specs.Records.{sizesFit, noQuestion, listFits, partsFit, questionFits, validIn, valid}
-use Rattle.session.specs.Shapes.{Shaped}
+use Rattle.session.specs.inner.Shapes.{Shaped}
 use Rattle.session.proofs.PadLaws.{take-padded, take-padded-by, zero-padded, zero-padded-by, zero-replicate}
 use Rattle.session.proofs.RecordLaws.{Listed, record-of-struct, struct-shaped}
 use Rattle.session.proofs.Holds.{Sized, Asked, Going, HoldsIn, Holds, holds-of}

@@ -40,8 +40,8 @@ use Rattle.session.specs.declared.answers.AdvanceStep.{AdvanceStep}
 use Rattle.session.specs.Records.{phaseOf, phaseTo, sizesOf, recordOf, sessionOf, whole, valid}
 use Rattle.session.specs.Answers.{advanceAnswer}
 use Rattle.session.specs.Promises.{CallDone}
-use Rattle.session.specs.Shapes.{Shaped}
-use Rattle.session.specs.Steps.{NextArgs, HandleArgs, markedIn, steppedHead, stepBy, stepOn, StepFound}
+use Rattle.session.specs.inner.Shapes.{Shaped}
+use Rattle.session.specs.inner.Steps.{NextArgs, HandleArgs, markedIn, steppedHead, stepBy, stepOn, StepFound}
 use Rattle.session.proofs.PadLaws.{padded-take, padded-more}
 use Rattle.session.proofs.RecordLaws.{Tails}
 use Rattle.session.proofs.Holds.{Sized, Going, holds-of, tails-of, struct-is}

@@ -26,7 +26,7 @@ use Rattle.session.specs.declared.state.Phase.{Phase}
 use Rattle.session.specs.declared.state.Session.{Session}
 use Rattle.session.specs.Records.{phaseOf, sizesOf, recordOf, sessionOf, valid}
 use Rattle.session.specs.Promises.{CallDone, answerOn, recordOn}
-use Rattle.session.specs.Shapes.{Shaped}
+use Rattle.session.specs.inner.Shapes.{Shaped}
 use Rattle.session.proofs.Holds.{holds-of, struct-is}
 use Rattle.session.proofs.ActLaws.{rises-below, start-sized, running-is}
 

@@ -15,7 +15,7 @@ use Rattle.session.specs.declared.answers.CallAnswer.the-variants.{Accep
 use Rattle.session.specs.Records.{phaseOf, recordOf, sessionOf, valid}
 use Rattle.session.specs.Answers.{callAnswer}
 use Rattle.session.specs.Promises.{CallDone}
-use Rattle.session.specs.Shapes.{Shaped, loadedBy}
+use Rattle.session.specs.inner.Shapes.{Shaped, loadedBy}
 use Rattle.session.proofs.CallLaws.{unless-done, proceeds-done}
 
 module _ (s : Session) (h : Shaped s) (b : Bool) (e : b ≡ (valid s && isRunning (phaseOf (s .head .phase)))) where

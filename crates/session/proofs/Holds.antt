@@ -23,7 +23,7 @@ use Rattle.session.specs.declared.state.Phase.the-variants.{Empty, Loade
 use Rattle.session.specs.declared.state.Session.{Session}
 use Rattle.session.specs.Records.{phaseOf, sizesOf, recordOf, sessionOf, zeroFrom, risesTo}
 use Rattle.session.specs.Records.{sizesFit, noQuestion, listFits, partsFit, questionFits, validIn, valid}
-use Rattle.session.specs.Shapes.{Shaped}
+use Rattle.session.specs.inner.Shapes.{Shaped}
 use Rattle.session.proofs.RecordLaws.{Tails, struct-of-record}
 
 pub record Sized (z : Sizes) : Type 0 where

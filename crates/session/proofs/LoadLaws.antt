@@ -30,7 +30,7 @@ use Rattle.session.specs.declared.answers.CallAnswer.the-variants.{Accep
 use Rattle.session.specs.Records.{phaseOf, sizesOf, recordOf, sessionOf, valid}
 use Rattle.session.specs.Answers.{callAnswer}
 use Rattle.session.specs.Promises.{CallDone, LoadDone, refusalOn}
-use Rattle.session.specs.Shapes.{Shaped, Headers, loadedBy, loadedFrom}
+use Rattle.session.specs.inner.Shapes.{Shaped, Headers, loadedBy, loadedFrom}
 use Rattle.session.proofs.CallLaws.{unless-done, refused-done, proceeds-done}
 
 -- N, S and K as they were read

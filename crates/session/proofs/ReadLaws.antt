@@ -21,7 +21,7 @@ use Rattle.session.specs.declared.answers.ReadAnswer.the-variants.{Outco
 use Rattle.session.specs.Records.{phaseOf, recordOf, valid}
 use Rattle.session.specs.Answers.{readAnswer}
 use Rattle.session.specs.Promises.{answerOn}
-use Rattle.session.specs.Shapes.{Shaped}
+use Rattle.session.specs.inner.Shapes.{Shaped}
 use Rattle.session.proofs.Holds.{Ended, HoldsIn, holds-of, tails-of}
 use Rattle.session.proofs.CallLaws.{unless-done}
 

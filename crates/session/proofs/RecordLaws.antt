@@ -17,7 +17,7 @@ use Rattle.session.specs.declared.state.Phase.{Phase}
 use Rattle.session.specs.declared.state.Phase.the-variants.{Empty, Loaded, Running, Answered}
 use Rattle.session.specs.declared.state.Session.{Session}
 use Rattle.session.specs.Records.{phaseOf, phaseTo, recordOf, sessionOf, zeroFrom}
-use Rattle.session.specs.Shapes.{Shaped}
+use Rattle.session.specs.inner.Shapes.{Shaped}
 use Rattle.session.proofs.PadLaws.{length-padded, take-padded, take-padded-by, padded-take}
 
 pub phase-to-of : (p : Phase) → phaseTo (phaseOf p) ≡ p

@@ -15,7 +15,7 @@ use Rattle.model.proofs.Refinement.{Refines}
 use Rattle.session.specs.declared.state.Session.{Session}
 use Rattle.session.specs.Records.{phaseTo, recordOf, sessionOf, freshSession, valid}
 use Rattle.session.specs.Promises.{CallDone, answerOn, recordOn}
-use Rattle.session.specs.Shapes.{Shaped}
+use Rattle.session.specs.inner.Shapes.{Shaped}
 use Rattle.session.specs.CallsByValue.{CallByValue, loads, starts, advances, cancels, reads}
 use Rattle.session.proofs.RecordLaws.{record-of-struct, struct-shaped}
 use Rattle.session.proofs.ActLaws.{holds-valid, listed-of, act-valid, act-shaped, act-record}

@@ -4,7 +4,7 @@ use denote.Laws.{Is}
 use denote.Struct.Laws as S
 use borrow.Author.Needs.{needs}
 use Rattle.session.specs.declared.state.Session.{Session}
-use Rattle.session.specs.Shapes.{Shaped}
+use Rattle.session.specs.inner.Shapes.{Shaped}
 use Rattle.session.proofs.state.Session as T
 use Rattle.session.proofs.state.Session.Laws as T′
 

@@ -33,8 +33,8 @@ use Rattle.session.specs.declared.answers.StartAnswer.the-variants.{Part
 use Rattle.session.specs.Records.{phaseOf, phaseTo, sizesOf, recordOf, sessionOf, padded, valid}
 use Rattle.session.specs.Answers.{startAnswer}
 use Rattle.session.specs.Promises.{CallDone}
-use Rattle.session.specs.Shapes.{Shaped}
-use Rattle.session.specs.Steps.{ListArgs, startedOf}
+use Rattle.session.specs.inner.Shapes.{Shaped}
+use Rattle.session.specs.inner.Steps.{ListArgs, startedOf}
 use Rattle.session.proofs.Holds.{Sized, holds-of, struct-is}
 use Rattle.session.proofs.ActLaws.{start-sized}
 use Rattle.session.proofs.CallLaws.{unless-done, refused-done, proceeds-done}

@@ -22,7 +22,7 @@ use Rattle.session.specs.declared.answers.AdvanceStep.{AdvanceStep}
 use Rattle.session.specs.Records.{whole}
 use Rattle.session.specs.Answers.{advanceAnswer}
 use Rattle.session.specs.Promises.{CallDone}
-use Rattle.session.specs.Steps.{markedIn, steppedHead, stepBy, refusedStep, StepFound}
+use Rattle.session.specs.inner.Steps.{markedIn, steppedHead, stepBy, refusedStep, StepFound}
 
 -- the mark of a state, where the code reads it
 pub mark-at : (rules : List ℕ) (s k p q : ℕ) → p ≡ s * k * s → q < s

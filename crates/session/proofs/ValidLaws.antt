@@ -19,7 +19,7 @@ use Rattle.list_laws.proofs.BoolLaws.{and-left, and-no-right}
 use Rattle.session.specs.declared.state.Phase.{Phase}
 use Rattle.session.specs.declared.state.Phase.the-variants.{Empty, Loaded, Running, Answered}
 use Rattle.session.specs.Records.{sizesFit, noQuestion, listFits, partsFit, questionFits, zeroFrom, risesTo, validIn, valid}
-use Rattle.session.specs.Shapes.{Shaped, PartsShaped}
+use Rattle.session.specs.inner.Shapes.{Shaped, PartsShaped}
 
 pub sizes-test : (z : Sizes)
     → (ltb 0 (z .n) && leb (z .n) 65535 && ltb 0 (z .s) && leb (z .s) 16 && ltb 0 (z .k) && leb (z .k) 64) ≡ sizesFit z

@@ -1,6 +1,5 @@
 pub mod Records
 pub mod Answers
 pub mod Promises
-pub mod Shapes
-pub mod Steps
 pub mod CallsByValue
+pub mod inner

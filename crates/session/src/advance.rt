@@ -19,10 +19,10 @@ ghost use Rattle.model.specs.Calls as calls;
 ghost use Rattle.session.specs.Answers.{advanceAnswer};
 ghost use Rattle.session.specs.Promises.{CallDone};
 ghost use Rattle.session.specs.Records.{whole};
-ghost use Rattle.session.specs.Shapes.{Shaped};
+ghost use Rattle.session.specs.inner.Shapes.{Shaped};
 ghost use Rattle.formats.specs.Inputs.{inputsOf};
-ghost use Rattle.session.specs.Steps.{NextArgs, StepArgs, MarkArgs, HandleArgs, markedIn, steppedHead, stepBy};
-ghost use Rattle.session.specs.Steps.{refusedStep, StepFound};
+ghost use Rattle.session.specs.inner.Steps.{NextArgs, StepArgs, MarkArgs, HandleArgs, markedIn, steppedHead, stepBy};
+ghost use Rattle.session.specs.inner.Steps.{refusedStep, StepFound};
 
 // The part that comes next: with the record's lists, without the zeros behind them.
 fn next_part<'a>(

@@ -6,7 +6,7 @@ use crate::state::idle;
 use formats::bytes::read32;
 ghost use mathlib.Core.Path.{_≡_};
 ghost use Rattle.session.specs.Records.{sessionOf};
-ghost use Rattle.session.specs.Shapes.{loadedBy, loadedFrom, Headers};
+ghost use Rattle.session.specs.inner.Shapes.{loadedBy, loadedFrom, Headers};
 
 // A loaded session of N, S and K, with no question.
 pub fn loaded(sizes: Sizes) -> Session

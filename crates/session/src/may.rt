@@ -8,7 +8,7 @@ ghost use mathlib.Core.Path.{_≡_};
 ghost use mathlib.Core.Bool.{_&&_};
 ghost use Rattle.model.specs.Calls.{mayLoad, mayStart, isRunning, isAnswered};
 ghost use Rattle.session.specs.Records.{phaseOf, whole, valid};
-ghost use Rattle.session.specs.Shapes.{Shaped};
+ghost use Rattle.session.specs.inner.Shapes.{Shaped};
 
 // Load: unless running.
 pub fn may_load(phase: Phase) -> bool

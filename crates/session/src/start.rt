@@ -16,7 +16,7 @@ ghost use Rattle.model.specs.Calls as calls;
 ghost use Rattle.session.specs.Answers.{startAnswer};
 ghost use Rattle.session.specs.Promises.{CallDone};
 ghost use Rattle.formats.specs.Inputs.{inputsOf};
-ghost use Rattle.session.specs.Steps.{ListArgs, startedOf};
+ghost use Rattle.session.specs.inner.Steps.{ListArgs, startedOf};
 
 // A running session with its question and no part handled. Nothing of an earlier question is left.
 fn started(sizes: Sizes, nodes: &[u16], labels: &[u8], parts: u8, roots: [u16; 254]) -> Session

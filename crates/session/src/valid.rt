@@ -13,7 +13,7 @@ ghost use mathlib.Core.Path.{_≡_};
 ghost use mathlib.Core.List.{List};
 ghost use Prim.Native.Nat.{ℕ};
 ghost use Rattle.session.specs.Records.{whole, sizesFit, noQuestion, listFits, partsFit, questionFits, valid};
-ghost use Rattle.session.specs.Shapes.{Shaped, ListShaped, PartsShaped};
+ghost use Rattle.session.specs.inner.Shapes.{Shaped, ListShaped, PartsShaped};
 
 // N, S and K in their limits.
 fn sizes_fit(z: Sizes) -> bool

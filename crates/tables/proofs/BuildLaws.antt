@@ -33,8 +33,8 @@ use Rattle.node_tables.proofs.CellLaws.{length-nodeTableOf, link-cells}
 use Rattle.tables.specs.declared.answers.Building.{Building}
 use Rattle.tables.specs.declared.answers.Building.the-variants.{Built, Refused}
 use Rattle.tables.specs.Answers.{buildingNumber, buildAnswer, written, BuildDone}
-use Rattle.tables.specs.States.{RuleRuns}
-use Rattle.tables.specs.Written.{TableArgs, StatesOver, Passed, BuildArgs, BothWritten}
+use Rattle.tables.specs.inner.States.{RuleRuns}
+use Rattle.tables.specs.inner.Written.{TableArgs, StatesOver, Passed, BuildArgs, BothWritten}
 use Rattle.tables.proofs.TableLoop.{length-stateTableOf}
 
 -- ---- the lengths of the tables

@@ -20,9 +20,9 @@ use Rattle.formats.proofs.PlanLaws.{labels-part, kinds-part}
 use Rattle.formats.proofs.RuleLaws.{leaves-part, inner-part}
 use Rattle.formats.proofs.InputLaws.{build-passes}
 use Rattle.tables.specs.Answers.{sameTables}
-use Rattle.tables.specs.Written.{TableArgs, BuildArgs}
+use Rattle.tables.specs.inner.Written.{TableArgs, BuildArgs}
 use Rattle.tables.proofs.BuildLaws.{length-builtNodeTable, length-builtStates, table-args-of}
-use Rattle.tables.specs.Compared.{TableTested}
+use Rattle.tables.specs.inner.Compared.{TableTested}
 
 -- what the check of links tells its caller
 abbrev pub NodeTableTested : List ℕ → List ℕ → Bool → Type 0

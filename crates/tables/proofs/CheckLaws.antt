@@ -15,8 +15,8 @@ use Rattle.trees.specs.Numbering.{sub}
 use Rattle.trees.specs.Tables.{stateMap, stateTableOf}
 use Rattle.list_laws.specs.Tests.{sameList}
 use Rattle.tables.specs.StateCells.{stateCell}
-use Rattle.tables.specs.Compare.{rowIs}
-use Rattle.tables.specs.LocalTables.{statesAre, mapsAre}
+use Rattle.tables.specs.inner.Compare.{rowIs}
+use Rattle.tables.specs.inner.LocalTables.{statesAre, mapsAre}
 use Rattle.tables.proofs.TableTestLaws.{states-same-yes, states-same-no, states-same-answer, maps-same-yes}
 use Rattle.tables.proofs.TableTestLaws.{maps-same-no, maps-same-answer, table-test}
 use Rattle.tables.proofs.LocalLaws.{StatesTo, MapsFrom}

@@ -15,9 +15,9 @@ use Rattle.trees.specs.Tables.{stateMap}
 use Rattle.trees.proofs.NodeLaws.{length-labels}
 use Rattle.trees.proofs.MapLaws.{stateMap-root}
 use Rattle.formats.specs.Rules.{treeAutomaton}
-use Rattle.tables.specs.Compare.{rowIs}
-use Rattle.tables.specs.Compared.{MapsTested}
-use Rattle.tables.specs.Maps.{Prepared, mapValue, Maps}
+use Rattle.tables.specs.inner.Compare.{rowIs}
+use Rattle.tables.specs.inner.Compared.{MapsTested}
+use Rattle.tables.specs.inner.Maps.{Prepared, mapValue, Maps}
 use Rattle.tables.proofs.CompareLaws.{rowIs-ext}
 use Rattle.tables.proofs.MapTableLaws.{kept-row}
 use Rattle.tables.proofs.CheckLaws.{maps-yes, maps-no}

@@ -11,9 +11,9 @@ use lib.ListN.{length, getD}
 use Rattle.list_laws.proofs.RowLaws.{stride}
 use Rattle.node_tables.specs.Cells.{parentCell, jumpCell}
 use Rattle.tables.specs.StateCells.{mapCell}
-use Rattle.tables.specs.Rows.{NearArgs}
-use Rattle.tables.specs.Compare.{rowIs, nearEntry, farEntry, FarIsArgs}
-use Rattle.tables.specs.Maps.{nearBase, nearStep, nearValue, mapValue, FillArgs}
+use Rattle.tables.specs.inner.Rows.{NearArgs}
+use Rattle.tables.specs.inner.Compare.{rowIs, nearEntry, farEntry, FarIsArgs}
+use Rattle.tables.specs.inner.Maps.{nearBase, nearStep, nearValue, mapValue, FillArgs}
 use Rattle.tables.proofs.CompareLaws.{rowIs-ext}
 use Rattle.tables.proofs.MapPlaces.{near-args}
 

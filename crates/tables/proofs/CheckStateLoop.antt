@@ -17,8 +17,8 @@ use Rattle.list_laws.proofs.RowLaws.{stride}
 use Rattle.trees.proofs.PostorderLaws.{size-of}
 use Rattle.formats.specs.Rules.{treeAutomaton}
 use Rattle.tables.specs.StateCells.{stateCell}
-use Rattle.tables.specs.States.{Runs}
-use Rattle.tables.specs.Compared.{StatesTested}
+use Rattle.tables.specs.inner.States.{Runs}
+use Rattle.tables.specs.inner.Compared.{StatesTested}
 use Rattle.tables.proofs.CheckLaws.{states-yes, states-no}
 
 module _ (s k : ℕ) (lv inn ks ls b : List ℕ) where

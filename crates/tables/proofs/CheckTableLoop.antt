@@ -15,11 +15,11 @@ use Rattle.list_laws.specs.Tests.{sameList}
 use Rattle.formats.specs.Rules.{treeAutomaton}
 use Rattle.formats.specs.Checks.{stateTableLength}
 use Rattle.node_tables.specs.NodeCells.{NodeCells}
-use Rattle.tables.specs.LocalTables.{statesAre, mapsAre}
-use Rattle.tables.specs.States.{Runs}
-use Rattle.tables.specs.Maps.{Prepared, MapArgs}
-use Rattle.tables.specs.Compared.{StatesTested, MapsTested, TableTested}
-use Rattle.tables.specs.Written.{TableArgs}
+use Rattle.tables.specs.inner.LocalTables.{statesAre, mapsAre}
+use Rattle.tables.specs.inner.States.{Runs}
+use Rattle.tables.specs.inner.Maps.{Prepared, MapArgs}
+use Rattle.tables.specs.inner.Compared.{StatesTested, MapsTested, TableTested}
+use Rattle.tables.specs.inner.Written.{TableArgs}
 use Rattle.tables.proofs.TableLoop.{map-args}
 use Rattle.tables.proofs.CheckLaws.{states-answer, table-same}
 

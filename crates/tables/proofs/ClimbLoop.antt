@@ -18,7 +18,7 @@ use Rattle.tables.specs.declared.answers.Climbed.the-variants.{Reached a
 use Rattle.tables.specs.declared.climb.Landed.{Landed}
 use Rattle.tables.specs.declared.answers.Reached.{Reached}
 use Rattle.tables.specs.Climbs.{View, moveOn, reached, climbOn, climbedOf}
-use Rattle.tables.specs.Steps.{stepOn, landed}
+use Rattle.tables.specs.inner.Steps.{stepOn, landed}
 use Rattle.tables.proofs.StepLaws.{Went, step-on, step-lost}
 
 -- ---- moves that count

@@ -24,7 +24,7 @@ use Rattle.trees.proofs.RunLaws.{Children, children, state-leaf, state-inner}
 use Rattle.trees.proofs.MapLaws.{left-sibling-in, right-sibling-in, stepUp-right, stepUp-left, stepUp-below}
 use Rattle.trees.proofs.MapLaws.{stateMap-root, stateMap-near, stateMap-far, stateMap-below}
 use Rattle.tables.specs.StateCells.{stateCell, mapCell}
-use Rattle.tables.specs.LocalTables.{stepCells, LocalStates, LocalMaps}
+use Rattle.tables.specs.inner.LocalTables.{stepCells, LocalStates, LocalMaps}
 use Rattle.tables.proofs.TableTestLaws.{cells-table, table-maps as cells-maps}
 
 -- ---- states: those of the nodes below i are the run's

@@ -23,9 +23,9 @@ use Rattle.trees.proofs.MapLaws.{stateMap-below, right-child-size}
 use Rattle.formats.specs.Rules.{treeAutomaton}
 use Rattle.node_tables.specs.Cells.{parentCell, jumpCell}
 use Rattle.tables.specs.StateCells.{stateCell, mapCell}
-use Rattle.tables.specs.Rows.{Rowed, SameArgs}
-use Rattle.tables.specs.Maps.{Prepared, Mapped, nearValue, mapValue}
-use Rattle.tables.specs.Maps.{FillArgs, MapArgs, Maps}
+use Rattle.tables.specs.inner.Rows.{Rowed, SameArgs}
+use Rattle.tables.specs.inner.Maps.{Prepared, Mapped, nearValue, mapValue}
+use Rattle.tables.specs.inner.Maps.{FillArgs, MapArgs, Maps}
 use Rattle.tables.proofs.MapTableLaws.{state-no-map, row-ext, written-start, written-iteration}
 use Rattle.tables.proofs.StateLoop.{rules-below}
 

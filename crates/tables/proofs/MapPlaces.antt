@@ -18,9 +18,9 @@ use Rattle.list_laws.proofs.RowLaws.{stride}
 use Rattle.formats.proofs.RuleLaws.{rule-in}
 use Rattle.node_tables.specs.Cells.{parentCell, jumpCell, sizeCell}
 use Rattle.tables.specs.StateCells.{stateCell, mapCell}
-use Rattle.tables.specs.Rows.{Rowed, RowIn, NearArgs, FarArgs, farCell}
-use Rattle.tables.specs.Maps.{siblingOf, nearBase, nearStep, nearValue, farValue, mapValue, BaseArgs, StepArgs, FillArgs}
-use Rattle.tables.specs.Maps.{FarMapArgs}
+use Rattle.tables.specs.inner.Rows.{Rowed, RowIn, NearArgs, FarArgs, farCell}
+use Rattle.tables.specs.inner.Maps.{siblingOf, nearBase, nearStep, nearValue, farValue, mapValue, BaseArgs, StepArgs, FillArgs}
+use Rattle.tables.specs.inner.Maps.{FarMapArgs}
 use Rattle.tables.proofs.MapRowLaws.{row-other}
 
 pub state-place : (s u p m : ℕ) → u < p → p * (s + 1) ≤ m → u * (s + 1) < m

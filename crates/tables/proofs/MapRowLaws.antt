@@ -13,7 +13,7 @@ use lib.ListN.{length, set}
 use lib.Seq.{getD-set-same, getD-set-other}
 use Rattle.list_laws.proofs.RowLaws.{cells-apart}
 use Rattle.tables.specs.StateCells.{stateCell, mapCell}
-use Rattle.tables.specs.Rows.{RowTo, RowIn}
+use Rattle.tables.specs.inner.Rows.{RowTo, RowIn}
 
 pub row-start : (s : ℕ) (f : ℕ → ℕ) (v : ℕ) (b : List ℕ) → RowTo s f v 0 b b
 row-start s f v b = record { cells = λ q l. absurd (omega arith); kept = λ j a. refl }

@@ -17,9 +17,9 @@ use Rattle.list_laws.specs.Rows.{tabulate, rows}
 use Rattle.list_laws.proofs.RowLaws.{stride, cells-apart, length-tabulate, rows-over}
 use Rattle.trees.proofs.TableRows.{mapRow-cells}
 use Rattle.tables.specs.StateCells.{stateCell, mapCell}
-use Rattle.tables.specs.Rows.{RowTo, Rowed}
-use Rattle.tables.specs.Compare.{rowIs}
-use Rattle.tables.specs.MapTable.{NoMap, MapsWritten}
+use Rattle.tables.specs.inner.Rows.{RowTo, Rowed}
+use Rattle.tables.specs.inner.Compare.{rowIs}
+use Rattle.tables.specs.inner.MapTable.{NoMap, MapsWritten}
 use Rattle.tables.proofs.CompareLaws.{rowIs-map}
 use Rattle.tables.proofs.MapRowLaws.{row-other}
 

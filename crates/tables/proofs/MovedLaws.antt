@@ -15,7 +15,7 @@ use Rattle.trees.specs.Climb.{Forest, Move, byJump, toParent, target, nextMove,
 use Rattle.trees.proofs.MoveLaws.{next-start, none-some}
 use Rattle.node_tables.specs.declared.moves.NextMove.{NextMove}
 use Rattle.node_tables.specs.declared.moves.NextMove.the-variants.{Jump, Parent, Stuck}
-use Rattle.node_tables.specs.MoveAnswers.{nextMoveOf}
+use Rattle.node_tables.specs.inner.MoveAnswers.{nextMoveOf}
 use Rattle.node_tables.proofs.MoveAnswerLaws.{answer-jump, answer-parent, answer-stuck}
 use Rattle.tables.specs.Compose.{mapAt, Followed, NodeMap, movedBy, MovedTo}
 

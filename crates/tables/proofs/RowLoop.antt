@@ -8,7 +8,7 @@ use mathlib.Core.List.{List}
 use native.Mathlib.Omega.{arith}
 use lib.ListN.{getD}
 use Rattle.tables.specs.StateCells.{mapCell}
-use Rattle.tables.specs.Rows.{RowTo, FarArgs, farCell}
+use Rattle.tables.specs.inner.Rows.{RowTo, FarArgs, farCell}
 use Rattle.tables.proofs.MapRowLaws.{row-ahead, row-other}
 
 -- the places as the code has them

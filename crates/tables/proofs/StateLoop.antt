@@ -18,13 +18,13 @@ use Rattle.trees.specs.Numbering.{sub}
 use Rattle.trees.proofs.PostorderLaws.{postorder-tree, size-of}
 use Rattle.list_laws.proofs.RowLaws.{stride, cells-apart}
 use Rattle.trees.proofs.RunLaws.{Children, children, state-leaf, state-inner, state-below}
-use Rattle.formats.specs.InnerChecks.{RuleArgs}
+use Rattle.formats.specs.inner.InnerChecks.{RuleArgs}
 use Rattle.formats.specs.Rules.{treeAutomaton}
 use Rattle.formats.proofs.RuleLaws.{rule-in}
-use Rattle.node_tables.specs.UpPass.{leftOf}
+use Rattle.node_tables.specs.inner.UpPass.{leftOf}
 use Rattle.node_tables.specs.Cells.{sizeCell}
 use Rattle.tables.specs.StateCells.{stateCell}
-use Rattle.tables.specs.States.{RuleRuns, Ran, Runs, StateArgs, innerState, InnerArgs}
+use Rattle.tables.specs.inner.States.{RuleRuns, Ran, Runs, StateArgs, innerState, InnerArgs}
 
 -- ---- rules
 

@@ -19,13 +19,13 @@ use Rattle.trees.proofs.MoveLaws.{none-some, next-start, next-inside}
 use Rattle.node_tables.specs.Cells.{cellForest}
 use Rattle.node_tables.specs.declared.moves.NextMove.{NextMove}
 use Rattle.node_tables.specs.declared.moves.NextMove.the-variants.{Jump, Parent, Stuck}
-use Rattle.node_tables.specs.MoveAnswers.{nextMoveOf}
+use Rattle.node_tables.specs.inner.MoveAnswers.{nextMoveOf}
 use Rattle.node_tables.proofs.MoveAnswerLaws.{answer-jump, answer-parent, answer-stuck}
 use Rattle.tables.specs.StateCells.{mapCell}
 use Rattle.tables.specs.declared.climb.Landed.{Landed}
 use Rattle.tables.specs.Climbs.{View, below, runOn, ruleOn, siblingOn, parentOn, moveOn}
-use Rattle.tables.specs.PathViews.{rulesView, statesView, nodesView}
-use Rattle.tables.specs.Steps.{landOn, stepOn, landed}
+use Rattle.tables.specs.inner.PathViews.{rulesView, statesView, nodesView}
+use Rattle.tables.specs.inner.Steps.{landOn, stepOn, landed}
 use Rattle.tables.proofs.LookupLaws.{below-yes, below-no}
 
 -- ---- a move to the parent

@@ -18,9 +18,9 @@ use Rattle.trees.proofs.TableRows.{length-stateRow}
 use Rattle.trees.proofs.PostorderLaws.{size-of}
 use Rattle.formats.specs.Rules.{treeAutomaton}
 use Rattle.node_tables.specs.NodeCells.{NodeCells}
-use Rattle.tables.specs.States.{Ran, Runs}
-use Rattle.tables.specs.Maps.{Prepared, MapArgs, Maps}
-use Rattle.tables.specs.Written.{TableArgs, StatesOver}
+use Rattle.tables.specs.inner.States.{Ran, Runs}
+use Rattle.tables.specs.inner.Maps.{Prepared, MapArgs, Maps}
+use Rattle.tables.specs.inner.Written.{TableArgs, StatesOver}
 use Rattle.tables.proofs.MapTableLaws.{passes-written}
 
 pub length-stateTableOf : (A : Automaton) (t : Tree) → length (stateTableOf A t) ≡ size t * (A .states + 1)

@@ -19,8 +19,8 @@ use Rattle.list_laws.specs.Tests.{sameList}
 use Rattle.list_laws.proofs.BoolLaws.{true-false}
 use Rattle.list_laws.proofs.TestLaws.{sameList-is, sameList-not}
 use Rattle.tables.specs.StateCells.{stateCell, mapCell}
-use Rattle.tables.specs.Compare.{rowIs}
-use Rattle.tables.specs.TableTests.{tableOf, statesSame, mapsSame}
+use Rattle.tables.specs.inner.Compare.{rowIs}
+use Rattle.tables.specs.inner.TableTests.{tableOf, statesSame, mapsSame}
 use Rattle.tables.proofs.CompareLaws.{every-all, every-at, every-not, rowIs-map, map-rowIs}
 
 -- ---- state bytes

@@ -9,7 +9,7 @@ ghost use lib.ListN.{length};
 ghost use Rattle.formats.specs.Checks.{firstNo, buildChecks};
 ghost use Rattle.formats.specs.Built.{builtNodeTable, builtStateTable};
 ghost use Rattle.tables.specs.Answers.{BuildDone};
-ghost use Rattle.tables.specs.Written.{BuildArgs, BothWritten};
+ghost use Rattle.tables.specs.inner.Written.{BuildArgs, BothWritten};
 
 // Writes both tables of a plan of n nodes and a rule table of s states and k labels that pass their checks.
 // Labels, kinds and states are handed on as parts.

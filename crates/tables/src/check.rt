@@ -11,8 +11,8 @@ ghost use lib.ListN.{length};
 ghost use Rattle.formats.specs.Checks.{firstNo, buildChecks};
 ghost use Rattle.formats.specs.Built.{builtNodeTable, builtStateTable};
 ghost use Rattle.tables.specs.Answers.{sameTables, CheckDone};
-ghost use Rattle.tables.specs.Written.{TableArgs, BuildArgs};
-ghost use Rattle.tables.specs.Compared.{TableTested};
+ghost use Rattle.tables.specs.inner.Written.{TableArgs, BuildArgs};
+ghost use Rattle.tables.specs.inner.Compared.{TableTested};
 
 // Whether the buffer begins with the state table of the tree with these kinds and labels.
 fn check_table(

@@ -5,9 +5,9 @@ use crate::compare::root_row_is;
 use crate::maps::near_base;
 use crate::maps::near_step;
 ghost use mathlib.Core.Path.{_≡_};
-ghost use Rattle.tables.specs.Compare.{rowIs};
-ghost use Rattle.tables.specs.Maps.{FillArgs, MapArgs, mapValue};
-ghost use Rattle.tables.specs.Compared.{MapsTested};
+ghost use Rattle.tables.specs.inner.Compare.{rowIs};
+ghost use Rattle.tables.specs.inner.Maps.{FillArgs, MapArgs, mapValue};
+ghost use Rattle.tables.specs.inner.Compared.{MapsTested};
 
 // Whether node v's map is what the build would write from the states beside it and the maps above it.
 fn map_is(

@@ -1,8 +1,8 @@
 // The state bytes of a lent table compared with the run, in rising node number.
 use crate::states::inner_state;
 ghost use lib.ListN.{length};
-ghost use Rattle.tables.specs.States.{StateArgs};
-ghost use Rattle.tables.specs.Compared.{StatesTested};
+ghost use Rattle.tables.specs.inner.States.{StateArgs};
+ghost use Rattle.tables.specs.inner.Compared.{StatesTested};
 
 // Whether each node's state byte is the run's. Those after a wrong one are not looked at: they would be read from it.
 pub fn check_states(

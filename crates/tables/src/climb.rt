@@ -9,8 +9,8 @@ use node_tables::moves::depth_at;
 use node_tables::moves::next_move;
 ghost use mathlib.Core.Path.{_≡_};
 ghost use Rattle.tables.specs.Climbs.{below, parentOn, climbOn, climbedOf};
-ghost use Rattle.tables.specs.PathViews.{pathView};
-ghost use Rattle.tables.specs.Steps.{stepOn, landed, ClimbArgs, ParentArgs};
+ghost use Rattle.tables.specs.inner.PathViews.{pathView};
+ghost use Rattle.tables.specs.inner.Steps.{stepOn, landed, ClimbArgs, ParentArgs};
 
 // The node that a move leads to and the state there: no state where the number is not below S.
 pub struct Landed {

@@ -1,8 +1,8 @@
 // Rows of a table of states compared with what they have to be, for the full checks of rule and of branch tables.
 ghost use mathlib.Core.Path.{_≡_};
 ghost use lib.ListN.{length};
-ghost use Rattle.tables.specs.Rows.{RowIn, NearArgs};
-ghost use Rattle.tables.specs.Compare.{rowIs, nearEntry, farEntry, FarIsArgs};
+ghost use Rattle.tables.specs.inner.Rows.{RowIn, NearArgs};
+ghost use Rattle.tables.specs.inner.Compare.{rowIs, nearEntry, farEntry, FarIsArgs};
 
 // Whether node v's map is the identity, as the root's has to be.
 pub fn root_row_is(state_table: &[u8], s: usize, v: usize) -> bool

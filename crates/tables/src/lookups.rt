@@ -3,7 +3,7 @@
 use node_tables::moves::size_at;
 ghost use mathlib.Core.Path.{_≡_};
 ghost use Rattle.tables.specs.Climbs.{below, runOn, ruleOn, siblingOn};
-ghost use Rattle.tables.specs.PathViews.{rulesView, statesView, nodesView, RuleOnArgs, RunOnArgs, PairArgs};
+ghost use Rattle.tables.specs.inner.PathViews.{rulesView, statesView, nodesView, RuleOnArgs, RunOnArgs, PairArgs};
 
 // The state for left state p, label a and right state q.
 pub fn rule_on(inner: &[u8], s: usize, k: usize, p: usize, a: usize, q: usize) -> usize

@@ -5,9 +5,9 @@ use crate::rows::same_row;
 ghost use mathlib.Core.Path.{_≡_};
 ghost use Prim.Native.Nat.{_+_, _*_};
 ghost use Rattle.tables.specs.StateCells.{mapCell};
-ghost use Rattle.tables.specs.Rows.{Rowed};
-ghost use Rattle.tables.specs.Maps.{SiblingArgs, BaseArgs, StepArgs, FillArgs, FarMapArgs, MapArgs};
-ghost use Rattle.tables.specs.Maps.{siblingOf, nearBase, nearStep, nearValue, farValue, mapValue, Maps};
+ghost use Rattle.tables.specs.inner.Rows.{Rowed};
+ghost use Rattle.tables.specs.inner.Maps.{SiblingArgs, BaseArgs, StepArgs, FillArgs, FarMapArgs, MapArgs};
+ghost use Rattle.tables.specs.inner.Maps.{siblingOf, nearBase, nearStep, nearValue, farValue, mapValue, Maps};
 
 // The other child of node v's parent p.
 pub fn sibling(node_table: &[u16], v: usize, p: usize) -> usize

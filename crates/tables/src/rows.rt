@@ -1,7 +1,7 @@
 // Writing one node's map, for rule tables and branch tables.
 ghost use Prim.Native.Nat.{_+_, _*_, _<_};
 ghost use lib.ListN.{length, getD};
-ghost use Rattle.tables.specs.Rows.{Rowed, NearArgs, FarArgs, SameArgs, farCell};
+ghost use Rattle.tables.specs.inner.Rows.{Rowed, NearArgs, FarArgs, SameArgs, farCell};
 
 // Node v's map, from a table of states: entry q is the table's at base + q * stride.
 pub fn near_row(state_table: &mut [u8], s: usize, v: usize, table: &[u8], base: usize, stride: usize)

@@ -2,7 +2,7 @@
 use formats::rules::rule;
 ghost use mathlib.Core.Path.{_≡_};
 ghost use lib.ListN.{length, getD};
-ghost use Rattle.tables.specs.States.{InnerArgs, StateArgs, Runs, innerState};
+ghost use Rattle.tables.specs.inner.States.{InnerArgs, StateArgs, Runs, innerState};
 
 // The state of the inner node v of label a, from its children's.
 pub fn inner_state(

@@ -2,7 +2,7 @@
 use crate::maps::fill_maps;
 use crate::states::run_states;
 ghost use lib.ListN.{length};
-ghost use Rattle.tables.specs.Written.{TableArgs, StatesOver};
+ghost use Rattle.tables.specs.inner.Written.{TableArgs, StatesOver};
 
 // Writes the state table of the tree with these kinds and labels. The excess of a longer buffer is untouched.
 pub fn write_states(

@@ -4,8 +4,8 @@ use mathlib.Core.Path.{refl, sym, _∙_}
 use mathlib.Core.Bool.{true}
 use lib.ListN.{length}
 use borrow.Author.Tests.{not-true, not-false}
-use Rattle.branches.specs.BranchGiven.{BranchArgs}
-use Rattle.branches.specs.Filled.{FillArgs}
+use Rattle.branches.specs.inner.BranchGiven.{BranchArgs}
+use Rattle.branches.specs.inner.Filled.{FillArgs}
 use Rattle.branches.proofs.FillLaws.{fill-link-args, branch-args}
 use Rattle.branches.proofs.MatchLaws.{NodeTableTested, answer-cells, links-fail, steps-fail, maps-tell}
 use native.Mathlib.Omega.{arith}

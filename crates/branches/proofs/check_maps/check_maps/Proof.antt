@@ -5,8 +5,8 @@ use Prim.Native.Nat.{_+_, _-_, _<_}
 use mathlib.Core.Path.{_≡_, sym, _∙_}
 use lib.ListN.{length}
 use borrow.Author.Tests.{not-true, not-false}
-use Rattle.branches.specs.BranchGiven.{BranchArgs}
-use Rattle.branches.specs.Maps.{Mapped}
+use Rattle.branches.specs.inner.BranchGiven.{BranchArgs}
+use Rattle.branches.specs.inner.Maps.{Mapped}
 use Rattle.branches.proofs.StepLoop.{args-pos}
 use Rattle.branches.proofs.MapLoop.{row-in, map-args}
 use Rattle.branches.proofs.TestLoop.{root-map-same, root-map-differs, map-same, map-differs, all-maps}

@@ -4,9 +4,9 @@ use Prim.Native.Nat.{_+_, _*_}
 use mathlib.Core.Path.{sym, _∙_}
 use lib.ListN.{getD}
 use Rattle.node_tables.specs.Cells.{parentCell, jumpCell}
-use Rattle.tables.specs.Compare.{nearEntry}
+use Rattle.tables.specs.inner.Compare.{nearEntry}
 use Rattle.tables.proofs.CompareLaws.{rowIs-ext}
-use Rattle.branches.specs.Maps.{stepCell, nodeMap}
+use Rattle.branches.specs.inner.Maps.{stepCell, nodeMap}
 use Rattle.branches.proofs.MapLoop.{nodeMap-near, nodeMap-far}
 use native.Mathlib.Omega.{arith}
 use borrow.Author.Needs.{needs}

@@ -6,9 +6,9 @@ use mathlib.Core.Logic.{inl, inr}
 use lib.Dec.{eqb}
 use lib.ListN.{length}
 use Rattle.tables.specs.StateCells.{mapCell}
-use Rattle.tables.specs.Compare.{every}
+use Rattle.tables.specs.inner.Compare.{every}
 use Rattle.tables.proofs.CompareLaws.{every-same, every-other}
-use Rattle.branches.specs.Maps.{stepCell}
+use Rattle.branches.specs.inner.Maps.{stepCell}
 use native.Mathlib.Omega.{arith}
 use borrow.Author.Needs.{needs}
 use Rattle.branches.proofs.check_maps.step_row_is.Statement.{statement}

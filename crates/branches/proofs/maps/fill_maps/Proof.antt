@@ -6,8 +6,8 @@ use Prim.Native.Nat.{ℕ, _+_, _-_, _<_}
 use mathlib.Core.Path.{_≡_, refl, _∙_}
 use mathlib.Core.List.{List}
 use lib.ListN.{length}
-use Rattle.branches.specs.BranchGiven.{BranchArgs}
-use Rattle.branches.specs.Maps.{Mapped}
+use Rattle.branches.specs.inner.BranchGiven.{BranchArgs}
+use Rattle.branches.specs.inner.Maps.{Mapped}
 use Rattle.branches.proofs.StepLoop.{args-pos}
 use Rattle.branches.proofs.MapLoop.{row-in, map-args, map-iteration, map-root}
 use native.Mathlib.Omega.{arith}

@@ -5,7 +5,7 @@ use mathlib.Core.Path.{sym}
 use lib.ListN.{getD}
 use Rattle.node_tables.specs.Cells.{parentCell, jumpCell}
 use Rattle.tables.proofs.MapTableLaws.{row-ext}
-use Rattle.branches.specs.Maps.{stepCell, nodeMap}
+use Rattle.branches.specs.inner.Maps.{stepCell, nodeMap}
 use Rattle.branches.proofs.MapLoop.{nodeMap-near, nodeMap-far}
 use native.Mathlib.Omega.{arith}
 use borrow.Author.Needs.{needs}

@@ -5,9 +5,9 @@ use Prim.Native.Nat.{ℕ, _+_, _-_, _*_, _≤_, _<_}
 use mathlib.Core.Path.{_≡_, refl, subst}
 use lib.ListN.{length, length-set}
 use Rattle.tables.specs.StateCells.{mapCell}
-use Rattle.tables.specs.Rows.{RowTo}
+use Rattle.tables.specs.inner.Rows.{RowTo}
 use Rattle.tables.proofs.MapRowLaws.{row-iteration}
-use Rattle.branches.specs.Maps.{stepCell}
+use Rattle.branches.specs.inner.Maps.{stepCell}
 use Rattle.branches.proofs.StepRowLoop.{step-far-below, step-inside, step-is}
 use native.Mathlib.Omega.{arith}
 use borrow.Author.Needs.{needs}

@@ -2,7 +2,7 @@
 use Prim.Native.Nat.{ℕ, _≤_}
 use mathlib.Core.Bool.{true}
 use mathlib.Core.List.{List}
-use Rattle.formats.specs.InnerChecks.{countsFit, ruleShape}
+use Rattle.formats.specs.inner.InnerChecks.{countsFit, ruleShape}
 use mathlib.Core.Path.{_≡_, sym, _∙_}
 use borrow.Author.Tests.{not-true, not-false}
 use Rattle.formats.proofs.RuleAnswers.{counts-answer, shape-exact, rules-6, rules-7, rules-8, rules-9, rules-good}

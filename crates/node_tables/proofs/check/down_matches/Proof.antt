@@ -1,6 +1,6 @@
 -- `down_matches` meets its contract, by the way each test went. Assumes nothing.
 use borrow.Author.Tests.{eq-eqb, ne-eqb}
-use Rattle.node_tables.specs.CheckPass.{downMatches}
+use Rattle.node_tables.specs.inner.CheckPass.{downMatches}
 use borrow.Author.Needs.{needs}
 use Rattle.node_tables.proofs.check.down_matches.Statement.{statement}
 use Rattle.node_tables.proofs.check.down_matches.Tie as tie

@@ -2,7 +2,7 @@
 use Prim.Native.Nat.{_-_, _*_}
 use mathlib.Core.Path.{_∙_}
 use borrow.Author.Tests.{eq-eqb, ne-eqb}
-use Rattle.node_tables.specs.CheckPass.{innerMatches}
+use Rattle.node_tables.specs.inner.CheckPass.{innerMatches}
 use native.Mathlib.Omega.{arith}
 use borrow.Author.Needs.{needs}
 use Rattle.node_tables.proofs.check.inner_matches.Statement.{statement}

@@ -1,6 +1,6 @@
 -- `up_matches` meets its contract, by the kind. Assumes nothing.
 use borrow.Author.Tests.{eq-eqb, ne-eqb}
-use Rattle.node_tables.specs.CheckPass.{upMatches}
+use Rattle.node_tables.specs.inner.CheckPass.{upMatches}
 use borrow.Author.Needs.{needs}
 use Rattle.node_tables.proofs.check.up_matches.Statement.{statement}
 use Rattle.node_tables.proofs.check.up_matches.Tie as tie

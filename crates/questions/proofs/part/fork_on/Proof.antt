@@ -4,7 +4,7 @@ use borrow.Author.Needs.{needs}
 use Prim.Native.Nat.{ℕ, _+_, _-_, _*_}
 use mathlib.Core.Path.{ap}
 use Rattle.tables.specs.Climbs.{View}
-use Rattle.tables.specs.PathViews.{pathView}
+use Rattle.tables.specs.inner.PathViews.{pathView}
 use Rattle.questions.proofs.PartLoop.{side-args, side-few, fork-answer}
 use Rattle.questions.proofs.part.fork_on.Statement.{statement}
 use Rattle.questions.proofs.part.fork_on.Tie as tie

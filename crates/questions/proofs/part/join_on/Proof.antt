@@ -6,9 +6,9 @@ use mathlib.Core.Path.{_≡_, refl, sym, ap, ap₂, _∙_}
 use mathlib.Core.Option.{Option, some}
 use Rattle.tables.specs.declared.answers.Reached.{Reached}
 use Rattle.tables.specs.Climbs.{View, climbedOf}
-use Rattle.tables.specs.PathViews.{rulesView}
+use Rattle.tables.specs.inner.PathViews.{rulesView}
 use Rattle.questions.specs.Part.{joinOn}
-use Rattle.questions.specs.PartArgs.{reachedIn, Few}
+use Rattle.questions.specs.inner.PartArgs.{reachedIn, Few}
 use Rattle.questions.proofs.PartLaws.{join-lost, join-made, join-left, join-right}
 use Rattle.questions.proofs.part.join_on.Statement.{statement}
 use Rattle.questions.proofs.part.join_on.Tie as tie

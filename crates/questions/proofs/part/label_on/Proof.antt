@@ -5,7 +5,7 @@ use Prim.Native.Nat.{_-_}
 use mathlib.Core.Path.{_≡_, sym, ap, _∙_}
 use lib.ListN.{getD}
 use Rattle.trees.specs.Changes.{changed}
-use Rattle.questions.specs.Scans.{labelOf}
+use Rattle.questions.specs.inner.Scans.{labelOf}
 use Rattle.questions.proofs.ScanLaws.{last-bound, label-scan}
 use Rattle.questions.proofs.PartLaws.{label-none, label-found}
 use Rattle.questions.proofs.part.label_on.Statement.{statement}

@@ -4,7 +4,7 @@ use borrow.Author.Needs.{needs}
 use Rattle.tables.specs.Climbs.{climbedOf}
 use Rattle.questions.proofs.PartLaws.{leaf-outside, leaf-at}
 use mathlib.Core.Path.{sym, ap, _∙_}
-use Rattle.questions.specs.PartArgs.{leavesView}
+use Rattle.questions.specs.inner.PartArgs.{leavesView}
 use Rattle.questions.proofs.part.leaf_on.Statement.{statement}
 use Rattle.questions.proofs.part.leaf_on.Tie as tie
 

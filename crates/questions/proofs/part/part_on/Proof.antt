@@ -3,7 +3,7 @@ use native.Mathlib.Omega.{arith}
 use borrow.Author.Needs.{needs}
 use Prim.Native.Nat.{_-_}
 use Rattle.tables.specs.Climbs.{View}
-use Rattle.questions.specs.PartArgs.{partView}
+use Rattle.questions.specs.inner.PartArgs.{partView}
 use Rattle.questions.proofs.PartLoop.{part-leaf, part-first, part-outside, part-fork}
 use Rattle.questions.proofs.part.part_on.Statement.{statement}
 use Rattle.questions.proofs.part.part_on.Tie as tie

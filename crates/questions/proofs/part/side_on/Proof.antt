@@ -5,7 +5,7 @@ use Prim.Native.Nat.{_+_, _-_}
 use mathlib.Core.Path.{_≡_, ap, _∙_}
 use lib.ListN.{length}
 use Rattle.tables.specs.Climbs.{View, climbedOf}
-use Rattle.tables.specs.PathViews.{pathView}
+use Rattle.tables.specs.inner.PathViews.{pathView}
 use Rattle.tables.proofs.LookupLaws.{state-place}
 use Rattle.questions.proofs.PartLaws.{side-run, side-own, side-lost, side-climb}
 use Rattle.questions.proofs.part.side_on.Statement.{statement}

@@ -2,7 +2,7 @@
 use Prim.Native.Nat.{_-_, _≤_}
 use mathlib.Core.Path.{_≡_, refl, sym, _∙_}
 use lib.ListN.{length, drop}
-use Rattle.questions.specs.Scans.{lastFrom, lastIn}
+use Rattle.questions.specs.inner.Scans.{lastFrom, lastIn}
 use Rattle.questions.proofs.ScanLaws.{last-more, last-same, last-end}
 use native.Mathlib.Omega.{arith}
 use borrow.Author.Needs.{needs}

@@ -5,7 +5,7 @@ use borrow.Author.Needs.{needs}
 use mathlib.Core.Path.{sym, _∙_}
 use Rattle.formats.specs.Plan.{nodeCount}
 use Rattle.formats.specs.Rules.{stateCount, labelCount}
-use Rattle.runs.specs.Pass.{RunArgs}
+use Rattle.runs.specs.inner.Pass.{RunArgs}
 use Rattle.runs.proofs.RunLaws.{run-args, done-answer, done-refused}
 use Rattle.runs.proofs.fresh.fresh_run.Statement.{statement}
 use Rattle.runs.proofs.fresh.fresh_run.Tie as tie

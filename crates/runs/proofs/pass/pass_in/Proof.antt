@@ -9,8 +9,8 @@ use native.Mathlib.Omega.{arith}
 use borrow.Author.Needs.{needs}
 use lib.ListN.{length, getD, length-set}
 use Rattle.trees.specs.Changes.{changed}
-use Rattle.runs.specs.Listed.{ListArgs, ChangesFrom}
-use Rattle.runs.specs.Pass.{PassArgs}
+use Rattle.runs.specs.inner.Listed.{ListArgs, ChangesFrom}
+use Rattle.runs.specs.inner.Pass.{PassArgs}
 use Rattle.runs.proofs.ListedLaws.{label-below, label-changed, length-changed}
 use Rattle.runs.proofs.ChangeLaws.{label-after}
 use Rattle.runs.proofs.PassLoop.{Passed, pass-start, leaf-iteration, inner-iteration, pass-end}

@@ -4,7 +4,7 @@ use mathlib.Core.Path.{sym, _∙_}
 use lib.ListN.{length}
 use Rattle.formats.specs.Checks.{firstNo, buildChecks}
 use Rattle.formats.specs.Built.{builtNodeTable, builtStateTable}
-use Rattle.tables.specs.Written.{Passed}
+use Rattle.tables.specs.inner.Written.{Passed}
 use Rattle.tables.proofs.BuildLaws.{plan-headed, rules-headed, build-args, build-refused, build-done}
 use native.Mathlib.Omega.{arith}
 use borrow.Author.Needs.{needs}

@@ -3,7 +3,7 @@
 use mathlib.Core.Path.{sym, _∙_}
 use mathlib.Core.Bool.{true}
 use borrow.Author.Tests.{not-true, not-false}
-use Rattle.tables.specs.Compared.{StatesTested}
+use Rattle.tables.specs.inner.Compared.{StatesTested}
 use Rattle.tables.proofs.CheckTableLoop.{check-map-args, states-fail, maps-tell}
 use borrow.Author.Needs.{needs}
 use Rattle.tables.proofs.check.check_table.Statement.{statement}

@@ -6,7 +6,7 @@ use Rattle.formats.specs.Built.{builtNodeTable, builtStateTable}
 use Rattle.formats.proofs.PlanLaws.{PlanPasses}
 use Rattle.formats.proofs.RuleLaws.{RulesPass}
 use Rattle.formats.proofs.InputLaws.{build-passes}
-use Rattle.tables.specs.Written.{Passed}
+use Rattle.tables.specs.inner.Written.{Passed}
 use Rattle.tables.proofs.BuildLaws.{build-args}
 use Rattle.tables.proofs.CheckTheorems.{buildNumber}
 use Rattle.tables.proofs.CheckAnswers.{check-refused, check-matches, check-differs}

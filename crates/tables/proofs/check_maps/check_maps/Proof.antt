@@ -5,7 +5,7 @@ use mathlib.Core.Path.{_≡_, refl, sym, subst, _∙_}
 use mathlib.Core.List.{[]}
 use lib.ListN.{length}
 use borrow.Author.Tests.{not-true, not-false}
-use Rattle.tables.specs.Maps.{Maps}
+use Rattle.tables.specs.inner.Maps.{Maps}
 use Rattle.tables.proofs.MapLoop.{map-some, root-args, fill-args}
 use Rattle.tables.proofs.CheckMapLoop.{root-same, root-differs, map-same, map-differs, all-maps}
 use native.Mathlib.Omega.{arith}

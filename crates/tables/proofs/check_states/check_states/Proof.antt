@@ -5,7 +5,7 @@ use mathlib.Core.Path.{_≡_, refl, _∙_}
 use mathlib.Core.Logic.{inl, inr}
 use lib.ListN.{length, set}
 use Rattle.list_laws.proofs.RowLaws.{stride}
-use Rattle.tables.specs.States.{Runs}
+use Rattle.tables.specs.inner.States.{Runs}
 use Rattle.tables.proofs.StateLoop.{leaf-states, inner-states, inner-args}
 use Rattle.tables.proofs.CheckStateLoop.{states-start, state-same, state-differs, all-same}
 use native.Mathlib.Omega.{arith}

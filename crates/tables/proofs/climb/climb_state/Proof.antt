@@ -4,7 +4,7 @@ use Prim.Native.Nat.{_+_, _*_, _<_}
 use native.Mathlib.Omega.{arith}
 use Rattle.node_tables.specs.Cells.{depthCell}
 use Rattle.tables.specs.Climbs.{View}
-use Rattle.tables.specs.PathViews.{pathView}
+use Rattle.tables.specs.inner.PathViews.{pathView}
 use Rattle.tables.proofs.ClimbLoop.{Climbing, climbing-start, climbing-iteration}
 use Rattle.tables.proofs.ClimbLoop.{climbing-rises, climbing-done, climbing-lost}
 use Rattle.tables.proofs.climb.climb_state.Statement.{statement}

@@ -5,7 +5,7 @@ use native.Mathlib.Nat.{le-refl}
 use lib.ListN.{length}
 use borrow.Author.Needs.{needs}
 use Rattle.tables.specs.Climbs.{View}
-use Rattle.tables.specs.PathViews.{pathView}
+use Rattle.tables.specs.inner.PathViews.{pathView}
 use Rattle.tables.proofs.LookupLaws.{below-no, state-place}
 use Rattle.tables.proofs.StepLaws.{parent-alone, parent-lost, parent-right, parent-left}
 use Rattle.tables.proofs.climb.parent_on.Statement.{statement}

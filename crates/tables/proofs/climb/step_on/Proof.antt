@@ -7,7 +7,7 @@ use borrow.Author.Needs.{needs}
 use Rattle.node_tables.specs.Cells.{cellForest}
 use Rattle.node_tables.proofs.MoveAnswerLaws.{answer-inside}
 use Rattle.tables.specs.Climbs.{View}
-use Rattle.tables.specs.PathViews.{pathView}
+use Rattle.tables.specs.inner.PathViews.{pathView}
 use Rattle.tables.proofs.LookupLaws.{map-place}
 use Rattle.tables.proofs.StepLaws.{step-jump, step-parent, step-stuck}
 use Rattle.tables.proofs.climb.step_on.Statement.{statement}

@@ -5,7 +5,7 @@ use mathlib.Core.Path.{_≡_, refl, _∙_}
 use mathlib.Core.Logic.{inl, inr}
 use lib.Dec.{eqb}
 use Rattle.tables.specs.StateCells.{mapCell}
-use Rattle.tables.specs.Compare.{every}
+use Rattle.tables.specs.inner.Compare.{every}
 use Rattle.tables.proofs.CompareLaws.{every-same, every-other}
 use native.Mathlib.Omega.{arith}
 use borrow.Author.Needs.{needs}

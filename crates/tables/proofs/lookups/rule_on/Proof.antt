@@ -5,7 +5,7 @@ use native.Mathlib.Omega.{arith}
 use native.Mathlib.Nat.{le-refl}
 use lib.ListN.{length}
 use Rattle.formats.proofs.RuleLaws.{rule-in}
-use Rattle.tables.specs.PathViews.{rulesView}
+use Rattle.tables.specs.inner.PathViews.{rulesView}
 use Rattle.tables.proofs.LookupLaws.{below-no, rule-small, rule-outside, rule-at}
 use Rattle.tables.proofs.lookups.rule_on.Statement.{statement}
 use Rattle.tables.proofs.lookups.rule_on.Tie as tie

@@ -5,7 +5,7 @@ use mathlib.Core.Option.{some}
 use native.Mathlib.Omega.{arith}
 use native.Mathlib.Nat.{le-refl}
 use borrow.Author.Needs.{needs}
-use Rattle.tables.specs.PathViews.{nodesView}
+use Rattle.tables.specs.inner.PathViews.{nodesView}
 use Rattle.tables.proofs.LookupLaws.{below-yes, below-no, sibling-left}
 use Rattle.tables.proofs.LookupLaws.{sibling-outside, sibling-right, sibling-none}
 use Rattle.tables.proofs.lookups.sibling_on.Statement.{statement}

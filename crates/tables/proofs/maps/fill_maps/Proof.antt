@@ -5,7 +5,7 @@ use Prim.Native.Nat.{ℕ, _+_, _-_, _<_}
 use mathlib.Core.Path.{_≡_, refl, subst}
 use mathlib.Core.List.{List, []}
 use lib.ListN.{length}
-use Rattle.tables.specs.Maps.{Maps}
+use Rattle.tables.specs.inner.Maps.{Maps}
 use Rattle.tables.proofs.MapLoop.{map-some, root-args, maps-start, maps-iteration, fill-args}
 use native.Mathlib.Omega.{arith}
 use borrow.Author.Needs.{needs}

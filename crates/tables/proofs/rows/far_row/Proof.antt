@@ -4,7 +4,7 @@
 use Prim.Native.Nat.{ℕ, _+_, _-_, _*_, _≤_, _<_}
 use mathlib.Core.Path.{_≡_, subst}
 use lib.ListN.{length, length-set}
-use Rattle.tables.specs.Rows.{RowTo, farCell}
+use Rattle.tables.specs.inner.Rows.{RowTo, farCell}
 use Rattle.tables.proofs.MapRowLaws.{row-iteration}
 use Rattle.tables.proofs.RowLoop.{placed, far-here-below, far-near-below, far-is}
 use native.Mathlib.Omega.{arith}

@@ -4,7 +4,7 @@
 use Prim.Native.Nat.{ℕ, _+_, _-_, _*_, _≤_}
 use mathlib.Core.Path.{_≡_, refl, subst}
 use lib.ListN.{length, getD, length-set}
-use Rattle.tables.specs.Rows.{RowTo}
+use Rattle.tables.specs.inner.Rows.{RowTo}
 use Rattle.tables.proofs.MapRowLaws.{row-iteration}
 use native.Mathlib.Omega.{arith}
 use borrow.Author.Needs.{needs}

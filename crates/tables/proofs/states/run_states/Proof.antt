@@ -6,7 +6,7 @@ use mathlib.Core.Path.{_≡_, refl, subst, _∙_}
 use mathlib.Core.Logic.{⊎-elim}
 use lib.ListN.{length, length-set}
 use Rattle.list_laws.proofs.RowLaws.{stride}
-use Rattle.tables.specs.States.{Runs}
+use Rattle.tables.specs.inner.States.{Runs}
 use Rattle.tables.proofs.StateLoop.{leaf-states, inner-states, inner-args}
 use native.Mathlib.Omega.{arith}
 use borrow.Author.Needs.{needs}

@@ -4,7 +4,7 @@ use mathlib.Core.Logic.{inl, inr}
 use Rattle.formats.specs.Inputs.{Inputs}
 use Rattle.model.specs.Calls.{advance}
 use Rattle.formats.specs.Inputs.{inputsOf}
-use Rattle.session.specs.Steps.{StepFound}
+use Rattle.session.specs.inner.Steps.{StepFound}
 use Rattle.session.proofs.StepLaws.{chosen, not-chosen, step-done}
 use borrow.Author.Needs.{needs}
 use Rattle.session.proofs.state.Session.advance.Statement.{statement}

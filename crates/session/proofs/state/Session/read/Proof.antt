@@ -4,7 +4,7 @@ use mathlib.Core.Path.{_≡_}
 use mathlib.Core.Bool.{_&&_}
 use Rattle.model.specs.Calls.{isAnswered}
 use Rattle.session.specs.Records.{phaseOf, valid}
-use Rattle.session.specs.Shapes.{Shaped}
+use Rattle.session.specs.inner.Shapes.{Shaped}
 use Rattle.session.proofs.ShapeLaws.{shaped}
 use Rattle.session.proofs.CallLaws.{allowed-by}
 use Rattle.session.proofs.ReadLaws.{read-no, counted, read-yes}

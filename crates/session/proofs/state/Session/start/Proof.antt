@@ -7,7 +7,7 @@ use mathlib.Core.Path.{_≡_, sym}
 use mathlib.Core.Bool.{_&&_}
 use Rattle.model.specs.Calls.{mayStart}
 use Rattle.session.specs.Records.{phaseOf, valid}
-use Rattle.session.specs.Shapes.{Shaped}
+use Rattle.session.specs.inner.Shapes.{Shaped}
 use Rattle.formats.specs.Inputs.{inputsOf}
 use Rattle.session.proofs.ShapeLaws.{shaped}
 use Rattle.session.proofs.CallLaws.{allowed-by}

@@ -18,10 +18,10 @@ use Rattle.trees.specs.Tree.{Tree, kindsOf, labelsOf, size}
 use Rattle.trees.specs.Automaton.{Automaton, state}
 use Rattle.trees.specs.Numbering.{sub}
 use Rattle.trees.specs.Postorder.{isPostorder}
-use Rattle.formats.specs.InnerChecks.{RuleArgs}
+use Rattle.formats.specs.inner.InnerChecks.{RuleArgs}
 use Rattle.formats.specs.Rules.{treeAutomaton}
 use Rattle.formats.specs.Checks.{nodeTableLength, stateTableLength}
-use Rattle.node_tables.specs.UpPass.{leftOf}
+use Rattle.node_tables.specs.inner.UpPass.{leftOf}
 use Rattle.node_tables.specs.Cells.{sizeCell}
 use Rattle.tables.specs.StateCells.{stateCell}
 

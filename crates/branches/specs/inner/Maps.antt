@@ -19,9 +19,9 @@ use Rattle.trees.specs.Automaton.{WordAutomaton}
 use Rattle.trees.specs.Tables.{branchMap}
 use Rattle.node_tables.specs.Cells.{parentCell, jumpCell}
 use Rattle.tables.specs.StateCells.{mapCell}
-use Rattle.tables.specs.Rows.{RowIn}
-use Rattle.tables.specs.MapTable.{MapsWritten}
-use Rattle.branches.specs.BranchGiven.{BranchGiven}
+use Rattle.tables.specs.inner.Rows.{RowIn}
+use Rattle.tables.specs.inner.MapTable.{MapsWritten}
+use Rattle.branches.specs.inner.BranchGiven.{BranchGiven}
 
 abbrev pub stepCell : ℕ → List ℕ → ℕ → ℕ → List ℕ → ℕ → ℕ → ℕ → ℕ
 stepCell s b p j st k a q = getD st (mapCell s b p (mapCell s b j q) * k + a) 0

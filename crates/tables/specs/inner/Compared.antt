@@ -17,8 +17,8 @@ use Rattle.trees.specs.Tables.{stateTableOf}
 use Rattle.list_laws.specs.Tests.{sameList}
 use Rattle.formats.specs.Rules.{treeAutomaton}
 use Rattle.formats.specs.Checks.{stateTableLength}
-use Rattle.tables.specs.LocalTables.{statesAre, mapsAre}
-use Rattle.tables.specs.Maps.{Prepared}
+use Rattle.tables.specs.inner.LocalTables.{statesAre, mapsAre}
+use Rattle.tables.specs.inner.Maps.{Prepared}
 
 abbrev pub StatesTested : ℕ → ℕ → List ℕ → List ℕ → List ℕ → List ℕ → List ℕ → Bool → Type 0
 StatesTested s k lv inn ks ls b r =

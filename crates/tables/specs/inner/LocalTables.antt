@@ -19,7 +19,7 @@ use Rattle.trees.specs.Numbering.{sub, parent}
 use Rattle.trees.specs.Jumps.{jump}
 use Rattle.trees.specs.Tables.{stateMap}
 use Rattle.tables.specs.StateCells.{stateCell, mapCell}
-use Rattle.tables.specs.Compare.{every, rowIs}
+use Rattle.tables.specs.inner.Compare.{every, rowIs}
 
 -- a right child v stands just before its parent, and its left sibling before v's subtree; a left child's sibling stands
 -- just before their parent

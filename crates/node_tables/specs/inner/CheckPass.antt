@@ -15,8 +15,8 @@ use mathlib.Core.List.{List}
 use lib.Dec.{eqb}
 use lib.ListN.{length, getD}
 use Rattle.node_tables.specs.Cells.{parentCell, jumpCell, depthCell, sizeCell}
-use Rattle.node_tables.specs.UpPass.{leftOf, innerSize, InnerArgs}
-use Rattle.node_tables.specs.DownPass.{childJump}
+use Rattle.node_tables.specs.inner.UpPass.{leftOf, innerSize, InnerArgs}
+use Rattle.node_tables.specs.inner.DownPass.{childJump}
 
 unfoldable pub innerMatches : List ℕ → ℕ → Bool
 innerMatches b v =

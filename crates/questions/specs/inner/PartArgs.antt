@@ -16,7 +16,7 @@ use Rattle.tables.specs.declared.answers.Climbed.{Climbed}
 use Rattle.tables.specs.declared.answers.Climbed.the-variants.{Reached as To, OutOfRange}
 use Rattle.tables.specs.declared.answers.Reached.{Reached}
 use Rattle.tables.specs.Climbs.{View, reached}
-use Rattle.tables.specs.PathViews.{pathView, PathArgs}
+use Rattle.tables.specs.inner.PathViews.{pathView, PathArgs}
 
 abbrev pub partView : ℕ → ℕ → ℕ → List ℕ → List ℕ → List ℕ → List ℕ → List ℕ → List ℕ → View
 partView n s k ls ks lv inn nodeTable stateTable = record {

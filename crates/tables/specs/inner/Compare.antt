@@ -13,7 +13,7 @@ use mathlib.Core.List.{List}
 use lib.Dec.{eqb}
 use lib.ListN.{length, getD}
 use Rattle.tables.specs.StateCells.{mapCell}
-use Rattle.tables.specs.Rows.{RowIn}
+use Rattle.tables.specs.inner.Rows.{RowIn}
 
 unfoldable pub every : ℕ → (ℕ → Bool) → Bool
 every zero f = true

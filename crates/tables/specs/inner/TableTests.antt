@@ -11,7 +11,7 @@ use mathlib.Core.List.{List, _∷_}
 use lib.Dec.{eqb}
 use Rattle.list_laws.specs.Rows.{tabulate, rows}
 use Rattle.tables.specs.StateCells.{stateCell}
-use Rattle.tables.specs.Compare.{every, rowIs}
+use Rattle.tables.specs.inner.Compare.{every, rowIs}
 
 abbrev pub tableOf : ℕ → ℕ → (ℕ → ℕ) → (ℕ → ℕ → ℕ) → List ℕ
 tableOf s n g f = rows n (λ v. g v ∷ tabulate s (f v))

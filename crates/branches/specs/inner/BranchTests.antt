@@ -15,8 +15,8 @@ use Rattle.trees.specs.Automaton.{WordAutomaton}
 use Rattle.trees.specs.Tables.{nodeTableOf, branchState, branchMap, branchTableOf}
 use Rattle.formats.specs.Rules.{wordAutomaton}
 use Rattle.tables.specs.Answers.{sameTables}
-use Rattle.tables.specs.TableTests.{statesSame, mapsSame}
-use Rattle.branches.specs.BranchGiven.{BranchGiven}
+use Rattle.tables.specs.inner.TableTests.{statesSame, mapsSame}
+use Rattle.branches.specs.inner.BranchGiven.{BranchGiven}
 
 abbrev pub StepsTested : List ℕ → List ℕ → List ℕ → ℕ → ℕ → ℕ → List ℕ → Bool → Type 0
 StepsTested ls nodeTable st s k n b r =

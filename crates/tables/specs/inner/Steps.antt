@@ -15,7 +15,7 @@ use Rattle.trees.specs.Climb.{Move, target, nextMove, andThen}
 use Rattle.node_tables.specs.Cells.{cellForest}
 use Rattle.tables.specs.declared.climb.Landed.{Landed}
 use Rattle.tables.specs.Climbs.{View, moveOn}
-use Rattle.tables.specs.PathViews.{PathArgs}
+use Rattle.tables.specs.inner.PathViews.{PathArgs}
 
 -- what the move m makes of state q, and where
 unfoldable pub landOn : View → ℕ → Move → Option Landed

@@ -26,9 +26,9 @@ use Rattle.formats.specs.Rules.{treeAutomaton}
 use Rattle.formats.specs.Checks.{nodeTableLength, stateTableLength}
 use Rattle.node_tables.specs.Cells.{parentCell, jumpCell, sizeCell}
 use Rattle.tables.specs.StateCells.{stateCell, mapCell}
-use Rattle.tables.specs.Rows.{RowIn}
-use Rattle.tables.specs.States.{RuleRuns}
-use Rattle.tables.specs.MapTable.{MapsWritten}
+use Rattle.tables.specs.inner.Rows.{RowIn}
+use Rattle.tables.specs.inner.States.{RuleRuns}
+use Rattle.tables.specs.inner.MapTable.{MapsWritten}
 
 pub record Prepared (s k : ℕ) (lv inn mk : List ℕ) (t : Tree) (ls b e : List ℕ) : Type 0 where
   pub labels : labelsOf t ≡ ls

@@ -22,7 +22,7 @@ use Rattle.formats.specs.Rules.{treeAutomaton, stateCount, labelCount, ruleLeng
 use Rattle.formats.specs.Checks.{firstNo, buildChecks, stateTableLength}
 use Rattle.formats.specs.Built.{builtNodeTable, builtStateTable}
 use Rattle.node_tables.specs.NodeCells.{NodeCells}
-use Rattle.tables.specs.States.{StateArgs}
+use Rattle.tables.specs.inner.States.{StateArgs}
 
 pub record TableArgs (ks ls b lv inn : List ℕ) (s k m : ℕ) : Type 0 where
   pub run : StateArgs ks ls b lv inn s k m
