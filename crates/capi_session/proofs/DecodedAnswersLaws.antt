@@ -11,7 +11,7 @@ use lib.ListN.{length, getD}
 use Rattle.tables.specs.declared.answers.Reached.{Reached}
 use Rattle.formats.specs.Inputs.{Inputs}
 use Rattle.model.specs.Calls.{Call, load, start, advance, cancel, read, Answer, more, finished}
-use Rattle.model.specs.Calls.{readAnswer}
+use Rattle.model.specs.Calls.{outcomeAnswer}
 use Rattle.model.specs.Calls.{Phase}
 use Rattle.model.specs.Refusals.{refusal}
 use Rattle.model.specs.Model.{stageOf}
@@ -83,7 +83,7 @@ module _ (r : Record) where
       go zero = advanced f x _
       go (suc n) = refl
 
-  reading : (q : Places) (s p l : ℕ) (y : Bool) → ReadDecoded q (readAnswer s y p l)
+  reading : (q : Places) (s p l : ℕ) (y : Bool) → ReadDecoded q (outcomeAnswer s y p l)
   unfolding decodedRead answerNumber answeredPlaces
   reading q s p l true = refl
   reading q s p l false = refl

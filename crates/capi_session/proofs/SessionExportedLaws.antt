@@ -14,7 +14,6 @@ use Rattle.list_laws.proofs.BoolLaws.{true-false, and-left, and-right}
 use Rattle.tables.specs.Answers.{written}
 use Rattle.formats.specs.Inputs.{Inputs}
 use Rattle.model.specs.Calls.{Call, load, read, Answer, refused, accepted, parts, more, finished}
-use Rattle.model.specs.Calls.{readAnswer}
 use Rattle.session.specs.declared.answers.Called.{Called}
 use Rattle.session.specs.declared.answers.Started.{Started}
 use Rattle.session.specs.declared.answers.Advanced.{Advanced}

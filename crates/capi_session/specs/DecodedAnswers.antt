@@ -11,7 +11,7 @@ use mathlib.Core.List.{List}
 use lib.Dec.{eqb}
 use Rattle.formats.specs.Inputs.{Inputs}
 use Rattle.model.specs.Calls.{Call, load, start, advance, cancel, read, Answer, refused, accepted, parts}
-use Rattle.model.specs.Calls.{more, finished, readAnswer}
+use Rattle.model.specs.Calls.{more, finished, outcomeAnswer}
 use Rattle.capi_session.specs.SessionExported.{CallExported, LoadExported, StartExported, AdvanceExported, ReadExported, Places}
 
 unfoldable pub decodedDone : ℕ → Answer
@@ -27,7 +27,7 @@ decodedAdvance zero f = cond (eqb f 0) more finished
 decodedAdvance (suc n) f = refused (suc n)
 
 unfoldable pub decodedRead : ℕ → Places → Answer
-decodedRead zero q = readAnswer (q .state) (eqb (q .yes) 1) (q .parts) (q .links)
+decodedRead zero q = outcomeAnswer (q .state) (eqb (q .yes) 1) (q .parts) (q .links)
 decodedRead (suc n) q = refused (suc n)
 
 pub data Exports : List ℕ → Call → Answer → List ℕ → Type 0 where

@@ -15,7 +15,7 @@ use Rattle.formats.specs.Built.{builtNodeTable, builtStateTable}
 use Rattle.tables.specs.Answers.{written}
 use Rattle.formats.specs.Inputs.{Inputs}
 use Rattle.model.specs.Calls.{Call, load, start, advance, cancel, read, Answer, refused, accepted, parts}
-use Rattle.model.specs.Calls.{more, finished, readAnswer}
+use Rattle.model.specs.Calls.{more, finished, outcomeAnswer}
 use Rattle.model.specs.Model.{act}
 use Rattle.model.specs.LeftOpen.{LeftOpen}
 use Rattle.session.specs.Records.{recordOf}
@@ -33,7 +33,7 @@ answerNumber accepted = 0
 answerNumber (parts p) = 0
 answerNumber more = 0
 answerNumber finished = 0
-answerNumber (readAnswer q y p l) = 0
+answerNumber (outcomeAnswer q y p l) = 0
 
 -- "nothing else is returned and nothing is altered"
 unfoldable pub unlessRefused : Answer → List ℕ → List ℕ → List ℕ
@@ -42,7 +42,7 @@ unlessRefused accepted new old = new
 unlessRefused (parts p) new old = new
 unlessRefused more new old = new
 unlessRefused finished new old = new
-unlessRefused (readAnswer q y p l) new old = new
+unlessRefused (outcomeAnswer q y p l) new old = new
 
 unfoldable pub recordFor : List ℕ → Call → List ℕ
 recordFor b c = unlessRefused (answerFor b c) (encoded (recordOn (decoded b) c)) b
@@ -68,7 +68,7 @@ partsOf (refused n) old = old
 partsOf accepted old = old
 partsOf more old = old
 partsOf finished old = old
-partsOf (readAnswer q y p l) old = old
+partsOf (outcomeAnswer q y p l) old = old
 
 pub record StartExported (b : List ℕ) (c : Call) (r : ℕ) (b′ : List ℕ) (parts₀ parts₁ : ℕ) : Type 0 where
   pub call : CallExported b c r b′
@@ -80,7 +80,7 @@ finishedOf finished old = 1
 finishedOf (refused n) old = old
 finishedOf accepted old = old
 finishedOf (parts p) old = old
-finishedOf (readAnswer q y p l) old = old
+finishedOf (outcomeAnswer q y p l) old = old
 
 pub record AdvanceExported (b : List ℕ) (c : Call) (r : ℕ) (b′ : List ℕ) (finished₀ finished₁ : ℕ) : Type 0 where
   pub call : CallExported b c r b′
@@ -94,7 +94,7 @@ pub record Places : Type 0 where
   pub links : ℕ
 
 unfoldable pub answeredPlaces : Answer → Places → Places
-answeredPlaces (readAnswer q y p l) old = record { state = q; yes = bitOf y; parts = p; links = l }
+answeredPlaces (outcomeAnswer q y p l) old = record { state = q; yes = bitOf y; parts = p; links = l }
 answeredPlaces (refused n) old = old
 answeredPlaces accepted old = old
 answeredPlaces (parts p) old = old

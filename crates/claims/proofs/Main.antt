@@ -24,7 +24,7 @@ use Rattle.tables.specs.Answers.{buildingNumber, BuildDone}
 use Rattle.branches.specs.Question.{askAnswer}
 use Rattle.branches.specs.Promise.{wordAnswer}
 use Rattle.branches.proofs.AskTheorem.{ask-built}
-use Rattle.model.specs.Calls.{Call, Answer, refused, readAnswer}
+use Rattle.model.specs.Calls.{Call, Answer, refused, outcomeAnswer}
 use Rattle.reference.specs.Demand3.{Demand3}
 use Rattle.reference.proofs.QuestionTheorem.{CleanOutcomes, QuestionsAnswered, outcome-order}
 use Rattle.reference.proofs.Sample.{row, startRow, sample-rows}
@@ -95,7 +95,7 @@ sample :
     row [] [] 1 ∷ row (0 ∷ []) (0 ∷ []) 2 ∷ row (0 ∷ 2 ∷ []) (0 ∷ 0 ∷ []) 3 ∷ row (0 ∷ 3 ∷ []) (0 ∷ 1 ∷ []) 5
     ∷ row (4 ∷ []) (0 ∷ []) 2 ∷ row (6 ∷ []) (0 ∷ []) 1
     ∷ startRow (7 ∷ []) (0 ∷ []) ∷ startRow (0 ∷ []) (2 ∷ []) ∷ startRow (0 ∷ 0 ∷ []) (0 ∷ 1 ∷ []) ∷ []
-    ≡ some (readAnswer 1 true 1 0) ∷ some (readAnswer 0 false 2 1) ∷ some (readAnswer 1 true 3 0) ∷ some (readAnswer 0 false 5 0)
-    ∷ some (readAnswer 0 false 2 1) ∷ some (readAnswer 1 true 1 0)
+    ≡ some (outcomeAnswer 1 true 1 0) ∷ some (outcomeAnswer 0 false 2 1) ∷ some (outcomeAnswer 1 true 3 0) ∷ some (outcomeAnswer 0 false 5 0)
+    ∷ some (outcomeAnswer 0 false 2 1) ∷ some (outcomeAnswer 1 true 1 0)
     ∷ some (refused 13) ∷ some (refused 14) ∷ some (refused 15) ∷ []
 sample = sample-rows

@@ -14,7 +14,7 @@ use Rattle.session.specs.declared.state.Session.{Session}
 use Rattle.session.specs.Records.{freshSession}
 use Rattle.session.specs.CallsByValue as by-value
 use Rattle.reference.proofs.QuestionTheorem.{QuestionsAnswered, questions-of}
-use Rattle.session.proofs.SessionTheorem.{session-demand-3, session-questions}
+use Rattle.session.proofs.SessionTheorem.{by-value-demand-3, by-value-questions}
 use Rattle.in_place.specs.CallsInPlace.{CallInPlace, loads, starts, advances, cancels, reads}
 
 -- each call in place is the call by value on the record at entry
@@ -33,8 +33,8 @@ pub in-place-history : (cs : List Call) (xs : List Answer) → History CallInPla
 in-place-history cs xs h = refines CallInPlace by-value.CallByValue (_≡_ {A = Session}) same-record freshSession freshSession cs xs refl h
 
 pub in-place-demand-3 : Demand3 freshSession CallInPlace
-in-place-demand-3 cs xs h = session-demand-3 cs xs (in-place-history cs xs h)
+in-place-demand-3 cs xs h = by-value-demand-3 cs xs (in-place-history cs xs h)
 
 pub in-place-questions : QuestionsAnswered freshSession CallInPlace
 in-place-questions =
-    questions-of CallInPlace by-value.CallByValue (_≡_ {A = Session}) same-record freshSession freshSession refl session-questions
+    questions-of CallInPlace by-value.CallByValue (_≡_ {A = Session}) same-record freshSession freshSession refl by-value-questions

@@ -2,7 +2,7 @@
 --
 -- Call == a call with its inputs beside the record; Cancel and Read need only the record
 -- Answer == "Compared are acceptance, refusal numbers and what Start, advance and Read tell."
--- Outcome == what Read tells; readAnswer s y p l == the answer with these four values
+-- Outcome == what Read tells; outcomeAnswer s y p l == the answer with these four values
 -- onRefused f d a, onParts f d a, onOutcome f d a == f of a refusal's number, of Start's parts, of Read's outcome; d of any other
 --   answer
 -- onAdvance m f d a == m of more, f of finished; d of any other answer
@@ -39,8 +39,8 @@ pub data Answer : Type 0 where
   finished : Answer
   outcome : Outcome → Answer
 
-abbrev pub readAnswer : ℕ → Bool → ℕ → ℕ → Answer
-readAnswer s y p l = outcome (record { state = s; yes = y; parts = p; links = l })
+abbrev pub outcomeAnswer : ℕ → Bool → ℕ → ℕ → Answer
+outcomeAnswer s y p l = outcome (record { state = s; yes = y; parts = p; links = l })
 
 -- ---- cases of an answer, each said once
 

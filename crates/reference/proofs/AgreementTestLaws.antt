@@ -9,7 +9,7 @@ use mathlib.Core.List.{List, [], _∷_}
 use lib.Dec.{eqb}
 use Rattle.list_laws.proofs.BoolLaws.{true-false, and-left, and-right}
 use Rattle.list_laws.proofs.TestLaws.{sameList-true}
-use Rattle.model.specs.Calls.{Call, Answer, refused, parts, more, finished, outcome, readAnswer}
+use Rattle.model.specs.Calls.{Call, Answer, refused, parts, more, finished, outcome, outcomeAnswer}
 use Rattle.reference.specs.Reference.{Reference, Reply, settled, unsettled, step}
 use Rattle.reference.specs.Demand3.{Conforms, after, Agrees}
 use Rattle.model.specs.History.{History, done, call}
@@ -30,7 +30,7 @@ decode (suc (suc (suc (suc (suc n)))) ∷ []) = more
 decode (suc (suc (suc (suc (suc n)))) ∷ s ∷ []) = more
 decode (suc (suc (suc (suc (suc n)))) ∷ s ∷ y ∷ []) = more
 decode (suc (suc (suc (suc (suc n)))) ∷ s ∷ y ∷ p ∷ []) = more
-decode (suc (suc (suc (suc (suc n)))) ∷ s ∷ y ∷ p ∷ l ∷ ns) = readAnswer s (eqb y 1) p l
+decode (suc (suc (suc (suc (suc n)))) ∷ s ∷ y ∷ p ∷ l ∷ ns) = outcomeAnswer s (eqb y 1) p l
 
 flag-bool : (y : Bool) → eqb (flag y) 1 ≡ y
 unfolding flag
@@ -44,7 +44,7 @@ decode-code Answer.accepted = refl
 decode-code (parts p) = refl
 decode-code more = refl
 decode-code finished = refl
-decode-code (outcome o) = ap (λ (y : Bool). readAnswer (o .state) y (o .parts) (o .links)) (flag-bool (o .yes))
+decode-code (outcome o) = ap (λ (y : Bool). outcomeAnswer (o .state) y (o .parts) (o .links)) (flag-bool (o .yes))
 
 conforms-is : (n : Reply) (x : Answer) → conforms n x ≡ true → Conforms n x
 unfolding conforms sameAnswer

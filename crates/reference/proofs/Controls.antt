@@ -12,7 +12,7 @@ use lib.ListN.{set, replicate}
 use Rattle.formats.specs.Built.{builtNodeTable, builtStateTable}
 use Rattle.formats.specs.Inputs.{Inputs}
 use Rattle.model.specs.Calls.{Call, load, start, advance, cancel, read, Answer, refused, parts, more, finished}
-use Rattle.model.specs.Calls.{readAnswer}
+use Rattle.model.specs.Calls.{outcomeAnswer}
 use Rattle.reference.specs.Reference.{newReference}
 use Rattle.reference.specs.AgreementTest.{agreed}
 use Rattle.reference.proofs.Sample.{computing, tableA, loadA, inputsA, Seen, seen, asking}
@@ -63,20 +63,20 @@ onNode0 x y w = load loadA ∷ start x (0 ∷ []) (0 ∷ []) ∷ advance y ∷ a
 -- ---- settled
 
 pub clean-list : seen (asking [] [] 1)
-    ≡ all (some Answer.accepted ∷ some (parts 1) ∷ some finished ∷ some (readAnswer 1 true 1 0) ∷ [])
+    ≡ all (some Answer.accepted ∷ some (parts 1) ∷ some finished ∷ some (outcomeAnswer 1 true 1 0) ∷ [])
 unfolding seen asking
 clean-list = refl
 
 -- "Plan, rules and tables are the panel's to alter or exchange": plan A was loaded and plan B is
 -- asked, with a changing excess
 pub exchanged-plan : seen (onNode0 (longerBy inputsB (5 ∷ [])) (longerBy inputsB (7 ∷ 8 ∷ 9 ∷ [])) inputsB)
-    ≡ all (some Answer.accepted ∷ some (parts 2) ∷ some more ∷ some finished ∷ some (readAnswer 1 true 2 2) ∷ [])
+    ≡ all (some Answer.accepted ∷ some (parts 2) ∷ some more ∷ some finished ∷ some (outcomeAnswer 1 true 2 2) ∷ [])
 unfolding seen onNode0 inputsA inputsB
 exchanged-plan = refl
 
 -- "lent the same, excess aside"
 pub changed-excess : seen (onNode0 (longerBy inputsA (5 ∷ [])) (longerBy inputsA (7 ∷ 8 ∷ 9 ∷ [])) inputsA)
-    ≡ all (some Answer.accepted ∷ some (parts 2) ∷ some more ∷ some finished ∷ some (readAnswer 0 false 2 1) ∷ [])
+    ≡ all (some Answer.accepted ∷ some (parts 2) ∷ some more ∷ some finished ∷ some (outcomeAnswer 0 false 2 1) ∷ [])
 unfolding seen onNode0 inputsA
 changed-excess = refl
 
@@ -86,22 +86,22 @@ pub restored : seen (load loadA ∷ start inputsA (0 ∷ []) (0 ∷ []) ∷ adva
     ∷ advance nothing
     ∷ advance inputsA ∷ read ∷ [])
     ≡ all (some Answer.accepted ∷ some (parts 2) ∷ some more ∷ none ∷ some (refused 17) ∷ some finished
-    ∷ some (readAnswer 0 false 2 1) ∷ [])
+    ∷ some (outcomeAnswer 0 false 2 1) ∷ [])
 unfolding seen otherNumber loadA inputsA
 restored = refl
 
 -- other bytes below S: settled by the rule, on those bytes. Byte 1 is node 0's map at state 0; a fresh run has 0 no
 pub other-states : seen (onNode0 inputsA inputsA (otherState 1 1))
-    ≡ all (some Answer.accepted ∷ some (parts 2) ∷ some more ∷ some finished ∷ some (readAnswer 1 true 2 1) ∷ [])
+    ≡ all (some Answer.accepted ∷ some (parts 2) ∷ some more ∷ some finished ∷ some (outcomeAnswer 1 true 2 1) ∷ [])
 unfolding seen onNode0 inputsA otherState
 other-states = refl
 
 -- other bytes at Start already, below S or not: what is given to the advances decides
 pub other-at-start :
     (seen (onNode0 (otherState 1 1) (otherState 1 1) inputsA)
-    ≡ all (some Answer.accepted ∷ some (parts 2) ∷ some more ∷ some finished ∷ some (readAnswer 0 false 2 1) ∷ []))
+    ≡ all (some Answer.accepted ∷ some (parts 2) ∷ some more ∷ some finished ∷ some (outcomeAnswer 0 false 2 1) ∷ []))
     × (seen (onNode0 (otherState 1 2) inputsA inputsA)
-    ≡ all (some Answer.accepted ∷ some (parts 2) ∷ some more ∷ some finished ∷ some (readAnswer 0 false 2 1) ∷ []))
+    ≡ all (some Answer.accepted ∷ some (parts 2) ∷ some more ∷ some finished ∷ some (outcomeAnswer 0 false 2 1) ∷ []))
 unfolding seen onNode0 inputsA otherState
 other-at-start = (refl, refl)
 
@@ -111,7 +111,7 @@ pub wrong-state : seen (read ∷ cancel ∷ load loadA ∷ advance inputsA ∷ s
     ∷ start inputsA [] [] ∷ advance inputsA ∷ read ∷ start inputsA (6 ∷ []) (0 ∷ []) ∷ read ∷ [])
     ≡ all (some (refused 1) ∷ some (refused 1) ∷ some Answer.accepted ∷ some (refused 1) ∷ some (parts 1)
     ∷ some (refused 1)
-    ∷ some (refused 1) ∷ some Answer.accepted ∷ some (parts 1) ∷ some finished ∷ some (readAnswer 1 true 1 0)
+    ∷ some (refused 1) ∷ some Answer.accepted ∷ some (parts 1) ∷ some finished ∷ some (outcomeAnswer 1 true 1 0)
     ∷ some (parts 1) ∷ some (refused 1) ∷ [])
 unfolding seen loadA inputsA
 wrong-state = refl
@@ -127,8 +127,8 @@ first-no = refl
 
 -- a Start refused with 18 leaves the old question, still clean. Number 13 is node 3's jump
 pub refused-start : seen (asking [] [] 1 ++ (start (otherNumber 13 60000) (0 ∷ 3 ∷ []) (0 ∷ 0 ∷ []) ∷ read ∷ []))
-    ≡ all (some Answer.accepted ∷ some (parts 1) ∷ some finished ∷ some (readAnswer 1 true 1 0) ∷ none
-    ∷ some (readAnswer 1 true 1 0) ∷ [])
+    ≡ all (some Answer.accepted ∷ some (parts 1) ∷ some finished ∷ some (outcomeAnswer 1 true 1 0) ∷ none
+    ∷ some (outcomeAnswer 1 true 1 0) ∷ [])
 unfolding seen asking otherNumber loadA inputsA
 refused-start = refl
 
@@ -164,11 +164,11 @@ judged xs = agreed newReference (onNode0 inputsA inputsA inputsA) xs
 -- the answers; a state, links, parts that are not so; finished told early; 18 on sound inputs; a Load turned
 -- down; an answer missing
 pub iterated-down :
-    judged (Answer.accepted ∷ parts 2 ∷ more ∷ finished ∷ readAnswer 0 false 2 1 ∷ [])
-    ∷ judged (Answer.accepted ∷ parts 2 ∷ more ∷ finished ∷ readAnswer 1 true 2 1 ∷ [])
-    ∷ judged (Answer.accepted ∷ parts 2 ∷ more ∷ finished ∷ readAnswer 0 false 2 0 ∷ [])
-    ∷ judged (Answer.accepted ∷ parts 1 ∷ more ∷ finished ∷ readAnswer 0 false 1 1 ∷ [])
-    ∷ judged (Answer.accepted ∷ parts 2 ∷ finished ∷ refused 1 ∷ readAnswer 0 false 2 1 ∷ [])
+    judged (Answer.accepted ∷ parts 2 ∷ more ∷ finished ∷ outcomeAnswer 0 false 2 1 ∷ [])
+    ∷ judged (Answer.accepted ∷ parts 2 ∷ more ∷ finished ∷ outcomeAnswer 1 true 2 1 ∷ [])
+    ∷ judged (Answer.accepted ∷ parts 2 ∷ more ∷ finished ∷ outcomeAnswer 0 false 2 0 ∷ [])
+    ∷ judged (Answer.accepted ∷ parts 1 ∷ more ∷ finished ∷ outcomeAnswer 0 false 1 1 ∷ [])
+    ∷ judged (Answer.accepted ∷ parts 2 ∷ finished ∷ refused 1 ∷ outcomeAnswer 0 false 2 1 ∷ [])
     ∷ judged (Answer.accepted ∷ refused 18 ∷ refused 1 ∷ refused 1 ∷ refused 1 ∷ [])
     ∷ judged (refused 2 ∷ refused 1 ∷ refused 1 ∷ refused 1 ∷ refused 1 ∷ [])
     ∷ judged (Answer.accepted ∷ parts 2 ∷ more ∷ finished ∷ [])
@@ -183,8 +183,8 @@ unfolding computing onNode0 inputsA otherState
 judgedStates xs = agreed newReference (onNode0 inputsA inputsA (otherState 1 1)) (Answer.accepted ∷ parts 2 ∷ more ∷ xs)
 
 pub iterated-down-states :
-    judgedStates (finished ∷ readAnswer 1 true 2 1 ∷ []) ∷ judgedStates (finished ∷ readAnswer 0 false 2 1 ∷ [])
-    ∷ judgedStates (finished ∷ readAnswer 1 true 2 0 ∷ []) ∷ judgedStates (refused 18 ∷ refused 1 ∷ []) ∷ []
+    judgedStates (finished ∷ outcomeAnswer 1 true 2 1 ∷ []) ∷ judgedStates (finished ∷ outcomeAnswer 0 false 2 1 ∷ [])
+    ∷ judgedStates (finished ∷ outcomeAnswer 1 true 2 0 ∷ []) ∷ judgedStates (refused 18 ∷ refused 1 ∷ []) ∷ []
     ≡ true ∷ false ∷ false ∷ false ∷ []
 unfolding judgedStates
 iterated-down-states = refl
@@ -196,7 +196,7 @@ unfolding computing onNode0 inputsA otherLabel
 judgedUnsettled xs = agreed newReference (onNode0 inputsA otherLabel inputsA) (Answer.accepted ∷ parts 2 ∷ more ∷ xs)
 
 pub iterated-down-unsettled :
-    judgedUnsettled (finished ∷ readAnswer 1 true 9 9 ∷ []) ∷ judgedUnsettled (more ∷ refused 1 ∷ []) ∷ judgedUnsettled
+    judgedUnsettled (finished ∷ outcomeAnswer 1 true 9 9 ∷ []) ∷ judgedUnsettled (more ∷ refused 1 ∷ []) ∷ judgedUnsettled
     (refused 18 ∷ refused 1 ∷ [])
     ∷ judgedUnsettled (refused 17 ∷ refused 1 ∷ []) ∷ []
     ≡ true ∷ true ∷ false ∷ false ∷ []

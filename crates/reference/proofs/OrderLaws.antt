@@ -21,7 +21,7 @@ use Rattle.runs.proofs.OrderLaws.{keys-zip, keys-perm, length-perm, holds-perm,
 use Rattle.ready.specs.Members.{readyList, roots}
 use Rattle.ready.specs.Parts.{questionLinks}
 use Rattle.formats.specs.Inputs.{Inputs, fits}
-use Rattle.model.specs.Calls.{readAnswer, start, mayStart}
+use Rattle.model.specs.Calls.{outcomeAnswer, start, mayStart}
 use Rattle.model.specs.Refusals.{Stage, refusal}
 use Rattle.reference.specs.Reference.{Question, rootsOf, partCount, changedTree, freshAnswer}
 
@@ -70,8 +70,8 @@ module _ (vs bs ws cs : List ℕ) (g : length vs ≡ length bs) (h : length ws �
     pub fresh-order : distinct vs ≡ true → freshAnswer q ≡ freshAnswer k
     unfolding freshAnswer
     fresh-order u =
-        ap₂ (λ (x : Inputs) (t : Tree). readAnswer (state (ruleAutomaton (x .rules)) t) (accepts (ruleAutomaton (x .rules)) t)
+        ap₂ (λ (x : Inputs) (t : Tree). outcomeAnswer (state (ruleAutomaton (x .rules)) t) (accepts (ruleAutomaton (x .rules)) t)
         (partCount q) (questionLinks (planTree (q .inputs .plan)) (rootsOf q))) same (tree-same u)
-        ∙ ap₂ (λ (x : Inputs) (ms : List ℕ). readAnswer (state (ruleAutomaton (k .inputs .rules)) (changedTree k))
+        ∙ ap₂ (λ (x : Inputs) (ms : List ℕ). outcomeAnswer (state (ruleAutomaton (k .inputs .rules)) (changedTree k))
         (accepts (ruleAutomaton (k .inputs .rules)) (changedTree k))
         (length ms) (questionLinks (planTree (x .plan)) ms)) same roots-same

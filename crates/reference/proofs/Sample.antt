@@ -33,7 +33,7 @@ use Rattle.questions.specs.Part.{lastFound, labelOn, climbFrom, runReached, own
 use Rattle.questions.specs.Part.{forkOn, partOn}
 use Rattle.formats.specs.Inputs.{Inputs, fits, sameNodeInputs, sameInputs, namesSizes, nodeTableBuilt, stateTableBuilt}
 use Rattle.formats.specs.Inputs.{sound, statesBelow}
-use Rattle.model.specs.Calls.{Call, load, start, advance, read, Answer, refused, readAnswer, mayLoad, mayStart}
+use Rattle.model.specs.Calls.{Call, load, start, advance, read, Answer, refused, outcomeAnswer, mayLoad, mayStart}
 use Rattle.model.specs.Calls.{isRunning, isAnswered}
 use Rattle.model.specs.Refusals.{refusal}
 use Rattle.model.specs.PartInputs.{givenOf}
@@ -131,8 +131,8 @@ pub sample-rows :
     row [] [] 1 ∷ row (0 ∷ []) (0 ∷ []) 2 ∷ row (0 ∷ 2 ∷ []) (0 ∷ 0 ∷ []) 3 ∷ row (0 ∷ 3 ∷ []) (0 ∷ 1 ∷ []) 5
     ∷ row (4 ∷ []) (0 ∷ []) 2 ∷ row (6 ∷ []) (0 ∷ []) 1
     ∷ startRow (7 ∷ []) (0 ∷ []) ∷ startRow (0 ∷ []) (2 ∷ []) ∷ startRow (0 ∷ 0 ∷ []) (0 ∷ 1 ∷ []) ∷ []
-    ≡ some (readAnswer 1 true 1 0) ∷ some (readAnswer 0 false 2 1) ∷ some (readAnswer 1 true 3 0) ∷ some (readAnswer 0 false 5 0)
-    ∷ some (readAnswer 0 false 2 1) ∷ some (readAnswer 1 true 1 0)
+    ≡ some (outcomeAnswer 1 true 1 0) ∷ some (outcomeAnswer 0 false 2 1) ∷ some (outcomeAnswer 1 true 3 0) ∷ some (outcomeAnswer 0 false 5 0)
+    ∷ some (outcomeAnswer 0 false 2 1) ∷ some (outcomeAnswer 1 true 1 0)
     ∷ some (refused 13) ∷ some (refused 14) ∷ some (refused 15) ∷ []
 unfolding row startRow
 sample-rows = refl

@@ -18,7 +18,7 @@ use Rattle.formats.proofs.CheckLaws.{firstNo-tail}
 use Rattle.formats.proofs.InputLaws.{build-passes}
 use Rattle.ready.specs.Parts.{Part, partsFrom, partsOf, lastState, allLinks}
 use Rattle.formats.specs.Inputs.{Inputs, Sizes, sizesIn}
-use Rattle.model.specs.Calls.{Call, load, cancel, read, Answer, refused, readAnswer, Phase, mayLoad, isRunning}
+use Rattle.model.specs.Calls.{Call, load, cancel, read, Answer, refused, outcomeAnswer, Phase, mayLoad, isRunning}
 use Rattle.model.specs.Calls.{isAnswered}
 use Rattle.model.specs.Refusals.{Stage, stage, refusal}
 use Rattle.reference.specs.Reference.{Settlement, clean, byRule, byProgram, Question, State, Reference, Reply}
@@ -98,7 +98,7 @@ on-cancel r r′ b a i d =
 -- ---- Read
 
 outcome-same : (q q′ : ℕ) (y y′ : Bool) (p p′ l l′ : ℕ) → q ≡ q′ → y ≡ y′ → p ≡ p′ → l ≡ l′
-    → readAnswer q y p l ≡ readAnswer q′ y′ p′ l′
+    → outcomeAnswer q y p l ≡ outcomeAnswer q′ y′ p′ l′
 outcome-same q q′ y y′ p p′ l l′ e f g h = cc
 
 -- a question that is counted: what the rule gave

@@ -22,7 +22,7 @@ use Rattle.ready.specs.Members.{roots}
 use Rattle.ready.specs.Parts.{Given, Part, partOf, lastState, allLinks, questionLinks}
 use Rattle.formats.specs.Inputs.{Inputs, Sizes, sizesIn, sameNodeInputs, sameInputs, nodeTableBuilt, sound, statesBelow}
 use Rattle.model.specs.Calls.{Call, load, start, advance, cancel, read, Answer, refused, parts, more, finished}
-use Rattle.model.specs.Calls.{readAnswer, onRefused, onParts, onAdvance, onOutcome, Phase}
+use Rattle.model.specs.Calls.{outcomeAnswer, onRefused, onParts, onAdvance, onOutcome, Phase}
 use Rattle.model.specs.Refusals.{Stage, stage, refusal}
 use Rattle.model.specs.PartInputs.{givenOf}
 use Rattle.reference.specs.Causes.{startCause, advanceCause}
@@ -97,14 +97,14 @@ longer z q x = q .results ++ (partOf (givenBy z q x) (rootsOf q) (q .results) (g
 -- parts, and as links the moves of its parts' climbs"
 unfoldable pub freshAnswer : Question → Answer
 freshAnswer q =
-    readAnswer (fresh-run.rootState (q .inputs .plan) (q .inputs .rules) (q .nodes) (q .labels))
+    outcomeAnswer (fresh-run.rootState (q .inputs .plan) (q .inputs .rules) (q .nodes) (q .labels))
     (fresh-run.rootAccepted (q .inputs .plan) (q .inputs .rules) (q .nodes) (q .labels))
     (partCount q) (questionLinks (planTree (q .inputs .plan)) (rootsOf q))
 
 -- what the rule of "Parts of a question" gave on the state tables given
 unfoldable pub ruleAnswer : Question → Answer
 ruleAnswer q =
-    readAnswer (lastState (q .results) 0) (ruleAutomaton (q .inputs .rules) .accepting (lastState (q .results) 0)) (partCount q) (allLinks (q .results))
+    outcomeAnswer (lastState (q .results) 0) (ruleAutomaton (q .inputs .rules) .accepting (lastState (q .results) 0)) (partCount q) (allLinks (q .results))
 
 -- ---- Start
 

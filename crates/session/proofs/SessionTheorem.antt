@@ -1,8 +1,8 @@
 -- Demand 3 for the session's calls: every list of calls, from the fresh session, whatever the inputs, is answered as the
 -- reference model (document 01's panel book) says.
---     session-demand-3     the theorem, over the very promises of load, start, advance, cancel and read
---     session-questions    a question on sound tables undisturbed: parts, advances, what Reads tell, ceilings (CleanOutcomes, crate reference)
---     session-history      a history of these calls is one of the model's, so what is proved of those holds of it
+--     by-value-demand-3     the theorem, over the very promises of load, start, advance, cancel and read
+--     by-value-questions    a question on sound tables undisturbed: parts, advances, what Reads tell, ceilings (CleanOutcomes, crate reference)
+--     by-value-history      a history of these calls is one of the model's, so what is proved of those holds of it
 -- Assumes nothing.
 use mathlib.Core.List.{List}
 use Rattle.model.specs.Calls.{Call, Answer}
@@ -17,11 +17,11 @@ use Rattle.session.specs.Records.{freshSession}
 use Rattle.session.specs.CallsByValue.{CallByValue}
 use Rattle.session.proofs.Refine.{Seen, fresh-seen, by-value-refines}
 
-pub session-history : (cs : List Call) (xs : List Answer) → History CallByValue freshSession cs xs → History Does freshRecord cs xs
-session-history cs xs h = refines CallByValue Does Seen by-value-refines freshSession freshRecord cs xs fresh-seen h
+pub by-value-history : (cs : List Call) (xs : List Answer) → History CallByValue freshSession cs xs → History Does freshRecord cs xs
+by-value-history cs xs h = refines CallByValue Does Seen by-value-refines freshSession freshRecord cs xs fresh-seen h
 
-pub session-demand-3 : Demand3 freshSession CallByValue
-session-demand-3 = demand-3-of CallByValue Does Seen by-value-refines freshSession freshRecord fresh-seen (demand-3 layers)
+pub by-value-demand-3 : Demand3 freshSession CallByValue
+by-value-demand-3 = demand-3-of CallByValue Does Seen by-value-refines freshSession freshRecord fresh-seen (demand-3 layers)
 
-pub session-questions : QuestionsAnswered freshSession CallByValue
-session-questions = questions-of CallByValue Does Seen by-value-refines freshSession freshRecord fresh-seen (question-answered layers)
+pub by-value-questions : QuestionsAnswered freshSession CallByValue
+by-value-questions = questions-of CallByValue Does Seen by-value-refines freshSession freshRecord fresh-seen (question-answered layers)

@@ -4,7 +4,7 @@
 --   Load and Cancel, Start, advance, Read
 --
 -- Assumes nothing.
-use Rattle.model.specs.Calls.{Answer, refused, accepted, parts, more, finished, readAnswer}
+use Rattle.model.specs.Calls.{Answer, refused, accepted, parts, more, finished, outcomeAnswer}
 use Rattle.session.specs.declared.answers.CallAnswer.{CallAnswer}
 use Rattle.session.specs.declared.answers.CallAnswer.the-variants.{Accepted, Refused as NotDone}
 use Rattle.session.specs.declared.answers.StartAnswer.{StartAnswer}
@@ -28,5 +28,5 @@ advanceAnswer Finished = finished
 advanceAnswer (NotAdvanced n) = refused n
 
 unfoldable pub readAnswer : ReadAnswer → Answer
-readAnswer (Read o) = readAnswer (o .state) (o .yes) (o .parts) (o .links)
+readAnswer (Read o) = outcomeAnswer (o .state) (o .yes) (o .parts) (o .links)
 readAnswer (NotRead n) = refused n

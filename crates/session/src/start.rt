@@ -9,6 +9,7 @@ use crate::state::Head;
 use crate::state::Phase;
 use crate::state::Session;
 use crate::state::Sizes;
+use formats::buffers::rule_buffers_fit;
 use formats::lists::check_list;
 use questions::roots::roots;
 ghost use mathlib.Core.Path.{_≡_};

@@ -22,7 +22,7 @@ use Rattle.tables.specs.Answers.{written}
 use Rattle.ready.specs.Members.{roots}
 use Rattle.ready.specs.Parts.{questionLinks}
 use Rattle.formats.specs.Inputs.{Inputs}
-use Rattle.model.specs.Calls.{load, Answer, refused, accepted, readAnswer}
+use Rattle.model.specs.Calls.{load, Answer, refused, accepted, outcomeAnswer}
 use Rattle.session.specs.declared.state.Session.{Session}
 use Rattle.session.specs.Records.{freshSession}
 use Rattle.session.specs.Promises.{answerOn, recordOn}
@@ -33,7 +33,7 @@ changedPlan p vs bs = treeOf (kindsIn p) (changed (labelsIn p) vs bs)
 
 unfoldable pub answerBy : ℕ → List ℕ → List ℕ → List ℕ → List ℕ → Answer
 answerBy zero p r vs bs =
-    readAnswer (state (ruleAutomaton r) (changedPlan p vs bs)) (accepts (ruleAutomaton r) (changedPlan p vs bs))
+    outcomeAnswer (state (ruleAutomaton r) (changedPlan p vs bs)) (accepts (ruleAutomaton r) (changedPlan p vs bs))
     (length (roots (planTree p) vs)) (questionLinks (planTree p) (roots (planTree p) vs))
 answerBy (suc n) p r vs bs = refused (suc n)
 
