@@ -29,7 +29,7 @@ use Rattle.session.specs.inner.Shapes.{Shaped}
 use Rattle.session.proofs.Holds.{struct-is}
 use Rattle.session.proofs.Refine.{Seen, fresh-seen, read-keeps, call-refines}
 use Rattle.records.specs.Layout.{encoded, decoded, laidOut, validBytes, InTypes, Bytes}
-use Rattle.records.proofs.Theorems.{decode-encode, encode-decode, encoded-valid, decoded-valid, decoded-types, fresh-state-table}
+use Rattle.records.proofs.Theorems.{decode-encode, encode-decode, encoded-valid, decoded-valid, decoded-types, fresh-bytes}
 use Rattle.records.proofs.ValidTypes.{valid-types}
 use Rattle.capi_session.specs.SessionExported.{answerFor, answerNumber, unlessRefused, recordFor, partsOf, finishedOf, answeredPlaces}
 use Rattle.capi_session.specs.DecodedAnswers.{decodedDone, decodedStart, decodedAdvance, decodedRead, Exports, loads, starts, advances, cancels, reads}
@@ -44,7 +44,7 @@ record ByteStep (b : List ℕ) (c : Call) (a : Answer) (b′ : List ℕ) : Type 
 -- the bytes of a struct that holds record r
 pub record Held (b : List ℕ) (r : Record) : Type 0 where
   pub struct : Session
-  pub stateTable : b ≡ encoded struct
+  pub bytes : b ≡ encoded struct
   pub seen : Seen struct r
 
 -- ---- a refusal leaves the record, so its bytes
@@ -123,7 +123,7 @@ module _ (s : Session) (r : Record) (i : Seen s r) (c : Call) where
   step-is : (a : Answer) (b′ : List ℕ) → ByteStep (encoded s) c a b′ → (r′ : Record) × Does r c a r′ × Held b′ r′
   step-is a b′ e =
       let d = call-refines s r i c a (recordOn s c) (e .tells ∙ answer-is) refl in
-      (d .0, d .1, record { struct = recordOn s c; stateTable = e .leaves ∙ record-is; seen = d .2 })
+      (d .0, d .1, record { struct = recordOn s c; bytes = e .leaves ∙ record-is; seen = d .2 })
 
 -- ---- a call as its number and values are decoded
 
@@ -146,12 +146,12 @@ module _ (s : Session) (r : Record) (i : Seen s r) where
     leaves = e .call .left ∙ ap (λ (t : List ℕ). recordFor t (load x)) q;
   }
   exports-is c a b b′ q (starts {x} {vs} {bs} n p₀ p₁ e) = record {
-    tells = rw (e .call .number, e .parts-in, q)
+    tells = rw (e .call .number, e .parts-after, q)
         (decoded-answer (start x vs bs) (λ (y : Answer). decodedStart (answerNumber y) (partsOf y p₀)) (decoded-start (recordOf s) p₀ x vs bs));
     leaves = e .call .left ∙ ap (λ (t : List ℕ). recordFor t (start x vs bs)) q;
   }
   exports-is c a b b′ q (advances {x} n f₀ f₁ e) = record {
-    tells = rw (e .call .number, e .finished-answer, q)
+    tells = rw (e .call .number, e .finished-after, q)
         (decoded-answer (advance x) (λ (y : Answer). decodedAdvance (answerNumber y) (finishedOf y f₀)) (decoded-advance (recordOf s) f₀ x));
     leaves = e .call .left ∙ ap (λ (t : List ℕ). recordFor t (advance x)) q;
   }
@@ -167,10 +167,10 @@ module _ (s : Session) (r : Record) (i : Seen s r) where
 
 pub exported-refines : Refines Exports Does Held
 exported-refines b b′ r c a h e =
-    step-is (h .struct) r (h .seen) c a b′ (exports-is (h .struct) r (h .seen) c a b b′ (h .stateTable) e)
+    step-is (h .struct) r (h .seen) c a b′ (exports-is (h .struct) r (h .seen) c a b b′ (h .bytes) e)
 
 pub fresh-held : Held (replicate 967 0) freshRecord
-fresh-held = record { struct = freshSession; stateTable = sym fresh-state-table; seen = fresh-seen }
+fresh-held = record { struct = freshSession; bytes = sym fresh-bytes; seen = fresh-seen }
 
 -- ---- every record that a call leaves is a record again
 

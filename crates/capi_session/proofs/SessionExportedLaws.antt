@@ -36,8 +36,8 @@ use Rattle.capi_session.specs.SessionExported.{StartExported, finishedOf
 use Rattle.capi_session.specs.Stored.{places, Stored, DoneStored, StartStored, AdvanceStored, ReadStored}
 
 -- an accepted answer's bytes, from what encode ensures
-accepted-state-table : (s : Session) (b b′ : List ℕ) → length b ≡ recordLength → b′ ≡ cond (eqb (length b) recordLength) (encoded s) b → b′ ≡ encoded s
-accepted-state-table s b b′ h e = e ∙ rw (eq-eqb (length b) recordLength h)
+accepted-bytes : (s : Session) (b b′ : List ℕ) → length b ≡ recordLength → b′ ≡ cond (eqb (length b) recordLength) (encoded s) b → b′ ≡ encoded s
+accepted-bytes s b b′ h e = e ∙ rw (eq-eqb (length b) recordLength h)
 
 stored-new : (a : Answer) (s : Session) (b b′ : List ℕ) → answerNumber a ≡ 0 → unlessRefused a (encoded s) b ≡ encoded s
     → b′ ≡ encoded s → Stored a s b 0 b′
@@ -48,7 +48,7 @@ pub done-stored : (o : Called) (b b′ : List ℕ) → length b ≡ recordLength
 unfolding callAnswer answerNumber unlessRefused
 done-stored o b b′ h e q =
     stored-new (callAnswer (o .answer)) (o .session) b b′ (ap (λ (x : _). answerNumber (callAnswer x)) e)
-    (ap (λ (x : _). unlessRefused (callAnswer x) (encoded (o .session)) b) e) (accepted-state-table (o .session) b b′ h q)
+    (ap (λ (x : _). unlessRefused (callAnswer x) (encoded (o .session)) b) e) (accepted-bytes (o .session) b b′ h q)
 
 pub done-refused : (o : Called) (b : List ℕ) (n : ℕ) → o .answer ≡ NotDone n → DoneStored o b n b
 unfolding callAnswer answerNumber unlessRefused
@@ -62,8 +62,8 @@ pub start-stored : (o : Started) (b b′ : List ℕ) (p k : ℕ) → length b �
 unfolding startAnswer answerNumber unlessRefused partsOf
 start-stored o b b′ p k h e q = record {
   stored = stored-new (startAnswer (o .answer)) (o .session) b b′ (ap (λ (x : _). answerNumber (startAnswer x)) e)
-      (ap (λ (x : _). unlessRefused (startAnswer x) (encoded (o .session)) b) e) (accepted-state-table (o .session) b b′ h q);
-  parts-in = sym (ap (λ (x : _). partsOf (startAnswer x) p) e);
+      (ap (λ (x : _). unlessRefused (startAnswer x) (encoded (o .session)) b) e) (accepted-bytes (o .session) b b′ h q);
+  parts-after = sym (ap (λ (x : _). partsOf (startAnswer x) p) e);
 }
 
 pub start-refused : (o : Started) (b : List ℕ) (p n : ℕ) → o .answer ≡ NotStarted n → StartStored o b p n b p
@@ -73,7 +73,7 @@ start-refused o b p n e = record {
     number = sym (ap (λ (x : _). answerNumber (startAnswer x)) e);
     left = sym (ap (λ (x : _). unlessRefused (startAnswer x) (encoded (o .session)) b) e);
   };
-  parts-in = sym (ap (λ (x : _). partsOf (startAnswer x) p) e);
+  parts-after = sym (ap (λ (x : _). partsOf (startAnswer x) p) e);
 }
 
 pub more-stored : (o : Advanced) (b b′ : List ℕ) (f : ℕ) → length b ≡ recordLength → o .answer ≡ More
@@ -81,8 +81,8 @@ pub more-stored : (o : Advanced) (b b′ : List ℕ) (f : ℕ) → length b ≡ 
 unfolding advanceAnswer answerNumber unlessRefused finishedOf
 more-stored o b b′ f h e q = record {
   stored = stored-new (advanceAnswer (o .answer)) (o .session) b b′ (ap (λ (x : _). answerNumber (advanceAnswer x)) e)
-      (ap (λ (x : _). unlessRefused (advanceAnswer x) (encoded (o .session)) b) e) (accepted-state-table (o .session) b b′ h q);
-  finished-answer = sym (ap (λ (x : _). finishedOf (advanceAnswer x) f) e);
+      (ap (λ (x : _). unlessRefused (advanceAnswer x) (encoded (o .session)) b) e) (accepted-bytes (o .session) b b′ h q);
+  finished-after = sym (ap (λ (x : _). finishedOf (advanceAnswer x) f) e);
 }
 
 pub finished-stored : (o : Advanced) (b b′ : List ℕ) (f : ℕ) → length b ≡ recordLength → o .answer ≡ Finished
@@ -90,8 +90,8 @@ pub finished-stored : (o : Advanced) (b b′ : List ℕ) (f : ℕ) → length b 
 unfolding advanceAnswer answerNumber unlessRefused finishedOf
 finished-stored o b b′ f h e q = record {
   stored = stored-new (advanceAnswer (o .answer)) (o .session) b b′ (ap (λ (x : _). answerNumber (advanceAnswer x)) e)
-      (ap (λ (x : _). unlessRefused (advanceAnswer x) (encoded (o .session)) b) e) (accepted-state-table (o .session) b b′ h q);
-  finished-answer = sym (ap (λ (x : _). finishedOf (advanceAnswer x) f) e);
+      (ap (λ (x : _). unlessRefused (advanceAnswer x) (encoded (o .session)) b) e) (accepted-bytes (o .session) b b′ h q);
+  finished-after = sym (ap (λ (x : _). finishedOf (advanceAnswer x) f) e);
 }
 
 pub advance-refused : (o : Advanced) (b : List ℕ) (f n : ℕ) → o .answer ≡ NotAdvanced n → AdvanceStored o b f n b f
@@ -101,7 +101,7 @@ advance-refused o b f n e = record {
     number = sym (ap (λ (x : _). answerNumber (advanceAnswer x)) e);
     left = sym (ap (λ (x : _). unlessRefused (advanceAnswer x) (encoded (o .session)) b) e);
   };
-  finished-answer = sym (ap (λ (x : _). finishedOf (advanceAnswer x) f) e);
+  finished-after = sym (ap (λ (x : _). finishedOf (advanceAnswer x) f) e);
 }
 
 pub read-in : (a : ReadAnswer) (old : Places) (y : ℕ) (o : Outcome) → a ≡ Read o → y ≡ bitOf (o .yes)
@@ -135,7 +135,7 @@ module _ (b : List ℕ) (c : Call) where
   not-laid h = record {
     number = sym (ap answerNumber (answer-not h));
     left = sym (ap (λ (a : Answer). unlessRefused a (encoded (recordOn (decoded b) c)) b) (answer-not h));
-    kept = λ v. absurd (true-false (sym (and-left (laidOut b) (valid (decoded b)) v) ∙ h));
+    properties = λ v. absurd (true-false (sym (and-left (laidOut b) (valid (decoded b)) v) ∙ h));
   }
 
   pub laid : laidOut b ≡ true → (a : Answer) (s : Session) (r : ℕ) (b′ : List ℕ) → CallDone (decoded b) c a s → Stored a s b r b′
@@ -146,8 +146,8 @@ module _ (b : List ℕ) (c : Call) where
       record {
         number = S .number ∙ sym (ap answerNumber e);
         left = S .left ∙ ap₂ (λ (x : Answer) (y : Session). unlessRefused x (encoded y) b) (sym e) (D .leaves);
-        kept = λ v. subst (λ (x : Answer). LeftOpen (recordOf (decoded b)) c x (act (recordOf (decoded b)) c .record′)) (sym e)
-            (D .kept (and-right (laidOut b) (valid (decoded b)) v));
+        properties = λ v. subst (λ (x : Answer). LeftOpen (recordOf (decoded b)) c x (act (recordOf (decoded b)) c .record′)) (sym e)
+            (D .properties (and-right (laidOut b) (valid (decoded b)) v));
       }
 
   pub answer-by : laidOut b ≡ true → (a : Answer) → a ≡ answerOn (decoded b) c → answerFor b c ≡ a
@@ -195,24 +195,24 @@ module _ (b : List ℕ) where
   module _ (c : Call) where
     pub start-not : (p : ℕ) → laidOut b ≡ false → StartExported b c 1 b p p
     unfolding partsOf
-    start-not p h = record { call = not-laid b c h; parts-in = sym (ap (λ (a : Answer). partsOf a p) (not-answered b c h)) }
+    start-not p h = record { call = not-laid b c h; parts-after = sym (ap (λ (a : Answer). partsOf a p) (not-answered b c h)) }
 
     pub start-laid : laidOut b ≡ true → (o : Started) (r : ℕ) (b′ : List ℕ) (p p′ : ℕ)
         → CallDone (decoded b) c (startAnswer (o .answer)) (o .session) → StartStored o b p r b′ p′ → StartExported b c r b′ p p′
     start-laid h o r b′ p p′ D S = record {
       call = laid b c h (startAnswer (o .answer)) (o .session) r b′ D (S .stored);
-      parts-in = S .parts-in ∙ sym (ap (λ (a : Answer). partsOf a p) (answer-by b c h (startAnswer (o .answer)) (D .tells)));
+      parts-after = S .parts-after ∙ sym (ap (λ (a : Answer). partsOf a p) (answer-by b c h (startAnswer (o .answer)) (D .tells)));
     }
 
     pub advance-not : (f : ℕ) → laidOut b ≡ false → AdvanceExported b c 1 b f f
     unfolding finishedOf
-    advance-not f h = record { call = not-laid b c h; finished-answer = sym (ap (λ (a : Answer). finishedOf a f) (not-answered b c h)) }
+    advance-not f h = record { call = not-laid b c h; finished-after = sym (ap (λ (a : Answer). finishedOf a f) (not-answered b c h)) }
 
     pub advance-laid : laidOut b ≡ true → (o : Advanced) (r : ℕ) (b′ : List ℕ) (f f′ : ℕ)
         → CallDone (decoded b) c (advanceAnswer (o .answer)) (o .session) → AdvanceStored o b f r b′ f′ → AdvanceExported b c r b′ f f′
     advance-laid h o r b′ f f′ D S = record {
       call = laid b c h (advanceAnswer (o .answer)) (o .session) r b′ D (S .stored);
-      finished-answer = S .finished-answer ∙ sym (ap (λ (a : Answer). finishedOf a f) (answer-by b c h (advanceAnswer (o .answer)) (D .tells)));
+      finished-after = S .finished-after ∙ sym (ap (λ (a : Answer). finishedOf a f) (answer-by b c h (advanceAnswer (o .answer)) (D .tells)));
     }
 
   pub read-not : (old : Places) → laidOut b ≡ false → ReadExported b 1 old old

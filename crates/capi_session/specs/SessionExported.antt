@@ -3,7 +3,7 @@
 -- answerFor b c == the answer of call c on record bytes b: 1 for bytes that are not laid out as a record, else the struct's (crate session)
 -- answerNumber a == document 01's number of an answer: 0 accepted, else the refusal's
 -- recordFor b c == the bytes after it: as they were where it is refused, else those of the struct after the call
--- partsOf a old, finishedOf a old, stateTold .. == what a place holds afterwards: the answer's value, or what it held
+-- partsOf a old, finishedOf a old, answeredPlaces a old == what a place holds afterwards: the answer's value, or what it held
 -- CallExported, StartExported, AdvanceExported, ReadExported, LoadExported == the promises
 --
 -- Assumes nothing.
@@ -14,8 +14,7 @@ use mathlib.Core.List.{List}
 use Rattle.formats.specs.Built.{builtNodeTable, builtStateTable}
 use Rattle.tables.specs.Answers.{written}
 use Rattle.formats.specs.Inputs.{Inputs}
-use Rattle.model.specs.Calls.{Call, load, start, advance, cancel, read, Answer, refused, accepted, parts}
-use Rattle.model.specs.Calls.{more, finished, outcomeAnswer}
+use Rattle.model.specs.Calls.{Call, load, read, Answer, refused, onRefused, onParts, onAdvance, onOutcome}
 use Rattle.model.specs.Model.{act}
 use Rattle.model.specs.LeftOpen.{LeftOpen}
 use Rattle.session.specs.Records.{recordOf}
@@ -28,21 +27,11 @@ unfoldable pub answerFor : List ℕ → Call → Answer
 answerFor b c = cond (laidOut b) (answerOn (decoded b) c) (refused 1)
 
 unfoldable pub answerNumber : Answer → ℕ
-answerNumber (refused n) = n
-answerNumber accepted = 0
-answerNumber (parts p) = 0
-answerNumber more = 0
-answerNumber finished = 0
-answerNumber (outcomeAnswer q y p l) = 0
+answerNumber a = onRefused (λ n. n) 0 a
 
 -- "nothing else is returned and nothing is altered"
 unfoldable pub unlessRefused : Answer → List ℕ → List ℕ → List ℕ
-unlessRefused (refused n) new old = old
-unlessRefused accepted new old = new
-unlessRefused (parts p) new old = new
-unlessRefused more new old = new
-unlessRefused finished new old = new
-unlessRefused (outcomeAnswer q y p l) new old = new
+unlessRefused a new old = onRefused (λ n. old) new a
 
 unfoldable pub recordFor : List ℕ → Call → List ℕ
 recordFor b c = unlessRefused (answerFor b c) (encoded (recordOn (decoded b) c)) b
@@ -51,7 +40,7 @@ pub record CallExported (b : List ℕ) (c : Call) (r : ℕ) (b′ : List ℕ) : 
   pub number : r ≡ answerNumber (answerFor b c)
   pub left : b′ ≡ recordFor b c
   -- what is left to the program has these properties
-  pub kept : validBytes b ≡ true → LeftOpen (recordOf (decoded b)) c (answerFor b c) (act (recordOf (decoded b)) c .record′)
+  pub properties : validBytes b ≡ true → LeftOpen (recordOf (decoded b)) c (answerFor b c) (act (recordOf (decoded b)) c .record′)
 
 -- the refusal's number, 18 apart, of a Load on record bytes
 unfoldable pub loadNumber : List ℕ → Inputs → ℕ
@@ -63,28 +52,18 @@ pub record LoadExported (b : List ℕ) (x : Inputs) (r : ℕ) (b′ nodeTable′
   pub state-table-written : stateTable′ ≡ written (loadNumber b x) (builtStateTable (x .plan) (x .rules)) (x .stateTable)
 
 unfoldable pub partsOf : Answer → ℕ → ℕ
-partsOf (parts p) old = p
-partsOf (refused n) old = old
-partsOf accepted old = old
-partsOf more old = old
-partsOf finished old = old
-partsOf (outcomeAnswer q y p l) old = old
+partsOf a old = onParts (λ p. p) old a
 
 pub record StartExported (b : List ℕ) (c : Call) (r : ℕ) (b′ : List ℕ) (parts₀ parts₁ : ℕ) : Type 0 where
   pub call : CallExported b c r b′
-  pub parts-in : parts₁ ≡ partsOf (answerFor b c) parts₀
+  pub parts-after : parts₁ ≡ partsOf (answerFor b c) parts₀
 
 unfoldable pub finishedOf : Answer → ℕ → ℕ
-finishedOf more old = 0
-finishedOf finished old = 1
-finishedOf (refused n) old = old
-finishedOf accepted old = old
-finishedOf (parts p) old = old
-finishedOf (outcomeAnswer q y p l) old = old
+finishedOf a old = onAdvance 0 1 old a
 
 pub record AdvanceExported (b : List ℕ) (c : Call) (r : ℕ) (b′ : List ℕ) (finished₀ finished₁ : ℕ) : Type 0 where
   pub call : CallExported b c r b′
-  pub finished-answer : finished₁ ≡ finishedOf (answerFor b c) finished₀
+  pub finished-after : finished₁ ≡ finishedOf (answerFor b c) finished₀
 
 -- the four values of Read, as one place each
 pub record Places : Type 0 where
@@ -94,12 +73,8 @@ pub record Places : Type 0 where
   pub links : ℕ
 
 unfoldable pub answeredPlaces : Answer → Places → Places
-answeredPlaces (outcomeAnswer q y p l) old = record { state = q; yes = bitOf y; parts = p; links = l }
-answeredPlaces (refused n) old = old
-answeredPlaces accepted old = old
-answeredPlaces (parts p) old = old
-answeredPlaces more old = old
-answeredPlaces finished old = old
+answeredPlaces a old =
+    onOutcome (λ o. record { state = o .state; yes = bitOf (o .yes); parts = o .parts; links = o .links }) old a
 
 pub record ReadExported (b : List ℕ) (r : ℕ) (before after : Places) : Type 0 where
   pub number : r ≡ answerNumber (answerFor b read)

@@ -30,11 +30,11 @@ DoneStored o b r b′ = Stored (callAnswer (o .answer)) (o .session) b r b′
 
 pub record StartStored (o : Started) (b : List ℕ) (p r : ℕ) (b′ : List ℕ) (p′ : ℕ) : Type 0 where
   pub stored : Stored (startAnswer (o .answer)) (o .session) b r b′
-  pub parts-in : p′ ≡ partsOf (startAnswer (o .answer)) p
+  pub parts-after : p′ ≡ partsOf (startAnswer (o .answer)) p
 
 pub record AdvanceStored (o : Advanced) (b : List ℕ) (f r : ℕ) (b′ : List ℕ) (f′ : ℕ) : Type 0 where
   pub stored : Stored (advanceAnswer (o .answer)) (o .session) b r b′
-  pub finished-answer : f′ ≡ finishedOf (advanceAnswer (o .answer)) f
+  pub finished-after : f′ ≡ finishedOf (advanceAnswer (o .answer)) f
 
 pub record ReadStored (a : ReadAnswer) (old : Places) (r : ℕ) (new : Places) : Type 0 where
   pub number : r ≡ answerNumber (readAnswer a)

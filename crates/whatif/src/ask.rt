@@ -15,14 +15,14 @@ fn finish(started: Session, plan: &[u8], rules: &[u8], node_table: &[u16], state
         ≡ finishedIn mostParts started (inputsOf (now (plan .entry)) (now (rules .entry)) (now («node_table» .entry)) (now («state_table» .entry))) ⌝ }
 {
     let mut rec = started;
-    let mut turns: u8 = 0;
-    while turns < 254 {
+    let mut iterations: u8 = 0;
+    while iterations < 254 {
         let next = rec.advance(plan, rules, node_table, state_table);
         rec = next.session;
         let answer = next.answer;
         match answer {
             AdvanceAnswer::More => {
-                turns += 1;
+                iterations += 1;
             }
             AdvanceAnswer::Finished => {
                 return rec.read();

@@ -14,11 +14,11 @@ mod text;
 
 use chunk::take_in;
 use input::asked_space;
-use input::bytes_space;
+use input::state_table_space;
 use input::chunk_space;
 use input::is_too_large;
 use input::length_at;
-use input::nums_space;
+use input::node_table_space;
 use input::plan_space;
 use input::read_some;
 use input::read_whole;
@@ -119,8 +119,8 @@ fn say_refused(n: u8) {
 fn clear(plan: &[u8], rules: &[u8], stated: usize)
     requires { ⌜ stated ≤ 4294967295 ⌝ }
 {
-    let mut node_table = nums_space();
-    let mut state_table = bytes_space();
+    let mut node_table = node_table_space();
+    let mut state_table = state_table_space();
     let fresh = Session::fresh();
     let done = fresh.load(plan, rules, &mut node_table, &mut state_table);
     let answer = done.answer;

@@ -6,8 +6,8 @@ use Rattle.whatif.proofs.clear.Reads as reads
 use Rattle.whatif.proofs.clear.Lts as lts
 use Rattle.session.proofs.state.Session.fresh.Reads as fresh-reads
 use Rattle.session.proofs.state.Session.load.Reads as load-reads
-use Rattle.whatif.proofs.input.bytes_space.Reads as bytes-space-reads
-use Rattle.whatif.proofs.input.nums_space.Reads as nums-space-reads
+use Rattle.whatif.proofs.input.state_table_space.Reads as bytes-space-reads
+use Rattle.whatif.proofs.input.node_table_space.Reads as nums-space-reads
 use Rattle.whatif.proofs.put_questions.Reads as put-questions-reads
 use Rattle.whatif.proofs.say_refused.Reads as say-refused-reads
 

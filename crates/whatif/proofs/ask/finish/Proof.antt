@@ -28,8 +28,8 @@ advance-requires c κs = search needs
 enum-told : tie.Need-enum-told Inv-loop μ-loop
 enum-told c = search needs
 
-add-turns : tie.Need-add-turns Inv-loop μ-loop
-add-turns c = search needs
+add-iterations : tie.Need-add-iterations Inv-loop μ-loop
+add-iterations c = search needs
 
 loop-less : tie.Need-loop-less Inv-loop μ-loop
 loop-less c = search needs
@@ -98,7 +98,7 @@ finish-spec =
     loop-holds
     advance-requires
     enum-told
-    add-turns
+    add-iterations
     loop-less
     loop-again
     enum-told-2
