@@ -7,10 +7,10 @@
 -- Assumes nothing.
 use Prim.Native.Nat.{ℕ, suc, _<_}
 use mathlib.Core.Path.{_≡_}
-use mathlib.Core.Bool.{true}
-use mathlib.Core.List.{List, [], _∷_, List·Permᴰ}
+use mathlib.Core.Bool.{true, false}
+use mathlib.Core.List.{List, [], _∷_, zip, List·Permᴰ}
 use mathlib.Core.Option.{some}
-use lib.ListN.{length, replicate, zip}
+use lib.ListN.{length, replicate}
 use Rattle.list_laws.specs.Tests.{distinct}
 use Rattle.trees.specs.Tree.{Tree, size, labelAt}
 use Rattle.trees.specs.Automaton.{Automaton, run, state}

@@ -8,14 +8,16 @@ use mathlib.Core.Bool.{Bool, true, false, cond}
 use mathlib.Core.List.{List}
 use mathlib.Core.Option.{Option, none, some}
 use native.Mathlib.Omega.{arith}
+use lib.Dec.{eqb}
+use lib.ListN.{length, getD}
 use Rattle.list_laws.proofs.BoolLaws.{true-false}
 use Rattle.formats.specs.Inputs.{Inputs}
 use Rattle.tables.specs.declared.answers.Building.{Building}
 use Rattle.tables.specs.Answers.{written, buildingNumber, BuildDone}
 use Rattle.tables.specs.declared.answers.Reached.{Reached}
-use Rattle.model.specs.Calls.{Call, load, start, advance, cancel, read, Answer, refused, isRefused}
+use Rattle.model.specs.Calls.{Call, load, start, advance, cancel, read, Answer, refused, more, finished, isRefused, Phase}
 use Rattle.model.specs.Refusals.{refusal}
-use Rattle.model.specs.Model.{Record, Acted, stageOf, startWith, advanceWith, proceeds, unless, act}
+use Rattle.model.specs.Model.{Record, Acted, acted, stageOf, marksBy, stepped, startWith, advanceWith, proceeds, unless, act}
 use Rattle.session.specs.declared.state.Session.{Session}
 use Rattle.session.specs.Records.{recordOf, valid}
 use Rattle.session.specs.Promises.{answerOn, refusalOn, CallDone, LoadDone}
@@ -39,7 +41,10 @@ on-start r vs bs (some rs) e = absurd (true-false (sym e))
 on-advance : (r : Record) (x : Inputs) (o : Option Reached) → Only18 (advanceWith r x o)
 unfolding advanceWith
 on-advance r x none e = refl
-on-advance r x (some y) = on-choice _ _ _ (λ e. absurd (true-false (sym e))) (λ e. absurd (true-false (sym e)))
+on-advance r x (some y) e =
+    on-choice (eqb (suc (length (r .states))) (length (r .roots)))
+    (acted finished (stepped r Phase.answered y (eqb (getD (marksBy (r .sizes) x) (y .state) 0) 1)))
+    (acted more (stepped r Phase.running y false)) (λ f. absurd (true-false (sym f))) (λ f. absurd (true-false (sym f))) e
 
 on-call : (r : Record) (c : Call) → Only18 (proceeds r c)
 unfolding proceeds

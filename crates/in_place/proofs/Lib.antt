@@ -1,3 +1,3 @@
-mod InPlace
+pub mod InPlace
 pub mod InPlaceTheorem
-mod Lendings
+pub mod Lendings

@@ -10,7 +10,10 @@ use Rattle.tables.specs.declared.answers.Climbed.{Climbed}
 use Rattle.tables.specs.declared.answers.Climbed.the-variants.{Reached as To, OutOfRange}
 use Rattle.questions.specs.declared.roots.Rooted.{Rooted}
 use Rattle.formats.specs.Inputs.{Inputs}
-use Rattle.model.specs.Calls.{start, advance, read}
+use Rattle.model.specs.Calls.{load, start, advance, cancel, read}
+use Rattle.session.specs.declared.answers.CallAnswer.{CallAnswer}
+use Rattle.session.specs.declared.answers.CallAnswer.the-variants.{Accepted, Refused as NotDone}
+use Rattle.session.specs.declared.answers.Called.{Called}
 use Rattle.session.specs.declared.answers.Started.{Started}
 use Rattle.session.specs.declared.answers.StartAnswer.{StartAnswer}
 use Rattle.session.specs.declared.answers.StartAnswer.the-variants.{Parts, Refused as NotStarted}
@@ -18,13 +21,15 @@ use Rattle.session.specs.declared.answers.Outcome.{Outcome}
 use Rattle.session.specs.declared.answers.ReadAnswer.{ReadAnswer}
 use Rattle.session.specs.declared.answers.ReadAnswer.the-variants.{Outcome as Read, Refused as NotRead}
 use Rattle.session.specs.declared.state.Session.{Session}
-use Rattle.session.specs.Answers.{startAnswer, readAnswer}
-use Rattle.session.specs.Promises.{answerOn, recordOn, CallDone}
+use Rattle.session.specs.Answers.{callAnswer, startAnswer, readAnswer}
+use Rattle.session.specs.Records.{freshSession}
+use Rattle.session.specs.Promises.{answerOn, recordOn, CallDone, LoadDone}
 use Rattle.probes.specs.declared.layers.Part.{Part}
+use Rattle.probes.specs.declared.whole.Life.{Life}
 use Rattle.probes.specs.declared.whole.Question.{Question}
 use Rattle.probes.specs.declared.whole.Steps.{Steps}
 use Rattle.probes.specs.Probed.{RootsProbed, partIn, advanced, partsIn, after, startParts, stepsIn}
-use Rattle.probes.specs.Probed.{nothingIn, readIn, questionIn}
+use Rattle.probes.specs.Probed.{nothingIn, readIn, questionIn, callNumber, onceLoaded, onceStarted, lifeIn}
 
 pub roots-probed : (x y : Rooted) → x ≡ y → RootsProbed y (x .count) (x .nodes)
 roots-probed x y e = record { count = ap (λ (z : Rooted). z .count) e; roots = ap (λ (z : Rooted). z .nodes) e }
@@ -95,3 +100,40 @@ module _ (x : Inputs) (vs bs : List ℕ) (s before : Session) (o : Started) (is 
   question-answer p end a r e f g h =
       h ∙ ap readIn (g ∙ ap (λ (z : Session). answerOn z read)
       (ends-at p end f ∙ ap (λ (i : ℕ). after x vs bs i s) (parts-are p e)))
+
+-- ---- a life
+
+pub number-none : (a : CallAnswer) → a ≡ Accepted → 0 ≡ callNumber (callAnswer a)
+unfolding callNumber callAnswer
+number-none a e = sym (ap (λ (x : CallAnswer). callNumber (callAnswer x)) e)
+
+pub number-some : (a : CallAnswer) (n : ℕ) → a ≡ NotDone n → n ≡ callNumber (callAnswer a)
+unfolding callNumber callAnswer
+number-some a n e = sym (ap (λ (x : CallAnswer). callNumber (callAnswer x)) e)
+
+module _ (x y : Inputs) (vs bs : List ℕ) (f : Session) (is : f ≡ freshSession)
+    (o : Called) (nodeTable′ stateTable′ : List ℕ) (L : LoadDone f x (callAnswer (o .answer)) (o .session) nodeTable′ stateTable′)
+    (p : Started) (S : CallDone (o .session) (start y vs bs) (startAnswer (p .answer)) (p .session))
+    (q : Called) (C : CallDone (p .session) cancel (callAnswer (q .answer)) (q .session)) where
+  loaded-is : o .session ≡ onceLoaded x
+  unfolding onceLoaded
+  loaded-is = L .call .leaves ∙ ap (λ (s : Session). recordOn s (load x)) is
+
+  started-is : p .session ≡ onceStarted x y vs bs
+  unfolding onceStarted
+  started-is = S .leaves ∙ ap (λ (s : Session). recordOn s (start y vs bs)) loaded-is
+
+  ended-is : q .session ≡ recordOn (onceStarted x y vs bs) cancel
+  ended-is = C .leaves ∙ ap (λ (s : Session). recordOn s cancel) started-is
+
+  pub life-answer : (i j k : ℕ) (r : Question) → i ≡ callNumber (callAnswer (o .answer)) → j ≡ partsIn (startAnswer (p .answer))
+      → k ≡ callNumber (callAnswer (q .answer)) → r ≡ questionIn y vs bs (q .session)
+      → _≡_ {A = Life} (record { load = i; parts = j; cancel = k; again = r }) (lifeIn x y vs bs)
+  unfolding lifeIn startParts
+  life-answer i j k r e g h w =
+      rw (
+        e ∙ ap callNumber (L .call .tells ∙ ap (λ (s : Session). answerOn s (load x)) is),
+        g ∙ ap partsIn (S .tells ∙ ap (λ (s : Session). answerOn s (start y vs bs)) loaded-is),
+        h ∙ ap callNumber (C .tells ∙ ap (λ (s : Session). answerOn s cancel) started-is),
+        w ∙ ap (questionIn y vs bs) ended-is,
+      )

@@ -10,6 +10,8 @@
 -- after x vs bs i s == session s after Start and i advances; startParts x vs bs s == the parts that Start tells
 -- readIn a == what answer a of Read tells; state 16 and zeros for any other
 -- questionIn x vs bs s == what Read tells after Start and as many advances as it told parts
+-- callNumber a == the number of an answer to Load or Cancel: 0 for one that is no refusal
+-- lifeIn x y vs bs == what a life of a session tells, Load lent x and the later calls y: from fresh, Load, Start, Cancel and a question
 --
 -- Assumes nothing.
 use Prim.Native.Nat.{ℕ, zero, suc}
@@ -20,14 +22,16 @@ use Rattle.tables.specs.declared.answers.Climbed.{Climbed}
 use Rattle.tables.specs.declared.answers.Climbed.the-variants.{Reached as To, OutOfRange}
 use Rattle.questions.specs.declared.roots.Rooted.{Rooted}
 use Rattle.formats.specs.Inputs.{Inputs}
-use Rattle.model.specs.Calls.{start, advance, read, Answer, parts, onParts, onOutcome}
+use Rattle.model.specs.Calls.{load, start, advance, cancel, read, Answer, onParts, onRefused}
+use Rattle.model.specs.Calls.{onOutcome, finished, outcomeAnswer}
 use Rattle.session.specs.declared.state.Session.{Session}
 use Rattle.session.specs.Promises.{answerOn, recordOn}
-use Rattle.session.specs.Records.{sessionOf}
+use Rattle.session.specs.Records.{sessionOf, freshSession}
 use Rattle.session.specs.inner.Shapes.{loadedBy}
 use Rattle.probes.specs.declared.layers.Part.{Part}
 use Rattle.probes.specs.declared.whole.Steps.{Steps}
 use Rattle.probes.specs.declared.whole.Question.{Question}
+use Rattle.probes.specs.declared.whole.Life.{Life}
 
 pub record RootsProbed (x : Rooted) (n : ℕ) (l : List ℕ) : Type 0 where
   pub count : n ≡ x .count
@@ -37,7 +41,7 @@ abbrev pub partIn : Climbed → Part
 partIn OutOfRange = record { state = 16; links = 0 }
 partIn (To x) = record { state = x .state; links = x .links }
 
--- ---- the session by value
+-- ---- the session
 
 abbrev pub loadedWith : ℕ → ℕ → ℕ → Session
 loadedWith n s k = sessionOf (loadedBy n s k)
@@ -67,3 +71,21 @@ readIn a =
 
 unfoldable pub questionIn : Inputs → List ℕ → List ℕ → Session → Question
 questionIn x vs bs s = readIn (answerOn (after x vs bs (startParts x vs bs s) s) read)
+
+unfoldable pub callNumber : Answer → ℕ
+callNumber a = onRefused (λ n. n) 0 a
+
+-- the session after Load, and after Load, Start and Cancel
+unfoldable pub onceLoaded : Inputs → Session
+onceLoaded x = recordOn freshSession (load x)
+
+unfoldable pub onceStarted : Inputs → Inputs → List ℕ → List ℕ → Session
+onceStarted x y vs bs = recordOn (onceLoaded x) (start y vs bs)
+
+unfoldable pub lifeIn : Inputs → Inputs → List ℕ → List ℕ → Life
+lifeIn x y vs bs = record {
+  load = callNumber (answerOn freshSession (load x));
+  parts = startParts y vs bs (onceLoaded x);
+  cancel = callNumber (answerOn (onceStarted x y vs bs) cancel);
+  again = questionIn y vs bs (recordOn (onceStarted x y vs bs) cancel);
+}

@@ -1,4 +1,10 @@
-// Start, advances and a whole question on the record by value, without its bytes.
+// Start, advances, a whole question and a whole life of a session in place, without the record's bytes.
+use crate::places::advance_at;
+use crate::places::cancel_at;
+use crate::places::load_at;
+use crate::places::read_at;
+use crate::places::start_at;
+use session::answers::CallAnswer;
 use session::answers::ReadAnswer;
 use session::answers::StartAnswer;
 use session::state::Phase;
@@ -6,9 +12,9 @@ use session::state::Session;
 use session::state::Sizes;
 use session::state::idle;
 ghost use mathlib.Core.Path.{_≡_};
-ghost use Rattle.session.specs.Answers.{startAnswer, readAnswer};
+ghost use Rattle.session.specs.Answers.{callAnswer, startAnswer, readAnswer};
 ghost use Rattle.formats.specs.Inputs.{inputsOf};
-ghost use Rattle.probes.specs.Probed.{loadedWith, partsIn, advanced, stepsIn, readIn, questionIn};
+ghost use Rattle.probes.specs.Probed.{loadedWith, partsIn, advanced, stepsIn, readIn, questionIn, callNumber, lifeIn};
 
 // A question's parts, and its links so far.
 #[repr(C)]
@@ -63,7 +69,7 @@ fn advance_by(
     let mut u = s;
     let mut left = count;
     while left > 0 {
-        let out = u.advance(plan, rules, node_table, state_table);
+        let out = advance_at(u, plan, rules, node_table, state_table);
         u = out.session;
         left -= 1;
     }
@@ -89,7 +95,7 @@ pub extern "C" fn probe_steps(
         (now (nodes .entry)) (now (labels .entry)) count (loadedWith n s k) ⌝ }
 {
     let before = loaded(n, s, k);
-    let out = before.start(plan, rules, node_table, state_table, nodes, labels);
+    let out = start_at(before, plan, rules, node_table, state_table, nodes, labels);
     let answer = out.answer;
     let put = out.session;
     let parts = parts_in(answer);
@@ -124,7 +130,29 @@ fn read_in(answer: ReadAnswer) -> Question
     }
 }
 
-// A whole question on a loaded session of N, S and K: Start, as many advances as it tells parts, Read.
+// A whole question on a session: Start, as many advances as it tells parts, Read.
+fn question_on(
+    before: Session,
+    plan: &[u8],
+    rules: &[u8],
+    node_table: &[u16],
+    state_table: &[u8],
+    nodes: &[u16],
+    labels: &[u8],
+) -> Question
+    ensures { λ r. ⌜ r
+        ≡ questionIn (inputsOf (now (plan .entry)) (now (rules .entry)) (now («node_table» .entry)) (now («state_table» .entry)))
+        (now (nodes .entry)) (now (labels .entry)) before ⌝ }
+{
+    let out = start_at(before, plan, rules, node_table, state_table, nodes, labels);
+    let answer = out.answer;
+    let put = out.session;
+    let end = advance_by(parts_in(answer), put, plan, rules, node_table, state_table);
+    let outcome = read_at(end);
+    read_in(outcome)
+}
+
+// The same on a loaded session of N, S and K.
 #[no_mangle]
 pub extern "C" fn probe_question(
     n: u16,
@@ -142,10 +170,65 @@ pub extern "C" fn probe_question(
         (now (nodes .entry)) (now (labels .entry)) (loadedWith n s k) ⌝ }
 {
     let before = loaded(n, s, k);
-    let out = before.start(plan, rules, node_table, state_table, nodes, labels);
-    let answer = out.answer;
-    let put = out.session;
-    let end = advance_by(parts_in(answer), put, plan, rules, node_table, state_table);
-    let outcome = end.read();
-    read_in(outcome)
+    question_on(before, plan, rules, node_table, state_table, nodes, labels)
+}
+
+// The numbers of Load and Cancel, the parts that the first Start tells, and what Read tells of the question put again.
+#[repr(C)]
+pub struct Life {
+    pub load: u32,
+    pub parts: u32,
+    pub cancel: u32,
+    pub again: Question,
+}
+
+// The number of an answer to Load or Cancel: 0 where it is accepted.
+fn call_number(answer: CallAnswer) -> u32
+    ensures { λ r. ⌜ r ≡ callNumber (callAnswer answer) ⌝ }
+{
+    match answer {
+        CallAnswer::Accepted => {
+            return 0;
+        }
+        CallAnswer::Refused(n) => {
+            return n as u32;
+        }
+    }
+}
+
+// A life of a session, each call in place: fresh, Load, Start, Cancel, and the question put again, as many advances as it has parts, Read.
+#[no_mangle]
+pub extern "C" fn probe_life(
+    plan: &[u8],
+    rules: &[u8],
+    node_table: &mut [u16],
+    state_table: &mut [u8],
+    nodes: &[u16],
+    labels: &[u8],
+) -> Life
+    ensures { λ r. ⌜ r
+        ≡ lifeIn (inputsOf (now (plan .entry)) (now (rules .entry)) (now («node_table» .entry)) (now («state_table» .entry)))
+        (inputsOf (now (plan .entry)) (now (rules .entry)) (now («node_table» .exit)) (now («state_table» .exit)))
+        (now (nodes .entry)) (now (labels .entry)) ⌝ }
+{
+    let fresh = Session::fresh();
+    let out = load_at(fresh, plan, rules, node_table, state_table);
+    let a = out.answer;
+    let loaded = out.session;
+    let load = call_number(a);
+    let put = start_at(loaded, plan, rules, node_table, state_table, nodes, labels);
+    let b = put.answer;
+    let running = put.session;
+    let parts = parts_in(b);
+    let ended = cancel_at(running);
+    let c = ended.answer;
+    let idle = ended.session;
+    let cancel = call_number(c);
+    let again = question_on(idle, plan, rules, node_table, state_table, nodes, labels);
+    Life {
+        load,
+        parts,
+        cancel,
+        again,
+    }
 }

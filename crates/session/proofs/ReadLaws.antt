@@ -70,7 +70,13 @@ module _ (s : Session) (h : Shaped s) (b : Bool) (e : b ≡ (valid s && isAnswer
         (omega (arith, h .states, t .few-handled)) in
         (omega (arith, ended .handled, ended .asked .some-part), t .few-handled, omega (arith, ended .handled))
 
-    pub read-yes : readAnswer (Read (record { state = getD (s .states) (s .head .handled - 1) 0; yes = s .head .yes; parts = s .head .parts; links = s .head .links })) ≡ answerOn s read
+    pub read-yes : readAnswer (Read (record {
+      state = getD (s .states)
+          (s .head .handled - 1) 0;
+      yes = s .head .yes;
+      parts = s .head .parts;
+      links = s .head .links;
+    })) ≡ answerOn s read
     unfolding readAnswer answerOn act refusal unless proceeds recordOf firstNo
     read-yes =
         let t = tails-of s v in

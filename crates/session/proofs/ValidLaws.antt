@@ -29,7 +29,8 @@ sizes-test z = simp and-assoc
 pub question-test : (s : Session) (a b c d : Bool) → a ≡ allBelow 1 (s .nodes) → b ≡ allBelow 1 (s .labels)
     → c ≡ allBelow 1 (s .roots)
     → d ≡ allBelow 1 (s .states)
-    → (not (s .head .yes) && eqb (s .head .m) 0 && eqb (s .head .parts) 0 && eqb (s .head .handled) 0 && eqb (s .head .links) 0 && a && b && c && d) ≡ noQuestion s
+    → (not (s .head .yes) && eqb (s .head .m) 0 && eqb (s .head .parts) 0 && eqb (s .head .handled) 0 && eqb
+    (s .head .links) 0 && a && b && c && d) ≡ noQuestion s
 unfolding noQuestion zeroFrom
 question-test s a b c d e f g h = rw (e, f, g, h) (simp and-assoc)
 
@@ -67,7 +68,17 @@ module _ (s : Session) where
       → (a && b && (c && d) && leb (s .head .links) (65535 * s .head .handled)) ≡ partsFit s
   unfolding partsFit zeroFrom
   parts-test g h a b c d e f i j =
-      rw (le-leb 1 (s .head .parts) g, le-leb (s .head .parts) 254 h, e, f, i, j, rest (s .roots) (s .head .parts), rest (s .states) (s .head .handled))
+      rw (
+        le-leb 1 (s .head .parts) g,
+        le-leb (s .head .parts) 254 h,
+        e,
+        f,
+        i,
+        j,
+        rest (s .roots) (s .head .parts),
+        rest
+            (s .states) (s .head .handled),
+      )
       (simp and-assoc)
 
   -- ---- a question

@@ -13,12 +13,12 @@ part-requires c κs = search needs
 enum-known-found : tie.Need-enum-known-found
 enum-known-found c = search needs
 
-cast-t15 : tie.Need-cast-t15
-cast-t15 c = search needs
+cast-t14 : tie.Need-cast-t14
+cast-t14 c = search needs
 
 returns : tie.Need-returns
 returns c =
-    let f = c .before in
+    let f = c .before .before in
     part-reached _ _ (f .found .given .0 .0) (f .found .given .1) (f .before .before .part .ensures .result)
 
 enum-told : tie.Need-enum-told
@@ -29,4 +29,4 @@ returns-2 c = part-outside _ _ (c .enum-told .given .1) (c .before .before .part
 
 pub probe-part-spec : {M : Type 1} → statement M
 probe-part-spec =
-    tie.close (tie.spec part-requires enum-known-found cast-t15 returns enum-told returns-2)
+    tie.close (tie.spec part-requires enum-known-found cast-t14 returns enum-told returns-2)

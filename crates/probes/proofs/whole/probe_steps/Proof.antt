@@ -8,13 +8,12 @@ use Rattle.probes.proofs.whole.probe_steps.Lts as lts
 use Rattle.probes.proofs.whole.advance_by.Reads as advance-by-reads
 use Rattle.probes.proofs.whole.loaded.Reads as loaded-reads
 use Rattle.probes.proofs.whole.parts_in.Reads as parts-told-reads
-use Rattle.session.proofs.state.Session.start.Reads as start-reads
 
 loaded-requires : tie.Need-loaded-requires
 loaded-requires c κs = search needs
 
-start-requires : tie.Need-start-requires
-start-requires c κs = search needs
+start-at-requires : tie.Need-start-at-requires
+start-at-requires c κs = search needs
 
 parts-in-requires : tie.Need-parts-in-requires
 parts-in-requires c κs = search needs
@@ -26,9 +25,9 @@ returns : tie.Need-returns
 returns c =
     let t = c .before in
     let o = t .before .before in
-    steps-answer _ _ _ _ _ _ (o .before .loaded .ensures) (o .start .ensures) _ _ _ (t .parts-in .ensures) (c .advance-by .ensures)
+    steps-answer _ _ _ _ _ _ (o .before .loaded .ensures) (o .start-at .ensures) _ _ _ (t .parts-in .ensures) (c .advance-by .ensures)
 
 pub probe-steps-spec : {M : Type 1} → statement M
 probe-steps-spec =
     tie.close
-    (tie.spec loaded-requires start-requires parts-in-requires advance-by-requires returns)
+    (tie.spec loaded-requires start-at-requires parts-in-requires advance-by-requires returns)
