@@ -65,7 +65,18 @@ fn answer_branch(
     let steps = &branch[16..16 + s * k];
     let to = depth_at(node_table, u);
     let mut maps = IDENTITY;
-    let x = compose_climb(&mut maps, labels, steps, node_table, state_table, n, s, k, l, to);
+    let x = compose_climb(
+        &mut maps,
+        labels,
+        steps,
+        node_table,
+        state_table,
+        n,
+        s,
+        k,
+        l,
+        to,
+    );
     if !x.ok {
         return Branching::Refused(18);
     }

@@ -66,7 +66,12 @@ fn branch_matches(
 }
 
 // Whether the lent tables are what the build writes, or the first check of 2 to 11 that fails.
-pub fn check_branch_tables(plan: &[u8], branch: &[u8], node_table: &[u16], state_table: &[u8]) -> Checking
+pub fn check_branch_tables(
+    plan: &[u8],
+    branch: &[u8],
+    node_table: &[u16],
+    state_table: &[u8],
+) -> Checking
     ensures { λ r. ⌜ CheckDone
         (firstNo (branchBuildChecks (now (plan .entry)) (now (branch .entry)) (length (now («node_table» .entry)))
         (length (now («state_table» .entry)))))

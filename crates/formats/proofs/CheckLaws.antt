@@ -13,7 +13,6 @@ use native.Mathlib.Omega.{arith}
 use Rattle.list_laws.proofs.BoolLaws.{true-false}
 use Rattle.formats.specs.Checks.{Check, check, firstNo}
 
-
 -- ---- one check
 
 pub firstNo-yes : (n : ℕ) (b : Bool) (cs : List Check) → b ≡ true → firstNo (check n b ∷ cs) ≡ firstNo cs

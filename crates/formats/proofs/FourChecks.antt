@@ -11,7 +11,6 @@ use lib.ListN.{length, take, drop, length-take, length-drop}
 use lib.Seq.{take-all}
 use Rattle.formats.specs.Checks.{Check, check, firstNo}
 
-
 -- ---- four checks in a row, with numbers above 0
 
 abbrev pub four : ℕ → ℕ → ℕ → ℕ → Bool → Bool → Bool → Bool → List Check
@@ -46,4 +45,3 @@ module _ (k l m n : ℕ) (a b c d : Bool) where
   pub four-4 : a ≡ true → b ≡ true → c ≡ true → d ≡ false → firstNo (four k l m n a b c d) ≡ suc n
   unfolding firstNo
   four-4 e f g h = rw (e, f, g, h)
-

@@ -82,7 +82,12 @@ pub fn headers_fit(plan: &[u8], table: &[u8], header: usize) -> bool
 }
 
 // Check 17 of a branch table, where N, S and K are those of the headers.
-pub fn branch_buffers_fit(plan: &[u8], branch: &[u8], node_table: &[u16], state_table: &[u8]) -> bool
+pub fn branch_buffers_fit(
+    plan: &[u8],
+    branch: &[u8],
+    node_table: &[u16],
+    state_table: &[u8],
+) -> bool
     ensures { λ r. ⌜ r
         ≡ headedBuffersFit branchTables (now (plan .entry)) (now (branch .entry)) (length (now («node_table» .entry)))
         (length (now («state_table» .entry))) ⌝ }

@@ -16,7 +16,6 @@ use Rattle.list_laws.specs.Tests.{allBelow, holds, distinct}
 use Rattle.list_laws.proofs.BoolLaws.{and-assoc, or-assoc, and-yes, or-no}
 use Rattle.list_laws.proofs.SliceLaws.{rest-part}
 
-
 -- the elements from place i on: the one there, and those after it
 from : (l : List ℕ) (i : ℕ) → i < length l → drop i l ≡ getD l i 0 ∷ drop (i + 1) l
 from l i h = rw add-one (drop-cons l i 0 h)

@@ -17,7 +17,12 @@ pub struct Part {
 
 // How many roots there are, and the roots with zeros behind them; 0 and zeros where they are refused.
 #[no_mangle]
-pub extern "C" fn probe_roots(n: usize, node_table: &[u16], nodes: &[u16], out: &mut [u16; 254]) -> usize
+pub extern "C" fn probe_roots(
+    n: usize,
+    node_table: &[u16],
+    nodes: &[u16],
+    out: &mut [u16; 254],
+) -> usize
     ensures { λ r. ⌜
         RootsProbed (rootedOf (rootsGiven n (now («node_table» .entry)) (now (nodes .entry)))) r (now (out .exit)) ⌝ }
 {

@@ -12,7 +12,13 @@ ghost use Rattle.session.specs.Promises.{CallDone, LoadDone, answerOn};
 ghost use Rattle.formats.specs.Inputs.{inputsOf};
 
 // Load.
-pub fn load_at(s: Session, plan: &[u8], rules: &[u8], node_table: &mut [u16], state_table: &mut [u8]) -> Called
+pub fn load_at(
+    s: Session,
+    plan: &[u8],
+    rules: &[u8],
+    node_table: &mut [u16],
+    state_table: &mut [u8],
+) -> Called
     ensures { λ r. ⌜
         LoadDone s
         (inputsOf (now (plan .entry)) (now (rules .entry)) (now («node_table» .entry)) (now («state_table» .entry)))
@@ -45,7 +51,13 @@ pub fn start_at(
 }
 
 // Advance.
-pub fn advance_at(s: Session, plan: &[u8], rules: &[u8], node_table: &[u16], state_table: &[u8]) -> Advanced
+pub fn advance_at(
+    s: Session,
+    plan: &[u8],
+    rules: &[u8],
+    node_table: &[u16],
+    state_table: &[u8],
+) -> Advanced
     ensures { λ r. ⌜
         CallDone s
         (calls.advance (inputsOf (now (plan .entry)) (now (rules .entry)) (now («node_table» .entry)) (now («state_table» .entry))))

@@ -267,7 +267,15 @@ pub fn part(
     if !limits_fit(n, s, k) {
         return Climbed::OutOfRange;
     }
-    if !rule_buffers_fit(n, s, k, plan.len(), rules.len(), node_table.len(), state_table.len()) {
+    if !rule_buffers_fit(
+        n,
+        s,
+        k,
+        plan.len(),
+        rules.len(),
+        node_table.len(),
+        state_table.len(),
+    ) {
         return Climbed::OutOfRange;
     }
     if !asked_fits(n, roots, states, nodes, labels) {

@@ -29,7 +29,6 @@ use Rattle.ready.proofs.ClosedForm.{Some, Forks, Member, m-listed, m-ro
 use Rattle.ready.proofs.ClosedForm.{member-closed, ready-member}
 use Rattle.ready.proofs.PartsRun.{Members}
 
-
 -- ---- the tests
 
 module _ (w : ℕ → Bool) where

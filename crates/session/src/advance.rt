@@ -147,10 +147,28 @@ fn next_step<'a>(
     let n = h.sizes.n as usize;
     let s = h.sizes.s as usize;
     let k = h.sizes.k as usize;
-    if !rule_buffers_fit(n, s, k, plan.len(), rules.len(), node_table.len(), state_table.len()) {
+    if !rule_buffers_fit(
+        n,
+        s,
+        k,
+        plan.len(),
+        rules.len(),
+        node_table.len(),
+        state_table.len(),
+    ) {
         return refused_step(h, 17);
     }
-    match next_part(h, plan, rules, node_table, state_table, nodes, labels, roots, states) {
+    match next_part(
+        h,
+        plan,
+        rules,
+        node_table,
+        state_table,
+        nodes,
+        labels,
+        roots,
+        states,
+    ) {
         Climbed::Reached(found) => {
             return handled(h, rules, found.state, found.links);
         }
@@ -162,7 +180,13 @@ fn next_step<'a>(
 
 impl Session {
     // Handles the next part. The record is made at one place, so that it is copied once.
-    pub fn advance(self, plan: &[u8], rules: &[u8], node_table: &[u16], state_table: &[u8]) -> Advanced
+    pub fn advance(
+        self,
+        plan: &[u8],
+        rules: &[u8],
+        node_table: &[u16],
+        state_table: &[u8],
+    ) -> Advanced
         ensures { λ r. ⌜
             CallDone self
             (calls.advance (inputsOf (now (plan .entry)) (now (rules .entry)) (now («node_table» .entry)) (now («state_table» .entry))))

@@ -13,7 +13,13 @@ ghost use Rattle.formats.specs.Inputs.{inputsOf};
 
 impl Session {
     // Builds the tables of a plan and rules into the lent buffers.
-    pub fn load(self, plan: &[u8], rules: &[u8], node_table: &mut [u16], state_table: &mut [u8]) -> Called
+    pub fn load(
+        self,
+        plan: &[u8],
+        rules: &[u8],
+        node_table: &mut [u16],
+        state_table: &mut [u8],
+    ) -> Called
         ensures { λ r. ⌜
             LoadDone self
             (inputsOf (now (plan .entry)) (now (rules .entry)) (now («node_table» .entry)) (now («state_table» .entry)))

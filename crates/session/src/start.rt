@@ -75,7 +75,15 @@ impl Session {
         let n = h.sizes.n as usize;
         let s = h.sizes.s as usize;
         let k = h.sizes.k as usize;
-        if !rule_buffers_fit(n, s, k, plan.len(), rules.len(), node_table.len(), state_table.len()) {
+        if !rule_buffers_fit(
+            n,
+            s,
+            k,
+            plan.len(),
+            rules.len(),
+            node_table.len(),
+            state_table.len(),
+        ) {
             return Started {
                 answer: StartAnswer::Refused(17),
                 session: self,

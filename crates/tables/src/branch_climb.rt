@@ -155,7 +155,19 @@ pub fn compose_climb(
     let mut here: usize = 0;
     let mut links: u32 = 0;
     while to < depth_at(node_table, v) {
-        let x = compose_move(maps, here, labels, steps, node_table, state_table, n, s, k, v, to);
+        let x = compose_move(
+            maps,
+            here,
+            labels,
+            steps,
+            node_table,
+            state_table,
+            n,
+            s,
+            k,
+            v,
+            to,
+        );
         if !x.ok {
             return Composed {
                 ok: false,

@@ -42,7 +42,12 @@ fn write_tables(
 }
 
 // Builds the tables of a plan and a rule table into the lent buffers, or refuses and alters nothing.
-pub fn build_tables(plan: &[u8], rules: &[u8], node_table: &mut [u16], state_table: &mut [u8]) -> Building
+pub fn build_tables(
+    plan: &[u8],
+    rules: &[u8],
+    node_table: &mut [u16],
+    state_table: &mut [u8],
+) -> Building
     ensures { λ a. ⌜
         BuildDone
         (firstNo (buildChecks (now (plan .entry)) (now (rules .entry))

@@ -30,7 +30,16 @@ fn map_is(
     if (node_table[v * 4 + 1] as usize) == p {
         return near_row_is(state_table, s, v, inner, base, step);
     }
-    far_row_is(state_table, s, v, p, node_table[p * 4 + 1] as usize, inner, base, step)
+    far_row_is(
+        state_table,
+        s,
+        v,
+        p,
+        node_table[p * 4 + 1] as usize,
+        inner,
+        base,
+        step,
+    )
 }
 
 // Whether each node's map is the one to its jump. Those below a wrong one are not looked at: they would be read from it.

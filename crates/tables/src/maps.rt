@@ -107,7 +107,14 @@ fn fill_map(
 }
 
 // Writes each node's map.
-pub fn fill_maps(labels: &[u8], node_table: &[u16], inner: &[u8], s: usize, k: usize, state_table: &mut [u8])
+pub fn fill_maps(
+    labels: &[u8],
+    node_table: &[u16],
+    inner: &[u8],
+    s: usize,
+    k: usize,
+    state_table: &mut [u8],
+)
     requires { ⌜ MapArgs (now labels) (now «node_table») (now inner) s k (now «state_table») ⌝ }
     ensures { λ _. ⌜
         Maps (now (labels .entry)) (now («node_table» .entry)) (now (inner .entry)) s k 0

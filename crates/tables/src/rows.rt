@@ -4,7 +4,14 @@ ghost use lib.ListN.{length, getD};
 ghost use Rattle.tables.specs.inner.Rows.{Rowed, NearArgs, FarArgs, SameArgs, farCell};
 
 // Node v's map, from a table of states: entry q is the table's at base + q * stride.
-pub fn near_row(state_table: &mut [u8], s: usize, v: usize, table: &[u8], base: usize, stride: usize)
+pub fn near_row(
+    state_table: &mut [u8],
+    s: usize,
+    v: usize,
+    table: &[u8],
+    base: usize,
+    stride: usize,
+)
     requires { ⌜ NearArgs (length (now «state_table»)) s v (length (now table)) base stride ⌝ }
     ensures { λ _. ⌜
         Rowed s (λ q. getD (now (table .entry)) (base + q * stride) 0) v (now («state_table» .entry)) (now («state_table» .exit)) ⌝ }

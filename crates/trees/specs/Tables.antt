@@ -19,7 +19,6 @@ use Rattle.trees.specs.Numbering.{sub, parent, depth, labelsDown}
 use Rattle.trees.specs.Jumps.{jump}
 use Rattle.trees.specs.Climb.{walk}
 
-
 -- "16-bit numbers, four for each node in node order (parent, jump, depth, size of its subtree)"
 abbrev pub nodeRow : Tree → ℕ → List ℕ
 nodeRow t v = parent t v ∷ jump t v ∷ depth t v ∷ size (sub t v) ∷ []

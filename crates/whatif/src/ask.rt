@@ -9,7 +9,13 @@ ghost use Rattle.formats.specs.Inputs.{inputsOf};
 ghost use Rattle.whatif.specs.Asked.{mostParts, finishedIn, askedOn};
 
 // Advances until finished, and reads.
-fn finish(started: Session, plan: &[u8], rules: &[u8], node_table: &[u16], state_table: &[u8]) -> ReadAnswer
+fn finish(
+    started: Session,
+    plan: &[u8],
+    rules: &[u8],
+    node_table: &[u16],
+    state_table: &[u8],
+) -> ReadAnswer
     ensures { λ r. ⌜
         readAnswer r
         ≡ finishedIn mostParts started (inputsOf (now (plan .entry)) (now (rules .entry)) (now («node_table» .entry)) (now («state_table» .entry))) ⌝ }

@@ -46,7 +46,15 @@ fn put_answer(
     let last = 2 + 3 * k;
     let nodes = nodes_in(&asked[2..last]);
     let labels = labels_in(&asked[2..last]);
-    let answer = ask(loaded, plan, rules, node_table, state_table, &nodes[..k], &labels[..k]);
+    let answer = ask(
+        loaded,
+        plan,
+        rules,
+        node_table,
+        state_table,
+        &nodes[..k],
+        &labels[..k],
+    );
     put_line(out, end, answer)
 }
 
@@ -77,7 +85,16 @@ fn take_byte(
     if more != question_length(asked) {
         return Taken { have: more, end };
     }
-    let next = put_answer(loaded, plan, rules, node_table, state_table, asked, out, end);
+    let next = put_answer(
+        loaded,
+        plan,
+        rules,
+        node_table,
+        state_table,
+        asked,
+        out,
+        end,
+    );
     Taken { have: 0, end: next }
 }
 

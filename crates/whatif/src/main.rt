@@ -14,7 +14,6 @@ mod text;
 
 use chunk::take_in;
 use input::asked_space;
-use input::state_table_space;
 use input::chunk_space;
 use input::is_too_large;
 use input::length_at;
@@ -23,6 +22,7 @@ use input::plan_space;
 use input::read_some;
 use input::read_whole;
 use input::rules_space;
+use input::state_table_space;
 use libc::STDIN_FILENO;
 use libc::STDOUT_FILENO;
 use line::put_refused;
@@ -97,7 +97,16 @@ fn put_questions(
     let mut have = 0;
     let mut left = stated;
     while left > 0 {
-        let turn = some_questions(loaded, plan, rules, node_table, state_table, &mut asked, have, left);
+        let turn = some_questions(
+            loaded,
+            plan,
+            rules,
+            node_table,
+            state_table,
+            &mut asked,
+            have,
+            left,
+        );
         if turn.came == 0 {
             return;
         }
