@@ -19,7 +19,7 @@ use Rattle.list_laws.proofs.BoolLaws.{and-left, and-no-right}
 use Rattle.session.specs.declared.state.Phase.{Phase}
 use Rattle.session.specs.declared.state.Phase.the-variants.{Empty, Loaded, Running, Answered}
 use Rattle.session.specs.Records.{sizesFit, noQuestion, listFits, partsFit, questionFits, zeroFrom, risesTo, validIn, valid}
-use Rattle.session.specs.inner.Shapes.{Shaped, PartsShaped}
+use Rattle.session.specs.inner.Shapes.{PartsShaped}
 
 pub sizes-test : (z : Sizes)
     → (ltb 0 (z .n) && leb (z .n) 65535 && ltb 0 (z .s) && leb (z .s) 16 && ltb 0 (z .k) && leb (z .k) 64) ≡ sizesFit z
@@ -88,10 +88,11 @@ module _ (s : Session) where
   sizes-some e = let z = s .head .sizes in within-low 1 65535 (z .n) (and-left (within 1 65535 (z .n)) _ e)
 
   module _ (b : Bool) (sizes : b ≡ sizesFit (s .head .sizes)) where
-    pub parted : Shaped s → not b ≡ false → s .head .handled ≤ s .head .parts → PartsShaped (s .head) (s .roots) (s .states)
-    parted z f h = record {
-      roots = z .roots;
-      states = z .states;
+    pub parted : length (s .roots) ≡ 254 → length (s .states) ≡ 254 → not b ≡ false → s .head .handled ≤ s .head .parts
+        → PartsShaped (s .head) (s .roots) (s .states)
+    parted r q f h = record {
+      roots = r;
+      states = q;
       some-node = sizes-some (sym sizes ∙ not-false b f);
       counted = h;
     }

@@ -129,10 +129,10 @@ fn next_step<'a>(
     rules: &[u8],
     node_table: &[u16],
     state_table: &[u8],
-    nodes: &'a [u16],
-    labels: &'a [u8],
-    roots: &'a [u16],
-    states: &'a [u8],
+    nodes: &'a [u16; 64],
+    labels: &'a [u8; 64],
+    roots: &'a [u16; 254],
+    states: &'a [u8; 254],
 ) -> AdvanceStep
     requires { ⌜ Shaped (whole h (now nodes) (now labels) (now roots) (now states)) ⌝ }
     ensures { λ r. ⌜

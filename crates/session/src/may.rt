@@ -8,7 +8,6 @@ ghost use mathlib.Core.Path.{_≡_};
 ghost use mathlib.Core.Bool.{_&&_};
 ghost use Rattle.model.specs.Calls.{mayLoad, mayStart, isRunning, isAnswered};
 ghost use Rattle.session.specs.Records.{phaseOf, whole, valid};
-ghost use Rattle.session.specs.inner.Shapes.{Shaped};
 
 // Load: unless running.
 pub fn may_load(phase: Phase) -> bool
@@ -63,12 +62,11 @@ pub fn may_read(phase: Phase) -> bool
 pub fn allowed<'a>(
     may: bool,
     h: Head,
-    nodes: &'a [u16],
-    labels: &'a [u8],
-    roots: &'a [u16],
-    states: &'a [u8],
+    nodes: &'a [u16; 64],
+    labels: &'a [u8; 64],
+    roots: &'a [u16; 254],
+    states: &'a [u8; 254],
 ) -> bool
-    requires { ⌜ Shaped (whole h (now nodes) (now labels) (now roots) (now states)) ⌝ }
     ensures { λ r. ⌜ r
         ≡ (valid (whole h (now (nodes .entry)) (now (labels .entry)) (now (roots .entry)) (now (states .entry))) && may) ⌝ }
 {

@@ -1,5 +1,6 @@
 // Whether a struct can be a session's: the conditions of docs/LAYOUT.md, by the state that it is in.
-// The record is given as its head and its four arrays, lent.
+// The record is given as its head and its four arrays, lent: as arrays, so that their lengths are constants.
+// `list_fits` and `parts_fit` test parts of them, and take slices.
 //     sizes_fit, no_question, list_fits, parts_fit, question_fits   parts of the conditions
 //     fits                                                          all of them
 use crate::lists::below;
@@ -13,7 +14,7 @@ ghost use mathlib.Core.Path.{_≡_};
 ghost use mathlib.Core.List.{List};
 ghost use Prim.Native.Nat.{ℕ};
 ghost use Rattle.session.specs.Records.{whole, sizesFit, noQuestion, listFits, partsFit, questionFits, valid};
-ghost use Rattle.session.specs.inner.Shapes.{Shaped, ListShaped, PartsShaped};
+ghost use Rattle.session.specs.inner.Shapes.{ListShaped, PartsShaped};
 
 // N, S and K in their limits.
 fn sizes_fit(z: Sizes) -> bool
@@ -28,7 +29,13 @@ fn sizes_fit(z: Sizes) -> bool
 }
 
 // Nothing listed, no part, no state, no link, no yes.
-fn no_question(h: Head, nodes: &[u16], labels: &[u8], roots: &[u16], states: &[u8]) -> bool
+fn no_question(
+    h: Head,
+    nodes: &[u16; 64],
+    labels: &[u8; 64],
+    roots: &[u16; 254],
+    states: &[u8; 254],
+) -> bool
     ensures { λ r. ⌜ r
         ≡ noQuestion (whole h (now (nodes .entry)) (now (labels .entry)) (now (roots .entry)) (now (states .entry))) ⌝ }
 {
@@ -68,8 +75,13 @@ fn parts_fit(h: Head, roots: &[u16], states: &[u8]) -> bool
 }
 
 // A question: sizes, changes and parts, and no more parts handled than there are.
-fn question_fits(h: Head, nodes: &[u16], labels: &[u8], roots: &[u16], states: &[u8]) -> bool
-    requires { ⌜ Shaped (whole h (now nodes) (now labels) (now roots) (now states)) ⌝ }
+fn question_fits(
+    h: Head,
+    nodes: &[u16; 64],
+    labels: &[u8; 64],
+    roots: &[u16; 254],
+    states: &[u8; 254],
+) -> bool
     ensures { λ r. ⌜ r
         ≡ questionFits (whole h (now (nodes .entry)) (now (labels .entry)) (now (roots .entry)) (now (states .entry))) ⌝ }
 {
@@ -85,12 +97,11 @@ fn question_fits(h: Head, nodes: &[u16], labels: &[u8], roots: &[u16], states: &
 // The record is valid, by its state.
 pub fn fits<'a>(
     h: Head,
-    nodes: &'a [u16],
-    labels: &'a [u8],
-    roots: &'a [u16],
-    states: &'a [u8],
+    nodes: &'a [u16; 64],
+    labels: &'a [u8; 64],
+    roots: &'a [u16; 254],
+    states: &'a [u8; 254],
 ) -> bool
-    requires { ⌜ Shaped (whole h (now nodes) (now labels) (now roots) (now states)) ⌝ }
     ensures { λ r. ⌜ r
         ≡ valid (whole h (now (nodes .entry)) (now (labels .entry)) (now (roots .entry)) (now (states .entry))) ⌝ }
 {

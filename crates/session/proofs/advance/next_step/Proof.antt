@@ -16,7 +16,7 @@ use Rattle.session.proofs.advance.next_step.Statement.{statement}
 use Rattle.session.proofs.advance.next_step.Tie as tie
 
 abbrev at : tie.After-allowed → tie.Start
-at a = a .before .before .before .before .before .before .before .before .before .before
+at a = a .before .before .before .before .before .before
 
 abbrev of : tie.After-allowed → Session
 of a =
@@ -73,7 +73,7 @@ returns-2 c =
 
 next-part-requires : tie.Need-next-part-requires
 next-part-requires c κs =
-    let k = c .before in
+    let k = c .before .before .before .before .before in
     let e = k .before .before .before .before in
     let m = e .before in
     next-args (of m) (at m .pre) (lent m) _ (may m) (e .if1 .left)
@@ -85,7 +85,7 @@ handled-requires : tie.Need-handled-requires
 handled-requires c κs =
     let f = c .before in
     let p = f .before .before in
-    let t = p .before in
+    let t = p .before .before .before .before .before in
     let k = t .before in
     let e = k .before .before .before .before in
     let m = e .before in
@@ -96,7 +96,7 @@ returns-3 : tie.Need-returns-3
 returns-3 c =
     let f = c .before .before in
     let p = f .before .before in
-    let t = p .before in
+    let t = p .before .before .before .before .before in
     let k = t .before in
     let e = k .before .before .before .before in
     let m = e .before in
@@ -113,7 +113,7 @@ returns-4 : tie.Need-returns-4
 returns-4 c =
     let i = c .before in
     let p = i .before .before in
-    let t = p .before in
+    let t = p .before .before .before .before .before in
     let k = t .before in
     let e = k .before .before .before .before in
     let m = e .before in

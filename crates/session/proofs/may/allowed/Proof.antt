@@ -11,7 +11,7 @@ abbrev of : tie.Start → Session
 of a = whole (a .args .h) (a .args .nodes .now) (a .args .labels .now) (a .args .roots .now) (a .args .states .now)
 
 returns : tie.Need-returns
-returns c = allowed-no (valid (of (c .before .before .before .before .before))) _ (c .if1 .taken)
+returns c = allowed-no (valid (of (c .before))) _ (c .if1 .taken)
 
 fits-requires : tie.Need-fits-requires
 fits-requires c κs = search needs

@@ -12,14 +12,14 @@ abbrev of : tie.Start → Session
 of a = whole (a .args .h) (a .args .nodes .now) (a .args .labels .now) (a .args .roots .now) (a .args .states .now)
 
 abbrev at : tie.Else1 → tie.Start
-at a = a .before .before .before .before .before .before
+at a = a .before .before
 
 sizes-fit-requires : tie.Need-sizes-fit-requires
 sizes-fit-requires c κs = search needs
 
 returns : tie.Need-returns
 returns c =
-    question-sizes (of (c .before .before .before .before .before .before)) _ (c .before .sizes-fit .ensures) (c .if1 .taken)
+    question-sizes (of (c .before .before)) _ (c .before .sizes-fit .ensures) (c .if1 .taken)
 
 returns-2 : tie.Need-returns-2
 returns-2 c = question-counts (of (at (c .before .before))) (c .if2 .taken)
@@ -29,13 +29,15 @@ list-fits-requires c κs = search needs
 
 parts-fit-requires : tie.Need-parts-fit-requires
 parts-fit-requires c κs =
-    let e = c .before .before .before in
-    parted (of (at e)) _ (e .before .sizes-fit .ensures) (at e .pre) (e .if1 .left) (omega arith)
+    let r = c .before in
+    let e = r .before .before .before .before .before .before in
+    parted (of (at e)) _ (e .before .sizes-fit .ensures) (r .parts-fit-arg .given .0) (c .parts-fit-arg2 .given .0)
+    (e .if1 .left) (omega arith)
 
 returns-3 : tie.Need-returns-3
 returns-3 c =
-    let l = c .before in
-    let e = l .before .before .before in
+    let l = c .before .before .before in
+    let e = l .before .before .before .before .before in
     question-fits (of (at e)) _ (e .before .sizes-fit .ensures) (e .if1 .left) _ _ (l .list-fits .ensures _ _)
     (c .parts-fit .ensures _ _) (omega arith)
 

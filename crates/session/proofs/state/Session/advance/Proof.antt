@@ -15,7 +15,7 @@ abbrev stepped : tie.After-struct-known → tie.After-next-step
 stepped a = a .before .before .before .before .before
 
 abbrev of : tie.After-next-step → tie.Start
-of a = a .before .before .before .before .before .before .before .before .before .before .before .before .before .before .before
+of a = a .before .before .before .before .before .before .before .before .before .before .before
 
 abbrev lent : tie.Start → Inputs
 lent c = inputsOf (c .args .plan .now) (c .args .rules .now) (c .args .node-table .now) (c .args .state-table .now)

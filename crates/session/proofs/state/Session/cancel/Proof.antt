@@ -17,7 +17,7 @@ shape c = shaped (c .args .t1) (c .good .0)
 
 -- where the state was tested, and the call's beginning
 abbrev tested : tie.After-allowed → tie.After-may-advance
-tested m = m .before .before .before .before .before .before .before .before .before .before
+tested m = m .before .before .before .before .before .before
 
 abbrev of : tie.After-allowed → tie.Start
 of m = tested m .before .before

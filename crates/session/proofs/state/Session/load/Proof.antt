@@ -22,7 +22,7 @@ lent c = inputsOf (c .args .plan .now) (c .args .rules .now) (c .args .node-tabl
 
 -- where the state was tested, and the call's beginning
 abbrev tested : tie.After-allowed → tie.After-may-load
-tested m = m .before .before .before .before .before .before .before .before .before .before
+tested m = m .before .before .before .before .before .before
 
 abbrev of : tie.After-allowed → tie.Start
 of m = tested m .before .before .before .before .before .before

@@ -18,7 +18,7 @@ shape c = shaped (c .args .t1) (c .good .0)
 
 -- where the state was tested, and the call's beginning
 abbrev tested : tie.After-allowed → tie.After-may-read
-tested m = m .before .before .before .before .before .before .before .before .before .before
+tested m = m .before .before .before .before .before .before
 
 abbrev of : tie.After-allowed → tie.Start
 of m = tested m .before .before
@@ -47,8 +47,8 @@ sub-last c =
     let m = e .before in
     counted (of m .args .t1) (shape (of m)) _ (may m) (e .if1 .left) .0
 
-array-read-t23 : tie.Need-array-read-t23
-array-read-t23 c =
+array-read-t19 : tie.Need-array-read-t19
+array-read-t19 c =
     let e = c .before .before in
     let m = e .before in
     let k = counted (of m .args .t1) (shape (of m)) _ (may m) (e .if1 .left) in
@@ -62,4 +62,4 @@ returns-2 c =
 
 pub read-spec : {M : Type 1} → statement M
 read-spec =
-    tie.close (tie.spec may-read-requires allowed-requires returns cast-last sub-last array-read-t23 returns-2)
+    tie.close (tie.spec may-read-requires allowed-requires returns cast-last sub-last array-read-t19 returns-2)
