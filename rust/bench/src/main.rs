@@ -8,6 +8,8 @@
 
 mod calls;
 mod cases;
+#[cfg(feature = "probes")]
+mod in_place;
 mod measure;
 #[cfg(feature = "probes")]
 mod places;
@@ -26,8 +28,10 @@ const USAGE: &str = "usage: bench                      the whole table, in some 
        bench --markdown FILE      the table as Markdown, between the two lines of FILE that mark its place
        bench plot FILE.svg        time of a question and of a fresh run over N
        bench calls SHAPE N S M    nothing but 20 calls of each kind; bench/instructions counts their instructions
+       bench in-place --seed S --count C
+                                  nothing is measured: C cases of calls in place against the same calls on record bytes
        bench --help
-Without the feature 'probes' roots, part and the rows in place are missing.";
+Without the feature 'probes' roots, part, the rows in place and 'in-place' are missing.";
 
 fn main() {
     let words: Vec<String> = std::env::args().skip(1).collect();
@@ -39,6 +43,14 @@ fn main() {
         ["plot", file] => std::fs::write(file, plot::svg()).expect(file),
         ["calls", shape, n, s, m] => {
             calls::make(shape, [n, s, m].map(|number| number.parse().unwrap_or_else(|_| usage())))
+        }
+        #[cfg(feature = "probes")]
+        ["in-place", "--seed", seed, "--count", count] => {
+            let [seed, count] = [seed, count].map(|number| number.parse().unwrap_or_else(|_| usage()));
+            if let Err(found) = in_place::compare(seed, count) {
+                eprintln!("{}", found);
+                exit(1);
+            }
         }
         ["--help"] => println!("{}", USAGE),
         _ => usage(),

@@ -1,7 +1,7 @@
 //! Work below the exported calls: roots and one part alone, and the session in place, without the record's bytes.
 //!
-//! In place stands for the library's calls by value in one loop (crates/probes), which make the same copies; the plain
-//! side alters a struct where it is. Both begin with a loaded record made anew. An advance is what Start and all
+//! In place are the library's calls on a session that they alter where it is, one after the other (crates/probes); the
+//! plain side alters a struct likewise. Both begin with a loaded session made anew. An advance is what Start and all
 //! advances of a question take, less what Start takes.
 
 use crate::cases::List;
@@ -100,7 +100,7 @@ fn yardstick_steps(one: &One, (nodes, labels): &List, advances: bool) -> u32 {
 fn start(set: &Set) -> Pair {
     set.told(
         |one, list| {
-            let told = probes::steps(one, list, 0);
+            let told = probes::steps(one.sizes(), &one.lent(), list, 0);
             told.parts + 256 * told.links
         },
         |one, list| yardstick_steps(one, list, false),
@@ -108,13 +108,17 @@ fn start(set: &Set) -> Pair {
 }
 
 fn advance(set: &Set) -> Pair {
-    let parts: Vec<u32> = set.lists.iter().map(|(at, list)| probes::steps(&set.plans[*at], list, 0).parts).collect();
+    let steps = |at: usize, list: &List, count: u32| {
+        let one = &set.plans[at];
+        probes::steps(one.sizes(), &one.lent(), list, count)
+    };
+    let parts: Vec<u32> = set.lists.iter().map(|(at, list)| steps(*at, list, 0).parts).collect();
     let library = |advances: bool| -> u32 {
-        let steps = |((at, list), count): (&(usize, List), &u32)| {
-            let told = probes::steps(&set.plans[*at], list, if advances { *count } else { 0 });
+        let one = |((at, list), count): (&(usize, List), &u32)| {
+            let told = steps(*at, list, if advances { *count } else { 0 });
             told.parts + 256 * told.links
         };
-        set.lists.iter().zip(&parts).map(steps).sum()
+        set.lists.iter().zip(&parts).map(one).sum()
     };
     let yardstick = |advances: bool| set.sum(|one, list| yardstick_steps(one, list, advances));
     assert_eq!(library(true), yardstick(true), "both tell the same");
@@ -130,7 +134,7 @@ fn advance(set: &Set) -> Pair {
 }
 
 fn ask(one: &One, list: &List) -> u32 {
-    let told = probes::question(one, list);
+    let told = probes::question(one.sizes(), &one.lent(), list);
     told.state + 16 * u32::from(told.yes) + 32 * told.links + told.parts
 }
 

@@ -1,7 +1,9 @@
-//! The functions of libprobes.a (crates/probes): roots, one part, Start with some advances, a whole question by value.
+//! The functions of libprobes.a (crates/probes): roots and one part; and, made of the calls in place, Start with some
+//! advances, a whole question and a life of a session.
 
 use crate::cases::List;
 use crate::sessions::One;
+use whatif::Lent;
 
 #[repr(C)]
 struct RawPart {
@@ -9,18 +11,32 @@ struct RawPart {
     links: u32,
 }
 
+/// A question's parts (0 where Start is refused), and its links so far.
+#[derive(Clone, Copy, Debug, PartialEq, Eq)]
 #[repr(C)]
 pub struct Steps {
     pub parts: u32,
     pub links: u32,
 }
 
+/// What Read tells; state 16 and zeros where it is refused.
+#[derive(Clone, Copy, Debug, PartialEq, Eq)]
 #[repr(C)]
 pub struct Question {
     pub state: u32,
     pub yes: bool,
     pub parts: u32,
     pub links: u32,
+}
+
+/// The numbers of Load and Cancel, the parts that the first Start tells (0 where it is refused), and the question again.
+#[derive(Clone, Copy, Debug, PartialEq, Eq)]
+#[repr(C)]
+pub struct Life {
+    pub load: u32,
+    pub parts: u32,
+    pub cancel: u32,
+    pub again: Question,
 }
 
 // A slice is a pointer, then its count of elements.
@@ -92,6 +108,21 @@ extern "C" {
         labels: *const u8,
         labels_len: usize,
     ) -> Question;
+
+    fn probe_life(
+        plan: *const u8,
+        plan_len: usize,
+        rules: *const u8,
+        rules_len: usize,
+        node_table: *mut u16,
+        node_table_len: usize,
+        state_table: *mut u8,
+        state_table_len: usize,
+        nodes: *const u16,
+        nodes_len: usize,
+        labels: *const u8,
+        labels_len: usize,
+    ) -> Life;
 }
 
 pub fn roots(one: &One, nodes: &[u16], out: &mut [u16; 254]) -> usize {
@@ -130,19 +161,27 @@ pub fn part(one: &One, roots: &[u16], states: &[u8], (nodes, labels): &List) -> 
     (told.state, told.links)
 }
 
+/// N, S and K of a loaded session.
+#[derive(Clone, Copy, Debug)]
+pub struct Sizes {
+    pub n: u16,
+    pub s: u8,
+    pub k: u8,
+}
+
 /// Start on a loaded session, then `count` advances.
-pub fn steps(one: &One, (nodes, labels): &List, count: u32) -> Steps {
-    let (case, node_table, state_table) = (&one.case, &one.node_table, &one.state_table);
+pub fn steps(sizes: Sizes, lent: &Lent, (nodes, labels): &List, count: u32) -> Steps {
+    let Lent { plan, rules, node_table, state_table } = *lent;
     // SAFETY: each pointer comes with its own slice's length
     unsafe {
         probe_steps(
-            case.n as u16,
-            case.s as u8,
-            case.k as u8,
-            case.plan.as_ptr(),
-            case.plan.len(),
-            case.rules.as_ptr(),
-            case.rules.len(),
+            sizes.n,
+            sizes.s,
+            sizes.k,
+            plan.as_ptr(),
+            plan.len(),
+            rules.as_ptr(),
+            rules.len(),
             node_table.as_ptr(),
             node_table.len(),
             state_table.as_ptr(),
@@ -156,22 +195,43 @@ pub fn steps(one: &One, (nodes, labels): &List, count: u32) -> Steps {
     }
 }
 
-/// A whole question on a loaded session.
-pub fn question(one: &One, (nodes, labels): &List) -> Question {
-    let (case, node_table, state_table) = (&one.case, &one.node_table, &one.state_table);
+/// A whole question on a loaded session: Start, as many advances as it has parts, Read.
+pub fn question(sizes: Sizes, lent: &Lent, (nodes, labels): &List) -> Question {
+    let Lent { plan, rules, node_table, state_table } = *lent;
     // SAFETY: each pointer comes with its own slice's length
     unsafe {
         probe_question(
-            case.n as u16,
-            case.s as u8,
-            case.k as u8,
-            case.plan.as_ptr(),
-            case.plan.len(),
-            case.rules.as_ptr(),
-            case.rules.len(),
+            sizes.n,
+            sizes.s,
+            sizes.k,
+            plan.as_ptr(),
+            plan.len(),
+            rules.as_ptr(),
+            rules.len(),
             node_table.as_ptr(),
             node_table.len(),
             state_table.as_ptr(),
+            state_table.len(),
+            nodes.as_ptr(),
+            nodes.len(),
+            labels.as_ptr(),
+            labels.len(),
+        )
+    }
+}
+
+/// A fresh session: Load, Start, Cancel, and the question again.
+pub fn life(plan: &[u8], rules: &[u8], node_table: &mut [u16], state_table: &mut [u8], (nodes, labels): &List) -> Life {
+    // SAFETY: each pointer comes with its own slice's length, and the borrows keep the buffers apart
+    unsafe {
+        probe_life(
+            plan.as_ptr(),
+            plan.len(),
+            rules.as_ptr(),
+            rules.len(),
+            node_table.as_mut_ptr(),
+            node_table.len(),
+            state_table.as_mut_ptr(),
             state_table.len(),
             nodes.as_ptr(),
             nodes.len(),

@@ -30,7 +30,12 @@ impl One {
         One { case, node_table, state_table, loaded }
     }
 
-    fn lent(&self) -> Lent<'_> {
+    #[cfg(feature = "probes")]
+    pub fn sizes(&self) -> crate::probes::Sizes {
+        crate::probes::Sizes { n: self.case.n as u16, s: self.case.s as u8, k: self.case.k as u8 }
+    }
+
+    pub fn lent(&self) -> Lent<'_> {
         let Case { plan, rules, .. } = &self.case;
         Lent { plan, rules, node_table: &self.node_table, state_table: &self.state_table }
     }
