@@ -86,30 +86,12 @@ add-labels c = omega (
   c .before .before .read32 .ensures,
 )
 
-sub-labels : tie.Need-sub-labels
-sub-labels c = search needs
-
-part-labels-start : tie.Need-part-labels-start
-part-labels-start c = search needs
-
 part-labels-end : tie.Need-part-labels-end
 part-labels-end c = omega (
   arith,
   fit (c .before .before .before .before .before .before .before) .plan-exact,
   c .before .before .read32 .ensures,
 )
-
-mul-steps : tie.Need-mul-steps
-mul-steps c = omega (arith, steps-end (c .before))
-
-add-steps : tie.Need-add-steps
-add-steps c = omega (arith, steps-end (c .before))
-
-sub-steps : tie.Need-sub-steps
-sub-steps c = search needs
-
-part-steps-start : tie.Need-part-steps-start
-part-steps-start c = search needs
 
 part-steps-end : tie.Need-part-steps-end
 part-steps-end c = steps-end (c .before)
@@ -121,9 +103,6 @@ depth-at-requires c κs =
       c .before .before .before .before .before .before .before .before .before .pre .upper,
       fit (c .before .before .before .before .before .before .before .before .before) .node-table-room,
     )
-
-slice-aggregate-compose-climb : tie.Need-slice-aggregate-compose-climb
-slice-aggregate-compose-climb c = search needs
 
 compose-climb-requires : tie.Need-compose-climb-requires
 compose-climb-requires c κs =
@@ -149,12 +128,6 @@ sub-finish-answer c = steps-end (c .before .before .before .before .before .befo
 part-finish-answer-start : tie.Need-part-finish-answer-start
 part-finish-answer-start c = steps-end (c .before .before .before .before .before .before .before .before)
 
-part-finish-answer-end : tie.Need-part-finish-answer-end
-part-finish-answer-end c = search needs
-
-slice-aggregate-finish-answer : tie.Need-slice-aggregate-finish-answer
-slice-aggregate-finish-answer c = search needs
-
 finish-answer-requires : tie.Need-finish-answer-requires
 finish-answer-requires c κs =
     let x = c .before .before .before .before .before in
@@ -178,23 +151,23 @@ answer-branch-spec =
     read32-requires-2
     read32-requires-3
     add-labels
-    sub-labels
-    part-labels-start
+    (λ c. search needs)
+    (λ c. search needs)
     part-labels-end
-    mul-steps
-    add-steps
-    sub-steps
-    part-steps-start
+    (λ c. omega (arith, steps-end (c .before)))
+    (λ c. omega (arith, steps-end (c .before)))
+    (λ c. search needs)
+    (λ c. search needs)
     part-steps-end
     depth-at-requires
-    slice-aggregate-compose-climb
+    (λ c. search needs)
     compose-climb-requires
     returns
     mul-finish-answer
     add-finish-answer
     sub-finish-answer
     part-finish-answer-start
-    part-finish-answer-end
-    slice-aggregate-finish-answer
+    (λ c. search needs)
+    (λ c. search needs)
     finish-answer-requires
     returns-2)

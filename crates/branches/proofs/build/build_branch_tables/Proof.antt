@@ -21,9 +21,6 @@ accepts : (c : tie.Else1) → let g = c .before .before .before .before .before 
 accepts c = let g = c .before .before .before .before .before .before .args in
     accepted (g .plan .now) (g .branch .now) (length (g .node-table .now)) (length (g .state-table .now)) (passed c)
 
-check-branch-build-requires : tie.Need-check-branch-build-requires
-check-branch-build-requires c κs = search needs
-
 returns : tie.Need-returns
 returns c =
     let g = c .before .before .before .before .before .before .args in
@@ -32,15 +29,6 @@ returns c =
     (g .state-table .now) _
     (r .result) (r .ensures) (c .if1 .taken)
 
-read32-requires : tie.Need-read32-requires
-read32-requires c κs = omega (arith, accepts c .0 .long)
-
-read32-requires-2 : tie.Need-read32-requires-2
-read32-requires-2 c κs = omega (arith, accepts (c .before) .1 .long)
-
-read32-requires-3 : tie.Need-read32-requires-3
-read32-requires-3 c κs = omega (arith, accepts (c .before .before) .1 .long)
-
 write-branch-requires : tie.Need-write-branch-requires
 write-branch-requires c κs =
     let i = c .before .before .before .before .before in
@@ -48,12 +36,6 @@ write-branch-requires c κs =
     part-args (g .plan .now) (g .branch .now) (length (g .node-table .now)) (length (g .state-table .now)) (passed i) _ _ _
     (c .before .before .before .before .read32 .ensures) (c .before .before .before .read322 .ensures)
     (c .before .before .read323 .ensures)
-
-same-length : tie.Need-same-length
-same-length c = search needs
-
-same-length-2 : tie.Need-same-length-2
-same-length-2 c = search needs
 
 returns-2 : tie.Need-returns-2
 returns-2 c =
@@ -68,12 +50,12 @@ pub build-branch-tables-spec : {M : Type 1} → statement M
 build-branch-tables-spec =
     tie.close
     (tie.spec
-    check-branch-build-requires
+    (λ c κs. search needs)
     returns
-    read32-requires
-    read32-requires-2
-    read32-requires-3
+    (λ c κs. omega (arith, accepts c .0 .long))
+    (λ c κs. omega (arith, accepts (c .before) .1 .long))
+    (λ c κs. omega (arith, accepts (c .before .before) .1 .long))
     write-branch-requires
-    same-length
-    same-length-2
+    (λ c. search needs)
+    (λ c. search needs)
     returns-2)

@@ -6,45 +6,6 @@ use borrow.Author.Needs.{needs}
 use Rattle.branches.proofs.check.branch_matches.Statement.{statement}
 use Rattle.branches.proofs.check.branch_matches.Tie as tie
 
-add-tables-match : tie.Need-add-tables-match
-add-tables-match c = search needs
-
-sub-tables-match : tie.Need-sub-tables-match
-sub-tables-match c = search needs
-
-part-tables-match-start : tie.Need-part-tables-match-start
-part-tables-match-start c = search needs
-
-part-tables-match-end : tie.Need-part-tables-match-end
-part-tables-match-end c = search needs
-
-add-tables-match-2 : tie.Need-add-tables-match-2
-add-tables-match-2 c = search needs
-
-sub-tables-match-2 : tie.Need-sub-tables-match-2
-sub-tables-match-2 c = search needs
-
-part-tables-match-start-2 : tie.Need-part-tables-match-start-2
-part-tables-match-start-2 c = search needs
-
-part-tables-match-end-2 : tie.Need-part-tables-match-end-2
-part-tables-match-end-2 c = search needs
-
-mul-tables-match : tie.Need-mul-tables-match
-mul-tables-match c = search needs
-
-add-tables-match-3 : tie.Need-add-tables-match-3
-add-tables-match-3 c = search needs
-
-sub-tables-match-3 : tie.Need-sub-tables-match-3
-sub-tables-match-3 c = search needs
-
-part-tables-match-start-3 : tie.Need-part-tables-match-start-3
-part-tables-match-start-3 c = search needs
-
-part-tables-match-end-3 : tie.Need-part-tables-match-end-3
-part-tables-match-end-3 c = search needs
-
 tables-match-requires : tie.Need-tables-match-requires
 tables-match-requires c κs =
     let s = c .before .before .before .before .before .before .before in
@@ -64,18 +25,18 @@ pub branch-matches-spec : {M : Type 1} → statement M
 branch-matches-spec =
     tie.close
     (tie.spec
-    add-tables-match
-    sub-tables-match
-    part-tables-match-start
-    part-tables-match-end
-    add-tables-match-2
-    sub-tables-match-2
-    part-tables-match-start-2
-    part-tables-match-end-2
-    mul-tables-match
-    add-tables-match-3
-    sub-tables-match-3
-    part-tables-match-start-3
-    part-tables-match-end-3
+    (λ c. search needs)
+    (λ c. search needs)
+    (λ c. search needs)
+    (λ c. search needs)
+    (λ c. search needs)
+    (λ c. search needs)
+    (λ c. search needs)
+    (λ c. search needs)
+    (λ c. search needs)
+    (λ c. search needs)
+    (λ c. search needs)
+    (λ c. search needs)
+    (λ c. search needs)
     tables-match-requires
     returns)

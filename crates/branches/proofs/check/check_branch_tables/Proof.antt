@@ -21,9 +21,6 @@ accepts : (c : tie.Else1) → let g = c .before .before .before .before .before 
 accepts c = let g = c .before .before .before .before .before .before .args in
     accepted (g .plan .now) (g .branch .now) (length (g .node-table .now)) (length (g .state-table .now)) (passed c)
 
-check-branch-build-requires : tie.Need-check-branch-build-requires
-check-branch-build-requires c κs = search needs
-
 returns : tie.Need-returns
 returns c =
     let g = c .before .before .before .before .before .before .args in
@@ -32,15 +29,6 @@ returns c =
     (firstNo (branchBuildChecks (g .plan .now) (g .branch .now) (length (g .node-table .now)) (length (g .state-table .now))))
     (builtNodeTable (g .plan .now)) (builtBranchTable (g .plan .now) (g .branch .now)) (g .node-table .now) (g .state-table .now)
     (r .result) (r .ensures) (c .if1 .taken)
-
-read32-requires : tie.Need-read32-requires
-read32-requires c κs = omega (arith, accepts c .0 .long)
-
-read32-requires-2 : tie.Need-read32-requires-2
-read32-requires-2 c κs = omega (arith, accepts (c .before) .1 .long)
-
-read32-requires-3 : tie.Need-read32-requires-3
-read32-requires-3 c κs = omega (arith, accepts (c .before .before) .1 .long)
 
 branch-matches-requires : tie.Need-branch-matches-requires
 branch-matches-requires c κs =
@@ -73,11 +61,11 @@ pub check-branch-tables-spec : {M : Type 1} → statement M
 check-branch-tables-spec =
     tie.close
     (tie.spec
-    check-branch-build-requires
+    (λ c κs. search needs)
     returns
-    read32-requires
-    read32-requires-2
-    read32-requires-3
+    (λ c κs. omega (arith, accepts c .0 .long))
+    (λ c κs. omega (arith, accepts (c .before) .1 .long))
+    (λ c κs. omega (arith, accepts (c .before .before) .1 .long))
     branch-matches-requires
     returns-2
     returns-3)

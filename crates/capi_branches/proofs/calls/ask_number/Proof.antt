@@ -7,21 +7,6 @@ use Rattle.capi_branches.proofs.calls.ask_number.Reads as reads
 use Rattle.capi_branches.proofs.calls.ask_number.Lts as lts
 use Rattle.capi_numbers.proofs.numbers.bit.Reads as bit-reads
 
-enum-known-answer : tie.Need-enum-known-answer
-enum-known-answer c = search needs
-
-cast-state : tie.Need-cast-state
-cast-state c = search needs
-
-bit-requires : tie.Need-bit-requires
-bit-requires c κs = search needs
-
-enum-known-answer-2 : tie.Need-enum-known-answer-2
-enum-known-answer-2 c = search needs
-
-cast-result : tie.Need-cast-result
-cast-result c = search needs
-
 returns : tie.Need-returns
 returns c = result _ _ _ _ _ _ _ _ (c .before .before .answer .given .1) (c .bit .ensures)
 
@@ -32,10 +17,10 @@ pub ask-number-spec : {M : Type 1} → statement M
 ask-number-spec =
     tie.close
     (tie.spec
-    enum-known-answer
-    cast-state
-    bit-requires
-    enum-known-answer-2
-    cast-result
+    (λ c. search needs)
+    (λ c. search needs)
+    (λ c κs. search needs)
+    (λ c. search needs)
+    (λ c. search needs)
     returns
     returns-2)

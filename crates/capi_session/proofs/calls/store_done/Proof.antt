@@ -7,24 +7,9 @@ use Rattle.capi_session.proofs.calls.store_done.Reads as reads
 use Rattle.capi_session.proofs.calls.store_done.Lts as lts
 use Rattle.records.proofs.bytes.encode.Reads as encode-reads
 
-enum-told : tie.Need-enum-told
-enum-told c = search needs
-
-encode-requires : tie.Need-encode-requires
-encode-requires c κs = search needs
-
-same-length : tie.Need-same-length
-same-length c = search needs
-
 returns : tie.Need-returns
 returns c = done-stored _ _ _ (c .before .before .before .before .before .before .before .before .pre)
     (c .before .before .before .before .before .enum-told .given .1) (c .before .before .encode .ensures)
-
-enum-known-answer : tie.Need-enum-known-answer
-enum-known-answer c = search needs
-
-cast-result : tie.Need-cast-result
-cast-result c = search needs
 
 returns-2 : tie.Need-returns-2
 returns-2 c = done-refused _ _ _ (c .before .answer .given .1)
@@ -32,4 +17,4 @@ returns-2 c = done-refused _ _ _ (c .before .answer .given .1)
 pub store-done-spec : {M : Type 1} → statement M
 store-done-spec =
     tie.close
-    (tie.spec enum-told encode-requires same-length returns enum-known-answer cast-result returns-2)
+    (tie.spec (λ c. search needs) (λ c κs. search needs) (λ c. search needs) returns (λ c. search needs) (λ c. search needs) returns-2)

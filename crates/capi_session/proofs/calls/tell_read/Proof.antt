@@ -7,28 +7,10 @@ use Rattle.capi_session.proofs.calls.tell_read.Reads as reads
 use Rattle.capi_session.proofs.calls.tell_read.Lts as lts
 use Rattle.capi_numbers.proofs.numbers.bit.Reads as bit-reads
 
-enum-known-answer : tie.Need-enum-known-answer
-enum-known-answer c = search needs
-
-cast-state : tie.Need-cast-state
-cast-state c = search needs
-
-bit-requires : tie.Need-bit-requires
-bit-requires c κs = search needs
-
-cast-parts : tie.Need-cast-parts
-cast-parts c = search needs
-
 returns : tie.Need-returns
 returns c =
     let b = c .before in
     read-in _ _ _ _ (b .before .before .before .answer .given .1) (b .bit .ensures)
-
-enum-known-answer-2 : tie.Need-enum-known-answer-2
-enum-known-answer-2 c = search needs
-
-cast-result : tie.Need-cast-result
-cast-result c = search needs
 
 returns-2 : tie.Need-returns-2
 returns-2 c = read-refused _ _ _ (c .before .answer2 .given .1)
@@ -37,11 +19,11 @@ pub tell-read-spec : {M : Type 1} → statement M
 tell-read-spec =
     tie.close
     (tie.spec
-    enum-known-answer
-    cast-state
-    bit-requires
-    cast-parts
+    (λ c. search needs)
+    (λ c. search needs)
+    (λ c κs. search needs)
+    (λ c. search needs)
     returns
-    enum-known-answer-2
-    cast-result
+    (λ c. search needs)
+    (λ c. search needs)
     returns-2)

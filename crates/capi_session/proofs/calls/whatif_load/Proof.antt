@@ -10,12 +10,6 @@ use Rattle.records.proofs.bytes.decode.Reads as decode-reads
 use Rattle.records.proofs.bytes.laid_out.Reads as laid-out-reads
 use Rattle.session.proofs.state.Session.load.Reads as load-reads
 
-laid-out-requires : tie.Need-laid-out-requires
-laid-out-requires c κs = search needs
-
-same-length : tie.Need-same-length
-same-length c = search needs
-
 returns : tie.Need-returns
 returns c =
     load-not _ _ (refused-laid _ _ (c .before .laid-out .ensures) (c .if1 .taken))
@@ -24,22 +18,10 @@ decode-requires : tie.Need-decode-requires
 decode-requires c κs =
     passed-length _ _ (c .before .before .laid-out .ensures) (c .before .if1 .left)
 
-load-requires : tie.Need-load-requires
-load-requires c κs = search needs
-
 store-done-requires : tie.Need-store-done-requires
 store-done-requires c κs =
     let i = c .before .before .before .before .before .before .before .before .before .before in
     passed-length _ _ (i .before .laid-out .ensures) (i .if1 .left)
-
-same-length-2 : tie.Need-same-length-2
-same-length-2 c = search needs
-
-same-length-3 : tie.Need-same-length-3
-same-length-3 c = search needs
-
-same-length-4 : tie.Need-same-length-4
-same-length-4 c = search needs
 
 returns-2 : tie.Need-returns-2
 returns-2 c =
@@ -53,13 +35,13 @@ pub whatif-load-spec : {M : Type 1} → statement M
 whatif-load-spec =
     tie.close
     (tie.spec
-    laid-out-requires
-    same-length
+    (λ c κs. search needs)
+    (λ c. search needs)
     returns
     decode-requires
-    load-requires
+    (λ c κs. search needs)
     store-done-requires
-    same-length-2
-    same-length-3
-    same-length-4
+    (λ c. search needs)
+    (λ c. search needs)
+    (λ c. search needs)
     returns-2)

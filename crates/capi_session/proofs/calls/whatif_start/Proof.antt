@@ -10,12 +10,6 @@ use Rattle.records.proofs.bytes.decode.Reads as decode-reads
 use Rattle.records.proofs.bytes.laid_out.Reads as laid-out-reads
 use Rattle.session.proofs.state.Session.start.Reads as start-reads
 
-laid-out-requires : tie.Need-laid-out-requires
-laid-out-requires c κs = search needs
-
-same-length : tie.Need-same-length
-same-length c = search needs
-
 returns : tie.Need-returns
 returns c =
     start-not _ _ _ (refused-laid _ _ (c .before .laid-out .ensures) (c .if1 .taken))
@@ -24,15 +18,9 @@ decode-requires : tie.Need-decode-requires
 decode-requires c κs =
     passed-length _ _ (c .before .before .laid-out .ensures) (c .before .if1 .left)
 
-start-requires : tie.Need-start-requires
-start-requires c κs = search needs
-
 store-started-requires : tie.Need-store-started-requires
 store-started-requires c κs =
     passed-length _ _ (c .before .before .before .before .before .before .laid-out .ensures) (c .before .before .before .before .before .if1 .left)
-
-same-length-2 : tie.Need-same-length-2
-same-length-2 c = search needs
 
 returns-2 : tie.Need-returns-2
 returns-2 c =
@@ -45,11 +33,11 @@ pub whatif-start-spec : {M : Type 1} → statement M
 whatif-start-spec =
     tie.close
     (tie.spec
-    laid-out-requires
-    same-length
+    (λ c κs. search needs)
+    (λ c. search needs)
     returns
     decode-requires
-    start-requires
+    (λ c κs. search needs)
     store-started-requires
-    same-length-2
+    (λ c. search needs)
     returns-2)

@@ -15,29 +15,14 @@ yes c = sym (c .before .headers-fit .ensures) ∙ not-false _ (c .if1 .left)
 heads : (c : tie.Else1) → let g = c .before .before .before .before .before .before .args in Headers 16 (g .plan .now) (g .branch .now)
 heads c = headers-are 16 _ _ (yes c)
 
-headers-fit-requires : tie.Need-headers-fit-requires
-headers-fit-requires c κs = search needs
-
 returns : tie.Need-returns
 returns c =
     sym (headers-no _ _ _ _ _ (sym (c .before .headers-fit .ensures) ∙ not-true _ (c .if1 .taken)))
-
-read32-requires : tie.Need-read32-requires
-read32-requires c κs = omega (arith, heads c .plan-long)
-
-read32-requires-2 : tie.Need-read32-requires-2
-read32-requires-2 c κs = omega (arith, heads (c .before) .table-long)
-
-read32-requires-3 : tie.Need-read32-requires-3
-read32-requires-3 c κs = omega (arith, heads (c .before .before) .table-long)
 
 step-count-requires : tie.Need-step-count-requires
 step-count-requires c κs =
     let L = heads (c .before .before .before) .in-limits in
     record { states = omega (arith, L .few); labels = omega (arith, L .labels-most) }
-
-add-exact : tie.Need-add-exact
-add-exact c = omega (arith, c .step-count .ensures .fits)
 
 add-exact-2 : tie.Need-add-exact-2
 add-exact-2 c =
@@ -60,13 +45,13 @@ pub branch-buffers-fit-spec : {M : Type 1} → statement M
 branch-buffers-fit-spec =
     tie.close
     (tie.spec
-    headers-fit-requires
+    (λ c κs. search needs)
     returns
-    read32-requires
-    read32-requires-2
-    read32-requires-3
+    (λ c κs. omega (arith, heads c .plan-long))
+    (λ c κs. omega (arith, heads (c .before) .table-long))
+    (λ c κs. omega (arith, heads (c .before .before) .table-long))
     step-count-requires
-    add-exact
+    (λ c. omega (arith, c .step-count .ensures .fits))
     add-exact-2
     buffers-fit-requires
     returns-2)

@@ -12,18 +12,6 @@ returns c = sym (plan-cut _ _ _ (c .if1 .taken))
 returns-2 : tie.Need-returns-2
 returns-2 c = sym (table-cut _ _ _ (c .before .if1 .left) (c .if2 .taken))
 
-read32-requires : tie.Need-read32-requires
-read32-requires c κs = search needs
-
-read32-requires-2 : tie.Need-read32-requires-2
-read32-requires-2 c κs = search needs
-
-read32-requires-3 : tie.Need-read32-requires-3
-read32-requires-3 c κs = search needs
-
-limits-fit-requires : tie.Need-limits-fit-requires
-limits-fit-requires c κs = search needs
-
 returns-3 : tie.Need-returns-3
 returns-3 c =
     let k = c .before in
@@ -40,8 +28,8 @@ headers-fit-spec =
     (tie.spec
     returns
     returns-2
-    read32-requires
-    read32-requires-2
-    read32-requires-3
-    limits-fit-requires
+    (λ c κs. search needs)
+    (λ c κs. search needs)
+    (λ c κs. search needs)
+    (λ c κs. search needs)
     returns-3)

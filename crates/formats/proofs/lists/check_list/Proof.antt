@@ -4,22 +4,13 @@ use borrow.Author.Needs.{needs}
 use Rattle.formats.proofs.lists.check_list.Statement.{statement}
 use Rattle.formats.proofs.lists.check_list.Tie as tie
 
-lists-fit-requires : tie.Need-lists-fit-requires
-lists-fit-requires c κs = search needs
-
 returns : tie.Need-returns
 returns c = list-12 _ _ _ _ _ (c .before .lists-fit .ensures) (c .if1 .taken)
-
-nodes-below-requires : tie.Need-nodes-below-requires
-nodes-below-requires c κs = search needs
 
 returns-2 : tie.Need-returns-2
 returns-2 c =
     let e = c .before .before in
     list-13 _ _ _ _ _ (e .before .lists-fit .ensures) (e .if1 .left) _ (c .before .nodes-below .ensures) (c .if2 .taken)
-
-labels-below-requires : tie.Need-labels-below-requires
-labels-below-requires c κs = search needs
 
 returns-3 : tie.Need-returns-3
 returns-3 c =
@@ -27,9 +18,6 @@ returns-3 c =
     let e = f .before .before in
     list-14 _ _ _ _ _ (e .before .lists-fit .ensures) (e .if1 .left) _ (f .before .nodes-below .ensures) (f .if2 .left)
     _ (c .before .labels-below .ensures) (c .if3 .taken)
-
-all-distinct-requires : tie.Need-all-distinct-requires
-all-distinct-requires c κs = search needs
 
 returns-4 : tie.Need-returns-4
 returns-4 c =
@@ -51,12 +39,12 @@ pub check-list-spec : {M : Type 1} → statement M
 check-list-spec =
     tie.close
     (tie.spec
-    lists-fit-requires
+    (λ c κs. search needs)
     returns
-    nodes-below-requires
+    (λ c κs. search needs)
     returns-2
-    labels-below-requires
+    (λ c κs. search needs)
     returns-3
-    all-distinct-requires
+    (λ c κs. search needs)
     returns-4
     returns-5)

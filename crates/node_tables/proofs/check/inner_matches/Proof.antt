@@ -8,36 +8,9 @@ use borrow.Author.Needs.{needs}
 use Rattle.node_tables.proofs.check.inner_matches.Statement.{statement}
 use Rattle.node_tables.proofs.check.inner_matches.Tie as tie
 
-mul-if1 : tie.Need-mul-if1
-mul-if1 c = search needs
-
-add-if1 : tie.Need-add-if1
-add-if1 c = search needs
-
-mul-if1-2 : tie.Need-mul-if1-2
-mul-if1-2 c = search needs
-
-shared-slice-read-if1 : tie.Need-shared-slice-read-if1
-shared-slice-read-if1 c = search needs
-
-inner-size-requires : tie.Need-inner-size-requires
-inner-size-requires c κs = search needs
-
 returns : tie.Need-returns
 unfolding innerMatches
 returns c = rw (← c .before .inner-size .ensures, ne-eqb _ _ (c .if1 .taken))
-
-sub-right : tie.Need-sub-right
-sub-right c = search needs
-
-mul-if2 : tie.Need-mul-if2
-mul-if2 c = search needs
-
-mul-if2-2 : tie.Need-mul-if2-2
-mul-if2-2 c = search needs
-
-shared-slice-read-if2 : tie.Need-shared-slice-read-if2
-shared-slice-read-if2 c = search needs
 
 cast-if2 : tie.Need-cast-if2
 cast-if2 c = omega (arith, c .shared-slice-known3 .given ((c .before .before .before .before .before .args .v - 1) * 4))
@@ -48,18 +21,6 @@ returns-2 c =
     let f = c .before .before in
     let e = f .if1 .left ∙ f .before .inner-size .ensures in
     rw (eq-eqb _ _ e, ne-eqb _ _ (c .if2 .taken))
-
-left-child-requires : tie.Need-left-child-requires
-left-child-requires c κs = search needs
-
-mul-result : tie.Need-mul-result
-mul-result c = search needs
-
-mul-result-2 : tie.Need-mul-result-2
-mul-result-2 c = search needs
-
-shared-slice-read-result : tie.Need-shared-slice-read-result
-shared-slice-read-result c = search needs
 
 cast-result : tie.Need-cast-result
 cast-result c =
@@ -76,21 +37,21 @@ pub inner-matches-spec : {M : Type 1} → statement M
 inner-matches-spec =
     tie.close
     (tie.spec
-    mul-if1
-    add-if1
-    mul-if1-2
-    shared-slice-read-if1
-    inner-size-requires
+    (λ c. search needs)
+    (λ c. search needs)
+    (λ c. search needs)
+    (λ c. search needs)
+    (λ c κs. search needs)
     returns
-    sub-right
-    mul-if2
-    mul-if2-2
-    shared-slice-read-if2
+    (λ c. search needs)
+    (λ c. search needs)
+    (λ c. search needs)
+    (λ c. search needs)
     cast-if2
     returns-2
-    left-child-requires
-    mul-result
-    mul-result-2
-    shared-slice-read-result
+    (λ c κs. search needs)
+    (λ c. search needs)
+    (λ c. search needs)
+    (λ c. search needs)
     cast-result
     returns-3)

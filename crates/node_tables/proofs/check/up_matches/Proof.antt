@@ -5,21 +5,6 @@ use borrow.Author.Needs.{needs}
 use Rattle.node_tables.proofs.check.up_matches.Statement.{statement}
 use Rattle.node_tables.proofs.check.up_matches.Tie as tie
 
-shared-slice-read-if1 : tie.Need-shared-slice-read-if1
-shared-slice-read-if1 c = search needs
-
-mul-result : tie.Need-mul-result
-mul-result c = search needs
-
-add-result : tie.Need-add-result
-add-result c = search needs
-
-mul-result-2 : tie.Need-mul-result-2
-mul-result-2 c = search needs
-
-shared-slice-read-result : tie.Need-shared-slice-read-result
-shared-slice-read-result c = search needs
-
 returns : tie.Need-returns
 unfolding upMatches
 returns c = rw (eq-eqb _ _ (c .before .if1 .taken))
@@ -35,11 +20,11 @@ pub up-matches-spec : {M : Type 1} → statement M
 up-matches-spec =
     tie.close
     (tie.spec
-    shared-slice-read-if1
-    mul-result
-    add-result
-    mul-result-2
-    shared-slice-read-result
+    (λ c. search needs)
+    (λ c. search needs)
+    (λ c. search needs)
+    (λ c. search needs)
+    (λ c. search needs)
     returns
     inner-matches-requires
     returns-2)

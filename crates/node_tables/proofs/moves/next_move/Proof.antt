@@ -6,20 +6,11 @@ use borrow.Author.Needs.{needs}
 use Rattle.node_tables.proofs.moves.next_move.Statement.{statement}
 use Rattle.node_tables.proofs.moves.next_move.Tie as tie
 
-jump-at-requires : tie.Need-jump-at-requires
-jump-at-requires c κs = search needs
-
 returns : tie.Need-returns
 returns c =
     let s = c .before .before .before in
     outside (cellForest (s .args .n) (s .args .node-table .now)) (s .args .v) (s .args .to) (c .before .jump-at .result)
     (c .before .jump-at .ensures) (c .if1 .taken)
-
-depth-at-requires : tie.Need-depth-at-requires
-depth-at-requires c κs = search needs
-
-rises-to-requires : tie.Need-rises-to-requires
-rises-to-requires c κs = search needs
 
 returns-2 : tie.Need-returns-2
 returns-2 c =
@@ -40,12 +31,6 @@ returns-3 c =
     (j .jump-at .ensures) (d .before .if1 .left) (d .depth-at .result) (d .depth-at .ensures)
     (c .before .before .if2 .taken)
     (sym (c .before .rises-to .ensures) ∙ c .if3 .left)
-
-parent-at-requires : tie.Need-parent-at-requires
-parent-at-requires c κs = search needs
-
-rises-to-requires-2 : tie.Need-rises-to-requires-2
-rises-to-requires-2 c κs = search needs
 
 returns-4 : tie.Need-returns-4
 returns-4 c =
@@ -71,13 +56,13 @@ pub next-move-spec : {M : Type 1} → statement M
 next-move-spec =
     tie.close
     (tie.spec
-    jump-at-requires
+    (λ c κs. search needs)
     returns
-    depth-at-requires
-    rises-to-requires
+    (λ c κs. search needs)
+    (λ c κs. search needs)
     returns-2
     returns-3
-    parent-at-requires
-    rises-to-requires-2
+    (λ c κs. search needs)
+    (λ c κs. search needs)
     returns-4
     returns-5)

@@ -7,26 +7,14 @@ use Rattle.probes.proofs.layers.probe_part.Tie as tie
 use Rattle.probes.proofs.layers.probe_part.Reads as reads
 use Rattle.probes.proofs.layers.probe_part.Lts as lts
 
-part-requires : tie.Need-part-requires
-part-requires c κs = search needs
-
-enum-known-found : tie.Need-enum-known-found
-enum-known-found c = search needs
-
-cast-t14 : tie.Need-cast-t14
-cast-t14 c = search needs
-
 returns : tie.Need-returns
 returns c =
     let f = c .before .before in
     part-reached _ _ (f .found .given .0 .0) (f .found .given .1) (f .before .before .part .ensures .result)
-
-enum-told : tie.Need-enum-told
-enum-told c = search needs
 
 returns-2 : tie.Need-returns-2
 returns-2 c = part-outside _ _ (c .enum-told .given .1) (c .before .before .part .ensures .result)
 
 pub probe-part-spec : {M : Type 1} → statement M
 probe-part-spec =
-    tie.close (tie.spec part-requires enum-known-found cast-t14 returns enum-told returns-2)
+    tie.close (tie.spec (λ c κs. search needs) (λ c. search needs) (λ c. search needs) returns (λ c. search needs) returns-2)

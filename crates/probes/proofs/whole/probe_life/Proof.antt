@@ -5,35 +5,8 @@ use borrow.Author.Needs.{needs}
 use Rattle.probes.proofs.whole.probe_life.Statement.{statement}
 use Rattle.probes.proofs.whole.probe_life.Tie as tie
 
-fresh-requires : tie.Need-fresh-requires
-fresh-requires c κs = search needs
-
-load-at-requires : tie.Need-load-at-requires
-load-at-requires c κs = search needs
-
-call-number-requires : tie.Need-call-number-requires
-call-number-requires c κs = search needs
-
-start-at-requires : tie.Need-start-at-requires
-start-at-requires c κs = search needs
-
-parts-in-requires : tie.Need-parts-in-requires
-parts-in-requires c κs = search needs
-
-cancel-at-requires : tie.Need-cancel-at-requires
-cancel-at-requires c κs = search needs
-
-call-number-requires-2 : tie.Need-call-number-requires-2
-call-number-requires-2 c κs = search needs
-
-question-on-requires : tie.Need-question-on-requires
-question-on-requires c κs = search needs
-
 same-length : tie.Need-same-length
 same-length c = c .before .before .before .before .before .before .before .before .before .before .before .before .before .before .before .before .node-table .given
-
-same-length-2 : tie.Need-same-length-2
-same-length-2 c = search needs
 
 returns : tie.Need-returns
 returns c =
@@ -52,14 +25,14 @@ pub probe-life-spec : {M : Type 1} → statement M
 probe-life-spec =
     tie.close
     (tie.spec
-    fresh-requires
-    load-at-requires
-    call-number-requires
-    start-at-requires
-    parts-in-requires
-    cancel-at-requires
-    call-number-requires-2
-    question-on-requires
+    (λ c κs. search needs)
+    (λ c κs. search needs)
+    (λ c κs. search needs)
+    (λ c κs. search needs)
+    (λ c κs. search needs)
+    (λ c κs. search needs)
+    (λ c κs. search needs)
+    (λ c κs. search needs)
     same-length
-    same-length-2
+    (λ c. search needs)
     returns)

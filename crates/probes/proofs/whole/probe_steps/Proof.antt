@@ -9,18 +9,6 @@ use Rattle.probes.proofs.whole.advance_by.Reads as advance-by-reads
 use Rattle.probes.proofs.whole.loaded.Reads as loaded-reads
 use Rattle.probes.proofs.whole.parts_in.Reads as parts-told-reads
 
-loaded-requires : tie.Need-loaded-requires
-loaded-requires c κs = search needs
-
-start-at-requires : tie.Need-start-at-requires
-start-at-requires c κs = search needs
-
-parts-in-requires : tie.Need-parts-in-requires
-parts-in-requires c κs = search needs
-
-advance-by-requires : tie.Need-advance-by-requires
-advance-by-requires c κs = search needs
-
 returns : tie.Need-returns
 returns c =
     let t = c .before in
@@ -30,4 +18,4 @@ returns c =
 pub probe-steps-spec : {M : Type 1} → statement M
 probe-steps-spec =
     tie.close
-    (tie.spec loaded-requires start-at-requires parts-in-requires advance-by-requires returns)
+    (tie.spec (λ c κs. search needs) (λ c κs. search needs) (λ c κs. search needs) (λ c κs. search needs) returns)

@@ -6,21 +6,6 @@ use borrow.Author.Needs.{needs}
 use Rattle.probes.proofs.whole.question_on.Statement.{statement}
 use Rattle.probes.proofs.whole.question_on.Tie as tie
 
-start-at-requires : tie.Need-start-at-requires
-start-at-requires c κs = search needs
-
-parts-in-requires : tie.Need-parts-in-requires
-parts-in-requires c κs = search needs
-
-advance-by-requires : tie.Need-advance-by-requires
-advance-by-requires c κs = search needs
-
-read-at-requires : tie.Need-read-at-requires
-read-at-requires c κs = search needs
-
-read-in-requires : tie.Need-read-in-requires
-read-in-requires c κs = search needs
-
 returns : tie.Need-returns
 returns c =
     let a = c .before .before in
@@ -33,9 +18,9 @@ pub question-on-spec : {M : Type 1} → statement M
 question-on-spec =
     tie.close
     (tie.spec
-    start-at-requires
-    parts-in-requires
-    advance-by-requires
-    read-at-requires
-    read-in-requires
+    (λ c κs. search needs)
+    (λ c κs. search needs)
+    (λ c κs. search needs)
+    (λ c κs. search needs)
+    (λ c κs. search needs)
     returns)

@@ -14,22 +14,10 @@ view s =
     let g = s .args in
     pathView (g .n) (g .s) (g .k) (g .labels .now) (g .inner .now) (g .node-table .now) (g .state-table .now)
 
-depth-at-requires : tie.Need-depth-at-requires
-depth-at-requires c κs = search needs
-
 add-to : tie.Need-add-to
 add-to c =
     let k = c .before .before .before .before in
     omega (arith, c .depth-at .ensures, k .shared-slice-known3 .given (k .before .before .before .args .v * 4 + 2))
-
-last-below-requires : tie.Need-last-below-requires
-last-below-requires c κs = search needs
-
-sub-last-below : tie.Need-sub-last-below
-sub-last-below c = search needs
-
-last-below-requires-2 : tie.Need-last-below-requires-2
-last-below-requires-2 c κs = search needs
 
 side-on-requires : tie.Need-side-on-requires
 side-on-requires c κs =
@@ -37,9 +25,6 @@ side-on-requires c κs =
     side-args _ _ _ _ _ _ _ _ _ _ (c .before .last-below .result) (s .pre .path)
     (omega (arith, s .pre .left, s .pre .at)) (s .pre .same)
     (c .before .last-below .ensures)
-
-sub-side-on : tie.Need-sub-side-on
-sub-side-on c = search needs
 
 side-on-requires-2 : tie.Need-side-on-requires-2
 side-on-requires-2 c κs =
@@ -78,13 +63,13 @@ pub fork-on-spec : {M : Type 1} → statement M
 fork-on-spec =
     tie.close
     (tie.spec
-    depth-at-requires
+    (λ c κs. search needs)
     add-to
-    last-below-requires
-    sub-last-below
-    last-below-requires-2
+    (λ c κs. search needs)
+    (λ c. search needs)
+    (λ c κs. search needs)
     side-on-requires
-    sub-side-on
+    (λ c. search needs)
     side-on-requires-2
     join-on-requires
     returns)

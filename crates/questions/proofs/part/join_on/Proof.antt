@@ -37,18 +37,6 @@ right-few : (r : tie.After-right)
     (r .right .given .0 .0)
 right-few r = r .before .before .before .before .before .before .pre .right-few _ (right-is r)
 
-enum-known-left : tie.Need-enum-known-left
-enum-known-left c = search needs
-
-enum-known-right : tie.Need-enum-known-right
-enum-known-right c = search needs
-
-cast-rule-on : tie.Need-cast-rule-on
-cast-rule-on c = search needs
-
-cast-rule-on-2 : tie.Need-cast-rule-on-2
-cast-rule-on-2 c = search needs
-
 rule-on-requires : tie.Need-rule-on-requires
 rule-on-requires c κs =
     let r = c .before .before .before in
@@ -71,20 +59,11 @@ returns c =
     join-lost (view s) (s .args .a) _ _ (r .rule-on .result) (r .rule-on .ensures) (c .if1 .taken)
     ∙ same-join (view s) (s .args .a) _ _ _ _ (left-is l) (right-is q)
 
-cast-t15 : tie.Need-cast-t15
-cast-t15 c = search needs
-
 add-t16 : tie.Need-add-t16
 add-t16 c =
     let e = c .before .before in
     let r = e .before .before .before .before .before in
     omega (arith, left-few (r .before .before .before) .links, right-few r .links)
-
-enum-told : tie.Need-enum-told
-enum-told c = search needs
-
-enum-told-2 : tie.Need-enum-told-2
-enum-told-2 c = search needs
 
 returns-2 : tie.Need-returns-2
 returns-2 c =
@@ -113,16 +92,16 @@ pub join-on-spec : {M : Type 1} → statement M
 join-on-spec =
     tie.close
     (tie.spec
-    enum-known-left
-    enum-known-right
-    cast-rule-on
-    cast-rule-on-2
+    (λ c. search needs)
+    (λ c. search needs)
+    (λ c. search needs)
+    (λ c. search needs)
     rule-on-requires
     returns
-    cast-t15
+    (λ c. search needs)
     add-t16
-    enum-told
-    enum-told-2
+    (λ c. search needs)
+    (λ c. search needs)
     returns-2
     returns-3
     returns-4)

@@ -39,9 +39,6 @@ fit : (c : tie.Else3) → let g = start (c .before .before .before .before .befo
 fit c = fit-by _ _ _ _ _ _ _ _ _ _ _ (limits (c .before .before .before .before)) (lengths (c .before .before))
     (asked c)
 
-limits-fit-requires : tie.Need-limits-fit-requires
-limits-fit-requires c κs = search needs
-
 returns : tie.Need-returns
 returns c =
     part-done _ _ _ _ _ _ _ _ _ _ _ _
@@ -58,87 +55,15 @@ returns-2 c =
     (given-lengths _ _ _ _ _ _ _ _ _ _ _ (limits (c .before .before))
     (sym (c .before .rule-buffers-fit .ensures) ∙ not-true _ (c .if2 .taken)))
 
-asked-fits-requires : tie.Need-asked-fits-requires
-asked-fits-requires c κs = search needs
-
 returns-3 : tie.Need-returns-3
 returns-3 c =
     part-done _ _ _ _ _ _ _ _ _ _ _ _
     (given-asked _ _ _ _ _ _ _ _ _ _ _ (limits (c .before .before .before .before)) (lengths (c .before .before))
     (sym (c .before .asked-fits .ensures) ∙ not-true _ (c .if3 .taken)))
 
-add-part-on : tie.Need-add-part-on
-add-part-on c = omega (arith, fit c)
-
-sub-part-on : tie.Need-sub-part-on
-sub-part-on c = omega (arith, fit c)
-
-part-part-on-start : tie.Need-part-part-on-start
-part-part-on-start c = omega (arith, fit c)
-
-part-part-on-end : tie.Need-part-part-on-end
-part-part-on-end c = omega (arith, fit c)
-
-add-part-on-2 : tie.Need-add-part-on-2
-add-part-on-2 c = omega (arith, fit (c .before))
-
-sub-part-on-2 : tie.Need-sub-part-on-2
-sub-part-on-2 c = omega (arith, fit (c .before))
-
-part-part-on-start-2 : tie.Need-part-part-on-start-2
-part-part-on-start-2 c = omega (arith, fit (c .before))
-
-part-part-on-end-2 : tie.Need-part-part-on-end-2
-part-part-on-end-2 c = omega (arith, fit (c .before))
-
-add-part-on-3 : tie.Need-add-part-on-3
-add-part-on-3 c = omega (arith, fit (c .before .before))
-
-sub-part-on-3 : tie.Need-sub-part-on-3
-sub-part-on-3 c = omega (arith, fit (c .before .before))
-
-part-part-on-start-3 : tie.Need-part-part-on-start-3
-part-part-on-start-3 c = omega (arith, fit (c .before .before))
-
-part-part-on-end-3 : tie.Need-part-part-on-end-3
-part-part-on-end-3 c = omega (arith, fit (c .before .before))
-
-add-part-on-4 : tie.Need-add-part-on-4
-add-part-on-4 c = omega (arith, fit (c .before .before .before))
-
-add-part-on-5 : tie.Need-add-part-on-5
-add-part-on-5 c = omega (arith, fit (c .before .before .before))
-
-mul-part-on : tie.Need-mul-part-on
-mul-part-on c = omega (arith, fit (c .before .before .before))
-
-mul-part-on-2 : tie.Need-mul-part-on-2
-mul-part-on-2 c = omega (arith, fit (c .before .before .before))
-
-add-part-on-6 : tie.Need-add-part-on-6
-add-part-on-6 c = omega (arith, fit (c .before .before .before))
-
-sub-part-on-4 : tie.Need-sub-part-on-4
-sub-part-on-4 c = omega (arith, fit (c .before .before .before))
-
-part-part-on-start-4 : tie.Need-part-part-on-start-4
-part-part-on-start-4 c = omega (arith, fit (c .before .before .before))
-
-part-part-on-end-4 : tie.Need-part-part-on-end-4
-part-part-on-end-4 c = omega (arith, fit (c .before .before .before))
-
-mul-part-on-3 : tie.Need-mul-part-on-3
-mul-part-on-3 c = omega (arith, fit (c .before .before .before .before))
-
 slice-aggregate-part-on : tie.Need-slice-aggregate-part-on
 slice-aggregate-part-on c =
     sym (length-take-le _ _ (omega (arith, fit (c .before .before .before .before .before))))
-
-add-part-on-7 : tie.Need-add-part-on-7
-add-part-on-7 c = omega (arith, fit (c .before .before .before .before .before))
-
-mul-part-on-4 : tie.Need-mul-part-on-4
-mul-part-on-4 c = omega (arith, fit (c .before .before .before .before .before))
 
 slice-aggregate-part-on-2 : tie.Need-slice-aggregate-part-on-2
 slice-aggregate-part-on-2 c =
@@ -176,36 +101,36 @@ pub part-spec : {M : Type 1} → statement M
 part-spec =
     tie.close
     (tie.spec
-    limits-fit-requires
+    (λ c κs. search needs)
     returns
     rule-buffers-fit-requires
     returns-2
-    asked-fits-requires
+    (λ c κs. search needs)
     returns-3
-    add-part-on
-    sub-part-on
-    part-part-on-start
-    part-part-on-end
-    add-part-on-2
-    sub-part-on-2
-    part-part-on-start-2
-    part-part-on-end-2
-    add-part-on-3
-    sub-part-on-3
-    part-part-on-start-3
-    part-part-on-end-3
-    add-part-on-4
-    add-part-on-5
-    mul-part-on
-    mul-part-on-2
-    add-part-on-6
-    sub-part-on-4
-    part-part-on-start-4
-    part-part-on-end-4
-    mul-part-on-3
+    (λ c. omega (arith, fit c))
+    (λ c. omega (arith, fit c))
+    (λ c. omega (arith, fit c))
+    (λ c. omega (arith, fit c))
+    (λ c. omega (arith, fit (c .before)))
+    (λ c. omega (arith, fit (c .before)))
+    (λ c. omega (arith, fit (c .before)))
+    (λ c. omega (arith, fit (c .before)))
+    (λ c. omega (arith, fit (c .before .before)))
+    (λ c. omega (arith, fit (c .before .before)))
+    (λ c. omega (arith, fit (c .before .before)))
+    (λ c. omega (arith, fit (c .before .before)))
+    (λ c. omega (arith, fit (c .before .before .before)))
+    (λ c. omega (arith, fit (c .before .before .before)))
+    (λ c. omega (arith, fit (c .before .before .before)))
+    (λ c. omega (arith, fit (c .before .before .before)))
+    (λ c. omega (arith, fit (c .before .before .before)))
+    (λ c. omega (arith, fit (c .before .before .before)))
+    (λ c. omega (arith, fit (c .before .before .before)))
+    (λ c. omega (arith, fit (c .before .before .before)))
+    (λ c. omega (arith, fit (c .before .before .before .before)))
     slice-aggregate-part-on
-    add-part-on-7
-    mul-part-on-4
+    (λ c. omega (arith, fit (c .before .before .before .before .before)))
+    (λ c. omega (arith, fit (c .before .before .before .before .before)))
     slice-aggregate-part-on-2
     slice-aggregate-part-on-3
     mul-part-on-5

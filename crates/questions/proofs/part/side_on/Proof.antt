@@ -25,9 +25,6 @@ run-on-requires c κs =
       at = state-place (g .n) (g .s) (g .c) (length (g .state-table .now)) (s .pre .at) (s .pre .path .state-table-room);
     }
 
-handled-state-requires : tie.Need-handled-state-requires
-handled-state-requires c κs = search needs
-
 returns : tie.Need-returns
 returns c =
     let r = c .before in
@@ -37,19 +34,10 @@ returns c =
     ∙ ap climbedOf (side-run (view s) (g .to) (g .c) (g .earlier .now) (g .states .now) (g .own) (g .other)
     (r .run-on .result) (r .run-on .ensures) (r .before .if1 .taken))
 
-sub-q : tie.Need-sub-q
-sub-q c = search needs
-
-shared-slice-read-q : tie.Need-shared-slice-read-q
-shared-slice-read-q c = search needs
-
 cast-q : tie.Need-cast-q
 cast-q c =
     let g = c .before .before .before .before .before .before .before .before .args in
     omega (arith, c .shared-slice-known7 .given (g .own - 1))
-
-handled-state-requires-2 : tie.Need-handled-state-requires-2
-handled-state-requires-2 c κs = search needs
 
 returns-2 : tie.Need-returns-2
 returns-2 c =
@@ -67,15 +55,6 @@ returns-3 c =
     let g = s .args in
     side-lost (view s) (g .to) (g .c) (g .earlier .now) (g .states .now) (g .own) (g .other)
     (e .if1 .left) (c .before .if2 .left) (c .if3 .taken)
-
-sub-climb-state : tie.Need-sub-climb-state
-sub-climb-state c = search needs
-
-mul-climb-state : tie.Need-mul-climb-state
-mul-climb-state c = search needs
-
-shared-slice-read-climb-state : tie.Need-shared-slice-read-climb-state
-shared-slice-read-climb-state c = search needs
 
 cast-climb-state : tie.Need-cast-climb-state
 cast-climb-state c =
@@ -105,17 +84,17 @@ side-on-spec =
     tie.close
     (tie.spec
     run-on-requires
-    handled-state-requires
+    (λ c κs. search needs)
     returns
-    sub-q
-    shared-slice-read-q
+    (λ c. search needs)
+    (λ c. search needs)
     cast-q
-    handled-state-requires-2
+    (λ c κs. search needs)
     returns-2
     returns-3
-    sub-climb-state
-    mul-climb-state
-    shared-slice-read-climb-state
+    (λ c. search needs)
+    (λ c. search needs)
+    (λ c. search needs)
     cast-climb-state
     climb-state-requires
     returns-4)

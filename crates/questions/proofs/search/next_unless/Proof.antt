@@ -8,24 +8,12 @@ use borrow.Author.Needs.{needs}
 use Rattle.questions.proofs.search.next_unless.Statement.{statement}
 use Rattle.questions.proofs.search.next_unless.Tie as tie
 
-jump-at-requires : tie.Need-jump-at-requires
-jump-at-requires c κs = search needs
-
 returns : tie.Need-returns
 returns c =
     let a = c .before .before .before .args in
     jump-outside (cellForest (a .n) (a .node-table .now)) (λ (x : ℕ). isInSubtreeOn (a .node-table .now) x (a .u)) (a .v)
     (c .before .jump-at .result)
     (c .before .jump-at .ensures) (c .if1 .taken)
-
-is-below-requires : tie.Need-is-below-requires
-is-below-requires c κs = search needs
-
-parent-at-requires : tie.Need-parent-at-requires
-parent-at-requires c κs = search needs
-
-if-rising-requires : tie.Need-if-rising-requires
-if-rising-requires c κs = search needs
 
 returns-2 : tie.Need-returns-2
 returns-2 c =
@@ -38,9 +26,6 @@ returns-2 c =
     (j .jump-at .result)
     (j .jump-at .ensures) (b .before .if1 .left) (p .parent-at .result) (p .parent-at .ensures)
     (sym (b .is-below .ensures) ∙ p .before .if2 .taken)
-
-if-rising-requires-2 : tie.Need-if-rising-requires-2
-if-rising-requires-2 c κs = search needs
 
 returns-3 : tie.Need-returns-3
 returns-3 c =
@@ -56,11 +41,11 @@ pub next-unless-spec : {M : Type 1} → statement M
 next-unless-spec =
     tie.close
     (tie.spec
-    jump-at-requires
+    (λ c κs. search needs)
     returns
-    is-below-requires
-    parent-at-requires
-    if-rising-requires
+    (λ c κs. search needs)
+    (λ c κs. search needs)
+    (λ c κs. search needs)
     returns-2
-    if-rising-requires-2
+    (λ c κs. search needs)
     returns-3)

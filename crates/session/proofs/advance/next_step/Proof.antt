@@ -28,15 +28,6 @@ lent a = let b = at a .args in inputsOf (b .plan .now) (b .rules .now) (b .node-
 may : (a : tie.After-allowed) → a .allowed .result ≡ (valid (of a) && isRunning (phaseOf (of a .head .phase)))
 may a = allowed-by isRunning (of a) _ _ (a .before .may-advance .ensures) (a .allowed .ensures)
 
-may-advance-requires : tie.Need-may-advance-requires
-may-advance-requires c κs = search needs
-
-allowed-requires : tie.Need-allowed-requires
-allowed-requires c κs = search needs
-
-refused-step-requires : tie.Need-refused-step-requires
-refused-step-requires c κs = search needs
-
 returns : tie.Need-returns
 returns c =
     let i = c .before in
@@ -44,23 +35,11 @@ returns c =
     refused-found (of m) (advance (lent m)) 1 _ (c .refused-step .ensures)
     (advance-1 (of m) (at m .pre) (lent m) _ (may m) (i .if1 .taken))
 
-cast-n : tie.Need-cast-n
-cast-n c = search needs
-
-cast-s : tie.Need-cast-s
-cast-s c = search needs
-
-cast-k : tie.Need-cast-k
-cast-k c = search needs
-
 rule-buffers-fit-requires : tie.Need-rule-buffers-fit-requires
 rule-buffers-fit-requires c κs =
     let e = c .before .before .before in
     let m = e .before in
     advance-limits (of m) (at m .pre) (lent m) _ (may m) (e .if1 .left)
-
-refused-step-requires-2 : tie.Need-refused-step-requires-2
-refused-step-requires-2 c κs = search needs
 
 returns-2 : tie.Need-returns-2
 returns-2 c =
@@ -77,9 +56,6 @@ next-part-requires c κs =
     let e = k .before .before .before .before in
     let m = e .before in
     next-args (of m) (at m .pre) (lent m) _ (may m) (e .if1 .left)
-
-enum-known-found : tie.Need-enum-known-found
-enum-known-found c = search needs
 
 handled-requires : tie.Need-handled-requires
 handled-requires c κs =
@@ -103,12 +79,6 @@ returns-3 c =
     step-found (of m) (at m .pre) (lent m) _ (may m) (e .if1 .left) _ (k .rule-buffers-fit .ensures) (t .if2 .left) _
     (p .next-part .ensures) (f .found .given .0 .0 .state) (f .found .given .0 .0 .links) (f .found .given .1) _ (c .handled .ensures)
 
-enum-told : tie.Need-enum-told
-enum-told c = search needs
-
-refused-step-requires-3 : tie.Need-refused-step-requires-3
-refused-step-requires-3 c κs = search needs
-
 returns-4 : tie.Need-returns-4
 returns-4 c =
     let i = c .before in
@@ -125,20 +95,20 @@ pub next-step-spec : {M : Type 1} → statement M
 next-step-spec =
     tie.close
     (tie.spec
-    may-advance-requires
-    allowed-requires
-    refused-step-requires
+    (λ c κs. search needs)
+    (λ c κs. search needs)
+    (λ c κs. search needs)
     returns
-    cast-n
-    cast-s
-    cast-k
+    (λ c. search needs)
+    (λ c. search needs)
+    (λ c. search needs)
     rule-buffers-fit-requires
-    refused-step-requires-2
+    (λ c κs. search needs)
     returns-2
     next-part-requires
-    enum-known-found
+    (λ c. search needs)
     handled-requires
     returns-3
-    enum-told
-    refused-step-requires-3
+    (λ c. search needs)
+    (λ c κs. search needs)
     returns-4)

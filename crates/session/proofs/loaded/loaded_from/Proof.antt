@@ -5,27 +5,6 @@ use borrow.Author.Needs.{needs}
 use Rattle.session.proofs.loaded.loaded_from.Statement.{statement}
 use Rattle.session.proofs.loaded.loaded_from.Tie as tie
 
-read32-requires : tie.Need-read32-requires
-read32-requires c κs = search needs
-
-read32-requires-2 : tie.Need-read32-requires-2
-read32-requires-2 c κs = search needs
-
-read32-requires-3 : tie.Need-read32-requires-3
-read32-requires-3 c κs = search needs
-
-cast-t7 : tie.Need-cast-t7
-cast-t7 c = search needs
-
-cast-t8 : tie.Need-cast-t8
-cast-t8 c = search needs
-
-cast-t9 : tie.Need-cast-t9
-cast-t9 c = search needs
-
-loaded-requires : tie.Need-loaded-requires
-loaded-requires c κs = search needs
-
 returns : tie.Need-returns
 returns c =
     let k = c .before in
@@ -37,11 +16,11 @@ pub loaded-from-spec : {M : Type 1} → statement M
 loaded-from-spec =
     tie.close
     (tie.spec
-    read32-requires
-    read32-requires-2
-    read32-requires-3
-    cast-t7
-    cast-t8
-    cast-t9
-    loaded-requires
+    (λ c κs. search needs)
+    (λ c κs. search needs)
+    (λ c κs. search needs)
+    (λ c. search needs)
+    (λ c. search needs)
+    (λ c. search needs)
+    (λ c κs. search needs)
     returns)

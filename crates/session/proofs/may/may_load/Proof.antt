@@ -7,18 +7,6 @@ use borrow.Author.Needs.{needs}
 use Rattle.session.proofs.may.may_load.Statement.{statement}
 use Rattle.session.proofs.may.may_load.Tie as tie
 
-enum-told : tie.Need-enum-told
-enum-told c = search needs
-
-enum-told-2 : tie.Need-enum-told-2
-enum-told-2 c = search needs
-
-enum-told-3 : tie.Need-enum-told-3
-enum-told-3 c = search needs
-
-enum-told-4 : tie.Need-enum-told-4
-enum-told-4 c = search needs
-
 returns : tie.Need-returns
 unfolding phaseOf mayLoad
 returns c = by-state mayLoad _ _ (c .enum-told .given .1)
@@ -38,4 +26,4 @@ returns-4 c = by-state mayLoad _ _ (c .enum-told4 .given .1)
 pub may-load-spec : {M : Type 1} → statement M
 may-load-spec =
     tie.close
-    (tie.spec enum-told enum-told-2 enum-told-3 enum-told-4 returns returns-2 returns-3 returns-4)
+    (tie.spec (λ c. search needs) (λ c. search needs) (λ c. search needs) (λ c. search needs) returns returns-2 returns-3 returns-4)

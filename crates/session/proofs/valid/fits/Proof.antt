@@ -10,33 +10,6 @@ use Rattle.session.proofs.valid.fits.Tie as tie
 abbrev of : tie.Start → Session
 of a = whole (a .args .h) (a .args .nodes .now) (a .args .labels .now) (a .args .roots .now) (a .args .states .now)
 
-enum-told : tie.Need-enum-told
-enum-told c = search needs
-
-no-question-requires : tie.Need-no-question-requires
-no-question-requires c κs = search needs
-
-enum-told-2 : tie.Need-enum-told-2
-enum-told-2 c = search needs
-
-sizes-fit-requires : tie.Need-sizes-fit-requires
-sizes-fit-requires c κs = search needs
-
-no-question-requires-2 : tie.Need-no-question-requires-2
-no-question-requires-2 c κs = search needs
-
-enum-told-3 : tie.Need-enum-told-3
-enum-told-3 c = search needs
-
-question-fits-requires : tie.Need-question-fits-requires
-question-fits-requires c κs = search needs
-
-enum-told-4 : tie.Need-enum-told-4
-enum-told-4 c = search needs
-
-question-fits-requires-2 : tie.Need-question-fits-requires-2
-question-fits-requires-2 c κs = search needs
-
 returns : tie.Need-returns
 returns c =
     let e = c .before .before .before .before in
@@ -67,15 +40,15 @@ pub fits-spec : {M : Type 1} → statement M
 fits-spec =
     tie.close
     (tie.spec
-    enum-told
-    no-question-requires
-    enum-told-2
-    sizes-fit-requires
-    no-question-requires-2
-    enum-told-3
-    question-fits-requires
-    enum-told-4
-    question-fits-requires-2
+    (λ c. search needs)
+    (λ c κs. search needs)
+    (λ c. search needs)
+    (λ c κs. search needs)
+    (λ c κs. search needs)
+    (λ c. search needs)
+    (λ c κs. search needs)
+    (λ c. search needs)
+    (λ c κs. search needs)
     returns
     returns-2
     returns-3

@@ -10,18 +10,6 @@ use Rattle.session.proofs.valid.no_question.Tie as tie
 abbrev of : tie.Start → Session
 of a = whole (a .args .h) (a .args .nodes .now) (a .args .labels .now) (a .args .roots .now) (a .args .states .now)
 
-below-requires : tie.Need-below-requires
-below-requires c κs = search needs
-
-all-below-requires : tie.Need-all-below-requires
-all-below-requires c κs = search needs
-
-below-requires-2 : tie.Need-below-requires-2
-below-requires-2 c κs = search needs
-
-all-below-requires-2 : tie.Need-all-below-requires-2
-all-below-requires-2 c κs = search needs
-
 returns : tie.Need-returns
 returns c =
     let d = c .before .before in
@@ -34,8 +22,8 @@ pub no-question-spec : {M : Type 1} → statement M
 no-question-spec =
     tie.close
     (tie.spec
-    below-requires
-    all-below-requires
-    below-requires-2
-    all-below-requires-2
+    (λ c κs. search needs)
+    (λ c κs. search needs)
+    (λ c κs. search needs)
+    (λ c κs. search needs)
     returns)

@@ -31,15 +31,6 @@ carried s = mapAt (s .args .s) (s .args .maps .now) (s .args .here)
 map-at : (s : tie.Start) → s .args .v * (s .args .s + 1) + 1 ≤ length (s .args .state-table .now)
 map-at s = jump-at (s .args .s) (s .args .state-table .now) (s .args .v) (s .args .n) (s .pre .at) (s .pre .state-table-room)
 
-next-move-requires : tie.Need-next-move-requires
-next-move-requires c κs = search needs
-
-enum-known-j : tie.Need-enum-known-j
-enum-known-j c = search needs
-
-add-after-map : tie.Need-add-after-map
-add-after-map c = search needs
-
 mul-after-map : tie.Need-mul-after-map
 mul-after-map c = omega (arith, map-at (c .before .before .before .before .before .before .before .before .before .before))
 
@@ -52,18 +43,6 @@ after-map-requires c κs =
     jump-reads (s .args .s) (s .args .state-table .now) (s .args .v) (s .args .maps .now) (s .args .here) (s .args .n)
     (s .pre .halves) (s .pre .at) (s .pre .state-table-room)
 
-enum-known-p : tie.Need-enum-known-p
-enum-known-p c = search needs
-
-after-label-requires : tie.Need-after-label-requires
-after-label-requires c κs = search needs
-
-enum-told : tie.Need-enum-told
-enum-told c = search needs
-
-same-length : tie.Need-same-length
-same-length c = search needs
-
 returns : tie.Need-returns
 returns c =
     let s = c .before .before .before .before .before .before .before .before .before .before .before .before .before in
@@ -74,9 +53,6 @@ returns c =
     (sym (t .j .given .1) ∙ t .before .before .next-move .ensures)
     (subst (Followed _ _ _ _) (sym (run-jump (g .s) (g .k) (g .labels .now) (g .steps .now) (g .state-table .now) (g .v)
     (carried s))) (m .after-map .ensures))
-
-same-length-2 : tie.Need-same-length-2
-same-length-2 c = search needs
 
 returns-2 : tie.Need-returns-2
 returns-2 c =
@@ -100,17 +76,17 @@ pub compose-move-spec : {M : Type 1} → statement M
 compose-move-spec =
     tie.close
     (tie.spec
-    next-move-requires
-    enum-known-j
-    add-after-map
+    (λ c κs. search needs)
+    (λ c. search needs)
+    (λ c. search needs)
     mul-after-map
     add-after-map-2
     after-map-requires
-    enum-known-p
-    after-label-requires
-    enum-told
-    same-length
+    (λ c. search needs)
+    (λ c κs. search needs)
+    (λ c. search needs)
+    (λ c. search needs)
     returns
-    same-length-2
+    (λ c. search needs)
     returns-2
     returns-3)

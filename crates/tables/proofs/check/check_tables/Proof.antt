@@ -29,9 +29,6 @@ passes c =
     let a = build-passes (g .plan .now) (g .rules .now) (length (g .node-table .now)) (length (g .state-table .now)) (ok c) in
     (a .0, a .1)
 
-check-build-requires : tie.Need-check-build-requires
-check-build-requires c κs = search needs
-
 returns : tie.Need-returns
 returns c =
     let g = c .before .before .before .before .before .before .args in
@@ -39,15 +36,6 @@ returns c =
     check-refused (buildNumber (g .plan .now) (g .rules .now) (g .node-table .now) (g .state-table .now))
     (builtNodeTable (g .plan .now)) (builtStateTable (g .plan .now) (g .rules .now)) (g .node-table .now) (g .state-table .now)
     (r .result) (r .ensures) (c .if1 .taken)
-
-read32-requires : tie.Need-read32-requires
-read32-requires c κs = omega (arith, passes c .0 .long)
-
-read32-requires-2 : tie.Need-read32-requires-2
-read32-requires-2 c κs = omega (arith, passes (c .before) .1 .long)
-
-read32-requires-3 : tie.Need-read32-requires-3
-read32-requires-3 c κs = omega (arith, passes (c .before .before) .1 .long)
 
 both-match-requires : tie.Need-both-match-requires
 both-match-requires c κs =
@@ -77,11 +65,11 @@ pub check-tables-spec : {M : Type 1} → statement M
 check-tables-spec =
     tie.close
     (tie.spec
-    check-build-requires
+    (λ c κs. search needs)
     returns
-    read32-requires
-    read32-requires-2
-    read32-requires-3
+    (λ c κs. omega (arith, passes c .0 .long))
+    (λ c κs. omega (arith, passes (c .before) .1 .long))
+    (λ c κs. omega (arith, passes (c .before .before) .1 .long))
     both-match-requires
     returns-2
     returns-3)

@@ -16,9 +16,6 @@ view s =
     let g = s .args in
     pathView (g .n) (g .s) (g .k) (g .labels .now) (g .inner .now) (g .node-table .now) (g .state-table .now)
 
-sibling-on-requires : tie.Need-sibling-on-requires
-sibling-on-requires c κs = search needs
-
 returns : tie.Need-returns
 returns c =
     let s = c .before .before .before .before .before .before in
@@ -46,9 +43,6 @@ returns-2 c =
     ∙ sym (parent-lost (view s) (g .v) (g .p) (g .q) (u .sibling-on .result) (u .sibling-on .ensures)
     (c .before .before .if1 .left) (c .before .run-on .result) (c .before .run-on .ensures) (c .if2 .taken))
 
-shared-slice-read-a : tie.Need-shared-slice-read-a
-shared-slice-read-a c = search needs
-
 cast-a : tie.Need-cast-a
 cast-a c =
     omega (
@@ -56,12 +50,6 @@ cast-a c =
       c .shared-slice-known5 .given
           (c .before .before .before .before .before .before .before .before .before .args .p),
     )
-
-add-if3 : tie.Need-add-if3
-add-if3 c = search needs
-
-rule-on-requires : tie.Need-rule-on-requires
-rule-on-requires c κs = search needs
 
 returns-3 : tie.Need-returns-3
 returns-3 c =
@@ -73,9 +61,6 @@ returns-3 c =
     ∙ sym (parent-right (view s) (g .v) (g .p) (g .q) (u .sibling-on .result) (u .sibling-on .ensures)
     (x .before .if1 .left) (x .run-on .result) (x .run-on .ensures) (c .before .before .before .if2 .left)
     (c .before .if3 .taken))
-
-rule-on-requires-2 : tie.Need-rule-on-requires-2
-rule-on-requires-2 c κs = search needs
 
 returns-4 : tie.Need-returns-4
 returns-4 c =
@@ -92,14 +77,14 @@ pub parent-on-spec : {M : Type 1} → statement M
 parent-on-spec =
     tie.close
     (tie.spec
-    sibling-on-requires
+    (λ c κs. search needs)
     returns
     run-on-requires
     returns-2
-    shared-slice-read-a
+    (λ c. search needs)
     cast-a
-    add-if3
-    rule-on-requires
+    (λ c. search needs)
+    (λ c κs. search needs)
     returns-3
-    rule-on-requires-2
+    (λ c κs. search needs)
     returns-4)

@@ -24,20 +24,8 @@ map-at s =
     map-place (g .n) (g .s) (g .v) (g .q) (length (g .state-table .now)) (s .pre .at) (s .pre .state)
     (s .pre .path .state-table-room)
 
-next-move-requires : tie.Need-next-move-requires
-next-move-requires c κs = search needs
-
-enum-known-j : tie.Need-enum-known-j
-enum-known-j c = search needs
-
-add-t15 : tie.Need-add-t15
-add-t15 c = search needs
-
 mul-t16 : tie.Need-mul-t16
 mul-t16 c = omega (arith, map-at (c .before .before .before .before .before .before .before .before))
-
-add-t17 : tie.Need-add-t17
-add-t17 c = search needs
 
 add-t18 : tie.Need-add-t18
 add-t18 c = omega (arith, map-at (c .before .before .before .before .before .before .before .before))
@@ -50,9 +38,6 @@ cast-t21 c =
     let g = c .before .before .before .before .before .before .before .before .before .args in
     omega (arith, c .shared-slice-known5 .given (g .v * (g .s + 1) + (1 + g .q)))
 
-enum-known-p : tie.Need-enum-known-p
-enum-known-p c = search needs
-
 parent-on-requires : tie.Need-parent-on-requires
 parent-on-requires c κs =
     let s = c .before .before .before .before .before .before .before .before in
@@ -64,9 +49,6 @@ parent-on-requires c κs =
           (sym (c .before .p .given .1) ∙ c .before .before .before .next-move .ensures);
       state = s .pre .state;
     }
-
-enum-told : tie.Need-enum-told
-enum-told c = search needs
 
 returns : tie.Need-returns
 returns c =
@@ -94,17 +76,17 @@ pub step-on-spec : {M : Type 1} → statement M
 step-on-spec =
     tie.close
     (tie.spec
-    next-move-requires
-    enum-known-j
-    add-t15
+    (λ c κs. search needs)
+    (λ c. search needs)
+    (λ c. search needs)
     mul-t16
-    add-t17
+    (λ c. search needs)
     add-t18
     shared-slice-read-t20
     cast-t21
-    enum-known-p
+    (λ c. search needs)
     parent-on-requires
-    enum-told
+    (λ c. search needs)
     returns
     returns-2
     returns-3)

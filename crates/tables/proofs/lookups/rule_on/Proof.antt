@@ -28,18 +28,6 @@ returns c =
     below-no (g .s) (g .s) (le-refl _)
     ∙ sym (rule-outside (rulesView (g .s) (g .k) (g .inner .now)) (g .p) (g .a) (g .q) (c .if1 .taken))
 
-mul-result : tie.Need-mul-result
-mul-result c = omega (arith, small c)
-
-add-result : tie.Need-add-result
-add-result c = omega (arith, small c)
-
-mul-result-2 : tie.Need-mul-result-2
-mul-result-2 c = omega (arith, place c)
-
-add-result-2 : tie.Need-add-result-2
-add-result-2 c = omega (arith, place c)
-
 shared-slice-read-result : tie.Need-shared-slice-read-result
 shared-slice-read-result c = place (c .before)
 
@@ -58,10 +46,10 @@ rule-on-spec =
     tie.close
     (tie.spec
     returns
-    mul-result
-    add-result
-    mul-result-2
-    add-result-2
+    (λ c. omega (arith, small c))
+    (λ c. omega (arith, small c))
+    (λ c. omega (arith, place c))
+    (λ c. omega (arith, place c))
     shared-slice-read-result
     cast-result
     returns-2)

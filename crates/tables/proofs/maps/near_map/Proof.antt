@@ -7,21 +7,6 @@ use borrow.Author.Needs.{needs}
 use Rattle.tables.proofs.maps.near_map.Statement.{statement}
 use Rattle.tables.proofs.maps.near_map.Tie as tie
 
-mul-p : tie.Need-mul-p
-mul-p c = search needs
-
-mul-p-2 : tie.Need-mul-p-2
-mul-p-2 c = search needs
-
-shared-slice-read-p : tie.Need-shared-slice-read-p
-shared-slice-read-p c = search needs
-
-cast-p : tie.Need-cast-p
-cast-p c = search needs
-
-shared-slice-read-a : tie.Need-shared-slice-read-a
-shared-slice-read-a c = search needs
-
 cast-a : tie.Need-cast-a
 cast-a c = let s = c .before .before .before .before .before .before in omega
     (arith, c .shared-slice-known5 .given (parentCell (s .args .node-table .now) (s .args .v)))
@@ -32,18 +17,12 @@ near-base-requires c κs =
     base-args (s .args .labels .now) (s .args .node-table .now) (s .args .inner .now) (s .args .s) (s .args .k)
     (s .args .state-table .now) (s .args .v) (s .pre)
 
-near-step-requires : tie.Need-near-step-requires
-near-step-requires c κs = search needs
-
 near-row-requires : tie.Need-near-row-requires
 near-row-requires c κs =
     let s = c .before .before .before .before .before .before .before .before .before .before in
     rw (c .before .before .near-base .ensures, c .before .near-step .ensures)
     (near-args (s .args .labels .now) (s .args .node-table .now) (s .args .inner .now) (s .args .s) (s .args .k)
     (s .args .state-table .now) (s .args .v) (s .pre))
-
-same-length : tie.Need-same-length
-same-length c = search needs
 
 returns : tie.Need-returns
 returns c =
@@ -58,14 +37,14 @@ pub near-map-spec : {M : Type 1} → statement M
 near-map-spec =
     tie.close
     (tie.spec
-    mul-p
-    mul-p-2
-    shared-slice-read-p
-    cast-p
-    shared-slice-read-a
+    (λ c. search needs)
+    (λ c. search needs)
+    (λ c. search needs)
+    (λ c. search needs)
+    (λ c. search needs)
     cast-a
     near-base-requires
-    near-step-requires
+    (λ c κs. search needs)
     near-row-requires
-    same-length
+    (λ c. search needs)
     returns)

@@ -9,15 +9,6 @@ use Rattle.whatif.proofs.ask.ask.Lts as lts
 use Rattle.session.proofs.state.Session.start.Reads as start-reads
 use Rattle.whatif.proofs.ask.finish.Reads as finish-reads
 
-start-requires : tie.Need-start-requires
-start-requires c κs = search needs
-
-enum-told : tie.Need-enum-told
-enum-told c = search needs
-
-finish-requires : tie.Need-finish-requires
-finish-requires c κs = search needs
-
 returns : tie.Need-returns
 returns c =
     let e = c .before .before in
@@ -28,9 +19,6 @@ returns c =
     c .finish .ensures
     ∙ sym (started-on (a .loaded) (o .result .session) x (a .nodes .now) (a .labels .now) (o .result .answer) (o .ensures) _
     (e .enum-told .given .1))
-
-enum-known-answer : tie.Need-enum-known-answer
-enum-known-answer c = search needs
 
 returns-2 : tie.Need-returns-2
 returns-2 c =
@@ -43,4 +31,4 @@ returns-2 c =
 
 pub ask-spec : {M : Type 1} → statement M
 ask-spec =
-    tie.close (tie.spec start-requires enum-told finish-requires returns enum-known-answer returns-2)
+    tie.close (tie.spec (λ c κs. search needs) (λ c. search needs) (λ c κs. search needs) returns (λ c. search needs) returns-2)

@@ -13,15 +13,6 @@ use Rattle.whatif.proofs.line.put_line.Lts as lts
 use Rattle.whatif.proofs.line.put_refused.Reads as put-refused-reads
 use Rattle.whatif.proofs.line.put_outcome.Reads as put-told-reads
 
-enum-known-answer : tie.Need-enum-known-answer
-enum-known-answer c = search needs
-
-put-outcome-requires : tie.Need-put-outcome-requires
-put-outcome-requires c κs = search needs
-
-same-length : tie.Need-same-length
-same-length c = search needs
-
 returns : tie.Need-returns
 unfolding lineOf readAnswer
 returns c =
@@ -32,15 +23,6 @@ returns c =
           (ap (λ (r : ReadAnswer). lineOf (readAnswer r)) (sym (m .answer .given .1))) (p .put-outcome .ensures .0),
       p .put-outcome .ensures .1,
     )
-
-enum-known-answer-2 : tie.Need-enum-known-answer-2
-enum-known-answer-2 c = search needs
-
-put-refused-requires : tie.Need-put-refused-requires
-put-refused-requires c κs = search needs
-
-same-length-2 : tie.Need-same-length-2
-same-length-2 c = search needs
 
 returns-2 : tie.Need-returns-2
 unfolding lineOf readAnswer
@@ -57,11 +39,11 @@ pub put-line-spec : {M : Type 1} → statement M
 put-line-spec =
     tie.close
     (tie.spec
-    enum-known-answer
-    put-outcome-requires
-    same-length
+    (λ c. search needs)
+    (λ c κs. search needs)
+    (λ c. search needs)
     returns
-    enum-known-answer-2
-    put-refused-requires
-    same-length-2
+    (λ c. search needs)
+    (λ c κs. search needs)
+    (λ c. search needs)
     returns-2)

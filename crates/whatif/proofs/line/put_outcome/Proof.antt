@@ -9,9 +9,6 @@ use Rattle.whatif.proofs.line.put_yes_or_no.Reads as put-yes-or-no-read
 use Rattle.whatif.proofs.text.put_number.Reads as put-number-reads
 use Rattle.whatif.proofs.text.put_word.Reads as put-word-reads
 
-put-number-requires : tie.Need-put-number-requires
-put-number-requires c κs = search needs
-
 put-yes-or-no-requires : tie.Need-put-yes-or-no-requires
 put-yes-or-no-requires c κs =
     let n1 = c .before .before .before in
@@ -30,9 +27,6 @@ put-number-requires-2 c κs =
       n1 .put-number .ensures .0 .as-long,
       n1 .put-number .ensures .1,
     )
-
-slice-aggregate-put-word : tie.Need-slice-aggregate-put-word
-slice-aggregate-put-word c = search needs
 
 put-word-requires : tie.Need-put-word-requires
 put-word-requires c κs =
@@ -71,9 +65,6 @@ put-number-requires-3 c κs =
       n1 .put-number .ensures .1,
     )
 
-slice-aggregate-put-word-2 : tie.Need-slice-aggregate-put-word-2
-slice-aggregate-put-word-2 c = search needs
-
 put-word-requires-2 : tie.Need-put-word-requires-2
 put-word-requires-2 c κs =
     let n3 = c .before .before .before .before in
@@ -96,9 +87,6 @@ put-word-requires-2 c κs =
       n1 .put-number .ensures .0 .as-long,
       n1 .put-number .ensures .1,
     )
-
-same-length : tie.Need-same-length
-same-length c = search needs
 
 returns : tie.Need-returns
 returns c =
@@ -127,13 +115,13 @@ pub put-outcome-spec : {M : Type 1} → statement M
 put-outcome-spec =
     tie.close
     (tie.spec
-    put-number-requires
+    (λ c κs. search needs)
     put-yes-or-no-requires
     put-number-requires-2
-    slice-aggregate-put-word
+    (λ c. search needs)
     put-word-requires
     put-number-requires-3
-    slice-aggregate-put-word-2
+    (λ c. search needs)
     put-word-requires-2
-    same-length
+    (λ c. search needs)
     returns)

@@ -31,22 +31,10 @@ may : (m : tie.After-allowed) → m .allowed .result
     ≡ (valid (of m .args .t1) && mayLoad (phaseOf (of m .args .t1 .head .phase)))
 may m = allowed-by mayLoad (of m .args .t1) _ _ (tested m .may-load .ensures) (m .allowed .ensures)
 
-may-load-requires : tie.Need-may-load-requires
-may-load-requires c κs = search needs
-
-allowed-requires : tie.Need-allowed-requires
-allowed-requires c κs = search needs
-
 returns : tie.Need-returns
 returns c =
     let m = c .before in
     load-1 (of m .args .t1) (shape (of m)) (lent (of m)) _ (may m) (c .if1 .taken)
-
-build-tables-requires : tie.Need-build-tables-requires
-build-tables-requires c κs = search needs
-
-enum-told : tie.Need-enum-told
-enum-told c = search needs
 
 loaded-from-requires : tie.Need-loaded-from-requires
 loaded-from-requires c κs =
@@ -56,12 +44,6 @@ loaded-from-requires c κs =
     load-headers (of m .args .t1) (shape (of m)) (lent (of m)) _ (may m) (e .if1 .left) _ _ _
     (b .build-tables .ensures) (c .enum-told .given .1)
 
-same-length : tie.Need-same-length
-same-length c = search needs
-
-same-length-2 : tie.Need-same-length-2
-same-length-2 c = search needs
-
 returns-2 : tie.Need-returns-2
 returns-2 c =
     let d = c .before in
@@ -70,15 +52,6 @@ returns-2 c =
     let m = e .before in
     load-built (of m .args .t1) (shape (of m)) (lent (of m)) _ (may m) (e .if1 .left) _ _ _
     (b .build-tables .ensures) (d .enum-told .given .1) _ (c .loaded-from .ensures)
-
-enum-known-n : tie.Need-enum-known-n
-enum-known-n c = search needs
-
-same-length-3 : tie.Need-same-length-3
-same-length-3 c = search needs
-
-same-length-4 : tie.Need-same-length-4
-same-length-4 c = search needs
 
 returns-3 : tie.Need-returns-3
 returns-3 c =
@@ -93,16 +66,16 @@ pub load-spec : {M : Type 1} → statement M
 load-spec =
     tie.close
     (tie.spec
-    may-load-requires
-    allowed-requires
+    (λ c κs. search needs)
+    (λ c κs. search needs)
     returns
-    build-tables-requires
-    enum-told
+    (λ c κs. search needs)
+    (λ c. search needs)
     loaded-from-requires
-    same-length
-    same-length-2
+    (λ c. search needs)
+    (λ c. search needs)
     returns-2
-    enum-known-n
-    same-length-3
-    same-length-4
+    (λ c. search needs)
+    (λ c. search needs)
+    (λ c. search needs)
     returns-3)

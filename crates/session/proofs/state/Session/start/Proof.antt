@@ -34,26 +34,11 @@ may : (m : tie.After-allowed) → m .allowed .result
     ≡ (valid (of m .args .t1) && mayStart (phaseOf (of m .args .t1 .head .phase)))
 may m = allowed-by mayStart (of m .args .t1) _ _ (tested m .may-start .ensures) (m .allowed .ensures)
 
-may-start-requires : tie.Need-may-start-requires
-may-start-requires c κs = search needs
-
-allowed-requires : tie.Need-allowed-requires
-allowed-requires c κs = search needs
-
 returns : tie.Need-returns
 returns c =
     let m = c .before in
     start-1 (of m .args .t1) (shape (of m)) (lent (of m)) (of m .args .nodes .now) (of m .args .labels .now) _
     (may m) (c .if1 .taken)
-
-cast-n : tie.Need-cast-n
-cast-n c = search needs
-
-cast-s : tie.Need-cast-s
-cast-s c = search needs
-
-cast-k : tie.Need-cast-k
-cast-k c = search needs
 
 rule-buffers-fit-requires : tie.Need-rule-buffers-fit-requires
 rule-buffers-fit-requires c κs =
@@ -70,9 +55,6 @@ returns-2 c =
     start-17 (of m .args .t1) (shape (of m)) (lent (of m)) (of m .args .nodes .now) (of m .args .labels .now) _
     (may m)
     (e .if1 .left) _ (k .rule-buffers-fit .ensures) (c .if2 .taken)
-
-check-list-requires : tie.Need-check-list-requires
-check-list-requires c κs = search needs
 
 returns-3 : tie.Need-returns-3
 returns-3 c =
@@ -105,9 +87,6 @@ slice-aggregate-roots c =
     start-room (of m .args .t1) (shape (of m)) (lent (of m)) (of m .args .nodes .now) (of m .args .labels .now) _
     (may m) (e .if1 .left) _ (k .rule-buffers-fit .ensures) (t .if2 .left) in
     sym (length-take-le (of m .args .t1 .head .sizes .n * 4) (of m .args .node-table .now) h)
-
-roots-requires : tie.Need-roots-requires
-roots-requires c κs = search needs
 
 returns-4 : tie.Need-returns-4
 returns-4 c =
@@ -175,19 +154,19 @@ pub start-spec : {M : Type 1} → statement M
 start-spec =
     tie.close
     (tie.spec
-    may-start-requires
-    allowed-requires
+    (λ c κs. search needs)
+    (λ c κs. search needs)
     returns
-    cast-n
-    cast-s
-    cast-k
+    (λ c. search needs)
+    (λ c. search needs)
+    (λ c. search needs)
     rule-buffers-fit-requires
     returns-2
-    check-list-requires
+    (λ c κs. search needs)
     returns-3
     mul-roots
     slice-aggregate-roots
-    roots-requires
+    (λ c κs. search needs)
     returns-4
     cast-parts
     started-requires
