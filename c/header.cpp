@@ -35,6 +35,8 @@ static int with_a_session() {
 }
 
 int main() {
+    if (whatif_version() != WHATIF_VERSION_NUMBER || whatif_session_state(NULL, 0) != WHATIF_NO_STATE)
+        return 7;
     for (uint32_t answer = 0; answer <= 19; answer++)
         if (!*whatif_answer_text(answer))
             return 6;

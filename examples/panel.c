@@ -14,9 +14,19 @@ static const uint8_t rules[] = {2, 0,  0, 0, 2, 0, 0, 0, 20, 0, 0, 0, 22, 0, 0, 
 
 /* What the panel keeps: the session's record, all zero at first, and the tables that Load writes. */
 static uint8_t record[WHATIF_RECORD_BYTES];
-static uint16_t nodes[WHATIF_NODE_TABLE_LEN(7)];
-static uint8_t states[WHATIF_STATE_TABLE_LEN(7, 2)];
-#define LENT plan, sizeof plan, rules, sizeof rules, nodes, sizeof nodes / sizeof *nodes, states, sizeof states
+static uint16_t node_table[WHATIF_NODE_TABLE_LEN(7)];
+static uint8_t state_table[WHATIF_STATE_TABLE_LEN(7, 2)];
+/* What is lent with each Start and advance. */
+static const struct whatif_lent lent = {
+    .plan = plan,
+    .plan_len = sizeof plan,
+    .rules = rules,
+    .rules_len = sizeof rules,
+    .node_table = node_table,
+    .node_table_len = sizeof node_table / sizeof *node_table,
+    .state_table = state_table,
+    .state_table_len = sizeof state_table,
+};
 
 /* Says what a refusal means. */
 static int accepted(uint32_t answer) {
@@ -32,16 +42,17 @@ static uint32_t start(const uint16_t *listed, const uint8_t *labels, size_t m) {
     for (size_t i = 0; i < m; i++)
         printf("%s node %u took label %u", i ? " and" : "", listed[i], labels[i]);
     printf("?\n");
-    if (accepted(whatif_start(record, sizeof record, LENT, listed, m, labels, m, &parts)))
+    if (accepted(whatif_start_lent(record, sizeof record, &lent, listed, labels, m, &parts)))
         printf("%u parts\n", parts);
     return parts;
 }
 
 /* Handles all parts; a panel would do one whenever it has a moment. */
-static int finish(uint32_t parts) {
-    for (uint32_t done = 1, finished = 0; !finished; done++) {
-        if (!accepted(whatif_advance(record, sizeof record, LENT, &finished)))
+static int finish(void) {
+    for (uint32_t finished = 0; !finished;) {
+        if (!accepted(whatif_advance_lent(record, sizeof record, &lent, &finished)))
             return 0;
+        uint32_t parts = whatif_parts(record, sizeof record), done = whatif_parts_done(record, sizeof record);
         putchar('[');
         for (uint32_t i = 0; i < parts; i++)
             putchar(i < done ? '#' : '.');
@@ -59,14 +70,16 @@ static int tell(void) {
 }
 
 int main(void) {
-    if (!accepted(whatif_load(record, sizeof record, LENT)))
+    if (whatif_version() != WHATIF_VERSION_NUMBER)
+        return fprintf(stderr, "header %s, archive %u\n", WHATIF_VERSION, whatif_version()), 1;
+    if (!accepted(whatif_load(record, sizeof record, plan, sizeof plan, rules, sizeof rules, node_table,
+                              lent.node_table_len, state_table, lent.state_table_len)))
         return 1;
     printf("loaded: %u nodes\n", plan[0]);
     if (!start((const uint16_t[]){4}, (const uint8_t[]){0}, 1) || !accepted(whatif_cancel(record, sizeof record)))
         return 1;
     printf("cancelled\n");
-    uint32_t parts = start((const uint16_t[]){0, 3}, (const uint8_t[]){0, 1}, 2);
-    if (!parts || !finish(parts) || !tell())
+    if (!start((const uint16_t[]){0, 3}, (const uint8_t[]){0, 1}, 2) || !finish() || !tell())
         return 1;
     /* the plan has no node 7; a refused call changes nothing, so the answer is still there */
     if (start((const uint16_t[]){7}, (const uint8_t[]){0}, 1))

@@ -1,13 +1,17 @@
 /*
  * whatif.h: the what-if checker for C and C++.
  *
- * Order: limits, sizes, answers; the functions for tables and fresh runs, for branch questions, and of the panel
- * session; the answers' texts.
- * The bytes of plans, tables and records are in docs/LAYOUT.md, the order of the checks of each call in
- * docs/REFUSALS.md.
+ * Order: version, limits, sizes, answers; the functions for tables and fresh runs, for branch questions, and of the
+ * panel session; then what is written here alone: what a record tells, the session's calls with what is lent as one
+ * struct, the answers' texts.
+ * The bytes of plans, tables and records are in LAYOUT.md, the order of the checks of each call in REFUSALS.md: both
+ * stand in docs/ of the sources, and beside this file where it is installed.
  *
- * Link with libwhatif.a (x86-64). The library never allocates, keeps nothing between calls and is re-entrant: any
- * number of threads may call it at once, each with buffers that no other thread writes during the call.
+ * Link with libwhatif.a or, where it is installed, with libwhatif.so (x86-64 Linux). The library never allocates, keeps
+ * nothing between calls and is re-entrant: any number of threads may call it at once, each with buffers that no other
+ * thread writes during the call.
+ * Stack of a call, as measured on plans of 65,535 nodes: a fresh run at most 40 KiB, a session call at most 4 KiB, any
+ * other at most 1 KiB.
  *
  * What holds for every function:
  * - A slice is a pointer, then its count of elements (not bytes).
@@ -30,7 +34,10 @@
 extern "C" {
 #endif
 
-#define WHATIF_VERSION "0.1.0"
+/* This header's version, as text and as major * 10000 + minor * 100 + patch. whatif_version() is the archive's: before
+ * 1.0 a program is to use both of one minor version. */
+#define WHATIF_VERSION "0.2.0"
+#define WHATIF_VERSION_NUMBER 200u
 
 /* Limits: nodes of a plan (1 to), states and labels of a table (1 to), changes in a list (0 to). */
 #define WHATIF_MAX_NODES 65535u
@@ -44,14 +51,17 @@ extern "C" {
 
 /* Sizes: bytes of a plan of n nodes, of a rule table and of a branch table of s states and k labels; elements of the
  * node table (uint16_t) and of the state table (uint8_t) for n nodes and s states. A plan, a rule table and a branch
- * table have exactly these bytes; the node table and the state table may be longer, and their excess is untouched. */
+ * table have exactly these bytes; the node table and the state table may be longer, and their excess is untouched.
+ * An inner node has two children, so the n of a plan is odd. */
 #define WHATIF_PLAN_BYTES(n) ((size_t)12 + (size_t)2 * (size_t)(n))
 #define WHATIF_RULES_BYTES(s, k) ((size_t)20 + (size_t)(k) + (size_t)(s) * (size_t)(k) * (size_t)(s) + (size_t)(s))
 #define WHATIF_BRANCH_BYTES(s, k) ((size_t)16 + (size_t)(s) * (size_t)(k) + (size_t)(s))
 #define WHATIF_NODE_TABLE_LEN(n) ((size_t)4 * (size_t)(n))
 #define WHATIF_STATE_TABLE_LEN(n, s) (((size_t)(s) + (size_t)1) * (size_t)(n))
 
-/* Bytes of a session's record, and the version of its layout. All zero is a fresh session. */
+/* Bytes of a session's record, and the version of its layout. All zero is a fresh session. Records of different layout
+ * versions differ in length: a record that was kept is one of this version where it has WHATIF_RECORD_BYTES bytes, and
+ * one of another length is refused with 1. */
 #define WHATIF_RECORD_BYTES 967u
 #define WHATIF_RECORD_LAYOUT 1u
 
@@ -97,6 +107,9 @@ enum whatif_answer {
     WHATIF_REFUSED_LENT_VALUE = 18
 };
 
+/* The archive's version, as WHATIF_VERSION_NUMBER is this header's. It is always answered; there is no refusal. */
+uint32_t whatif_version(void);
+
 /*
  * Writes the tables of a plan and a rule table: those on which questions are answered.
  * Lent:    the plan and the rule table, read; node_table and state_table, written.
@@ -126,7 +139,6 @@ uint32_t whatif_check(const uint8_t *plan, size_t plan_len, const uint8_t *rules
  * Written: *state, the root's state; *yes, 1 where that state's mark is 1, else 0.
  * Answers: WHATIF_ACCEPTED, or the first of 2, 3, 4, 5, 6, 7, 8, 9, 10, 12, 13, 14, 15; each is put to the whole list
  *          before the next. Refused, *state and *yes are as they were.
- * It needs about 32 KiB of stack.
  */
 uint32_t whatif_fresh_run(const uint8_t *plan, size_t plan_len, const uint8_t *rules, size_t rules_len,
                           const uint16_t *nodes, size_t nodes_len, const uint8_t *labels, size_t labels_len,
@@ -174,7 +186,15 @@ uint32_t whatif_branch(const uint8_t *plan, size_t plan_len, const uint8_t *bran
 /*
  * The panel session. Its record, WHATIF_RECORD_BYTES bytes, belongs to the panel: it is all zero at first, passes from
  * call to call and is written by these functions alone. Plan, rule table and tables are lent with each call that needs
- * them and may be altered or exchanged between calls. A record belongs to one thread at a time.
+ * them and may be altered or exchanged between calls. A record belongs to one thread at a time. What one Load wrote may
+ * serve many records: a copy of a loaded record is a loaded record, and tables that are only read may be shared.
+ *
+ * What altered buffers can do: of these calls Load alone tests a plan and a rule table whole. Start and an advance
+ * test the lengths of what is lent (17) and the values that they read (18); whether tables are as built only
+ * whatif_check can tell. So on tables that were altered after Load, until Start or between Start and the last advance,
+ * a call may be refused with 18, and an answer may be another than the fresh run's; but every call ends, and none reads
+ * or writes outside what is lent. The same holds of a plan and rules that were altered: 2 to 10 are not put to them
+ * again. After the last advance the answer stands in the record, and nothing that is lent can alter it.
  *
  * A session is empty, loaded, running or answered:
  *
@@ -184,7 +204,8 @@ uint32_t whatif_branch(const uint8_t *plan, size_t plan_len, const uint8_t *bran
  *     whatif_cancel   running                then loaded
  *     whatif_read     answered               then answered
  *
- * Any other call gets 1. So does a record that breaks its layout, or that has another length.
+ * Any other call gets 1. So does a record that breaks its layout, or that has another length, as those of another
+ * layout version have. whatif_session_state, below, helps to tell which it was.
  */
 
 /*
@@ -243,6 +264,58 @@ uint32_t whatif_cancel(uint8_t *record, size_t record_len);
  */
 uint32_t whatif_read(const uint8_t *record, size_t record_len, uint32_t *state, uint32_t *yes, uint32_t *parts,
                      uint32_t *links);
+
+/* What a record tells. These read single bytes of it, as LAYOUT.md places them. Bytes of another length, or without a
+ * state, have WHATIF_NO_STATE and no parts; nothing else is tested. So a refusal 1 means: the call may not be made in the
+ * state that is told; or there is none; or, where the call may be made in it, other bytes of the record are broken. */
+enum whatif_state {
+    WHATIF_EMPTY = 0,
+    WHATIF_LOADED = 1,
+    WHATIF_RUNNING = 2,
+    WHATIF_ANSWERED = 3,
+    WHATIF_NO_STATE = 4
+};
+
+static inline uint32_t whatif_session_state(const uint8_t *record, size_t record_len) {
+    return record_len == WHATIF_RECORD_BYTES && record[0] < WHATIF_NO_STATE ? record[0] : (uint32_t)WHATIF_NO_STATE;
+}
+
+/* The parts of a question that is running or answered, else 0. */
+static inline uint32_t whatif_parts(const uint8_t *record, size_t record_len) {
+    return whatif_session_state(record, record_len) == WHATIF_NO_STATE ? 0u : (uint32_t)record[7];
+}
+
+/* How many of them are handled. */
+static inline uint32_t whatif_parts_done(const uint8_t *record, size_t record_len) {
+    return whatif_session_state(record, record_len) == WHATIF_NO_STATE ? 0u : (uint32_t)record[8];
+}
+
+/* What is lent with each Start and advance, as one struct: members have names, so plan and rules are not exchanged. */
+struct whatif_lent {
+    const uint8_t *plan;
+    size_t plan_len;
+    const uint8_t *rules;
+    size_t rules_len;
+    const uint16_t *node_table;
+    size_t node_table_len;
+    const uint8_t *state_table;
+    size_t state_table_len;
+};
+
+/* whatif_start with what is lent as one struct, and count nodes with as many labels. */
+static inline uint32_t whatif_start_lent(uint8_t *record, size_t record_len, const struct whatif_lent *lent,
+                                         const uint16_t *nodes, const uint8_t *labels, size_t count, uint32_t *parts) {
+    return whatif_start(record, record_len, lent->plan, lent->plan_len, lent->rules, lent->rules_len, lent->node_table,
+                        lent->node_table_len, lent->state_table, lent->state_table_len, nodes, count, labels, count,
+                        parts);
+}
+
+/* whatif_advance with what is lent as one struct. */
+static inline uint32_t whatif_advance_lent(uint8_t *record, size_t record_len, const struct whatif_lent *lent,
+                                           uint32_t *finished) {
+    return whatif_advance(record, record_len, lent->plan, lent->plan_len, lent->rules, lent->rules_len,
+                          lent->node_table, lent->node_table_len, lent->state_table, lent->state_table_len, finished);
+}
 
 /* The text of an answer, in one sentence: that of its comment above. */
 static inline const char *whatif_answer_text(uint32_t answer) {

@@ -13,23 +13,24 @@ use lib.ListN.{length, getD, take, length-take}
 use Rattle.trees.specs.Tree.{Tree, size, labelAt}
 use Rattle.trees.specs.Automaton.{WordAutomaton}
 use Rattle.trees.specs.Climb.{forestOf, climb}
-use Rattle.trees.specs.Tables.{linkTable, branchTable, branchRow, branchMap}
-use Rattle.trees.proofs.RowLaws.{length-rows, length-branchRow, branchTable-map}
+use Rattle.trees.specs.Tables.{nodeTableOf, branchTableOf, branchRow, branchMap}
+use Rattle.list_laws.proofs.RowLaws.{length-rows}
+use Rattle.trees.proofs.TableRows.{length-branchRow, branchTable-map}
 use Rattle.trees.proofs.ClimbLaws.{Tells, same-climb}
 use Rattle.formats.specs.Plan.{nodeCount, labelsIn, planTree}
 use Rattle.formats.specs.Rules.{stateCount, labelCount, branchAutomaton}
 use Rattle.formats.specs.Built.{BranchBuilt}
+use Rattle.formats.specs.Buffers.{headedBuffersFit, branchTables}
 use Rattle.formats.proofs.PlanLaws.{PlanPasses, labels-planTree, size-planTree}
 use Rattle.formats.proofs.BranchLaws.{BranchPasses, step-below}
-use Rattle.formats.proofs.ListLaws.{allBelow-all}
+use Rattle.list_laws.proofs.TestLaws.{allBelow-all}
 use Rattle.formats.proofs.InputLaws.{branch-table-passes}
-use Rattle.links.specs.Cells.{cellForest}
-use Rattle.links.specs.LinkCells.{LinkCells}
-use Rattle.links.proofs.CellLaws.{length-linkTable, link-cells}
+use Rattle.formats.proofs.BufferLaws.{are-headed}
+use Rattle.node_tables.specs.Cells.{cellForest}
+use Rattle.node_tables.specs.NodeCells.{NodeCells}
+use Rattle.node_tables.proofs.CellLaws.{length-nodeTableOf, link-cells}
 use Rattle.tables.specs.StateCells.{mapCell}
 use Rattle.branches.proofs.BranchInputs.{length-branchTable}
-use Rattle.branches.specs.Question.{lentFits}
-use Rattle.branches.proofs.FitLaws.{fits-lent}
 
 -- a buffer that begins with a list of n elements has n
 begins : (n : ℕ) (b l : List ℕ) → take n b ≡ l → length l ≡ n → n ≤ length b
@@ -37,7 +38,7 @@ begins n b l e z =
     let q : length (take n b) ≡ n = ap length e ∙ z in
     omega (arith, length-take n b)
 
-module _ (p r nums bytes : List ℕ) (D : BranchBuilt p r nums bytes) where
+module _ (p r nodeTable stateTable : List ℕ) (D : BranchBuilt p r nodeTable stateTable) where
   abbrev tree : Tree
   tree = planTree p
 
@@ -55,46 +56,46 @@ module _ (p r nums bytes : List ℕ) (D : BranchBuilt p r nums bytes) where
 
   -- ---- 17
 
-  links-room : nodeCount p * 4 ≤ length nums
+  links-room : nodeCount p * 4 ≤ length nodeTable
   links-room =
-      begins (nodeCount p * 4) nums (linkTable tree) (D .links) (length-linkTable tree ∙ ap (λ (n : ℕ). n * 4) size-is)
+      begins (nodeCount p * 4) nodeTable (nodeTableOf tree) (D .links) (length-nodeTableOf tree ∙ ap (λ (n : ℕ). n * 4) size-is)
 
-  states-room : nodeCount p * (stateCount r + 1) ≤ length bytes
+  states-room : nodeCount p * (stateCount r + 1) ≤ length stateTable
   states-room =
-      begins (nodeCount p * (stateCount r + 1)) bytes (branchTable automaton tree) (D .states)
+      begins (nodeCount p * (stateCount r + 1)) stateTable (branchTableOf automaton tree) (D .states)
       (length-branchTable automaton tree ∙ ap (λ (n : ℕ). n * (stateCount r + 1)) size-is)
 
-  pub fits-built : lentFits p r nums bytes ≡ true
-  fits-built = fits-lent p r nums bytes (record {
-    plan = record {
-      long = plan-passes .long;
-      least = plan-passes .least;
-      most = plan-passes .most;
-      exact = plan-passes .exact;
+  pub fits-built : headedBuffersFit branchTables p r (length nodeTable) (length stateTable) ≡ true
+  fits-built = are-headed branchTables p r (length nodeTable) (length stateTable) (record {
+    headers = record {
+      plan-long = plan-passes .long;
+      table-long = table-passes .long;
+      in-limits = record {
+        nodes = plan-passes .least;
+        most = plan-passes .most;
+        states = table-passes .states-least;
+        few = table-passes .states-most;
+        labels = table-passes .labels-least;
+        labels-most = table-passes .labels-most;
+      };
     };
-    branch = record {
-      long = table-passes .long;
-      states-least = table-passes .states-least;
-      states-most = table-passes .states-most;
-      labels-least = table-passes .labels-least;
-      labels-most = table-passes .labels-most;
-      exact = table-passes .exact;
-    };
-    nums-room = links-room;
-    bytes-room = states-room;
+    plan-exact = plan-passes .exact;
+    table-exact = table-passes .exact;
+    node-table-room = links-room;
+    state-table-room = states-room;
   })
 
   -- ---- the links
 
-  pub built-links : LinkCells (planTree p) nums
-  built-links = link-cells tree (nodeCount p) nums (sym size-is) (D .links)
+  pub built-links : NodeCells (planTree p) nodeTable
+  built-links = link-cells tree (nodeCount p) nodeTable (sym size-is) (D .links)
 
-  tells : Tells (cellForest (nodeCount p) nums) tree
+  tells : Tells (cellForest (nodeCount p) nodeTable) tree
   tells v h = (built-links .parents v h, built-links .jumps v h, built-links .depths v h)
 
   pub built-climb : (w to : ℕ) → w < size (planTree p)
-      → climb (cellForest (nodeCount p) nums) w to ≡ climb (forestOf (planTree p)) w to
-  built-climb w to h = same-climb (cellForest (nodeCount p) nums) tree (sym size-is) tells w to h
+      → climb (cellForest (nodeCount p) nodeTable) w to ≡ climb (forestOf (planTree p)) w to
+  built-climb w to h = same-climb (cellForest (nodeCount p) nodeTable) tree (sym size-is) tells w to h
 
   -- ---- labels, steps and maps
 
@@ -109,10 +110,10 @@ module _ (p r nums bytes : List ℕ) (D : BranchBuilt p r nums bytes) where
   built-step q a = step-below r table-passes (q * labelCount r + a)
 
   pub built-map : (v q : ℕ) → v < size (planTree p) → q < stateCount r
-      → mapCell (stateCount r) bytes v q ≡ branchMap (branchAutomaton r) (planTree p) v q
+      → mapCell (stateCount r) stateTable v q ≡ branchMap (branchAutomaton r) (planTree p) v q
   built-map v q h l =
       let e : v * (stateCount r + 1) + (1 + q) ≡ v * (stateCount r + 1) + 1 + q = omega arith in
-      ap (λ (i : ℕ). getD bytes i 0) e
-      ∙ branchTable-map automaton tree bytes
-      (subst (λ (n : ℕ). take (n * (stateCount r + 1)) bytes ≡ branchTable automaton tree) (sym size-is) (D .states))
+      ap (λ (i : ℕ). getD stateTable i 0) e
+      ∙ branchTable-map automaton tree stateTable
+      (subst (λ (n : ℕ). take (n * (stateCount r + 1)) stateTable ≡ branchTableOf automaton tree) (sym size-is) (D .states))
       v h q l

@@ -9,69 +9,71 @@ use mathlib.Core.Bool.{Bool, true, false, _&&_}
 use mathlib.Core.List.{List}
 use mathlib.Core.Option.{Option, none, some}
 use lib.Dec.{ltb}
+use lib.ListN.{length}
 use borrow.Author.Tests.{lt-ltb, le-ltb}
 use Rattle.formats.specs.Plan.{nodeCount}
 use Rattle.formats.specs.Checks.{firstNo}
-use Rattle.formats.proofs.CheckLaws.{and-both, and-no-left, and-no-right}
-use Rattle.formats.proofs.PartLaws.{four, four-1, four-2, four-3}
+use Rattle.formats.specs.Buffers.{headedBuffersFit, branchTables}
+use Rattle.list_laws.proofs.BoolLaws.{and-both, and-no-left, and-no-right}
+use Rattle.formats.proofs.FourChecks.{four, four-1, four-2, four-3}
+use Rattle.node_tables.specs.Cells.{isInSubtreeOn}
 use Rattle.branches.specs.declared.answers.Branching.the-variants.{Refused}
-use Rattle.branches.specs.Question.{lentFits, Branched, branchOn, isSome, askChecks}
-use Rattle.links.specs.Cells.{isBelow}
-use Rattle.branches.specs.Question.{askNumber, branchNumber, toldBranch, askAnswer}
+use Rattle.branches.specs.Question.{Branched, branchOn, isSome, askChecks}
+use Rattle.branches.specs.Question.{askNumber, branchNumber, branchAnswer, askAnswer}
 
 -- four checks, the last of which asks whether there is an answer
 module _ (a b c : Bool) (o : Option Branched) where
   abbrev number : ℕ
   number = firstNo (four 16 12 15 17 a b c (isSome o))
 
-  told-passed : a ≡ true → b ≡ true → c ≡ true → toldBranch number o ≡ toldBranch 0 o
-  unfolding firstNo toldBranch
-  told-passed e f g = rw (e, f, g) (go o)
+  answer-passed : a ≡ true → b ≡ true → c ≡ true → branchAnswer number o ≡ branchAnswer 0 o
+  unfolding firstNo branchAnswer
+  answer-passed e f g = rw (e, f, g) (go o)
     where
-      go : (o : Option Branched) → toldBranch (firstNo (four 16 12 15 17 true true true (isSome o))) o ≡ toldBranch 0 o
+      go : (o : Option Branched) → branchAnswer (firstNo (four 16 12 15 17 true true true (isSome o))) o ≡ branchAnswer 0 o
       go none = refl
       go (some x) = refl
 
 -- the number of an answer is that of its checks
-told-number : (a b c : Bool) (o : Option Branched)
-    → branchNumber (toldBranch (firstNo (four 16 12 15 17 a b c (isSome o))) o)
+answer-number : (a b c : Bool) (o : Option Branched)
+    → branchNumber (branchAnswer (firstNo (four 16 12 15 17 a b c (isSome o))) o)
     ≡ firstNo (four 16 12 15 17 a b c (isSome o))
-unfolding branchNumber toldBranch firstNo
-told-number true true true none = refl
-told-number true true true (some x) = refl
-told-number true true false o = refl
-told-number true false c o = refl
-told-number false b c o = refl
+unfolding branchNumber branchAnswer firstNo
+answer-number true true true none = refl
+answer-number true true true (some x) = refl
+answer-number true true false o = refl
+answer-number true false c o = refl
+answer-number false b c o = refl
 
-module _ (p r nums bytes : List ℕ) (u l : ℕ) where
+module _ (p r nodeTable stateTable : List ℕ) (u l : ℕ) where
   abbrev fits : Bool
-  fits = lentFits p r nums bytes
+  fits = headedBuffersFit branchTables p r (length nodeTable) (length stateTable)
 
   abbrev nodes : Bool
   nodes = ltb u (nodeCount p) && ltb l (nodeCount p)
 
   abbrev below : Bool
-  below = isBelow nums u l
+  below = isInSubtreeOn nodeTable u l
 
   abbrev on : Option Branched
-  on = branchOn p r nums bytes u l
+  on = branchOn p r nodeTable stateTable u l
 
-  pub ask-number : branchNumber (askAnswer p r nums bytes u l) ≡ askNumber p r nums bytes u l
+  pub ask-number : branchNumber (askAnswer p r nodeTable stateTable u l) ≡ askNumber p r nodeTable stateTable u l
   unfolding askAnswer askNumber askChecks
-  ask-number = told-number fits nodes below on
+  ask-number = answer-number fits nodes below on
 
-  pub ask-17 : fits ≡ false → Refused 17 ≡ askAnswer p r nums bytes u l
-  unfolding askAnswer askNumber askChecks toldBranch
-  ask-17 e = ap (λ (i : ℕ). toldBranch i on) (sym (four-1 16 12 15 17 fits nodes below (isSome on) e))
+  pub ask-17 : fits ≡ false → Refused 17 ≡ askAnswer p r nodeTable stateTable u l
+  unfolding askAnswer askNumber askChecks branchAnswer
+  ask-17 e = ap (λ (i : ℕ). branchAnswer i on) (sym (four-1 16 12 15 17 fits nodes below (isSome on) e))
 
-  ask-13 : fits ≡ true → nodes ≡ false → Refused 13 ≡ askAnswer p r nums bytes u l
-  unfolding askAnswer askNumber askChecks toldBranch
-  ask-13 e f = ap (λ (i : ℕ). toldBranch i on) (sym (four-2 16 12 15 17 fits nodes below (isSome on) e f))
+  ask-13 : fits ≡ true → nodes ≡ false → Refused 13 ≡ askAnswer p r nodeTable stateTable u l
+  unfolding askAnswer askNumber askChecks branchAnswer
+  ask-13 e f = ap (λ (i : ℕ). branchAnswer i on) (sym (four-2 16 12 15 17 fits nodes below (isSome on) e f))
 
-  pub ask-13-upper : fits ≡ true → nodeCount p ≤ u → Refused 13 ≡ askAnswer p r nums bytes u l
+  pub ask-13-upper : fits ≡ true → nodeCount p ≤ u → Refused 13 ≡ askAnswer p r nodeTable stateTable u l
   ask-13-upper e h = ask-13 e (and-no-left (ltb u (nodeCount p)) (ltb l (nodeCount p)) (le-ltb u (nodeCount p) h))
 
-  pub ask-13-lower : fits ≡ true → nodeCount p ≤ l → Refused 13 ≡ askAnswer p r nums bytes u l
+  pub ask-13-lower : fits ≡ true → nodeCount p ≤ l → Refused 13 ≡ askAnswer p r nodeTable stateTable u l
   ask-13-lower e h = ask-13 e (and-no-right (ltb u (nodeCount p)) (ltb l (nodeCount p)) (le-ltb l (nodeCount p) h))
 
   both-nodes : u < nodeCount p → l < nodeCount p → nodes ≡ true
@@ -79,12 +81,12 @@ module _ (p r nums bytes : List ℕ) (u l : ℕ) where
       and-both (ltb u (nodeCount p)) (ltb l (nodeCount p)) (lt-ltb u (nodeCount p) h) (lt-ltb l (nodeCount p) i)
 
   pub ask-16 : fits ≡ true → u < nodeCount p → l < nodeCount p → below ≡ false
-      → Refused 16 ≡ askAnswer p r nums bytes u l
-  unfolding askAnswer askNumber askChecks toldBranch
+      → Refused 16 ≡ askAnswer p r nodeTable stateTable u l
+  unfolding askAnswer askNumber askChecks branchAnswer
   ask-16 e h i f =
-      ap (λ (j : ℕ). toldBranch j on) (sym (four-3 16 12 15 17 fits nodes below (isSome on) e (both-nodes h i) f))
+      ap (λ (j : ℕ). branchAnswer j on) (sym (four-3 16 12 15 17 fits nodes below (isSome on) e (both-nodes h i) f))
 
   pub ask-on : fits ≡ true → u < nodeCount p → l < nodeCount p → below ≡ true
-      → askAnswer p r nums bytes u l ≡ toldBranch 0 (branchOn p r nums bytes u l)
+      → askAnswer p r nodeTable stateTable u l ≡ branchAnswer 0 (branchOn p r nodeTable stateTable u l)
   unfolding askAnswer askNumber askChecks
-  ask-on e h i f = told-passed fits nodes below on e (both-nodes h i) f
+  ask-on e h i f = answer-passed fits nodes below on e (both-nodes h i) f

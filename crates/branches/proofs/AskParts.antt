@@ -1,4 +1,5 @@
 -- The answer of a branch question by its composition.
+--     move-map-run       moveMap is runMove on the runs of plan and branch table
 --     composition-map    a composed map has s entries, all below s
 --     branch-on-parts    branchOn is the composition on the runs of plan and branch table, finished
 --     on-none, on-some   what is told where there is none, and where there is one
@@ -8,25 +9,31 @@ use mathlib.Core.Path.{_≡_, refl, ap, subst}
 use mathlib.Core.List.{List, [], _∷_}
 use mathlib.Core.Option.{Option, none, some, Option·some-injective}
 use lib.ListN.{length, getD, take, drop}
-use Rattle.trees.specs.Climb.{Move, andThen, climb, carry}
-use Rattle.trees.specs.Tables.{tabulate}
+use Rattle.trees.specs.Climb.{Move, byJump, toParent, andThen, climb, carry}
+use Rattle.list_laws.specs.Rows.{tabulate}
 use Rattle.trees.proofs.MoveLaws.{none-some}
 use Rattle.formats.specs.Plan.{nodeCount, labelsIn}
 use Rattle.formats.specs.Rules.{stateCount, labelCount, branchLength, branchSteps, branchMarks, branchAutomaton}
 use Rattle.formats.proofs.PlanLaws.{labels-part}
 use Rattle.formats.proofs.BranchLaws.{steps-part, branch-marks-part-exact}
-use Rattle.links.specs.Cells.{depthCell, cellForest}
+use Rattle.node_tables.specs.Cells.{depthCell, cellForest}
+use Rattle.tables.specs.Compose.{runMove, Counted, composition, labelMove}
+use Rattle.tables.proofs.FollowLaws.{MapOf}
+use Rattle.tables.proofs.MoveMaps.{run-move-map}
 use Rattle.branches.specs.Question.{moveMap, firstState, Branched, branched, branchOn}
-use Rattle.branches.specs.Compose.{runMove, Counted, composition}
-use Rattle.branches.specs.Finish.{firstOf, finish}
-use Rattle.branches.proofs.FollowLaws.{MapOf}
-use Rattle.branches.proofs.MoveMaps.{run-move-map, move-map-run}
+use Rattle.branches.specs.inner.Finish.{firstOf, finish}
+
+move-map-run : (p r stateTable : List ℕ) (i : Move) (m : List ℕ)
+    → moveMap p r stateTable i m ≡ runMove (stateCount r) (labelCount r) (labelsIn p) (branchSteps r) stateTable i m
+unfolding moveMap runMove labelMove
+move-map-run p r stateTable (byJump v) m = refl
+move-map-run p r stateTable (toParent v) m = refl
 
 -- ---- composed maps
 
-module _ (s k : ℕ) (ls st bytes : List ℕ) where
+module _ (s k : ℕ) (ls st stateTable : List ℕ) where
   abbrev act : Move → List ℕ → Option (List ℕ)
-  act = runMove s k ls st bytes
+  act = runMove s k ls st stateTable
 
   carry-map : (ms : List Move) (m m′ : List ℕ) → MapOf s m → carry act ms m ≡ some m′ → MapOf s m′
   carry-map [] m m′ M e = subst (MapOf s) (Option·some-injective m m′ e) M
@@ -35,12 +42,12 @@ module _ (s k : ℕ) (ls st bytes : List ℕ) where
       go : (o : Option (List ℕ)) → act i m ≡ o → andThen o (carry act ms) ≡ some m′
           → ((x : List ℕ) → MapOf s x → carry act ms x ≡ some m′ → MapOf s m′) → MapOf s m′
       go none a q h = absurd (none-some q)
-      go (some x) a q h = h x (run-move-map s k ls st bytes i m x M a) q
+      go (some x) a q h = h x (run-move-map s k ls st stateTable i m x M a) q
 
-  pub composition-map : (n : ℕ) (nums : List ℕ) (l to : ℕ) (first : List ℕ) (x : Counted) → MapOf s first
-      → composition n s k ls st nums bytes l to first ≡ some x → MapOf s (x .map)
+  pub composition-map : (n : ℕ) (nodeTable : List ℕ) (l to : ℕ) (first : List ℕ) (x : Counted) → MapOf s first
+      → composition n s k ls st nodeTable stateTable l to first ≡ some x → MapOf s (x .map)
   unfolding composition
-  composition-map n nums l to first x M e = climbed (climb (cellForest n nums) l to) e
+  composition-map n nodeTable l to first x M e = climbed (climb (cellForest n nodeTable) l to) e
     where
       carried : (ms : List Move) (o : Option (List ℕ)) → carry act ms first ≡ o
           → andThen o (λ m. some (record { map = m; links = length ms })) ≡ some x → MapOf s (x .map)
@@ -68,60 +75,60 @@ carry-same f g e (i ∷ ms) m = rw (e i m) (go (g i m) (λ x. carry-same f g e m
     go none h = refl
     go (some x) h = h x
 
-module _ (p r nums bytes : List ℕ) (u l : ℕ) where
+module _ (p r nodeTable stateTable : List ℕ) (u l : ℕ) where
   abbrev pub branchComposition : Option Counted
   branchComposition =
-      composition (nodeCount p) (stateCount r) (labelCount r) (labelsIn p) (branchSteps r) nums bytes l
-      (depthCell nums u) (tabulate (stateCount r) (λ q. q))
+      composition (nodeCount p) (stateCount r) (labelCount r) (labelsIn p) (branchSteps r) nodeTable stateTable l
+      (depthCell nodeTable u) (tabulate (stateCount r) (λ q. q))
 
   abbrev pub branchFinish : List ℕ → ℕ → Option Branched
   branchFinish m c = finish (stateCount r) (labelCount r) (labelsIn p) (branchSteps r) (branchMarks r) u m c
 
   abbrev branchMove : Move → List ℕ → Option (List ℕ)
-  branchMove = runMove (stateCount r) (labelCount r) (labelsIn p) (branchSteps r) bytes
+  branchMove = runMove (stateCount r) (labelCount r) (labelsIn p) (branchSteps r) stateTable
 
   abbrev count : List Move → List ℕ → Option Counted
   count ms m = some (record { map = m; links = length ms })
 
   -- as branchOn has it: what is told of the map m of the moves ms
-  abbrev told : List Move → List ℕ → Option Branched
-  told ms m = andThen (firstState p r u) (λ q. some (branched (branchAutomaton r) (getD m q 0) (length ms)))
+  abbrev result : List Move → List ℕ → Option Branched
+  result ms m = andThen (firstState p r u) (λ q. some (branched (branchAutomaton r) (getD m q 0) (length ms)))
 
-  pub branch-on-parts : branchOn p r nums bytes u l ≡ andThen branchComposition (λ x. branchFinish (x .map) (x .links))
+  pub branch-on-parts : branchOn p r nodeTable stateTable u l ≡ andThen branchComposition (λ x. branchFinish (x .map) (x .links))
   unfolding branchOn composition finish firstOf firstState
-  branch-on-parts = climbed (climb (cellForest (nodeCount p) nums) l (depthCell nums u))
+  branch-on-parts = climbed (climb (cellForest (nodeCount p) nodeTable) l (depthCell nodeTable u))
     where
       carried : (ms : List Move) (o : Option (List ℕ))
-          → andThen o (told ms) ≡ andThen (andThen o (count ms)) (λ (x : Counted). branchFinish (x .map) (x .links))
+          → andThen o (result ms) ≡ andThen (andThen o (count ms)) (λ (x : Counted). branchFinish (x .map) (x .links))
       carried ms none = refl
       carried ms (some m) = refl
 
       climbed : (o : Option (List Move))
-          → andThen o (λ ms. andThen (carry (moveMap p r bytes) ms (tabulate (stateCount r) (λ q. q))) (told ms))
+          → andThen o (λ ms. andThen (carry (moveMap p r stateTable) ms (tabulate (stateCount r) (λ q. q))) (result ms))
           ≡ andThen (andThen o (λ ms. andThen (carry branchMove ms (tabulate (stateCount r) (λ q. q))) (count ms)))
           (λ (x : Counted). branchFinish (x .map) (x .links))
       climbed none = refl
       climbed (some ms) =
-          rw (carry-same (moveMap p r bytes) branchMove (move-map-run p r bytes) ms (tabulate (stateCount r) (λ q. q)))
+          rw (carry-same (moveMap p r stateTable) branchMove (move-map-run p r stateTable) ms (tabulate (stateCount r) (λ q. q)))
           (carried ms (carry branchMove ms (tabulate (stateCount r) (λ q. q))))
 
 -- ---- from what is handed on
 
 -- the header numbers, the depth and the runs are those of what is lent
-pub record Handed (p r nums : List ℕ) (u n s k to : ℕ) (ls st mk : List ℕ) : Type 0 where
+pub record Handed (p r nodeTable : List ℕ) (u n s k to : ℕ) (ls st mk : List ℕ) : Type 0 where
   pub nodes : n ≡ nodeCount p
   pub states : s ≡ stateCount r
   pub labels : k ≡ labelCount r
-  pub depth : to ≡ depthCell nums u
+  pub depth : to ≡ depthCell nodeTable u
   pub label-run : ls ≡ labelsIn p
   pub step-run : st ≡ branchSteps r
   pub mark-run : mk ≡ branchMarks r
 
-pub handed : (p r nums : List ℕ) (u n s k to : ℕ) → n ≡ nodeCount p → s ≡ stateCount r → k ≡ labelCount r
-    → to ≡ depthCell nums u → length r ≡ branchLength (stateCount r) (labelCount r)
-    → Handed p r nums u n s k to (take (12 + n - 12) (drop 12 p)) (take (16 + s * k - 16) (drop 16 r))
+pub handed : (p r nodeTable : List ℕ) (u n s k to : ℕ) → n ≡ nodeCount p → s ≡ stateCount r → k ≡ labelCount r
+    → to ≡ depthCell nodeTable u → length r ≡ branchLength (stateCount r) (labelCount r)
+    → Handed p r nodeTable u n s k to (take (12 + n - 12) (drop 12 p)) (take (16 + s * k - 16) (drop 16 r))
     (take (length r - (16 + s * k)) (drop (16 + s * k) r))
-handed p r nums u n s k to a b c d e = record {
+handed p r nodeTable u n s k to a b c d e = record {
   nodes = a;
   states = b;
   labels = c;
@@ -131,11 +138,11 @@ handed p r nums u n s k to a b c d e = record {
   mark-run = branch-marks-part-exact r s k e b c;
 }
 
-module _ (p r nums bytes : List ℕ) (u l n s k to : ℕ) (ls st mk : List ℕ)
-    (H : Handed p r nums u n s k to ls st mk) where
-  pub composition-is : composition n s k ls st nums bytes l to (tabulate s (λ q. q))
-      ≡ branchComposition p r nums bytes u l
+module _ (p r nodeTable stateTable : List ℕ) (u l n s k to : ℕ) (ls st mk : List ℕ)
+    (H : Handed p r nodeTable u n s k to ls st mk) where
+  pub composition-is : composition n s k ls st nodeTable stateTable l to (tabulate s (λ q. q))
+      ≡ branchComposition p r nodeTable stateTable u l
   composition-is = rw (H .nodes, H .states, H .labels, H .depth, H .label-run, H .step-run)
 
-  pub finish-is : (m : List ℕ) (c : ℕ) → finish s k ls st mk u m c ≡ branchFinish p r nums bytes u l m c
+  pub finish-is : (m : List ℕ) (c : ℕ) → finish s k ls st mk u m c ≡ branchFinish p r nodeTable stateTable u l m c
   finish-is m c = rw (H .states, H .labels, H .label-run, H .step-run, H .mark-run)

@@ -3,7 +3,7 @@
 --     length-builtSteps          the length of the table of a branch table
 --     parts-filled               labels, kinds and steps, as parts, are what the writers need
 --     parts-written              what the writers leave is what the build has to write
---     parts-told                 what the comparisons tell is what the full check has to tell
+--     parts-in                 what the comparisons tell is what the full check has to tell
 -- Assumes nothing.
 use Prim.Native.Nat.{ℕ, _+_, _-_, _*_, _≤_}
 use mathlib.Core.Path.{_≡_, sym, ap, _∙_}
@@ -13,36 +13,37 @@ use native.Mathlib.Omega.{arith}
 use lib.ListN.{length, take, drop}
 use Rattle.trees.specs.Tree.{Tree, size}
 use Rattle.trees.specs.Automaton.{WordAutomaton}
-use Rattle.trees.specs.Tables.{linkTable, branchRow, branchTable}
-use Rattle.trees.proofs.RowLaws.{length-rows, length-branchRow}
-use Rattle.formats.specs.Bytes.{allBelow}
+use Rattle.trees.specs.Tables.{nodeTableOf, branchRow, branchTableOf}
+use Rattle.list_laws.proofs.RowLaws.{length-rows}
+use Rattle.trees.proofs.TableRows.{length-branchRow}
+use Rattle.list_laws.specs.Tests.{allBelow}
 use Rattle.formats.specs.Plan.{nodeCount, labelsIn, kindsIn, planTree}
 use Rattle.formats.specs.Rules.{stateCount, labelCount, branchSteps, branchMarks, wordAutomaton, branchAutomaton}
-use Rattle.formats.specs.Checks.{firstNo, branchBuildChecks, linkLength, stateLength}
-use Rattle.formats.specs.Built.{builtLinks, builtSteps}
+use Rattle.formats.specs.Checks.{firstNo, branchBuildChecks, nodeTableLength, stateTableLength}
+use Rattle.formats.specs.Built.{builtNodeTable, builtBranchTable}
 use Rattle.formats.proofs.PlanLaws.{PlanPasses, length-labelsIn, kinds-planTree, labels-planTree, size-planTree}
 use Rattle.formats.proofs.PlanLaws.{labels-part, kinds-part}
 use Rattle.formats.proofs.BranchLaws.{BranchPasses, length-branchSteps, step-below, steps-part}
 use Rattle.formats.proofs.InputLaws.{branch-build-passes, label-below}
-use Rattle.links.proofs.CellLaws.{length-linkTable}
+use Rattle.node_tables.proofs.CellLaws.{length-nodeTableOf}
 use Rattle.tables.specs.Answers.{sameTables}
-use Rattle.branches.specs.Told.{TablesTold}
-use Rattle.branches.specs.Filled.{FillArgs, TablesFilled, BranchFilled, PartArgs, BranchWritten}
+use Rattle.branches.specs.inner.BranchTests.{TablesTested}
+use Rattle.branches.specs.inner.Filled.{FillArgs, TablesFilled, BranchFilled, PartArgs, BranchWritten}
 
-pub length-branchTable : (B : WordAutomaton) (t : Tree) → length (branchTable B t) ≡ size t * (B .states + 1)
-unfolding branchTable
+pub length-branchTable : (B : WordAutomaton) (t : Tree) → length (branchTableOf B t) ≡ size t * (B .states + 1)
+unfolding branchTableOf
 length-branchTable B t = length-rows (size t) (B .states + 1) (branchRow B t) (λ v h. length-branchRow B t v)
 
 pub length-builtSteps : (p r : List ℕ) → PlanPasses p
-    → length (builtSteps p r) ≡ stateLength (nodeCount p) (stateCount r)
+    → length (builtBranchTable p r) ≡ stateTableLength (nodeCount p) (stateCount r)
 length-builtSteps p r h =
     length-branchTable (branchAutomaton r) (planTree p) ∙ ap (λ (n : ℕ). n * (stateCount r + 1)) (size-planTree p h)
 
 -- what the checks say of inputs that pass
 abbrev pub Accepted : List ℕ → List ℕ → ℕ → ℕ → Type 0
 Accepted p r l m =
-    PlanPasses p × BranchPasses r × (allBelow (labelCount r) (labelsIn p) ≡ true) × (linkLength (nodeCount p) ≤ l)
-    × (stateLength (nodeCount p) (stateCount r) ≤ m)
+    PlanPasses p × BranchPasses r × (allBelow (labelCount r) (labelsIn p) ≡ true) × (nodeTableLength (nodeCount p) ≤ l)
+    × (stateTableLength (nodeCount p) (stateCount r) ≤ m)
 
 module _ (p r : List ℕ) (l m : ℕ) (ok : firstNo (branchBuildChecks p r l m) ≡ 0) where
   pub accepted : Accepted p r l m
@@ -70,23 +71,23 @@ module _ (p r : List ℕ) (l m : ℕ) (ok : firstNo (branchBuildChecks p r l m) 
         count = size-planTree p (A .0) ∙ sym z;
         most = rw z (A .0 .most);
         few = A .1 .states-most;
-        nums-room = rw z (A .3);
+        node-table-room = rw z (A .3);
         room = rw z (A .4);
         steps-room = omega (arith, length-branchSteps r (A .1));
         steps-below = step-below r (A .1);
         labels-below = label-below p r (A .1 .labels-least) (A .2);
       }
 
-filled-same : {st st′ : List ℕ} {s s′ k k′ : ℕ} (mk : List ℕ) (t : Tree) (nums bytes nums′ bytes′ : List ℕ) → st ≡ st′
+filled-same : {st st′ : List ℕ} {s s′ k k′ : ℕ} (mk : List ℕ) (t : Tree) (nodeTable stateTable nodeTable′ stateTable′ : List ℕ) → st ≡ st′
     → s ≡ s′
-    → k ≡ k′ → TablesFilled st s k mk t nums bytes nums′ bytes′ → TablesFilled st′ s′ k′ mk t nums bytes nums′ bytes′
-filled-same mk t nums bytes nums′ bytes′ a b c F = rw (← a, ← b, ← c) F
+    → k ≡ k′ → TablesFilled st s k mk t nodeTable stateTable nodeTable′ stateTable′ → TablesFilled st′ s′ k′ mk t nodeTable stateTable nodeTable′ stateTable′
+filled-same mk t nodeTable stateTable nodeTable′ stateTable′ a b c F = rw (← a, ← b, ← c) F
 
-told-same : {st st′ : List ℕ} {s s′ k k′ : ℕ} (mk : List ℕ) (t : Tree) (nums b : List ℕ) (x : Bool) → st ≡ st′
+answer-same : {st st′ : List ℕ} {s s′ k k′ : ℕ} (mk : List ℕ) (t : Tree) (nodeTable b : List ℕ) (x : Bool) → st ≡ st′
     → s ≡ s′ → k ≡ k′
-    → x ≡ sameTables (linkTable t) (branchTable (wordAutomaton s k st mk) t) nums b
-    → x ≡ sameTables (linkTable t) (branchTable (wordAutomaton s′ k′ st′ mk) t) nums b
-told-same mk t nums b x a d c F = rw (← a, ← d, ← c) F
+    → x ≡ sameTables (nodeTableOf t) (branchTableOf (wordAutomaton s k st mk) t) nodeTable b
+    → x ≡ sameTables (nodeTableOf t) (branchTableOf (wordAutomaton s′ k′ st′ mk) t) nodeTable b
+answer-same mk t nodeTable b x a d c F = rw (← a, ← d, ← c) F
 
 module _ (p r : List ℕ) (n s k l m : ℕ) (args : PartArgs p r n s k l m) where
   labels-is : take (12 + n - 12) (drop 12 p) ≡ labelsIn p
@@ -102,27 +103,27 @@ module _ (p r : List ℕ) (n s k l m : ℕ) (args : PartArgs p r n s k l m) wher
       (take (16 + s * k - 16) (drop 16 r)) s k (length (take (12 + n - 12) (drop 12 p))) l m
   parts-filled = rw (labels-is, kinds-is, steps-is, args .states, args .labels) (runs-filled p r l m (args .passed))
 
-  pub parts-written : (nums bytes nums′ bytes′ : List ℕ)
+  pub parts-written : (nodeTable stateTable nodeTable′ stateTable′ : List ℕ)
       → BranchFilled (take (12 + n - 12) (drop 12 p)) (take (length p - (12 + n)) (drop (12 + n) p))
-      (take (16 + s * k - 16) (drop 16 r)) s k nums bytes nums′ bytes′
-      → BranchWritten p r nums bytes nums′ bytes′
-  parts-written nums bytes nums′ bytes′ F =
+      (take (16 + s * k - 16) (drop 16 r)) s k nodeTable stateTable nodeTable′ stateTable′
+      → BranchWritten p r nodeTable stateTable nodeTable′ stateTable′
+  parts-written nodeTable stateTable nodeTable′ stateTable′ F =
       let P : PlanPasses p = accepted p r l m (args .passed) .0 in
       let t : Tree = planTree p in
-      let G : TablesFilled (branchSteps r) (stateCount r) (labelCount r) (branchMarks r) t nums bytes nums′ bytes′ =
-      filled-same (branchMarks r) t nums bytes nums′ bytes′ steps-is (args .states) (args .labels)
+      let G : TablesFilled (branchSteps r) (stateCount r) (labelCount r) (branchMarks r) t nodeTable stateTable nodeTable′ stateTable′ =
+      filled-same (branchMarks r) t nodeTable stateTable nodeTable′ stateTable′ steps-is (args .states) (args .labels)
       (F (branchMarks r) t (kinds-planTree p P ∙ sym kinds-is) (labels-planTree p P ∙ sym labels-is)) in
       record {
-        links = G .links ∙ ap (λ (i : ℕ). builtLinks p ++ drop i nums) (sym (length-linkTable t));
-        states = G .states ∙ ap (λ (i : ℕ). builtSteps p r ++ drop i bytes)
+        links = G .links ∙ ap (λ (i : ℕ). builtNodeTable p ++ drop i nodeTable) (sym (length-nodeTableOf t));
+        states = G .states ∙ ap (λ (i : ℕ). builtBranchTable p r ++ drop i stateTable)
             (sym (length-branchTable (branchAutomaton r) t));
       }
 
-  pub parts-told : (nums b : List ℕ) (x : Bool)
-      → TablesTold (take (12 + n - 12) (drop 12 p)) (take (length p - (12 + n)) (drop (12 + n) p))
-      (take (16 + s * k - 16) (drop 16 r)) s k nums b x
-      → x ≡ sameTables (builtLinks p) (builtSteps p r) nums b
-  parts-told nums b x F =
+  pub parts-in : (nodeTable b : List ℕ) (x : Bool)
+      → TablesTested (take (12 + n - 12) (drop 12 p)) (take (length p - (12 + n)) (drop (12 + n) p))
+      (take (16 + s * k - 16) (drop 16 r)) s k nodeTable b x
+      → x ≡ sameTables (builtNodeTable p) (builtBranchTable p r) nodeTable b
+  parts-in nodeTable b x F =
       let P : PlanPasses p = accepted p r l m (args .passed) .0 in
-      told-same (branchMarks r) (planTree p) nums b x steps-is (args .states) (args .labels)
+      answer-same (branchMarks r) (planTree p) nodeTable b x steps-is (args .states) (args .labels)
       (F (branchMarks r) (planTree p) (kinds-planTree p P ∙ sym kinds-is) (labels-planTree p P ∙ sym labels-is))

@@ -13,98 +13,98 @@ use lib.ListN.{length, take, drop}
 use lib.Seq.{take-at}
 use Rattle.formats.specs.Plan.{nodeCount}
 use Rattle.formats.specs.Rules.{stateCount}
-use Rattle.formats.specs.Checks.{firstNo, branchTableChecks, branchBuildChecks, linkLength, stateLength}
-use Rattle.formats.specs.Built.{builtLinks, builtSteps, BranchBuilt}
+use Rattle.formats.specs.Checks.{firstNo, branchTableChecks, branchBuildChecks, nodeTableLength, stateTableLength}
+use Rattle.formats.specs.Built.{builtNodeTable, builtBranchTable, BranchBuilt}
 use Rattle.formats.proofs.InputLaws.{branch-table-passes, branch-build-table, passes-branch-build}
 use Rattle.tables.specs.declared.answers.Building.{Building}
 use Rattle.tables.specs.declared.answers.Checking.{Checking}
 use Rattle.tables.specs.declared.answers.Checking.the-variants.{Yes, No}
-use Rattle.tables.specs.Answers.{numberOf, BuildDone, CheckDone}
-use Rattle.tables.proofs.BuildLaws.{length-builtLinks, built-lists}
+use Rattle.tables.specs.Answers.{buildingNumber, BuildDone, CheckDone}
+use Rattle.tables.proofs.BuildLaws.{length-builtNodeTable, built-lists}
 use Rattle.tables.proofs.CheckAnswers.{Begins, begins-room, done-yes, yes-done, done-no, no-done}
 use Rattle.branches.proofs.BranchInputs.{length-builtSteps}
 
 -- the number of the first check of 2 to 11 that fails
 abbrev pub branchBuildNumber : List ℕ → List ℕ → List ℕ → List ℕ → ℕ
-branchBuildNumber p r nums bytes = firstNo (branchBuildChecks p r (length nums) (length bytes))
+branchBuildNumber p r nodeTable stateTable = firstNo (branchBuildChecks p r (length nodeTable) (length stateTable))
 
 module _ (p r : List ℕ) (pass : firstNo (branchTableChecks p r) ≡ 0) where
-  links-length : length (builtLinks p) ≡ linkLength (nodeCount p)
-  links-length = length-builtLinks p (branch-table-passes p r pass .0)
+  links-length : length (builtNodeTable p) ≡ nodeTableLength (nodeCount p)
+  links-length = length-builtNodeTable p (branch-table-passes p r pass .0)
 
-  steps-length : length (builtSteps p r) ≡ stateLength (nodeCount p) (stateCount r)
+  steps-length : length (builtBranchTable p r) ≡ stateTableLength (nodeCount p) (stateCount r)
   steps-length = length-builtSteps p r (branch-table-passes p r pass .0)
 
   -- any excess
-  pub written-branch-built : (x y : List ℕ) → BranchBuilt p r (builtLinks p ++ x) (builtSteps p r ++ y)
+  pub written-branch-built : (x y : List ℕ) → BranchBuilt p r (builtNodeTable p ++ x) (builtBranchTable p r ++ y)
   written-branch-built x y = record {
     accepted = pass;
-    links = take-at (builtLinks p) x (linkLength (nodeCount p)) links-length;
-    states = take-at (builtSteps p r) y (stateLength (nodeCount p) (stateCount r)) steps-length;
+    links = take-at (builtNodeTable p) x (nodeTableLength (nodeCount p)) links-length;
+    states = take-at (builtBranchTable p r) y (stateTableLength (nodeCount p) (stateCount r)) steps-length;
   }
 
 -- whatever the buffers were, an accepted build leaves them as built
-pub built-branch-built : (p r nums bytes nums′ bytes′ : List ℕ) (answer : Building)
-    → BuildDone (branchBuildNumber p r nums bytes) (builtLinks p) (builtSteps p r) nums bytes answer nums′ bytes′
-    → numberOf answer ≡ 0 → BranchBuilt p r nums′ bytes′
-built-branch-built p r nums bytes nums′ bytes′ answer D e =
-    let q = built-lists _ (builtLinks p) (builtSteps p r) nums bytes answer nums′ bytes′ D e in
-    rw (q .1, q .2) (written-branch-built p r (branch-build-table p r (length nums) (length bytes) (q .0))
-    (drop (length (builtLinks p)) nums) (drop (length (builtSteps p r)) bytes))
+pub built-branch-built : (p r nodeTable stateTable nodeTable′ stateTable′ : List ℕ) (answer : Building)
+    → BuildDone (branchBuildNumber p r nodeTable stateTable) (builtNodeTable p) (builtBranchTable p r) nodeTable stateTable answer nodeTable′ stateTable′
+    → buildingNumber answer ≡ 0 → BranchBuilt p r nodeTable′ stateTable′
+built-branch-built p r nodeTable stateTable nodeTable′ stateTable′ answer D e =
+    let q = built-lists _ (builtNodeTable p) (builtBranchTable p r) nodeTable stateTable answer nodeTable′ stateTable′ D e in
+    rw (q .1, q .2) (written-branch-built p r (branch-build-table p r (length nodeTable) (length stateTable) (q .0))
+    (drop (length (builtNodeTable p)) nodeTable) (drop (length (builtBranchTable p r)) stateTable))
 
 -- ---- yes and no
 
-module _ (p r nums bytes : List ℕ) where
-  begins-built : firstNo (branchTableChecks p r) ≡ 0 → Begins (builtLinks p) (builtSteps p r) nums bytes
-      → BranchBuilt p r nums bytes
+module _ (p r nodeTable stateTable : List ℕ) where
+  begins-built : firstNo (branchTableChecks p r) ≡ 0 → Begins (builtNodeTable p) (builtBranchTable p r) nodeTable stateTable
+      → BranchBuilt p r nodeTable stateTable
   begins-built pass b = record {
     accepted = pass;
-    links = ap (λ (n : ℕ). take n nums) (sym (links-length p r pass)) ∙ b .0;
-    states = ap (λ (n : ℕ). take n bytes) (sym (steps-length p r pass)) ∙ b .1;
+    links = ap (λ (n : ℕ). take n nodeTable) (sym (links-length p r pass)) ∙ b .0;
+    states = ap (λ (n : ℕ). take n stateTable) (sym (steps-length p r pass)) ∙ b .1;
   }
 
-  built-begins : BranchBuilt p r nums bytes → Begins (builtLinks p) (builtSteps p r) nums bytes
+  built-begins : BranchBuilt p r nodeTable stateTable → Begins (builtNodeTable p) (builtBranchTable p r) nodeTable stateTable
   built-begins B = (
-    ap (λ (n : ℕ). take n nums) (links-length p r (B .accepted)) ∙ B .links,
-    ap (λ (n : ℕ). take n bytes) (steps-length p r (B .accepted)) ∙ B .states,
+    ap (λ (n : ℕ). take n nodeTable) (links-length p r (B .accepted)) ∙ B .links,
+    ap (λ (n : ℕ). take n stateTable) (steps-length p r (B .accepted)) ∙ B .states,
   )
 
   -- tables as built have room
-  pub branch-built-passes : BranchBuilt p r nums bytes → branchBuildNumber p r nums bytes ≡ 0
+  pub branch-built-passes : BranchBuilt p r nodeTable stateTable → branchBuildNumber p r nodeTable stateTable ≡ 0
   branch-built-passes B =
-      passes-branch-build p r (length nums) (length bytes) (B .accepted)
-      (begins-room (linkLength (nodeCount p)) nums (builtLinks p) (B .links) (links-length p r (B .accepted)))
-      (begins-room (stateLength (nodeCount p) (stateCount r)) bytes (builtSteps p r) (B .states)
+      passes-branch-build p r (length nodeTable) (length stateTable) (B .accepted)
+      (begins-room (nodeTableLength (nodeCount p)) nodeTable (builtNodeTable p) (B .links) (links-length p r (B .accepted)))
+      (begins-room (stateTableLength (nodeCount p) (stateCount r)) stateTable (builtBranchTable p r) (B .states)
       (steps-length p r (B .accepted)))
 
   module _ (answer : Checking)
-      (done : CheckDone (branchBuildNumber p r nums bytes) (builtLinks p) (builtSteps p r) nums bytes answer) where
-    pub check-yes : answer ≡ Yes → BranchBuilt p r nums bytes
+      (done : CheckDone (branchBuildNumber p r nodeTable stateTable) (builtNodeTable p) (builtBranchTable p r) nodeTable stateTable answer) where
+    pub check-yes : answer ≡ Yes → BranchBuilt p r nodeTable stateTable
     check-yes e =
-        let q = done-yes (branchBuildNumber p r nums bytes) (builtLinks p) (builtSteps p r) nums bytes answer done e in
-        begins-built (branch-build-table p r (length nums) (length bytes) (q .0)) (q .1)
+        let q = done-yes (branchBuildNumber p r nodeTable stateTable) (builtNodeTable p) (builtBranchTable p r) nodeTable stateTable answer done e in
+        begins-built (branch-build-table p r (length nodeTable) (length stateTable) (q .0)) (q .1)
 
-    pub yes-check : BranchBuilt p r nums bytes → answer ≡ Yes
+    pub yes-check : BranchBuilt p r nodeTable stateTable → answer ≡ Yes
     yes-check B =
-        yes-done (branchBuildNumber p r nums bytes) (builtLinks p) (builtSteps p r) nums bytes answer done
+        yes-done (branchBuildNumber p r nodeTable stateTable) (builtNodeTable p) (builtBranchTable p r) nodeTable stateTable answer done
         (branch-built-passes B)
         (built-begins B)
 
-    pub check-no : answer ≡ No → (branchBuildNumber p r nums bytes ≡ 0) × (BranchBuilt p r nums bytes → ⊥)
+    pub check-no : answer ≡ No → (branchBuildNumber p r nodeTable stateTable ≡ 0) × (BranchBuilt p r nodeTable stateTable → ⊥)
     check-no e =
-        let q = done-no (branchBuildNumber p r nums bytes) (builtLinks p) (builtSteps p r) nums bytes answer done e in
+        let q = done-no (branchBuildNumber p r nodeTable stateTable) (builtNodeTable p) (builtBranchTable p r) nodeTable stateTable answer done e in
         (q .0, λ B. q .1 (built-begins B))
 
-    pub no-check : branchBuildNumber p r nums bytes ≡ 0 → (BranchBuilt p r nums bytes → ⊥) → answer ≡ No
+    pub no-check : branchBuildNumber p r nodeTable stateTable ≡ 0 → (BranchBuilt p r nodeTable stateTable → ⊥) → answer ≡ No
     no-check pass not-built =
-        no-done (branchBuildNumber p r nums bytes) (builtLinks p) (builtSteps p r) nums bytes answer done pass
-        (λ b. not-built (begins-built (branch-build-table p r (length nums) (length bytes) pass) b))
+        no-done (branchBuildNumber p r nodeTable stateTable) (builtNodeTable p) (builtBranchTable p r) nodeTable stateTable answer done pass
+        (λ b. not-built (begins-built (branch-build-table p r (length nodeTable) (length stateTable) pass) b))
 
--- nums and bytes before an accepted build, nums′ and bytes′ after it
-pub build-then-check : (p r nums bytes nums′ bytes′ : List ℕ) (built : Building) (checked : Checking)
-    → BuildDone (branchBuildNumber p r nums bytes) (builtLinks p) (builtSteps p r) nums bytes built nums′ bytes′
-    → numberOf built ≡ 0
-    → CheckDone (branchBuildNumber p r nums′ bytes′) (builtLinks p) (builtSteps p r) nums′ bytes′ checked
+-- nodeTable and bytes before an accepted build, nodeTable′ and bytes′ after it
+pub build-then-check : (p r nodeTable stateTable nodeTable′ stateTable′ : List ℕ) (built : Building) (checked : Checking)
+    → BuildDone (branchBuildNumber p r nodeTable stateTable) (builtNodeTable p) (builtBranchTable p r) nodeTable stateTable built nodeTable′ stateTable′
+    → buildingNumber built ≡ 0
+    → CheckDone (branchBuildNumber p r nodeTable′ stateTable′) (builtNodeTable p) (builtBranchTable p r) nodeTable′ stateTable′ checked
     → checked ≡ Yes
-build-then-check p r nums bytes nums′ bytes′ built checked B e C =
-    yes-check p r nums′ bytes′ checked C (built-branch-built p r nums bytes nums′ bytes′ built B e)
+build-then-check p r nodeTable stateTable nodeTable′ stateTable′ built checked B e C =
+    yes-check p r nodeTable′ stateTable′ checked C (built-branch-built p r nodeTable stateTable nodeTable′ stateTable′ built B e)

@@ -1,7 +1,7 @@
 -- Check 16, and the end of a branch question.
---     isBelow-true, true-isBelow                       what it says, and back
+--     in-subtree-is, is-in-subtree                       what it says, and back
 --     first-is                                         the state after the upper node's label
---     finish-no-label, finish-no-state, finish-told    what is told of a composed map
+--     finish-no-label, finish-no-state, finish-result    what is told of a composed map
 -- Assumes nothing.
 use Prim.Native.Nat.{ℕ, _+_, _-_, _*_, _≤_, _<_}
 use mathlib.Core.Path.{_≡_, sym, ap, _∙_}
@@ -12,29 +12,30 @@ use native.Mathlib.Omega.{arith}
 use lib.Dec.{leb, ltb, eqb}
 use lib.ListN.{getD}
 use borrow.Author.Tests.{leb-true, le-leb, lt-leb, ltb-true, lt-ltb, le-ltb}
-use Rattle.trees.proofs.Choice.{le-or}
-use Rattle.formats.proofs.CheckLaws.{and-both, and-left, and-right, and-no-left, and-no-right}
-use Rattle.links.specs.Cells.{sizeCell}
-use Rattle.branches.specs.declared.answers.Branching.the-variants.{Told, Refused}
-use Rattle.branches.specs.Question.{toldBranch}
-use Rattle.links.specs.Cells.{isBelow}
-use Rattle.branches.specs.Compose.{mapAt}
-use Rattle.branches.specs.Finish.{firstOf, finish}
-use Rattle.branches.proofs.MapHalves.{getD-mapAt}
+use Rattle.trees.specs.Numbering.{isInSubtree}
+use Rattle.list_laws.proofs.Choice.{le-or}
+use Rattle.list_laws.proofs.BoolLaws.{and-both, and-left, and-right, and-no-left, and-no-right}
+use Rattle.node_tables.specs.Cells.{sizeCell}
+use Rattle.node_tables.specs.Cells.{isInSubtreeOn}
+use Rattle.tables.specs.Compose.{mapAt}
+use Rattle.tables.proofs.MapHalves.{getD-mapAt}
+use Rattle.branches.specs.declared.answers.Branching.the-variants.{Answered, Refused}
+use Rattle.branches.specs.Question.{branchAnswer}
+use Rattle.branches.specs.inner.Finish.{firstOf, finish}
 
 -- ---- check 16
 
-module _ (nums : List ℕ) (u l : ℕ) where
-  pub isBelow-true : isBelow nums u l ≡ true → (l ≤ u) × (u < l + sizeCell nums u)
-  unfolding isBelow
-  isBelow-true e = (
-    leb-true l u (and-left (leb l u) (ltb u (l + sizeCell nums u)) e),
-    ltb-true u (l + sizeCell nums u) (and-right (leb l u) (ltb u (l + sizeCell nums u)) e),
+module _ (nodeTable : List ℕ) (u l : ℕ) where
+  pub in-subtree-is : isInSubtreeOn nodeTable u l ≡ true → (l ≤ u) × (u < l + sizeCell nodeTable u)
+  unfolding isInSubtree
+  in-subtree-is e = (
+    leb-true l u (and-left (leb l u) (ltb u (l + sizeCell nodeTable u)) e),
+    ltb-true u (l + sizeCell nodeTable u) (and-right (leb l u) (ltb u (l + sizeCell nodeTable u)) e),
   )
 
-  pub true-isBelow : l ≤ u → u < l + sizeCell nums u → isBelow nums u l ≡ true
-  unfolding isBelow
-  true-isBelow h i = and-both (leb l u) (ltb u (l + sizeCell nums u)) (le-leb l u h) (lt-ltb u (l + sizeCell nums u) i)
+  pub is-in-subtree : l ≤ u → u < l + sizeCell nodeTable u → isInSubtreeOn nodeTable u l ≡ true
+  unfolding isInSubtree
+  is-in-subtree h i = and-both (leb l u) (ltb u (l + sizeCell nodeTable u)) (le-leb l u h) (lt-ltb u (l + sizeCell nodeTable u) i)
 
 -- ---- the state after the upper node's label
 
@@ -63,17 +64,17 @@ module _ (s k : ℕ) (ls st : List ℕ) (u : ℕ) where
   -- ---- what is told
 
   module _ (mk m : List ℕ) (c : ℕ) where
-    pub finish-no-label : k ≤ label → Refused 18 ≡ toldBranch 0 (finish s k ls st mk u m c)
-    unfolding finish toldBranch
+    pub finish-no-label : k ≤ label → Refused 18 ≡ branchAnswer 0 (finish s k ls st mk u m c)
+    unfolding finish branchAnswer
     finish-no-label h = rw (first-no-label h)
 
-    pub finish-no-state : s ≤ getD st label 0 → Refused 18 ≡ toldBranch 0 (finish s k ls st mk u m c)
-    unfolding finish toldBranch
+    pub finish-no-state : s ≤ getD st label 0 → Refused 18 ≡ branchAnswer 0 (finish s k ls st mk u m c)
+    unfolding finish branchAnswer
     finish-no-state h = rw (first-no-state h)
 
   module _ (mk maps : List ℕ) (at c : ℕ) where
-    pub finish-told : label < k → getD st label 0 < s
-        → Told (getD maps (at + getD st label 0) 0) (eqb (getD mk (getD maps (at + getD st label 0) 0) 0) 1) c
-        ≡ toldBranch 0 (finish s k ls st mk u (mapAt s maps at) c)
-    unfolding finish toldBranch
-    finish-told h i = rw (first-is h i, getD-mapAt s maps at (getD st label 0) i)
+    pub finish-result : label < k → getD st label 0 < s
+        → Answered (getD maps (at + getD st label 0) 0) (eqb (getD mk (getD maps (at + getD st label 0) 0) 0) 1) c
+        ≡ branchAnswer 0 (finish s k ls st mk u (mapAt s maps at) c)
+    unfolding finish branchAnswer
+    finish-result h i = rw (first-is h i, getD-mapAt s maps at (getD st label 0) i)

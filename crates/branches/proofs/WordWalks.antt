@@ -11,8 +11,8 @@ use Rattle.trees.specs.Tree.{Tree, labelAt}
 use Rattle.trees.specs.Automaton.{WordAutomaton, wordRun}
 use Rattle.trees.specs.Numbering.{parent, labelsDown}
 use Rattle.trees.specs.Climb.{walk}
-use Rattle.trees.specs.Tables.{tabulate}
-use Rattle.trees.proofs.RowLaws.{length-tabulate, getD-tabulate, tabulate-ext, tabulate-of}
+use Rattle.list_laws.specs.Rows.{tabulate}
+use Rattle.list_laws.proofs.RowLaws.{length-tabulate, getD-tabulate, tabulate-ext, tabulate-of}
 use Rattle.trees.proofs.BranchMapLaws.{wordRun-append, wordRun-below}
 
 module _ (B : WordAutomaton) (t : Tree) where

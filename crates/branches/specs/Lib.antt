@@ -1,10 +1,4 @@
 pub mod Question
 pub mod Promise
-pub mod Compose
-pub mod Fits
-pub mod Finish
-pub mod Lent
-pub mod Maps
-pub mod Filled
-pub mod Told
-pub mod Astray
+pub mod OutOfRange
+pub mod inner

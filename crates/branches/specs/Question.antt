@@ -1,8 +1,7 @@
 -- The branch question, on whatever is lent.
 --
--- lentFits p r nums bytes == check 17: headers whole and within limits, plan and branch table exactly as long, tables long enough
--- check 16 goes by the lent size of the upper node u: isBelow nums u l (crate links, Cells)
--- follow s m f == the map m after the map f of s states; none where f leads outside the states
+-- check 17 goes by the headers: headedBuffersFit branchTables (crate formats, Buffers)
+-- check 16 goes by the lent size of the upper node u: isInSubtreeOn nodeTable u l (crate links, Cells)
 -- moveMap .. == what one move of the climb makes of the map from the node reached so far down to the lower node
 -- firstState .. == the state after the upper node's label
 -- branchOn .. == the answer on these tables: none where a value read leads outside the plan, the states or the labels, or a climb
@@ -13,46 +12,29 @@
 -- "It tells state, yes or no, and the links of the climb from the lower node to the upper's depth". The word runs downward while the
 -- climb goes up, so each move puts its own map before the map carried so far.
 -- Assumes nothing.
-use Prim.Native.Nat.{ℕ, zero, suc, _+_, _*_}
+use Prim.Native.Nat.{ℕ, zero, suc}
 use mathlib.Core.Bool.{Bool, true, false, cond, _&&_}
 use mathlib.Core.List.{List, [], _∷_}
 use mathlib.Core.Option.{Option, none, some}
-use lib.Dec.{leb, ltb, eqb}
+use lib.Dec.{ltb}
 use lib.ListN.{length, getD}
 use Rattle.trees.specs.Automaton.{WordAutomaton}
 use Rattle.trees.specs.Climb.{Move, byJump, toParent, andThen, climb, carry}
-use Rattle.trees.specs.Tables.{tabulate}
-use Rattle.formats.specs.Bytes.{allBelow}
-use Rattle.formats.specs.Limits.{nodeLimit, stateLimit, labelLimit, within}
-use Rattle.formats.specs.Plan.{nodeCount, planLength, labelsIn}
-use Rattle.formats.specs.Rules.{stateCount, labelCount, branchLength, branchAutomaton}
-use Rattle.formats.specs.Checks.{Check, check, firstNo, linkLength, stateLength}
-use Rattle.links.specs.Cells.{depthCell, cellForest, isBelow}
+use Rattle.list_laws.specs.Rows.{tabulate}
+use Rattle.formats.specs.Plan.{nodeCount, labelsIn}
+use Rattle.formats.specs.Rules.{stateCount, labelCount, branchAutomaton}
+use Rattle.formats.specs.Checks.{Check, check, firstNo}
+use Rattle.formats.specs.Buffers.{headedBuffersFit, branchTables}
+use Rattle.node_tables.specs.Cells.{depthCell, cellForest, isInSubtreeOn}
+use Rattle.tables.specs.Compose.{follow}
 use Rattle.tables.specs.StateCells.{mapCell}
 use Rattle.branches.specs.declared.answers.Branching.{Branching}
-use Rattle.branches.specs.declared.answers.Branching.the-variants.{Told, Refused}
-
--- "A branch question takes N, S and K from the lent headers: 17, also for a header cut short or a number outside its limits"; "lent
--- plan, rules and tables at least as long as N, S and K need, plan and rules exactly? 17"
-unfoldable pub lentFits : List ℕ → List ℕ → List ℕ → List ℕ → Bool
-lentFits p r nums bytes =
-    leb 12 (length p)
-    && (within 1 nodeLimit (nodeCount p)
-    && (eqb (length p) (planLength (nodeCount p))
-    && (leb 16 (length r)
-    && (within 1 stateLimit (stateCount r)
-    && (within 1 labelLimit (labelCount r)
-    && (eqb (length r) (branchLength (stateCount r) (labelCount r))
-    && (leb (linkLength (nodeCount p)) (length nums)
-    && leb (stateLength (nodeCount p) (stateCount r)) (length bytes))))))))
-
-unfoldable pub follow : ℕ → List ℕ → (ℕ → ℕ) → Option (List ℕ)
-follow s m f = cond (allBelow s (tabulate s f)) (some (tabulate s (λ q. getD m (f q) 0))) none
+use Rattle.branches.specs.declared.answers.Branching.the-variants.{Answered, Refused}
 
 -- a jump applies the node's map; a move to the parent applies the node's own label
 unfoldable pub moveMap : List ℕ → List ℕ → List ℕ → Move → List ℕ → Option (List ℕ)
-moveMap p r bytes (byJump v) m = follow (stateCount r) m (mapCell (stateCount r) bytes v)
-moveMap p r bytes (toParent v) m =
+moveMap p r stateTable (byJump v) m = follow (stateCount r) m (mapCell (stateCount r) stateTable v)
+moveMap p r stateTable (toParent v) m =
     cond (ltb (getD (labelsIn p) v 0) (labelCount r))
     (follow (stateCount r) m (λ q. branchAutomaton r .step q (getD (labelsIn p) v 0)))
     none
@@ -72,9 +54,9 @@ abbrev pub branched : WordAutomaton → ℕ → ℕ → Branched
 branched B q n = record { state = q; marked = B .accepting q; links = n }
 
 unfoldable pub branchOn : List ℕ → List ℕ → List ℕ → List ℕ → ℕ → ℕ → Option Branched
-branchOn p r nums bytes u l =
-    andThen (climb (cellForest (nodeCount p) nums) l (depthCell nums u)) (λ ms.
-    andThen (carry (moveMap p r bytes) ms (tabulate (stateCount r) (λ q. q))) (λ m.
+branchOn p r nodeTable stateTable u l =
+    andThen (climb (cellForest (nodeCount p) nodeTable) l (depthCell nodeTable u)) (λ ms.
+    andThen (carry (moveMap p r stateTable) ms (tabulate (stateCount r) (λ q. q))) (λ m.
     andThen (firstState p r u) (λ q. some (branched (branchAutomaton r) (getD m q 0) (length ms)))))
 
 abbrev pub isSome : {X : Type 0} → Option X → Bool
@@ -82,26 +64,26 @@ isSome none = false
 isSome (some x) = true
 
 unfoldable pub askChecks : List ℕ → List ℕ → List ℕ → List ℕ → ℕ → ℕ → List Check
-askChecks p r nums bytes u l =
-    check 17 (lentFits p r nums bytes)
+askChecks p r nodeTable stateTable u l =
+    check 17 (headedBuffersFit branchTables p r (length nodeTable) (length stateTable))
     ∷ check 13 (ltb u (nodeCount p) && ltb l (nodeCount p))
     -- "lower node at or below upper? 16"
-    ∷ check 16 (isBelow nums u l)
-    ∷ check 18 (isSome (branchOn p r nums bytes u l))
+    ∷ check 16 (isInSubtreeOn nodeTable u l)
+    ∷ check 18 (isSome (branchOn p r nodeTable stateTable u l))
     ∷ []
 
 unfoldable pub askNumber : List ℕ → List ℕ → List ℕ → List ℕ → ℕ → ℕ → ℕ
-askNumber p r nums bytes u l = firstNo (askChecks p r nums bytes u l)
+askNumber p r nodeTable stateTable u l = firstNo (askChecks p r nodeTable stateTable u l)
 
 -- document 01's number of an answer: 0 accepted, else the refusal's
 unfoldable pub branchNumber : Branching → ℕ
-branchNumber (Told q marked links) = 0
+branchNumber (Answered q marked links) = 0
 branchNumber (Refused n) = n
 
-unfoldable pub toldBranch : ℕ → Option Branched → Branching
-toldBranch zero none = Refused 18
-toldBranch zero (some b) = Told (b .state) (b .marked) (b .links)
-toldBranch (suc n) b = Refused (suc n)
+unfoldable pub branchAnswer : ℕ → Option Branched → Branching
+branchAnswer zero none = Refused 18
+branchAnswer zero (some b) = Answered (b .state) (b .marked) (b .links)
+branchAnswer (suc n) b = Refused (suc n)
 
 unfoldable pub askAnswer : List ℕ → List ℕ → List ℕ → List ℕ → ℕ → ℕ → Branching
-askAnswer p r nums bytes u l = toldBranch (askNumber p r nums bytes u l) (branchOn p r nums bytes u l)
+askAnswer p r nodeTable stateTable u l = branchAnswer (askNumber p r nodeTable stateTable u l) (branchOn p r nodeTable stateTable u l)

@@ -1,5 +1,5 @@
 // The answer of a branch question: the state, whether it is marked, and the links of the climb; or a refusal's number.
 pub enum Branching {
-    Told(u8, bool, u32),
+    Answered(u8, bool, u32),
     Refused(u8),
 }

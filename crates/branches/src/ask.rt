@@ -1,20 +1,20 @@
 // The branch question: the state after the word from the upper node down to the lower, whether it is marked, and the
 // links of the climb.
 use crate::answers::Branching;
-use crate::climb::SAME;
-use crate::climb::compose_climb;
-use crate::lent::lent_fits;
+use formats::buffers::branch_buffers_fit;
 use formats::bytes::read32;
-use links::moves::depth_at;
-use links::moves::is_below;
+use node_tables::moves::depth_at;
+use node_tables::moves::is_below;
+use tables::branch_climb::IDENTITY;
+use tables::branch_climb::compose_climb;
 ghost use mathlib.Core.Path.{_≡_};
 ghost use Prim.Native.Nat.{_+_, _*_, _≤_};
 ghost use lib.ListN.{length};
-ghost use Rattle.branches.specs.Question.{branchOn, toldBranch};
-ghost use Rattle.links.specs.Cells.{isBelow};
+ghost use Rattle.node_tables.specs.Cells.{isInSubtreeOn};
+ghost use Rattle.tables.specs.Compose.{mapAt};
+ghost use Rattle.branches.specs.Question.{branchOn, branchAnswer};
 ghost use Rattle.branches.specs.Promise.{AskDone};
-ghost use Rattle.branches.specs.Compose.{mapAt};
-ghost use Rattle.branches.specs.Finish.{finish, FinishArgs, AnswerArgs};
+ghost use Rattle.branches.specs.inner.Finish.{finish, FinishArgs, AnswerArgs};
 
 // What is told of the map of a climb: the state after the upper node's label goes through it.
 fn finish_answer(
@@ -29,7 +29,7 @@ fn finish_answer(
     links: u32,
 ) -> Branching
     requires { ⌜ FinishArgs s k (now labels) (now steps) (now marks) u (now maps) at ⌝ }
-    ensures { λ r. ⌜ r ≡ toldBranch 0 (finish s k (now (labels .entry)) (now (steps .entry)) (now (marks .entry)) u
+    ensures { λ r. ⌜ r ≡ branchAnswer 0 (finish s k (now (labels .entry)) (now (steps .entry)) (now (marks .entry)) u
         (mapAt s (now (maps .entry)) at) links) ⌝ }
 {
     let a = labels[u] as usize;
@@ -42,30 +42,41 @@ fn finish_answer(
     }
     let state = maps[at + q];
     let mark = marks[state as usize];
-    Branching::Told(state, mark == 1, links)
+    Branching::Answered(state, mark == 1, links)
 }
 
 // The answer where 17, 13 and 16 pass.
 fn answer_branch(
     plan: &[u8],
     branch: &[u8],
-    nums: &[u16],
-    bytes: &[u8],
+    node_table: &[u16],
+    state_table: &[u8],
     u: usize,
     l: usize,
 ) -> Branching
-    requires { ⌜ AnswerArgs (now plan) (now branch) (now nums) (now bytes) u l ⌝ }
-    ensures { λ r. ⌜ r ≡ toldBranch 0 (branchOn (now (plan .entry)) (now (branch .entry)) (now (nums .entry))
-        (now (bytes .entry)) u l) ⌝ }
+    requires { ⌜ AnswerArgs (now plan) (now branch) (now «node_table») (now «state_table») u l ⌝ }
+    ensures { λ r. ⌜ r ≡ branchAnswer 0 (branchOn (now (plan .entry)) (now (branch .entry)) (now («node_table» .entry))
+        (now («state_table» .entry)) u l) ⌝ }
 {
     let n = read32(plan, 0);
     let s = read32(branch, 0);
     let k = read32(branch, 4);
     let labels = &plan[12..12 + n];
     let steps = &branch[16..16 + s * k];
-    let to = depth_at(nums, u);
-    let mut maps = SAME;
-    let x = compose_climb(&mut maps, labels, steps, nums, bytes, n, s, k, l, to);
+    let to = depth_at(node_table, u);
+    let mut maps = IDENTITY;
+    let x = compose_climb(
+        &mut maps,
+        labels,
+        steps,
+        node_table,
+        state_table,
+        n,
+        s,
+        k,
+        l,
+        to,
+    );
     if !x.ok {
         return Branching::Refused(18);
     }
@@ -87,15 +98,15 @@ fn answer_branch(
 pub fn ask_branch(
     plan: &[u8],
     branch: &[u8],
-    nums: &[u16],
-    bytes: &[u8],
+    node_table: &[u16],
+    state_table: &[u8],
     upper: u32,
     lower: u32,
 ) -> Branching
-    ensures { λ r. ⌜ AskDone (now (plan .entry)) (now (branch .entry)) (now (nums .entry)) (now (bytes .entry)) upper
+    ensures { λ r. ⌜ AskDone (now (plan .entry)) (now (branch .entry)) (now («node_table» .entry)) (now («state_table» .entry)) upper
         lower r ⌝ }
 {
-    if !lent_fits(plan, branch, nums, bytes) {
+    if !branch_buffers_fit(plan, branch, node_table, state_table) {
         return Branching::Refused(17);
     }
     let n = read32(plan, 0);
@@ -107,8 +118,8 @@ pub fn ask_branch(
     if n <= l {
         return Branching::Refused(13);
     }
-    if !is_below(nums, u, l) {
+    if !is_below(node_table, u, l) {
         return Branching::Refused(16);
     }
-    answer_branch(plan, branch, nums, bytes, u, l)
+    answer_branch(plan, branch, node_table, state_table, u, l)
 }

@@ -5,7 +5,5 @@ pub mod build;
 pub mod check;
 mod check_maps;
 mod check_steps;
-mod climb;
-mod lent;
 mod maps;
 mod steps;

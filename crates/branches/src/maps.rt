@@ -2,13 +2,13 @@
 use tables::rows::near_row;
 use tables::rows::same_row;
 ghost use lib.ListN.{length};
-ghost use Rattle.tables.specs.Rows.{Rowed};
-ghost use Rattle.branches.specs.Lent.{BranchArgs};
-ghost use Rattle.branches.specs.Maps.{stepCell, nodeMap, StepRowArgs, NodeArgs, Mapped};
+ghost use Rattle.tables.specs.inner.Rows.{Rowed};
+ghost use Rattle.branches.specs.inner.BranchGiven.{BranchArgs};
+ghost use Rattle.branches.specs.inner.Maps.{stepCell, nodeMap, StepRowArgs, NodeArgs, Mapped};
 
 // Node v's map: the map of j, then that of p, and then a step by label a.
 fn step_row(
-    bytes: &mut [u8],
+    state_table: &mut [u8],
     s: usize,
     v: usize,
     p: usize,
@@ -17,18 +17,18 @@ fn step_row(
     k: usize,
     a: usize,
 )
-    requires { ⌜ StepRowArgs (now bytes) s v p j (length (now steps)) k a ⌝ }
-    ensures { λ _. ⌜ Rowed s (stepCell s (now (bytes .entry)) p j (now (steps .entry)) k a) v (now (bytes .entry))
-        (now (bytes .exit)) ⌝ }
+    requires { ⌜ StepRowArgs (now «state_table») s v p j (length (now steps)) k a ⌝ }
+    ensures { λ _. ⌜ Rowed s (stepCell s (now («state_table» .entry)) p j (now (steps .entry)) k a) v (now («state_table» .entry))
+        (now («state_table» .exit)) ⌝ }
 {
     let at = v * (s + 1);
     let near = p * (s + 1);
     let far = j * (s + 1);
     let mut q = 0;
     while q < s {
-        let x = bytes[far + (1 + q)] as usize;
-        let y = bytes[near + (1 + x)] as usize;
-        bytes[at + (1 + q)] = steps[y * k + a];
+        let x = state_table[far + (1 + q)] as usize;
+        let y = state_table[near + (1 + x)] as usize;
+        state_table[at + (1 + q)] = steps[y * k + a];
         q += 1;
     }
 }
@@ -36,48 +36,48 @@ fn step_row(
 // Node v's map, from its label and the maps above it.
 fn node_map(
     labels: &[u8],
-    nums: &[u16],
+    node_table: &[u16],
     steps: &[u8],
     s: usize,
     k: usize,
     v: usize,
-    bytes: &mut [u8],
+    state_table: &mut [u8],
 )
-    requires { ⌜ NodeArgs (now labels) (now nums) (now steps) s k (now bytes) v ⌝ }
+    requires { ⌜ NodeArgs (now labels) (now «node_table») (now steps) s k (now «state_table») v ⌝ }
     ensures { λ _. ⌜ Rowed s
-        (nodeMap (now (labels .entry)) (now (nums .entry)) (now (steps .entry)) s k (now (bytes .entry)) v) v
-        (now (bytes .entry)) (now (bytes .exit)) ⌝ }
+        (nodeMap (now (labels .entry)) (now («node_table» .entry)) (now (steps .entry)) s k (now («state_table» .entry)) v) v
+        (now («state_table» .entry)) (now («state_table» .exit)) ⌝ }
 {
     let a = labels[v] as usize;
-    let p = nums[v * 4] as usize;
-    let j = nums[v * 4 + 1] as usize;
+    let p = node_table[v * 4] as usize;
+    let j = node_table[v * 4 + 1] as usize;
     if j == p {
-        near_row(bytes, s, v, steps, a, k);
+        near_row(state_table, s, v, steps, a, k);
     } else {
-        let far = nums[p * 4 + 1] as usize;
-        step_row(bytes, s, v, p, far, steps, k, a);
+        let far = node_table[p * 4 + 1] as usize;
+        step_row(state_table, s, v, p, far, steps, k, a);
     }
 }
 
 // Writes the map of each of the n nodes, the root's first.
 pub fn fill_maps(
     labels: &[u8],
-    nums: &[u16],
+    node_table: &[u16],
     steps: &[u8],
     s: usize,
     k: usize,
     n: usize,
-    bytes: &mut [u8],
+    state_table: &mut [u8],
 )
-    requires { ⌜ BranchArgs (now labels) (now nums) (now steps) s k n (length (now bytes)) ⌝ }
-    ensures { λ _. ⌜ Mapped (now (labels .entry)) (now (nums .entry)) (now (steps .entry)) s k n 0
-        (now (bytes .entry)) (now (bytes .exit)) ⌝ }
+    requires { ⌜ BranchArgs (now labels) (now «node_table») (now steps) s k n (length (now «state_table»)) ⌝ }
+    ensures { λ _. ⌜ Mapped (now (labels .entry)) (now («node_table» .entry)) (now (steps .entry)) s k n 0
+        (now («state_table» .entry)) (now («state_table» .exit)) ⌝ }
 {
     let root = n - 1;
-    same_row(bytes, s, root);
+    same_row(state_table, s, root);
     let mut v = root;
     while 0 < v {
         v -= 1;
-        node_map(labels, nums, steps, s, k, v, bytes);
+        node_map(labels, node_table, steps, s, k, v, state_table);
     }
 }

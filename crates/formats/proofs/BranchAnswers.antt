@@ -11,12 +11,14 @@ use native.Mathlib.Omega.{arith}
 use lib.Dec.{leb, eqb}
 use lib.ListN.{length, take, drop}
 use borrow.Author.Tests.{le-leb, lt-leb, eq-eqb, ne-eqb, eqb-true, not-true, not-false}
-use Rattle.formats.specs.Bytes.{le32, allBelow}
+use Rattle.formats.specs.Bytes.{le32}
+use Rattle.list_laws.specs.Tests.{allBelow}
 use Rattle.formats.specs.Rules.{stateCount, labelCount, branchLength}
 use Rattle.formats.specs.Checks.{firstNo, branchChecks}
-use Rattle.formats.specs.Leaves.{countsFit, branchShape, branchValues}
-use Rattle.formats.proofs.CheckLaws.{and-right}
-use Rattle.formats.proofs.PartLaws.{four-1, four-2, four-3, four-4, pass-four, end-part}
+use Rattle.formats.specs.inner.InnerChecks.{countsFit, branchShape, branchValues}
+use Rattle.list_laws.proofs.BoolLaws.{and-right}
+use Rattle.formats.proofs.FourChecks.{four-1, four-2, four-3, four-4, pass-four}
+use Rattle.list_laws.proofs.SliceLaws.{end-part}
 
 -- ---- check 8
 
@@ -41,18 +43,18 @@ module _ (b : List ℕ) (s k : ℕ) where
 -- ---- check 9: the answers x, y of the two tests, on the parts that are handed on
 
 module _ (b : List ℕ) (s k m : ℕ) (at : m ≡ 16 + s * k) where
-  steps-told : (x : Bool) → x ≡ allBelow s (take (m - 16) (drop 16 b)) → allBelow s (take (s * k) (drop 16 b)) ≡ x
-  steps-told x e =
+  steps-answer : (x : Bool) → x ≡ allBelow s (take (m - 16) (drop 16 b)) → allBelow s (take (s * k) (drop 16 b)) ≡ x
+  steps-answer x e =
       let d : s * k ≡ m - 16 = omega arith in
       ap (λ (i : ℕ). allBelow s (take i (drop 16 b))) d ∙ sym e
 
   pub values-steps : (x : Bool) → x ≡ allBelow s (take (m - 16) (drop 16 b)) → not x ≡ true → false ≡ branchValues b s k
-  values-steps x e n = rw (steps-told x e ∙ not-true x n)
+  values-steps x e n = rw (steps-answer x e ∙ not-true x n)
 
   pub values-branch : length b ≡ branchLength s k → (x y : Bool) → x ≡ allBelow s (take (m - 16) (drop 16 b)) → not x ≡ false
       → y ≡ allBelow 2 (take (length b - m) (drop m b)) → y ≡ branchValues b s k
   values-branch h x y e n f =
-      rw (steps-told x e ∙ not-false x n)
+      rw (steps-answer x e ∙ not-false x n)
       (f ∙ ap (allBelow 2) (end-part b m s (omega arith)) ∙ ap (λ (i : ℕ). allBelow 2 (take s (drop i b))) at)
 
 -- ---- the answers

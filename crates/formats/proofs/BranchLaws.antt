@@ -16,14 +16,17 @@ use native.Mathlib.Omega.{arith}
 use lib.Dec.{leb, eqb}
 use lib.ListN.{length, take, drop, getD}
 use borrow.Author.Tests.{leb-true, le-leb, eqb-true, eq-eqb}
-use Rattle.formats.specs.Bytes.{le32, allBelow}
+use Rattle.formats.specs.Bytes.{le32}
+use Rattle.list_laws.specs.Tests.{allBelow}
 use Rattle.formats.specs.Limits.{stateLimit, labelLimit, within}
 use Rattle.formats.specs.Rules.{stateCount, labelCount, branchLength, branchSteps, branchMarks}
 use Rattle.formats.specs.Checks.{firstNo, branchChecks}
-use Rattle.formats.specs.Leaves.{countsFit, branchShape, branchValues}
-use Rattle.formats.proofs.CheckLaws.{Numbered, and-both, and-left, and-right}
-use Rattle.formats.proofs.ListLaws.{allBelow-all}
-use Rattle.formats.proofs.PartLaws.{four-pass, pass-four, end-part, run-part, length-part}
+use Rattle.formats.specs.inner.InnerChecks.{countsFit, branchShape, branchValues}
+use Rattle.formats.proofs.CheckLaws.{Numbered}
+use Rattle.list_laws.proofs.BoolLaws.{and-both, and-left, and-right}
+use Rattle.list_laws.proofs.TestLaws.{allBelow-all}
+use Rattle.formats.proofs.FourChecks.{four-pass, pass-four}
+use Rattle.list_laws.proofs.SliceLaws.{end-part, run-part, length-part}
 use Rattle.formats.proofs.PlanLaws.{within-low, within-high, same-left, same-both}
 use Rattle.formats.proofs.RuleLaws.{counts-fit}
 

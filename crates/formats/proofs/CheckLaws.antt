@@ -4,42 +4,14 @@
 --     Numbered cs                   no check has the number 0, so that 0 says that none fails
 --     firstNo-append-zero, -suc     the first no of two lists in a row, from that of the first list; -no the same with no number
 --     firstNo-append-left, -right   where nothing of both fails, nothing of either fails
---     and-both, and-left, and-right what a conjunction of tests tells; and-next: a test that passes leaves the next to decide
 -- Assumes nothing.
 use Prim.Native.Nat.{ℕ, suc, _<_}
 use mathlib.Core.Path.{_≡_, refl, sym, _∙_}
 use mathlib.Core.Bool.{Bool, true, false, cond, _&&_}
 use mathlib.Core.List.{List, [], _∷_, _++_}
 use native.Mathlib.Omega.{arith}
+use Rattle.list_laws.proofs.BoolLaws.{true-false}
 use Rattle.formats.specs.Checks.{Check, check, firstNo}
-
--- ---- a conjunction of tests
-
-pub true-false : true ≡ false → ⊥
-true-false e = let z : _≡_ {A = ℕ} 0 1 = cc in omega arith
-
-pub and-both : (a b : Bool) → a ≡ true → b ≡ true → (a && b) ≡ true
-and-both true b e f = f
-and-both false b e f = e
-
-pub and-left : (a b : Bool) → (a && b) ≡ true → a ≡ true
-and-left true b e = refl
-and-left false b e = e
-
-pub and-right : (a b : Bool) → (a && b) ≡ true → b ≡ true
-and-right true b e = e
-and-right false b e = absurd (true-false (sym e))
-
-pub and-no-left : (a b : Bool) → a ≡ false → (a && b) ≡ false
-and-no-left true b e = absurd (true-false e)
-and-no-left false b e = refl
-
-pub and-no-right : (a b : Bool) → b ≡ false → (a && b) ≡ false
-and-no-right true b e = e
-and-no-right false b e = refl
-
-pub and-next : (a b : Bool) → a ≡ true → (a && b) ≡ b
-and-next a b e = rw e
 
 -- ---- one check
 

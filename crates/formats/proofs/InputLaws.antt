@@ -15,18 +15,19 @@ use native.Mathlib.Omega.{arith}
 use lib.Dec.{leb, eqb}
 use lib.ListN.{length, getD}
 use borrow.Author.Tests.{leb-true, le-leb}
-use Rattle.formats.specs.Bytes.{allBelow, distinct}
+use Rattle.list_laws.specs.Tests.{allBelow, distinct}
 use Rattle.formats.specs.Limits.{changeLimit}
 use Rattle.formats.specs.Plan.{nodeCount, labelsIn}
 use Rattle.formats.specs.Rules.{stateCount, labelCount}
 use Rattle.formats.specs.Checks.{Check, firstNo, planChecks, ruleChecks, branchChecks, labelCheck, roomCheck, listChecks}
-use Rattle.formats.specs.Checks.{linkLength, stateLength, ruleTableChecks, branchTableChecks}
+use Rattle.formats.specs.Checks.{nodeTableLength, stateTableLength, ruleTableChecks, branchTableChecks}
 use Rattle.formats.specs.Checks.{buildChecks, branchBuildChecks, freshRunChecks}
-use Rattle.formats.specs.Leaves.{lengthsFit, roomFits}
+use Rattle.formats.specs.inner.InnerChecks.{listsFit, roomFits}
 use Rattle.formats.proofs.CheckLaws.{Numbered, numbered-append, firstNo-none, firstNo-yes, firstNo-head}
-use Rattle.formats.proofs.CheckLaws.{firstNo-append-zero, firstNo-append-left, firstNo-append-right, and-both, and-left, and-right}
-use Rattle.formats.proofs.ListLaws.{allBelow-all}
-use Rattle.formats.proofs.PartLaws.{four-pass, pass-four}
+use Rattle.formats.proofs.CheckLaws.{firstNo-append-zero, firstNo-append-left, firstNo-append-right}
+use Rattle.list_laws.proofs.BoolLaws.{and-both, and-left, and-right}
+use Rattle.list_laws.proofs.TestLaws.{allBelow-all}
+use Rattle.formats.proofs.FourChecks.{four-pass, pass-four}
 use Rattle.formats.proofs.PlanLaws.{PlanPasses, plan-passes, passes-plan, plan-numbered, same-left, same-both}
 use Rattle.formats.proofs.RuleLaws.{RulesPass, rules-pass, pass-rules, rules-numbered}
 use Rattle.formats.proofs.BranchLaws.{BranchPasses, branch-passes, passes-branch, branch-numbered}
@@ -44,8 +45,8 @@ module _ (n k : ℕ) (vs bs : List ℕ) where
   pub list-passes : firstNo (listChecks n k vs bs) ≡ 0 → ListPasses n k vs bs
   unfolding listChecks
   list-passes e =
-      let q : (lengthsFit vs bs ≡ true) × (allBelow n vs ≡ true) × (allBelow k bs ≡ true) × (distinct vs ≡ true) =
-      four-pass 11 12 13 14 (lengthsFit vs bs) (allBelow n vs) (allBelow k bs) (distinct vs) e in
+      let q : (listsFit vs bs ≡ true) × (allBelow n vs ≡ true) × (allBelow k bs ≡ true) × (distinct vs ≡ true) =
+      four-pass 11 12 13 14 (listsFit vs bs) (allBelow n vs) (allBelow k bs) (distinct vs) e in
       record {
         lengths = same-left (length vs) (length bs) (leb (length vs) changeLimit) (q .0);
         most = leb-true (length vs) changeLimit (and-right (eqb (length vs) (length bs)) (leb (length vs) changeLimit) (q .0));
@@ -57,7 +58,7 @@ module _ (n k : ℕ) (vs bs : List ℕ) where
   pub passes-list : ListPasses n k vs bs → firstNo (listChecks n k vs bs) ≡ 0
   unfolding listChecks
   passes-list h =
-      pass-four 11 12 13 14 (lengthsFit vs bs) (allBelow n vs) (allBelow k bs) (distinct vs)
+      pass-four 11 12 13 14 (listsFit vs bs) (allBelow n vs) (allBelow k bs) (distinct vs)
       (same-both (length vs) (length bs) (leb (length vs) changeLimit) (h .lengths) (le-leb (length vs) changeLimit (h .most)))
       (h .nodes-below) (h .labels-below) (h .no-twice)
 
@@ -130,71 +131,71 @@ module _ (p r : List ℕ) where
 
 -- ---- room in the table buffers
 
-pub room-passes : (n s nums bytes : ℕ) → firstNo (roomCheck n s nums bytes ∷ []) ≡ 0 → (linkLength n ≤ nums) × (stateLength n s ≤ bytes)
-room-passes n s nums bytes e =
-    let q : roomFits n s nums bytes ≡ true = firstNo-head 11 (roomFits n s nums bytes) [] (omega arith) e in (
-      leb-true (linkLength n) nums (and-left (leb (linkLength n) nums) (leb (stateLength n s) bytes) q),
-      leb-true (stateLength n s) bytes (and-right (leb (linkLength n) nums) (leb (stateLength n s) bytes) q),
+pub room-passes : (n s nodeTable stateTable : ℕ) → firstNo (roomCheck n s nodeTable stateTable ∷ []) ≡ 0 → (nodeTableLength n ≤ nodeTable) × (stateTableLength n s ≤ stateTable)
+room-passes n s nodeTable stateTable e =
+    let q : roomFits n s nodeTable stateTable ≡ true = firstNo-head 11 (roomFits n s nodeTable stateTable) [] (omega arith) e in (
+      leb-true (nodeTableLength n) nodeTable (and-left (leb (nodeTableLength n) nodeTable) (leb (stateTableLength n s) stateTable) q),
+      leb-true (stateTableLength n s) stateTable (and-right (leb (nodeTableLength n) nodeTable) (leb (stateTableLength n s) stateTable) q),
     )
 
-pub passes-room : (n s nums bytes : ℕ) → linkLength n ≤ nums → stateLength n s ≤ bytes → firstNo (roomCheck n s nums bytes ∷ []) ≡ 0
-passes-room n s nums bytes h i =
-    let links : leb (linkLength n) nums ≡ true = le-leb (linkLength n) nums h in
-    let states : leb (stateLength n s) bytes ≡ true = le-leb (stateLength n s) bytes i in
-    firstNo-yes 11 (roomFits n s nums bytes) [] (and-both (leb (linkLength n) nums) (leb (stateLength n s) bytes) links states)
+pub passes-room : (n s nodeTable stateTable : ℕ) → nodeTableLength n ≤ nodeTable → stateTableLength n s ≤ stateTable → firstNo (roomCheck n s nodeTable stateTable ∷ []) ≡ 0
+passes-room n s nodeTable stateTable h i =
+    let links : leb (nodeTableLength n) nodeTable ≡ true = le-leb (nodeTableLength n) nodeTable h in
+    let states : leb (stateTableLength n s) stateTable ≡ true = le-leb (stateTableLength n s) stateTable i in
+    firstNo-yes 11 (roomFits n s nodeTable stateTable) [] (and-both (leb (nodeTableLength n) nodeTable) (leb (stateTableLength n s) stateTable) links states)
     ∙ firstNo-none
 
-module _ (p r : List ℕ) (nums bytes : ℕ) where
-  pub build-table : firstNo (buildChecks p r nums bytes) ≡ 0 → firstNo (ruleTableChecks p r) ≡ 0
+module _ (p r : List ℕ) (nodeTable stateTable : ℕ) where
+  pub build-table : firstNo (buildChecks p r nodeTable stateTable) ≡ 0 → firstNo (ruleTableChecks p r) ≡ 0
   unfolding buildChecks
   build-table e =
-      firstNo-append-left (ruleTableChecks p r) (roomCheck (nodeCount p) (stateCount r) nums bytes ∷ []) (rule-table-numbered p r) e
+      firstNo-append-left (ruleTableChecks p r) (roomCheck (nodeCount p) (stateCount r) nodeTable stateTable ∷ []) (rule-table-numbered p r) e
 
-  pub build-room : firstNo (buildChecks p r nums bytes) ≡ 0 → (linkLength (nodeCount p) ≤ nums) × (stateLength (nodeCount p) (stateCount r) ≤ bytes)
+  pub build-room : firstNo (buildChecks p r nodeTable stateTable) ≡ 0 → (nodeTableLength (nodeCount p) ≤ nodeTable) × (stateTableLength (nodeCount p) (stateCount r) ≤ stateTable)
   unfolding buildChecks
   build-room e =
-      room-passes (nodeCount p) (stateCount r) nums bytes
-      (firstNo-append-right (ruleTableChecks p r) (roomCheck (nodeCount p) (stateCount r) nums bytes ∷ []) (rule-table-numbered p r) e)
+      room-passes (nodeCount p) (stateCount r) nodeTable stateTable
+      (firstNo-append-right (ruleTableChecks p r) (roomCheck (nodeCount p) (stateCount r) nodeTable stateTable ∷ []) (rule-table-numbered p r) e)
 
-  pub build-passes : firstNo (buildChecks p r nums bytes) ≡ 0
+  pub build-passes : firstNo (buildChecks p r nodeTable stateTable) ≡ 0
       → PlanPasses p × RulesPass r × (allBelow (labelCount r) (labelsIn p) ≡ true)
-      × (linkLength (nodeCount p) ≤ nums) × (stateLength (nodeCount p) (stateCount r) ≤ bytes)
+      × (nodeTableLength (nodeCount p) ≤ nodeTable) × (stateTableLength (nodeCount p) (stateCount r) ≤ stateTable)
   build-passes e =
       let t : PlanPasses p × RulesPass r × (allBelow (labelCount r) (labelsIn p) ≡ true) = rule-table-passes p r (build-table e) in
       (t .0, t .1, t .2, build-room e .0, build-room e .1)
 
-  pub passes-build : firstNo (ruleTableChecks p r) ≡ 0 → linkLength (nodeCount p) ≤ nums → stateLength (nodeCount p) (stateCount r) ≤ bytes
-      → firstNo (buildChecks p r nums bytes) ≡ 0
+  pub passes-build : firstNo (ruleTableChecks p r) ≡ 0 → nodeTableLength (nodeCount p) ≤ nodeTable → stateTableLength (nodeCount p) (stateCount r) ≤ stateTable
+      → firstNo (buildChecks p r nodeTable stateTable) ≡ 0
   unfolding buildChecks
   passes-build e h i =
-      firstNo-append-zero (ruleTableChecks p r) (roomCheck (nodeCount p) (stateCount r) nums bytes ∷ []) (rule-table-numbered p r) e
-      ∙ passes-room (nodeCount p) (stateCount r) nums bytes h i
+      firstNo-append-zero (ruleTableChecks p r) (roomCheck (nodeCount p) (stateCount r) nodeTable stateTable ∷ []) (rule-table-numbered p r) e
+      ∙ passes-room (nodeCount p) (stateCount r) nodeTable stateTable h i
 
-  pub branch-build-table : firstNo (branchBuildChecks p r nums bytes) ≡ 0 → firstNo (branchTableChecks p r) ≡ 0
+  pub branch-build-table : firstNo (branchBuildChecks p r nodeTable stateTable) ≡ 0 → firstNo (branchTableChecks p r) ≡ 0
   unfolding branchBuildChecks
   branch-build-table e =
-      firstNo-append-left (branchTableChecks p r) (roomCheck (nodeCount p) (stateCount r) nums bytes ∷ []) (branch-table-numbered p r) e
+      firstNo-append-left (branchTableChecks p r) (roomCheck (nodeCount p) (stateCount r) nodeTable stateTable ∷ []) (branch-table-numbered p r) e
 
-  pub branch-build-room : firstNo (branchBuildChecks p r nums bytes) ≡ 0
-      → (linkLength (nodeCount p) ≤ nums) × (stateLength (nodeCount p) (stateCount r) ≤ bytes)
+  pub branch-build-room : firstNo (branchBuildChecks p r nodeTable stateTable) ≡ 0
+      → (nodeTableLength (nodeCount p) ≤ nodeTable) × (stateTableLength (nodeCount p) (stateCount r) ≤ stateTable)
   unfolding branchBuildChecks
   branch-build-room e =
-      room-passes (nodeCount p) (stateCount r) nums bytes
-      (firstNo-append-right (branchTableChecks p r) (roomCheck (nodeCount p) (stateCount r) nums bytes ∷ []) (branch-table-numbered p r) e)
+      room-passes (nodeCount p) (stateCount r) nodeTable stateTable
+      (firstNo-append-right (branchTableChecks p r) (roomCheck (nodeCount p) (stateCount r) nodeTable stateTable ∷ []) (branch-table-numbered p r) e)
 
-  pub branch-build-passes : firstNo (branchBuildChecks p r nums bytes) ≡ 0
+  pub branch-build-passes : firstNo (branchBuildChecks p r nodeTable stateTable) ≡ 0
       → PlanPasses p × BranchPasses r × (allBelow (labelCount r) (labelsIn p) ≡ true)
-      × (linkLength (nodeCount p) ≤ nums) × (stateLength (nodeCount p) (stateCount r) ≤ bytes)
+      × (nodeTableLength (nodeCount p) ≤ nodeTable) × (stateTableLength (nodeCount p) (stateCount r) ≤ stateTable)
   branch-build-passes e =
       let t : PlanPasses p × BranchPasses r × (allBelow (labelCount r) (labelsIn p) ≡ true) = branch-table-passes p r (branch-build-table e) in
       (t .0, t .1, t .2, branch-build-room e .0, branch-build-room e .1)
 
-  pub passes-branch-build : firstNo (branchTableChecks p r) ≡ 0 → linkLength (nodeCount p) ≤ nums
-      → stateLength (nodeCount p) (stateCount r) ≤ bytes → firstNo (branchBuildChecks p r nums bytes) ≡ 0
+  pub passes-branch-build : firstNo (branchTableChecks p r) ≡ 0 → nodeTableLength (nodeCount p) ≤ nodeTable
+      → stateTableLength (nodeCount p) (stateCount r) ≤ stateTable → firstNo (branchBuildChecks p r nodeTable stateTable) ≡ 0
   unfolding branchBuildChecks
   passes-branch-build e h i =
-      firstNo-append-zero (branchTableChecks p r) (roomCheck (nodeCount p) (stateCount r) nums bytes ∷ []) (branch-table-numbered p r) e
-      ∙ passes-room (nodeCount p) (stateCount r) nums bytes h i
+      firstNo-append-zero (branchTableChecks p r) (roomCheck (nodeCount p) (stateCount r) nodeTable stateTable ∷ []) (branch-table-numbered p r) e
+      ∙ passes-room (nodeCount p) (stateCount r) nodeTable stateTable h i
 
 -- ---- a fresh run: plan, rule table and list
 

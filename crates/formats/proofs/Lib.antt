@@ -1,8 +1,6 @@
 pub mod CheckLaws
-pub mod ListLaws
-pub mod PartLaws
-pub mod TurnLaws
-pub mod KindTurns
+pub mod FourChecks
+pub mod KindLoop
 pub mod ByteLaws
 pub mod PlanLaws
 pub mod PlanAnswers
@@ -15,3 +13,5 @@ pub mod BranchAnswers
 pub mod ListAnswers
 pub mod InputLaws
 pub mod InputAnswers
+pub mod BufferLaws
+pub mod InputsLaws

@@ -12,8 +12,8 @@ use Rattle.formats.specs.Bytes.{le32}
 use Rattle.formats.specs.Limits.{nodeLimit, within}
 use Rattle.formats.specs.Plan.{nodeCount, planLength, kindsIn}
 use Rattle.formats.specs.Checks.{firstNo, planChecks}
-use Rattle.formats.proofs.CheckLaws.{and-no-left, and-no-right}
-use Rattle.formats.proofs.PartLaws.{four-1, four-2, four-3, four-4}
+use Rattle.list_laws.proofs.BoolLaws.{and-no-left, and-no-right}
+use Rattle.formats.proofs.FourChecks.{four-1, four-2, four-3, four-4}
 use Rattle.formats.proofs.PlanLaws.{passes-plan, planShape, is-within, same-both}
 
 pub below-within : (low high n : ℕ) → n < low → within low high n ≡ false

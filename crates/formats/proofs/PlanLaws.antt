@@ -23,8 +23,10 @@ use Rattle.formats.specs.Bytes.{le32}
 use Rattle.formats.specs.Limits.{nodeLimit, within}
 use Rattle.formats.specs.Plan.{nodeCount, planLength, labelsIn, kindsIn, planTree}
 use Rattle.formats.specs.Checks.{firstNo, planChecks}
-use Rattle.formats.proofs.CheckLaws.{Numbered, and-both, and-left, and-right, and-no-left, and-no-right, and-next}
-use Rattle.formats.proofs.PartLaws.{four-pass, pass-four, end-part, run-part, length-part}
+use Rattle.formats.proofs.CheckLaws.{Numbered}
+use Rattle.list_laws.proofs.BoolLaws.{and-both, and-left, and-right, and-no-left, and-no-right, and-next}
+use Rattle.formats.proofs.FourChecks.{four-pass, pass-four}
+use Rattle.list_laws.proofs.SliceLaws.{end-part, run-part, length-part}
 
 pub record PlanPasses (p : List ℕ) : Type 0 where
   pub long : 12 ≤ length p

@@ -16,10 +16,11 @@ use Rattle.trees.specs.Tree.{Tree, leaf, size, kindsOf, labelsOf}
 use Rattle.trees.specs.Postorder.{isPostorder}
 use Rattle.trees.proofs.NodeLaws.{length-labels}
 use Rattle.trees.proofs.PostorderLaws.{postorder-unique}
-use Rattle.formats.specs.Bytes.{le32, allBelow}
+use Rattle.formats.specs.Bytes.{le32}
+use Rattle.list_laws.specs.Tests.{allBelow}
 use Rattle.formats.specs.Plan.{nodeCount, kindsIn, planTree, planBytes}
 use Rattle.formats.specs.Checks.{firstNo, planChecks}
-use Rattle.formats.proofs.PartLaws.{length-part}
+use Rattle.list_laws.proofs.SliceLaws.{length-part}
 use Rattle.formats.proofs.PlanLaws.{plan-passes, size-planTree}
 use Rattle.formats.proofs.PlanAnswers.{plan-5}
 use Rattle.formats.proofs.PlanTrees.{plan-tree, length-planBytes, drop-planBytes, tree-passes}

@@ -15,11 +15,12 @@ use Rattle.trees.specs.Tree.{Tree, size, kindsOf, labelsOf}
 use Rattle.trees.specs.Postorder.{isPostorder, treeOf}
 use Rattle.trees.proofs.NodeLaws.{size-pos, length-kinds, length-labels}
 use Rattle.trees.proofs.PostorderLaws.{tree-postorder, treeOf-is}
-use Rattle.formats.specs.Bytes.{le32, le32Bytes, allBelow}
+use Rattle.formats.specs.Bytes.{le32, le32Bytes}
+use Rattle.list_laws.specs.Tests.{allBelow}
 use Rattle.formats.specs.Plan.{nodeCount, planLength, labelsIn, kindsIn, planTree, planBytes}
 use Rattle.formats.specs.Checks.{firstNo, planChecks}
 use Rattle.formats.proofs.ByteLaws.{bytes-number, read-bytes}
-use Rattle.formats.proofs.ListLaws.{allBelow-all}
+use Rattle.list_laws.proofs.TestLaws.{allBelow-all}
 use Rattle.formats.proofs.PlanLaws.{PlanPasses, plan-passes, passes-plan, kinds-planTree, labels-planTree, size-planTree}
 
 -- ---- from a plan to its tree and back

@@ -14,13 +14,15 @@ use native.Mathlib.Nat.{mul-le-mul}
 use lib.Dec.{leb, eqb}
 use lib.ListN.{length, take, drop}
 use borrow.Author.Tests.{le-leb, lt-leb, eq-eqb, ne-eqb, eqb-true, not-true, not-false}
-use Rattle.formats.specs.Bytes.{le32, allBelow}
+use Rattle.formats.specs.Bytes.{le32}
+use Rattle.list_laws.specs.Tests.{allBelow}
 use Rattle.formats.specs.Limits.{stateLimit, labelLimit, within}
 use Rattle.formats.specs.Rules.{stateCount, labelCount, ruleLength}
 use Rattle.formats.specs.Checks.{firstNo, ruleChecks}
-use Rattle.formats.specs.Leaves.{countsFit, ruleShape, ruleValues}
-use Rattle.formats.proofs.CheckLaws.{and-left, and-right, and-no-left, and-no-right}
-use Rattle.formats.proofs.PartLaws.{four-1, four-2, four-3, four-4, pass-four, run-part, end-part}
+use Rattle.formats.specs.inner.InnerChecks.{countsFit, ruleShape, ruleValues}
+use Rattle.list_laws.proofs.BoolLaws.{and-left, and-right, and-no-left, and-no-right}
+use Rattle.formats.proofs.FourChecks.{four-1, four-2, four-3, four-4, pass-four}
+use Rattle.list_laws.proofs.SliceLaws.{run-part, end-part}
 use Rattle.formats.proofs.PlanLaws.{within-low, within-high}
 
 pub product-inner : (s k : ℕ) → s ≤ 16 → k ≤ 64 → (s * k ≤ 1024) × (s * k * s ≤ 16384)
@@ -42,8 +44,8 @@ module _ (s k : ℕ) where
   counts-last a b c = rw (le-leb 1 s a, le-leb s 16 b, le-leb 1 k c)
 
   -- what its yes tells
-  pub counts-told : countsFit s k ≡ true → (1 ≤ s) × (s ≤ 16) × (1 ≤ k) × (k ≤ 64)
-  counts-told e =
+  pub counts-answer : countsFit s k ≡ true → (1 ≤ s) × (s ≤ 16) × (1 ≤ k) × (k ≤ 64)
+  counts-answer e =
       let a : within 1 stateLimit s ≡ true = and-left (within 1 stateLimit s) (within 1 labelLimit k) e in
       let b : within 1 labelLimit k ≡ true = and-right (within 1 stateLimit s) (within 1 labelLimit k) e in
       (within-low 1 stateLimit s a, within-high 1 stateLimit s a, within-low 1 labelLimit k b, within-high 1 labelLimit k b)
@@ -77,31 +79,31 @@ module _ (b : List ℕ) (s k : ℕ) where
 -- ---- check 9: the answers x, y, z of the three tests, on the parts that are handed on
 
 module _ (b : List ℕ) (s k m : ℕ) (at : m ≡ 20 + k + s * k * s) where
-  leaves-told : (x : Bool) → x ≡ allBelow s (take (20 + k - 20) (drop 20 b)) → allBelow s (take k (drop 20 b)) ≡ x
-  leaves-told x e = ap (allBelow s) (sym (run-part b 20 k)) ∙ sym e
+  leaves-answer : (x : Bool) → x ≡ allBelow s (take (20 + k - 20) (drop 20 b)) → allBelow s (take k (drop 20 b)) ≡ x
+  leaves-answer x e = ap (allBelow s) (sym (run-part b 20 k)) ∙ sym e
 
-  inner-told : (y : Bool) → y ≡ allBelow s (take (m - (20 + k)) (drop (20 + k) b)) → allBelow s (take (s * k * s) (drop (20 + k) b)) ≡ y
-  inner-told y e =
+  inner-answer : (y : Bool) → y ≡ allBelow s (take (m - (20 + k)) (drop (20 + k) b)) → allBelow s (take (s * k * s) (drop (20 + k) b)) ≡ y
+  inner-answer y e =
       let d : s * k * s ≡ m - (20 + k) = omega arith in
       ap (λ (i : ℕ). allBelow s (take i (drop (20 + k) b))) d ∙ sym e
 
-  marks-told : length b ≡ ruleLength s k → (z : Bool) → z ≡ allBelow 2 (take (length b - m) (drop m b))
+  marks-answer : length b ≡ ruleLength s k → (z : Bool) → z ≡ allBelow 2 (take (length b - m) (drop m b))
       → allBelow 2 (take s (drop (20 + k + s * k * s) b)) ≡ z
-  marks-told h z e =
+  marks-answer h z e =
       ap (λ (i : ℕ). allBelow 2 (take s (drop i b))) (sym at) ∙ ap (allBelow 2) (sym (end-part b m s (omega arith))) ∙ sym e
 
   pub values-leaves : (x : Bool) → x ≡ allBelow s (take (20 + k - 20) (drop 20 b)) → not x ≡ true → false ≡ ruleValues b s k
-  values-leaves x e n = rw (leaves-told x e ∙ not-true x n)
+  values-leaves x e n = rw (leaves-answer x e ∙ not-true x n)
 
   pub values-inner : (x y : Bool) → x ≡ allBelow s (take (20 + k - 20) (drop 20 b)) → not x ≡ false
       → y ≡ allBelow s (take (m - (20 + k)) (drop (20 + k) b)) → not y ≡ true → false ≡ ruleValues b s k
-  values-inner x y e n f o = rw (leaves-told x e ∙ not-false x n, inner-told y f ∙ not-true y o)
+  values-inner x y e n f o = rw (leaves-answer x e ∙ not-false x n, inner-answer y f ∙ not-true y o)
 
   pub values-marks : length b ≡ ruleLength s k → (x y z : Bool) → x ≡ allBelow s (take (20 + k - 20) (drop 20 b)) → not x ≡ false
       → y ≡ allBelow s (take (m - (20 + k)) (drop (20 + k) b)) → not y ≡ false
       → z ≡ allBelow 2 (take (length b - m) (drop m b)) → z ≡ ruleValues b s k
   values-marks h x y z e n f o g =
-      rw (leaves-told x e ∙ not-false x n, inner-told y f ∙ not-false y o) (sym (marks-told h z g))
+      rw (leaves-answer x e ∙ not-false x n, inner-answer y f ∙ not-false y o) (sym (marks-answer h z g))
 
 -- ---- the answers
 

@@ -4,6 +4,7 @@
 --     length-leafStates, length-innerStates, length-ruleMarks
 --     leaf-state-below, inner-state-below, mark-below
 --                                 every state and mark in its limit, at every place: past the end it is 0
+--     rule-in                     the place of a rule is inside the inner states
 --     leaves-part, inner-part, marks-part
 --                                 what `&rules[20..20 + k]`, `&rules[20 + k..20 + k + s * k * s]` and the rest are to a proof
 -- Assumes nothing.
@@ -15,14 +16,18 @@ use native.Mathlib.Omega.{arith}
 use lib.Dec.{leb, eqb}
 use lib.ListN.{length, take, drop, getD}
 use borrow.Author.Tests.{leb-true, le-leb, eqb-true, eq-eqb}
-use Rattle.formats.specs.Bytes.{le32, allBelow}
+use Rattle.list_laws.proofs.RowLaws.{stride}
+use Rattle.formats.specs.Bytes.{le32}
+use Rattle.list_laws.specs.Tests.{allBelow}
 use Rattle.formats.specs.Limits.{stateLimit, labelLimit, within}
 use Rattle.formats.specs.Rules.{stateCount, labelCount, ruleLength, leafStates, innerStates, ruleMarks}
 use Rattle.formats.specs.Checks.{firstNo, ruleChecks}
-use Rattle.formats.specs.Leaves.{countsFit, ruleShape, ruleValues}
-use Rattle.formats.proofs.CheckLaws.{Numbered, and-both, and-left, and-right}
-use Rattle.formats.proofs.ListLaws.{allBelow-all}
-use Rattle.formats.proofs.PartLaws.{four-pass, pass-four, end-part, run-part, length-part}
+use Rattle.formats.specs.inner.InnerChecks.{countsFit, ruleShape, ruleValues}
+use Rattle.formats.proofs.CheckLaws.{Numbered}
+use Rattle.list_laws.proofs.BoolLaws.{and-both, and-left, and-right}
+use Rattle.list_laws.proofs.TestLaws.{allBelow-all}
+use Rattle.formats.proofs.FourChecks.{four-pass, pass-four}
+use Rattle.list_laws.proofs.SliceLaws.{end-part, run-part, length-part}
 use Rattle.formats.proofs.PlanLaws.{within-low, within-high, is-within, same-left, same-both}
 
 pub record RulesPass (r : List ℕ) : Type 0 where
@@ -38,6 +43,10 @@ pub record RulesPass (r : List ℕ) : Type 0 where
   pub leaves-below : allBelow (stateCount r) (leafStates r) ≡ true
   pub inner-below : allBelow (stateCount r) (innerStates r) ≡ true
   pub marks-below : allBelow 2 (ruleMarks r) ≡ true
+
+-- "the state for left p, label a, right q at (p×K+a)×S+q"
+pub rule-in : (s k p a q : ℕ) → p < s → a < k → q < s → (p * k + a) * s + q < s * k * s
+rule-in s k p a q hp ha hq = omega (arith, stride s (p * k + a) (s * k) (omega (arith, stride k p s hp)))
 
 -- ---- the checks
 

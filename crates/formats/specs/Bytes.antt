@@ -1,11 +1,8 @@
--- Numbers in bytes, and tests of lists.
+-- Numbers in bytes.
 --
 -- le32 b at == the 32-bit little-endian number that starts at byte `at` of b; a byte past the end counts 0
 -- le32Bytes n == its four bytes
 -- le16 b at, le16Bytes n == the same for 16 bits
--- allBelow n l == whether every element of l is below n
--- distinct l == whether no element stands twice in l
--- sameList l m == whether l and m are the same list
 --
 -- "Numbers of more than one byte are unsigned and little-endian"
 -- Assumes nothing.
@@ -26,21 +23,3 @@ le16 b at = getD b at 0 + 256 * getD b (at + 1) 0
 
 abbrev pub le16Bytes : ℕ → List ℕ
 le16Bytes n = n % 256 ∷ n / 256 % 256 ∷ []
-
-unfoldable pub allBelow : ℕ → List ℕ → Bool
-allBelow n [] = true
-allBelow n (x ∷ l) = ltb x n && allBelow n l
-
-unfoldable pub holds : ℕ → List ℕ → Bool
-holds x [] = false
-holds x (y ∷ l) = eqb x y || holds x l
-
-unfoldable pub distinct : List ℕ → Bool
-distinct [] = true
-distinct (x ∷ l) = not (holds x l) && distinct l
-
-unfoldable pub sameList : List ℕ → List ℕ → Bool
-sameList [] [] = true
-sameList [] (y ∷ m) = false
-sameList (x ∷ l) [] = false
-sameList (x ∷ l) (y ∷ m) = eqb x y && sameList l m

@@ -6,9 +6,9 @@
 -- ruleTableChecks p r, branchTableChecks p r == 2 to 10
 -- buildChecks, branchBuildChecks == 2 to 11: those of the builds and of the full checks
 -- freshRunChecks == 2 to 10, then 12 to 15
--- linkLength n, stateLength n s == what n nodes and s states need of the two table buffers
+-- nodeTableLength n, stateTableLength n s == what n nodes and s states need of the two table buffers
 --
--- Not here: 1 (the session), 16 and 18 (the branch question and the questions layer), 17 (with the calls that have it).
+-- Not here: 1 (the session), 16 and 18 (the branch question and the questions layer), 17 (Buffers).
 -- Assumes nothing.
 use Prim.Native.Nat.{ℕ, _+_, _*_}
 use mathlib.Core.Bool.{Bool, cond, _&&_}
@@ -16,7 +16,8 @@ use mathlib.Core.List.{List, [], _∷_, _++_}
 use lib.Dec.{leb, eqb}
 use lib.ListN.{length}
 use Rattle.trees.specs.Postorder.{isPostorder}
-use Rattle.formats.specs.Bytes.{le32, allBelow, distinct}
+use Rattle.formats.specs.Bytes.{le32}
+use Rattle.list_laws.specs.Tests.{allBelow, distinct}
 use Rattle.formats.specs.Limits.{nodeLimit, stateLimit, labelLimit, changeLimit, within}
 use Rattle.formats.specs.Plan.{nodeCount, planLength, labelsIn, kindsIn}
 use Rattle.formats.specs.Rules.{stateCount, labelCount, ruleLength, leafStates, innerStates, ruleMarks, branchLength, branchSteps, branchMarks}
@@ -69,15 +70,15 @@ branchChecks r =
 abbrev pub labelCheck : List ℕ → ℕ → Check
 labelCheck p k = check 10 (allBelow k (labelsIn p))
 
-abbrev pub linkLength : ℕ → ℕ
-linkLength n = n * 4
+abbrev pub nodeTableLength : ℕ → ℕ
+nodeTableLength n = n * 4
 
-abbrev pub stateLength : ℕ → ℕ → ℕ
-stateLength n s = n * (s + 1)
+abbrev pub stateTableLength : ℕ → ℕ → ℕ
+stateTableLength n s = n * (s + 1)
 
 -- "both table buffers long enough? 11"
 abbrev pub roomCheck : ℕ → ℕ → ℕ → ℕ → Check
-roomCheck n s nums bytes = check 11 (leb (linkLength n) nums && leb (stateLength n s) bytes)
+roomCheck n s nodeTable stateTable = check 11 (leb (nodeTableLength n) nodeTable && leb (stateTableLength n s) stateTable)
 
 -- "node and label lists of one length, at most 64? 12; nodes below N? 13; labels below K? 14; no node twice? 15"
 unfoldable pub listChecks : ℕ → ℕ → List ℕ → List ℕ → List Check
@@ -96,10 +97,10 @@ branchTableChecks p r = planChecks p ++ (branchChecks r ++ (labelCheck p (labelC
 
 -- the last two arguments are the lengths of the two table buffers
 unfoldable pub buildChecks : List ℕ → List ℕ → ℕ → ℕ → List Check
-buildChecks p r nums bytes = ruleTableChecks p r ++ (roomCheck (nodeCount p) (stateCount r) nums bytes ∷ [])
+buildChecks p r nodeTable stateTable = ruleTableChecks p r ++ (roomCheck (nodeCount p) (stateCount r) nodeTable stateTable ∷ [])
 
 unfoldable pub branchBuildChecks : List ℕ → List ℕ → ℕ → ℕ → List Check
-branchBuildChecks p r nums bytes = branchTableChecks p r ++ (roomCheck (nodeCount p) (stateCount r) nums bytes ∷ [])
+branchBuildChecks p r nodeTable stateTable = branchTableChecks p r ++ (roomCheck (nodeCount p) (stateCount r) nodeTable stateTable ∷ [])
 
 -- "the fresh run 2 to 10, then 12 to 15"
 unfoldable pub freshRunChecks : List ℕ → List ℕ → List ℕ → List ℕ → List Check

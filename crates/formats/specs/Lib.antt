@@ -4,4 +4,6 @@ pub mod Plan
 pub mod Rules
 pub mod Checks
 pub mod Built
-pub mod Leaves
+pub mod Buffers
+pub mod Inputs
+pub mod inner

@@ -5,10 +5,10 @@ use crate::rules::counts_fit;
 ghost use mathlib.Core.Path.{_≡_};
 ghost use Prim.Native.Nat.{_*_};
 ghost use Rattle.formats.specs.Checks.{firstNo, branchChecks};
-ghost use Rattle.formats.specs.Leaves.{Counts, Headed, BranchSized, Product, branchShape, branchValues};
+ghost use Rattle.formats.specs.inner.InnerChecks.{Counts, Headed, BranchSized, Product, branchShape, branchValues};
 
 // How many steps a branch table has.
-fn step_count(s: usize, k: usize) -> usize
+pub fn step_count(s: usize, k: usize) -> usize
     requires { ⌜ Counts s k ⌝ }
     ensures { λ r. ⌜ Product (s * k) 1024 r ⌝ }
 {
@@ -43,7 +43,7 @@ fn branch_values(branch: &[u8], s: usize, k: usize) -> bool
 }
 
 // Checks 6 to 9. No product of S and K is made before check 7 has passed.
-pub fn check_branch(branch: &[u8]) -> u8
+pub fn check_branch_bytes(branch: &[u8]) -> u8
     ensures { λ r. ⌜ r ≡ firstNo (branchChecks (now (branch .entry))) ⌝ }
 {
     if branch.len() < 16 {

@@ -1,15 +1,15 @@
 // The checks of whole calls: of plan and table, of room for the tables, of a fresh run.
-use crate::branch::check_branch;
+use crate::branch::check_branch_bytes;
 use crate::bytes::read32;
 use crate::lists::check_list;
 use crate::plan::check_plan;
 use crate::rules::all_below;
-use crate::rules::check_rules;
+use crate::rules::check_rule_bytes;
 ghost use mathlib.Core.Path.{_≡_};
-ghost use Rattle.formats.specs.Bytes.{allBelow};
+ghost use Rattle.list_laws.specs.Tests.{allBelow};
 ghost use Rattle.formats.specs.Plan.{labelsIn};
 ghost use Rattle.formats.specs.Checks.{firstNo, ruleTableChecks, branchTableChecks, buildChecks, branchBuildChecks, freshRunChecks};
-ghost use Rattle.formats.specs.Leaves.{Labelled, Sizes, roomFits};
+ghost use Rattle.formats.specs.inner.InnerChecks.{Labelled, Sizes, roomFits};
 
 // Check 10: every label of the plan below k.
 fn plan_labels_below(plan: &[u8], k: usize) -> bool
@@ -21,14 +21,14 @@ fn plan_labels_below(plan: &[u8], k: usize) -> bool
 }
 
 // Check 11: both table buffers long enough for n nodes and s states.
-fn room_fits(n: usize, s: usize, nums: usize, bytes: usize) -> bool
+pub fn room_fits(n: usize, s: usize, node_table: usize, state_table: usize) -> bool
     requires { ⌜ Sizes n s ⌝ }
-    ensures { λ r. ⌜ r ≡ roomFits n s nums bytes ⌝ }
+    ensures { λ r. ⌜ r ≡ roomFits n s «node_table» «state_table» ⌝ }
 {
-    if nums < n * 4 {
+    if node_table < n * 4 {
         return false;
     }
-    n * (s + 1) <= bytes
+    n * (s + 1) <= state_table
 }
 
 // Checks 2 to 10 for a rule table.
@@ -39,7 +39,7 @@ pub fn check_rule_inputs(plan: &[u8], rules: &[u8]) -> u8
     if p != 0 {
         return p;
     }
-    let t = check_rules(rules);
+    let t = check_rule_bytes(rules);
     if t != 0 {
         return t;
     }
@@ -58,7 +58,7 @@ pub fn check_branch_inputs(plan: &[u8], branch: &[u8]) -> u8
     if p != 0 {
         return p;
     }
-    let t = check_branch(branch);
+    let t = check_branch_bytes(branch);
     if t != 0 {
         return t;
     }
@@ -70,8 +70,8 @@ pub fn check_branch_inputs(plan: &[u8], branch: &[u8]) -> u8
 }
 
 // Checks 2 to 11: of the build and of the full check. The last two are the lengths of the table buffers.
-pub fn check_build(plan: &[u8], rules: &[u8], nums: usize, bytes: usize) -> u8
-    ensures { λ r. ⌜ r ≡ firstNo (buildChecks (now (plan .entry)) (now (rules .entry)) nums bytes) ⌝ }
+pub fn check_build(plan: &[u8], rules: &[u8], node_table: usize, state_table: usize) -> u8
+    ensures { λ r. ⌜ r ≡ firstNo (buildChecks (now (plan .entry)) (now (rules .entry)) «node_table» «state_table») ⌝ }
 {
     let t = check_rule_inputs(plan, rules);
     if t != 0 {
@@ -79,15 +79,15 @@ pub fn check_build(plan: &[u8], rules: &[u8], nums: usize, bytes: usize) -> u8
     }
     let n = read32(plan, 0);
     let s = read32(rules, 0);
-    if !room_fits(n, s, nums, bytes) {
+    if !room_fits(n, s, node_table, state_table) {
         return 11;
     }
     0
 }
 
 // Checks 2 to 11 for a branch table.
-pub fn check_branch_build(plan: &[u8], branch: &[u8], nums: usize, bytes: usize) -> u8
-    ensures { λ r. ⌜ r ≡ firstNo (branchBuildChecks (now (plan .entry)) (now (branch .entry)) nums bytes) ⌝ }
+pub fn check_branch_build(plan: &[u8], branch: &[u8], node_table: usize, state_table: usize) -> u8
+    ensures { λ r. ⌜ r ≡ firstNo (branchBuildChecks (now (plan .entry)) (now (branch .entry)) «node_table» «state_table») ⌝ }
 {
     let t = check_branch_inputs(plan, branch);
     if t != 0 {
@@ -95,7 +95,7 @@ pub fn check_branch_build(plan: &[u8], branch: &[u8], nums: usize, bytes: usize)
     }
     let n = read32(plan, 0);
     let s = read32(branch, 0);
-    if !room_fits(n, s, nums, bytes) {
+    if !room_fits(n, s, node_table, state_table) {
         return 11;
     }
     0

@@ -1,4 +1,4 @@
-// Plans, rule tables, branch tables and lists of changes as bytes: checks 2 to 15.
+// Plans, rule tables, branch tables and lists of changes as bytes: checks 2 to 15, and 17.
 //     limits   the limits of document 01
 //     bytes    numbers in bytes
 //     plan     checks 2 to 5
@@ -6,8 +6,10 @@
 //     branch   checks 6 to 9 of a branch table
 //     lists    checks 12 to 15
 //     inputs   the checks of whole calls, 10 and 11 among them
+//     buffers  check 17
 // A check answers the number of the first question that is answered with no, and 0 where none is.
 mod branch;
+pub mod buffers;
 pub mod bytes;
 pub mod inputs;
 pub mod limits;

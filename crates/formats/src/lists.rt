@@ -2,13 +2,13 @@
 use crate::limits::CHANGE_LIMIT;
 use crate::rules::all_below;
 ghost use mathlib.Core.Path.{_≡_};
-ghost use Rattle.formats.specs.Bytes.{allBelow, holds, distinct};
+ghost use Rattle.list_laws.specs.Tests.{allBelow, holds, distinct};
 ghost use Rattle.formats.specs.Checks.{firstNo, listChecks};
-ghost use Rattle.formats.specs.Leaves.{lengthsFit};
+ghost use Rattle.formats.specs.inner.InnerChecks.{listsFit};
 
 // Check 12: both lists of one length, at most the limit.
-pub fn lengths_fit(nodes: &[u16], labels: &[u8]) -> bool
-    ensures { λ r. ⌜ r ≡ lengthsFit (now (nodes .entry)) (now (labels .entry)) ⌝ }
+pub fn lists_fit(nodes: &[u16], labels: &[u8]) -> bool
+    ensures { λ r. ⌜ r ≡ listsFit (now (nodes .entry)) (now (labels .entry)) ⌝ }
 {
     if nodes.len() != labels.len() {
         return false;
@@ -70,7 +70,7 @@ pub fn all_distinct(nodes: &[u16]) -> bool
 pub fn check_list(n: usize, k: usize, nodes: &[u16], labels: &[u8]) -> u8
     ensures { λ r. ⌜ r ≡ firstNo (listChecks n k (now (nodes .entry)) (now (labels .entry))) ⌝ }
 {
-    if !lengths_fit(nodes, labels) {
+    if !lists_fit(nodes, labels) {
         return 12;
     }
     if !nodes_below(nodes, n) {

@@ -1,12 +1,13 @@
-// Rule tables: checks 6 to 9.
+// Rule tables: checks 6 to 9, and the lookup of a rule.
 use crate::bytes::read32;
 use crate::limits::LABEL_LIMIT;
 use crate::limits::STATE_LIMIT;
 ghost use mathlib.Core.Path.{_≡_};
-ghost use Prim.Native.Nat.{_*_};
-ghost use Rattle.formats.specs.Bytes.{allBelow};
+ghost use Prim.Native.Nat.{_+_, _*_};
+ghost use lib.ListN.{getD};
+ghost use Rattle.list_laws.specs.Tests.{allBelow};
 ghost use Rattle.formats.specs.Checks.{firstNo, ruleChecks};
-ghost use Rattle.formats.specs.Leaves.{Counts, Headed, RuleSized, Product, countsFit, ruleShape, ruleValues};
+ghost use Rattle.formats.specs.inner.InnerChecks.{Counts, Headed, RuleSized, RuleArgs, Product, countsFit, ruleShape, ruleValues};
 
 // Whether every byte is below the bound. There is no early exit: the loop can be done many bytes at a time.
 pub fn all_below(xs: &[u8], bound: u8) -> bool
@@ -45,6 +46,14 @@ pub fn inner_count(s: usize, k: usize) -> usize
     s * k * s
 }
 
+// The state for left state p, label a and right state q.
+pub fn rule(inner: &[u8], s: usize, k: usize, p: usize, a: usize, q: usize) -> u8
+    requires { ⌜ RuleArgs (now inner) s k p a q ⌝ }
+    ensures { λ r. ⌜ r ≡ getD (now (inner .entry)) ((p * k + a) * s + q) 0 ⌝ }
+{
+    inner[(p * k + a) * s + q]
+}
+
 // Check 8: the three offsets and the length.
 fn rule_shape(rules: &[u8], s: usize, k: usize) -> bool
     requires { ⌜ Headed (now rules) 20 s k ⌝ }
@@ -79,7 +88,7 @@ fn rule_values(rules: &[u8], s: usize, k: usize) -> bool
 }
 
 // Checks 6 to 9. No product of S and K is made before check 7 has passed.
-pub fn check_rules(rules: &[u8]) -> u8
+pub fn check_rule_bytes(rules: &[u8]) -> u8
     ensures { λ r. ⌜ r ≡ firstNo (ruleChecks (now (rules .entry))) ⌝ }
 {
     if rules.len() < 20 {

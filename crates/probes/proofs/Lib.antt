@@ -1,1 +1,2 @@
+pub mod LentRecord
 pub mod ProbeLaws

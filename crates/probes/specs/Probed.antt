@@ -1,78 +1,91 @@
 -- What the probes promise, by the definitions of the layers below.
 --
 -- RootsProbed x n l == how many roots the answer x has, and the roots with zeros behind them; 0 and zeros where they are refused
--- partTold x == the state and the links of part x; 16 and 0 where it is refused
+-- partIn x == the state and the links of part x; 16 and 0 where it is refused
 --
 -- loadedWith n s k == a loaded session of N, S and K
--- advanced i x s == session s after i advances with what is lent
--- partsTold a == the parts that answer a tells; 0 for any other answer
--- stepsTold x vs bs i s == the parts of a question, and its links after i advances
+-- advanced i x s == session s after i advances with the inputs x
+-- partsIn a == the parts that answer a tells; 0 for any other answer
+-- stepsIn x vs bs i s == the parts of a question, and its links after i advances
 -- after x vs bs i s == session s after Start and i advances; startParts x vs bs s == the parts that Start tells
--- readTold a == what answer a of Read tells; state 16 and zeros for any other
--- questionTold x vs bs s == what Read tells after Start and as many advances as it told parts
+-- readIn a == what answer a of Read tells; state 16 and zeros for any other
+-- questionIn x vs bs s == what Read tells after Start and as many advances as it told parts
+-- callNumber a == the number of an answer to Load or Cancel: 0 for one that is no refusal
+-- lifeIn x y vs bs == what a life of a session tells, Load lent x and the later calls y: from fresh, Load, Start, Cancel and a question
 --
 -- Assumes nothing.
 use Prim.Native.Nat.{ℕ, zero, suc}
 use mathlib.Core.Path.{_≡_}
 use mathlib.Core.Bool.{false}
 use mathlib.Core.List.{List}
-use Rattle.questions.specs.declared.answer.Climbed.{Climbed}
-use Rattle.questions.specs.declared.answer.Climbed.the-variants.{Reached, Outside}
+use Rattle.tables.specs.declared.answers.Climbed.{Climbed}
+use Rattle.tables.specs.declared.answers.Climbed.the-variants.{Reached as To, OutOfRange}
 use Rattle.questions.specs.declared.roots.Rooted.{Rooted}
-use Rattle.book.specs.Lends.{Lent}
-use Rattle.book.specs.Calls.{start, advance, read, Answer, refused, accepted, parts, more, finished, told}
+use Rattle.formats.specs.Inputs.{Inputs}
+use Rattle.model.specs.Calls.{load, start, advance, cancel, read, Answer, onParts, onRefused}
+use Rattle.model.specs.Calls.{onOutcome, finished, outcomeAnswer}
 use Rattle.session.specs.declared.state.Session.{Session}
 use Rattle.session.specs.Promises.{answerOn, recordOn}
-use Rattle.session.specs.Records.{sessionOf}
-use Rattle.session.specs.Tests.{loadedBy}
+use Rattle.session.specs.Records.{sessionOf, freshSession}
+use Rattle.session.specs.inner.Shapes.{loadedBy}
 use Rattle.probes.specs.declared.layers.Part.{Part}
 use Rattle.probes.specs.declared.whole.Steps.{Steps}
 use Rattle.probes.specs.declared.whole.Question.{Question}
+use Rattle.probes.specs.declared.whole.Life.{Life}
 
 pub record RootsProbed (x : Rooted) (n : ℕ) (l : List ℕ) : Type 0 where
   pub count : n ≡ x .count
   pub roots : l ≡ x .nodes
 
-abbrev pub partTold : Climbed → Part
-partTold Outside = record { state = 16; links = 0 }
-partTold (Reached q l) = record { state = q; links = l }
+abbrev pub partIn : Climbed → Part
+partIn OutOfRange = record { state = 16; links = 0 }
+partIn (To x) = record { state = x .state; links = x .links }
 
--- ---- the session by value
+-- ---- the session
 
 abbrev pub loadedWith : ℕ → ℕ → ℕ → Session
 loadedWith n s k = sessionOf (loadedBy n s k)
 
-unfoldable pub advanced : ℕ → Lent → Session → Session
+unfoldable pub advanced : ℕ → Inputs → Session → Session
 advanced zero x s = s
 advanced (suc i) x s = advanced i x (recordOn s (advance x))
 
-unfoldable pub partsTold : Answer → ℕ
-partsTold (parts p) = p
-partsTold (refused n) = 0
-partsTold accepted = 0
-partsTold more = 0
-partsTold finished = 0
-partsTold (told q y p l) = 0
+unfoldable pub partsIn : Answer → ℕ
+partsIn a = onParts (λ p. p) 0 a
 
-unfoldable pub after : Lent → List ℕ → List ℕ → ℕ → Session → Session
+unfoldable pub after : Inputs → List ℕ → List ℕ → ℕ → Session → Session
 after x vs bs i s = advanced i x (recordOn s (start x vs bs))
 
-unfoldable pub startParts : Lent → List ℕ → List ℕ → Session → ℕ
-startParts x vs bs s = partsTold (answerOn s (start x vs bs))
+unfoldable pub startParts : Inputs → List ℕ → List ℕ → Session → ℕ
+startParts x vs bs s = partsIn (answerOn s (start x vs bs))
 
-unfoldable pub stepsTold : Lent → List ℕ → List ℕ → ℕ → Session → Steps
-stepsTold x vs bs i s = record { parts = startParts x vs bs s; links = after x vs bs i s .links }
+unfoldable pub stepsIn : Inputs → List ℕ → List ℕ → ℕ → Session → Steps
+stepsIn x vs bs i s = record { parts = startParts x vs bs s; links = after x vs bs i s .head .links }
 
-abbrev pub nothingTold : Question
-nothingTold = record { state = 16; yes = false; parts = 0; links = 0 }
+abbrev pub nothingIn : Question
+nothingIn = record { state = 16; yes = false; parts = 0; links = 0 }
 
-unfoldable pub readTold : Answer → Question
-readTold (told q y p l) = record { state = q; yes = y; parts = p; links = l }
-readTold (refused n) = nothingTold
-readTold accepted = nothingTold
-readTold (parts p) = nothingTold
-readTold more = nothingTold
-readTold finished = nothingTold
+unfoldable pub readIn : Answer → Question
+readIn a =
+    onOutcome (λ o. record { state = o .state; yes = o .yes; parts = o .parts; links = o .links }) nothingIn a
 
-unfoldable pub questionTold : Lent → List ℕ → List ℕ → Session → Question
-questionTold x vs bs s = readTold (answerOn (after x vs bs (startParts x vs bs s) s) read)
+unfoldable pub questionIn : Inputs → List ℕ → List ℕ → Session → Question
+questionIn x vs bs s = readIn (answerOn (after x vs bs (startParts x vs bs s) s) read)
+
+unfoldable pub callNumber : Answer → ℕ
+callNumber a = onRefused (λ n. n) 0 a
+
+-- the session after Load, and after Load, Start and Cancel
+unfoldable pub onceLoaded : Inputs → Session
+onceLoaded x = recordOn freshSession (load x)
+
+unfoldable pub onceStarted : Inputs → Inputs → List ℕ → List ℕ → Session
+onceStarted x y vs bs = recordOn (onceLoaded x) (start y vs bs)
+
+unfoldable pub lifeIn : Inputs → Inputs → List ℕ → List ℕ → Life
+lifeIn x y vs bs = record {
+  load = callNumber (answerOn freshSession (load x));
+  parts = startParts y vs bs (onceLoaded x);
+  cancel = callNumber (answerOn (onceStarted x y vs bs) cancel);
+  again = questionIn y vs bs (recordOn (onceStarted x y vs bs) cancel);
+}

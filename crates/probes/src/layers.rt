@@ -1,11 +1,12 @@
 // The roots of a question and one part, as the questions layer works them out.
-use questions::answer::Climbed;
 use questions::part::part;
 use questions::roots::roots;
+use tables::answers::Climbed;
 ghost use mathlib.Core.Path.{_≡_};
-ghost use Rattle.questions.specs.PartTold.{toldReached, partGiven};
-ghost use Rattle.questions.specs.RootsTold.{rootsGiven, rootedOf};
-ghost use Rattle.probes.specs.Probed.{RootsProbed, partTold};
+ghost use Rattle.tables.specs.Climbs.{climbedOf};
+ghost use Rattle.questions.specs.PartAnswers.{partGiven};
+ghost use Rattle.questions.specs.RootsAnswers.{rootsGiven, rootedOf};
+ghost use Rattle.probes.specs.Probed.{RootsProbed, partIn};
 
 // A part's state and links.
 #[repr(C)]
@@ -16,11 +17,16 @@ pub struct Part {
 
 // How many roots there are, and the roots with zeros behind them; 0 and zeros where they are refused.
 #[no_mangle]
-pub extern "C" fn probe_roots(n: usize, nums: &[u16], nodes: &[u16], out: &mut [u16; 254]) -> usize
+pub extern "C" fn probe_roots(
+    n: usize,
+    node_table: &[u16],
+    nodes: &[u16],
+    out: &mut [u16; 254],
+) -> usize
     ensures { λ r. ⌜
-        RootsProbed (rootedOf (rootsGiven n (now (nums .entry)) (now (nodes .entry)))) r (now (out .exit)) ⌝ }
+        RootsProbed (rootedOf (rootsGiven n (now («node_table» .entry)) (now (nodes .entry)))) r (now (out .exit)) ⌝ }
 {
-    let found = roots(n, nums, nodes);
+    let found = roots(n, node_table, nodes);
     let list = found.nodes;
     *out = list;
     found.count
@@ -34,15 +40,15 @@ pub extern "C" fn probe_part(
     k: usize,
     plan: &[u8],
     rules: &[u8],
-    nums: &[u16],
-    bytes: &[u8],
+    node_table: &[u16],
+    state_table: &[u8],
     roots: &[u16],
     states: &[u8],
     nodes: &[u16],
     labels: &[u8],
 ) -> Part
     ensures { λ r. ⌜ r
-        ≡ partTold (toldReached (partGiven n s k (now (plan .entry)) (now (rules .entry)) (now (nums .entry)) (now (bytes .entry))
+        ≡ partIn (climbedOf (partGiven n s k (now (plan .entry)) (now (rules .entry)) (now («node_table» .entry)) (now («state_table» .entry))
         (now (roots .entry)) (now (states .entry)) (now (nodes .entry)) (now (labels .entry)))) ⌝ }
 {
     match part(
@@ -51,20 +57,20 @@ pub extern "C" fn probe_part(
         k,
         plan,
         rules,
-        nums,
-        bytes,
+        node_table,
+        state_table,
         roots,
         states,
         nodes,
         labels,
     ) {
-        Climbed::Reached(q, l) => {
+        Climbed::Reached(found) => {
             return Part {
-                state: q as u32,
-                links: l,
+                state: found.state as u32,
+                links: found.links,
             };
         }
-        Climbed::Outside => {
+        Climbed::OutOfRange => {
             return Part {
                 state: 16,
                 links: 0,

@@ -1,5 +1,7 @@
-// Work below the exported calls, for the bench alone: no part of the library that ships.
+// Work below the exported calls, for the bench and the comparison alone: no part of the library that ships.
 //     layers  the roots of a question and one part
-//     whole   Start, advances and a whole question by value, without the record's bytes
+//     places  the calls in place, run
+//     whole   Start, advances, a whole question and a whole life of a session in place, without the record's bytes
 pub mod layers;
+pub mod places;
 pub mod whole;

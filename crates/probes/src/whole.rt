@@ -1,12 +1,20 @@
-// Start, advances and a whole question on the record by value, without its bytes.
-use session::answers::Reading;
-use session::answers::Starting;
+// Start, advances, a whole question and a whole life of a session in place, without the record's bytes.
+use crate::places::advance_at;
+use crate::places::cancel_at;
+use crate::places::load_at;
+use crate::places::read_at;
+use crate::places::start_at;
+use session::answers::CallAnswer;
+use session::answers::ReadAnswer;
+use session::answers::StartAnswer;
 use session::state::Phase;
 use session::state::Session;
+use session::state::Sizes;
+use session::state::idle;
 ghost use mathlib.Core.Path.{_≡_};
-ghost use Rattle.session.specs.Promises.{startingAnswer, readingAnswer};
-ghost use Rattle.session.specs.Tests.{lentOf};
-ghost use Rattle.probes.specs.Probed.{loadedWith, partsTold, advanced, stepsTold, readTold, questionTold};
+ghost use Rattle.session.specs.Answers.{callAnswer, startAnswer, readAnswer};
+ghost use Rattle.formats.specs.Inputs.{inputsOf};
+ghost use Rattle.probes.specs.Probed.{loadedWith, partsIn, advanced, stepsIn, readIn, questionIn, callNumber, lifeIn};
 
 // A question's parts, and its links so far.
 #[repr(C)]
@@ -28,32 +36,19 @@ pub struct Question {
 fn loaded(n: u16, s: u8, k: u8) -> Session
     ensures { λ r. ⌜ r ≡ loadedWith n s k ⌝ }
 {
-    Session {
-        phase: Phase::Loaded,
-        yes: false,
-        n,
-        s,
-        k,
-        m: 0,
-        parts: 0,
-        handled: 0,
-        links: 0,
-        nodes: [0u16; 64],
-        labels: [0u8; 64],
-        roots: [0u16; 254],
-        states: [0u8; 254],
-    }
+    let sizes = Sizes { n, s, k };
+    idle(Phase::Loaded, sizes)
 }
 
 // As many parts as Start tells; 0 where it is refused.
-fn parts_told(told: Starting) -> u32
-    ensures { λ r. ⌜ r ≡ partsTold (startingAnswer told) ⌝ }
+fn parts_in(answer: StartAnswer) -> u32
+    ensures { λ r. ⌜ r ≡ partsIn (startAnswer answer) ⌝ }
 {
-    match told {
-        Starting::Parts(p) => {
+    match answer {
+        StartAnswer::Parts(p) => {
             return p as u32;
         }
-        Starting::Refused(n) => {
+        StartAnswer::Refused(n) => {
             return 0;
         }
     }
@@ -65,17 +60,17 @@ fn advance_by(
     s: Session,
     plan: &[u8],
     rules: &[u8],
-    nums: &[u16],
-    bytes: &[u8],
+    node_table: &[u16],
+    state_table: &[u8],
 ) -> Session
     ensures { λ r. ⌜ r
-        ≡ advanced count (lentOf (now (plan .entry)) (now (rules .entry)) (now (nums .entry)) (now (bytes .entry))) s ⌝ }
+        ≡ advanced count (inputsOf (now (plan .entry)) (now (rules .entry)) (now («node_table» .entry)) (now («state_table» .entry))) s ⌝ }
 {
     let mut u = s;
     let mut left = count;
     while left > 0 {
-        let out = u.advance(plan, rules, nums, bytes);
-        u = out.rec;
+        let out = advance_at(u, plan, rules, node_table, state_table);
+        u = out.session;
         left -= 1;
     }
     u
@@ -89,42 +84,42 @@ pub extern "C" fn probe_steps(
     k: u8,
     plan: &[u8],
     rules: &[u8],
-    nums: &[u16],
-    bytes: &[u8],
+    node_table: &[u16],
+    state_table: &[u8],
     nodes: &[u16],
     labels: &[u8],
     count: u32,
 ) -> Steps
     ensures { λ r. ⌜ r
-        ≡ stepsTold (lentOf (now (plan .entry)) (now (rules .entry)) (now (nums .entry)) (now (bytes .entry)))
+        ≡ stepsIn (inputsOf (now (plan .entry)) (now (rules .entry)) (now («node_table» .entry)) (now («state_table» .entry)))
         (now (nodes .entry)) (now (labels .entry)) count (loadedWith n s k) ⌝ }
 {
     let before = loaded(n, s, k);
-    let out = before.start(plan, rules, nums, bytes, nodes, labels);
-    let told = out.told;
-    let put = out.rec;
-    let parts = parts_told(told);
-    let end = advance_by(count, put, plan, rules, nums, bytes);
+    let out = start_at(before, plan, rules, node_table, state_table, nodes, labels);
+    let answer = out.answer;
+    let put = out.session;
+    let parts = parts_in(answer);
+    let end = advance_by(count, put, plan, rules, node_table, state_table);
     Steps {
         parts,
-        links: end.links,
+        links: end.head.links,
     }
 }
 
 // What Read tells; state 16 where it is refused.
-fn read_told(told: Reading) -> Question
-    ensures { λ r. ⌜ r ≡ readTold (readingAnswer told) ⌝ }
+fn read_in(answer: ReadAnswer) -> Question
+    ensures { λ r. ⌜ r ≡ readIn (readAnswer answer) ⌝ }
 {
-    match told {
-        Reading::Told(q, marked, p, l) => {
+    match answer {
+        ReadAnswer::Outcome(o) => {
             return Question {
-                state: q as u32,
-                yes: marked,
-                parts: p as u32,
-                links: l,
+                state: o.state as u32,
+                yes: o.yes,
+                parts: o.parts as u32,
+                links: o.links,
             };
         }
-        Reading::Refused(n) => {
+        ReadAnswer::Refused(n) => {
             return Question {
                 state: 16,
                 yes: false,
@@ -135,7 +130,29 @@ fn read_told(told: Reading) -> Question
     }
 }
 
-// A whole question on a loaded session of N, S and K: Start, as many advances as it tells parts, Read.
+// A whole question on a session: Start, as many advances as it tells parts, Read.
+fn question_on(
+    before: Session,
+    plan: &[u8],
+    rules: &[u8],
+    node_table: &[u16],
+    state_table: &[u8],
+    nodes: &[u16],
+    labels: &[u8],
+) -> Question
+    ensures { λ r. ⌜ r
+        ≡ questionIn (inputsOf (now (plan .entry)) (now (rules .entry)) (now («node_table» .entry)) (now («state_table» .entry)))
+        (now (nodes .entry)) (now (labels .entry)) before ⌝ }
+{
+    let out = start_at(before, plan, rules, node_table, state_table, nodes, labels);
+    let answer = out.answer;
+    let put = out.session;
+    let end = advance_by(parts_in(answer), put, plan, rules, node_table, state_table);
+    let outcome = read_at(end);
+    read_in(outcome)
+}
+
+// The same on a loaded session of N, S and K.
 #[no_mangle]
 pub extern "C" fn probe_question(
     n: u16,
@@ -143,20 +160,75 @@ pub extern "C" fn probe_question(
     k: u8,
     plan: &[u8],
     rules: &[u8],
-    nums: &[u16],
-    bytes: &[u8],
+    node_table: &[u16],
+    state_table: &[u8],
     nodes: &[u16],
     labels: &[u8],
 ) -> Question
     ensures { λ r. ⌜ r
-        ≡ questionTold (lentOf (now (plan .entry)) (now (rules .entry)) (now (nums .entry)) (now (bytes .entry)))
+        ≡ questionIn (inputsOf (now (plan .entry)) (now (rules .entry)) (now («node_table» .entry)) (now («state_table» .entry)))
         (now (nodes .entry)) (now (labels .entry)) (loadedWith n s k) ⌝ }
 {
     let before = loaded(n, s, k);
-    let out = before.start(plan, rules, nums, bytes, nodes, labels);
-    let told = out.told;
-    let put = out.rec;
-    let end = advance_by(parts_told(told), put, plan, rules, nums, bytes);
-    let answer = end.read();
-    read_told(answer)
+    question_on(before, plan, rules, node_table, state_table, nodes, labels)
+}
+
+// The numbers of Load and Cancel, the parts that the first Start tells, and what Read tells of the question put again.
+#[repr(C)]
+pub struct Life {
+    pub load: u32,
+    pub parts: u32,
+    pub cancel: u32,
+    pub again: Question,
+}
+
+// The number of an answer to Load or Cancel: 0 where it is accepted.
+fn call_number(answer: CallAnswer) -> u32
+    ensures { λ r. ⌜ r ≡ callNumber (callAnswer answer) ⌝ }
+{
+    match answer {
+        CallAnswer::Accepted => {
+            return 0;
+        }
+        CallAnswer::Refused(n) => {
+            return n as u32;
+        }
+    }
+}
+
+// A life of a session, each call in place: fresh, Load, Start, Cancel, and the question put again, as many advances as it has parts, Read.
+#[no_mangle]
+pub extern "C" fn probe_life(
+    plan: &[u8],
+    rules: &[u8],
+    node_table: &mut [u16],
+    state_table: &mut [u8],
+    nodes: &[u16],
+    labels: &[u8],
+) -> Life
+    ensures { λ r. ⌜ r
+        ≡ lifeIn (inputsOf (now (plan .entry)) (now (rules .entry)) (now («node_table» .entry)) (now («state_table» .entry)))
+        (inputsOf (now (plan .entry)) (now (rules .entry)) (now («node_table» .exit)) (now («state_table» .exit)))
+        (now (nodes .entry)) (now (labels .entry)) ⌝ }
+{
+    let fresh = Session::fresh();
+    let out = load_at(fresh, plan, rules, node_table, state_table);
+    let a = out.answer;
+    let loaded = out.session;
+    let load = call_number(a);
+    let put = start_at(loaded, plan, rules, node_table, state_table, nodes, labels);
+    let b = put.answer;
+    let running = put.session;
+    let parts = parts_in(b);
+    let ended = cancel_at(running);
+    let c = ended.answer;
+    let idle = ended.session;
+    let cancel = call_number(c);
+    let again = question_on(idle, plan, rules, node_table, state_table, nodes, labels);
+    Life {
+        load,
+        parts,
+        cancel,
+        again,
+    }
 }

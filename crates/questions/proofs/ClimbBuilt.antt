@@ -21,11 +21,12 @@ use Rattle.trees.proofs.MoveLaws.{start}
 use Rattle.trees.proofs.ClimbLaws.{same-climb}
 use Rattle.trees.proofs.TreeClimbs.{climb-tree, climb-proper, Proper}
 use Rattle.trees.proofs.MapLaws.{right-child-size, left-sibling-in, right-sibling-in, parent-pos}
-use Rattle.links.specs.Cells.{parentCell, sizeCell, cellForest}
-use Rattle.links.specs.LinkCells.{LinkCells}
+use Rattle.node_tables.specs.Cells.{parentCell, sizeCell, cellForest}
+use Rattle.node_tables.specs.NodeCells.{NodeCells}
 use Rattle.tables.specs.StateCells.{stateCell, mapCell}
+use Rattle.tables.specs.declared.answers.Reached.{Reached}
+use Rattle.tables.specs.Climbs.{View, below, runOn, ruleOn, siblingOn, parentOn, moveOn, reached, climbOn}
 use Rattle.ready.specs.Parts.{Given, moveState, moveStates, movesOf, climbMoves}
-use Rattle.questions.specs.Climbs.{View, below, runOn, ruleOn, siblingOn, parentOn, moveOn, Reached, reached, climbOn}
 use Rattle.questions.specs.Promises.{Reads}
 
 pub is-below : (s q : ℕ) → q < s → below s q ≡ some q
@@ -55,7 +56,7 @@ module _ (X : View) (G : Given) (R : Reads X G) where
     to-parent : parentOn X v (parent (G .tree) v) q ≡ some (moveState G (toParent v) q)
     unfolding parentOn siblingOn moveState
     to-parent = elim (ℕ-discrete (v + 1) (parent (G .tree) v)) [
-      | yes e ↦ (let s : sizeCell (X .nums) v ≡ size (sub (G .tree) v) = R .cells .sizes v (omega arith) in
+      | yes e ↦ (let s : sizeCell (X .nodeTable) v ≡ size (sub (G .tree) v) = R .cells .sizes v (omega arith) in
           rw (
             eq-eqb (v + 1) (parent (G .tree) v) e,
             s,
@@ -113,8 +114,8 @@ module _ (X : View) (G : Given) (R : Reads X G) where
   unfolding climbOn climbMoves
   climb-built h c q hh l hq =
       let T = climb-tree (G .tree) h (depth (G .tree) c) hh l in
-      let e : climb (cellForest (X .n) (X .nums)) h (depth (G .tree) c) ≡ some (T .moves) =
-      same-climb (cellForest (X .n) (X .nums)) (G .tree) (R .count)
+      let e : climb (cellForest (X .n) (X .nodeTable)) h (depth (G .tree) c) ≡ some (T .moves) =
+      same-climb (cellForest (X .n) (X .nodeTable)) (G .tree) (R .count)
       (λ v hv. (R .cells .parents v hv, R .cells .jumps v hv, R .cells .depths v hv)) h (depth (G .tree) c) hh ∙ T .found in
       let r = carry-built (T .moves) q (climb-proper (G .tree) h (depth (G .tree) c) (T .moves) hh (T .found)) hq in
       rw (e, r .0, T .found) (refl, r .1)

@@ -14,12 +14,12 @@ use native.Mathlib.Omega.{arith}
 use lib.Dec.{leb, ltb, eqb}
 use borrow.Author.Tests.{lt-ltb, le-leb, eq-eqb, ne-eqb}
 use Rattle.trees.specs.Tree.{Tree, size, kindAt}
-use Rattle.trees.specs.Numbering.{sub}
+use Rattle.trees.specs.Numbering.{sub, InSubtree}
 use Rattle.trees.specs.Climb.{andThen}
 use Rattle.trees.proofs.NodeLaws.{Inner, inner}
-use Rattle.links.specs.Cells.{sizeCell}
-use Rattle.links.specs.LinkCells.{LinkCells}
-use Rattle.ready.specs.Ready.{Under, Meet, leftChild, rightChild}
+use Rattle.node_tables.specs.Cells.{sizeCell}
+use Rattle.node_tables.specs.NodeCells.{NodeCells}
+use Rattle.ready.specs.Ready.{Meet, leftChild, rightChild}
 use Rattle.ready.specs.Members.{Rising}
 use Rattle.ready.proofs.BelowLaws.{rising-above}
 use Rattle.ready.proofs.ClosedForm.{parted}
@@ -40,7 +40,7 @@ pub record Added (t : Tree) (a : ℕ) (bs l k : List ℕ) : Type 0 where
       → List·Memᴰ x l ⊎ (List·Memᴰ x bs ⊎ ((u : ℕ) × (v : ℕ) × (m : ℕ) × Next a bs u v × Meet t u v m × (m ≡ v → ⊥) × Of t m x))
   pub rising : Rising 0 l → Rising 0 k
 
-module _ (t : Tree) (nums : List ℕ) (L : LinkCells t nums) where
+module _ (t : Tree) (nodeTable : List ℕ) (L : NodeCells t nodeTable) where
   -- ---- one pair of neighbours
 
   pub record Paired (a b : ℕ) (l k : List ℕ) : Type 0 where
@@ -52,11 +52,11 @@ module _ (t : Tree) (nums : List ℕ) (L : LinkCells t nums) where
   three : (m : ℕ) (l : List ℕ) → List ℕ
   three m l = insertRising m (insertRising (rightChild m) (insertRising (leftChild t m) l))
 
-  fork-room : (m : ℕ) → m < size t → kindAt t m ≡ 1 → (l : List ℕ) → withFork nums m l ≡ some (three m l)
+  fork-room : (m : ℕ) → m < size t → kindAt t m ≡ 1 → (l : List ℕ) → withFork nodeTable m l ≡ some (three m l)
   unfolding withFork three
   fork-room m h k l =
       let i : Inner t m = inner t m h (λ e. omega arith) in
-      let s : sizeCell nums (m - 1) ≡ size (sub t (m - 1)) = L .sizes (m - 1) (omega arith) in
+      let s : sizeCell nodeTable (m - 1) ≡ size (sub t (m - 1)) = L .sizes (m - 1) (omega arith) in
       rw (s, lt-ltb 0 m (omega (arith, i .at)), le-leb (size (sub t (m - 1))) (m - 1) (omega (arith, i .at)))
 
   same-pair : (a b : ℕ) (l : List ℕ) → Meet t a b b → Paired a b l l
@@ -98,12 +98,12 @@ module _ (t : Tree) (nums : List ℕ) (L : LinkCells t nums) where
           (insert-old (rightChild m) x (insertRising (leftChild t m) l)
           (subst (λ (z : ℕ). List·Memᴰ z (insertRising (leftChild t m) l)) (sym e) (insert-new (leftChild t m) l)))
 
-  pair-built : (a b : ℕ) (l : List ℕ) → a < b → b < size t → (k : List ℕ) × (withMeet (size t) nums a b l ≡ some k) × Paired a b l k
+  pair-built : (a b : ℕ) (l : List ℕ) → a < b → b < size t → (k : List ℕ) × (withMeet (size t) nodeTable a b l ≡ some k) × Paired a b l k
   unfolding withMeet
-  pair-built a b l lt hb = go (meet-built t nums L a (omega arith) b hb)
+  pair-built a b l lt hb = go (meet-built t nodeTable L a (omega arith) b hb)
     where
-      go : ((x : ℕ) × (meetOn (size t) nums a b ≡ some x) × Meet t a b x)
-          → (k : List ℕ) × (andThen (meetOn (size t) nums a b) (λ x. cond (eqb x b) (some l) (withFork nums x l)) ≡ some k) × Paired a b l k
+      go : ((x : ℕ) × (meetOn (size t) nodeTable a b ≡ some x) × Meet t a b x)
+          → (k : List ℕ) × (andThen (meetOn (size t) nodeTable a b) (λ x. cond (eqb x b) (some l) (withFork nodeTable x l)) ≡ some k) × Paired a b l k
       go (x, e, m) = elim (ℕ-discrete x b) [
         | yes q ↦ (l, rw (e, eq-eqb x b q), same-pair a b l (subst (Meet t a b) q m))
         | no n ↦ (let na : x ≡ a → ⊥ = λ z. omega (arith, m .second) in
@@ -161,7 +161,7 @@ module _ (t : Tree) (nums : List ℕ) (L : LinkCells t nums) where
       fork u v m x (later n) d mm nm o = A .forked u v m x n d mm nm o
 
   pub forks-built : (bs : List ℕ) (a : ℕ) (l : List ℕ) → Rising (suc a) bs → ((x : ℕ) → List·Memᴰ x bs → x < size t)
-      → (k : List ℕ) × (forksOn (size t) nums a bs l ≡ some k) × Added t a bs l k
+      → (k : List ℕ) × (forksOn (size t) nodeTable a bs l ≡ some k) × Added t a bs l k
   unfolding forksOn
   forks-built [] a l r h = (
     l,

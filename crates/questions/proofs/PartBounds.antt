@@ -17,17 +17,19 @@ use borrow.Author.Tests.{leb-true}
 use Rattle.trees.specs.Climb.{andThen}
 use Rattle.trees.proofs.MoveLaws.{none-some, cond-some}
 use Rattle.formats.specs.Limits.{nodeLimit, within}
-use Rattle.formats.proofs.CheckLaws.{and-left, and-right}
-use Rattle.links.specs.Cells.{sizeCell}
-use Rattle.questions.specs.Climbs.{View, below, runOn, ruleOn, Reached, reached, climbOn}
+use Rattle.formats.specs.Buffers.{limitsFit}
+use Rattle.list_laws.proofs.BoolLaws.{and-left, and-right}
+use Rattle.node_tables.specs.Cells.{sizeCell}
+use Rattle.tables.specs.declared.answers.Reached.{Reached}
+use Rattle.tables.specs.Climbs.{View, below, runOn, ruleOn, reached, climbOn}
+use Rattle.tables.proofs.LookupLaws.{below-state}
+use Rattle.tables.proofs.ClimbBounds.{rule-state, Bounded, climb-bounded}
 use Rattle.questions.specs.Part.{Found, climbFrom, runReached, ownReached, joinOn}
 use Rattle.questions.specs.Part.{innerOn, leafOn, forkOn, partOn}
 use Rattle.questions.specs.Part.{labelOn}
-use Rattle.questions.specs.Scans.{sideOn}
-use Rattle.questions.specs.PartArgs.{unmoved}
-use Rattle.questions.specs.PartTold.{limitsFit, partFits, lentView, partGiven}
-use Rattle.questions.proofs.LookupLaws.{below-state}
-use Rattle.questions.proofs.ClimbBounds.{rule-state, Bounded, climb-bounded}
+use Rattle.questions.specs.inner.Scans.{sideOn}
+use Rattle.questions.specs.inner.PartArgs.{unmoved}
+use Rattle.questions.specs.PartAnswers.{partFits, viewIn, partGiven}
 
 module _ (X : View) where
   -- ---- at a child
@@ -133,32 +135,32 @@ module _ (X : View) where
   unfolding partOn forkOn
   part-bounded es qs vs bs v x e = go (eqb (getD (X .kinds) v 0) 0) e
     where
-      fork : (b : Bool) → cond b (forkOn X es qs v (v - 1 - sizeCell (X .nums) (v - 1)) (labelOn X vs bs v)) none
+      fork : (b : Bool) → cond b (forkOn X es qs v (v - 1 - sizeCell (X .nodeTable) (v - 1)) (labelOn X vs bs v)) none
           ≡ some x
           → Bounded X x
       fork b i = inner-bounded _ _ _ _ _ _ x
-          (cond-some b (forkOn X es qs v (v - 1 - sizeCell (X .nums) (v - 1)) (labelOn X vs bs v)) i .1)
+          (cond-some b (forkOn X es qs v (v - 1 - sizeCell (X .nodeTable) (v - 1)) (labelOn X vs bs v)) i .1)
 
       go : (b : Bool) → cond b (leafOn X (labelOn X vs bs v))
-          (cond (ltb 0 v && leb (sizeCell (X .nums) (v - 1)) (v - 1))
-          (forkOn X es qs v (v - 1 - sizeCell (X .nums) (v - 1)) (labelOn X vs bs v)) none) ≡ some x → Bounded X x
+          (cond (ltb 0 v && leb (sizeCell (X .nodeTable) (v - 1)) (v - 1))
+          (forkOn X es qs v (v - 1 - sizeCell (X .nodeTable) (v - 1)) (labelOn X vs bs v)) none) ≡ some x → Bounded X x
       go true i = leaf-bounded (labelOn X vs bs v) x i
-      go false i = fork (ltb 0 v && leb (sizeCell (X .nums) (v - 1)) (v - 1)) i
+      go false i = fork (ltb 0 v && leb (sizeCell (X .nodeTable) (v - 1)) (v - 1)) i
 
 -- ---- the part that a caller asks for
 
-module _ (n s k : ℕ) (plan rules nums bytes roots states vs bs : List ℕ) (x : Reached)
-    (e : partGiven n s k plan rules nums bytes roots states vs bs ≡ some x) where
-  given : (partFits n s k plan rules nums bytes roots states vs bs ≡ true)
-      × Bounded (lentView n s k plan rules nums bytes) x
+module _ (n s k : ℕ) (plan rules nodeTable stateTable roots states vs bs : List ℕ) (x : Reached)
+    (e : partGiven n s k plan rules nodeTable stateTable roots states vs bs ≡ some x) where
+  given : (partFits n s k plan rules nodeTable stateTable roots states vs bs ≡ true)
+      × Bounded (viewIn n s k plan rules nodeTable stateTable) x
   unfolding partGiven
   given =
       let c =
-      cond-some (partFits n s k plan rules nums bytes roots states vs bs)
-      (partOn (lentView n s k plan rules nums bytes) (take (length states) roots) states vs bs
+      cond-some (partFits n s k plan rules nodeTable stateTable roots states vs bs)
+      (partOn (viewIn n s k plan rules nodeTable stateTable) (take (length states) roots) states vs bs
       (getD roots (length states) 0)) e in (
         c .0,
-        part-bounded (lentView n s k plan rules nums bytes) (take (length states) roots) states vs bs
+        part-bounded (viewIn n s k plan rules nodeTable stateTable) (take (length states) roots) states vs bs
             (getD roots (length states) 0) x (c .1),
       )
 

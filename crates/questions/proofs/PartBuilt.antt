@@ -17,25 +17,26 @@ use borrow.Author.Tests.{lt-ltb, le-leb, lt-leb, eq-eqb, ne-eqb}
 use Rattle.trees.specs.Tree.{Tree, size, kindAt, labelsOf}
 use Rattle.trees.specs.Changes.{changed}
 use Rattle.trees.specs.Climb.{andThen}
-use Rattle.trees.specs.Numbering.{sub, depth}
+use Rattle.trees.specs.Numbering.{sub, depth, InSubtree, isInSubtree}
 use Rattle.trees.proofs.NodeLaws.{Inner, inner, up}
 use Rattle.trees.proofs.IntervalLaws.{interval-ancestor, above-at}
-use Rattle.links.specs.Cells.{depthCell, sizeCell}
-use Rattle.ready.specs.Ready.{Under, leftChild, rightChild}
+use Rattle.node_tables.specs.Cells.{depthCell, sizeCell}
+use Rattle.node_tables.specs.Cells.{isInSubtreeOn}
+use Rattle.tables.specs.declared.answers.Reached.{Reached}
+use Rattle.tables.specs.Climbs.{View, below, runOn, ruleOn, reached, climbOn}
+use Rattle.ready.specs.Ready.{leftChild, rightChild}
 use Rattle.ready.specs.Members.{Rising}
-use Rattle.ready.specs.Parts.{Given, isUnder, anyBelow, lastBelow, highestBelow, moveStates, climbMoves, climbedLinks, innerLinks}
+use Rattle.ready.specs.Parts.{Given, anyBelow, lastBelow, highestBelow, moveStates, climbMoves, climbedLinks, innerLinks}
 use Rattle.ready.specs.Parts.{partLinks, Part, nodesOf, statesOf, stateOf, climbedState, innerState, partState}
 use Rattle.ready.proofs.BelowLaws.{none-below, some-below, under-no, true-false, rising-above}
 use Rattle.ready.proofs.ClosedForm.{kind-one}
 use Rattle.ready.proofs.HighestLaws.{Highest, is-false}
 use Rattle.ready.proofs.PartsRun.{Members}
 use Rattle.ready.proofs.UnderLaws.{under-self, left-in, right-in, left-parent, right-parent}
-use Rattle.links.specs.Cells.{isBelow}
-use Rattle.questions.specs.Climbs.{View, below, runOn, ruleOn, Reached, reached, climbOn}
 use Rattle.questions.specs.Part.{Found, found, lastFound, foundBelow, labelOn, climbFrom, runReached, ownReached}
 use Rattle.questions.specs.Part.{joinOn, innerOn, leafOn, forkOn, partOn}
-use Rattle.questions.proofs.MeetBuilt.{below-is}
 use Rattle.questions.specs.Promises.{Reads}
+use Rattle.questions.proofs.MeetBuilt.{below-is}
 use Rattle.questions.proofs.ClimbBuilt.{is-below, rule-built, run-built, climb-built}
 
 -- ---- the root found below a node
@@ -50,7 +51,7 @@ module _ (t : Tree) (c : ℕ) where
   last-any : (ms : List ℕ) (d e : ℕ) → anyBelow ms t c ≡ true → lastBelow ms t c d ≡ lastBelow ms t c e
   unfolding anyBelow lastBelow
   last-any [] d e q = absurd (true-false true refl (sym q))
-  last-any (v ∷ ms) d e q = go (isUnder t c v) q (λ x y z. last-any ms x y z)
+  last-any (v ∷ ms) d e q = go (isInSubtree c (size (sub t c)) v) q (λ x y z. last-any ms x y z)
     where
       go : (b : Bool) → (b || anyBelow ms t c) ≡ true → ((x y : ℕ) → anyBelow ms t c ≡ true → lastBelow ms t c x ≡ lastBelow ms t c y)
           → lastBelow ms t c (cond b v d) ≡ lastBelow ms t c (cond b v e)
@@ -60,7 +61,7 @@ module _ (t : Tree) (c : ℕ) where
   last-none : (ms : List ℕ) (d : ℕ) → anyBelow ms t c ≡ false → lastBelow ms t c d ≡ d
   unfolding anyBelow lastBelow
   last-none [] d q = refl
-  last-none (v ∷ ms) d q = go (isUnder t c v) q (λ x z. last-none ms x z)
+  last-none (v ∷ ms) d q = go (isInSubtree c (size (sub t c)) v) q (λ x z. last-none ms x z)
     where
       go : (b : Bool) → (b || anyBelow ms t c) ≡ false → ((x : ℕ) → anyBelow ms t c ≡ false → lastBelow ms t c x ≡ x) → lastBelow ms t c (cond b v d) ≡ d
       go true z f = absurd (true-false true refl z)
@@ -69,7 +70,7 @@ module _ (t : Tree) (c : ℕ) where
   last-in : (ms : List ℕ) (d : ℕ) → anyBelow ms t c ≡ true → List·Memᴰ (lastBelow ms t c d) ms
   unfolding anyBelow lastBelow
   last-in [] d q = absurd (true-false true refl (sym q))
-  last-in (v ∷ ms) d q = go (isUnder t c v) (anyBelow ms t c) refl q (λ x z. last-in ms x z) (λ x z. last-none ms x z)
+  last-in (v ∷ ms) d q = go (isInSubtree c (size (sub t c)) v) (anyBelow ms t c) refl q (λ x z. last-in ms x z) (λ x z. last-none ms x z)
     where
       go : (b a : Bool) → anyBelow ms t c ≡ a → (b || a) ≡ true → ((x : ℕ) → anyBelow ms t c ≡ true → List·Memᴰ (lastBelow ms t c x) ms)
           → ((x : ℕ) → anyBelow ms t c ≡ false → lastBelow ms t c x ≡ x) → List·Memᴰ (lastBelow ms t c (cond b v d)) (v ∷ ms)
@@ -87,13 +88,14 @@ module _ (t : Tree) (c : ℕ) where
   unfolding stateOf
   state-first p ps = rw (eq-eqb (p .node) (p .node) refl)
 
-  module _ (nums : List ℕ) (same : (v : ℕ) → isBelow nums c v ≡ isUnder t c v) where
-    finds : (ps : List Part) (lo : ℕ) (f : Option Found) → Rising lo (nodesOf ps) → Finding ps f (lastFound nums c (nodesOf ps) (statesOf ps) f)
+  module _ (nodeTable : List ℕ) (same : (v : ℕ) → isInSubtreeOn nodeTable c v ≡ isInSubtree c (size (sub t c)) v) where
+    finds : (ps : List Part) (lo : ℕ) (f : Option Found) → Rising lo (nodesOf ps) → Finding ps f (lastFound nodeTable c (nodesOf ps) (statesOf ps) f)
     unfolding lastFound anyBelow lastBelow
     finds [] lo f r = inl (refl, refl)
     finds (p ∷ ps) lo f r =
         rw (same (p .node))
-        (go (isUnder t c (p .node)) (finds ps (suc (p .node)) (some (found (p .node) (p .state))) (r .1)) (finds ps (suc (p .node)) f (r .1)))
+        (go (isInSubtree c (size (sub t c)) (p .node)) (finds ps (suc (p .node)) (some (found (p .node) (p .state))) (r .1))
+        (finds ps (suc (p .node)) f (r .1)))
       where
         -- a later root is not this one
         later : (d : ℕ) → anyBelow (nodesOf ps) t c ≡ true → lastBelow (nodesOf ps) t c d ≡ p .node → ⊥
@@ -104,11 +106,11 @@ module _ (t : Tree) (c : ℕ) where
             → o ≡ some (found (lastBelow (nodesOf ps) t c d) (stateOf (p ∷ ps) (lastBelow (nodesOf ps) t c d)))
         lift o d a e = e ∙ ap (λ (z : ℕ). some (found (lastBelow (nodesOf ps) t c d) z)) (sym (state-other p ps (lastBelow (nodesOf ps) t c d) (later d a)))
 
-        go : (b : Bool) → Finding ps (some (found (p .node) (p .state))) (lastFound nums c (nodesOf ps) (statesOf ps) (some (found (p .node) (p .state))))
-            → Finding ps f (lastFound nums c (nodesOf ps) (statesOf ps) f)
-            → (((b || anyBelow (nodesOf ps) t c) ≡ false) × (lastFound nums c (nodesOf ps) (statesOf ps) (cond b (some (found (p .node) (p .state))) f) ≡ f))
+        go : (b : Bool) → Finding ps (some (found (p .node) (p .state))) (lastFound nodeTable c (nodesOf ps) (statesOf ps) (some (found (p .node) (p .state))))
+            → Finding ps f (lastFound nodeTable c (nodesOf ps) (statesOf ps) f)
+            → (((b || anyBelow (nodesOf ps) t c) ≡ false) × (lastFound nodeTable c (nodesOf ps) (statesOf ps) (cond b (some (found (p .node) (p .state))) f) ≡ f))
             ⊎ (((b || anyBelow (nodesOf ps) t c) ≡ true)
-            × ((d : ℕ) → lastFound nums c (nodesOf ps) (statesOf ps) (cond b (some (found (p .node) (p .state))) f)
+            × ((d : ℕ) → lastFound nodeTable c (nodesOf ps) (statesOf ps) (cond b (some (found (p .node) (p .state))) f)
             ≡ some (found (lastBelow (nodesOf ps) t c (cond b (p .node) d)) (stateOf (p ∷ ps) (lastBelow (nodesOf ps) t c (cond b (p .node) d))))))
         go true (inl x) y = inr (
           refl,
@@ -123,8 +125,8 @@ module _ (t : Tree) (c : ℕ) where
 -- ---- roots from v on are not below a child of v
 
 module _ (t : Tree) (c : ℕ) where
-  over : (x : ℕ) → c < x → isUnder t c x ≡ false
-  unfolding isUnder
+  over : (x : ℕ) → c < x → isInSubtree c (size (sub t c)) x ≡ false
+  unfolding isInSubtree
   over x h = rw (lt-leb x c h)
 
   all-over : (ys : List ℕ) (lo : ℕ) → c < lo → Rising lo ys → anyBelow ys t c ≡ false
@@ -135,12 +137,12 @@ module _ (t : Tree) (c : ℕ) where
   any-append : (xs ys : List ℕ) → anyBelow ys t c ≡ false → anyBelow (xs ++ ys) t c ≡ anyBelow xs t c
   unfolding anyBelow
   any-append [] ys e = e
-  any-append (x ∷ xs) ys e = ap (λ (b : Bool). isUnder t c x || b) (any-append xs ys e)
+  any-append (x ∷ xs) ys e = ap (λ (b : Bool). isInSubtree c (size (sub t c)) x || b) (any-append xs ys e)
 
   last-append : (xs ys : List ℕ) (d : ℕ) → anyBelow ys t c ≡ false → lastBelow (xs ++ ys) t c d ≡ lastBelow xs t c d
   unfolding lastBelow
   last-append [] ys d e = last-none t c ys d e
-  last-append (x ∷ xs) ys d e = last-append xs ys (cond (isUnder t c x) x d) e
+  last-append (x ∷ xs) ys d e = last-append xs ys (cond (isInSubtree c (size (sub t c)) x) x d) e
 
 rising-rest : (xs : List ℕ) (v : ℕ) (ys : List ℕ) (lo : ℕ) → Rising lo (xs ++ (v ∷ ys)) → Rising v (v ∷ ys)
 rising-rest [] v ys lo r = (omega arith, r .1)
@@ -175,24 +177,24 @@ module _ (X : View) (G : Given) (R : Reads X G) (w : ℕ → Bool) (ms : List �
     highest-is : highestBelow ms (G .tree) c ≡ lastBelow (nodesOf ps) (G .tree) c c
     highest-is = ap (λ (z : List ℕ). lastBelow z (G .tree) c c) (sym cut) ∙ last-append (G .tree) c (nodesOf ps) (v ∷ rest) c beyond
 
-    finding : Finding (G .tree) c ps none (foundBelow (X .nums) c (nodesOf ps) (statesOf ps))
+    finding : Finding (G .tree) c ps none (foundBelow (X .nodeTable) c (nodesOf ps) (statesOf ps))
     finding =
-        finds (G .tree) c (X .nums) (λ x. below-is (G .tree) (X .nums) (R .cells) c x (omega (arith, hv))) ps 0 none
+        finds (G .tree) c (X .nodeTable) (λ x. below-is (G .tree) (X .nodeTable) (R .cells) c x (omega (arith, hv))) ps 0 none
         (rising-front (nodesOf ps) (v ∷ rest) 0 rises)
 
-    pub found-none : anyBelow ms (G .tree) c ≡ false → foundBelow (X .nums) c (nodesOf ps) (statesOf ps) ≡ none
+    pub found-none : anyBelow ms (G .tree) c ≡ false → foundBelow (X .nodeTable) c (nodesOf ps) (statesOf ps) ≡ none
     found-none e = go finding
       where
-        go : Finding (G .tree) c ps none (foundBelow (X .nums) c (nodesOf ps) (statesOf ps)) → foundBelow (X .nums) c (nodesOf ps) (statesOf ps) ≡ none
+        go : Finding (G .tree) c ps none (foundBelow (X .nodeTable) c (nodesOf ps) (statesOf ps)) → foundBelow (X .nodeTable) c (nodesOf ps) (statesOf ps) ≡ none
         go (inl x) = x .1
         go (inr x) = absurd (true-false true refl (sym (x .0) ∙ sym any-is ∙ e))
 
     pub found-built : anyBelow ms (G .tree) c ≡ true
-        → foundBelow (X .nums) c (nodesOf ps) (statesOf ps) ≡ some (found (highestBelow ms (G .tree) c) (stateOf ps (highestBelow ms (G .tree) c)))
+        → foundBelow (X .nodeTable) c (nodesOf ps) (statesOf ps) ≡ some (found (highestBelow ms (G .tree) c) (stateOf ps (highestBelow ms (G .tree) c)))
     found-built e = go finding
       where
-        go : Finding (G .tree) c ps none (foundBelow (X .nums) c (nodesOf ps) (statesOf ps))
-            → foundBelow (X .nums) c (nodesOf ps) (statesOf ps) ≡ some (found (highestBelow ms (G .tree) c) (stateOf ps (highestBelow ms (G .tree) c)))
+        go : Finding (G .tree) c ps none (foundBelow (X .nodeTable) c (nodesOf ps) (statesOf ps))
+            → foundBelow (X .nodeTable) c (nodesOf ps) (statesOf ps) ≡ some (found (highestBelow ms (G .tree) c) (stateOf ps (highestBelow ms (G .tree) c)))
         go (inl x) = absurd (true-false true refl (sym (sym (x .0) ∙ sym any-is ∙ e)))
         go (inr x) = x .1 c ∙ ap (λ (h : ℕ). some (found h (stateOf ps h))) (sym highest-is)
 
@@ -234,13 +236,13 @@ module _ (X : View) (G : Given) (R : Reads X G) (w : ℕ → Bool) (ms : List �
     hr : rightChild v < v
     hr = right-in (G .tree) v hv k
 
-    depth-left-is : depthCell (X .nums) v + 1 ≡ depth (G .tree) (leftChild (G .tree) v)
+    depth-left-is : depthCell (X .nodeTable) v + 1 ≡ depth (G .tree) (leftChild (G .tree) v)
     depth-left-is =
         let e = left-parent (G .tree) v hv k in
         let u = up (G .tree) (leftChild (G .tree) v) (omega (arith, hl, hv)) in
         omega (arith, R .cells .depths v hv, u .deeper, ap (depth (G .tree)) e)
 
-    depth-right-is : depthCell (X .nums) v + 1 ≡ depth (G .tree) (rightChild v)
+    depth-right-is : depthCell (X .nodeTable) v + 1 ≡ depth (G .tree) (rightChild v)
     depth-right-is =
         let e = right-parent (G .tree) v hv k in
         let u = up (G .tree) (rightChild v) (omega (arith, hr, hv)) in
@@ -267,7 +269,7 @@ module _ (X : View) (G : Given) (R : Reads X G) (w : ℕ → Bool) (ms : List �
         hb = R .changed-below v
 
         T : ℕ
-        T = depthCell (X .nums) v + 1
+        T = depthCell (X .nodeTable) v + 1
 
         own : anyBelow ms (G .tree) (leftChild (G .tree) v) ≡ true → anyBelow ms (G .tree) (rightChild v) ≡ true
             → List·Memᴰ (leftChild (G .tree) v) ms × List·Memᴰ (rightChild v) ms
@@ -283,8 +285,8 @@ module _ (X : View) (G : Given) (R : Reads X G) (w : ℕ → Bool) (ms : List �
         own-links x n = ap (λ (z : ℕ). some (reached x z)) (let e : 0 + n ≡ n = omega arith in e)
 
         go : (c d : Bool) → anyBelow ms (G .tree) (leftChild (G .tree) v) ≡ c → anyBelow ms (G .tree) (rightChild v) ≡ d
-            → innerOn X (depthCell (X .nums) v + 1) (leftChild (G .tree) v) (v - 1) (getD (G .labels) v 0)
-            (foundBelow (X .nums) (leftChild (G .tree) v) (nodesOf ps) (statesOf ps)) (foundBelow (X .nums) (v - 1) (nodesOf ps) (statesOf ps))
+            → innerOn X (depthCell (X .nodeTable) v + 1) (leftChild (G .tree) v) (v - 1) (getD (G .labels) v 0)
+            (foundBelow (X .nodeTable) (leftChild (G .tree) v) (nodesOf ps) (statesOf ps)) (foundBelow (X .nodeTable) (v - 1) (nodesOf ps) (statesOf ps))
             ≡ out
             (cond c (cond d (G .automaton .δ (stateOf ps l) b (stateOf ps r)) (G .automaton .δ (climbedState G ms ps l) b (G .runState r)))
             (cond d (G .automaton .δ (G .runState l) b (climbedState G ms ps r)) (G .automaton .δ (G .runState l) b (G .runState r))))
@@ -321,7 +323,7 @@ module _ (X : View) (G : Given) (R : Reads X G) (w : ℕ → Bool) (ms : List �
           is-below (X .s) (G .automaton .ι (getD (G .labels) v 0)) (R .leaf-below (getD (G .labels) v 0)),
         )
         | no n ↦ (let i : Inner (G .tree) v = inner (G .tree) v hv n in
-            let s : sizeCell (X .nums) (v - 1) ≡ size (sub (G .tree) (v - 1)) = R .cells .sizes (v - 1) (omega (arith, hv)) in
+            let s : sizeCell (X .nodeTable) (v - 1) ≡ size (sub (G .tree) (v - 1)) = R .cells .sizes (v - 1) (omega (arith, hv)) in
             rw (
               kind,
               ne-eqb (kindAt (G .tree) v) 0 n,

@@ -1,9 +1,6 @@
 -- Whether what is lent and asked for fits, test by test.
---     limits-first, limits-second, limits-end          limitsFit by its tests; the last decides where the others pass
---     plan-no, rules-no, nums-no, lengths-end          the same for lengthsFit
---     roots-short .. asked-end                         the same for askedFits
---     Limits, Lengths, Asked                           what each says, by name
---     limits-are, lengths-are, asked-are               .. where it says yes
+--     roots-short .. asked-end                         askedFits by its tests; the last decides where the others pass
+--     Asked, asked-are                                 what it says, by name, where it says yes
 --     given-limits, given-lengths, given-asked, given-yes   partGiven by the three
 -- Assumes nothing.
 use Prim.Native.Nat.{ℕ, _≤_, _<_}
@@ -14,106 +11,14 @@ use lib.Dec.{leb, ltb, eqb}
 use lib.ListN.{length, getD, take}
 use borrow.Author.Tests.{leb-true, ltb-true, eqb-true, le-leb, lt-leb, lt-ltb, le-ltb, eq-eqb, ne-eqb}
 use Rattle.trees.proofs.MoveLaws.{both}
-use Rattle.formats.specs.Limits.{nodeLimit, stateLimit, labelLimit, within}
-use Rattle.formats.specs.Plan.{planLength}
+use Rattle.formats.specs.Limits.{nodeLimit}
 use Rattle.formats.specs.Rules.{ruleLength}
-use Rattle.formats.specs.Checks.{linkLength, stateLength}
-use Rattle.formats.proofs.CheckLaws.{and-no-left, and-next}
-use Rattle.formats.proofs.PlanLaws.{within-low, within-high}
-use Rattle.questions.specs.declared.answer.Climbed.the-variants.{Outside}
+use Rattle.formats.specs.Buffers.{limitsFit, buffersFit}
+use Rattle.list_laws.proofs.BoolLaws.{and-no-left, and-next}
+use Rattle.tables.specs.Climbs.{climbedOf}
+use Rattle.tables.specs.declared.answers.Climbed.the-variants.{OutOfRange}
 use Rattle.questions.specs.Part.{partOn}
-use Rattle.questions.specs.PartTold.{toldReached, limitsFit, lengthsFit, askedFits, partFits, lentView, partGiven}
-
--- ---- limits
-
-module _ (n s k : ℕ) where
-  pub limits-first : within 1 nodeLimit n ≡ false → limitsFit n s k ≡ false
-  unfolding limitsFit
-  limits-first h = and-no-left (within 1 nodeLimit n) _ h
-
-  module _ (f : within 1 nodeLimit n ≡ true) where
-    pub limits-second : within 1 stateLimit s ≡ false → limitsFit n s k ≡ false
-    unfolding limitsFit
-    limits-second h =
-        and-next (within 1 nodeLimit n) (within 1 stateLimit s && within 1 labelLimit k) f
-        ∙ and-no-left (within 1 stateLimit s) (within 1 labelLimit k) h
-
-    pub limits-end : within 1 stateLimit s ≡ true → limitsFit n s k ≡ within 1 labelLimit k
-    unfolding limitsFit
-    limits-end h =
-        and-next (within 1 nodeLimit n) (within 1 stateLimit s && within 1 labelLimit k) f
-        ∙ and-next (within 1 stateLimit s) (within 1 labelLimit k) h
-
-  pub record Limits : Type 0 where
-    pub nodes : 1 ≤ n
-    pub most : n ≤ 65535
-    pub states : 1 ≤ s
-    pub few : s ≤ 16
-    pub labels : 1 ≤ k
-    pub labels-most : k ≤ 64
-
-  pub limits-are : limitsFit n s k ≡ true → Limits
-  unfolding limitsFit
-  limits-are h =
-      let one = both (within 1 nodeLimit n) (within 1 stateLimit s && within 1 labelLimit k) h in
-      let two = both (within 1 stateLimit s) (within 1 labelLimit k) (one .1) in
-      record {
-        nodes = within-low 1 nodeLimit n (one .0);
-        most = within-high 1 nodeLimit n (one .0);
-        states = within-low 1 stateLimit s (two .0);
-        few = within-high 1 stateLimit s (two .0);
-        labels = within-low 1 labelLimit k (two .1);
-        labels-most = within-high 1 labelLimit k (two .1);
-      }
-
--- ---- lengths
-
-module _ (n s k plan rules nums bytes : ℕ) where
-  abbrev rest : Bool
-  rest = leb (linkLength n) nums && leb (stateLength n s) bytes
-
-  pub plan-no : ¬ (plan ≡ planLength n) → lengthsFit n s k plan rules nums bytes ≡ false
-  unfolding lengthsFit
-  plan-no h = and-no-left (eqb plan (planLength n)) (eqb rules (ruleLength s k) && rest) (ne-eqb plan (planLength n) h)
-
-  module _ (p : plan ≡ planLength n) where
-    from-rules : lengthsFit n s k plan rules nums bytes ≡ (eqb rules (ruleLength s k) && rest)
-    unfolding lengthsFit
-    from-rules = and-next (eqb plan (planLength n)) (eqb rules (ruleLength s k) && rest) (eq-eqb plan (planLength n) p)
-
-    pub rules-no : ¬ (rules ≡ ruleLength s k) → lengthsFit n s k plan rules nums bytes ≡ false
-    rules-no h = from-rules ∙ and-no-left (eqb rules (ruleLength s k)) rest (ne-eqb rules (ruleLength s k) h)
-
-    module _ (r : rules ≡ ruleLength s k) where
-      from-nums : lengthsFit n s k plan rules nums bytes ≡ rest
-      from-nums = from-rules ∙ and-next (eqb rules (ruleLength s k)) rest (eq-eqb rules (ruleLength s k) r)
-
-      pub nums-no : nums < linkLength n → lengthsFit n s k plan rules nums bytes ≡ false
-      nums-no h =
-          from-nums ∙ and-no-left (leb (linkLength n) nums) (leb (stateLength n s) bytes) (lt-leb (linkLength n) nums h)
-
-      pub lengths-end : linkLength n ≤ nums → lengthsFit n s k plan rules nums bytes ≡ leb (stateLength n s) bytes
-      lengths-end h =
-          from-nums ∙ and-next (leb (linkLength n) nums) (leb (stateLength n s) bytes) (le-leb (linkLength n) nums h)
-
-  pub record Lengths : Type 0 where
-    pub plan-is : plan ≡ planLength n
-    pub rules-is : rules ≡ ruleLength s k
-    pub nums-room : linkLength n ≤ nums
-    pub bytes-room : stateLength n s ≤ bytes
-
-  pub lengths-are : lengthsFit n s k plan rules nums bytes ≡ true → Lengths
-  unfolding lengthsFit
-  lengths-are h =
-      let one = both (eqb plan (planLength n)) (eqb rules (ruleLength s k) && rest) h in
-      let two = both (eqb rules (ruleLength s k)) rest (one .1) in
-      let three = both (leb (linkLength n) nums) (leb (stateLength n s) bytes) (two .1) in
-      record {
-        plan-is = eqb-true plan (planLength n) (one .0);
-        rules-is = eqb-true rules (ruleLength s k) (two .0);
-        nums-room = leb-true (linkLength n) nums (three .0);
-        bytes-room = leb-true (stateLength n s) bytes (three .1);
-      }
+use Rattle.questions.specs.PartAnswers.{askedFits, partFits, viewIn, partGiven}
 
 -- ---- what is asked
 
@@ -186,37 +91,37 @@ module _ (n : ℕ) (roots states vs bs : List ℕ) where
 
 -- ---- the part that a caller asks for
 
-module _ (n s k : ℕ) (plan rules nums bytes roots states vs bs : List ℕ) where
+module _ (n s k : ℕ) (plan rules nodeTable stateTable roots states vs bs : List ℕ) where
   abbrev lengths : Bool
-  lengths = lengthsFit n s k (length plan) (length rules) (length nums) (length bytes)
+  lengths = buffersFit n s (ruleLength s k) (length plan) (length rules) (length nodeTable) (length stateTable)
 
   abbrev asked : Bool
   asked = askedFits n roots states vs bs
 
-  unfit : partFits n s k plan rules nums bytes roots states vs bs ≡ false
-      → Outside ≡ toldReached (partGiven n s k plan rules nums bytes roots states vs bs)
-  unfolding partGiven toldReached
+  unfit : partFits n s k plan rules nodeTable stateTable roots states vs bs ≡ false
+      → OutOfRange ≡ climbedOf (partGiven n s k plan rules nodeTable stateTable roots states vs bs)
+  unfolding partGiven climbedOf
   unfit h = rw h
 
   pub given-limits : limitsFit n s k ≡ false
-      → Outside ≡ toldReached (partGiven n s k plan rules nums bytes roots states vs bs)
+      → OutOfRange ≡ climbedOf (partGiven n s k plan rules nodeTable stateTable roots states vs bs)
   unfolding partFits
   given-limits h = unfit (and-no-left (limitsFit n s k) (lengths && asked) h)
 
   module _ (l : limitsFit n s k ≡ true) where
     pub given-lengths : lengths ≡ false
-        → Outside ≡ toldReached (partGiven n s k plan rules nums bytes roots states vs bs)
+        → OutOfRange ≡ climbedOf (partGiven n s k plan rules nodeTable stateTable roots states vs bs)
     unfolding partFits
     given-lengths h = unfit (and-next (limitsFit n s k) (lengths && asked) l ∙ and-no-left lengths asked h)
 
     module _ (m : lengths ≡ true) where
-      pub given-asked : asked ≡ false → Outside ≡ toldReached (partGiven n s k plan rules nums bytes roots states vs bs)
+      pub given-asked : asked ≡ false → OutOfRange ≡ climbedOf (partGiven n s k plan rules nodeTable stateTable roots states vs bs)
       unfolding partFits
       given-asked h = unfit (and-next (limitsFit n s k) (lengths && asked) l ∙ and-next lengths asked m ∙ h)
 
       pub given-yes : asked ≡ true
-          → partGiven n s k plan rules nums bytes roots states vs bs
-          ≡ partOn (lentView n s k plan rules nums bytes) (take (length states) roots) states vs bs
+          → partGiven n s k plan rules nodeTable stateTable roots states vs bs
+          ≡ partOn (viewIn n s k plan rules nodeTable stateTable) (take (length states) roots) states vs bs
           (getD roots (length states) 0)
       unfolding partGiven partFits
       given-yes h = rw (and-next (limitsFit n s k) (lengths && asked) l ∙ and-next lengths asked m ∙ h)

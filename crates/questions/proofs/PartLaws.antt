@@ -1,12 +1,12 @@
 -- The parts of a part, by the tests of the code.
---     told-no, told-yes                  a number read as a state
+--     answer-no, answer-yes                  a number read as a state
 --     leaf-outside, leaf-at              the part of a leaf
 --     join-lost, join-made               the rule for the states of both children
 --     place-none, place-found            what stands at a place found, for roots
 --     label-none, label-found            and for labels
 --     side-run, side-own, side-lost, side-climb   the state at a child
---     heard-told                         what is told is heard
---     told-reached, told-outside         what was meant, from what is told
+--     reached-answer                         what is told is heard
+--     answer-reached, answer-outside         what was meant, from what is told
 -- Assumes nothing.
 use Prim.Native.Nat.{ℕ, _+_, _-_, _≤_, _<_}
 use mathlib.Core.Path.{_≡_, refl, sym, ap, _∙_}
@@ -17,43 +17,43 @@ use native.Mathlib.Numerals.{add-one}
 use lib.ListN.{getD}
 use borrow.Author.Tests.{lt-ltb, le-ltb}
 use Rattle.trees.specs.Climb.{andThen}
-use Rattle.questions.specs.declared.answer.Climbed.the-variants.{Reached as Told, Outside}
-use Rattle.questions.specs.Climbs.{View, below, runOn, ruleOn, Reached, reached, climbOn}
+use Rattle.tables.specs.declared.answers.Climbed.the-variants.{Reached as To, OutOfRange}
+use Rattle.tables.specs.declared.answers.Reached.{Reached}
+use Rattle.tables.specs.Climbs.{View, below, runOn, ruleOn, reached, climbOn, climbedOf}
+use Rattle.tables.specs.inner.PathViews.{statesView}
+use Rattle.tables.proofs.LookupLaws.{below-yes, below-no}
 use Rattle.questions.specs.Part.{Found, found, climbFrom, runReached, ownReached, joinOn, leafOn}
-use Rattle.questions.specs.PathViews.{statesView}
-use Rattle.questions.specs.Scans.{foundOf, labelOf, sideOn}
-use Rattle.questions.specs.PartArgs.{unmoved, heard}
-use Rattle.questions.specs.PartTold.{toldReached}
-use Rattle.questions.proofs.LookupLaws.{below-yes, below-no}
+use Rattle.questions.specs.inner.Scans.{foundOf, labelOf, sideOn}
+use Rattle.questions.specs.inner.PartArgs.{unmoved, reachedIn}
 
-pub heard-told : (o : Option Reached) → heard (toldReached o) ≡ o
-unfolding toldReached
-heard-told none = refl
-heard-told (some x) = refl
+pub reached-answer : (o : Option Reached) → reachedIn (climbedOf o) ≡ o
+unfolding climbedOf
+reached-answer none = refl
+reached-answer (some x) = refl
 
 -- for a caller who has matched the answer r
-pub told-reached : (o : Option Reached) (q c : ℕ) → Told q c ≡ toldReached o → o ≡ some (reached q c)
-told-reached o q c e = sym (heard-told o) ∙ ap heard (sym e)
+pub answer-reached : (o : Option Reached) (x : Reached) → To x ≡ climbedOf o → o ≡ some x
+answer-reached o x e = sym (reached-answer o) ∙ ap reachedIn (sym e)
 
-pub told-outside : (o : Option Reached) → Outside ≡ toldReached o → o ≡ none
-told-outside o e = sym (heard-told o) ∙ ap heard (sym e)
+pub answer-outside : (o : Option Reached) → OutOfRange ≡ climbedOf o → o ≡ none
+answer-outside o e = sym (reached-answer o) ∙ ap reachedIn (sym e)
 
 -- ---- a number read as a state
 
 module _ (s q : ℕ) where
-  pub told-no : s ≤ q → Outside ≡ toldReached (unmoved (below s q))
-  unfolding toldReached
-  told-no h = ap (λ (o : Option ℕ). toldReached (unmoved o)) (sym (below-no s q h))
+  pub answer-no : s ≤ q → OutOfRange ≡ climbedOf (unmoved (below s q))
+  unfolding climbedOf
+  answer-no h = ap (λ (o : Option ℕ). climbedOf (unmoved o)) (sym (below-no s q h))
 
-  pub told-yes : q < s → Told q 0 ≡ toldReached (unmoved (below s q))
-  unfolding toldReached
-  told-yes h = ap (λ (o : Option ℕ). toldReached (unmoved o)) (sym (below-yes s q h))
+  pub answer-yes : q < s → To (reached q 0) ≡ climbedOf (unmoved (below s q))
+  unfolding climbedOf
+  answer-yes h = ap (λ (o : Option ℕ). climbedOf (unmoved o)) (sym (below-yes s q h))
 
 -- ---- leaves
 
 module _ (X : View) (a : ℕ) where
-  pub leaf-outside : X .k ≤ a → Outside ≡ toldReached (leafOn X a)
-  unfolding leafOn toldReached
+  pub leaf-outside : X .k ≤ a → OutOfRange ≡ climbedOf (leafOn X a)
+  unfolding leafOn climbedOf
   leaf-outside h = rw (le-ltb a (X .k) h)
 
   pub leaf-at : a < X .k → leafOn X a ≡ unmoved (below (X .s) (getD (X .leaves) a 0))
@@ -62,21 +62,21 @@ module _ (X : View) (a : ℕ) where
 
 -- ---- rules
 
-module _ (X : View) (a p x q y r : ℕ) (e : below (X .s) r ≡ ruleOn X p a q) where
-  pub join-lost : X .s ≤ r → Outside ≡ toldReached (joinOn X a (some (reached p x)) (some (reached q y)))
-  unfolding joinOn toldReached
+module _ (X : View) (a : ℕ) (x y : Reached) (r : ℕ) (e : below (X .s) r ≡ ruleOn X (x .state) a (y .state)) where
+  pub join-lost : X .s ≤ r → OutOfRange ≡ climbedOf (joinOn X a (some x) (some y))
+  unfolding joinOn climbedOf
   join-lost h = rw (sym e ∙ below-no (X .s) r h)
 
-  pub join-made : r < X .s → Told r (x + y) ≡ toldReached (joinOn X a (some (reached p x)) (some (reached q y)))
-  unfolding joinOn toldReached
+  pub join-made : r < X .s → To (reached r (x .links + y .links)) ≡ climbedOf (joinOn X a (some x) (some y))
+  unfolding joinOn climbedOf
   join-made h = rw (sym e ∙ below-yes (X .s) r h)
 
-pub join-left : (X : View) (a : ℕ) (y : Option Reached) → Outside ≡ toldReached (joinOn X a none y)
-unfolding joinOn toldReached
+pub join-left : (X : View) (a : ℕ) (y : Option Reached) → OutOfRange ≡ climbedOf (joinOn X a none y)
+unfolding joinOn climbedOf
 join-left X a y = refl
 
-pub join-right : (X : View) (a : ℕ) (x : Reached) → Outside ≡ toldReached (joinOn X a (some x) none)
-unfolding joinOn toldReached
+pub join-right : (X : View) (a : ℕ) (x : Reached) → OutOfRange ≡ climbedOf (joinOn X a (some x) none)
+unfolding joinOn climbedOf
 join-right X a x = refl
 
 -- ---- places found
@@ -106,7 +106,7 @@ module _ (i : ℕ) where
 -- ---- the state at a child
 
 module _ (X : View) (t c : ℕ) (es qs : List ℕ) (own other : ℕ) where
-  pub side-run : (x : ℕ) → below (X .s) x ≡ runOn (statesView (X .s) (X .bytes)) c → own ≡ 0
+  pub side-run : (x : ℕ) → below (X .s) x ≡ runOn (statesView (X .s) (X .stateTable)) c → own ≡ 0
       → unmoved (below (X .s) x) ≡ sideOn X t c (foundOf es qs own) (foundOf es qs other)
   unfolding sideOn runReached runOn
   side-run x e h = rw (place-none own es qs h) (ap unmoved e)
@@ -125,12 +125,12 @@ module _ (X : View) (t c : ℕ) (es qs : List ℕ) (own other : ℕ) where
     side-alone i = rw (place-found own es qs h, place-none other es qs i)
 
     pub side-lost : other ≡ 0 → X .s ≤ getD qs (own - 1) 0
-        → Outside ≡ toldReached (sideOn X t c (foundOf es qs own) (foundOf es qs other))
-    unfolding climbFrom toldReached
+        → OutOfRange ≡ climbedOf (sideOn X t c (foundOf es qs own) (foundOf es qs other))
+    unfolding climbFrom climbedOf
     side-lost i l =
-        ap (λ (o : Option ℕ). toldReached (andThen o (λ q. climbOn X (getD es (own - 1) 0) t q)))
+        ap (λ (o : Option ℕ). climbedOf (andThen o (λ q. climbOn X (getD es (own - 1) 0) t q)))
         (sym (below-no (X .s) (getD qs (own - 1) 0) l))
-        ∙ ap toldReached (side-alone i)
+        ∙ ap climbedOf (side-alone i)
 
     pub side-climb : other ≡ 0 → getD qs (own - 1) 0 < X .s
         → climbOn X (getD es (own - 1) 0) t (getD qs (own - 1) 0)

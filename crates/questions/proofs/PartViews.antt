@@ -7,12 +7,13 @@ use mathlib.Core.List.{List, [], _∷_}
 use mathlib.Core.Option.{Option, none, some}
 use lib.ListN.{length}
 use Rattle.trees.specs.Climb.{Move, byJump, toParent, andThen, climb, carry}
-use Rattle.links.specs.Cells.{depthCell, cellForest}
-use Rattle.questions.specs.Climbs.{View, below, runOn, ruleOn, siblingOn}
-use Rattle.questions.specs.Climbs.{parentOn, moveOn, Reached, reached, climbOn}
+use Rattle.node_tables.specs.Cells.{depthCell, cellForest}
+use Rattle.tables.specs.Climbs.{View, below, runOn, ruleOn, siblingOn}
+use Rattle.tables.specs.declared.answers.Reached.{Reached}
+use Rattle.tables.specs.Climbs.{parentOn, moveOn, reached, climbOn}
 use Rattle.questions.specs.Part.{Found, climbFrom, runReached, ownReached, joinOn, forkOn, foundBelow}
-use Rattle.questions.specs.Scans.{sideOn}
-use Rattle.questions.specs.PartArgs.{pathOf}
+use Rattle.questions.specs.inner.Scans.{sideOn}
+use Rattle.questions.specs.inner.PartArgs.{pathOf}
 use Rattle.questions.proofs.PartBounds.{inner-sides}
 
 module _ (X : View) where
@@ -32,7 +33,7 @@ module _ (X : View) where
 
   pub climb-same : (h t q : ℕ) → climbOn X h t q ≡ climbOn (pathOf X) h t q
   unfolding climbOn
-  climb-same h t q = go (climb (cellForest (X .n) (X .nums)) h t)
+  climb-same h t q = go (climb (cellForest (X .n) (X .nodeTable)) h t)
     where
       go : (o : Option (List Move))
           → andThen o (λ ms. andThen (carry (moveOn X) ms q) (λ x. some (reached x (length ms))))
@@ -61,9 +62,9 @@ module _ (X : View) where
   pub fork-same : (es qs : List ℕ) (v l a : ℕ) → forkOn X es qs v l a ≡ forkOn (pathOf X) es qs v l a
   unfolding forkOn
   fork-same es qs v l a =
-      let t : ℕ = depthCell (X .nums) v + 1 in
-      let f : Option Found = foundBelow (X .nums) l es qs in
-      let g : Option Found = foundBelow (X .nums) (v - 1) es qs in
+      let t : ℕ = depthCell (X .nodeTable) v + 1 in
+      let f : Option Found = foundBelow (X .nodeTable) l es qs in
+      let g : Option Found = foundBelow (X .nodeTable) (v - 1) es qs in
       inner-sides X t l (v - 1) a f g
       ∙ ap₂ (joinOn X a) (side-same t l f g) (side-same t (v - 1) g f)
       ∙ join-same a (sideOn (pathOf X) t l f g) (sideOn (pathOf X) t (v - 1) g f)

@@ -15,31 +15,34 @@ use lib.ListN.{length, getD, take, drop, take-append-drop}
 use lib.Seq.{drop-cons}
 use borrow.Author.Tests.{ltb-true}
 use Rattle.trees.specs.Tree.{Tree, size}
-use Rattle.formats.specs.Bytes.{allBelow, holds}
-use Rattle.formats.proofs.CheckLaws.{and-right}
-use Rattle.links.specs.LinkCells.{LinkCells}
-use Rattle.links.specs.Astray.{LinksAstray}
+use Rattle.list_laws.specs.Tests.{allBelow, holds}
+use Rattle.formats.specs.Rules.{ruleLength}
+use Rattle.formats.specs.Buffers.{limitsFit, buffersFit}
+use Rattle.list_laws.proofs.BoolLaws.{and-right}
+use Rattle.node_tables.specs.NodeCells.{NodeCells}
+use Rattle.node_tables.specs.OutOfRange.{NodeTableOutOfRange}
+use Rattle.tables.specs.declared.answers.Climbed.{Climbed}
+use Rattle.tables.specs.declared.answers.Reached.{Reached}
+use Rattle.tables.specs.Climbs.{reached, climbedOf, climbedNumber}
 use Rattle.ready.specs.Members as members
 use Rattle.ready.specs.Parts.{Given, Part, nodesOf, statesOf, partState, partLinks}
 use Rattle.ready.proofs.PartsRun.{Members}
 use Rattle.ready.proofs.ListLaws.{list-members}
 use Rattle.questions.specs.declared.roots.Rooted.{Rooted}
-use Rattle.questions.specs.declared.answer.Climbed.{Climbed}
-use Rattle.questions.specs.Climbs.{Reached, reached}
 use Rattle.questions.specs.Part.{partOn}
 use Rattle.questions.specs.Roots.{rootsOn}
-use Rattle.questions.specs.RootsTold.{rootsFit, rootsGiven, rootedOf}
-use Rattle.questions.specs.PartTold.{limitsFit, lengthsFit, askedFits, partFits, partGiven, lentView, toldReached}
-use Rattle.questions.specs.Astray.{Astray}
-use Rattle.questions.specs.Promises.{numberFor, rootedNumber, climbedNumber, RootsDone, Asked, PartDone}
+use Rattle.questions.specs.RootsAnswers.{rootsFit, rootsGiven, rootedOf}
+use Rattle.questions.specs.PartAnswers.{askedFits, partFits, partGiven, viewIn}
+use Rattle.questions.specs.OutOfRange.{PartOutOfRange}
+use Rattle.questions.specs.Promises.{numberFor, rootedNumber, RootsDone, Asked, PartDone}
 use Rattle.questions.proofs.FitLaws.{Fit, fit-facts, given-yes, given-are}
 use Rattle.questions.proofs.PartBounds.{partGiven-below, part-links}
 use Rattle.questions.proofs.PartFits as fits
 use Rattle.questions.proofs.PartFits.{asked-are}
 use Rattle.questions.proofs.RootsBuilt.{roots-built}
 use Rattle.questions.proofs.PartBuilt.{part-built}
-use Rattle.questions.proofs.RootsAstray.{roots-astray}
-use Rattle.questions.proofs.PartAstray.{part-astray}
+use Rattle.questions.proofs.RootsRange.{roots-out-of-range}
+use Rattle.questions.proofs.PartRange.{part-out-of-range}
 
 pub all-small : (n : ℕ) (vs : List ℕ) → allBelow n vs ≡ true → (v : ℕ) → List·Memᴰ v vs → v < n
 unfolding allBelow
@@ -52,37 +55,37 @@ all-small n (x ∷ vs) e v m = go (ltb x n) refl e (all-small n vs)
 
 -- ---- roots
 
-module _ (n : ℕ) (nums vs : List ℕ) where
-  built : (t : Tree) → LinkCells t nums → n ≡ size t → rootsFit n (length nums) vs ≡ true → rootsGiven n nums vs ≡ some (members.roots t vs)
+module _ (n : ℕ) (nodeTable vs : List ℕ) where
+  built : (t : Tree) → NodeCells t nodeTable → n ≡ size t → rootsFit n (length nodeTable) vs ≡ true → rootsGiven n nodeTable vs ≡ some (members.roots t vs)
   built t L e f =
-      given-yes n nums vs f
-      ∙ ap (λ (m : ℕ). rootsOn m nums vs) e
-      ∙ roots-built t nums L vs (λ v m. omega (arith, e, all-small n vs (fit-facts n (length nums) vs f .below) v m))
+      given-yes n nodeTable vs f
+      ∙ ap (λ (m : ℕ). rootsOn m nodeTable vs) e
+      ∙ roots-built t nodeTable L vs (λ v m. omega (arith, e, all-small n vs (fit-facts n (length nodeTable) vs f .below) v m))
 
   rooted-number : (o : Option (List ℕ)) → rootedNumber (rootedOf o) ≡ numberFor o
   unfolding rootedNumber numberFor
   rooted-number none = refl
   rooted-number (some l) = refl
 
-  roots-18 : rootsFit n (length nums) vs ≡ true → (o : Option (List ℕ)) → rootsGiven n nums vs ≡ o → numberFor o ≡ 18 → LinksAstray n nums
+  roots-18 : rootsFit n (length nodeTable) vs ≡ true → (o : Option (List ℕ)) → rootsGiven n nodeTable vs ≡ o → numberFor o ≡ 18 → NodeTableOutOfRange n nodeTable
   unfolding numberFor
   roots-18 f none g e =
-      let F = fit-facts n (length nums) vs f in
-      roots-astray n nums vs (omega (arith, F .least)) (F .below) (sym (given-yes n nums vs f) ∙ g)
+      let F = fit-facts n (length nodeTable) vs f in
+      roots-out-of-range n nodeTable vs (omega (arith, F .least)) (F .below) (sym (given-yes n nodeTable vs f) ∙ g)
   roots-18 f (some l) g e = absurd (omega (arith, e))
 
-  pub roots-done : (r : Rooted) → r ≡ rootedOf (rootsGiven n nums vs) → RootsDone n nums vs r
+  pub roots-done : (r : Rooted) → r ≡ rootedOf (rootsGiven n nodeTable vs) → RootsDone n nodeTable vs r
   roots-done r e = record {
-    told = e;
-    number = ap rootedNumber e ∙ rooted-number (rootsGiven n nums vs);
-    astray = λ f i. roots-18 f (rootsGiven n nums vs) refl (sym (rooted-number (rootsGiven n nums vs)) ∙ sym (ap rootedNumber e) ∙ i);
-    few = given-are n nums vs;
+    result = e;
+    number = ap rootedNumber e ∙ rooted-number (rootsGiven n nodeTable vs);
+    out-of-range = λ f i. roots-18 f (rootsGiven n nodeTable vs) refl (sym (rooted-number (rootsGiven n nodeTable vs)) ∙ sym (ap rootedNumber e) ∙ i);
+    few = given-are n nodeTable vs;
     built = λ t L m f. e ∙ ap rootedOf (built t L m f);
   }
 
 -- ---- part
 
-module _ (n s k : ℕ) (plan rules nums bytes roots states vs bs : List ℕ) where
+module _ (n s k : ℕ) (plan rules nodeTable stateTable roots states vs bs : List ℕ) where
   -- the roots are those of the parts before, the next one, and the rest
   cut : (ps : List Part) → nodesOf ps ≡ take (length states) roots → length states < length roots
       → nodesOf ps ++ (getD roots (length states) 0 ∷ drop (suc (length states)) roots) ≡ roots
@@ -90,24 +93,24 @@ module _ (n s k : ℕ) (plan rules nums bytes roots states vs bs : List ℕ) whe
       ap₂ (λ (a b : List ℕ). a ++ b) e (sym (drop-cons roots (length states) 0 l))
       ∙ take-append-drop (length states) roots
 
-  asked-of : partFits n s k plan rules nums bytes roots states vs bs ≡ true → fits.Asked n roots states vs bs
+  asked-of : partFits n s k plan rules nodeTable stateTable roots states vs bs ≡ true → fits.Asked n roots states vs bs
   unfolding partFits
   asked-of e =
-      let lengths = lengthsFit n s k (length plan) (length rules) (length nums) (length bytes) in
+      let lengths = buffersFit n s (ruleLength s k) (length plan) (length rules) (length nodeTable) (length stateTable) in
       let asked = askedFits n roots states vs bs in
       asked-are n roots states vs bs (and-right lengths asked (and-right (limitsFit n s k) (lengths && asked) e))
 
-  part-18 : partFits n s k plan rules nums bytes roots states vs bs ≡ true → (o : Option Reached)
-      → partGiven n s k plan rules nums bytes roots states vs bs ≡ o → numberFor o ≡ 18
-      → Astray (lentView n s k plan rules nums bytes) states vs bs
+  part-18 : partFits n s k plan rules nodeTable stateTable roots states vs bs ≡ true → (o : Option Reached)
+      → partGiven n s k plan rules nodeTable stateTable roots states vs bs ≡ o → numberFor o ≡ 18
+      → PartOutOfRange (viewIn n s k plan rules nodeTable stateTable) states vs bs
   unfolding numberFor partGiven
   part-18 f none g e =
-      part-astray (lentView n s k plan rules nums bytes) states vs bs (take (length states) roots) (getD roots (length states) 0)
+      part-out-of-range (viewIn n s k plan rules nodeTable stateTable) states vs bs (take (length states) roots) (getD roots (length states) 0)
       (asked-of f .inside) (rw f at g)
   part-18 f (some x) g e = absurd (omega (arith, e))
 
-  by-rule : (G : Given) (ps : List Part) → Asked n s k plan rules nums bytes roots states vs bs G ps
-      → partGiven n s k plan rules nums bytes roots states vs bs
+  by-rule : (G : Given) (ps : List Part) → Asked n s k plan rules nodeTable stateTable roots states vs bs G ps
+      → partGiven n s k plan rules nodeTable stateTable roots states vs bs
       ≡ some (reached (partState G roots ps (getD roots (length states) 0)) (partLinks (G .tree) roots (getD roots (length states) 0)))
   unfolding partGiven members.roots
   by-rule G ps A =
@@ -115,24 +118,24 @@ module _ (n s k : ℕ) (plan rules nums bytes roots states vs bs : List ℕ) whe
       let M : Members w (G .tree) roots = rw (A .ready) (list-members w (G .tree)) in
       let v = getD roots (length states) 0 in
       rw (A .fits)
-      (ap₂ (λ (es qs : List ℕ). partOn (lentView n s k plan rules nums bytes) es qs vs bs v) (sym (A .before)) (sym (A .states-are))
-      ∙ part-built (lentView n s k plan rules nums bytes) G (A .reads) w roots M ps v (drop (suc (length states)) roots)
+      (ap₂ (λ (es qs : List ℕ). partOn (viewIn n s k plan rules nodeTable stateTable) es qs vs bs v) (sym (A .before)) (sym (A .states-are))
+      ∙ part-built (viewIn n s k plan rules nodeTable stateTable) G (A .reads) w roots M ps v (drop (suc (length states)) roots)
       (cut ps (A .before) (asked-of (A .fits) .root)) (A .below) vs bs (A .labels))
 
-  reached-number : (o : Option Reached) → climbedNumber (toldReached o) ≡ numberFor o
-  unfolding climbedNumber toldReached numberFor
+  reached-number : (o : Option Reached) → climbedNumber (climbedOf o) ≡ numberFor o
+  unfolding climbedNumber climbedOf numberFor
   reached-number none = refl
   reached-number (some x) = refl
 
-  pub part-done : (r : Climbed) → r ≡ toldReached (partGiven n s k plan rules nums bytes roots states vs bs)
-      → PartDone n s k plan rules nums bytes roots states vs bs r
-  unfolding toldReached
+  pub part-done : (r : Climbed) → r ≡ climbedOf (partGiven n s k plan rules nodeTable stateTable roots states vs bs)
+      → PartDone n s k plan rules nodeTable stateTable roots states vs bs r
+  unfolding climbedOf
   part-done r e = record {
-    told = e;
-    number = ap climbedNumber e ∙ reached-number (partGiven n s k plan rules nums bytes roots states vs bs);
-    astray = λ f i. part-18 f (partGiven n s k plan rules nums bytes roots states vs bs) refl
-        (sym (reached-number (partGiven n s k plan rules nums bytes roots states vs bs)) ∙ sym (ap climbedNumber e) ∙ i);
-    state-below = λ x f. partGiven-below n s k plan rules nums bytes roots states vs bs x f;
-    links-most = λ x f. part-links n s k plan rules nums bytes roots states vs bs x f;
-    rule = λ G ps A. e ∙ ap toldReached (by-rule G ps A);
+    result = e;
+    number = ap climbedNumber e ∙ reached-number (partGiven n s k plan rules nodeTable stateTable roots states vs bs);
+    out-of-range = λ f i. part-18 f (partGiven n s k plan rules nodeTable stateTable roots states vs bs) refl
+        (sym (reached-number (partGiven n s k plan rules nodeTable stateTable roots states vs bs)) ∙ sym (ap climbedNumber e) ∙ i);
+    state-below = λ x f. partGiven-below n s k plan rules nodeTable stateTable roots states vs bs x f;
+    links-most = λ x f. part-links n s k plan rules nodeTable stateTable roots states vs bs x f;
+    rule = λ G ps A. e ∙ ap climbedOf (by-rule G ps A);
   }

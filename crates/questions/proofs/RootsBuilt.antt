@@ -13,11 +13,11 @@ use native.Mathlib.Omega.{arith}
 use lib.Dec.{eqb}
 use borrow.Author.Tests.{eqb-true, eq-eqb}
 use Rattle.trees.specs.Tree.{Tree, size, kindAt}
-use Rattle.trees.specs.Numbering.{sub}
+use Rattle.trees.specs.Numbering.{sub, InSubtree}
 use Rattle.trees.proofs.NodeLaws.{size-pos, Inner, inner, sub-size}
-use Rattle.formats.specs.Bytes.{holds}
-use Rattle.links.specs.LinkCells.{LinkCells}
-use Rattle.ready.specs.Ready.{Under, Meet, leftChild, rightChild}
+use Rattle.list_laws.specs.Tests.{holds}
+use Rattle.node_tables.specs.NodeCells.{NodeCells}
+use Rattle.ready.specs.Ready.{Meet, leftChild, rightChild}
 use Rattle.ready.specs.Members.{Rising, readyList, roots}
 use Rattle.ready.proofs.UnderLaws.{left-in, right-in}
 use Rattle.ready.proofs.BelowLaws.{rising-above, true-false}
@@ -49,7 +49,7 @@ yes-holds x (y ∷ l) m = elim (List·Memᴰ·cases-cons m) [
     go true e = refl
     go false e = e
 
-module _ (t : Tree) (nums : List ℕ) (L : LinkCells t nums) (vs : List ℕ) (small : (x : ℕ) → List·Memᴰ x vs → x < size t) where
+module _ (t : Tree) (nodeTable : List ℕ) (L : NodeCells t nodeTable) (vs : List ℕ) (small : (x : ℕ) → List·Memᴰ x vs → x < size t) where
   W : List ℕ
   W = wanted (size t) vs
 
@@ -148,8 +148,8 @@ module _ (t : Tree) (nums : List ℕ) (L : LinkCells t nums) (vs : List ℕ) (sm
         let u : ℕ = B .0 in
         let v : ℕ = B .1 in
         let hl : l < m = left-in t m (f .inside) (f .inner) in
-        let pu : Under t l u = (B .4, omega (arith, B .3, sub-size t l (omega (arith, f .inside)))) in
-        let pv : Under t (rightChild m) v = (B .6, omega (arith, B .5, i .at)) in
+        let pu : InSubtree t l u = (B .4, omega (arith, B .3, sub-size t l (omega (arith, f .inside)))) in
+        let pv : InSubtree t (rightChild m) v = (B .6, omega (arith, B .5, i .at)) in
         let mm : Meet t u v m = fork-meet t m u v (f .inside) (f .inner) (omega (arith, B .4, f .inside)) (omega (arith, B .6, f .inside, i .at)) pu pv in
         A .forked u v m x (B .2) (λ e. omega (arith, B .6, f .inside, i .at)) mm (λ e. omega (arith, B .6, i .at)) o
 
@@ -166,14 +166,14 @@ module _ (t : Tree) (nums : List ℕ) (L : LinkCells t nums) (vs : List ℕ) (sm
         rising-unique k (readyList (λ v. holds v vs) t) 0 (A .rising (omega arith, tt)) (list-rising (λ v. holds v vs) t)
         (λ v m. member-list (λ v. holds v vs) t (sound v m)) (λ v m. complete (list-member (λ v. holds v vs) t m))
 
-  pub roots-built : rootsOn (size t) nums vs ≡ some (roots t vs)
+  pub roots-built : rootsOn (size t) nodeTable vs ≡ some (roots t vs)
   unfolding rootsOn
   roots-built = go (wanted (size t) vs) refl
     where
-      go : (l : List ℕ) → wanted (size t) vs ≡ l → fromFirst (size t) nums l ≡ some (roots t vs)
+      go : (l : List ℕ) → wanted (size t) vs ≡ l → fromFirst (size t) nodeTable l ≡ some (roots t vs)
       go [] e = absurd (List·Memᴰ·not-nil (subst (λ (z : List ℕ). List·Memᴰ (size t - 1) z) e (root-wanted (size t - 1) (omega (arith, size-pos t)))))
       go (a ∷ bs) e =
           let r : Rising 0 (a ∷ bs) = subst (λ (z : List ℕ). Rising 0 z) e wanted-rises in
-          let K = forks-built t nums L bs a (a ∷ []) (r .1)
+          let K = forks-built t nodeTable L bs a (a ∷ []) (r .1)
           (λ x m. wanted-small x (subst (λ (z : List ℕ). List·Memᴰ x z) (sym e) (List·Memᴰ·tail m))) in
           K .1 ∙ ap some (found a bs e (K .0) (K .2))

@@ -16,14 +16,15 @@ use lib.Dec.{leb, ltb}
 use lib.ListN.{length, getD, drop, set, length-set, drop-of-length-le}
 use lib.Seq.{drop-cons, drop-drop, getD-drop, getD-set-same, getD-set-other}
 use borrow.Author.Tests.{lt-ltb, le-ltb, le-leb, lt-leb, leb-true, ltb-true}
+use Rattle.trees.specs.Numbering.{isInSubtree}
 use Rattle.trees.specs.Changes.{changed}
-use Rattle.trees.proofs.Choice.{by-test}
+use Rattle.list_laws.proofs.Choice.{by-test}
 use Rattle.trees.proofs.MoveLaws.{both}
-use Rattle.formats.proofs.CheckLaws.{true-false}
-use Rattle.links.specs.Cells.{sizeCell}
-use Rattle.links.specs.Cells.{isBelow}
+use Rattle.list_laws.proofs.BoolLaws.{true-false}
+use Rattle.node_tables.specs.Cells.{sizeCell}
+use Rattle.node_tables.specs.Cells.{isInSubtreeOn}
 use Rattle.questions.specs.Part.{found, lastFound, foundBelow}
-use Rattle.questions.specs.Scans.{covers, lastFrom, lastIn, foundOf, labelOf}
+use Rattle.questions.specs.inner.Scans.{lastFrom, lastIn, foundOf, labelOf}
 
 -- the first entry of a rest, and the rest after it
 at-head : (e i : ℕ) (es l : List ℕ) → e ∷ es ≡ drop i l → e ≡ getD l i 0
@@ -37,20 +38,20 @@ at-tail e i es l a = ap (drop 1) a ∙ drop-drop 1 i l
 -- ---- runs
 
 module _ (c z e : ℕ) where
-  pub covers-yes : e ≤ c → c < e + z → covers c z e ≡ true
-  unfolding covers
+  pub covers-yes : e ≤ c → c < e + z → isInSubtree c z e ≡ true
+  unfolding isInSubtree
   covers-yes h i = rw (le-leb e c h, lt-ltb c (e + z) i)
 
-  pub covers-above : c < e → covers c z e ≡ false
-  unfolding covers
+  pub covers-above : c < e → isInSubtree c z e ≡ false
+  unfolding isInSubtree
   covers-above h = rw (lt-leb e c h)
 
-  pub covers-under : e ≤ c → e + z ≤ c → covers c z e ≡ false
-  unfolding covers
+  pub covers-under : e ≤ c → e + z ≤ c → isInSubtree c z e ≡ false
+  unfolding isInSubtree
   covers-under h i = rw (le-leb e c h, le-ltb c (e + z) i)
 
-  pub covers-is : covers c z e ≡ true → (e ≤ c) × (c < e + z)
-  unfolding covers
+  pub covers-is : isInSubtree c z e ≡ true → (e ≤ c) × (c < e + z)
+  unfolding isInSubtree
   covers-is h =
       let t = both (leb e c) (ltb c (e + z)) h in
       (leb-true e c (t .0), ltb-true c (e + z) (t .1))
@@ -60,16 +61,16 @@ module _ (c z e : ℕ) where
 module _ (c z : ℕ) where
   pub last-step : (es : List ℕ) (i at : ℕ) → i < length es
       → lastFrom c z (drop i es) i at
-      ≡ lastFrom c z (drop (i + 1) es) (i + 1) (cond (covers c z (getD es i 0)) (i + 1) at)
+      ≡ lastFrom c z (drop (i + 1) es) (i + 1) (cond (isInSubtree c z (getD es i 0)) (i + 1) at)
   unfolding lastFrom
   last-step es i at h =
       ap (λ (l : List ℕ). lastFrom c z l i at) (drop-cons es i 0 h)
-      ∙ ap (λ (n : ℕ). lastFrom c z (drop n es) (i + 1) (cond (covers c z (getD es i 0)) (i + 1) at)) (sym (add-one i))
+      ∙ ap (λ (n : ℕ). lastFrom c z (drop n es) (i + 1) (cond (isInSubtree c z (getD es i 0)) (i + 1) at)) (sym (add-one i))
 
   -- m is the place of the entry if it is covered, else 0; the place found before is smaller
-  pub last-more : (es : List ℕ) (i at m : ℕ) → i < length es → m ≡ cond (covers c z (getD es i 0)) (i + 1) 0 → at < m
+  pub last-more : (es : List ℕ) (i at m : ℕ) → i < length es → m ≡ cond (isInSubtree c z (getD es i 0)) (i + 1) 0 → at < m
       → (m ≡ i + 1) × (lastFrom c z (drop (i + 1) es) (i + 1) m ≡ lastFrom c z (drop i es) i at)
-  last-more es i at m h e l = go (covers c z (getD es i 0)) e (last-step es i at h)
+  last-more es i at m h e l = go (isInSubtree c z (getD es i 0)) e (last-step es i at h)
     where
       go : (b : Bool) → m ≡ cond b (i + 1) 0
           → lastFrom c z (drop i es) i at ≡ lastFrom c z (drop (i + 1) es) (i + 1) (cond b (i + 1) at)
@@ -77,10 +78,10 @@ module _ (c z : ℕ) where
       go true q s = (q, ap (lastFrom c z (drop (i + 1) es) (i + 1)) q ∙ sym s)
       go false q s = absurd (omega arith)
 
-  pub last-same : (es : List ℕ) (i at m : ℕ) → i < length es → m ≡ cond (covers c z (getD es i 0)) (i + 1) 0 → at ≤ i
+  pub last-same : (es : List ℕ) (i at m : ℕ) → i < length es → m ≡ cond (isInSubtree c z (getD es i 0)) (i + 1) 0 → at ≤ i
       → m ≤ at
       → lastFrom c z (drop (i + 1) es) (i + 1) at ≡ lastFrom c z (drop i es) i at
-  last-same es i at m h e k l = go (covers c z (getD es i 0)) e (last-step es i at h)
+  last-same es i at m h e k l = go (isInSubtree c z (getD es i 0)) e (last-step es i at h)
     where
       go : (b : Bool) → m ≡ cond b (i + 1) 0
           → lastFrom c z (drop i es) i at ≡ lastFrom c z (drop (i + 1) es) (i + 1) (cond b (i + 1) at)
@@ -94,12 +95,12 @@ module _ (c z : ℕ) where
   last-end es i at h = ap (λ (l : List ℕ). lastFrom c z l i at) (drop-of-length-le es {i = i} h)
 
   last-ind : (P : ℕ → Type 0) (es : List ℕ) (i at : ℕ) → P at
-      → ((j : ℕ) → j < length es → covers c z (getD es j 0) ≡ true → P (i + j + 1)) → P (lastFrom c z es i at)
+      → ((j : ℕ) → j < length es → isInSubtree c z (getD es j 0) ≡ true → P (i + j + 1)) → P (lastFrom c z es i at)
   unfolding lastFrom
   last-ind P [] i at p f = p
   last-ind P (e ∷ es) i at p f =
-      last-ind P es (i + 1) (cond (covers c z e) (i + 1) at)
-      (by-test P {x = i + 1} {y = at} (covers c z e)
+      last-ind P es (i + 1) (cond (isInSubtree c z e) (i + 1) at)
+      (by-test P {x = i + 1} {y = at} (isInSubtree c z e)
       (λ t. let q : i + 0 + 1 ≡ i + 1 = omega arith in subst P q (f 0 (omega arith) t)) (λ t. p))
       (λ j h t. let q : i + suc j + 1 ≡ i + 1 + j + 1 = omega arith in subst P q (f (suc j) (omega arith) t))
 
@@ -115,7 +116,7 @@ module _ (c z : ℕ) where
 
 -- ---- the last root below c
 
-module _ (nums : List ℕ) (c : ℕ) (E Q : List ℕ) where
+module _ (nodeTable : List ℕ) (c : ℕ) (E Q : List ℕ) where
   found-pick : (b : Bool) (e q i at : ℕ) → e ≡ getD E i 0 → q ≡ getD Q i 0
       → cond b (some (found e q)) (foundOf E Q at) ≡ foundOf E Q (cond b (i + 1) at)
   unfolding foundOf
@@ -123,30 +124,30 @@ module _ (nums : List ℕ) (c : ℕ) (E Q : List ℕ) where
   found-pick false e q i at f g = refl
 
   found-from : (es qs : List ℕ) (i at : ℕ) → es ≡ drop i E → qs ≡ drop i Q → length es ≡ length qs
-      → lastFound nums c es qs (foundOf E Q at) ≡ foundOf E Q (lastFrom c (sizeCell nums c) es i at)
-  unfolding lastFound lastFrom isBelow covers foundOf
+      → lastFound nodeTable c es qs (foundOf E Q at) ≡ foundOf E Q (lastFrom c (sizeCell nodeTable c) es i at)
+  unfolding lastFound lastFrom isInSubtree foundOf
   found-from [] qs i at a b l = refl
   found-from (e ∷ es) [] i at a b l = absurd (omega arith)
   found-from (e ∷ es) (q ∷ qs) i at a b l =
-      ap (lastFound nums c es qs) (found-pick (covers c (sizeCell nums c) e) e q i at (at-head e i es E a)
+      ap (lastFound nodeTable c es qs) (found-pick (isInSubtree c (sizeCell nodeTable c) e) e q i at (at-head e i es E a)
       (at-head q i qs Q b))
-      ∙ found-from es qs (i + 1) (cond (covers c (sizeCell nums c) e) (i + 1) at) (at-tail e i es E a)
+      ∙ found-from es qs (i + 1) (cond (isInSubtree c (sizeCell nodeTable c) e) (i + 1) at) (at-tail e i es E a)
       (at-tail q i qs Q b)
       (omega arith)
 
-pub found-scan : (nums : List ℕ) (c : ℕ) (es qs : List ℕ) → length es ≡ length qs
-    → foundBelow nums c es qs ≡ foundOf es qs (lastIn c (sizeCell nums c) es)
+pub found-scan : (nodeTable : List ℕ) (c : ℕ) (es qs : List ℕ) → length es ≡ length qs
+    → foundBelow nodeTable c es qs ≡ foundOf es qs (lastIn c (sizeCell nodeTable c) es)
 unfolding foundOf
-found-scan nums c es qs l = found-from nums c es qs es qs 0 0 refl refl l
+found-scan nodeTable c es qs l = found-from nodeTable c es qs es qs 0 0 refl refl l
 
 -- ---- the label as changed
 
 module _ (v : ℕ) (L B : List ℕ) where
   label-pick : (ls : List ℕ) (u x i at : ℕ) → v < length ls → getD ls v 0 ≡ labelOf L B v at → x ≡ getD B i 0
-      → getD (set ls u x) v 0 ≡ labelOf L B v (cond (covers v 1 u) (i + 1) at)
+      → getD (set ls u x) v 0 ≡ labelOf L B v (cond (isInSubtree v 1 u) (i + 1) at)
   unfolding labelOf
   label-pick ls u x i at h e f =
-      by-test (λ (j : ℕ). getD (set ls u x) v 0 ≡ labelOf L B v j) {x = i + 1} {y = at} (covers v 1 u)
+      by-test (λ (j : ℕ). getD (set ls u x) v 0 ≡ labelOf L B v j) {x = i + 1} {y = at} (isInSubtree v 1 u)
       (λ t.
       let w : u ≡ v = omega (arith, covers-is v 1 u t) in
       rw (w, add-one i) (getD-set-same ls v x 0 h ∙ f))
@@ -159,7 +160,7 @@ module _ (v : ℕ) (L B : List ℕ) where
   label-from ls [] bs i at h e b l = e
   label-from ls (u ∷ vs) [] i at h e b l = absurd (omega arith)
   label-from ls (u ∷ vs) (x ∷ bs) i at h e b l =
-      label-from (set ls u x) vs bs (i + 1) (cond (covers v 1 u) (i + 1) at) (simp length-set h)
+      label-from (set ls u x) vs bs (i + 1) (cond (isInSubtree v 1 u) (i + 1) at) (simp length-set h)
       (label-pick ls u x i at h e (at-head x i bs B b)) (at-tail x i bs B b) (omega arith)
 
 pub label-scan : (v : ℕ) (ls vs bs : List ℕ) → v < length ls → length vs ≡ length bs

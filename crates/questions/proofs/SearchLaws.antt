@@ -14,7 +14,7 @@ use lib.Dec.{ltb}
 use borrow.Author.Tests.{ltb-true}
 use Rattle.trees.specs.Climb.{Forest, Move, byJump, toParent, target, rising, andThen}
 use Rattle.trees.proofs.MoveLaws.{none-some, cond-some, both}
-use Rattle.trees.proofs.Choice.{by-test}
+use Rattle.list_laws.proofs.Choice.{by-test}
 use Rattle.questions.specs.Search.{nextUnless, searchIn, search}
 
 onward : (o : Option Move) (c d : Move → Option ℕ) → ((m : Move) → o ≡ some m → c m ≡ d m) → andThen o c ≡ andThen o d

@@ -5,8 +5,8 @@
 --     highest-is-one      all members below a child are under the greatest of them: the highest is unique
 --     part-is-the-rule    on numbers as built and any bytes below S a part is what the rule gives on those bytes, never 18
 --     part-is-the-run     on the run's own bytes every part has the changed run's state at its root
---     no-roots-astray, no-part-astray   18 only where a value leads outside the plan, the states or the labels, or a link does not rise
---     rule-not-astray     .. and where the rule holds no value does
+--     roots-in-range, part-in-range   18 only where a value leads outside the plan, the states or the labels, or a link does not rise
+--     rule-in-range     .. and where the rule holds no value does
 -- That answer, parts and links do not depend on the list's order, and each part's links: crate book (OrderLaws, Ceilings).
 -- Assumes nothing.
 use Prim.Native.Nat.{ℕ, _+_, _-_, _*_, _≤_, _<_}
@@ -18,11 +18,12 @@ use lib.ListN.{length}
 use Rattle.trees.specs.Tree.{Tree, size, labelsOf}
 use Rattle.trees.specs.Automaton.{state}
 use Rattle.trees.specs.Changes.{changed}
-use Rattle.trees.specs.Numbering.{sub}
-use Rattle.formats.specs.Bytes.{allBelow}
-use Rattle.links.specs.Astray.{LinksAstray}
-use Rattle.links.specs.LinkCells.{LinkCells}
-use Rattle.ready.specs.Ready.{Under, Ready, Closed}
+use Rattle.trees.specs.Numbering.{sub, InSubtree}
+use Rattle.list_laws.specs.Tests.{allBelow}
+use Rattle.node_tables.specs.OutOfRange.{NodeTableOutOfRange}
+use Rattle.node_tables.specs.NodeCells.{NodeCells}
+use Rattle.tables.specs.Climbs.{View, reached}
+use Rattle.ready.specs.Ready.{Ready, Closed}
 use Rattle.ready.specs.Members.{readyList, roots}
 use Rattle.ready.specs.Parts.{Given, Part, nodesOf, statesOf, stateOf, partState, partLinks, partsOf}
 use Rattle.ready.proofs.ClosedForm as closed-form
@@ -30,16 +31,15 @@ use Rattle.ready.proofs.HighestLaws.{Highest, highest-holds}
 use Rattle.ready.proofs.ChangedRun.{Changes}
 use Rattle.ready.proofs.PartsRun.{Members, Sound, RunGiven, parts-right}
 use Rattle.questions.specs.Roots.{rootsOn}
-use Rattle.questions.specs.Climbs.{View, reached}
 use Rattle.questions.specs.Part.{partOn}
-use Rattle.questions.specs.Astray.{Astray}
+use Rattle.questions.specs.OutOfRange.{PartOutOfRange}
 use Rattle.questions.specs.Promises.{RootsAre, Reads}
 use Rattle.questions.proofs.RootsLaws.{rootsOn-are}
 use Rattle.questions.proofs.RootsBuilt as built
 use Rattle.questions.proofs.PartBuilt.{part-built}
-use Rattle.questions.proofs.RootsAstray.{roots-astray}
-use Rattle.questions.proofs.PartAstray.{part-astray}
-use Rattle.questions.proofs.NotAstray.{reads-not-astray}
+use Rattle.questions.proofs.RootsRange.{roots-out-of-range}
+use Rattle.questions.proofs.PartRange.{part-out-of-range}
+use Rattle.questions.proofs.RuleRange.{reads-in-range}
 
 ready-is-closed : (w : ℕ → Bool) (t : Tree) → Closed w t (Ready w t)
 ready-is-closed = closed-form.ready-closed
@@ -47,15 +47,15 @@ ready-is-closed = closed-form.ready-closed
 ready-is-least : (w : ℕ → Bool) (t : Tree) (C : ℕ → Type 0) → Closed w t C → {v : ℕ} → Ready w t v → C v
 ready-is-least = closed-form.ready-least
 
-roots-are-ready : (t : Tree) (nums : List ℕ) → LinkCells t nums → (vs : List ℕ) → ((v : ℕ) → List·Memᴰ v vs → v < size t)
-    → rootsOn (size t) nums vs ≡ some (roots t vs)
+roots-are-ready : (t : Tree) (nodeTable : List ℕ) → NodeCells t nodeTable → (vs : List ℕ) → ((v : ℕ) → List·Memᴰ v vs → v < size t)
+    → rootsOn (size t) nodeTable vs ≡ some (roots t vs)
 roots-are-ready = built.roots-built
 
-roots-few : (n : ℕ) (nums vs l : List ℕ) → 0 < n → allBelow n vs ≡ true → rootsOn n nums vs ≡ some l → RootsAre n (length vs) l
+roots-few : (n : ℕ) (nodeTable vs l : List ℕ) → 0 < n → allBelow n vs ≡ true → rootsOn n nodeTable vs ≡ some l → RootsAre n (length vs) l
 roots-few = rootsOn-are
 
 highest-is-one : (w : ℕ → Bool) (t : Tree) (C : ℕ → Type 0) → Closed w t C → ((v : ℕ) → C v → v < size t) → (c h : ℕ) → c < size t
-    → Highest t C c h → (u : ℕ) → C u → Under t c u → Under t h u
+    → Highest t C c h → (u : ℕ) → C u → InSubtree t c u → InSubtree t h u
 highest-is-one = highest-holds
 
 part-is-the-rule : (X : View) (G : Given) → Reads X G → (w : ℕ → Bool) (ms : List ℕ) → Members w (G .tree) ms → (ps : List Part) (v : ℕ)
@@ -68,12 +68,12 @@ part-is-the-run : (G : Given) (u : Tree) → RunGiven G u → Sound (G .automato
     → Members w (G .tree) ms → (v : ℕ) → List·Memᴰ v ms → stateOf (partsOf G ms) v ≡ state (G .automaton) (sub u v)
 part-is-the-run = parts-right
 
-no-roots-astray : (n : ℕ) (nums vs : List ℕ) → 0 < n → allBelow n vs ≡ true → rootsOn n nums vs ≡ none → LinksAstray n nums
-no-roots-astray = roots-astray
+roots-in-range : (n : ℕ) (nodeTable vs : List ℕ) → 0 < n → allBelow n vs ≡ true → rootsOn n nodeTable vs ≡ none → NodeTableOutOfRange n nodeTable
+roots-in-range = roots-out-of-range
 
-no-part-astray : (X : View) (qs vs bs es : List ℕ) (v : ℕ) → v < X .n → partOn X es qs vs bs v ≡ none → Astray X qs vs bs
-no-part-astray = part-astray
+part-in-range : (X : View) (qs vs bs es : List ℕ) (v : ℕ) → v < X .n → partOn X es qs vs bs v ≡ none → PartOutOfRange X qs vs bs
+part-in-range = part-out-of-range
 
-rule-not-astray : (X : View) (G : Given) → Reads X G → (qs vs bs : List ℕ) → allBelow (X .s) qs ≡ true
-    → G .labels ≡ changed (labelsOf (G .tree)) vs bs → Astray X qs vs bs → ⊥
-rule-not-astray = reads-not-astray
+rule-in-range : (X : View) (G : Given) → Reads X G → (qs vs bs : List ℕ) → allBelow (X .s) qs ≡ true
+    → G .labels ≡ changed (labelsOf (G .tree)) vs bs → PartOutOfRange X qs vs bs → ⊥
+rule-in-range = reads-in-range

@@ -1,6 +1,6 @@
 -- One part of a question, on whatever is lent.
 --
--- Found == a root handled before, with its state; foundBelow nums c es qs == the last of the roots es, of states qs, that is c or below
+-- Found == a root handled before, with its state; foundBelow nodeTable c es qs == the last of the roots es, of states qs, that is c or below
 --   it, by the lent size of c
 -- labelOn X vs bs v == the label of node v as changed by the list
 -- sideOn X t c f == the state at child c, at depth t: its run state where no root is below, else the climb from the found one
@@ -17,9 +17,10 @@ use lib.Dec.{leb, ltb, eqb}
 use lib.ListN.{getD}
 use Rattle.trees.specs.Changes.{changed}
 use Rattle.trees.specs.Climb.{andThen}
-use Rattle.links.specs.Cells.{depthCell, sizeCell}
-use Rattle.links.specs.Cells.{isBelow}
-use Rattle.questions.specs.Climbs.{View, below, runOn, ruleOn, Reached, reached, climbOn}
+use Rattle.node_tables.specs.Cells.{depthCell, sizeCell}
+use Rattle.node_tables.specs.Cells.{isInSubtreeOn}
+use Rattle.tables.specs.declared.answers.Reached.{Reached}
+use Rattle.tables.specs.Climbs.{View, below, runOn, ruleOn, reached, climbOn}
 
 pub record Found : Type 0 where
   pub node : ℕ
@@ -29,12 +30,12 @@ abbrev pub found : ℕ → ℕ → Found
 found v q = record { node = v; state = q }
 
 unfoldable pub lastFound : List ℕ → ℕ → List ℕ → List ℕ → Option Found → Option Found
-lastFound nums c [] qs f = f
-lastFound nums c (e ∷ es) [] f = f
-lastFound nums c (e ∷ es) (q ∷ qs) f = lastFound nums c es qs (cond (isBelow nums c e) (some (found e q)) f)
+lastFound nodeTable c [] qs f = f
+lastFound nodeTable c (e ∷ es) [] f = f
+lastFound nodeTable c (e ∷ es) (q ∷ qs) f = lastFound nodeTable c es qs (cond (isInSubtreeOn nodeTable c e) (some (found e q)) f)
 
 abbrev pub foundBelow : List ℕ → ℕ → List ℕ → List ℕ → Option Found
-foundBelow nums c es qs = lastFound nums c es qs none
+foundBelow nodeTable c es qs = lastFound nodeTable c es qs none
 
 unfoldable pub labelOn : View → List ℕ → List ℕ → ℕ → ℕ
 labelOn X vs bs v = getD (changed (X .labels) vs bs) v 0
@@ -66,12 +67,12 @@ leafOn X a = cond (ltb a (X .k)) (andThen (below (X .s) (getD (X .leaves) a 0)) 
 
 unfoldable pub forkOn : View → List ℕ → List ℕ → ℕ → ℕ → ℕ → Option Reached
 forkOn X es qs v l a =
-    innerOn X (depthCell (X .nums) v + 1) l (v - 1) a (foundBelow (X .nums) l es qs) (foundBelow (X .nums) (v - 1) es qs)
+    innerOn X (depthCell (X .nodeTable) v + 1) l (v - 1) a (foundBelow (X .nodeTable) l es qs) (foundBelow (X .nodeTable) (v - 1) es qs)
 
 unfoldable pub partOn : View → List ℕ → List ℕ → List ℕ → List ℕ → ℕ → Option Reached
 partOn X es qs vs bs v =
     cond (eqb (getD (X .kinds) v 0) 0)
     (leafOn X (labelOn X vs bs v))
-    (cond (ltb 0 v && leb (sizeCell (X .nums) (v - 1)) (v - 1))
-    (forkOn X es qs v (v - 1 - sizeCell (X .nums) (v - 1)) (labelOn X vs bs v))
+    (cond (ltb 0 v && leb (sizeCell (X .nodeTable) (v - 1)) (v - 1))
+    (forkOn X es qs v (v - 1 - sizeCell (X .nodeTable) (v - 1)) (labelOn X vs bs v))
     none)

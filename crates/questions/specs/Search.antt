@@ -3,7 +3,7 @@
 -- nextUnless F stop v == a move from v that does not pass the goal: the jump unless `stop` holds there, else the parent; none where it
 --   leads outside the forest or does not rise
 -- search F stop v == the first node reached from v, v included, where `stop` holds; none where a move fails
--- meetOn n nums u v == the lowest node above v, v included, that has u below it
+-- meetOn n nodeTable u v == the lowest node above v, v included, that has u below it
 --
 -- Counts down the depth, which falls at each move. Looking for an ancestor counts no link.
 -- Assumes nothing.
@@ -13,7 +13,7 @@ use mathlib.Core.List.{List}
 use mathlib.Core.Option.{Option, none, some}
 use lib.Dec.{ltb}
 use Rattle.trees.specs.Climb.{Forest, Move, byJump, toParent, target, rising, andThen}
-use Rattle.links.specs.Cells.{cellForest, isBelow}
+use Rattle.node_tables.specs.Cells.{cellForest, isInSubtreeOn}
 
 unfoldable pub nextUnless : Forest → (ℕ → Bool) → ℕ → Option Move
 nextUnless F stop v = cond (ltb (F .jump v) (F .nodes)) (rising F v (cond (stop (F .jump v)) (toParent v) (byJump v))) none
@@ -28,4 +28,4 @@ unfoldable pub search : Forest → (ℕ → Bool) → ℕ → Option ℕ
 search F stop v = searchIn (F .depth v) F stop v
 
 unfoldable pub meetOn : ℕ → List ℕ → ℕ → ℕ → Option ℕ
-meetOn n nums u v = search (cellForest n nums) (λ x. isBelow nums x u) v
+meetOn n nodeTable u v = search (cellForest n nodeTable) (λ x. isInSubtreeOn nodeTable x u) v

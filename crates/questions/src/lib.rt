@@ -1,10 +1,7 @@
 // What a question is: the roots of its parts and the state and links of each part, on lent tables.
-pub mod answer;
-mod climb;
 pub mod fits;
 pub mod part;
 mod rising;
 pub mod roots;
-mod rules;
 mod scan;
 mod search;

@@ -1,35 +1,35 @@
 // One part of a question: the state of its root, from the parts before it, and the links of its climb, on whatever is
 // lent.
-use crate::answer::Climbed;
-use crate::climb::climb_state;
 use crate::fits::asked_fits;
-use crate::fits::lengths_fit;
-use crate::fits::limits_fit;
-use crate::rules::rule_on;
-use crate::rules::run_on;
 use crate::scan::last_in;
-use links::moves::depth_at;
-use links::moves::size_at;
+use formats::buffers::limits_fit;
+use formats::buffers::rule_buffers_fit;
+use node_tables::moves::depth_at;
+use node_tables::moves::size_at;
+use tables::answers::Climbed;
+use tables::answers::Reached;
+use tables::climb::climb_state;
+use tables::lookups::rule_on;
+use tables::lookups::run_on;
 ghost use mathlib.Core.Path.{_≡_};
 ghost use Prim.Native.Nat.{ℕ, _≤_};
 ghost use lib.ListN.{getD};
 ghost use Rattle.trees.specs.Changes.{changed};
-ghost use Rattle.links.specs.Cells.{sizeCell};
-ghost use Rattle.questions.specs.Climbs.{below};
+ghost use Rattle.node_tables.specs.Cells.{sizeCell};
+ghost use Rattle.tables.specs.Climbs.{below, climbedOf};
+ghost use Rattle.tables.specs.inner.PathViews.{pathView, rulesView};
 ghost use Rattle.questions.specs.Part.{joinOn, leafOn, forkOn, partOn};
-ghost use Rattle.questions.specs.PathViews.{pathView, rulesView};
-ghost use Rattle.questions.specs.Scans.{lastIn, foundOf, sideOn};
-ghost use Rattle.questions.specs.PartArgs.{partView, leavesView, unmoved, heard, LastArgs, LabelArgs, LeafArgs};
-ghost use Rattle.questions.specs.PartArgs.{JoinArgs, SideArgs, ForkArgs, PartArgs};
-ghost use Rattle.questions.specs.PartTold.{toldReached};
+ghost use Rattle.questions.specs.inner.Scans.{lastIn, foundOf, sideOn};
+ghost use Rattle.questions.specs.inner.PartArgs.{partView, leavesView, unmoved, reachedIn, LastArgs, LabelArgs, LeafArgs};
+ghost use Rattle.questions.specs.inner.PartArgs.{JoinArgs, SideArgs, ForkArgs, PartArgs};
 ghost use Rattle.questions.specs.Promises.{PartDone};
 
 // The place, from 1, of the last of the earlier roots that is c or below it; 0 where there is none.
-fn last_below(nums: &[u16], earlier: &[u16], c: usize) -> usize
-    requires { ⌜ LastArgs (now nums) (now earlier) c ⌝ }
-    ensures { λ r. ⌜ r ≡ lastIn c (sizeCell (now (nums .entry)) c) (now (earlier .entry)) ⌝ }
+fn last_below(node_table: &[u16], earlier: &[u16], c: usize) -> usize
+    requires { ⌜ LastArgs (now «node_table») (now earlier) c ⌝ }
+    ensures { λ r. ⌜ r ≡ lastIn c (sizeCell (now («node_table» .entry)) c) (now (earlier .entry)) ⌝ }
 {
-    last_in(earlier, c as u16, nums[c * 4 + 3]) as usize
+    last_in(earlier, c as u16, node_table[c * 4 + 3]) as usize
 }
 
 // The label of node v as changed: the last entry of v in the list, else the plan's label.
@@ -46,45 +46,51 @@ fn label_on(labels: &[u8], nodes: &[u16], changes: &[u8], v: usize) -> usize
 }
 
 // A number read as a state, reached by no link.
-fn told_state(q: usize, s: usize) -> Climbed
+fn handled_state(q: usize, s: usize) -> Climbed
     requires { ⌜ s ≤ 16 ⌝ }
-    ensures { λ r. ⌜ r ≡ toldReached (unmoved (below s q)) ⌝ }
+    ensures { λ r. ⌜ r ≡ climbedOf (unmoved (below s q)) ⌝ }
 {
     if s <= q {
-        return Climbed::Outside;
+        return Climbed::OutOfRange;
     }
-    Climbed::Reached(q as u8, 0)
+    Climbed::Reached(Reached {
+        state: q as u8,
+        links: 0,
+    })
 }
 
 // The part of a leaf with label a.
 fn leaf_on(leaves: &[u8], s: usize, k: usize, a: usize) -> Climbed
     requires { ⌜ LeafArgs s k (now leaves) ⌝ }
-    ensures { λ r. ⌜ r ≡ toldReached (leafOn (leavesView s k (now (leaves .entry))) a) ⌝ }
+    ensures { λ r. ⌜ r ≡ climbedOf (leafOn (leavesView s k (now (leaves .entry))) a) ⌝ }
 {
     if k <= a {
-        return Climbed::Outside;
+        return Climbed::OutOfRange;
     }
-    told_state(leaves[a] as usize, s)
+    handled_state(leaves[a] as usize, s)
 }
 
 // The rule for the states of both children and the label a, with the links of both.
 fn join_on(inner: &[u8], s: usize, k: usize, a: usize, left: Climbed, right: Climbed) -> Climbed
     requires { ⌜ JoinArgs s k (now inner) left right ⌝ }
     ensures { λ r. ⌜ r
-        ≡ toldReached (joinOn (rulesView s k (now (inner .entry))) a (heard left) (heard right)) ⌝ }
+        ≡ climbedOf (joinOn (rulesView s k (now (inner .entry))) a (reachedIn left) (reachedIn right)) ⌝ }
 {
     match left {
-        Climbed::Reached(p, x) => match right {
-            Climbed::Reached(q, y) => {
-                let r = rule_on(inner, s, k, p as usize, a, q as usize);
+        Climbed::Reached(x) => match right {
+            Climbed::Reached(y) => {
+                let r = rule_on(inner, s, k, x.state as usize, a, y.state as usize);
                 if s <= r {
-                    return Climbed::Outside;
+                    return Climbed::OutOfRange;
                 }
-                Climbed::Reached(r as u8, x + y)
+                Climbed::Reached(Reached {
+                    state: r as u8,
+                    links: x.links + y.links,
+                })
             }
-            Climbed::Outside => Climbed::Outside,
+            Climbed::OutOfRange => Climbed::OutOfRange,
         },
-        Climbed::Outside => Climbed::Outside,
+        Climbed::OutOfRange => Climbed::OutOfRange,
     }
 }
 
@@ -94,8 +100,8 @@ fn join_on(inner: &[u8], s: usize, k: usize, a: usize, left: Climbed, right: Cli
 fn side_on(
     labels: &[u8],
     inner: &[u8],
-    nums: &[u16],
-    bytes: &[u8],
+    node_table: &[u16],
+    state_table: &[u8],
     n: usize,
     s: usize,
     k: usize,
@@ -106,26 +112,26 @@ fn side_on(
     own: usize,
     other: usize,
 ) -> Climbed
-    requires { ⌜ SideArgs n s k (now labels) (now inner) (now nums) (now bytes) (now earlier) (now states) c own ⌝ }
-    ensures { λ r. ⌜ r ≡ toldReached (sideOn (pathView n s k (now (labels .entry)) (now (inner .entry))
-        (now (nums .entry)) (now (bytes .entry))) to c (foundOf (now (earlier .entry)) (now (states .entry)) own)
+    requires { ⌜ SideArgs n s k (now labels) (now inner) (now «node_table») (now «state_table») (now earlier) (now states) c own ⌝ }
+    ensures { λ r. ⌜ r ≡ climbedOf (sideOn (pathView n s k (now (labels .entry)) (now (inner .entry))
+        (now («node_table» .entry)) (now («state_table» .entry))) to c (foundOf (now (earlier .entry)) (now (states .entry)) own)
         (foundOf (now (earlier .entry)) (now (states .entry)) other)) ⌝ }
 {
     if own == 0 {
-        return told_state(run_on(bytes, s, c), s);
+        return handled_state(run_on(state_table, s, c), s);
     }
     let q = states[own - 1] as usize;
     if other != 0 {
-        return told_state(q, s);
+        return handled_state(q, s);
     }
     if s <= q {
-        return Climbed::Outside;
+        return Climbed::OutOfRange;
     }
     climb_state(
         labels,
         inner,
-        nums,
-        bytes,
+        node_table,
+        state_table,
         n,
         s,
         k,
@@ -139,8 +145,8 @@ fn side_on(
 fn fork_on(
     labels: &[u8],
     inner: &[u8],
-    nums: &[u16],
-    bytes: &[u8],
+    node_table: &[u16],
+    state_table: &[u8],
     n: usize,
     s: usize,
     k: usize,
@@ -150,18 +156,18 @@ fn fork_on(
     l: usize,
     a: usize,
 ) -> Climbed
-    requires { ⌜ ForkArgs n s k (now labels) (now inner) (now nums) (now bytes) (now earlier) (now states) v l ⌝ }
-    ensures { λ r. ⌜ r ≡ toldReached (forkOn (pathView n s k (now (labels .entry)) (now (inner .entry))
-        (now (nums .entry)) (now (bytes .entry))) (now (earlier .entry)) (now (states .entry)) v l a) ⌝ }
+    requires { ⌜ ForkArgs n s k (now labels) (now inner) (now «node_table») (now «state_table») (now earlier) (now states) v l ⌝ }
+    ensures { λ r. ⌜ r ≡ climbedOf (forkOn (pathView n s k (now (labels .entry)) (now (inner .entry))
+        (now («node_table» .entry)) (now («state_table» .entry))) (now (earlier .entry)) (now (states .entry)) v l a) ⌝ }
 {
-    let to = depth_at(nums, v) + 1;
-    let i = last_below(nums, earlier, l);
-    let j = last_below(nums, earlier, v - 1);
+    let to = depth_at(node_table, v) + 1;
+    let i = last_below(node_table, earlier, l);
+    let j = last_below(node_table, earlier, v - 1);
     let left = side_on(
         labels,
         inner,
-        nums,
-        bytes,
+        node_table,
+        state_table,
         n,
         s,
         k,
@@ -175,8 +181,8 @@ fn fork_on(
     let right = side_on(
         labels,
         inner,
-        nums,
-        bytes,
+        node_table,
+        state_table,
         n,
         s,
         k,
@@ -196,8 +202,8 @@ fn part_on(
     kinds: &[u8],
     leaves: &[u8],
     inner: &[u8],
-    nums: &[u16],
-    bytes: &[u8],
+    node_table: &[u16],
+    state_table: &[u8],
     n: usize,
     s: usize,
     k: usize,
@@ -207,10 +213,10 @@ fn part_on(
     changes: &[u8],
     v: usize,
 ) -> Climbed
-    requires { ⌜ PartArgs n s k (now labels) (now kinds) (now leaves) (now inner) (now nums) (now bytes)
+    requires { ⌜ PartArgs n s k (now labels) (now kinds) (now leaves) (now inner) (now «node_table») (now «state_table»)
         (now earlier) (now states) (now nodes) (now changes) v ⌝ }
-    ensures { λ r. ⌜ r ≡ toldReached (partOn (partView n s k (now (labels .entry)) (now (kinds .entry))
-        (now (leaves .entry)) (now (inner .entry)) (now (nums .entry)) (now (bytes .entry)))
+    ensures { λ r. ⌜ r ≡ climbedOf (partOn (partView n s k (now (labels .entry)) (now (kinds .entry))
+        (now (leaves .entry)) (now (inner .entry)) (now («node_table» .entry)) (now («state_table» .entry)))
         (now (earlier .entry)) (now (states .entry)) (now (nodes .entry)) (now (changes .entry)) v) ⌝ }
 {
     let a = label_on(labels, nodes, changes, v);
@@ -218,17 +224,17 @@ fn part_on(
         return leaf_on(leaves, s, k, a);
     }
     if v == 0 {
-        return Climbed::Outside;
+        return Climbed::OutOfRange;
     }
-    let z = size_at(nums, v - 1);
+    let z = size_at(node_table, v - 1);
     if v - 1 < z {
-        return Climbed::Outside;
+        return Climbed::OutOfRange;
     }
     fork_on(
         labels,
         inner,
-        nums,
-        bytes,
+        node_table,
+        state_table,
         n,
         s,
         k,
@@ -241,31 +247,39 @@ fn part_on(
 }
 
 // The part of the root that comes next after those whose states are given, with N, S and K as given, on whatever is
-// lent and with the listed nodes' labels changed. Outside also where what is lent or asked for does not fit.
+// lent and with the listed nodes' labels changed. Out of range also where what is lent or asked for does not fit.
 pub fn part(
     n: usize,
     s: usize,
     k: usize,
     plan: &[u8],
     rules: &[u8],
-    nums: &[u16],
-    bytes: &[u8],
+    node_table: &[u16],
+    state_table: &[u8],
     roots: &[u16],
     states: &[u8],
     nodes: &[u16],
     labels: &[u8],
 ) -> Climbed
-    ensures { λ r. ⌜ PartDone n s k (now (plan .entry)) (now (rules .entry)) (now (nums .entry)) (now (bytes .entry))
+    ensures { λ r. ⌜ PartDone n s k (now (plan .entry)) (now (rules .entry)) (now («node_table» .entry)) (now («state_table» .entry))
         (now (roots .entry)) (now (states .entry)) (now (nodes .entry)) (now (labels .entry)) r ⌝ }
 {
     if !limits_fit(n, s, k) {
-        return Climbed::Outside;
+        return Climbed::OutOfRange;
     }
-    if !lengths_fit(n, s, k, plan.len(), rules.len(), nums.len(), bytes.len()) {
-        return Climbed::Outside;
+    if !rule_buffers_fit(
+        n,
+        s,
+        k,
+        plan.len(),
+        rules.len(),
+        node_table.len(),
+        state_table.len(),
+    ) {
+        return Climbed::OutOfRange;
     }
     if !asked_fits(n, roots, states, nodes, labels) {
-        return Climbed::Outside;
+        return Climbed::OutOfRange;
     }
     let i = states.len();
     part_on(
@@ -273,8 +287,8 @@ pub fn part(
         &plan[12 + n..],
         &rules[20..20 + k],
         &rules[20 + k..20 + k + s * k * s],
-        &nums[..n * 4],
-        &bytes[..n * (s + 1)],
+        &node_table[..n * 4],
+        &state_table[..n * (s + 1)],
         n,
         s,
         k,

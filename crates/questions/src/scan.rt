@@ -3,11 +3,12 @@ ghost use mathlib.Core.Path.{_≡_};
 ghost use Prim.Native.Nat.{_≤_};
 ghost use mathlib.Core.Bool.{cond};
 ghost use lib.ListN.{length};
-ghost use Rattle.questions.specs.Scans.{covers, lastIn};
+ghost use Rattle.trees.specs.Numbering.{isInSubtree};
+ghost use Rattle.questions.specs.inner.Scans.{lastIn};
 
 // Place i where e is in the run of z numbers that ends at c, else 0.
-fn place_of(e: u16, c: u16, z: u16, i: u16) -> u16
-    ensures { λ r. ⌜ r ≡ cond (covers c z e) i 0 ⌝ }
+fn place_if_covered(e: u16, c: u16, z: u16, i: u16) -> u16
+    ensures { λ r. ⌜ r ≡ cond (isInSubtree c z e) i 0 ⌝ }
 {
     if c < e {
         return 0;
@@ -29,7 +30,7 @@ pub fn last_in(list: &[u16], c: u16, z: u16) -> u16
     while i < count {
         let e = list[i as usize];
         i += 1;
-        let m = place_of(e, c, z, i);
+        let m = place_if_covered(e, c, z, i);
         if at < m {
             at = m;
         }

@@ -1,16 +1,16 @@
 // The search for a lowest common ancestor on lent numbers, whatever they hold. It counts no link.
-use links::moves::depth_at;
-use links::moves::is_below;
-use links::moves::jump_at;
-use links::moves::parent_at;
+use node_tables::moves::depth_at;
+use node_tables::moves::is_below;
+use node_tables::moves::jump_at;
+use node_tables::moves::parent_at;
 ghost use mathlib.Core.Path.{_≡_};
 ghost use Prim.Native.Nat.{ℕ, _+_, _*_, _≤_};
 ghost use lib.ListN.{length};
-ghost use Rattle.links.specs.Cells.{cellForest};
-ghost use Rattle.links.specs.ToldMove.{MoveArgs};
+ghost use Rattle.node_tables.specs.Cells.{cellForest};
+ghost use Rattle.node_tables.specs.inner.MoveAnswers.{MoveArgs};
+ghost use Rattle.node_tables.specs.Cells.{isInSubtreeOn};
 ghost use Rattle.questions.specs.Search.{nextUnless, meetOn};
-ghost use Rattle.links.specs.Cells.{isBelow};
-ghost use Rattle.questions.specs.SearchTold.{toldMeeting, toldTarget, toldRising};
+ghost use Rattle.questions.specs.inner.SearchAnswers.{meetingOf, targetOf, risingMeeting};
 
 // A node, or that a value read leads outside the plan or a move does not rise.
 pub enum Meeting {
@@ -19,14 +19,14 @@ pub enum Meeting {
 }
 
 // Node u, where it is one of the n nodes and less deep than node v.
-fn if_rising(nums: &[u16], n: usize, v: usize, u: usize) -> Meeting
-    requires { ⌜ MoveArgs n (now nums) v ⌝ }
-    ensures { λ r. ⌜ r ≡ toldRising (cellForest n (now (nums .entry))) v u ⌝ }
+fn if_rising(node_table: &[u16], n: usize, v: usize, u: usize) -> Meeting
+    requires { ⌜ MoveArgs n (now «node_table») v ⌝ }
+    ensures { λ r. ⌜ r ≡ risingMeeting (cellForest n (now («node_table» .entry))) v u ⌝ }
 {
     if n <= u {
         return Meeting::Outside;
     }
-    if depth_at(nums, v) <= depth_at(nums, u) {
+    if depth_at(node_table, v) <= depth_at(node_table, u) {
         return Meeting::Outside;
     }
     Meeting::At(u)
@@ -34,29 +34,29 @@ fn if_rising(nums: &[u16], n: usize, v: usize, u: usize) -> Meeting
 
 // Where the search for a node with u below it goes next from node v: by the jump, unless that has u below it; else to
 // the parent.
-fn next_unless(nums: &[u16], n: usize, u: usize, v: usize) -> Meeting
-    requires { ⌜ MoveArgs n (now nums) v ⌝ }
-    ensures { λ r. ⌜ r ≡ toldTarget (cellForest n (now (nums .entry)))
-        (nextUnless (cellForest n (now (nums .entry))) (λ (x : ℕ). isBelow (now (nums .entry)) x u) v) ⌝ }
+fn next_unless(node_table: &[u16], n: usize, u: usize, v: usize) -> Meeting
+    requires { ⌜ MoveArgs n (now «node_table») v ⌝ }
+    ensures { λ r. ⌜ r ≡ targetOf (cellForest n (now («node_table» .entry)))
+        (nextUnless (cellForest n (now («node_table» .entry))) (λ (x : ℕ). isInSubtreeOn (now («node_table» .entry)) x u) v) ⌝ }
 {
-    let j = jump_at(nums, v);
+    let j = jump_at(node_table, v);
     if n <= j {
         return Meeting::Outside;
     }
-    if is_below(nums, j, u) {
-        return if_rising(nums, n, v, parent_at(nums, v));
+    if is_below(node_table, j, u) {
+        return if_rising(node_table, n, v, parent_at(node_table, v));
     }
-    if_rising(nums, n, v, j)
+    if_rising(node_table, n, v, j)
 }
 
 // The lowest node above node v, v included, that has u below it.
-pub fn meet(nums: &[u16], n: usize, u: usize, v: usize) -> Meeting
-    requires { ⌜ MoveArgs n (now nums) v ⌝ }
-    ensures { λ r. ⌜ r ≡ toldMeeting (meetOn n (now (nums .entry)) u v) ⌝ }
+pub fn meet(node_table: &[u16], n: usize, u: usize, v: usize) -> Meeting
+    requires { ⌜ MoveArgs n (now «node_table») v ⌝ }
+    ensures { λ r. ⌜ r ≡ meetingOf (meetOn n (now («node_table» .entry)) u v) ⌝ }
 {
     let mut x = v;
-    while !is_below(nums, x, u) {
-        match next_unless(nums, n, u, x) {
+    while !is_below(node_table, x, u) {
+        match next_unless(node_table, n, u, x) {
             Meeting::At(y) => {
                 x = y;
             }

@@ -11,17 +11,17 @@ use native.Mathlib.Decide.{ℕ-discrete}
 use native.Mathlib.Omega.{arith}
 use Rattle.trees.specs.Tree.{Tree, size, kindsOf, kindAt, labelAt}
 use Rattle.trees.specs.Automaton.{Automaton, state}
-use Rattle.trees.specs.Numbering.{sub, parent, depth, ancestor}
+use Rattle.trees.specs.Numbering.{sub, parent, depth, ancestor, AtOrBelow, InSubtree}
 use Rattle.trees.specs.Climb.{walk}
 use Rattle.trees.specs.Tables.{stepUp}
 use Rattle.trees.proofs.NodeLaws.{Up, up, Inner, inner}
 use Rattle.trees.proofs.JumpLaws.{ancestor-add, ancestor-in, ancestor-depth, ancestor-above}
-use Rattle.trees.proofs.IntervalLaws.{Above, ancestor-interval, interval-ancestor, above-at}
+use Rattle.trees.proofs.IntervalLaws.{ancestor-interval, interval-ancestor, above-at}
 use Rattle.trees.proofs.TreeClimbs.{below-root}
 use Rattle.trees.proofs.WalkLaws.{walk-add}
 use Rattle.trees.proofs.MapLaws.{stepUp-right, stepUp-left}
 use Rattle.trees.proofs.RunLaws.{state-inner}
-use Rattle.ready.specs.Ready.{Under, leftChild, rightChild, Closed}
+use Rattle.ready.specs.Ready.{leftChild, rightChild, Closed}
 use Rattle.ready.proofs.UnderLaws.{under-self, under-trans, under-up, left-parent, right-parent, left-in, right-in, left-under, right-under}
 use Rattle.ready.proofs.HighestLaws.{Highest, is-false, path-unlisted, not-left, not-right}
 use Rattle.ready.proofs.SameTrees.{same-count, same-kind, same-size, same-sub}
@@ -32,7 +32,7 @@ pub record Changes (w : ℕ → Bool) (t u : Tree) : Type 0 where
   pub labels : (v : ℕ) → w v ≡ false → labelAt t v ≡ labelAt u v
 
 module _ (A : Automaton) (w : ℕ → Bool) (t u : Tree) (ch : Changes w t u) where
-  pub unchanged-state : (c : ℕ) → c < size t → ((v : ℕ) → v < size t → Under t c v → w v ≡ true → ⊥)
+  pub unchanged-state : (c : ℕ) → c < size t → ((v : ℕ) → v < size t → InSubtree t c v → w v ≡ true → ⊥)
       → state A (sub t c) ≡ state A (sub u c)
   unchanged-state c h n = ap (state A) (same-sub t u (ch .kinds) c h (λ v p. ch .labels v (is-false (w v) (n v (omega arith) p))))
 
@@ -55,8 +55,8 @@ module _ (A : Automaton) (w : ℕ → Bool) (t u : Tree) (ch : Changes w t u) wh
         state-inner A u (parent t y) n k
         ∙ ap₂ (λ (x a : ℕ). A .δ (state A (sub u (parent t y - 1 - x))) a (state A (sub u (parent t y - 1)))) s (sym (ch .labels (parent t y) free))
 
-    pub changed-up : ((v : ℕ) → v < size t → w v ≡ true → (y + 1 ≡ parent t y → Under t (leftChild t (parent t y)) v → ⊥))
-        → ((v : ℕ) → v < size t → w v ≡ true → ((y + 1 ≡ parent t y → ⊥) → Under t (rightChild (parent t y)) v → ⊥))
+    pub changed-up : ((v : ℕ) → v < size t → w v ≡ true → (y + 1 ≡ parent t y → InSubtree t (leftChild t (parent t y)) v → ⊥))
+        → ((v : ℕ) → v < size t → w v ≡ true → ((y + 1 ≡ parent t y → ⊥) → InSubtree t (rightChild (parent t y)) v → ⊥))
         → stepUp A t y (state A (sub u y)) ≡ state A (sub u (parent t y))
     changed-up nl nr = elim (ℕ-discrete (y + 1) (parent t y)) [
       | yes e ↦ (let q : parent t y - 1 ≡ y = omega arith in
@@ -96,13 +96,13 @@ module _ (A : Automaton) (w : ℕ → Bool) (t u : Tree) (ch : Changes w t u) wh
       y-proper : ancestor t h n + 1 < size t
       y-proper = below-root t (ancestor t h n) y-in (omega (arith, y-depth))
 
-      y-over : Under t (ancestor t h n) h
+      y-over : InSubtree t (ancestor t h n) h
       y-over = ancestor-interval t (ancestor t h n) h n hh (omega arith) refl
 
       up-n : Up t (ancestor t h n) (parent t (ancestor t h n))
       up-n = up t (ancestor t h n) y-proper
 
-      c-over : Under t c (parent t (ancestor t h n))
+      c-over : InSubtree t c (parent t (ancestor t h n))
       unfolding ancestor
       c-over =
           let k : (depth t h - depth t c - suc n) + suc n ≡ depth t h - depth t c = omega arith in
@@ -124,12 +124,12 @@ module _ (A : Automaton) (w : ℕ → Bool) (t u : Tree) (ch : Changes w t u) wh
           let r : rightChild p ≡ ancestor t h n = omega arith in
           not-left w t C closed inside c h hc H p (up-n .below) kind c-over v hv wv
           (under-trans t c p v hc (up-n .below) hv c-over (left-under t p (up-n .below) kind v q))
-          (omega (arith, up-n .below)) (subst (λ (x : ℕ). Under t x h) (sym r) y-over) q)
+          (omega (arith, up-n .below)) (subst (λ (x : ℕ). InSubtree t x h) (sym r) y-over) q)
           (λ v hv wv e q.
           let r : ancestor t h n ≡ leftChild t p = elim (up-n .child) [ inl z ↦ absurd (e z) | inr z ↦ omega arith ] in
           not-right w t C closed inside c h hc H p (up-n .below) kind c-over v hv wv
           (under-trans t c p v hc (up-n .below) hv c-over (right-under t p (up-n .below) kind v q))
-          (omega (arith, y-in)) (subst (λ (x : ℕ). Under t x h) r y-over) q)
+          (omega (arith, y-in)) (subst (λ (x : ℕ). InSubtree t x h) r y-over) q)
 
     walk-in : (n : ℕ) → n ≤ depth t h - depth t c → walk (stepUp A t) t h n (state A (sub u h)) ≡ state A (sub u (ancestor t h n))
     unfolding walk ancestor

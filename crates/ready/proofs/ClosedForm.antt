@@ -11,17 +11,17 @@ use mathlib.Core.Logic.{_⊎_, inl, inr}
 use native.Mathlib.Decide.{ℕ-discrete, decLt}
 use native.Mathlib.Omega.{arith}
 use Rattle.trees.specs.Tree.{Tree, size, kindAt}
-use Rattle.trees.specs.Numbering.{sub, parent, depth, ancestor}
+use Rattle.trees.specs.Numbering.{sub, parent, depth, ancestor, AtOrBelow, InSubtree}
 use Rattle.trees.proofs.NodeLaws.{Inner, inner, up, sub-leaf}
 use Rattle.trees.proofs.JumpLaws.{ancestor-add, ancestor-depth}
-use Rattle.trees.proofs.IntervalLaws.{Above, ancestor-interval, interval-ancestor}
-use Rattle.ready.specs.Ready.{Under, leftChild, rightChild, Meet, Fork, Ready, listed, root, meet, child-left, child-right, Closed}
+use Rattle.trees.proofs.IntervalLaws.{ancestor-interval, interval-ancestor}
+use Rattle.ready.specs.Ready.{leftChild, rightChild, Meet, Fork, Ready, listed, root, meet, child-left, child-right, Closed}
 use Rattle.ready.proofs.UnderLaws.{under-self, under-trans, under-anti, under-inner, under-root, left-in, right-in, left-under}
 use Rattle.ready.proofs.UnderLaws.{right-under, children-apart}
 
 -- a listed node under c
 abbrev pub Some : (ℕ → Bool) → Tree → ℕ → Type 0
-Some w t c = (u : ℕ) × (u < size t) × Under t c u × (w u ≡ true)
+Some w t c = (u : ℕ) × (u < size t) × InSubtree t c u × (w u ≡ true)
 
 pub record Forks (w : ℕ → Bool) (t : Tree) (v : ℕ) : Type 0 where
   pub inside : v < size t
@@ -44,24 +44,25 @@ kind-one t v h n =
 
 module _ (t : Tree) where
   -- of two nodes above one, one is above the other
-  pub comparable : (a b c : ℕ) → a < size t → b < size t → c < size t → Under t a c → Under t b c → Under t a b ⊎ Under t b a
+  pub comparable : (a b c : ℕ) → a < size t → b < size t → c < size t → InSubtree t a c → InSubtree t b c → InSubtree t a b ⊎ InSubtree t b a
   comparable a b c ha hb hc p q = go (interval-ancestor t a c ha hc p) (interval-ancestor t b c hb hc q)
     where
-      higher : (x y : ℕ) (X : Above t x c) (Y : Above t y c) → Y .0 ≤ X .0 → y < size t → Under t x y
+      higher : (x y : ℕ) (X : AtOrBelow t x c) (Y : AtOrBelow t y c) → Y .0 ≤ X .0 → y < size t → InSubtree t x y
       higher x y X Y l hy =
           let e : depth t y + Y .0 ≡ depth t c = subst (λ (z : ℕ). depth t z + Y .0 ≡ depth t c) (Y .2) (ancestor-depth t c (Y .0) hc (Y .1)) in
           let k : (X .0 - Y .0) + Y .0 ≡ X .0 = omega arith in
           ancestor-interval t x y (X .0 - Y .0) hy (omega (arith, X .1))
           (ap (λ (z : ℕ). ancestor t z (X .0 - Y .0)) (sym (Y .2)) ∙ ancestor-add t c (Y .0) (X .0 - Y .0) ∙ ap (ancestor t c) k ∙ X .2)
 
-      go : Above t a c → Above t b c → Under t a b ⊎ Under t b a
+      go : AtOrBelow t a c → AtOrBelow t b c → InSubtree t a b ⊎ InSubtree t b a
       go X Y = elim (decLt (X .0) (Y .0)) [
         | yes l ↦ inr (higher b a Y X (omega arith) ha)
         | no l ↦ inl (higher a b X Y (omega arith) hb)
       ]
 
   -- a node with u below its left child and x below its right is their lowest common ancestor
-  pub fork-meet : (v u x : ℕ) → v < size t → kindAt t v ≡ 1 → u < size t → x < size t → Under t (leftChild t v) u → Under t (rightChild v) x → Meet t u x v
+  pub fork-meet : (v u x : ℕ) → v < size t → kindAt t v ≡ 1 → u < size t → x < size t
+      → InSubtree t (leftChild t v) u → InSubtree t (rightChild v) x → Meet t u x v
   fork-meet v u x hv k hu hx p q = record {
     inside = hv;
     first = left-under t v hv k u p;
@@ -69,7 +70,7 @@ module _ (t : Tree) where
     lowest = λ y hy a b. elim (comparable y v u hy hv hu a (left-under t v hv k u p)) [
       | inl c ↦ c
       | inr c ↦ elim (under-inner t v hv k y c) [
-        | inl e ↦ subst (λ (z : ℕ). Under t z v) (sym e) (under-self t v)
+        | inl e ↦ subst (λ (z : ℕ). InSubtree t z v) (sym e) (under-self t v)
         | inr d ↦ absurd (elim d [
           | inl l ↦ children-apart t v hv k x (under-trans t (leftChild t v) y x (omega (arith, left-in t v hv k)) hy hx l b) q
           | inr r ↦ children-apart t v hv k u p (under-trans t (rightChild v) y u (omega (arith, right-in t v hv k)) hy hu r a)
@@ -79,12 +80,14 @@ module _ (t : Tree) where
   }
 
   -- a leaf has nothing below
-  under-leaf : (v u : ℕ) → v < size t → kindAt t v ≡ 0 → Under t v u → u ≡ v
+  under-leaf : (v u : ℕ) → v < size t → kindAt t v ≡ 0 → InSubtree t v u → u ≡ v
   under-leaf v u hv e p = let z : size (sub t v) ≡ 1 = ap size (sub-leaf t v hv e) in omega arith
 
   -- two nodes whose lowest common ancestor is neither of them stand below its two children
   abbrev Parted : ℕ → ℕ → ℕ → Type 0
-  Parted u v x = (kindAt t x ≡ 1) × ((Under t (leftChild t x) u × Under t (rightChild x) v) ⊎ (Under t (leftChild t x) v × Under t (rightChild x) u))
+  Parted u v x =
+      (kindAt t x ≡ 1)
+      × ((InSubtree t (leftChild t x) u × InSubtree t (rightChild x) v) ⊎ (InSubtree t (leftChild t x) v × InSubtree t (rightChild x) u))
 
   pub parted : (u v x : ℕ) → u < size t → v < size t → Meet t u v x → (x ≡ u → ⊥) → (x ≡ v → ⊥) → Parted u v x
   parted u v x hu hv m nu nv = elim (ℕ-discrete (kindAt t x) 0) [
@@ -94,12 +97,12 @@ module _ (t : Tree) where
   ]
     where
       -- a child cannot hold both
-      low : (k : kindAt t x ≡ 1) (c : ℕ) → c < x → Under t c u → Under t c v → ⊥
+      low : (k : kindAt t x ≡ 1) (c : ℕ) → c < x → InSubtree t c u → InSubtree t c v → ⊥
       low k c l p q = omega (arith, m .lowest c (omega (arith, m .inside)) p q)
 
-      go : kindAt t x ≡ 1 → (u ≡ x) ⊎ (Under t (leftChild t x) u ⊎ Under t (rightChild x) u)
-          → (v ≡ x) ⊎ (Under t (leftChild t x) v ⊎ Under t (rightChild x) v)
-          → (Under t (leftChild t x) u × Under t (rightChild x) v) ⊎ (Under t (leftChild t x) v × Under t (rightChild x) u)
+      go : kindAt t x ≡ 1 → (u ≡ x) ⊎ (InSubtree t (leftChild t x) u ⊎ InSubtree t (rightChild x) u)
+          → (v ≡ x) ⊎ (InSubtree t (leftChild t x) v ⊎ InSubtree t (rightChild x) v)
+          → (InSubtree t (leftChild t x) u × InSubtree t (rightChild x) v) ⊎ (InSubtree t (leftChild t x) v × InSubtree t (rightChild x) u)
       go k (inl e) b = absurd (nu (sym e))
       go k (inr a) (inl e) = absurd (nv (sym e))
       go k (inr (inl a)) (inr (inl b)) = absurd (low k (leftChild t x) (left-in t x (m .inside) k) a b)
@@ -125,13 +128,14 @@ module _ (w : ℕ → Bool) (t : Tree) where
   covered (m-right f) = inr (f .right)
 
   -- a member below child c of x has a listed node there
-  some-under : (x c v : ℕ) → x < size t → c < x → Member w t v → Under t c v → Some w t c
+  some-under : (x c v : ℕ) → x < size t → c < x → Member w t v → InSubtree t c v → Some w t c
   some-under x c v hx hc m p = elim (covered m) [
     | inl e ↦ absurd (omega arith)
     | inr s ↦ (s .0, s .1, under-trans t c v (s .0) (omega arith) (member-in m) (s .1) p (s .2), s .3)
   ]
 
-  forks-of : (x u v : ℕ) → x < size t → kindAt t x ≡ 1 → Member w t u → Member w t v → Under t (leftChild t x) u → Under t (rightChild x) v → Forks w t x
+  forks-of : (x u v : ℕ) → x < size t → kindAt t x ≡ 1 → Member w t u → Member w t v
+      → InSubtree t (leftChild t x) u → InSubtree t (rightChild x) v → Forks w t x
   forks-of x u v hx k mu mv p q = record {
     inside = hx;
     inner = k;

@@ -15,32 +15,19 @@ use native.Mathlib.Decide.{ℕ-discrete, decLt}
 use native.Mathlib.Omega.{arith}
 use lib.Dec.{eqb}
 use borrow.Author.Tests.{eqb-true, eq-eqb}
-use Rattle.trees.proofs.MoveLaws.{both}
 use Rattle.trees.specs.Tree.{Tree, size, kindAt}
-use Rattle.trees.specs.Numbering.{sub, parent}
+use Rattle.trees.specs.Numbering.{sub, parent, InSubtree}
+use Rattle.trees.proofs.MoveLaws.{both}
 use Rattle.trees.proofs.NodeLaws.{Up, up, sub-size, size-pos, parent-root}
-use Rattle.formats.proofs.CheckLaws.{and-both}
-use Rattle.ready.specs.Ready.{Under, leftChild, rightChild, Ready}
+use Rattle.list_laws.proofs.BoolLaws.{and-both}
+use Rattle.list_laws.proofs.BoolLaws.{or-cases, or-first, or-second}
+use Rattle.ready.specs.Ready.{leftChild, rightChild, Ready}
 use Rattle.ready.specs.Members.{someIn, someBelow, forksAt, isMember, keep, readyList, Rising}
 use Rattle.ready.proofs.UnderLaws.{left-in, right-in, left-parent, right-parent}
 use Rattle.ready.proofs.BelowLaws.{true-false, rising-above}
 use Rattle.ready.proofs.ClosedForm.{Some, Forks, Member, m-listed, m-root, m-forks, m-left, m-right, member-in, member-ready}
 use Rattle.ready.proofs.ClosedForm.{member-closed, ready-member}
 use Rattle.ready.proofs.PartsRun.{Members}
-
--- ---- Booleans
-
-or-cases : (a b : Bool) → (a || b) ≡ true → (a ≡ true) ⊎ (b ≡ true)
-or-cases true b e = inl refl
-or-cases false b e = inr e
-
-pub or-first : (a b : Bool) → a ≡ true → (a || b) ≡ true
-or-first true b e = refl
-or-first false b e = absurd (true-false true refl (sym e))
-
-pub or-second : (a b : Bool) → b ≡ true → (a || b) ≡ true
-or-second true b e = refl
-or-second false b e = e
 
 -- ---- the tests
 

@@ -19,7 +19,7 @@ use lib.ListN.{length, getD}
 use borrow.Author.Tests.{eqb-true, eqb-false, eq-eqb, ne-eqb}
 use Rattle.trees.specs.Tree.{Tree, size, kindsOf, kindAt, labelsOf, labelAt}
 use Rattle.trees.specs.Automaton.{Automaton, state}
-use Rattle.trees.specs.Numbering.{sub, parent, depth}
+use Rattle.trees.specs.Numbering.{sub, parent, depth, InSubtree}
 use Rattle.trees.specs.Jumps.{jump}
 use Rattle.trees.specs.Climb.{Move, byJump, toParent, forestOf, climb, carry, walk, andThen}
 use Rattle.trees.specs.Tables.{stepUp, stateMap}
@@ -28,9 +28,9 @@ use Rattle.trees.proofs.CarryLaws.{carry-walk}
 use Rattle.trees.proofs.MapLaws.{stepUp-right, stepUp-left, stepUp-below, left-sibling-in, right-sibling-in}
 use Rattle.trees.proofs.RunLaws.{state-leaf, state-inner, state-below}
 use Rattle.trees.proofs.IntervalLaws.{interval-ancestor, above-at}
-use Rattle.ready.specs.Ready.{Under, leftChild, rightChild, Closed, Fork}
+use Rattle.ready.specs.Ready.{leftChild, rightChild, Closed, Fork}
 use Rattle.ready.specs.Members.{Rising}
-use Rattle.ready.specs.Parts.{Given, isUnder, anyBelow, highestBelow, moveState, moveStates, movesOf, climbMoves, Part, part, nodesOf}
+use Rattle.ready.specs.Parts.{Given, anyBelow, highestBelow, moveState, moveStates, movesOf, climbMoves, Part, part, nodesOf}
 use Rattle.ready.specs.Parts.{stateOf, climbedState, innerState, partState, partOf, partsFrom, partsOf, partLinks}
 use Rattle.ready.proofs.UnderLaws.{left-in, right-in}
 use Rattle.ready.proofs.HighestLaws.{Highest}

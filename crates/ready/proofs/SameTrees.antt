@@ -9,9 +9,8 @@ use native.Mathlib.Decide.{ℕ-discrete}
 use native.Mathlib.Omega.{arith}
 use lib.ListN.{length, getD}
 use Rattle.trees.specs.Tree.{Tree, leaf, node, size, kindsOf, kindAt, labelAt}
-use Rattle.trees.specs.Numbering.{sub}
+use Rattle.trees.specs.Numbering.{sub, InSubtree}
 use Rattle.trees.proofs.NodeLaws.{Inner, inner, sub-leaf, length-kinds}
-use Rattle.ready.specs.Ready.{Under}
 
 module _ (t u : Tree) (same : kindsOf t ≡ kindsOf u) where
   pub same-count : size t ≡ size u
@@ -36,7 +35,7 @@ module _ (t u : Tree) (same : kindsOf t ≡ kindsOf u) where
   pub same-size : (v : ℕ) → v < size t → size (sub t v) ≡ size (sub u v)
   same-size v h = sizes-in (suc v) v (omega arith) h
 
-  subs-in : (f c : ℕ) → c < f → c < size t → ((v : ℕ) → Under t c v → labelAt t v ≡ labelAt u v) → sub t c ≡ sub u c
+  subs-in : (f c : ℕ) → c < f → c < size t → ((v : ℕ) → InSubtree t c v → labelAt t v ≡ labelAt u v) → sub t c ≡ sub u c
   subs-in zero c l h a = absurd (omega arith)
   subs-in (suc f) c l h a = elim (ℕ-discrete (kindAt t c) 0) [
     | yes e ↦ (let z : size (sub t c) ≡ 1 = ap size (sub-leaf t c h e) in
@@ -54,5 +53,5 @@ module _ (t u : Tree) (same : kindsOf t ≡ kindsOf u) where
         cc (i .is, j .is, r, s, b))
   ]
 
-  pub same-sub : (c : ℕ) → c < size t → ((v : ℕ) → Under t c v → labelAt t v ≡ labelAt u v) → sub t c ≡ sub u c
+  pub same-sub : (c : ℕ) → c < size t → ((v : ℕ) → InSubtree t c v → labelAt t v ≡ labelAt u v) → sub t c ≡ sub u c
   same-sub c h a = subs-in (suc c) c (omega arith) h a

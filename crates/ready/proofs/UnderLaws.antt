@@ -12,33 +12,33 @@ use mathlib.Core.Logic.{_⊎_, inl, inr}
 use native.Mathlib.Decide.{ℕ-discrete, decLt}
 use native.Mathlib.Omega.{arith}
 use Rattle.trees.specs.Tree.{Tree, size, kindAt}
-use Rattle.trees.specs.Numbering.{sub, parent, depth, ancestor}
+use Rattle.trees.specs.Numbering.{sub, parent, depth, ancestor, AtOrBelow, InSubtree}
 use Rattle.trees.proofs.NodeLaws.{Inner, inner, Up, up, size-pos, sub-size, sub-root, depth-root}
 use Rattle.trees.proofs.JumpLaws.{ancestor-add, ancestor-in, ancestor-depth, ancestor-above}
-use Rattle.trees.proofs.IntervalLaws.{Above, ancestor-interval, interval-ancestor, above-at}
+use Rattle.trees.proofs.IntervalLaws.{ancestor-interval, interval-ancestor, above-at}
 use Rattle.trees.proofs.TreeClimbs.{below-root}
-use Rattle.ready.specs.Ready.{Under, leftChild, rightChild, Meet}
+use Rattle.ready.specs.Ready.{leftChild, rightChild, Meet}
 
 module _ (t : Tree) where
-  pub under-self : (c : ℕ) → Under t c c
+  pub under-self : (c : ℕ) → InSubtree t c c
   under-self c = (omega arith, omega (arith, size-pos (sub t c)))
 
-  pub under-trans : (a b c : ℕ) → a < size t → b < size t → c < size t → Under t a b → Under t b c → Under t a c
+  pub under-trans : (a b c : ℕ) → a < size t → b < size t → c < size t → InSubtree t a b → InSubtree t b c → InSubtree t a c
   under-trans a b c ha hb hc p q =
-      let A : Above t a b = interval-ancestor t a b ha hb p in
-      let B : Above t b c = interval-ancestor t b c hb hc q in
+      let A : AtOrBelow t a b = interval-ancestor t a b ha hb p in
+      let B : AtOrBelow t b c = interval-ancestor t b c hb hc q in
       let e : depth t b + B .0 ≡ depth t c = subst (λ (x : ℕ). depth t x + B .0 ≡ depth t c) (B .2) (ancestor-depth t c (B .0) hc (B .1)) in
       ancestor-interval t a c (A .0 + B .0) hc (omega (arith, A .1))
       (sym (ancestor-add t c (B .0) (A .0)) ∙ ap (λ (x : ℕ). ancestor t x (A .0)) (B .2) ∙ A .2)
 
-  pub under-anti : (a b : ℕ) → Under t a b → Under t b a → a ≡ b
+  pub under-anti : (a b : ℕ) → InSubtree t a b → InSubtree t b a → a ≡ b
   under-anti a b p q = omega arith
 
-  pub under-parent : (y v : ℕ) → y < size t → v < size t → Under t y v → (y ≡ v → ⊥) → (v + 1 < size t) × Under t y (parent t v)
+  pub under-parent : (y v : ℕ) → y < size t → v < size t → InSubtree t y v → (y ≡ v → ⊥) → (v + 1 < size t) × InSubtree t y (parent t v)
   unfolding ancestor
   under-parent y v hy hv p ne = go (interval-ancestor t y v hy hv p)
     where
-      go : Above t y v → (v + 1 < size t) × Under t y (parent t v)
+      go : AtOrBelow t y v → (v + 1 < size t) × InSubtree t y (parent t v)
       go (zero, l, e) = absurd (ne (sym e))
       go (suc n, l, e) =
           let r : v + 1 < size t = below-root t v hv (omega arith) in
@@ -48,7 +48,7 @@ module _ (t : Tree) where
                 (ancestor-add t v 1 n ∙ ap (ancestor t v) (let f : n + 1 ≡ suc n = omega arith in f) ∙ e),
           )
 
-  pub under-up : (v : ℕ) → v + 1 < size t → Under t (parent t v) v
+  pub under-up : (v : ℕ) → v + 1 < size t → InSubtree t (parent t v) v
   unfolding ancestor
   under-up v h = ancestor-interval t (parent t v) v 1 (omega arith) (omega (arith, up t v h .deeper)) refl
 
@@ -76,10 +76,10 @@ module _ (t : Tree) where
     sizes : size (sub t v) ≡ size (sub t (leftChild t v)) + size (sub t (rightChild v)) + 1
     sizes = ap size (i .is) ∙ ap (λ (x : ℕ). size (sub t x) + size (sub t (rightChild v)) + 1) (sym left-is)
 
-    pub children-apart : (u : ℕ) → Under t (leftChild t v) u → Under t (rightChild v) u → ⊥
+    pub children-apart : (u : ℕ) → InSubtree t (leftChild t v) u → InSubtree t (rightChild v) u → ⊥
     children-apart u p q = omega (arith, i .at)
 
-    pub under-inner : (u : ℕ) → Under t v u → (u ≡ v) ⊎ (Under t (leftChild t v) u ⊎ Under t (rightChild v) u)
+    pub under-inner : (u : ℕ) → InSubtree t v u → (u ≡ v) ⊎ (InSubtree t (leftChild t v) u ⊎ InSubtree t (rightChild v) u)
     under-inner u p = elim (ℕ-discrete u v) [
       | yes e ↦ inl e
       | no e ↦ inr (elim (decLt (leftChild t v) u) [
@@ -88,29 +88,29 @@ module _ (t : Tree) where
       ])
     ]
 
-    pub left-under : (u : ℕ) → Under t (leftChild t v) u → Under t v u
+    pub left-under : (u : ℕ) → InSubtree t (leftChild t v) u → InSubtree t v u
     left-under u p = (omega (arith, left-in), omega (arith, i .at, sizes))
 
-    pub right-under : (u : ℕ) → Under t (rightChild v) u → Under t v u
+    pub right-under : (u : ℕ) → InSubtree t (rightChild v) u → InSubtree t v u
     right-under u p = (omega (arith, right-in), omega (arith, i .at, sizes))
 
   -- ---- lowest common ancestors
 
-  pub under-root : (r u : ℕ) → r + 1 ≡ size t → u < size t → Under t r u
+  pub under-root : (r u : ℕ) → r + 1 ≡ size t → u < size t → InSubtree t r u
   under-root r u e h = (omega arith, omega (arith, ap size (sub-root t r e)))
 
-  pub meet-here : (u v : ℕ) → v < size t → Under t v u → Meet t u v v
+  pub meet-here : (u v : ℕ) → v < size t → InSubtree t v u → Meet t u v v
   meet-here u v h p = record { inside = h; first = p; second = under-self v; lowest = λ y hy a b. b }
 
-  pub meet-up : (u v x : ℕ) → u < size t → v + 1 < size t → (Under t v u → ⊥) → Meet t u (parent t v) x → Meet t u v x
+  pub meet-up : (u v x : ℕ) → u < size t → v + 1 < size t → (InSubtree t v u → ⊥) → Meet t u (parent t v) x → Meet t u v x
   meet-up u v x hu h ne m = record {
     inside = m .inside;
     first = m .first;
     second = under-trans x (parent t v) v (m .inside) (up t v h .below) (omega arith) (m .second) (under-up v h);
-    lowest = λ y hy a b. m .lowest y hy a (under-parent y v hy (omega arith) b (λ e. ne (subst (λ (z : ℕ). Under t z u) e a)) .1);
+    lowest = λ y hy a b. m .lowest y hy a (under-parent y v hy (omega arith) b (λ e. ne (subst (λ (z : ℕ). InSubtree t z u) e a)) .1);
   }
 
-  pub under-dec : (c u : ℕ) → Under t c u ⊎ (Under t c u → ⊥)
+  pub under-dec : (c u : ℕ) → InSubtree t c u ⊎ (InSubtree t c u → ⊥)
   under-dec c u = elim (decLt c u) [
     | yes g ↦ inr (λ p. omega arith)
     | no g ↦ elim (decLt c (u + size (sub t c))) [
@@ -120,7 +120,7 @@ module _ (t : Tree) where
   ]
 
   -- the root is above all
-  not-root : (u v : ℕ) → u < size t → v < size t → (Under t v u → ⊥) → v + 1 < size t
+  not-root : (u v : ℕ) → u < size t → v < size t → (InSubtree t v u → ⊥) → v + 1 < size t
   not-root u v hu hv ne = elim (ℕ-discrete (v + 1) (size t)) [
     | yes e ↦ absurd (ne (under-root v u e hu))
     | no e ↦ omega arith

@@ -17,7 +17,7 @@ use mathlib.Core.List.{List, [], _∷_, _++_}
 use lib.Dec.{eqb}
 use Rattle.trees.specs.Tree.{Tree, size, kindAt}
 use Rattle.trees.specs.Numbering.{sub, parent}
-use Rattle.formats.specs.Bytes.{holds}
+use Rattle.list_laws.specs.Tests.{holds}
 use Rattle.ready.specs.Ready.{leftChild, rightChild}
 
 unfoldable pub someIn : (ℕ → Bool) → ℕ → ℕ → Bool

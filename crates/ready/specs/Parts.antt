@@ -22,7 +22,7 @@ use lib.Dec.{leb, ltb, eqb}
 use lib.ListN.{length, getD}
 use Rattle.trees.specs.Tree.{Tree, size, kindAt, labelAt}
 use Rattle.trees.specs.Automaton.{Automaton}
-use Rattle.trees.specs.Numbering.{sub, parent, depth}
+use Rattle.trees.specs.Numbering.{sub, parent, depth, isInSubtree}
 use Rattle.trees.specs.Climb.{Move, byJump, toParent, forestOf, climb}
 use Rattle.ready.specs.Ready.{leftChild, rightChild}
 
@@ -33,17 +33,14 @@ pub record Given : Type 0 where
   pub runState : ℕ → ℕ
   pub mapState : ℕ → ℕ → ℕ
 
-unfoldable pub isUnder : Tree → ℕ → ℕ → Bool
-isUnder t c v = leb v c && ltb c (v + size (sub t c))
-
 unfoldable pub anyBelow : List ℕ → Tree → ℕ → Bool
 anyBelow [] t c = false
-anyBelow (v ∷ ms) t c = isUnder t c v || anyBelow ms t c
+anyBelow (v ∷ ms) t c = isInSubtree c (size (sub t c)) v || anyBelow ms t c
 
 -- ms rises, so the last that is below c is the greatest
 unfoldable pub lastBelow : List ℕ → Tree → ℕ → ℕ → ℕ
 lastBelow [] t c d = d
-lastBelow (v ∷ ms) t c d = lastBelow ms t c (cond (isUnder t c v) v d)
+lastBelow (v ∷ ms) t c d = lastBelow ms t c (cond (isInSubtree c (size (sub t c)) v) v d)
 
 abbrev pub highestBelow : List ℕ → Tree → ℕ → ℕ
 highestBelow ms t c = lastBelow ms t c c

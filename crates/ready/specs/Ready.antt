@@ -1,6 +1,5 @@
 -- The partition-ready set (source document 002, 4.1.1): document 01's ready set.
 --
--- Under t c v == node v stands in the subtree rooted at node c, c included: in post-order the run of its size that ends at c
 -- leftChild t v, rightChild t v == the children of an inner node v
 -- Meet t u v x == node x is the lowest common ancestor of u and v (of a node and its ancestor: the ancestor)
 -- Ready w t v == node v is in the ready set of the nodes that w tells, the root added
@@ -12,11 +11,7 @@ use Prim.Native.Nat.{ℕ, _+_, _-_, _≤_, _<_}
 use mathlib.Core.Path.{_≡_}
 use mathlib.Core.Bool.{Bool, true}
 use Rattle.trees.specs.Tree.{Tree, size, kindAt}
-use Rattle.trees.specs.Numbering.{sub}
-
--- "Below a child means in the subtree it roots, the child included."
-abbrev pub Under : Tree → ℕ → ℕ → Type 0
-Under t c v = (v ≤ c) × (c < v + size (sub t c))
+use Rattle.trees.specs.Numbering.{sub, InSubtree}
 
 abbrev pub rightChild : ℕ → ℕ
 rightChild v = v - 1
@@ -26,16 +21,16 @@ leftChild t v = v - 1 - size (sub t (v - 1))
 
 pub record Meet (t : Tree) (u v x : ℕ) : Type 0 where
   pub inside : x < size t
-  pub first : Under t x u
-  pub second : Under t x v
-  pub lowest : (y : ℕ) → y < size t → Under t y u → Under t y v → Under t y x
+  pub first : InSubtree t x u
+  pub second : InSubtree t x v
+  pub lowest : (y : ℕ) → y < size t → InSubtree t y u → InSubtree t y v → InSubtree t y x
 
 -- node v is an inner node, with u below its left child and x below its right one
 pub record Fork (t : Tree) (v u x : ℕ) : Type 0 where
   pub inside : v < size t
   pub inner : kindAt t v ≡ 1
-  pub left : Under t (leftChild t v) u
-  pub right : Under t (rightChild v) x
+  pub left : InSubtree t (leftChild t v) u
+  pub right : InSubtree t (rightChild v) x
 
 -- "Let W be the listed nodes and the root. The ready set is the least set that holds W, holds the lowest common ancestor of any two
 -- members, and holds both children of a member that has members below both."

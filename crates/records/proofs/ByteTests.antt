@@ -5,7 +5,7 @@
 --     head-written                13 stores in a row
 --     part-written                a part of a buffer that is written behind what is written
 --     record-written              the first 13 bytes and the four parts behind them
---     record-read                 the fields as the code reads them
+--     head-read, record-read      the fields as the code reads them
 -- Assumes nothing.
 use Prim.Native.Nat.{ℕ, _+_, _*_}
 use mathlib.Core.Path.{_≡_, refl, sym, ap, _∙_}
@@ -16,14 +16,15 @@ use lib.Dec.{leb, eqb}
 use lib.ListN.{length, getD, take, drop, set, length-append, drop-of-length-le}
 use lib.Seq.{sets, sets-eq, take-at, drop-at, drop-drop}
 use borrow.Author.Tests.{eq-eqb, ne-eqb, eqb-true, not-true, not-false}
-use Rattle.formats.proofs.CheckLaws.{and-left}
+use Rattle.list_laws.proofs.BoolLaws.{and-left}
 use Rattle.formats.specs.Bytes.{le16, le32}
 use Rattle.session.specs.declared.state.Phase.{Phase}
+use Rattle.session.specs.declared.state.Head.{Head}
 use Rattle.session.specs.declared.state.Session.{Session}
 use Rattle.session.specs.Records.{valid}
 use Rattle.records.proofs.NumberLaws.{bytes16-length}
 use Rattle.records.specs.Layout.{numbers16, bytes16, phaseByte, phaseAt, yesByte, headBytes, encoded}
-use Rattle.records.specs.Layout.{run, decoded, laidOut, validBytes, InTypes}
+use Rattle.records.specs.Layout.{run, decodedHead, decoded, laidOut, validBytes, InTypes}
 
 module _ (b : List ℕ) where
   pub laid-short : (length b ≡ 967 → ⊥) → false ≡ laidOut b
@@ -64,9 +65,9 @@ sets-all out vs e =
     ∙ (ap (λ (t : List ℕ). vs ++ t) (drop-of-length-le out {i = 0 + length vs} (omega arith)) ∙ append-nil vs)
 
 -- the state and the yes or no as told by the functions that number them
-pub head-written : (out : List ℕ) (s : Session) (p y : ℕ) → length out ≡ 13 → p ≡ phaseByte (s .phase)
-    → y ≡ yesByte (s .yes) → sets out 0 (p ∷ y ∷ drop 2 (headBytes s)) ≡ headBytes s
-head-written out s p y e f g = rw (← f, ← g) (sets-all out (p ∷ y ∷ drop 2 (headBytes s)) e)
+pub head-written : (out : List ℕ) (h : Head) (p y : ℕ) → length out ≡ 13 → p ≡ phaseByte (h .phase)
+    → y ≡ yesByte (h .yes) → sets out 0 (p ∷ y ∷ drop 2 (headBytes h)) ≡ headBytes h
+head-written out h p y e f g = rw (← f, ← g) (sets-all out (p ∷ y ∷ drop 2 (headBytes h)) e)
 
 -- p stands before place a; k bytes ys go behind it
 pub part-written : (x p o ys : List ℕ) (a k : ℕ) → x ≡ p ++ drop a o → length p ≡ a
@@ -84,7 +85,7 @@ joined p q a b e f = rw (length-append, e, f)
 regrouped : (h n l r t : List ℕ) → (((h ++ n) ++ l) ++ r) ++ t ≡ h ++ (n ++ (l ++ (r ++ t)))
 regrouped h n l r t = simp append-assoc
 
-pub record-written : (o : List ℕ) (s : Session) (h n l r t : List ℕ) → length o ≡ 967 → InTypes s → h ≡ headBytes s
+pub record-written : (o : List ℕ) (s : Session) (h n l r t : List ℕ) → length o ≡ 967 → InTypes s → h ≡ headBytes (s .head)
     → n ≡ bytes16 (s .nodes) → l ≡ s .labels → r ≡ bytes16 (s .roots) → t ≡ s .states
     → put 713 254 (put 205 508 (put 141 64 (put 13 128 (h ++ drop 13 o) n) l) r) t ≡ encoded s
 unfolding encoded
@@ -104,23 +105,20 @@ record-written o s h n l r t e z eh en el er et =
     ∙ (ap (λ (u : List ℕ). ((((h ++ n) ++ l) ++ r) ++ t) ++ u) (drop-of-length-le o {i = 967} (omega arith))
     ∙ (append-nil ((((h ++ n) ++ l) ++ r) ++ t) ∙ (regrouped h n l r t ∙ rw (eh, en, el, er, et))))
 
-pub record-read : (b : List ℕ) (p : Phase) (n links : ℕ) (nodes labels roots states : List ℕ) → p ≡ phaseAt (getD b 0 0)
-    → n ≡ le16 b 4 → links ≡ le32 b 9 → nodes ≡ numbers16 (run 13 128 b) → labels ≡ run 141 64 b
-    → roots ≡ numbers16 (run 205 508 b) → states ≡ run 713 254 b
-    → _≡_ {A = Session} (record {
+pub head-read : (b : List ℕ) (p : Phase) (n links : ℕ) → p ≡ phaseAt (getD b 0 0) → n ≡ le16 b 4 → links ≡ le32 b 9
+    → _≡_ {A = Head} (record {
       phase = p;
       yes = eqb (getD b 1 0) 1;
-      n = n;
-      s = getD b 2 0;
-      k = getD b 3 0;
+      sizes = record { n = n; s = getD b 2 0; k = getD b 3 0 };
       m = getD b 6 0;
       parts = getD b 7 0;
       handled = getD b 8 0;
       links = links;
-      nodes = nodes;
-      labels = labels;
-      roots = roots;
-      states = states;
-    }) (decoded b)
+    }) (decodedHead b)
+head-read b p n links e f g = cc
+
+pub record-read : (b : List ℕ) (h : Head) (nodes labels roots states : List ℕ) → h ≡ decodedHead b
+    → nodes ≡ numbers16 (run 13 128 b) → labels ≡ run 141 64 b → roots ≡ numbers16 (run 205 508 b) → states ≡ run 713 254 b
+    → _≡_ {A = Session} (record { head = h; nodes = nodes; labels = labels; roots = roots; states = states }) (decoded b)
 unfolding decoded
-record-read b p n links nodes labels roots states e f g h i j k = cc
+record-read b h nodes labels roots states e f g i j = cc

@@ -8,8 +8,8 @@ use mathlib.Core.Path.{_≡_, refl}
 use mathlib.Core.Bool.{true, false}
 use mathlib.Core.List.{List, [], _∷_, _++_}
 use lib.ListN.{set, drop, replicate}
-use Rattle.formats.specs.Bytes.{allBelow}
-use Rattle.session.specs.Records.{sizesFit, listFits, partsFit, risesTo, zeroFrom, noQuestion, validIn, valid}
+use Rattle.list_laws.specs.Tests.{allBelow}
+use Rattle.session.specs.Records.{sizesFit, listFits, partsFit, questionFits, risesTo, zeroFrom, noQuestion, validIn, valid}
 use Rattle.records.specs.Layout.{numbers16, decoded, laidOut, validBytes}
 
 abbrev loaded : List ℕ
@@ -34,13 +34,13 @@ abbrev None : List ℕ → Type 0
 None b = validBytes b ≡ false
 
 records : Record loaded × Record running × Record answered
-unfolding validBytes laidOut decoded numbers16 valid validIn sizesFit listFits partsFit risesTo zeroFrom noQuestion allBelow
+unfolding validBytes laidOut decoded numbers16 valid validIn sizesFit listFits partsFit questionFits risesTo zeroFrom noQuestion allBelow
 records = (refl, refl, refl)
 
 -- state 4, yes or no 2, 966 bytes, 968 bytes
 layout-broken :
     None (set loaded 0 4) × None (set loaded 1 2) × None (drop 1 (replicate 967 0)) × None (loaded ++ (0 ∷ []))
-unfolding validBytes laidOut decoded numbers16 valid validIn sizesFit listFits partsFit risesTo zeroFrom noQuestion allBelow
+unfolding validBytes laidOut decoded numbers16 valid validIn sizesFit listFits partsFit questionFits risesTo zeroFrom noQuestion allBelow
 layout-broken = (refl, refl, refl, refl)
 
 -- K 65, a listed node 7, a byte behind the list, roots that do not end at the root, a state 2, a state of a part that is
@@ -48,5 +48,5 @@ layout-broken = (refl, refl, refl, refl)
 value-broken :
     None (set loaded 3 65) × None (set running 13 7) × None (set running 15 1) × None (set running 207 5)
     × None (set answered 713 2) × None (set running 713 1)
-unfolding validBytes laidOut decoded numbers16 valid validIn sizesFit listFits partsFit risesTo zeroFrom noQuestion allBelow
+unfolding validBytes laidOut decoded numbers16 valid validIn sizesFit listFits partsFit questionFits risesTo zeroFrom noQuestion allBelow
 value-broken = (refl, refl, refl, refl, refl, refl)

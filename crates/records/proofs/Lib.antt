@@ -1,5 +1,5 @@
 pub mod NumberLaws
-pub mod NumberTurns
+pub mod NumberLoop
 pub mod RunLaws
 pub mod ByteTests
 pub mod Theorems

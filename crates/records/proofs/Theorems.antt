@@ -16,14 +16,14 @@ use lib.Dec.{leb, eqb}
 use lib.ListN.{length, getD, drop, replicate, length-append, length-drop}
 use lib.Seq.{take-all}
 use borrow.Author.Tests.{leb-true, eq-eqb, le-leb}
-use Rattle.formats.specs.Bytes.{allBelow}
+use Rattle.list_laws.specs.Tests.{allBelow}
 use Rattle.formats.proofs.ByteLaws.{bytes-number, number-bytes}
-use Rattle.formats.proofs.PartLaws.{length-part}
-use Rattle.formats.proofs.CheckLaws.{and-left, and-right, and-both}
+use Rattle.list_laws.proofs.SliceLaws.{length-part}
+use Rattle.list_laws.proofs.BoolLaws.{and-left, and-right, and-both}
 use Rattle.session.specs.declared.state.Session.{Session}
 use Rattle.session.specs.Records.{zeroFrom, noQuestion, validIn, valid, freshSession}
 use Rattle.records.specs.Layout.{numbers16, bytes16, phaseByte, yesByte, headBytes, restBytes, encoded}
-use Rattle.records.specs.Layout.{run, decoded, laidOut, validBytes, InTypes, Bytes}
+use Rattle.records.specs.Layout.{run, decodedHead, decoded, laidOut, validBytes, InTypes, Bytes}
 use Rattle.records.proofs.NumberLaws.{bytes-two, two-bytes, bytes16-length, numbers16-length}
 use Rattle.records.proofs.NumberLaws.{numbers-bytes, bytes-numbers, bytes16-fit, numbers16-fit}
 use Rattle.records.proofs.RunLaws.{behind, first-run, run-then, firsts, firsts-then, head-same}
@@ -50,20 +50,20 @@ module _ (s : Session) (t : InTypes s) where
   encoded-nodes : run 13 128 (encoded s) ≡ bytes16 (s .nodes)
   unfolding encoded
   encoded-nodes =
-      behind (headBytes s) (restBytes s) 13 0 128 refl
+      behind (headBytes (s .head)) (restBytes s) 13 0 128 refl
       ∙ first-run (bytes16 (s .nodes)) (s .labels ++ (bytes16 (s .roots) ++ s .states)) 128 nodes-long
 
   encoded-labels : run 141 64 (encoded s) ≡ s .labels
   unfolding encoded
   encoded-labels =
-      behind (headBytes s) (restBytes s) 13 128 64 refl
+      behind (headBytes (s .head)) (restBytes s) 13 128 64 refl
       ∙ behind (bytes16 (s .nodes)) (s .labels ++ (bytes16 (s .roots) ++ s .states)) 128 0 64 nodes-long
       ∙ first-run (s .labels) (bytes16 (s .roots) ++ s .states) 64 (t .labels-length)
 
   encoded-roots : run 205 508 (encoded s) ≡ bytes16 (s .roots)
   unfolding encoded
   encoded-roots =
-      behind (headBytes s) (restBytes s) 13 192 508 refl
+      behind (headBytes (s .head)) (restBytes s) 13 192 508 refl
       ∙ behind (bytes16 (s .nodes)) (s .labels ++ (bytes16 (s .roots) ++ s .states)) 128 64 508 nodes-long
       ∙ behind (s .labels) (bytes16 (s .roots) ++ s .states) 64 0 508 (t .labels-length)
       ∙ first-run (bytes16 (s .roots)) (s .states) 508 roots-long
@@ -71,52 +71,58 @@ module _ (s : Session) (t : InTypes s) where
   encoded-states : run 713 254 (encoded s) ≡ s .states
   unfolding encoded
   encoded-states =
-      behind (headBytes s) (restBytes s) 13 700 254 refl
+      behind (headBytes (s .head)) (restBytes s) 13 700 254 refl
       ∙ behind (bytes16 (s .nodes)) (s .labels ++ (bytes16 (s .roots) ++ s .states)) 128 572 254 nodes-long
       ∙ behind (s .labels) (bytes16 (s .roots) ++ s .states) 64 508 254 (t .labels-length)
       ∙ behind (bytes16 (s .roots)) (s .states) 508 0 254 roots-long
       ∙ take-all 254 (s .states) (omega (arith, t .states-length))
 
-  pub decode-encode : decoded (encoded s) ≡ s
+  -- the numbers of the head, read where they were written
+  head-read : decodedHead (encoded s) ≡ s .head
   unfolding encoded
+  head-read =
+      rw (
+        phase-again (s .head .phase),
+        yes-again (s .head .yes),
+        bytes-two (s .head .sizes .n) (t .n-fits),
+        bytes-number (s .head .links) (t .links-fit),
+      )
+
+  pub decode-encode : decoded (encoded s) ≡ s
   decode-encode =
-      sym
-      (record-read (encoded s) (s .phase) (s .n) (s .links) (s .nodes) (s .labels) (s .roots) (s .states)
-      (sym (phase-again (s .phase)))
-      (sym (bytes-two (s .n) (t .n-fits))) (sym (bytes-number (s .links) (t .links-fit)))
+      sym (record-read (encoded s) (s .head) (s .nodes) (s .labels) (s .roots) (s .states) (sym head-read)
       (sym (ap numbers16 encoded-nodes ∙ numbers-bytes (s .nodes) (t .nodes-fit)))
       (sym encoded-labels)
       (sym (ap numbers16 encoded-roots ∙ numbers-bytes (s .roots) (t .roots-fit)))
       (sym encoded-states))
-      ∙ rw (yes-again (s .yes))
 
   encoded-laid : laidOut (encoded s) ≡ true
   unfolding laidOut encoded
   encoded-laid =
-      rw (eq-eqb (length (encoded s)) 967 encoded-length, le-leb (phaseByte (s .phase)) 3 (phase-most (s .phase)))
-      (le-leb (yesByte (s .yes)) 1 (yes-most (s .yes)))
+      rw (eq-eqb (length (encoded s)) 967 encoded-length, le-leb (phaseByte (s .head .phase)) 3 (phase-most (s .head .phase)))
+      (le-leb (yesByte (s .head .yes)) 1 (yes-most (s .head .yes)))
 
   pub encoded-valid : valid s ≡ true → validBytes (encoded s) ≡ true
   unfolding validBytes
   encoded-valid v =
       and-both (laidOut (encoded s)) (valid (decoded (encoded s))) encoded-laid (ap valid decode-encode ∙ v)
 
-  head-fits : Bytes (headBytes s)
+  head-fits : Bytes (headBytes (s .head))
   head-fits =
-      cons-fits (phaseByte (s .phase)) (drop 1 (headBytes s)) (omega (arith, phase-most (s .phase)))
-      (cons-fits (yesByte (s .yes)) (drop 2 (headBytes s)) (omega (arith, yes-most (s .yes)))
-      (cons-fits (s .s) (drop 3 (headBytes s)) (t .s-fits)
-      (cons-fits (s .k) (drop 4 (headBytes s)) (t .k-fits)
-      (cons-fits (s .n % 256) (drop 5 (headBytes s)) (omega arith)
-      (cons-fits (s .n / 256 % 256) (drop 6 (headBytes s)) (omega arith)
-      (cons-fits (s .m) (drop 7 (headBytes s)) (t .m-fits)
-      (cons-fits (s .parts) (drop 8 (headBytes s)) (t .parts-fit)
-      (cons-fits (s .handled) (drop 9 (headBytes s)) (t .handled-fits) (le32-fit (s .links))))))))))
+      cons-fits (phaseByte (s .head .phase)) (drop 1 (headBytes (s .head))) (omega (arith, phase-most (s .head .phase)))
+      (cons-fits (yesByte (s .head .yes)) (drop 2 (headBytes (s .head))) (omega (arith, yes-most (s .head .yes)))
+      (cons-fits (s .head .sizes .s) (drop 3 (headBytes (s .head))) (t .s-fits)
+      (cons-fits (s .head .sizes .k) (drop 4 (headBytes (s .head))) (t .k-fits)
+      (cons-fits (s .head .sizes .n % 256) (drop 5 (headBytes (s .head))) (omega arith)
+      (cons-fits (s .head .sizes .n / 256 % 256) (drop 6 (headBytes (s .head))) (omega arith)
+      (cons-fits (s .head .m) (drop 7 (headBytes (s .head))) (t .m-fits)
+      (cons-fits (s .head .parts) (drop 8 (headBytes (s .head))) (t .parts-fit)
+      (cons-fits (s .head .handled) (drop 9 (headBytes (s .head))) (t .handled-fits) (le32-fit (s .head .links))))))))))
 
   pub encoded-bytes : Bytes (encoded s)
   unfolding encoded
   encoded-bytes =
-      append-fits (headBytes s) (restBytes s) head-fits
+      append-fits (headBytes (s .head)) (restBytes s) head-fits
       (append-fits (bytes16 (s .nodes)) (s .labels ++ (bytes16 (s .roots) ++ s .states)) (bytes16-fit (s .nodes))
       (append-fits (s .labels) (bytes16 (s .roots) ++ s .states) (t .labels-fit)
       (append-fits (bytes16 (s .roots)) (s .states) (bytes16-fit (s .roots)) (t .states-fit))))
@@ -145,7 +151,7 @@ module _ (b : List ℕ) where
       states-fit = run-fits b 713 254 fits;
     }
 
-    head-again : getD b 0 0 ≤ 3 → getD b 1 0 ≤ 1 → headBytes (decoded b) ≡ firsts 13 0 b
+    head-again : getD b 0 0 ≤ 3 → getD b 1 0 ≤ 1 → headBytes (decoded b .head) ≡ firsts 13 0 b
     unfolding decoded firsts
     head-again p y =
         head-same _ _ _ _ _ _ _ _ _ _ _ _ _ (phase-number (getD b 0 0) p) (yes-number (getD b 1 0) y)

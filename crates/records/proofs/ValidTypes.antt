@@ -9,14 +9,14 @@ use mathlib.Core.List.{List, [], _∷_, _++_}
 use native.Mathlib.Omega.{arith}
 use lib.Dec.{ltb}
 use lib.ListN.{length, getD, replicate}
-use Rattle.formats.specs.Bytes.{allBelow}
-use Rattle.formats.proofs.CheckLaws.{and-left, and-right, and-both}
-use Rattle.formats.proofs.ListLaws.{allBelow-all, allBelow-le, at-allBelow}
-use Rattle.book.specs.Calls as calls
-use Rattle.book.specs.Model.{Record, idle, freshRecord, loadedRecord}
+use Rattle.list_laws.specs.Tests.{allBelow}
+use Rattle.list_laws.proofs.BoolLaws.{and-left, and-right, and-both}
+use Rattle.list_laws.proofs.TestLaws.{allBelow-all, allBelow-le, at-allBelow}
+use Rattle.model.specs.Calls as calls
+use Rattle.model.specs.Model.{Record, idle, freshRecord}
 use Rattle.session.specs.declared.state.Session.{Session}
 use Rattle.session.specs.Records.{sessionOf, recordOf, padded, valid}
-use Rattle.session.specs.Tests.{Shaped}
+use Rattle.session.specs.inner.Shapes.{Shaped}
 use Rattle.session.proofs.PadLaws.{zero-replicate, length-padded}
 use Rattle.session.proofs.Holds.{Sized, Asked, Holds, HoldsIn, holds-of, struct-is}
 use Rattle.session.proofs.ActLaws.{rises-below}

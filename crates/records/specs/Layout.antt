@@ -17,8 +17,8 @@
 --
 -- numbers16 b == the 16-bit numbers that b holds, two bytes each; an odd byte at the end is left out
 -- bytes16 l == the bytes of the numbers l, two each
--- encoded s == the bytes of a struct: headBytes s, the first 13, and restBytes s
--- decoded b == the struct of bytes, each field read at its offset; a byte past the end counts 0, a state above 3 as
+-- encoded s == the bytes of a struct: those of its head, headBytes, the first 13, and restBytes s
+-- decoded b == the struct of bytes, decodedHead b its head, each field read at its offset; a byte past the end counts 0, a state above 3 as
 --   answered, and only 1 as yes
 -- laidOut b == whether there are 967 bytes, the state is at most 3 and the yes or no at most 1
 -- validBytes b == whether b is a record: laid out, and its struct is valid (crate session, Records)
@@ -37,6 +37,7 @@ use lib.ListN.{length, getD, take, drop}
 use Rattle.formats.specs.Bytes.{le16, le16Bytes, le32, le32Bytes}
 use Rattle.session.specs.declared.state.Phase.{Phase}
 use Rattle.session.specs.declared.state.Phase.the-variants.{Empty, Loaded, Running, Answered}
+use Rattle.session.specs.declared.state.Head.{Head}
 use Rattle.session.specs.declared.state.Session.{Session}
 use Rattle.session.specs.Records.{valid}
 
@@ -71,16 +72,16 @@ yesByte false = 0
 
 -- ---- the struct's bytes
 
-abbrev pub headBytes : Session → List ℕ
-headBytes s =
-    phaseByte (s .phase) ∷ yesByte (s .yes) ∷ s .s ∷ s .k
-    ∷ (le16Bytes (s .n) ++ (s .m ∷ s .parts ∷ s .handled ∷ le32Bytes (s .links)))
+abbrev pub headBytes : Head → List ℕ
+headBytes h =
+    phaseByte (h .phase) ∷ yesByte (h .yes) ∷ h .sizes .s ∷ h .sizes .k
+    ∷ (le16Bytes (h .sizes .n) ++ (h .m ∷ h .parts ∷ h .handled ∷ le32Bytes (h .links)))
 
 abbrev pub restBytes : Session → List ℕ
 restBytes s = bytes16 (s .nodes) ++ (s .labels ++ (bytes16 (s .roots) ++ s .states))
 
 unfoldable pub encoded : Session → List ℕ
-encoded s = headBytes s ++ restBytes s
+encoded s = headBytes (s .head) ++ restBytes s
 
 -- ---- the bytes' struct
 
@@ -88,17 +89,20 @@ encoded s = headBytes s ++ restBytes s
 abbrev pub run : ℕ → ℕ → List ℕ → List ℕ
 run at n b = take n (drop at b)
 
-unfoldable pub decoded : List ℕ → Session
-decoded b = record {
+abbrev pub decodedHead : List ℕ → Head
+decodedHead b = record {
   phase = phaseAt (getD b 0 0);
   yes = eqb (getD b 1 0) 1;
-  n = le16 b 4;
-  s = getD b 2 0;
-  k = getD b 3 0;
+  sizes = record { n = le16 b 4; s = getD b 2 0; k = getD b 3 0 };
   m = getD b 6 0;
   parts = getD b 7 0;
   handled = getD b 8 0;
   links = le32 b 9;
+}
+
+unfoldable pub decoded : List ℕ → Session
+decoded b = record {
+  head = decodedHead b;
   nodes = numbers16 (run 13 128 b);
   labels = run 141 64 b;
   roots = numbers16 (run 205 508 b);
@@ -116,13 +120,13 @@ validBytes b = laidOut b && valid (decoded b)
 -- ---- what types say
 
 pub record InTypes (s : Session) : Type 0 where
-  pub n-fits : s .n < 65536
-  pub s-fits : s .s < 256
-  pub k-fits : s .k < 256
-  pub m-fits : s .m < 256
-  pub parts-fit : s .parts < 256
-  pub handled-fits : s .handled < 256
-  pub links-fit : s .links < 4294967296
+  pub n-fits : s .head .sizes .n < 65536
+  pub s-fits : s .head .sizes .s < 256
+  pub k-fits : s .head .sizes .k < 256
+  pub m-fits : s .head .m < 256
+  pub parts-fit : s .head .parts < 256
+  pub handled-fits : s .head .handled < 256
+  pub links-fit : s .head .links < 4294967296
   pub nodes-length : length (s .nodes) ≡ 64
   pub labels-length : length (s .labels) ≡ 64
   pub roots-length : length (s .roots) ≡ 254

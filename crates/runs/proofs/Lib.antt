@@ -1,6 +1,6 @@
 pub mod ListedLaws
 pub mod ChangeLaws
 pub mod StackLaws
-pub mod PassTurns
+pub mod PassLoop
 pub mod OrderLaws
 pub mod RunLaws

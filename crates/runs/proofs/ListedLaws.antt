@@ -16,27 +16,27 @@ use lib.Dec.{eqb}
 use lib.ListN.{length, getD, drop, set, length-set, drop-of-length-le}
 use lib.Seq.{drop-cons, getD-set-same, getD-set-other}
 use Rattle.trees.specs.Changes.{changed}
-use Rattle.formats.specs.Bytes.{holds}
-use Rattle.formats.proofs.CheckLaws.{true-false}
-use Rattle.runs.specs.Listed.{labelFor}
+use Rattle.list_laws.specs.Tests.{holds}
+use Rattle.list_laws.proofs.BoolLaws.{true-false}
+use Rattle.runs.specs.inner.Listed.{labelFor}
 
 -- ---- the scan for a label
 
 module _ (vs bs : List ℕ) (v i : ℕ) (hv : i < length vs) (hb : i < length bs) (a : ℕ) where
-  label-turn : (t : Bool) → eqb (getD vs i 0) v ≡ t
+  label-iteration : (t : Bool) → eqb (getD vs i 0) v ≡ t
       → labelFor a (drop i vs) (drop i bs) v ≡ labelFor (cond t (getD bs i 0) a) (drop (i + 1) vs) (drop (i + 1) bs) v
   unfolding labelFor
-  label-turn t e =
+  label-iteration t e =
       rw (add-one, drop-cons vs i 0, drop-cons bs i 0)
       (ap (λ (t : Bool). labelFor (cond t (getD bs i 0) a) (drop (suc i) vs) (drop (suc i) bs) v) e)
 
   pub label-hit : getD vs i 0 ≡ v
       → labelFor a (drop i vs) (drop i bs) v ≡ labelFor (getD bs i 0) (drop (i + 1) vs) (drop (i + 1) bs) v
-  label-hit e = label-turn true (eq-eqb (getD vs i 0) v e)
+  label-hit e = label-iteration true (eq-eqb (getD vs i 0) v e)
 
   pub label-miss : (getD vs i 0 ≡ v → ⊥)
       → labelFor a (drop i vs) (drop i bs) v ≡ labelFor a (drop (i + 1) vs) (drop (i + 1) bs) v
-  label-miss e = label-turn false (ne-eqb (getD vs i 0) v e)
+  label-miss e = label-iteration false (ne-eqb (getD vs i 0) v e)
 
 pub label-end : (vs bs : List ℕ) (v i a : ℕ) → length vs ≤ i → labelFor a (drop i vs) (drop i bs) v ≡ a
 unfolding labelFor

@@ -20,15 +20,15 @@ use lib.Seq.{set-comm}
 use Rattle.trees.specs.Automaton.{state, accepts}
 use Rattle.trees.specs.Postorder.{treeOf}
 use Rattle.trees.specs.Changes.{changed}
-use Rattle.formats.specs.Bytes.{allBelow, holds, distinct}
+use Rattle.list_laws.specs.Tests.{allBelow, holds, distinct}
 use Rattle.formats.specs.Plan.{nodeCount, labelsIn, kindsIn}
 use Rattle.formats.specs.Rules.{labelCount, ruleAutomaton}
 use Rattle.formats.specs.Checks.{Check, firstNo, listChecks, ruleTableChecks, freshRunChecks}
-use Rattle.formats.proofs.CheckLaws.{true-false}
-use Rattle.formats.proofs.ListLaws.{distinct-head, distinct-tail}
+use Rattle.list_laws.proofs.BoolLaws.{true-false}
+use Rattle.list_laws.proofs.TestLaws.{distinct-head, distinct-tail}
 use Rattle.formats.proofs.InputLaws.{list-passes, fresh-run-list}
 use Rattle.runs.specs.declared.answer.Running.the-variants.{Ended}
-use Rattle.runs.specs.FreshRun.{toldRun, rootState, rootAccepted, freshRun}
+use Rattle.runs.specs.FreshRun.{runAnswer, rootState, rootAccepted, freshRun}
 
 -- ---- tests that do not depend on the order
 
@@ -185,10 +185,10 @@ append-same [] ys zs e = e
 append-same (x ∷ xs) ys zs e = ap (λ (n : ℕ). cond (x .passes) n (x .number)) (append-same xs ys zs e)
 
 -- only an answer that is no refusal looks at the run
-told-same : (n q q′ : ℕ) (t t′ : Bool) → (n ≡ 0 → (q ≡ q′) × (t ≡ t′)) → toldRun n q t ≡ toldRun n q′ t′
-unfolding toldRun
-told-same zero q q′ t t′ f = ap₂ (λ (x : ℕ) (y : Bool). Ended x y) (f refl .0) (f refl .1)
-told-same (suc n) q q′ t t′ f = refl
+answer-same : (n q q′ : ℕ) (t t′ : Bool) → (n ≡ 0 → (q ≡ q′) × (t ≡ t′)) → runAnswer n q t ≡ runAnswer n q′ t′
+unfolding runAnswer
+answer-same zero q q′ t t′ f = ap₂ (λ (x : ℕ) (y : Bool). Ended x y) (f refl .0) (f refl .1)
+answer-same (suc n) q q′ t t′ f = refl
 
 module _ (p r vs bs ws cs : List ℕ) (g : length vs ≡ length bs) (h : length ws ≡ length cs)
     (d : List·Permᴰ (zip vs bs) (zip ws cs)) where
@@ -212,6 +212,6 @@ module _ (p r vs bs ws cs : List ℕ) (g : length vs ≡ length bs) (h : length 
   pub freshRun-order : freshRun p r vs bs ≡ freshRun p r ws cs
   unfolding freshRun
   freshRun-order =
-      ap (λ (n : ℕ). toldRun n (rootState p r vs bs) (rootAccepted p r vs bs)) checks-order
-      ∙ told-same (firstNo (freshRunChecks p r ws cs)) (rootState p r vs bs) (rootState p r ws cs)
+      ap (λ (n : ℕ). runAnswer n (rootState p r vs bs) (rootAccepted p r vs bs)) checks-order
+      ∙ answer-same (firstNo (freshRunChecks p r ws cs)) (rootState p r vs bs) (rootState p r ws cs)
       (rootAccepted p r vs bs) (rootAccepted p r ws cs) (λ e. roots-order (checks-order ∙ e))

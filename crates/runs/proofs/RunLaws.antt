@@ -4,8 +4,8 @@
 --     mark-at          a mark by its place in the rules
 --     freshRun-passed  the answer where every check passes
 --     run-args         the counts of the headers, with bounds of their products
---     parts-args, root-is, root-in, told-is   of the parts handed on: what the pass asks, and what its answer is
---     done-told, done-refused   the promise of an answer, and of a refusal
+--     parts-args, root-is, root-in, result-is   of the parts handed on: what the pass asks, and what its answer is
+--     done-answer, done-refused   the promise of an answer, and of a refusal
 -- Assumes nothing.
 use Prim.Native.Nat.{ℕ, zero, suc, _+_, _-_, _*_, _≤_, _<_}
 use mathlib.Core.Path.{_≡_, refl, sym, ap, ap₂, _∙_}
@@ -20,17 +20,17 @@ use Rattle.trees.specs.Tree.{Tree, leaf, node}
 use Rattle.trees.specs.Automaton.{Automaton, state}
 use Rattle.formats.specs.Plan.{nodeCount, labelsIn, kindsIn}
 use Rattle.formats.specs.Rules.{stateCount, labelCount, leafStates, innerStates, ruleMarks, ruleAutomaton}
-use Rattle.formats.specs.Bytes.{allBelow}
+use Rattle.list_laws.specs.Tests.{allBelow}
 use Rattle.formats.specs.Checks.{firstNo, freshRunChecks}
-use Rattle.formats.proofs.ListLaws.{allBelow-all}
+use Rattle.list_laws.proofs.TestLaws.{allBelow-all}
 use Rattle.formats.proofs.PlanLaws.{PlanPasses, length-kindsIn, labels-as-kinds, labels-part, kinds-part}
 use Rattle.formats.proofs.RuleLaws.{RulesPass, length-leafStates, length-innerStates, leaf-state-below}
 use Rattle.formats.proofs.RuleLaws.{inner-state-below, leaves-part, inner-part}
 use Rattle.formats.proofs.InputLaws.{ListPasses, fresh-run-passes, label-below}
 use Rattle.runs.specs.declared.answer.Running.{Running}
 use Rattle.runs.specs.declared.answer.Running.the-variants.{Ended, Refused}
-use Rattle.runs.specs.Pass.{PassArgs, PassDone, RunArgs}
-use Rattle.runs.specs.FreshRun.{numberOf, toldRun, changedTree, rootState, rootAccepted, freshRun, FreshRunDone}
+use Rattle.runs.specs.inner.Pass.{PassArgs, PassDone, RunArgs}
+use Rattle.runs.specs.FreshRun.{runningNumber, runAnswer, changedTree, rootState, rootAccepted, freshRun, FreshRunDone}
 
 abbrev Passes : List ℕ → List ℕ → List ℕ → List ℕ → Type 0
 Passes p r vs bs =
@@ -72,8 +72,8 @@ module _ (p r vs bs : List ℕ) (e : firstNo (freshRunChecks p r vs bs) ≡ 0) w
       (changedTree p vs bs)
 
   pub freshRun-passed : freshRun p r vs bs ≡ Ended (rootState p r vs bs) (rootAccepted p r vs bs)
-  unfolding freshRun toldRun
-  freshRun-passed = ap (λ (n : ℕ). toldRun n (rootState p r vs bs) (rootAccepted p r vs bs)) e
+  unfolding freshRun runAnswer
+  freshRun-passed = ap (λ (n : ℕ). runAnswer n (rootState p r vs bs) (rootAccepted p r vs bs)) e
 
   pub run-args : RunArgs p r vs bs (nodeCount p) (stateCount r) (labelCount r)
   run-args =
@@ -141,8 +141,8 @@ module _ {p r vs bs : List ℕ} {n s k : ℕ} (a : RunArgs p r vs bs n s k) wher
     pub root-in : q < s
     root-in = rw (root-is, a .states-are) (root-below p r vs bs (a .passed))
 
-    pub told-is : Ended q (eqb (getD r (20 + k + s * k * s + q) 0) 1) ≡ freshRun p r vs bs
-    told-is =
+    pub result-is : Ended q (eqb (getD r (20 + k + s * k * s + q) 0) 1) ≡ freshRun p r vs bs
+    result-is =
         let l : q < stateCount r = omega (arith, root-in, a .states-are) in
         let at : 20 + k + s * k * s + q ≡ 20 + labelCount r + stateCount r * labelCount r * stateCount r + q =
         ap₂ (λ (i j : ℕ). 20 + j + i * j * i + q) (a .states-are) (a .labels-are) in
@@ -152,22 +152,22 @@ module _ {p r vs bs : List ℕ} {n s k : ℕ} (a : RunArgs p r vs bs n s k) wher
 
 -- ---- the promise
 
-pub number-told : (n q : ℕ) (accepted : Bool) → numberOf (toldRun n q accepted) ≡ n
-unfolding numberOf toldRun
-number-told zero q accepted = refl
-number-told (suc n) q accepted = refl
+pub number-answer : (n q : ℕ) (accepted : Bool) → runningNumber (runAnswer n q accepted) ≡ n
+unfolding runningNumber runAnswer
+number-answer zero q accepted = refl
+number-answer (suc n) q accepted = refl
 
-told-refused : (n q : ℕ) (accepted : Bool) → (n ≡ 0 → ⊥) → toldRun n q accepted ≡ Refused n
-unfolding toldRun
-told-refused zero q accepted h = absurd (h refl)
-told-refused (suc n) q accepted h = refl
+answer-refused : (n q : ℕ) (accepted : Bool) → (n ≡ 0 → ⊥) → runAnswer n q accepted ≡ Refused n
+unfolding runAnswer
+answer-refused zero q accepted h = absurd (h refl)
+answer-refused (suc n) q accepted h = refl
 
 module _ (p r vs bs : List ℕ) where
-  pub done-told : {x : Running} → x ≡ freshRun p r vs bs → FreshRunDone p r vs bs x
+  pub done-answer : {x : Running} → x ≡ freshRun p r vs bs → FreshRunDone p r vs bs x
   unfolding freshRun
-  done-told e = record { told = e; number = ap numberOf e ∙ number-told (firstNo (freshRunChecks p r vs bs)) _ _ }
+  done-answer e = record { result = e; number = ap runningNumber e ∙ number-answer (firstNo (freshRunChecks p r vs bs)) _ _ }
 
   pub done-refused : {n : ℕ} → n ≡ firstNo (freshRunChecks p r vs bs) → (n ≡ 0 → ⊥) → FreshRunDone p r vs bs (Refused n)
   unfolding freshRun
   done-refused e h =
-      done-told (ap Refused e ∙ sym (told-refused (firstNo (freshRunChecks p r vs bs)) _ _ (λ z. h (e ∙ z))))
+      done-answer (ap Refused e ∙ sym (answer-refused (firstNo (freshRunChecks p r vs bs)) _ _ (λ z. h (e ∙ z))))

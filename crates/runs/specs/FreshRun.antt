@@ -1,7 +1,7 @@
 -- The fresh run: what it answers, on every input.
 --
--- numberOf a == document 01's number of an answer: 0 for a run, else the refusal's
--- toldRun n q accepted == the answer where the first failing check is n (0: none), q the root's state, accepted or not
+-- runningNumber a == document 01's number of an answer: 0 for a run, else the refusal's
+-- runAnswer n q accepted == the answer where the first failing check is n (0: none), q the root's state, accepted or not
 -- changedTree p vs bs == plan p's tree with label bs[i] at node vs[i]; of two entries for a node the last would hold
 -- rootState p r vs bs, rootAccepted p r vs bs == the root's state, and its yes or no, in rules r's run over that tree
 -- freshRun p r vs bs == the answer
@@ -25,14 +25,14 @@ use Rattle.runs.specs.declared.answer.Running.{Running}
 use Rattle.runs.specs.declared.answer.Running.the-variants.{Ended, Refused}
 
 -- "The first no gives its number; nothing else is returned and nothing is altered."
-unfoldable pub numberOf : Running → ℕ
-numberOf (Ended q accepted) = 0
-numberOf (Refused n) = n
+unfoldable pub runningNumber : Running → ℕ
+runningNumber (Ended q accepted) = 0
+runningNumber (Refused n) = n
 
 -- "a fresh run without tables (it tells state, yes or no)"
-unfoldable pub toldRun : ℕ → ℕ → Bool → Running
-toldRun zero q accepted = Ended q accepted
-toldRun (suc n) q accepted = Refused (suc n)
+unfoldable pub runAnswer : ℕ → ℕ → Bool → Running
+runAnswer zero q accepted = Ended q accepted
+runAnswer (suc n) q accepted = Refused (suc n)
 
 -- "on Start's plan with the listed labels changed"
 abbrev pub changedTree : List ℕ → List ℕ → List ℕ → Tree
@@ -52,8 +52,8 @@ rootAccepted p r vs bs = accepts (ruleAutomaton r) (changedTree p vs bs)
 
 -- "the fresh run 2 to 10, then 12 to 15"
 unfoldable pub freshRun : List ℕ → List ℕ → List ℕ → List ℕ → Running
-freshRun p r vs bs = toldRun (firstNo (freshRunChecks p r vs bs)) (rootState p r vs bs) (rootAccepted p r vs bs)
+freshRun p r vs bs = runAnswer (firstNo (freshRunChecks p r vs bs)) (rootState p r vs bs) (rootAccepted p r vs bs)
 
 pub record FreshRunDone (p r vs bs : List ℕ) (answer : Running) : Type 0 where
-  pub told : answer ≡ freshRun p r vs bs
-  pub number : numberOf answer ≡ firstNo (freshRunChecks p r vs bs)
+  pub result : answer ≡ freshRun p r vs bs
+  pub number : runningNumber answer ≡ firstNo (freshRunChecks p r vs bs)

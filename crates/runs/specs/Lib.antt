@@ -1,3 +1,2 @@
-pub mod Listed
-pub mod Pass
 pub mod FreshRun
+pub mod inner

@@ -3,7 +3,7 @@ use crate::pass::pass;
 use formats::bytes::read32;
 use formats::inputs::check_fresh_run;
 ghost use mathlib.Core.Path.{_≡_};
-ghost use Rattle.runs.specs.Pass.{RunArgs};
+ghost use Rattle.runs.specs.inner.Pass.{RunArgs};
 ghost use Rattle.runs.specs.FreshRun.{freshRun, FreshRunDone};
 
 // The run over plan, rules and list that pass their checks. Labels, kinds and states are handed on as parts of what is

@@ -1,10 +1,11 @@
 use crate::changes::SPAN;
 use crate::changes::after_change;
 use crate::changes::changes_from;
+use formats::rules::rule;
 ghost use mathlib.Core.Path.{_≡_};
 ghost use Prim.Native.Nat.{ℕ, _+_, _*_, _<_};
 ghost use lib.ListN.{length, getD};
-ghost use Rattle.runs.specs.Pass.{RuleArgs, PassArgs, PassDone};
+ghost use Rattle.runs.specs.inner.Pass.{PassArgs, PassDone};
 
 // Room for the states of the trees that wait: of N nodes at most (N + 1) / 2.
 fn room() -> [u8; 32768]
@@ -18,14 +19,6 @@ fn small_room() -> [u8; 1024]
     ensures { λ r. ⌜ length r ≡ 1024 ⌝ }
 {
     [0u8; 1024]
-}
-
-// The state for left state p, label a and right state q.
-fn rule(inner: &[u8], s: usize, k: usize, p: usize, a: usize, q: usize) -> u8
-    requires { ⌜ RuleArgs (now inner) s k p a q ⌝ }
-    ensures { λ r. ⌜ r ≡ getD (now (inner .entry)) ((p * k + a) * s + q) 0 ⌝ }
-{
-    inner[(p * k + a) * s + q]
 }
 
 // The root's state in the run over the plan with the listed labels changed. One pass over the nodes in order: the

@@ -12,28 +12,28 @@ use native.Mathlib.Omega.{arith}
 use lib.Dec.{leb, ltb, eqb}
 use lib.ListN.{length, getD, length-append}
 use borrow.Author.Tests.{le-leb, lt-ltb, ltb-true, eq-eqb, eqb-true, eqb-false}
-use Rattle.formats.specs.Bytes.{allBelow}
-use Rattle.formats.proofs.CheckLaws.{and-both, and-left, and-right, firstNo-head, firstNo-tail, true-false}
+use Rattle.list_laws.specs.Tests.{allBelow}
+use Rattle.list_laws.proofs.BoolLaws.{and-both, and-left, and-right, true-false}
+use Rattle.formats.proofs.CheckLaws.{firstNo-head, firstNo-tail}
 use Rattle.formats.proofs.InputLaws.{ListPasses, list-passes, build-passes}
-use Rattle.questions.specs.Climbs.{Reached}
+use Rattle.tables.specs.declared.answers.Reached.{Reached}
+use Rattle.tables.proofs.ClimbBounds.{Bounded}
 use Rattle.questions.specs.Rising.{RisesTo}
 use Rattle.questions.specs.Roots.{rootsOn}
-use Rattle.questions.proofs.ClimbBounds.{Bounded}
 use Rattle.questions.proofs.PartBounds.{part-bounded}
 use Rattle.questions.proofs.RootsLaws.{rootsOn-some, rootsOn-fits, rootsOn-rises-to}
-use Rattle.book.specs.Lends.{Lent, Sizes, sizesIn, fits, usedNums}
-use Rattle.book.specs.Calls as calls
-use Rattle.book.specs.Calls.{Call, load, start, advance, cancel, read, mayLoad, mayStart, isRunning}
-use Rattle.book.specs.Refusals.{refusal}
-use Rattle.book.specs.Model.{Record, idle, freshRecord, loadedRecord, viewBy, marksBy, started, startWith, stepped}
-use Rattle.book.specs.Model.{advanceWith}
-use Rattle.book.specs.Model.{partNext, acted, proceeds, unless, act}
-use Rattle.book.proofs.TrailLaws.{below-more}
+use Rattle.formats.specs.Inputs.{Inputs, Sizes, sizesIn, fits, usedNodeTable}
+use Rattle.model.specs.Calls as calls
+use Rattle.model.specs.Calls.{Call, load, start, advance, cancel, read, mayLoad, mayStart, isRunning}
+use Rattle.model.specs.Refusals.{refusal}
+use Rattle.model.specs.Model.{stageOf, Record, idle, freshRecord, loadedRecord, viewBy, marksBy, started, startWith}
+use Rattle.model.specs.Model.{stepped, advanceWith, partNext, acted, proceeds, unless, act}
+use Rattle.model.proofs.ResultLaws.{below-more}
 use Rattle.session.specs.declared.state.Phase.the-variants.{Empty}
 use Rattle.session.specs.declared.state.Session.{Session}
 use Rattle.session.specs.Records.{phaseTo, recordOf, sessionOf, padded, zeroFrom, risesTo}
-use Rattle.session.specs.Records.{sizesFit, noQuestion, listFits, partsFit, validIn, valid}
-use Rattle.session.specs.Tests.{Shaped}
+use Rattle.session.specs.Records.{sizesFit, noQuestion, listFits, partsFit, questionFits, validIn, valid}
+use Rattle.session.specs.inner.Shapes.{Shaped}
 use Rattle.session.proofs.PadLaws.{take-padded, take-padded-by, zero-padded, zero-padded-by, zero-replicate}
 use Rattle.session.proofs.RecordLaws.{Listed, record-of-struct, struct-shaped}
 use Rattle.session.proofs.Holds.{Sized, Asked, Going, HoldsIn, Holds, holds-of}
@@ -62,7 +62,7 @@ module _ (r : Record) where
   within-both : (low high x : ℕ) → low ≤ x → x ≤ high → (leb low x && leb x high) ≡ true
   within-both low high x h k = and-both (leb low x) (leb x high) (le-leb low x h) (le-leb x high k)
 
-  sizes-yes : Sized (r .sizes) → sizesFit (sessionOf r) ≡ true
+  sizes-yes : Sized (r .sizes) → sizesFit (sessionOf r .head .sizes) ≡ true
   unfolding sizesFit sessionOf
   sizes-yes z =
       and-both _ _ (within-both 1 65535 (r .sizes .n) (z .nodes-least) (z .nodes-most))
@@ -86,6 +86,12 @@ module _ (r : Record) where
       (and-both _ _ (ap (allBelow (r .sizes .s)) (take-padded 254 (r .states)) ∙ A .states-below)
       (and-both _ _ (zero-padded 254 (r .states)) (le-leb (r .links) (65535 * length (r .states)) (A .few-links))))))
 
+  question-yes : Sized (r .sizes) → Asked r → length (r .states) ≤ length (r .roots) → questionFits (sessionOf r) ≡ true
+  unfolding questionFits sessionOf
+  question-yes z A h =
+      and-both _ _ (sizes-yes z)
+      (and-both _ _ (list-yes A) (and-both _ _ (parts-yes A) (le-leb (length (r .states)) (length (r .roots)) h)))
+
 none-yes : (p : calls.Phase) (z : Sizes) → noQuestion (sessionOf (idle p z)) ≡ true
 unfolding noQuestion sessionOf idle zeroFrom
 none-yes p z =
@@ -102,13 +108,11 @@ module _ (r : Record) where
       and-both _ _ (sizes-yes r (e .0))
       (subst (λ (t : Record). noQuestion (sessionOf t) ≡ true) (sym (e .1)) (none-yes calls.Phase.loaded (r .sizes)))
   valid-in calls.Phase.running G =
-      and-both _ _ (sizes-yes r (G .sizes))
-      (and-both _ _ (list-yes r (G .asked))
-      (and-both _ _ (parts-yes r (G .asked)) (and-both _ _ (lt-ltb (length (r .states)) (length (r .roots)) (G .handled)) (ap not (G .no-yes)))))
+      and-both _ _ (question-yes r (G .sizes) (G .asked) (omega (arith, G .handled)))
+      (and-both _ _ (lt-ltb (length (r .states)) (length (r .roots)) (G .handled)) (ap not (G .no-yes)))
   valid-in calls.Phase.answered E =
-      and-both _ _ (sizes-yes r (E .sizes))
-      (and-both _ _ (list-yes r (E .asked))
-      (and-both _ _ (parts-yes r (E .asked)) (eq-eqb (length (r .states)) (length (r .roots)) (E .handled))))
+      and-both _ _ (question-yes r (E .sizes) (E .asked) (omega (arith, E .handled)))
+      (eq-eqb (length (r .states)) (length (r .roots)) (E .handled))
 
   pub holds-valid : Holds r → valid (sessionOf r) ≡ true
   unfolding valid sessionOf
@@ -153,10 +157,10 @@ running-is calls.Phase.running r e H = H
 running-is calls.Phase.answered r e H = absurd (true-false (sym e))
 
 module _ (r : Record) (H : Holds r) where
-  load-holds : (x : Lent) → refusal (r .phase) (r .sizes) (load x) ≡ 0 → Holds (loadedRecord (sizesIn x))
+  load-holds : (x : Inputs) → refusal (stageOf r) (load x) ≡ 0 → Holds (loadedRecord (sizesIn x))
   unfolding refusal idle
   load-holds x e =
-      let b = build-passes (x .plan) (x .rules) (length (x .nums)) (length (x .bytes))
+      let b = build-passes (x .plan) (x .rules) (length (x .nodeTable)) (length (x .stateTable))
       (firstNo-tail 1 (mayLoad (r .phase)) _ (omega arith) e) in (
         record {
           nodes-least = b .0 .least;
@@ -169,7 +173,7 @@ module _ (r : Record) (H : Holds r) where
         refl,
       )
 
-  module _ (x : Lent) (vs bs : List ℕ) (e : refusal (r .phase) (r .sizes) (start x vs bs) ≡ 0) where
+  module _ (x : Inputs) (vs bs : List ℕ) (e : refusal (stageOf r) (start x vs bs) ≡ 0) where
     list-is : ListPasses (r .sizes .n) (r .sizes .k) vs bs
     unfolding refusal
     list-is =
@@ -180,13 +184,13 @@ module _ (r : Record) (H : Holds r) where
     unfolding refusal
     sized-is = start-sized (r .phase) r (firstNo-head 1 (mayStart (r .phase)) _ (omega arith) e) H
 
-    start-holds : (o : Option (List ℕ)) → rootsOn (r .sizes .n) (usedNums (r .sizes) x) vs ≡ o
+    start-holds : (o : Option (List ℕ)) → rootsOn (r .sizes .n) (usedNodeTable (r .sizes) x) vs ≡ o
         → Holds (startWith r vs bs o .record′)
     unfolding startWith started
     start-holds none q = H
     start-holds (some rs) q =
         let n = r .sizes .n in
-        let u = usedNums (r .sizes) x in
+        let u = usedNodeTable (r .sizes) x in
         let h : 0 < n = omega (arith, sized-is .nodes-least) in
         record {
           sizes = sized-is;
@@ -205,7 +209,7 @@ module _ (r : Record) (H : Holds r) where
           no-yes = refl;
         }
 
-  module _ (x : Lent) (e : refusal (r .phase) (r .sizes) (advance x) ≡ 0) where
+  module _ (x : Inputs) (e : refusal (stageOf r) (advance x) ≡ 0) where
     going : Going r
     unfolding refusal
     going = running-is (r .phase) r (firstNo-head 1 (isRunning (r .phase)) _ (omega arith) e) H
@@ -263,23 +267,23 @@ module _ (r : Record) (H : Holds r) where
         advance-holds y q (eqb (suc (length (r .states))) (length (r .roots))) refl
         (eqb (getD (marksBy (r .sizes) x) (y .state) 0) 1)
 
-  cancel-holds : refusal (r .phase) (r .sizes) cancel ≡ 0 → Holds (loadedRecord (r .sizes))
+  cancel-holds : refusal (stageOf r) cancel ≡ 0 → Holds (loadedRecord (r .sizes))
   unfolding refusal idle
   cancel-holds f = (running-is (r .phase) r (firstNo-head 1 (isRunning (r .phase)) _ (omega arith) f) H .sizes, refl)
 
-  proceeds-holds : (c : Call) → refusal (r .phase) (r .sizes) c ≡ 0 → Holds (proceeds r c .record′)
+  proceeds-holds : (c : Call) → refusal (stageOf r) c ≡ 0 → Holds (proceeds r c .record′)
   unfolding proceeds
   proceeds-holds (load x) e = load-holds x e
-  proceeds-holds (start x vs bs) e = start-holds x vs bs e (rootsOn (r .sizes .n) (usedNums (r .sizes) x) vs) refl
+  proceeds-holds (start x vs bs) e = start-holds x vs bs e (rootsOn (r .sizes .n) (usedNodeTable (r .sizes) x) vs) refl
   proceeds-holds (advance x) e = part-holds x e (partNext r x) refl
   proceeds-holds cancel e = cancel-holds e
   proceeds-holds read e = H
 
   pub act-holds : (c : Call) → Holds (act r c .record′)
   unfolding act unless
-  act-holds c = go (refusal (r .phase) (r .sizes) c) refl
+  act-holds c = go (refusal (stageOf r) c) refl
     where
-      go : (n : ℕ) → refusal (r .phase) (r .sizes) c ≡ n → Holds (unless n r c .record′)
+      go : (n : ℕ) → refusal (stageOf r) c ≡ n → Holds (unless n r c .record′)
       go zero e = proceeds-holds c e
       go (suc n) e = H
 

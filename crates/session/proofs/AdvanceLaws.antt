@@ -1,5 +1,5 @@
 -- Advance, by what the code has found: one law for each answer.
---     advance-1, advance-17, advance-18, made-found
+--     advance-1, advance-17, advance-18, step-found
 --     advance-limits, next-args, handle-args       what the calls below ask
 -- Assumes nothing.
 use Prim.Native.Nat.{ℕ, suc, _+_, _-_, _*_, _≤_, _<_}
@@ -10,104 +10,108 @@ use mathlib.Core.Option.{Option, none, some}
 use native.Mathlib.Omega.{arith}
 use native.Mathlib.Numerals.{add-one}
 use lib.Dec.{eqb}
-use lib.ListN.{length, getD, take}
+use lib.ListN.{length, getD, take, set}
 use lib.Seq.{length-take-le}
 use borrow.Author.Tests.{not-true, not-false, le-leb, lt-ltb, eq-eqb}
 use Rattle.formats.specs.Checks.{check, firstNo}
-use Rattle.formats.proofs.CheckLaws.{and-both, and-left, and-right, firstNo-yes, firstNo-no}
-use Rattle.questions.specs.declared.answer.Climbed.{Climbed}
-use Rattle.questions.specs.declared.answer.Climbed.the-variants.{Reached as Told, Outside}
-use Rattle.questions.specs.Climbs.{Reached}
-use Rattle.questions.specs.PartArgs.{LimitArgs}
-use Rattle.questions.specs.PartTold.{toldReached, limitsFit, lengthsFit, askedFits, partGiven}
-use Rattle.questions.proofs.PartFits.{Lengths, lengths-are, given-yes}
-use Rattle.questions.proofs.ClimbBounds.{Bounded}
+use Rattle.formats.specs.Rules.{ruleLength}
+use Rattle.formats.specs.Buffers.{limitsFit, buffersFit, LimitArgs}
+use Rattle.list_laws.proofs.BoolLaws.{and-both, and-left, and-right}
+use Rattle.formats.proofs.CheckLaws.{firstNo-yes, firstNo-no}
+use Rattle.formats.proofs.BufferLaws.{Lengths, lengths-are}
+use Rattle.tables.specs.declared.answers.Climbed.{Climbed}
+use Rattle.tables.specs.declared.answers.Climbed.the-variants.{Reached as To, OutOfRange}
+use Rattle.tables.specs.declared.answers.Reached.{Reached}
+use Rattle.tables.specs.Climbs.{climbedOf, reached}
+use Rattle.tables.proofs.ClimbBounds.{Bounded}
+use Rattle.questions.specs.PartAnswers.{askedFits, partGiven}
+use Rattle.questions.proofs.PartFits.{given-yes}
 use Rattle.questions.proofs.PartBounds.{part-bounded}
-use Rattle.book.specs.Lends.{Lent, fits}
-use Rattle.book.specs.Calls as calls
-use Rattle.book.specs.Calls.{Call, advance, isRunning}
-use Rattle.book.specs.Refusals.{refusal}
-use Rattle.book.specs.Model.{Acted, acted, viewBy, stepped, advanceWith, partNext, proceeds}
+use Rattle.formats.specs.Inputs.{Inputs, fits}
+use Rattle.model.specs.Calls as calls
+use Rattle.model.specs.Calls.{Call, advance, isRunning}
+use Rattle.model.specs.Refusals.{refusal, stage}
+use Rattle.model.specs.Model.{Acted, acted, viewBy, stepped, advanceWith, partNext, proceeds}
 use Rattle.session.specs.declared.state.Phase.{Phase}
 use Rattle.session.specs.declared.state.Phase.the-variants.{Running, Answered}
 use Rattle.session.specs.declared.state.Session.{Session}
-use Rattle.session.specs.declared.answers.Advancing.the-variants.{More, Finished, Refused as NotAdvanced}
-use Rattle.session.specs.declared.answers.Advanced.{Advanced}
-use Rattle.session.specs.declared.answers.Step.{Step}
-use Rattle.session.specs.Records.{phaseOf, phaseTo, sizesOf, recordOf, headOf, sessionOf, valid}
-use Rattle.session.specs.Promises.{CallDone, advancingAnswer}
-use Rattle.session.specs.Tests.{Shaped}
-use Rattle.session.specs.Steps.{NextArgs, HandleArgs, markedIn, stepBy, stepOn, StepFound}
+use Rattle.session.specs.declared.answers.AdvanceAnswer.the-variants.{More, Finished, Refused as NotAdvanced}
+use Rattle.session.specs.declared.answers.AdvanceStep.{AdvanceStep}
+use Rattle.session.specs.Records.{phaseOf, phaseTo, sizesOf, recordOf, sessionOf, whole, valid}
+use Rattle.session.specs.Answers.{advanceAnswer}
+use Rattle.session.specs.Promises.{CallDone}
+use Rattle.session.specs.inner.Shapes.{Shaped}
+use Rattle.session.specs.inner.Steps.{NextArgs, HandleArgs, markedIn, steppedHead, stepBy, stepOn, StepFound}
 use Rattle.session.proofs.PadLaws.{padded-take, padded-more}
 use Rattle.session.proofs.RecordLaws.{Tails}
 use Rattle.session.proofs.Holds.{Sized, Going, holds-of, tails-of, struct-is}
 use Rattle.session.proofs.ActLaws.{rises-below, running-is}
 use Rattle.session.proofs.CallLaws.{unless-done, refused-done, proceeds-done}
-use Rattle.session.proofs.StepLaws.{steppedOf, handledBy, step-same}
 
 -- ---- the struct of a record with one more part
 
 module _ (s : Session) (h : Shaped s) (T : Tails s) where
-  lengths : (length (take (s .m) (s .nodes)) ≡ s .m) × (length (take (s .m) (s .labels)) ≡ s .m)
-      × (length (take (s .parts) (s .roots)) ≡ s .parts) × (length (take (s .handled) (s .states)) ≡ s .handled)
+  lengths : (length (take (s .head .m) (s .nodes)) ≡ s .head .m) × (length (take (s .head .m) (s .labels)) ≡ s .head .m)
+      × (length (take (s .head .parts) (s .roots)) ≡ s .head .parts) × (length (take (s .head .handled) (s .states)) ≡ s .head .handled)
   lengths = (
-    length-take-le (s .m) (s .nodes) (omega (arith, h .nodes, T .few)),
-    length-take-le (s .m) (s .labels) (omega (arith, h .labels, T .few)),
-    length-take-le (s .parts) (s .roots) (omega (arith, h .roots, T .few-parts)),
-    length-take-le (s .handled) (s .states) (omega (arith, h .states, T .few-handled)),
+    length-take-le (s .head .m) (s .nodes) (omega (arith, h .nodes, T .few)),
+    length-take-le (s .head .m) (s .labels) (omega (arith, h .labels, T .few)),
+    length-take-le (s .head .parts) (s .roots) (omega (arith, h .roots, T .few-parts)),
+    length-take-le (s .head .handled) (s .states) (omega (arith, h .states, T .few-handled)),
   )
 
-  stepped-struct : s .handled < 254 → (p : calls.Phase) (y : Reached) (b : Bool)
-      → sessionOf (stepped (recordOf s) p y b) ≡ steppedOf s (phaseTo p) (y .state) (y .links) b
+  stepped-struct : s .head .handled < 254 → (p : calls.Phase) (y : Reached) (b : Bool)
+      → sessionOf (stepped (recordOf s) p y b) ≡ whole (steppedHead (s .head) (phaseTo p) (y .links) b) (s .nodes) (s .labels) (s .roots)
+      (set (s .states) (s .head .handled) (y .state))
   unfolding sessionOf stepped recordOf
   stepped-struct k p y b =
-      let more = padded-more 254 (s .handled) (s .states) (y .state) (h .states) k (T .states-end) in
+      let more = padded-more 254 (s .head .handled) (s .states) (y .state) (h .states) k (T .states-end) in
       rw (
         more .1,
         more .0,
         lengths .0,
         lengths .1,
         lengths .2,
-        padded-take 64 (s .m) (s .nodes) (h .nodes) (T .nodes-end),
-        padded-take 64 (s .m) (s .labels) (h .labels) (T .labels-end),
-        padded-take 254 (s .parts) (s .roots) (h .roots) (T .roots-end),
+        padded-take 64 (s .head .m) (s .nodes) (h .nodes) (T .nodes-end),
+        padded-take 64 (s .head .m) (s .labels) (h .labels) (T .labels-end),
+        padded-take 254 (s .head .parts) (s .roots) (h .roots) (T .roots-end),
       )
 
-module _ (s : Session) (h : Shaped s) (x : Lent) (b : Bool) (may : b ≡ (valid s && isRunning (phaseOf (s .phase)))) where
+module _ (s : Session) (h : Shaped s) (x : Inputs) (b : Bool) (may : b ≡ (valid s && isRunning (phaseOf (s .head .phase)))) where
   abbrev C : Call
   C = advance x
 
-  pub advance-1 : not b ≡ true → CallDone s C (advancingAnswer (NotAdvanced 1)) s
-  unfolding advancingAnswer refusal
+  pub advance-1 : not b ≡ true → CallDone s C (advanceAnswer (NotAdvanced 1)) s
+  unfolding advanceAnswer refusal
   advance-1 f =
-      unless-done s C h (isRunning (phaseOf (s .phase))) (check 17 (fits (sizesOf s) x) ∷ []) refl (sym may ∙ not-true b f)
+      unless-done s C h (isRunning (phaseOf (s .head .phase))) (check 17 (fits (sizesOf s) x) ∷ []) refl (sym may ∙ not-true b f)
 
   module _ (now : not b ≡ false) where
-    passes : (valid s && isRunning (phaseOf (s .phase))) ≡ true
+    passes : (valid s && isRunning (phaseOf (s .head .phase))) ≡ true
     passes = sym may ∙ not-false b now
 
     v : valid s ≡ true
-    v = and-left (valid s) (isRunning (phaseOf (s .phase))) passes
+    v = and-left (valid s) (isRunning (phaseOf (s .head .phase))) passes
 
-    r : isRunning (phaseOf (s .phase)) ≡ true
-    r = and-right (valid s) (isRunning (phaseOf (s .phase))) passes
+    r : isRunning (phaseOf (s .head .phase)) ≡ true
+    r = and-right (valid s) (isRunning (phaseOf (s .head .phase))) passes
 
     G : Going (recordOf s)
     unfolding recordOf
-    G = running-is (phaseOf (s .phase)) (recordOf s) r (holds-of s h v)
+    G = running-is (phaseOf (s .head .phase)) (recordOf s) r (holds-of s h v)
 
     T : Tails s
     T = tails-of s v
 
-    L : (length (take (s .m) (s .nodes)) ≡ s .m) × (length (take (s .m) (s .labels)) ≡ s .m)
-        × (length (take (s .parts) (s .roots)) ≡ s .parts) × (length (take (s .handled) (s .states)) ≡ s .handled)
+    L : (length (take (s .head .m) (s .nodes)) ≡ s .head .m) × (length (take (s .head .m) (s .labels)) ≡ s .head .m)
+        × (length (take (s .head .parts) (s .roots)) ≡ s .head .parts) × (length (take (s .head .handled) (s .states)) ≡ s .head .handled)
     L = lengths s h T
 
     Z : Sized (sizesOf s)
     unfolding recordOf
     Z = G .sizes
 
-    pub advance-limits : LimitArgs (s .n) (s .s) (s .k)
+    pub advance-limits : LimitArgs (s .head .sizes .n) (s .head .sizes .s) (s .head .sizes .k)
     advance-limits = record { most = Z .nodes-most; few = Z .states-most; labels = Z .labels-most }
 
     pub next-args : NextArgs s
@@ -118,86 +122,92 @@ module _ (s : Session) (h : Shaped s) (x : Lent) (b : Bool) (may : b ≡ (valid 
       few-handled = omega (arith, h .states, T .few-handled);
     }
 
-    few-handled : s .handled < 254
+    few-handled : s .head .handled < 254
     unfolding recordOf
     few-handled = omega (arith, G .handled, L .2, L .3, T .few-parts)
 
     -- what the code and the model do with a part, by whether it is the last
-    abbrev byCode : Reached → Bool → Advanced
+    abbrev byCode : Reached → Bool → AdvanceStep
     byCode y d =
+        let h = s .head in
         cond d
-        (record { told = Finished; rec = steppedOf s Answered (y .state) (y .links) (markedIn (s .s) (s .k) (x .rules) (y .state)) })
-        (record { told = More; rec = steppedOf s Running (y .state) (y .links) false })
+        (record {
+          answer = Finished;
+          head = steppedHead h Answered (y .links) (markedIn (h .sizes .s) (h .sizes .k) (x .rules) (y .state));
+          stored = true;
+          state = y .state;
+        })
+        (record { answer = More; head = steppedHead h Running (y .links) false; stored = true; state = y .state })
 
     abbrev byModel : Reached → Bool → Acted
     byModel y d =
         cond d
-        (acted calls.Answer.finished (stepped (recordOf s) calls.Phase.answered y (markedIn (s .s) (s .k) (x .rules) (y .state))))
+        (acted calls.Answer.finished (stepped (recordOf s) calls.Phase.answered y (markedIn (s .head .sizes .s) (s .head .sizes .k) (x .rules) (y .state))))
         (acted calls.Answer.more (stepped (recordOf s) calls.Phase.running y false))
 
-    same-step : (y : Reached) (d : Bool) → (advancingAnswer (byCode y d .told) ≡ byModel y d .answer)
-        × (byCode y d .rec ≡ sessionOf (byModel y d .record′))
-    unfolding advancingAnswer phaseTo
+    same-step : (y : Reached) (d : Bool) → (advanceAnswer (byCode y d .answer) ≡ byModel y d .answer)
+        × (stepOn s (byCode y d) ≡ sessionOf (byModel y d .record′))
+    unfolding advanceAnswer phaseTo
     same-step y true = (
       refl,
-      sym (stepped-struct s h T few-handled calls.Phase.answered y (markedIn (s .s) (s .k) (x .rules) (y .state))),
+      sym (stepped-struct s h T few-handled calls.Phase.answered y (markedIn (s .head .sizes .s) (s .head .sizes .k) (x .rules) (y .state))),
     )
     same-step y false = (refl, sym (stepped-struct s h T few-handled calls.Phase.running y false))
 
-    last-same : eqb (suc (length (recordOf s .states))) (length (recordOf s .roots)) ≡ eqb (s .handled + 1) (s .parts)
+    last-same : eqb (suc (length (recordOf s .states))) (length (recordOf s .roots)) ≡ eqb (s .head .handled + 1) (s .head .parts)
     unfolding recordOf
-    last-same = rw (L .2, L .3, add-one (s .handled))
+    last-same = rw (L .2, L .3, add-one (s .head .handled))
 
-    on : refusal (phaseOf (s .phase)) (sizesOf s) C ≡ firstNo (check 17 (fits (sizesOf s) x) ∷ [])
+    on : refusal (stage (phaseOf (s .head .phase)) (sizesOf s)) C ≡ firstNo (check 17 (fits (sizesOf s) x) ∷ [])
     unfolding refusal
-    on = firstNo-yes 1 (isRunning (phaseOf (s .phase))) (check 17 (fits (sizesOf s) x) ∷ []) r
+    on = firstNo-yes 1 (isRunning (phaseOf (s .head .phase))) (check 17 (fits (sizesOf s) x) ∷ []) r
 
     module _ (f : Bool)
-        (fit : f ≡ lengthsFit (s .n) (s .s) (s .k) (length (x .plan)) (length (x .rules)) (length (x .nums)) (length (x .bytes))) where
+        (fit : f ≡ buffersFit (s .head .sizes .n) (s .head .sizes .s) (ruleLength (s .head .sizes .s) (s .head .sizes .k)) (length (x .plan)) (length (x .rules)) (length (x .nodeTable)) (length (x .stateTable))) where
       fits-is : fits (sizesOf s) x ≡ f
-      unfolding fits lengthsFit
+      unfolding fits buffersFit
       fits-is = sym fit
 
-      pub advance-17 : not f ≡ true → CallDone s C (advancingAnswer (NotAdvanced 17)) s
-      unfolding advancingAnswer
+      pub advance-17 : not f ≡ true → CallDone s C (advanceAnswer (NotAdvanced 17)) s
+      unfolding advanceAnswer
       advance-17 g = refused-done s C h v 16 (on ∙ firstNo-no 17 (fits (sizesOf s) x) [] (fits-is ∙ not-true f g))
 
       module _ (yes : not f ≡ false) where
-        no-refusal : refusal (phaseOf (s .phase)) (sizesOf s) C ≡ 0
+        no-refusal : refusal (stage (phaseOf (s .head .phase)) (sizesOf s)) C ≡ 0
         unfolding firstNo
         no-refusal = on ∙ firstNo-yes 17 (fits (sizesOf s) x) [] (fits-is ∙ not-false f yes)
 
-        long : Lengths (s .n) (s .s) (s .k) (length (x .plan)) (length (x .rules)) (length (x .nums)) (length (x .bytes))
+        long : Lengths (s .head .sizes .n) (s .head .sizes .s) (ruleLength (s .head .sizes .s) (s .head .sizes .k)) (length (x .plan)) (length (x .rules)) (length (x .nodeTable)) (length (x .stateTable))
         long =
-            lengths-are (s .n) (s .s) (s .k) (length (x .plan)) (length (x .rules)) (length (x .nums)) (length (x .bytes))
+            lengths-are (s .head .sizes .n) (s .head .sizes .s) (ruleLength (s .head .sizes .s) (s .head .sizes .k)) (length (x .plan)) (length (x .rules)) (length (x .nodeTable)) (length (x .stateTable))
             (sym fit ∙ not-false f yes)
 
-        limits-yes : limitsFit (s .n) (s .s) (s .k) ≡ true
+        limits-yes : limitsFit (s .head .sizes .n) (s .head .sizes .s) (s .head .sizes .k) ≡ true
         unfolding limitsFit
         limits-yes =
-            and-both _ _ (and-both _ _ (le-leb 1 (s .n) (Z .nodes-least)) (le-leb (s .n) 65535 (Z .nodes-most)))
-            (and-both _ _ (and-both _ _ (le-leb 1 (s .s) (Z .states-least)) (le-leb (s .s) 16 (Z .states-most)))
-            (and-both _ _ (le-leb 1 (s .k) (Z .labels-least)) (le-leb (s .k) 64 (Z .labels-most))))
+            and-both _ _ (and-both _ _ (le-leb 1 (s .head .sizes .n) (Z .nodes-least)) (le-leb (s .head .sizes .n) 65535 (Z .nodes-most)))
+            (and-both _ _ (and-both _ _ (le-leb 1 (s .head .sizes .s) (Z .states-least)) (le-leb (s .head .sizes .s) 16 (Z .states-most)))
+            (and-both _ _ (le-leb 1 (s .head .sizes .k) (Z .labels-least)) (le-leb (s .head .sizes .k) 64 (Z .labels-most))))
 
-        asked-yes : askedFits (s .n) (take (s .parts) (s .roots)) (take (s .handled) (s .states)) (take (s .m) (s .nodes)) (take (s .m) (s .labels))
+        asked-yes : askedFits (s .head .sizes .n) (take (s .head .parts) (s .roots)) (take (s .head .handled) (s .states)) (take (s .head .m) (s .nodes)) (take (s .head .m) (s .labels))
             ≡ true
         unfolding askedFits recordOf
         asked-yes =
             let A = G .asked in
-            let below = rises-below (s .n - 1) (take (s .parts) (s .roots)) (length (take (s .handled) (s .states)))
+            let below = rises-below (s .head .sizes .n - 1) (take (s .head .parts) (s .roots)) (length (take (s .head .handled) (s .states)))
             (A .rises) (G .handled) in
-            and-both _ _ (lt-ltb (length (take (s .handled) (s .states))) (length (take (s .parts) (s .roots))) (G .handled))
-            (and-both _ _ (le-leb (length (take (s .parts) (s .roots))) 65535 (omega (arith, A .few-parts)))
-            (and-both _ _ (lt-ltb (getD (take (s .parts) (s .roots)) (length (take (s .handled) (s .states))) 0) (s .n) (omega (arith, below, Z .nodes-least)))
-            (and-both _ _ (eq-eqb (length (take (s .m) (s .nodes))) (length (take (s .m) (s .labels))) (sym (A .same)))
-            (le-leb (length (take (s .m) (s .nodes))) 65535 (omega (arith, A .few))))))
+            and-both _ _ (lt-ltb (length (take (s .head .handled) (s .states))) (length (take (s .head .parts) (s .roots))) (G .handled))
+            (and-both _ _ (le-leb (length (take (s .head .parts) (s .roots))) 65535 (omega (arith, A .few-parts)))
+            (and-both _ _ (lt-ltb (getD (take (s .head .parts) (s .roots)) (length (take (s .head .handled) (s .states))) 0) (s .head .sizes .n) (omega (arith, below, Z .nodes-least)))
+            (and-both _ _ (eq-eqb (length (take (s .head .m) (s .nodes))) (length (take (s .head .m) (s .labels))) (sym (A .same)))
+            (le-leb (length (take (s .head .m) (s .nodes))) 65535 (omega (arith, A .few))))))
 
-        given : partGiven (s .n) (s .s) (s .k) (x .plan) (x .rules) (x .nums) (x .bytes) (take (s .parts) (s .roots))
-            (take (s .handled) (s .states)) (take (s .m) (s .nodes)) (take (s .m) (s .labels)) ≡ partNext (recordOf s) x
+        given : partGiven (s .head .sizes .n) (s .head .sizes .s) (s .head .sizes .k) (x .plan) (x .rules) (x .nodeTable) (x .stateTable) (take (s .head .parts) (s .roots))
+            (take (s .head .handled) (s .states)) (take (s .head .m) (s .nodes)) (take (s .head .m) (s .labels)) ≡ partNext (recordOf s) x
         unfolding recordOf
         given =
-            given-yes (s .n) (s .s) (s .k) (x .plan) (x .rules) (x .nums) (x .bytes) (take (s .parts) (s .roots))
-            (take (s .handled) (s .states)) (take (s .m) (s .nodes)) (take (s .m) (s .labels)) limits-yes
+            given-yes (s .head .sizes .n) (s .head .sizes .s) (s .head .sizes .k) (x .plan) (x .rules) (x .nodeTable) (x .stateTable) (take (s .head .parts) (s .roots))
+            (take (s .head .handled) (s .states)) (take (s .head .m) (s .nodes)) (take (s .head .m) (s .labels)) limits-yes
             (sym fit ∙ not-false f yes) asked-yes
 
         acts : (o : Option Reached) → partNext (recordOf s) x ≡ o → (a : calls.Answer) (t : Session)
@@ -210,47 +220,46 @@ module _ (s : Session) (h : Shaped s) (x : Lent) (b : Bool) (may : b ≡ (valid 
             (j ∙ ap (λ (z : Option Reached). sessionOf (advanceWith (recordOf s) x z .record′)) (sym e))
 
         module _ (K : Climbed)
-            (found : K ≡ toldReached (partGiven (s .n) (s .s) (s .k) (x .plan) (x .rules) (x .nums) (x .bytes)
-            (take (s .parts) (s .roots)) (take (s .handled) (s .states)) (take (s .m) (s .nodes))
-            (take (s .m) (s .labels)))) where
-          pub advance-18 : K ≡ Outside → CallDone s C (advancingAnswer (NotAdvanced 18)) s
-          unfolding advancingAnswer advanceWith toldReached
-          advance-18 e = go (partNext (recordOf s) x) refl (found ∙ ap toldReached given)
+            (found : K ≡ climbedOf (partGiven (s .head .sizes .n) (s .head .sizes .s) (s .head .sizes .k) (x .plan) (x .rules) (x .nodeTable) (x .stateTable)
+            (take (s .head .parts) (s .roots)) (take (s .head .handled) (s .states)) (take (s .head .m) (s .nodes))
+            (take (s .head .m) (s .labels)))) where
+          pub advance-18 : K ≡ OutOfRange → CallDone s C (advanceAnswer (NotAdvanced 18)) s
+          unfolding advanceAnswer advanceWith climbedOf
+          advance-18 e = go (partNext (recordOf s) x) refl (found ∙ ap climbedOf given)
             where
-              go : (o : Option Reached) → partNext (recordOf s) x ≡ o → K ≡ toldReached (partNext (recordOf s) x)
+              go : (o : Option Reached) → partNext (recordOf s) x ≡ o → K ≡ climbedOf (partNext (recordOf s) x)
                   → CallDone s C (calls.Answer.refused 18) s
               go none i j = acts none i (calls.Answer.refused 18) s refl (sym (struct-is s h v))
               go (some y) i j =
-                  let k : K ≡ Told (y .state) (y .links) = j ∙ ap toldReached i in
+                  let k : K ≡ To y = j ∙ ap climbedOf i in
                   let z : _≡_ {A = ℕ} 0 1 = cc in
                   absurd (omega arith)
 
-          module _ (q l : ℕ) (told : K ≡ Told q l) where
+          module _ (q l : ℕ) (result : K ≡ To (reached q l)) where
             one : (y : Reached) × (partNext (recordOf s) x ≡ some y) × (y .state ≡ q) × (y .links ≡ l)
-            unfolding toldReached
-            one = go (partNext (recordOf s) x) refl (found ∙ ap toldReached given)
+            unfolding climbedOf
+            one = go (partNext (recordOf s) x) refl (found ∙ ap climbedOf given)
               where
-                go : (o : Option Reached) → partNext (recordOf s) x ≡ o → K ≡ toldReached (partNext (recordOf s) x)
+                go : (o : Option Reached) → partNext (recordOf s) x ≡ o → K ≡ climbedOf (partNext (recordOf s) x)
                     → (y : Reached) × (partNext (recordOf s) x ≡ some y) × (y .state ≡ q) × (y .links ≡ l)
                 go none i j =
-                    let k : K ≡ Outside = j ∙ ap toldReached i in
+                    let k : K ≡ OutOfRange = j ∙ ap climbedOf i in
                     let z : _≡_ {A = ℕ} 0 1 = cc in
                     absurd (omega arith)
                 go (some y) i j =
-                    let k : Told (y .state) (y .links) ≡ Told q l = sym (j ∙ ap toldReached i) ∙ told in
-                    let a : y .state ≡ q = cc in
-                    let c : y .links ≡ l = cc in
-                    (y, i, a, c)
+                    let k : To y ≡ To (reached q l) = sym (j ∙ ap climbedOf i) ∙ result in
+                    let e : y ≡ reached q l = cc in
+                    (y, i, ap (λ (w : Reached). w .state) e, ap (λ (w : Reached). w .links) e)
 
             bounded : Bounded (viewBy (sizesOf s) x) (one .0)
             unfolding recordOf
             bounded = part-bounded (viewBy (sizesOf s) x) _ _ _ _ _ (one .0) (one .1)
 
-            pub handle-args : HandleArgs (headOf s) (x .rules) q l
+            pub handle-args : HandleArgs (s .head) (x .rules) q l
             unfolding recordOf
             handle-args = record {
               marks = record {
-                exact = long .rules-is;
+                exact = long .table-is;
                 states-most = Z .states-most;
                 labels-most = Z .labels-most;
                 state = omega (arith, bounded .state, one .2);
@@ -261,20 +270,17 @@ module _ (s : Session) (h : Shaped s) (x : Lent) (b : Bool) (may : b ≡ (valid 
               };
             }
 
-            advance-yes : (t : Advanced) → t ≡ handledBy s (x .rules) q l
-                → CallDone s C (advancingAnswer (t .told)) (t .rec)
-            unfolding handledBy advanceWith recordOf
+            advance-yes : (t : AdvanceStep) → t ≡ stepBy (s .head) (x .rules) q l
+                → CallDone s C (advanceAnswer (t .answer)) (stepOn s t)
+            unfolding stepBy advanceWith recordOf
             advance-yes t e =
                 let y = one .0 in
-                let d = eqb (s .handled + 1) (s .parts) in
+                let d = eqb (s .head .handled + 1) (s .head .parts) in
                 let f : t ≡ byCode y d = rw (one .2, one .3) e in
                 let m : advanceWith (recordOf s) x (some y) ≡ byModel y d = ap (byModel y) last-same in
-                acts (some y) (one .1) (advancingAnswer (t .told)) (t .rec)
-                (ap (λ (w : Advanced). advancingAnswer (w .told)) f ∙ same-step y d .0 ∙ ap (λ (w : Acted). w .answer) (sym m))
-                (ap (λ (w : Advanced). w .rec) f ∙ same-step y d .1 ∙ ap (λ (w : Acted). sessionOf (w .record′)) (sym m))
+                acts (some y) (one .1) (advanceAnswer (t .answer)) (stepOn s t)
+                (ap (λ (w : AdvanceStep). advanceAnswer (w .answer)) f ∙ same-step y d .0 ∙ ap (λ (w : Acted). w .answer) (sym m))
+                (ap (stepOn s) f ∙ same-step y d .1 ∙ ap (λ (w : Acted). sessionOf (w .record′)) (sym m))
 
-            pub made-found : (t : Step) → t ≡ stepBy (headOf s) (x .rules) q l → StepFound s C t
-            made-found t e = record {
-              done = advance-yes (stepOn s t) (ap (stepOn s) e ∙ step-same s (x .rules) q l);
-              room = λ f. handle-args .step .room;
-            }
+            pub step-found : (t : AdvanceStep) → t ≡ stepBy (s .head) (x .rules) q l → StepFound s C t
+            step-found t e = record { done = advance-yes t e; room = λ f. handle-args .step .room }

@@ -1,74 +1,68 @@
 -- The promise of a call, by what the code has found.
 --     invalid-done, refused-done, unless-done     a refusal: by the struct, by a number, by check 1
 --     proceeds-done                               no check fails
---     may-by                                      check 1 of a head and the arrays
+--     by-state, allowed-no, allowed-yes, allowed-by   check 1
 --     kept-of                                     what is left to the program has its properties
 -- Assumes nothing.
 use Prim.Native.Nat.{ℕ, suc, _-_, _<_}
 use mathlib.Core.Path.{_≡_, refl, sym, ap, _∙_, subst}
-use mathlib.Core.Bool.{Bool, true, false, _&&_}
+use mathlib.Core.Bool.{Bool, true, false, not, _&&_}
 use mathlib.Core.List.{List, [], _∷_}
 use native.Mathlib.Omega.{arith}
 use lib.ListN.{length, getD}
+use borrow.Author.Tests.{not-true, not-false}
+use Rattle.list_laws.proofs.BoolLaws.{and-yes}
 use Rattle.formats.specs.Checks.{Check, check, firstNo, listChecks}
-use Rattle.formats.proofs.CheckLaws.{true-false, firstNo-no, firstNo-head}
-use Rattle.book.specs.Lends.{Lent, fits}
-use Rattle.book.specs.Calls as calls
-use Rattle.book.specs.Calls.{Call, load, start, advance, cancel, read, Answer, refused, mayStart, isRunning}
-use Rattle.book.specs.Refusals.{refusal}
-use Rattle.book.specs.Model.{Acted, proceeds, unless, act}
-use Rattle.book.specs.Kept.{Kept}
-use Rattle.book.proofs.KeptLaws.{refused-keeps, start-kept, advance-kept}
-use Rattle.formats.proofs.TurnLaws.{and-yes}
+use Rattle.list_laws.proofs.BoolLaws.{true-false}
+use Rattle.formats.proofs.CheckLaws.{firstNo-no, firstNo-head}
+use Rattle.formats.specs.Inputs.{Inputs, fits}
+use Rattle.model.specs.Calls as calls
+use Rattle.model.specs.Calls.{Call, load, start, advance, cancel, read, Answer, refused, mayStart, isRunning}
+use Rattle.model.specs.Refusals.{refusal, stage}
+use Rattle.model.specs.Model.{stageOf, Acted, proceeds, unless, act}
+use Rattle.model.specs.LeftOpen.{LeftOpen}
+use Rattle.model.proofs.LeftOpenLaws.{refused-unchanged, start-properties, advance-properties}
 use Rattle.session.specs.declared.state.Phase.{Phase}
-use Rattle.session.specs.declared.state.Head.{Head}
 use Rattle.session.specs.declared.state.Session.{Session}
-use Rattle.session.specs.Records.{phaseOf, sizesOf, recordOf, headOf, whole, sessionOf, valid}
+use Rattle.session.specs.Records.{phaseOf, sizesOf, recordOf, sessionOf, valid}
 use Rattle.session.specs.Promises.{CallDone, answerOn, recordOn}
-use Rattle.session.specs.Tests.{Shaped}
+use Rattle.session.specs.inner.Shapes.{Shaped}
 use Rattle.session.proofs.Holds.{holds-of, struct-is}
 use Rattle.session.proofs.ActLaws.{rises-below, start-sized, running-is}
 
--- check 1 of a head and the arrays, where the head is the struct's
-pub may-by : (f : calls.Phase → Bool) (s : Session) (h : Head) → h ≡ headOf s → (b : Bool)
-    → b ≡ (valid (whole h (s .nodes) (s .labels) (s .roots) (s .states)) && f (phaseOf (h .phase)))
-    → b ≡ (valid s && f (phaseOf (s .phase)))
-may-by f s h e b g =
-    g ∙ ap (λ (x : Head). valid (whole x (s .nodes) (s .labels) (s .roots) (s .states)) && f (phaseOf (x .phase))) e
-
 -- a Start that no check refuses finds a plan loaded
-start-loaded : (s : Session) → Shaped s → valid s ≡ true → (x : Lent) (vs bs : List ℕ)
-    → refusal (recordOf s .phase) (recordOf s .sizes) (start x vs bs) ≡ 0 → 0 < recordOf s .sizes .n
+start-loaded : (s : Session) → Shaped s → valid s ≡ true → (x : Inputs) (vs bs : List ℕ)
+    → refusal (stageOf (recordOf s)) (start x vs bs) ≡ 0 → 0 < recordOf s .sizes .n
 unfolding refusal recordOf
 start-loaded s h v x vs bs e =
-    let m = firstNo-head 1 (mayStart (phaseOf (s .phase))) (check 17 (fits (sizesOf s) x) ∷ listChecks (s .n) (s .k) vs bs)
+    let m = firstNo-head 1 (mayStart (phaseOf (s .head .phase))) (check 17 (fits (sizesOf s) x) ∷ listChecks (s .head .sizes .n) (s .head .sizes .k) vs bs)
     (omega arith) e in
-    start-sized (phaseOf (s .phase)) (recordOf s) m (holds-of s h v) .nodes-least
+    start-sized (phaseOf (s .head .phase)) (recordOf s) m (holds-of s h v) .nodes-least
 
 -- an advance that no check refuses finds a root that is a node
-next-inside : (s : Session) → Shaped s → valid s ≡ true → (x : Lent)
-    → refusal (recordOf s .phase) (recordOf s .sizes) (advance x) ≡ 0
+next-inside : (s : Session) → Shaped s → valid s ≡ true → (x : Inputs)
+    → refusal (stageOf (recordOf s)) (advance x) ≡ 0
     → getD (recordOf s .roots) (length (recordOf s .states)) 0 < recordOf s .sizes .n
 unfolding refusal recordOf
 next-inside s h v x e =
-    let m = firstNo-head 1 (isRunning (phaseOf (s .phase))) (check 17 (fits (sizesOf s) x) ∷ []) (omega arith) e in
-    let G = running-is (phaseOf (s .phase)) (recordOf s) m (holds-of s h v) in
-    let below = rises-below (s .n - 1) (recordOf s .roots) (length (recordOf s .states)) (G .asked .rises) (G .handled) in
+    let m = firstNo-head 1 (isRunning (phaseOf (s .head .phase))) (check 17 (fits (sizesOf s) x) ∷ []) (omega arith) e in
+    let G = running-is (phaseOf (s .head .phase)) (recordOf s) m (holds-of s h v) in
+    let below = rises-below (s .head .sizes .n - 1) (recordOf s .roots) (length (recordOf s .states)) (G .asked .rises) (G .handled) in
     omega (arith, below, G .sizes .nodes-least)
 
 -- the properties of what is left to the program
-kept-of : (s : Session) → Shaped s → valid s ≡ true → (c : Call)
-    → Kept (recordOf s) c (act (recordOf s) c .answer) (act (recordOf s) c .record′)
-kept-of s h v (load x) = tt
-kept-of s h v (start x vs bs) = start-kept (recordOf s) x vs bs (start-loaded s h v x vs bs)
-kept-of s h v (advance x) = advance-kept (recordOf s) x (next-inside s h v x)
-kept-of s h v cancel = tt
-kept-of s h v read = tt
+properties-of : (s : Session) → Shaped s → valid s ≡ true → (c : Call)
+    → LeftOpen (recordOf s) c (act (recordOf s) c .answer) (act (recordOf s) c .record′)
+properties-of s h v (load x) = tt
+properties-of s h v (start x vs bs) = start-properties (recordOf s) x vs bs (start-loaded s h v x vs bs)
+properties-of s h v (advance x) = advance-properties (recordOf s) x (next-inside s h v x)
+properties-of s h v cancel = tt
+properties-of s h v read = tt
 
 module _ (s : Session) (c : Call) where
   pub invalid-done : valid s ≡ false → CallDone s c (refused 1) s
   unfolding answerOn recordOn
-  invalid-done e = record { tells = rw e; leaves = rw e; keeps = λ n f. refl; kept = λ v. absurd (true-false (sym v ∙ e)) }
+  invalid-done e = record { tells = rw e; leaves = rw e; unchanged = λ n f. refl; properties = λ v. absurd (true-false (sym v ∙ e)) }
 
   module _ (h : Shaped s) (v : valid s ≡ true) where
     -- a valid struct: answer and record are the model's
@@ -78,25 +72,25 @@ module _ (s : Session) (c : Call) where
     model-done a t f g = record {
       tells = rw v f;
       leaves = rw v g;
-      keeps = λ n e. g ∙ ap sessionOf (refused-keeps (recordOf s) c n (sym f ∙ e)) ∙ struct-is s h v;
-      kept = λ w. subst (λ (b : Answer). Kept (recordOf s) c b (act (recordOf s) c .record′)) (sym f) (kept-of s h v c);
+      unchanged = λ n e. g ∙ ap sessionOf (refused-unchanged (recordOf s) c n (sym f ∙ e)) ∙ struct-is s h v;
+      properties = λ w. subst (λ (b : Answer). LeftOpen (recordOf s) c b (act (recordOf s) c .record′)) (sym f) (properties-of s h v c);
     }
 
-    act-refused : (n : ℕ) → refusal (phaseOf (s .phase)) (sizesOf s) c ≡ suc n
+    act-refused : (n : ℕ) → refusal (stage (phaseOf (s .head .phase)) (sizesOf s)) c ≡ suc n
         → (refused (suc n) ≡ act (recordOf s) c .answer) × (recordOf s ≡ act (recordOf s) c .record′)
     unfolding act unless recordOf
     act-refused n e = (rw e, rw e)
 
-    pub refused-done : (n : ℕ) → refusal (phaseOf (s .phase)) (sizesOf s) c ≡ suc n → CallDone s c (refused (suc n)) s
+    pub refused-done : (n : ℕ) → refusal (stage (phaseOf (s .head .phase)) (sizesOf s)) c ≡ suc n → CallDone s c (refused (suc n)) s
     refused-done n e =
         let a = act-refused n e in
         model-done (refused (suc n)) s (a .0) (sym (struct-is s h v) ∙ ap sessionOf (a .1))
 
-    act-proceeds : refusal (phaseOf (s .phase)) (sizesOf s) c ≡ 0 → proceeds (recordOf s) c ≡ act (recordOf s) c
+    act-proceeds : refusal (stage (phaseOf (s .head .phase)) (sizesOf s)) c ≡ 0 → proceeds (recordOf s) c ≡ act (recordOf s) c
     unfolding act unless recordOf
     act-proceeds e = rw e
 
-    pub proceeds-done : refusal (phaseOf (s .phase)) (sizesOf s) c ≡ 0 → (a : Answer) (t : Session)
+    pub proceeds-done : refusal (stage (phaseOf (s .head .phase)) (sizesOf s)) c ≡ 0 → (a : Answer) (t : Session)
         → a ≡ proceeds (recordOf s) c .answer
         → t ≡ sessionOf (proceeds (recordOf s) c .record′) → CallDone s c a t
     proceeds-done e a t f g =
@@ -104,7 +98,7 @@ module _ (s : Session) (c : Call) where
 
   -- check 1 says no
   pub unless-done : Shaped s → (b : Bool) (cs : List Check)
-      → refusal (phaseOf (s .phase)) (sizesOf s) c ≡ firstNo (check 1 b ∷ cs)
+      → refusal (stage (phaseOf (s .head .phase)) (sizesOf s)) c ≡ firstNo (check 1 b ∷ cs)
       → (valid s && b) ≡ false → CallDone s c (refused 1) s
   unless-done h b cs e f = go (valid s) refl f
     where
@@ -112,16 +106,19 @@ module _ (s : Session) (c : Call) where
       go true v g = refused-done h v 0 (e ∙ firstNo-no 1 b cs g)
       go false v g = invalid-done v
 
--- ---- check 1, state by state
+-- ---- check 1: the state, and the record
 
-and-no : (a : Bool) → (a && false) ≡ false
-and-no true = refl
-and-no false = refl
+pub by-state : (f : calls.Phase → Bool) (p q : Phase) → p ≡ q → f (phaseOf q) ≡ f (phaseOf p)
+by-state f p q e = sym (ap (λ (x : Phase). f (phaseOf x)) e)
 
-module _ (f : calls.Phase → Bool) (s : Session) (p : Phase) (e : s .phase ≡ p) where
-  pub state-yes : f (phaseOf p) ≡ true → (b : Bool) → b ≡ valid s → b ≡ (valid s && f (phaseOf (s .phase)))
-  state-yes g b h =
-      h ∙ sym (and-yes (valid s)) ∙ sym (ap (λ (x : Bool). valid s && x) (ap (λ (q : Phase). f (phaseOf q)) e ∙ g))
+pub allowed-no : (v m : Bool) → not m ≡ true → false ≡ (v && m)
+allowed-no true m e = sym (not-true m e)
+allowed-no false m e = refl
 
-  pub state-no : f (phaseOf p) ≡ false → false ≡ (valid s && f (phaseOf (s .phase)))
-  state-no g = sym (and-no (valid s)) ∙ sym (ap (λ (x : Bool). valid s && x) (ap (λ (q : Phase). f (phaseOf q)) e ∙ g))
+pub allowed-yes : (v m b : Bool) → not m ≡ false → b ≡ v → b ≡ (v && m)
+allowed-yes v m b e f = f ∙ sym (and-yes v) ∙ sym (ap (λ (x : Bool). v && x) (not-false m e))
+
+-- of a struct: its head and arrays are those that were tested
+pub allowed-by : (f : calls.Phase → Bool) (s : Session) (m b : Bool) → m ≡ f (phaseOf (s .head .phase)) → b ≡ (valid s && m)
+    → b ≡ (valid s && f (phaseOf (s .head .phase)))
+allowed-by f s m b e g = g ∙ ap (λ (x : Bool). valid s && x) e

@@ -12,18 +12,18 @@ use native.Mathlib.Omega.{arith}
 use lib.ListN.{length, take}
 use lib.Seq.{length-take-le}
 use borrow.Author.Tests.{leb-true, ltb-true, eqb-true, not-true}
-use Rattle.formats.specs.Bytes.{allBelow}
+use Rattle.list_laws.specs.Tests.{allBelow}
 use Rattle.formats.proofs.PlanLaws.{within-low, within-high}
-use Rattle.book.specs.Lends.{Sizes}
-use Rattle.book.specs.Calls as calls
-use Rattle.book.specs.Model.{Record, idle, freshRecord, loadedRecord}
+use Rattle.formats.specs.Inputs.{Sizes}
+use Rattle.model.specs.Calls as calls
+use Rattle.model.specs.Model.{Record, idle, freshRecord, loadedRecord}
 use Rattle.trees.proofs.MoveLaws.{both}
 use Rattle.session.specs.declared.state.Phase.{Phase}
 use Rattle.session.specs.declared.state.Phase.the-variants.{Empty, Loaded, Running, Answered}
 use Rattle.session.specs.declared.state.Session.{Session}
 use Rattle.session.specs.Records.{phaseOf, sizesOf, recordOf, sessionOf, zeroFrom, risesTo}
-use Rattle.session.specs.Records.{sizesFit, noQuestion, listFits, partsFit, validIn, valid}
-use Rattle.session.specs.Tests.{Shaped}
+use Rattle.session.specs.Records.{sizesFit, noQuestion, listFits, partsFit, questionFits, validIn, valid}
+use Rattle.session.specs.inner.Shapes.{Shaped}
 use Rattle.session.proofs.RecordLaws.{Tails, struct-of-record}
 
 pub record Sized (z : Sizes) : Type 0 where
@@ -68,45 +68,45 @@ Holds r = HoldsIn (r .phase) r
 -- ---- what the conditions say, by name
 
 record Nothing (s : Session) : Type 0 where
-  no-yes : s .yes ≡ false
-  m-is : s .m ≡ 0
-  parts-is : s .parts ≡ 0
-  handled-is : s .handled ≡ 0
-  links-is : s .links ≡ 0
+  no-yes : s .head .yes ≡ false
+  m-is : s .head .m ≡ 0
+  parts-is : s .head .parts ≡ 0
+  handled-is : s .head .handled ≡ 0
+  links-is : s .head .links ≡ 0
   nodes-end : zeroFrom 0 (s .nodes) ≡ true
   labels-end : zeroFrom 0 (s .labels) ≡ true
   roots-end : zeroFrom 0 (s .roots) ≡ true
   states-end : zeroFrom 0 (s .states) ≡ true
 
 record ListFits (s : Session) : Type 0 where
-  few : s .m ≤ 64
-  nodes-below : allBelow (s .n) (take (s .m) (s .nodes)) ≡ true
-  labels-below : allBelow (s .k) (take (s .m) (s .labels)) ≡ true
-  nodes-end : zeroFrom (s .m) (s .nodes) ≡ true
-  labels-end : zeroFrom (s .m) (s .labels) ≡ true
+  few : s .head .m ≤ 64
+  nodes-below : allBelow (s .head .sizes .n) (take (s .head .m) (s .nodes)) ≡ true
+  labels-below : allBelow (s .head .sizes .k) (take (s .head .m) (s .labels)) ≡ true
+  nodes-end : zeroFrom (s .head .m) (s .nodes) ≡ true
+  labels-end : zeroFrom (s .head .m) (s .labels) ≡ true
 
 record PartsFit (s : Session) : Type 0 where
-  some-part : 1 ≤ s .parts
-  few-parts : s .parts ≤ 254
-  rises : risesTo (s .n - 1) (take (s .parts) (s .roots)) ≡ true
-  roots-end : zeroFrom (s .parts) (s .roots) ≡ true
-  states-below : allBelow (s .s) (take (s .handled) (s .states)) ≡ true
-  states-end : zeroFrom (s .handled) (s .states) ≡ true
-  few-links : s .links ≤ 65535 * s .handled
+  some-part : 1 ≤ s .head .parts
+  few-parts : s .head .parts ≤ 254
+  rises : risesTo (s .head .sizes .n - 1) (take (s .head .parts) (s .roots)) ≡ true
+  roots-end : zeroFrom (s .head .parts) (s .roots) ≡ true
+  states-below : allBelow (s .head .sizes .s) (take (s .head .handled) (s .states)) ≡ true
+  states-end : zeroFrom (s .head .handled) (s .states) ≡ true
+  few-links : s .head .links ≤ 65535 * s .head .handled
 
 module _ (s : Session) where
-  pub sized-of : sizesFit s ≡ true → Sized (sizesOf s)
+  pub sized-of : sizesFit (s .head .sizes) ≡ true → Sized (sizesOf s)
   unfolding sizesFit
   sized-of e =
       let p = both _ _ e in
       let q = both _ _ (p .1) in
       record {
-        nodes-least = within-low 1 65535 (s .n) (p .0);
-        nodes-most = within-high 1 65535 (s .n) (p .0);
-        states-least = within-low 1 16 (s .s) (q .0);
-        states-most = within-high 1 16 (s .s) (q .0);
-        labels-least = within-low 1 64 (s .k) (q .1);
-        labels-most = within-high 1 64 (s .k) (q .1);
+        nodes-least = within-low 1 65535 (s .head .sizes .n) (p .0);
+        nodes-most = within-high 1 65535 (s .head .sizes .n) (p .0);
+        states-least = within-low 1 16 (s .head .sizes .s) (q .0);
+        states-most = within-high 1 16 (s .head .sizes .s) (q .0);
+        labels-least = within-low 1 64 (s .head .sizes .k) (q .1);
+        labels-most = within-high 1 64 (s .head .sizes .k) (q .1);
       }
 
   nothing-of : noQuestion s ≡ true → Nothing s
@@ -121,11 +121,11 @@ module _ (s : Session) where
       let h = both _ _ (g .1) in
       let i = both _ _ (h .1) in
       record {
-        no-yes = not-true (s .yes) (a .0);
-        m-is = eqb-true (s .m) 0 (b .0);
-        parts-is = eqb-true (s .parts) 0 (c .0);
-        handled-is = eqb-true (s .handled) 0 (d .0);
-        links-is = eqb-true (s .links) 0 (f .0);
+        no-yes = not-true (s .head .yes) (a .0);
+        m-is = eqb-true (s .head .m) 0 (b .0);
+        parts-is = eqb-true (s .head .parts) 0 (c .0);
+        handled-is = eqb-true (s .head .handled) 0 (d .0);
+        links-is = eqb-true (s .head .links) 0 (f .0);
         nodes-end = g .0;
         labels-end = h .0;
         roots-end = i .0;
@@ -139,7 +139,7 @@ module _ (s : Session) where
       let b = both _ _ (a .1) in
       let c = both _ _ (b .1) in
       let d = both _ _ (c .1) in
-      record { few = leb-true (s .m) 64 (a .0); nodes-below = b .0; labels-below = c .0; nodes-end = d .0; labels-end = d .1 }
+      record { few = leb-true (s .head .m) 64 (a .0); nodes-below = b .0; labels-below = c .0; nodes-end = d .0; labels-end = d .1 }
 
   parts-of : partsFit s ≡ true → PartsFit s
   unfolding partsFit
@@ -150,24 +150,24 @@ module _ (s : Session) where
       let d = both _ _ (c .1) in
       let f = both _ _ (d .1) in
       record {
-        some-part = within-low 1 254 (s .parts) (a .0);
-        few-parts = within-high 1 254 (s .parts) (a .0);
+        some-part = within-low 1 254 (s .head .parts) (a .0);
+        few-parts = within-high 1 254 (s .head .parts) (a .0);
         rises = b .0;
         roots-end = c .0;
         states-below = d .0;
         states-end = f .0;
-        few-links = leb-true (s .links) (65535 * s .handled) (f .1);
+        few-links = leb-true (s .head .links) (65535 * s .head .handled) (f .1);
       }
 
   -- ---- the record of a struct that passes
 
-  asked-of : Shaped s → ListFits s → PartsFit s → s .handled ≤ s .parts → Asked (recordOf s)
+  asked-of : Shaped s → ListFits s → PartsFit s → s .head .handled ≤ s .head .parts → Asked (recordOf s)
   unfolding recordOf
   asked-of h l p c =
-      let a : length (take (s .m) (s .nodes)) ≡ s .m = length-take-le (s .m) (s .nodes) (omega arith) in
-      let b : length (take (s .m) (s .labels)) ≡ s .m = length-take-le (s .m) (s .labels) (omega arith) in
-      let f : length (take (s .parts) (s .roots)) ≡ s .parts = length-take-le (s .parts) (s .roots) (omega arith) in
-      let d : length (take (s .handled) (s .states)) ≡ s .handled = length-take-le (s .handled) (s .states) (omega arith) in
+      let a : length (take (s .head .m) (s .nodes)) ≡ s .head .m = length-take-le (s .head .m) (s .nodes) (omega arith) in
+      let b : length (take (s .head .m) (s .labels)) ≡ s .head .m = length-take-le (s .head .m) (s .labels) (omega arith) in
+      let f : length (take (s .head .parts) (s .roots)) ≡ s .head .parts = length-take-le (s .head .parts) (s .roots) (omega arith) in
+      let d : length (take (s .head .handled) (s .states)) ≡ s .head .handled = length-take-le (s .head .handled) (s .states) (omega arith) in
       record {
         few = omega arith;
         same = omega arith;
@@ -180,17 +180,17 @@ module _ (s : Session) where
         few-links = rw d (p .few-links);
       }
 
-  handled-of : Shaped s → PartsFit s → s .handled ≤ s .parts
-      → (length (take (s .handled) (s .states)) ≡ s .handled) × (length (take (s .parts) (s .roots)) ≡ s .parts)
+  handled-of : Shaped s → PartsFit s → s .head .handled ≤ s .head .parts
+      → (length (take (s .head .handled) (s .states)) ≡ s .head .handled) × (length (take (s .head .parts) (s .roots)) ≡ s .head .parts)
   handled-of h p c =
-      (length-take-le (s .handled) (s .states) (omega arith), length-take-le (s .parts) (s .roots) (omega arith))
+      (length-take-le (s .head .handled) (s .states) (omega arith), length-take-le (s .head .parts) (s .roots) (omega arith))
 
   -- ---- by state
 
   record Empties : Type 0 where
-    n-is : s .n ≡ 0
-    s-is : s .s ≡ 0
-    k-is : s .k ≡ 0
+    n-is : s .head .sizes .n ≡ 0
+    s-is : s .head .sizes .s ≡ 0
+    k-is : s .head .sizes .k ≡ 0
     none : Nothing s
 
   record Questions : Type 0 where
@@ -205,9 +205,9 @@ module _ (s : Session) where
       let b = both _ _ (a .1) in
       let c = both _ _ (b .1) in
       record {
-        n-is = eqb-true (s .n) 0 (a .0);
-        s-is = eqb-true (s .s) 0 (b .0);
-        k-is = eqb-true (s .k) 0 (c .0);
+        n-is = eqb-true (s .head .sizes .n) 0 (a .0);
+        s-is = eqb-true (s .head .sizes .s) 0 (b .0);
+        k-is = eqb-true (s .head .sizes .k) 0 (c .0);
         none = nothing-of (c .1);
       }
 
@@ -215,27 +215,26 @@ module _ (s : Session) where
   unfolding validIn
   loaded-of e = let a = both _ _ e in (sized-of (a .0), nothing-of (a .1))
 
-  running-of : validIn Running s ≡ true → Questions × (s .handled < s .parts) × (s .yes ≡ false)
+  questions-of : questionFits s ≡ true → Questions
+  unfolding questionFits
+  questions-of e =
+      let a = both _ _ e in
+      let b = both _ _ (a .1) in
+      let c = both _ _ (b .1) in
+      record { sizes = sized-of (a .0); list = list-of (b .0); parts = parts-of (c .0) }
+
+  running-of : validIn Running s ≡ true → Questions × (s .head .handled < s .head .parts) × (s .head .yes ≡ false)
   unfolding validIn
   running-of e =
       let a = both _ _ e in
       let b = both _ _ (a .1) in
-      let c = both _ _ (b .1) in
-      let d = both _ _ (c .1) in (
-        record { sizes = sized-of (a .0); list = list-of (b .0); parts = parts-of (c .0) },
-        ltb-true (s .handled) (s .parts) (d .0),
-        not-true (s .yes) (d .1),
-      )
+      (questions-of (a .0), ltb-true (s .head .handled) (s .head .parts) (b .0), not-true (s .head .yes) (b .1))
 
-  answered-of : validIn Answered s ≡ true → Questions × (s .handled ≡ s .parts)
+  answered-of : validIn Answered s ≡ true → Questions × (s .head .handled ≡ s .head .parts)
   unfolding validIn
-  answered-of e =
-      let a = both _ _ e in
-      let b = both _ _ (a .1) in
-      let c = both _ _ (b .1) in
-      (record { sizes = sized-of (a .0); list = list-of (b .0); parts = parts-of (c .0) }, eqb-true (s .handled) (s .parts) (c .1))
+  answered-of e = let a = both _ _ e in (questions-of (a .0), eqb-true (s .head .handled) (s .head .parts) (a .1))
 
-  holds-in : Shaped s → (p : Phase) → s .phase ≡ p → validIn p s ≡ true → HoldsIn (phaseOf p) (recordOf s)
+  holds-in : Shaped s → (p : Phase) → s .head .phase ≡ p → validIn p s ≡ true → HoldsIn (phaseOf p) (recordOf s)
   unfolding phaseOf recordOf freshRecord idle
   holds-in h Empty q e =
       let E = empties-of e in
@@ -265,7 +264,7 @@ module _ (s : Session) where
 
   pub holds-of : Shaped s → valid s ≡ true → Holds (recordOf s)
   unfolding valid recordOf
-  holds-of h e = holds-in h (s .phase) refl e
+  holds-of h e = holds-in h (s .head .phase) refl e
 
   -- ---- and the struct again
 
@@ -280,7 +279,7 @@ module _ (s : Session) where
     states-end = rw (N .handled-is) (N .states-end);
   }
 
-  tails-some : ListFits s → PartsFit s → s .handled ≤ s .parts → Tails s
+  tails-some : ListFits s → PartsFit s → s .head .handled ≤ s .head .parts → Tails s
   tails-some l p c = record {
     few = l .few;
     few-parts = p .few-parts;
@@ -299,7 +298,7 @@ module _ (s : Session) where
 
   pub tails-of : valid s ≡ true → Tails s
   unfolding valid
-  tails-of e = tails-in (s .phase) e
+  tails-of e = tails-in (s .head .phase) e
 
   -- the struct of the record is the struct
   pub struct-is : Shaped s → valid s ≡ true → sessionOf (recordOf s) ≡ s

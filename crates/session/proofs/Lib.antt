@@ -5,11 +5,12 @@ pub mod CancelLaws
 pub mod Holds
 pub mod LoadLaws
 pub mod PadLaws
+pub mod ReadLaws
 pub mod RecordLaws
 pub mod Refine
 pub mod RunLaws
 pub mod SessionTheorem
-pub mod Shapes
+pub mod ShapeLaws
 pub mod StartLaws
 pub mod StepLaws
 pub mod ValidLaws

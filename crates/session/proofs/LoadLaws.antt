@@ -13,22 +13,24 @@ use borrow.Author.Tests.{not-true, not-false}
 use Rattle.formats.specs.Plan.{nodeCount}
 use Rattle.formats.specs.Rules.{stateCount, labelCount}
 use Rattle.formats.specs.Checks.{Check, check, firstNo, buildChecks}
-use Rattle.formats.specs.Built.{builtLinks, builtStates}
-use Rattle.formats.proofs.CheckLaws.{and-left, and-right, firstNo-yes, firstNo-no}
+use Rattle.formats.specs.Built.{builtNodeTable, builtStateTable}
+use Rattle.list_laws.proofs.BoolLaws.{and-left, and-right}
+use Rattle.formats.proofs.CheckLaws.{firstNo-yes, firstNo-no}
 use Rattle.formats.proofs.InputLaws.{build-passes}
 use Rattle.tables.specs.declared.answers.Building.{Building}
 use Rattle.tables.specs.declared.answers.Building.the-variants.{Built, Refused}
-use Rattle.tables.specs.Answers.{numberOf, toldBuild, written, BuildDone}
-use Rattle.book.specs.Lends.{Lent}
-use Rattle.book.specs.Calls as calls
-use Rattle.book.specs.Calls.{load, mayLoad}
-use Rattle.book.specs.Refusals.{refusal}
-use Rattle.book.specs.Model.{proceeds}
+use Rattle.tables.specs.Answers.{buildingNumber, buildAnswer, written, BuildDone}
+use Rattle.formats.specs.Inputs.{Inputs}
+use Rattle.model.specs.Calls as calls
+use Rattle.model.specs.Calls.{load, mayLoad}
+use Rattle.model.specs.Refusals.{refusal, stage}
+use Rattle.model.specs.Model.{proceeds}
 use Rattle.session.specs.declared.state.Session.{Session}
-use Rattle.session.specs.declared.answers.Doing.the-variants.{Done as Made, Refused as NotDone}
+use Rattle.session.specs.declared.answers.CallAnswer.the-variants.{Accepted, Refused as NotDone}
 use Rattle.session.specs.Records.{phaseOf, sizesOf, recordOf, sessionOf, valid}
-use Rattle.session.specs.Promises.{CallDone, LoadDone, doingAnswer, refusalOn}
-use Rattle.session.specs.Tests.{Shaped, Headers, loadedBy, loadedFrom}
+use Rattle.session.specs.Answers.{callAnswer}
+use Rattle.session.specs.Promises.{CallDone, LoadDone, refusalOn}
+use Rattle.session.specs.inner.Shapes.{Shaped, Headers, loadedBy, loadedFrom}
 use Rattle.session.proofs.CallLaws.{unless-done, refused-done, proceeds-done}
 
 -- N, S and K as they were read
@@ -37,63 +39,63 @@ pub loaded-same : (plan rules : List ℕ) (n s k : ℕ) (t : Session) → t ≡ 
     → k ≡ labelCount rules → t ≡ sessionOf (loadedFrom plan rules)
 loaded-same plan rules n s k t e a b c = rw (← a, ← b, ← c) e
 
-module _ (s : Session) (h : Shaped s) (x : Lent) (b : Bool) (may : b ≡ (valid s && mayLoad (phaseOf (s .phase)))) where
+module _ (s : Session) (h : Shaped s) (x : Inputs) (b : Bool) (may : b ≡ (valid s && mayLoad (phaseOf (s .head .phase)))) where
   abbrev checks : List Check
-  checks = buildChecks (x .plan) (x .rules) (length (x .nums)) (length (x .bytes))
+  checks = buildChecks (x .plan) (x .rules) (length (x .nodeTable)) (length (x .stateTable))
 
   -- the number that a refusal gives
-  no-number : (valid s && mayLoad (phaseOf (s .phase))) ≡ false → refusalOn s (load x) ≡ 1
+  no-number : (valid s && mayLoad (phaseOf (s .head .phase))) ≡ false → refusalOn s (load x) ≡ 1
   unfolding refusalOn refusal recordOf
   no-number e = go (valid s) refl e
     where
-      go : (a : Bool) → valid s ≡ a → (a && mayLoad (phaseOf (s .phase))) ≡ false
-          → cond a (firstNo (check 1 (mayLoad (phaseOf (s .phase))) ∷ checks)) 1 ≡ 1
-      go true v f = firstNo-no 1 (mayLoad (phaseOf (s .phase))) checks f
+      go : (a : Bool) → valid s ≡ a → (a && mayLoad (phaseOf (s .head .phase))) ≡ false
+          → cond a (firstNo (check 1 (mayLoad (phaseOf (s .head .phase))) ∷ checks)) 1 ≡ 1
+      go true v f = firstNo-no 1 (mayLoad (phaseOf (s .head .phase))) checks f
       go false v f = refl
 
-  pub load-1 : not b ≡ true → LoadDone s x (doingAnswer (NotDone 1)) s (x .nums) (x .bytes)
-  unfolding doingAnswer refusal written
+  pub load-1 : not b ≡ true → LoadDone s x (callAnswer (NotDone 1)) s (x .nodeTable) (x .stateTable)
+  unfolding callAnswer refusal written
   load-1 f =
       let n : refusalOn s (load x) ≡ 1 = no-number (sym may ∙ not-true b f) in
       record {
-        call = unless-done s (load x) h (mayLoad (phaseOf (s .phase))) checks refl (sym may ∙ not-true b f);
-        links-written = rw n;
-        states-written = rw n;
+        call = unless-done s (load x) h (mayLoad (phaseOf (s .head .phase))) checks refl (sym may ∙ not-true b f);
+        node-table-written = rw n;
+        state-table-written = rw n;
       }
 
   module _ (now : not b ≡ false) where
-    passes : (valid s && mayLoad (phaseOf (s .phase))) ≡ true
+    passes : (valid s && mayLoad (phaseOf (s .head .phase))) ≡ true
     passes = sym may ∙ not-false b now
 
     v : valid s ≡ true
-    v = and-left (valid s) (mayLoad (phaseOf (s .phase))) passes
+    v = and-left (valid s) (mayLoad (phaseOf (s .head .phase))) passes
 
-    on : refusal (phaseOf (s .phase)) (sizesOf s) (load x) ≡ firstNo checks
+    on : refusal (stage (phaseOf (s .head .phase)) (sizesOf s)) (load x) ≡ firstNo checks
     unfolding refusal
-    on = firstNo-yes 1 (mayLoad (phaseOf (s .phase))) checks (and-right (valid s) (mayLoad (phaseOf (s .phase))) passes)
+    on = firstNo-yes 1 (mayLoad (phaseOf (s .head .phase))) checks (and-right (valid s) (mayLoad (phaseOf (s .head .phase))) passes)
 
     number : refusalOn s (load x) ≡ firstNo checks
     unfolding refusalOn recordOf
     number = rw v on
 
-    module _ (a : Building) (nums′ bytes′ : List ℕ)
-        (D : BuildDone (firstNo checks) (builtLinks (x .plan)) (builtStates (x .plan) (x .rules)) (x .nums) (x .bytes) a nums′ bytes′) where
-      done : (k : calls.Answer) (t : Session) → CallDone s (load x) k t → LoadDone s x k t nums′ bytes′
+    module _ (a : Building) (nodeTable′ stateTable′ : List ℕ)
+        (D : BuildDone (firstNo checks) (builtNodeTable (x .plan)) (builtStateTable (x .plan) (x .rules)) (x .nodeTable) (x .stateTable) a nodeTable′ stateTable′) where
+      done : (k : calls.Answer) (t : Session) → CallDone s (load x) k t → LoadDone s x k t nodeTable′ stateTable′
       done k t c = record {
         call = c;
-        links-written = D .links-written ∙ ap (λ (i : ℕ). written i (builtLinks (x .plan)) (x .nums)) (sym number);
-        states-written = D .states-written ∙ ap (λ (i : ℕ). written i (builtStates (x .plan) (x .rules)) (x .bytes))
+        node-table-written = D .node-table-written ∙ ap (λ (i : ℕ). written i (builtNodeTable (x .plan)) (x .nodeTable)) (sym number);
+        state-table-written = D .state-table-written ∙ ap (λ (i : ℕ). written i (builtStateTable (x .plan) (x .rules)) (x .stateTable))
             (sym number);
       }
 
       module _ (e : a ≡ Built) where
         none-fails : firstNo checks ≡ 0
-        unfolding numberOf
-        none-fails = sym (D .number) ∙ ap numberOf e
+        unfolding buildingNumber
+        none-fails = sym (D .number) ∙ ap buildingNumber e
 
         pub load-headers : Headers (x .plan) (x .rules)
         load-headers =
-            let p = build-passes (x .plan) (x .rules) (length (x .nums)) (length (x .bytes)) none-fails in
+            let p = build-passes (x .plan) (x .rules) (length (x .nodeTable)) (length (x .stateTable)) none-fails in
             record {
               plan-head = p .0 .long;
               rules-head = p .1 .long;
@@ -103,16 +105,16 @@ module _ (s : Session) (h : Shaped s) (x : Lent) (b : Bool) (may : b ≡ (valid 
             }
 
         pub load-built : (t : Session) → t ≡ sessionOf (loadedFrom (x .plan) (x .rules))
-            → LoadDone s x (doingAnswer Made) t nums′ bytes′
-        unfolding doingAnswer proceeds
+            → LoadDone s x (callAnswer Accepted) t nodeTable′ stateTable′
+        unfolding callAnswer proceeds
         load-built t f =
             done calls.Answer.accepted t (proceeds-done s (load x) h v (on ∙ none-fails) calls.Answer.accepted t refl f)
 
-      pub load-refused : (k : ℕ) → a ≡ Refused k → LoadDone s x (doingAnswer (NotDone k)) s nums′ bytes′
-      unfolding doingAnswer toldBuild
-      load-refused k e = go (firstNo checks) refl (D .told)
+      pub load-refused : (k : ℕ) → a ≡ Refused k → LoadDone s x (callAnswer (NotDone k)) s nodeTable′ stateTable′
+      unfolding callAnswer buildAnswer
+      load-refused k e = go (firstNo checks) refl (D .result)
         where
-          go : (n : ℕ) → firstNo checks ≡ n → a ≡ toldBuild n → LoadDone s x (calls.Answer.refused k) s nums′ bytes′
+          go : (n : ℕ) → firstNo checks ≡ n → a ≡ buildAnswer n → LoadDone s x (calls.Answer.refused k) s nodeTable′ stateTable′
           go zero f g = let z : _≡_ {A = ℕ} 0 1 = cc in absurd (omega arith)
           go (suc n) f g =
               let q : k ≡ suc n = cc in

@@ -4,7 +4,7 @@
 --                                a list of at most w entries in an array of w
 --     padded-take                an array whose rest is zero is the list in its first entries
 --     take-long                  the length of the first entries of an array
---     copy-turn, copy-end        a list copied into an array of zeros, entry by entry
+--     copy-iteration, copy-end        a list copied into an array of zeros, entry by entry
 --     padded-more                one entry more
 -- Assumes nothing.
 use Prim.Native.Nat.{ℕ, zero, suc, _+_, _-_, _≤_, _<_}
@@ -18,8 +18,8 @@ use lib.ListN.{length, getD, set, take, drop, replicate, length-append, length-r
 use lib.Seq.{set-split, drop-drop, take-append-seam, drop-append-seam, take-at, drop-cons, set-at, take-suc, length-take-le}
 use lib.Seq.{take-length}
 use borrow.Author.Tests.{ltb-true}
-use Rattle.formats.specs.Bytes.{allBelow}
-use Rattle.formats.proofs.CheckLaws.{and-left, and-right}
+use Rattle.list_laws.specs.Tests.{allBelow}
+use Rattle.list_laws.proofs.BoolLaws.{and-left, and-right}
 use Rattle.session.specs.Records.{padded, zeroFrom}
 
 pub zero-replicate : (n : ℕ) → allBelow 1 (replicate n 0) ≡ true
@@ -75,9 +75,9 @@ drop-zeros zero w = let e : w - 0 ≡ w = omega arith in rw e
 drop-zeros (suc m) zero = let e : 0 - suc m ≡ 0 = omega arith in rw e
 drop-zeros (suc m) (suc w) = let e : suc w - suc m ≡ w - m = omega arith in rw e (drop-zeros m w)
 
-pub copy-turn : (s d₀ d : List ℕ) (i : ℕ) → i < length s → i < length d₀ → d ≡ take i s ++ drop i d₀
+pub copy-iteration : (s d₀ d : List ℕ) (i : ℕ) → i < length s → i < length d₀ → d ≡ take i s ++ drop i d₀
     → set d i (getD s i 0) ≡ take (i + 1) s ++ drop (i + 1) d₀
-copy-turn s d₀ d i h k o =
+copy-iteration s d₀ d i h k o =
     rw (
       o,
       drop-cons d₀ i 0 k,

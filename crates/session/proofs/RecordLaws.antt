@@ -11,13 +11,13 @@ use mathlib.Core.Bool.{true}
 use native.Mathlib.Omega.{arith}
 use lib.ListN.{length, take}
 use lib.Seq.{length-take-le}
-use Rattle.book.specs.Calls as calls
-use Rattle.book.specs.Model.{Record}
+use Rattle.model.specs.Calls as calls
+use Rattle.model.specs.Model.{Record}
 use Rattle.session.specs.declared.state.Phase.{Phase}
 use Rattle.session.specs.declared.state.Phase.the-variants.{Empty, Loaded, Running, Answered}
 use Rattle.session.specs.declared.state.Session.{Session}
 use Rattle.session.specs.Records.{phaseOf, phaseTo, recordOf, sessionOf, zeroFrom}
-use Rattle.session.specs.Tests.{Shaped}
+use Rattle.session.specs.inner.Shapes.{Shaped}
 use Rattle.session.proofs.PadLaws.{length-padded, take-padded, take-padded-by, padded-take}
 
 pub phase-to-of : (p : Phase) → phaseTo (phaseOf p) ≡ p
@@ -35,31 +35,31 @@ phase-of-to calls.Phase.running = refl
 phase-of-to calls.Phase.answered = refl
 
 pub record Tails (s : Session) : Type 0 where
-  pub few : s .m ≤ 64
-  pub few-parts : s .parts ≤ 254
-  pub few-handled : s .handled ≤ 254
-  pub nodes-end : zeroFrom (s .m) (s .nodes) ≡ true
-  pub labels-end : zeroFrom (s .m) (s .labels) ≡ true
-  pub roots-end : zeroFrom (s .parts) (s .roots) ≡ true
-  pub states-end : zeroFrom (s .handled) (s .states) ≡ true
+  pub few : s .head .m ≤ 64
+  pub few-parts : s .head .parts ≤ 254
+  pub few-handled : s .head .handled ≤ 254
+  pub nodes-end : zeroFrom (s .head .m) (s .nodes) ≡ true
+  pub labels-end : zeroFrom (s .head .m) (s .labels) ≡ true
+  pub roots-end : zeroFrom (s .head .parts) (s .roots) ≡ true
+  pub states-end : zeroFrom (s .head .handled) (s .states) ≡ true
 
 pub struct-of-record : (s : Session) → Shaped s → Tails s → sessionOf (recordOf s) ≡ s
 unfolding sessionOf recordOf
 struct-of-record s h t =
-    let a : length (take (s .m) (s .nodes)) ≡ s .m = length-take-le (s .m) (s .nodes) (omega arith) in
-    let b : length (take (s .m) (s .labels)) ≡ s .m = length-take-le (s .m) (s .labels) (omega arith) in
-    let c : length (take (s .parts) (s .roots)) ≡ s .parts = length-take-le (s .parts) (s .roots) (omega arith) in
-    let d : length (take (s .handled) (s .states)) ≡ s .handled = length-take-le (s .handled) (s .states) (omega arith) in
+    let a : length (take (s .head .m) (s .nodes)) ≡ s .head .m = length-take-le (s .head .m) (s .nodes) (omega arith) in
+    let b : length (take (s .head .m) (s .labels)) ≡ s .head .m = length-take-le (s .head .m) (s .labels) (omega arith) in
+    let c : length (take (s .head .parts) (s .roots)) ≡ s .head .parts = length-take-le (s .head .parts) (s .roots) (omega arith) in
+    let d : length (take (s .head .handled) (s .states)) ≡ s .head .handled = length-take-le (s .head .handled) (s .states) (omega arith) in
     rw (
-      phase-to-of (s .phase),
+      phase-to-of (s .head .phase),
       a,
       b,
       c,
       d,
-      padded-take 64 (s .m) (s .nodes) (h .nodes) (t .nodes-end),
-      padded-take 64 (s .m) (s .labels) (h .labels) (t .labels-end),
-      padded-take 254 (s .parts) (s .roots) (h .roots) (t .roots-end),
-      padded-take 254 (s .handled) (s .states) (h .states) (t .states-end),
+      padded-take 64 (s .head .m) (s .nodes) (h .nodes) (t .nodes-end),
+      padded-take 64 (s .head .m) (s .labels) (h .labels) (t .labels-end),
+      padded-take 254 (s .head .parts) (s .roots) (h .roots) (t .roots-end),
+      padded-take 254 (s .head .handled) (s .states) (h .states) (t .states-end),
     )
 
 pub record Listed (r : Record) : Type 0 where

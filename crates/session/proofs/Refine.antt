@@ -1,22 +1,22 @@
--- The calls' promises refine the model of the session (crate book, Model).
+-- The calls' promises refine the model of the session (crate model, Model).
 --     Seen s r         struct s passes its conditions and holds record r
 --     fresh-seen       the fresh session holds the fresh record
 --     call-refines     a call on such a struct: the model's step, and again such a struct
 --     read-keeps       Read alters nothing
---     step-refines     each of the five
+--     by-value-refines each of the five
 -- Assumes nothing.
 use Prim.Native.Nat.{ℕ, zero, suc}
 use mathlib.Core.Path.{_≡_, refl, sym, ap, _∙_, subst}
 use mathlib.Core.Bool.{true}
-use Rattle.book.specs.Calls.{Call, read, Answer}
-use Rattle.book.specs.Refusals.{refusal}
-use Rattle.book.specs.Model.{Record, freshRecord, idle, proceeds, unless, act, Does}
-use Rattle.book.proofs.Demand3Theorem.{Refines}
+use Rattle.model.specs.Calls.{Call, read, Answer}
+use Rattle.model.specs.Refusals.{refusal}
+use Rattle.model.specs.Model.{stageOf, Record, freshRecord, idle, proceeds, unless, act, Does}
+use Rattle.model.proofs.Refinement.{Refines}
 use Rattle.session.specs.declared.state.Session.{Session}
 use Rattle.session.specs.Records.{phaseTo, recordOf, sessionOf, freshSession, valid}
 use Rattle.session.specs.Promises.{CallDone, answerOn, recordOn}
-use Rattle.session.specs.Tests.{Shaped}
-use Rattle.session.specs.CallSteps.{Step, loads, starts, advances, cancels, reads}
+use Rattle.session.specs.inner.Shapes.{Shaped}
+use Rattle.session.specs.CallsByValue.{CallByValue, loads, starts, advances, cancels, reads}
 use Rattle.session.proofs.RecordLaws.{record-of-struct, struct-shaped}
 use Rattle.session.proofs.ActLaws.{holds-valid, listed-of, act-valid, act-shaped, act-record}
 
@@ -69,16 +69,16 @@ module _ (s : Session) (r : Record) (i : Seen s r) (c : Call) where
 -- Read alters nothing
 pub read-keeps : (r : Record) → act r read .record′ ≡ r
 unfolding act unless proceeds
-read-keeps r = go (refusal (r .phase) (r .sizes) read)
+read-keeps r = go (refusal (stageOf r) read)
   where
     go : (n : ℕ) → unless n r read .record′ ≡ r
     go zero = refl
     go (suc n) = refl
 
-pub step-refines : Refines Step Does Seen
-step-refines s s′ r c a i (loads o nums bytes d) = done-refines s r i _ _ _ (d .call)
-step-refines s s′ r c a i (starts o d) = done-refines s r i _ _ _ d
-step-refines s s′ r c a i (advances o d) = done-refines s r i _ _ _ d
-step-refines s s′ r c a i (cancels o d) = done-refines s r i _ _ _ d
-step-refines s s′ r c a i (reads o d) =
+pub by-value-refines : Refines CallByValue Does Seen
+by-value-refines s s′ r c a i (loads o nodeTable stateTable d) = done-refines s r i _ _ _ (d .call)
+by-value-refines s s′ r c a i (starts o d) = done-refines s r i _ _ _ d
+by-value-refines s s′ r c a i (advances o d) = done-refines s r i _ _ _ d
+by-value-refines s s′ r c a i (cancels o d) = done-refines s r i _ _ _ d
+by-value-refines s s′ r c a i (reads o d) =
     (r, record { tells = d ∙ answer-is s r i read; leaves = sym (read-keeps r) }, i)

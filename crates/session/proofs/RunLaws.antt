@@ -9,7 +9,7 @@ use native.Mathlib.Numerals.{add-one}
 use lib.Dec.{ltb, eqb}
 use lib.ListN.{length, getD, drop, drop-of-length-le}
 use lib.Seq.{drop-cons}
-use Rattle.formats.proofs.TurnLaws.{and-assoc}
+use Rattle.list_laws.proofs.BoolLaws.{and-assoc}
 use Rattle.session.specs.Records.{risesTo}
 
 -- the elements from place i on: the one there, and those after it
@@ -17,10 +17,10 @@ from : (l : List ℕ) (i j : ℕ) → j ≡ i + 1 → i < length l → drop i l 
 from l i j e h = rw (e, add-one) (drop-cons l i 0 h)
 
 module _ (last : ℕ) (l : List ℕ) (i j : ℕ) (e : i ≡ j + 1) where
-  pub rises-turn : (b : Bool) → i < length l
+  pub rises-iteration : (b : Bool) → i < length l
       → (b && ltb (getD l j 0) (getD l i 0) && risesTo last (drop i l)) ≡ (b && risesTo last (drop j l))
   unfolding risesTo
-  rises-turn b h =
+  rises-iteration b h =
       and-assoc b (ltb (getD l j 0) (getD l i 0)) (risesTo last (drop i l))
       ∙ ap (λ (t : List ℕ). b && (ltb (getD l j 0) (getD l i 0) && risesTo last t)) (from l i (i + 1) refl h)
       ∙ sym (ap (λ (t : List ℕ). b && risesTo last t) (from l j i e (omega arith) ∙ ap (λ (t : List ℕ). getD l j 0 ∷ t) (from l i (i + 1) refl h)))

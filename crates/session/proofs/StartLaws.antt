@@ -12,117 +12,119 @@ use lib.ListN.{length, take}
 use lib.Seq.{length-take-le}
 use borrow.Author.Tests.{not-true, not-false}
 use Rattle.formats.specs.Checks.{check, firstNo, listChecks}
-use Rattle.formats.proofs.CheckLaws.{and-left, and-right, firstNo-yes, firstNo-no, true-false}
+use Rattle.formats.specs.Rules.{ruleLength}
+use Rattle.formats.specs.Buffers.{buffersFit, LimitArgs}
+use Rattle.list_laws.proofs.BoolLaws.{and-left, and-right, true-false}
+use Rattle.formats.proofs.CheckLaws.{firstNo-yes, firstNo-no}
 use Rattle.formats.proofs.InputLaws.{ListPasses, list-passes}
+use Rattle.formats.proofs.BufferLaws.{lengths-are}
 use Rattle.questions.specs.declared.roots.Rooted.{Rooted}
-use Rattle.questions.specs.PartArgs.{LimitArgs}
-use Rattle.questions.specs.PartTold.{lengthsFit}
 use Rattle.questions.specs.Roots.{rootsOn}
-use Rattle.questions.specs.RootsTold.{rootsGiven, rootedOf}
-use Rattle.questions.proofs.PartFits.{lengths-are}
+use Rattle.questions.specs.RootsAnswers.{rootsGiven, rootedOf}
 use Rattle.questions.proofs.FitLaws.{fit-all, given-yes}
 use Rattle.questions.proofs.RootsLaws.{rootsOn-fits}
-use Rattle.book.specs.Lends.{Lent, fits}
-use Rattle.book.specs.Calls as calls
-use Rattle.book.specs.Calls.{Call, start, mayStart}
-use Rattle.book.specs.Refusals.{refusal}
-use Rattle.book.specs.Model.{startWith, started, proceeds}
+use Rattle.formats.specs.Inputs.{Inputs, fits}
+use Rattle.model.specs.Calls as calls
+use Rattle.model.specs.Calls.{Call, start, mayStart}
+use Rattle.model.specs.Refusals.{refusal, stage}
+use Rattle.model.specs.Model.{startWith, started, proceeds}
 use Rattle.session.specs.declared.state.Session.{Session}
-use Rattle.session.specs.declared.answers.Starting.the-variants.{Parts, Refused as NotStarted}
+use Rattle.session.specs.declared.answers.StartAnswer.the-variants.{Parts, Refused as NotStarted}
 use Rattle.session.specs.Records.{phaseOf, phaseTo, sizesOf, recordOf, sessionOf, padded, valid}
-use Rattle.session.specs.Promises.{CallDone, startingAnswer}
-use Rattle.session.specs.Tests.{Shaped}
-use Rattle.session.specs.Steps.{ListArgs, startedOf}
+use Rattle.session.specs.Answers.{startAnswer}
+use Rattle.session.specs.Promises.{CallDone}
+use Rattle.session.specs.inner.Shapes.{Shaped}
+use Rattle.session.specs.inner.Steps.{ListArgs, startedOf}
 use Rattle.session.proofs.Holds.{Sized, holds-of, struct-is}
 use Rattle.session.proofs.ActLaws.{start-sized}
 use Rattle.session.proofs.CallLaws.{unless-done, refused-done, proceeds-done}
 
-module _ (s : Session) (h : Shaped s) (x : Lent) (vs bs : List ℕ) (b : Bool)
-    (may : b ≡ (valid s && mayStart (phaseOf (s .phase)))) where
+module _ (s : Session) (h : Shaped s) (x : Inputs) (vs bs : List ℕ) (b : Bool)
+    (may : b ≡ (valid s && mayStart (phaseOf (s .head .phase)))) where
   abbrev C : Call
   C = start x vs bs
 
-  pub start-1 : not b ≡ true → CallDone s C (startingAnswer (NotStarted 1)) s
-  unfolding startingAnswer refusal
+  pub start-1 : not b ≡ true → CallDone s C (startAnswer (NotStarted 1)) s
+  unfolding startAnswer refusal
   start-1 f =
-      unless-done s C h (mayStart (phaseOf (s .phase))) (check 17 (fits (sizesOf s) x) ∷ listChecks (s .n) (s .k) vs bs) refl
+      unless-done s C h (mayStart (phaseOf (s .head .phase))) (check 17 (fits (sizesOf s) x) ∷ listChecks (s .head .sizes .n) (s .head .sizes .k) vs bs) refl
       (sym may ∙ not-true b f)
 
   module _ (now : not b ≡ false) where
-    passes : (valid s && mayStart (phaseOf (s .phase))) ≡ true
+    passes : (valid s && mayStart (phaseOf (s .head .phase))) ≡ true
     passes = sym may ∙ not-false b now
 
     v : valid s ≡ true
-    v = and-left (valid s) (mayStart (phaseOf (s .phase))) passes
+    v = and-left (valid s) (mayStart (phaseOf (s .head .phase))) passes
 
-    m : mayStart (phaseOf (s .phase)) ≡ true
-    m = and-right (valid s) (mayStart (phaseOf (s .phase))) passes
+    m : mayStart (phaseOf (s .head .phase)) ≡ true
+    m = and-right (valid s) (mayStart (phaseOf (s .head .phase))) passes
 
     sized : Sized (sizesOf s)
     unfolding recordOf
-    sized = start-sized (phaseOf (s .phase)) (recordOf s) m (holds-of s h v)
+    sized = start-sized (phaseOf (s .head .phase)) (recordOf s) m (holds-of s h v)
 
-    pub start-limits : LimitArgs (s .n) (s .s) (s .k)
+    pub start-limits : LimitArgs (s .head .sizes .n) (s .head .sizes .s) (s .head .sizes .k)
     start-limits = record { most = sized .nodes-most; few = sized .states-most; labels = sized .labels-most }
 
     -- past check 1
-    on : refusal (phaseOf (s .phase)) (sizesOf s) C ≡ firstNo (check 17 (fits (sizesOf s) x) ∷ listChecks (s .n) (s .k) vs bs)
+    on : refusal (stage (phaseOf (s .head .phase)) (sizesOf s)) C ≡ firstNo (check 17 (fits (sizesOf s) x) ∷ listChecks (s .head .sizes .n) (s .head .sizes .k) vs bs)
     unfolding refusal
-    on = firstNo-yes 1 (mayStart (phaseOf (s .phase))) (check 17 (fits (sizesOf s) x) ∷ listChecks (s .n) (s .k) vs bs) m
+    on = firstNo-yes 1 (mayStart (phaseOf (s .head .phase))) (check 17 (fits (sizesOf s) x) ∷ listChecks (s .head .sizes .n) (s .head .sizes .k) vs bs) m
 
     module _ (f : Bool)
-        (fit : f ≡ lengthsFit (s .n) (s .s) (s .k) (length (x .plan)) (length (x .rules)) (length (x .nums)) (length (x .bytes))) where
+        (fit : f ≡ buffersFit (s .head .sizes .n) (s .head .sizes .s) (ruleLength (s .head .sizes .s) (s .head .sizes .k)) (length (x .plan)) (length (x .rules)) (length (x .nodeTable)) (length (x .stateTable))) where
       fits-is : fits (sizesOf s) x ≡ f
-      unfolding fits lengthsFit
+      unfolding fits buffersFit
       fits-is = sym fit
 
-      pub start-17 : not f ≡ true → CallDone s C (startingAnswer (NotStarted 17)) s
-      unfolding startingAnswer
+      pub start-17 : not f ≡ true → CallDone s C (startAnswer (NotStarted 17)) s
+      unfolding startAnswer
       start-17 g =
           refused-done s C h v 16
-          (on ∙ firstNo-no 17 (fits (sizesOf s) x) (listChecks (s .n) (s .k) vs bs) (fits-is ∙ not-true f g))
+          (on ∙ firstNo-no 17 (fits (sizesOf s) x) (listChecks (s .head .sizes .n) (s .head .sizes .k) vs bs) (fits-is ∙ not-true f g))
 
       module _ (yes : not f ≡ false) where
-        pub start-room : s .n * 4 ≤ length (x .nums)
+        pub start-room : s .head .sizes .n * 4 ≤ length (x .nodeTable)
         start-room =
-            lengths-are (s .n) (s .s) (s .k) (length (x .plan)) (length (x .rules)) (length (x .nums)) (length (x .bytes))
-            (sym fit ∙ not-false f yes) .nums-room
+            lengths-are (s .head .sizes .n) (s .head .sizes .s) (ruleLength (s .head .sizes .s) (s .head .sizes .k)) (length (x .plan)) (length (x .rules)) (length (x .nodeTable)) (length (x .stateTable))
+            (sym fit ∙ not-false f yes) .node-table-room
 
-        onward : refusal (phaseOf (s .phase)) (sizesOf s) C ≡ firstNo (listChecks (s .n) (s .k) vs bs)
-        onward = on ∙ firstNo-yes 17 (fits (sizesOf s) x) (listChecks (s .n) (s .k) vs bs) (fits-is ∙ not-false f yes)
+        onward : refusal (stage (phaseOf (s .head .phase)) (sizesOf s)) C ≡ firstNo (listChecks (s .head .sizes .n) (s .head .sizes .k) vs bs)
+        onward = on ∙ firstNo-yes 17 (fits (sizesOf s) x) (listChecks (s .head .sizes .n) (s .head .sizes .k) vs bs) (fits-is ∙ not-false f yes)
 
-        module _ (q : ℕ) (list : q ≡ firstNo (listChecks (s .n) (s .k) vs bs)) where
-          pub start-list : (q ≡ 0 → ⊥) → CallDone s C (startingAnswer (NotStarted q)) s
-          unfolding startingAnswer
+        module _ (q : ℕ) (list : q ≡ firstNo (listChecks (s .head .sizes .n) (s .head .sizes .k) vs bs)) where
+          pub start-list : (q ≡ 0 → ⊥) → CallDone s C (startAnswer (NotStarted q)) s
+          unfolding startAnswer
           start-list g = go q (onward ∙ sym list) g
             where
-              go : (n : ℕ) → refusal (phaseOf (s .phase)) (sizesOf s) C ≡ n → (n ≡ 0 → ⊥)
+              go : (n : ℕ) → refusal (stage (phaseOf (s .head .phase)) (sizesOf s)) C ≡ n → (n ≡ 0 → ⊥)
                   → CallDone s C (calls.Answer.refused n) s
               go zero e i = absurd (i refl)
               go (suc n) e i = refused-done s C h v n e
 
           module _ (none-fails : q ≡ 0) where
-            list-is : ListPasses (s .n) (s .k) vs bs
-            list-is = list-passes (s .n) (s .k) vs bs (sym list ∙ none-fails)
+            list-is : ListPasses (s .head .sizes .n) (s .head .sizes .k) vs bs
+            list-is = list-passes (s .head .sizes .n) (s .head .sizes .k) vs bs (sym list ∙ none-fails)
 
             pub start-listed : ListArgs vs bs
             start-listed = record { few = list-is .most; few-labels = omega (arith, list-is .most, list-is .lengths) }
 
-            no-refusal : refusal (phaseOf (s .phase)) (sizesOf s) C ≡ 0
+            no-refusal : refusal (stage (phaseOf (s .head .phase)) (sizesOf s)) C ≡ 0
             no-refusal = onward ∙ sym list ∙ none-fails
 
-            cut : length (take (s .n * 4) (x .nums)) ≡ s .n * 4
-            cut = length-take-le (s .n * 4) (x .nums) start-room
+            cut : length (take (s .head .sizes .n * 4) (x .nodeTable)) ≡ s .head .sizes .n * 4
+            cut = length-take-le (s .head .sizes .n * 4) (x .nodeTable) start-room
 
-            given : rootsGiven (s .n) (take (s .n * 4) (x .nums)) vs ≡ rootsOn (s .n) (take (s .n * 4) (x .nums)) vs
+            given : rootsGiven (s .head .sizes .n) (take (s .head .sizes .n * 4) (x .nodeTable)) vs ≡ rootsOn (s .head .sizes .n) (take (s .head .sizes .n * 4) (x .nodeTable)) vs
             given =
-                given-yes (s .n) (take (s .n * 4) (x .nums)) vs
-                (sym (fit-all (s .n) (length (take (s .n * 4) (x .nums))) vs (sized .nodes-least) (sized .nodes-most) (omega (arith, cut))
+                given-yes (s .head .sizes .n) (take (s .head .sizes .n * 4) (x .nodeTable)) vs
+                (sym (fit-all (s .head .sizes .n) (length (take (s .head .sizes .n * 4) (x .nodeTable))) vs (sized .nodes-least) (sized .nodes-most) (omega (arith, cut))
                 (list-is .most))
                 ∙ list-is .nodes-below)
 
             -- what Start does with the roots found, or none
-            acts : (o : Option (List ℕ)) → rootsOn (s .n) (take (s .n * 4) (x .nums)) vs ≡ o
+            acts : (o : Option (List ℕ)) → rootsOn (s .head .sizes .n) (take (s .head .sizes .n * 4) (x .nodeTable)) vs ≡ o
                 → (a : calls.Answer) (t : Session) → a ≡ startWith (recordOf s) vs bs o .answer
                 → t ≡ sessionOf (startWith (recordOf s) vs bs o .record′) → CallDone s C a t
             unfolding proceeds recordOf
@@ -131,13 +133,13 @@ module _ (s : Session) (h : Shaped s) (x : Lent) (vs bs : List ℕ) (b : Bool)
                 (i ∙ ap (λ (z : Option (List ℕ)). startWith (recordOf s) vs bs z .answer) (sym e))
                 (j ∙ ap (λ (z : Option (List ℕ)). sessionOf (startWith (recordOf s) vs bs z .record′)) (sym e))
 
-            module _ (R : Rooted) (found : R ≡ rootedOf (rootsGiven (s .n) (take (s .n * 4) (x .nums)) vs)) where
-              pub start-18 : not (R .ok) ≡ true → CallDone s C (startingAnswer (NotStarted 18)) s
-              unfolding startingAnswer startWith
-              start-18 g = go (rootsOn (s .n) (take (s .n * 4) (x .nums)) vs) refl (found ∙ ap rootedOf given)
+            module _ (R : Rooted) (found : R ≡ rootedOf (rootsGiven (s .head .sizes .n) (take (s .head .sizes .n * 4) (x .nodeTable)) vs)) where
+              pub start-18 : not (R .ok) ≡ true → CallDone s C (startAnswer (NotStarted 18)) s
+              unfolding startAnswer startWith
+              start-18 g = go (rootsOn (s .head .sizes .n) (take (s .head .sizes .n * 4) (x .nodeTable)) vs) refl (found ∙ ap rootedOf given)
                 where
-                  go : (o : Option (List ℕ)) → rootsOn (s .n) (take (s .n * 4) (x .nums)) vs ≡ o
-                      → R ≡ rootedOf (rootsOn (s .n) (take (s .n * 4) (x .nums)) vs)
+                  go : (o : Option (List ℕ)) → rootsOn (s .head .sizes .n) (take (s .head .sizes .n * 4) (x .nodeTable)) vs ≡ o
+                      → R ≡ rootedOf (rootsOn (s .head .sizes .n) (take (s .head .sizes .n * 4) (x .nodeTable)) vs)
                       → CallDone s C (calls.Answer.refused 18) s
                   go none e i = acts none e (calls.Answer.refused 18) s refl (sym (struct-is s h v))
                   go (some rs) e i =
@@ -146,11 +148,11 @@ module _ (s : Session) (h : Shaped s) (x : Lent) (vs bs : List ℕ) (b : Bool)
 
               module _ (ok : not (R .ok) ≡ false) where
                 -- the roots
-                one : (rs : List ℕ) × (rootsOn (s .n) (take (s .n * 4) (x .nums)) vs ≡ some rs) × (R ≡ rootedOf (some rs))
-                one = go (rootsOn (s .n) (take (s .n * 4) (x .nums)) vs) refl
+                one : (rs : List ℕ) × (rootsOn (s .head .sizes .n) (take (s .head .sizes .n * 4) (x .nodeTable)) vs ≡ some rs) × (R ≡ rootedOf (some rs))
+                one = go (rootsOn (s .head .sizes .n) (take (s .head .sizes .n * 4) (x .nodeTable)) vs) refl
                   where
-                    go : (o : Option (List ℕ)) → rootsOn (s .n) (take (s .n * 4) (x .nums)) vs ≡ o
-                        → (rs : List ℕ) × (rootsOn (s .n) (take (s .n * 4) (x .nums)) vs ≡ some rs) × (R ≡ rootedOf (some rs))
+                    go : (o : Option (List ℕ)) → rootsOn (s .head .sizes .n) (take (s .head .sizes .n * 4) (x .nodeTable)) vs ≡ o
+                        → (rs : List ℕ) × (rootsOn (s .head .sizes .n) (take (s .head .sizes .n * 4) (x .nodeTable)) vs ≡ some rs) × (R ≡ rootedOf (some rs))
                     go none e =
                         let k : R .ok ≡ false = ap (λ (z : Rooted). z .ok) (found ∙ ap rootedOf (given ∙ e)) in
                         absurd (true-false (sym (not-false (R .ok) ok) ∙ k))
@@ -161,17 +163,17 @@ module _ (s : Session) (h : Shaped s) (x : Lent) (vs bs : List ℕ) (b : Bool)
                     let k : R .count ≡ length (one .0) = ap (λ (z : Rooted). z .count) (one .2) in
                     omega (
                       arith,
-                      rootsOn-fits (s .n) (take (s .n * 4) (x .nums)) vs (one .0) (omega (arith, sized .nodes-least))
+                      rootsOn-fits (s .head .sizes .n) (take (s .head .sizes .n * 4) (x .nodeTable)) vs (one .0) (omega (arith, sized .nodes-least))
                           (list-is .nodes-below)
                           (one .1) (list-is .most),
                     )
 
-                pub start-yes : (t : Session) → t ≡ startedOf s vs bs (R .count) (R .nodes)
-                    → CallDone s C (startingAnswer (Parts (R .count))) t
-                unfolding startingAnswer startWith started sessionOf phaseTo recordOf
+                pub start-yes : (t : Session) → t ≡ startedOf (s .head .sizes) vs bs (R .count) (R .nodes)
+                    → CallDone s C (startAnswer (Parts (R .count))) t
+                unfolding startAnswer startWith started sessionOf phaseTo recordOf
                 start-yes t e =
                     let k : R .count ≡ length (one .0) = ap (λ (z : Rooted). z .count) (one .2) in
                     let l : R .nodes ≡ padded 254 (one .0) = ap (λ (z : Rooted). z .nodes) (one .2) in
                     acts (some (one .0)) (one .1) (calls.Answer.parts (R .count)) t (ap calls.Answer.parts k)
-                    (e ∙ ap (λ (i : ℕ). startedOf s vs bs i (R .nodes)) k
-                    ∙ ap (λ (z : List ℕ). startedOf s vs bs (length (one .0)) z) l)
+                    (e ∙ ap (λ (i : ℕ). startedOf (s .head .sizes) vs bs i (R .nodes)) k
+                    ∙ ap (λ (z : List ℕ). startedOf (s .head .sizes) vs bs (length (one .0)) z) l)

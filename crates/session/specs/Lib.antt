@@ -1,5 +1,5 @@
 pub mod Records
+pub mod Answers
 pub mod Promises
-pub mod Tests
-pub mod Steps
-pub mod CallSteps
+pub mod CallsByValue
+pub mod inner

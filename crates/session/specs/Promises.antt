@@ -1,9 +1,7 @@
--- What the five calls promise, on every record and whatever is lent.
+-- What the five calls promise, on every record and whatever the inputs.
 --
--- doingAnswer, startingAnswer, advancingAnswer, readingAnswer == document 01's answer (crate book, Calls) of each case of a call's enum:
---   its number and values
 -- answerOn s c, recordOn s c, refusalOn s c == the answer of call c on struct s, the struct after it, and its refusal's number, 18 apart.
---   A struct that breaks the layout's conditions gets 1; on any other the answer and the whole record are those of `act` (crate book, Model)
+--   A struct that breaks the layout's conditions gets 1; on any other the answer and the whole record are those of `act` (crate model, Model)
 -- CallDone, LoadDone == the promises
 --
 -- Assumes nothing.
@@ -11,40 +9,15 @@ use Prim.Native.Nat.{ℕ}
 use mathlib.Core.Path.{_≡_}
 use mathlib.Core.Bool.{true, cond}
 use mathlib.Core.List.{List}
-use Rattle.formats.specs.Built.{builtLinks, builtStates}
+use Rattle.formats.specs.Built.{builtNodeTable, builtStateTable}
 use Rattle.tables.specs.Answers.{written}
-use Rattle.book.specs.Lends.{Lent}
-use Rattle.book.specs.Calls.{Call, load, Answer, refused, accepted, parts, more, finished, told}
-use Rattle.book.specs.Refusals.{refusal}
-use Rattle.book.specs.Model.{act}
-use Rattle.book.specs.Kept.{Kept}
+use Rattle.formats.specs.Inputs.{Inputs}
+use Rattle.model.specs.Calls.{Call, load, Answer, refused}
+use Rattle.model.specs.Refusals.{refusal}
+use Rattle.model.specs.Model.{stageOf, act}
+use Rattle.model.specs.LeftOpen.{LeftOpen}
 use Rattle.session.specs.declared.state.Session.{Session}
-use Rattle.session.specs.declared.answers.Doing.{Doing}
-use Rattle.session.specs.declared.answers.Doing.the-variants.{Done as Made, Refused as NotDone}
-use Rattle.session.specs.declared.answers.Starting.{Starting}
-use Rattle.session.specs.declared.answers.Starting.the-variants.{Parts, Refused as NotStarted}
-use Rattle.session.specs.declared.answers.Advancing.{Advancing}
-use Rattle.session.specs.declared.answers.Advancing.the-variants.{More, Finished, Refused as NotAdvanced}
-use Rattle.session.specs.declared.answers.Reading.{Reading}
-use Rattle.session.specs.declared.answers.Reading.the-variants.{Told, Refused as NotRead}
 use Rattle.session.specs.Records.{recordOf, sessionOf, valid}
-
-unfoldable pub doingAnswer : Doing → Answer
-doingAnswer Made = accepted
-doingAnswer (NotDone n) = refused n
-
-unfoldable pub startingAnswer : Starting → Answer
-startingAnswer (Parts p) = parts p
-startingAnswer (NotStarted n) = refused n
-
-unfoldable pub advancingAnswer : Advancing → Answer
-advancingAnswer More = more
-advancingAnswer Finished = finished
-advancingAnswer (NotAdvanced n) = refused n
-
-unfoldable pub readingAnswer : Reading → Answer
-readingAnswer (Told q y p l) = told q y p l
-readingAnswer (NotRead n) = refused n
 
 -- the answer and the record of a call on a struct
 unfoldable pub answerOn : Session → Call → Answer
@@ -55,19 +28,19 @@ recordOn s c = cond (valid s) (sessionOf (act (recordOf s) c .record′)) s
 
 -- the number of the refusal of a call on a struct, 18 apart
 unfoldable pub refusalOn : Session → Call → ℕ
-refusalOn s c = cond (valid s) (refusal (recordOf s .phase) (recordOf s .sizes) c) 1
+refusalOn s c = cond (valid s) (refusal (stageOf (recordOf s)) c) 1
 
 pub record CallDone (s : Session) (c : Call) (a : Answer) (s′ : Session) : Type 0 where
   -- what is told and the whole record after
   pub tells : a ≡ answerOn s c
   pub leaves : s′ ≡ recordOn s c
   -- "nothing else is returned and nothing is altered"
-  pub keeps : (n : ℕ) → a ≡ refused n → s′ ≡ s
+  pub unchanged : (n : ℕ) → a ≡ refused n → s′ ≡ s
   -- what is left to the program has these properties
-  pub kept : valid s ≡ true → Kept (recordOf s) c a (act (recordOf s) c .record′)
+  pub properties : valid s ≡ true → LeftOpen (recordOf s) c a (act (recordOf s) c .record′)
 
--- Load's besides: the tables of the definition in the lent buffers, excess untouched; as at entry where it is refused
-pub record LoadDone (s : Session) (x : Lent) (a : Answer) (s′ : Session) (nums′ bytes′ : List ℕ) : Type 0 where
+-- Load's besides: the tables of the definition in the buffers given, excess untouched; as at entry where it is refused
+pub record LoadDone (s : Session) (x : Inputs) (a : Answer) (s′ : Session) (nodeTable′ stateTable′ : List ℕ) : Type 0 where
   pub call : CallDone s (load x) a s′
-  pub links-written : nums′ ≡ written (refusalOn s (load x)) (builtLinks (x .plan)) (x .nums)
-  pub states-written : bytes′ ≡ written (refusalOn s (load x)) (builtStates (x .plan) (x .rules)) (x .bytes)
+  pub node-table-written : nodeTable′ ≡ written (refusalOn s (load x)) (builtNodeTable (x .plan)) (x .nodeTable)
+  pub state-table-written : stateTable′ ≡ written (refusalOn s (load x)) (builtStateTable (x .plan) (x .rules)) (x .stateTable)

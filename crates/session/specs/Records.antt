@@ -1,24 +1,28 @@
 -- The session's struct and document 01's record.
 --
--- recordOf s == the record (crate book, Model) that a struct holds: its arrays cut to their counts
+-- recordOf s == the record (crate model, Model) that a struct holds: its arrays cut to their counts
 -- sessionOf r == the struct of a record: "unused entries are zero"
 -- valid s == whether a struct can be a session's: the conditions of docs/LAYOUT.md, all that can be said without plan and rules
--- headOf s, whole h nodes labels roots states == the record without its arrays, and the record of such a head and four arrays
+-- whole h nodes labels roots states == the struct of a head and four arrays
+-- idleSession p z == a struct in state p, of N, S and K as in z, with no question
+-- LimitsAre n s k m == the session's constants have the limits' values
 -- freshSession == "a fresh session is made with nothing given": all zero
 --
 -- Assumes nothing.
 use Prim.Native.Nat.{ℕ, _-_, _*_}
+use mathlib.Core.Path.{_≡_}
 use mathlib.Core.Bool.{Bool, false, not, _&&_}
 use mathlib.Core.List.{List, [], _∷_, _++_}
 use lib.Dec.{leb, ltb, eqb}
 use lib.ListN.{length, take, drop, replicate}
-use Rattle.formats.specs.Bytes.{allBelow}
+use Rattle.list_laws.specs.Tests.{allBelow}
 use Rattle.formats.specs.Limits.{nodeLimit, stateLimit, labelLimit, changeLimit, within}
-use Rattle.book.specs.Lends.{Sizes}
-use Rattle.book.specs.Calls as calls
-use Rattle.book.specs.Model.{Record}
+use Rattle.formats.specs.Inputs.{Sizes}
+use Rattle.model.specs.Calls as calls
+use Rattle.model.specs.Model.{Record}
 use Rattle.session.specs.declared.state.Phase.{Phase}
 use Rattle.session.specs.declared.state.Phase.the-variants.{Empty, Loaded, Running, Answered}
+use Rattle.session.specs.declared.state.Sizes.{Sizes as HeadSizes}
 use Rattle.session.specs.declared.state.Head.{Head}
 use Rattle.session.specs.declared.state.Session.{Session}
 
@@ -35,18 +39,18 @@ phaseTo calls.Phase.running = Running
 phaseTo calls.Phase.answered = Answered
 
 abbrev pub sizesOf : Session → Sizes
-sizesOf s = record { n = s .n; s = s .s; k = s .k }
+sizesOf s = record { n = s .head .sizes .n; s = s .head .sizes .s; k = s .head .sizes .k }
 
 unfoldable pub recordOf : Session → Record
 recordOf s = record {
-  phase = phaseOf (s .phase);
+  phase = phaseOf (s .head .phase);
   sizes = sizesOf s;
-  nodes = take (s .m) (s .nodes);
-  labels = take (s .m) (s .labels);
-  roots = take (s .parts) (s .roots);
-  states = take (s .handled) (s .states);
-  links = s .links;
-  yes = s .yes;
+  nodes = take (s .head .m) (s .nodes);
+  labels = take (s .head .m) (s .labels);
+  roots = take (s .head .parts) (s .roots);
+  states = take (s .head .handled) (s .states);
+  links = s .head .links;
+  yes = s .head .yes;
 }
 
 -- a list in an array of w entries, the rest zero
@@ -55,68 +59,40 @@ padded w l = l ++ replicate (w - length l) 0
 
 unfoldable pub sessionOf : Record → Session
 sessionOf r = record {
-  phase = phaseTo (r .phase);
-  yes = r .yes;
-  n = r .sizes .n;
-  s = r .sizes .s;
-  k = r .sizes .k;
-  m = length (r .nodes);
-  parts = length (r .roots);
-  handled = length (r .states);
-  links = r .links;
+  head = record {
+    phase = phaseTo (r .phase);
+    yes = r .yes;
+    sizes = record { n = r .sizes .n; s = r .sizes .s; k = r .sizes .k };
+    m = length (r .nodes);
+    parts = length (r .roots);
+    handled = length (r .states);
+    links = r .links;
+  };
   nodes = padded 64 (r .nodes);
   labels = padded 64 (r .labels);
   roots = padded 254 (r .roots);
   states = padded 254 (r .states);
 }
 
--- the record without its arrays, and the record of such a head and four arrays
-abbrev pub headOf : Session → Head
-headOf s = record {
-  phase = s .phase;
-  yes = s .yes;
-  n = s .n;
-  s = s .s;
-  k = s .k;
-  m = s .m;
-  parts = s .parts;
-  handled = s .handled;
-  links = s .links;
-}
-
 abbrev pub whole : Head → List ℕ → List ℕ → List ℕ → List ℕ → Session
-whole h nodes labels roots states = record {
-  phase = h .phase;
-  yes = h .yes;
-  n = h .n;
-  s = h .s;
-  k = h .k;
-  m = h .m;
-  parts = h .parts;
-  handled = h .handled;
-  links = h .links;
-  nodes = nodes;
-  labels = labels;
-  roots = roots;
-  states = states;
-}
+whole h nodes labels roots states = record { head = h; nodes = nodes; labels = labels; roots = roots; states = states }
+
+abbrev pub idleSession : Phase → HeadSizes → Session
+idleSession p z =
+    whole (record { phase = p; yes = false; sizes = z; m = 0; parts = 0; handled = 0; links = 0 })
+    (replicate 64 0) (replicate 64 0) (replicate 254 0) (replicate 254 0)
 
 abbrev pub freshSession : Session
-freshSession = record {
-  phase = Empty;
-  yes = false;
-  n = 0;
-  s = 0;
-  k = 0;
-  m = 0;
-  parts = 0;
-  handled = 0;
-  links = 0;
-  nodes = replicate 64 0;
-  labels = replicate 64 0;
-  roots = replicate 254 0;
-  states = replicate 254 0;
-}
+freshSession = idleSession Empty (record { n = 0; s = 0; k = 0 })
+
+-- ---- the limits
+
+-- "N 1 to 65,535; S 1 to 16; K 1 to 64; m, the changes in a list, 0 to 64."
+pub record LimitsAre (n s k m : ℕ) : Type 0 where
+  pub nodes : n ≡ nodeLimit
+  pub states : s ≡ stateLimit
+  pub labels : k ≡ labelLimit
+  pub changes : m ≡ changeLimit
 
 -- ---- the conditions
 
@@ -129,35 +105,41 @@ risesTo last (x ∷ y ∷ l) = ltb x y && risesTo last (y ∷ l)
 unfoldable pub zeroFrom : ℕ → List ℕ → Bool
 zeroFrom i l = allBelow 1 (drop i l)
 
-unfoldable pub sizesFit : Session → Bool
-sizesFit s = within 1 nodeLimit (s .n) && (within 1 stateLimit (s .s) && within 1 labelLimit (s .k))
+unfoldable pub sizesFit : HeadSizes → Bool
+sizesFit z = within 1 nodeLimit (z .n) && (within 1 stateLimit (z .s) && within 1 labelLimit (z .k))
 
 -- no question: nothing listed, no part, no state, no link, no yes
 unfoldable pub noQuestion : Session → Bool
 noQuestion s =
-    not (s .yes)
-    && (eqb (s .m) 0 && (eqb (s .parts) 0 && (eqb (s .handled) 0 && (eqb (s .links) 0
+    not (s .head .yes)
+    && (eqb (s .head .m) 0 && (eqb (s .head .parts) 0 && (eqb (s .head .handled) 0 && (eqb (s .head .links) 0
     && (zeroFrom 0 (s .nodes) && (zeroFrom 0 (s .labels) && (zeroFrom 0 (s .roots) && zeroFrom 0 (s .states))))))))
 
 unfoldable pub listFits : Session → Bool
 listFits s =
-    leb (s .m) changeLimit
-    && (allBelow (s .n) (take (s .m) (s .nodes)) && (allBelow (s .k) (take (s .m) (s .labels))
-    && (zeroFrom (s .m) (s .nodes) && zeroFrom (s .m) (s .labels))))
+    leb (s .head .m) changeLimit
+    && (allBelow (s .head .sizes .n) (take (s .head .m) (s .nodes)) && (allBelow (s .head .sizes .k) (take (s .head .m) (s .labels))
+    && (zeroFrom (s .head .m) (s .nodes) && zeroFrom (s .head .m) (s .labels))))
 
 unfoldable pub partsFit : Session → Bool
 partsFit s =
-    within 1 254 (s .parts)
-    && (risesTo (s .n - 1) (take (s .parts) (s .roots)) && (zeroFrom (s .parts) (s .roots)
-    && (allBelow (s .s) (take (s .handled) (s .states)) && (zeroFrom (s .handled) (s .states)
-    && leb (s .links) (65535 * s .handled)))))
+    within 1 254 (s .head .parts)
+    && (risesTo (s .head .sizes .n - 1) (take (s .head .parts) (s .roots)) && (zeroFrom (s .head .parts) (s .roots)
+    && (allBelow (s .head .sizes .s) (take (s .head .handled) (s .states)) && (zeroFrom (s .head .handled) (s .states)
+    && leb (s .head .links) (65535 * s .head .handled)))))
+
+-- a question: its sizes, changes and parts, and no more parts handled than there are
+unfoldable pub questionFits : Session → Bool
+questionFits s =
+    sizesFit (s .head .sizes) && (listFits s && (partsFit s && leb (s .head .handled) (s .head .parts)))
 
 -- in each state
 unfoldable pub validIn : Phase → Session → Bool
-validIn Empty s = eqb (s .n) 0 && (eqb (s .s) 0 && (eqb (s .k) 0 && noQuestion s))
-validIn Loaded s = sizesFit s && noQuestion s
-validIn Running s = sizesFit s && (listFits s && (partsFit s && (ltb (s .handled) (s .parts) && not (s .yes))))
-validIn Answered s = sizesFit s && (listFits s && (partsFit s && eqb (s .handled) (s .parts)))
+validIn Empty s =
+    eqb (s .head .sizes .n) 0 && (eqb (s .head .sizes .s) 0 && (eqb (s .head .sizes .k) 0 && noQuestion s))
+validIn Loaded s = sizesFit (s .head .sizes) && noQuestion s
+validIn Running s = questionFits s && (ltb (s .head .handled) (s .head .parts) && not (s .head .yes))
+validIn Answered s = questionFits s && eqb (s .head .handled) (s .head .parts)
 
 unfoldable pub valid : Session → Bool
-valid s = validIn (s .phase) s
+valid s = validIn (s .head .phase) s

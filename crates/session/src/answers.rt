@@ -1,51 +1,60 @@
+// What the calls answer, and what an advance finds.
 use crate::state::Head;
 use crate::state::Session;
 
-// Load and Cancel: done, or a refusal's number.
-pub enum Doing {
-    Done,
+// Load and Cancel: accepted, or a refusal's number.
+pub enum CallAnswer {
+    Accepted,
     Refused(u8),
 }
 
 // Start: the number of parts, or a refusal's number.
-pub enum Starting {
+pub enum StartAnswer {
     Parts(u8),
     Refused(u8),
 }
 
 // Advance: whether there is more, or a refusal's number.
-pub enum Advancing {
+pub enum AdvanceAnswer {
     More,
     Finished,
     Refused(u8),
 }
 
-// Read: state, yes or no, parts and links, or a refusal's number.
-pub enum Reading {
-    Told(u8, bool, u8, u32),
+// What Read tells of a finished question: the root's state, the yes or no, how many parts, and the links of all climbs.
+pub struct Outcome {
+    pub state: u8,
+    pub yes: bool,
+    pub parts: u8,
+    pub links: u32,
+}
+
+// Read: the outcome, or a refusal's number.
+pub enum ReadAnswer {
+    Outcome(Outcome),
     Refused(u8),
 }
 
 // An answer with the record that the call leaves.
-pub struct Done {
-    pub told: Doing,
-    pub rec: Session,
+pub struct Called {
+    pub answer: CallAnswer,
+    pub session: Session,
 }
 
 pub struct Started {
-    pub told: Starting,
-    pub rec: Session,
+    pub answer: StartAnswer,
+    pub session: Session,
 }
 
 pub struct Advanced {
-    pub told: Advancing,
-    pub rec: Session,
+    pub answer: AdvanceAnswer,
+    pub session: Session,
 }
 
-// What an advance finds: its answer, the record's head after it, and whether it stores a state, and which.
-pub struct Step {
-    pub told: Advancing,
+// What an advance finds: its answer, the record's head after it, whether it stores a state, and which.
+pub struct AdvanceStep {
+    pub answer: AdvanceAnswer,
     pub head: Head,
-    pub made: bool,
+    pub stored: bool,
     pub state: u8,
 }

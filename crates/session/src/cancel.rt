@@ -1,54 +1,32 @@
-// Cancel and Read: they need only the record.
-use crate::answers::Doing;
-use crate::answers::Done;
-use crate::answers::Reading;
+// Cancel: check 1. It needs only the record.
+use crate::answers::CallAnswer;
+use crate::answers::Called;
 use crate::loaded::loaded;
-use crate::may::is_answered;
-use crate::may::is_running;
+use crate::may::allowed;
+use crate::may::may_advance;
 use crate::state::Session;
-ghost use mathlib.Core.Path.{_≡_};
-ghost use Rattle.book.specs.Calls as calls;
-ghost use Rattle.session.specs.Promises.{CallDone, doingAnswer, readingAnswer, answerOn};
+ghost use Rattle.model.specs.Calls as calls;
+ghost use Rattle.session.specs.Answers.{callAnswer};
+ghost use Rattle.session.specs.Promises.{CallDone};
 
 impl Session {
     // Ends a question: the record is as after a first Load.
-    pub fn cancel(self) -> Done
-        ensures { λ r. ⌜ CallDone self calls.cancel (doingAnswer (r .told)) (r .rec) ⌝ }
+    pub fn cancel(self) -> Called
+        ensures { λ r. ⌜ CallDone self calls.cancel (callAnswer (r .answer)) (r .session) ⌝ }
     {
-        if !is_running(
-            self.head(),
-            &self.nodes,
-            &self.labels,
-            &self.roots,
-            &self.states,
-        ) {
-            return Done {
-                told: Doing::Refused(1),
-                rec: self,
+        let h = self.head;
+        let phase = h.phase;
+        let may = may_advance(phase);
+        if !allowed(may, h, &self.nodes, &self.labels, &self.roots, &self.states) {
+            return Called {
+                answer: CallAnswer::Refused(1),
+                session: self,
             };
         }
-        let rec = loaded(self.n, self.s, self.k);
-        Done {
-            told: Doing::Done,
-            rec,
+        let session = loaded(h.sizes);
+        Called {
+            answer: CallAnswer::Accepted,
+            session,
         }
-    }
-
-    // Tells the root's state, the yes or no, the parts and the links.
-    pub fn read(self) -> Reading
-        ensures { λ r. ⌜ readingAnswer r ≡ answerOn self calls.read ⌝ }
-    {
-        if !is_answered(
-            self.head(),
-            &self.nodes,
-            &self.labels,
-            &self.roots,
-            &self.states,
-        ) {
-            return Reading::Refused(1);
-        }
-        let states = self.states;
-        let last = self.handled as usize - 1;
-        Reading::Told(states[last], self.yes, self.parts, self.links)
     }
 }

@@ -3,13 +3,14 @@
 //     answers  what the calls answer, and what an advance finds
 //     lists    tests of lists of numbers
 //     valid    whether a struct can be a session's
-//     may      which calls may be made
+//     may      check 1: which calls may be made
 //     loaded   the record after a first Load
 //     fill     lists in the record's arrays
 //     load     Load
 //     start    Start
 //     advance  advance
-//     cancel   Cancel and Read
+//     cancel   Cancel
+//     read     Read
 mod advance;
 pub mod answers;
 mod cancel;
@@ -18,6 +19,7 @@ mod lists;
 mod load;
 mod loaded;
 mod may;
+mod read;
 mod start;
 pub mod state;
 mod valid;

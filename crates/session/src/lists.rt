@@ -1,6 +1,6 @@
 // Tests of lists of numbers. There is no early exit: the loops can be done many numbers at a time.
 ghost use mathlib.Core.Path.{_≡_};
-ghost use Rattle.formats.specs.Bytes.{allBelow};
+ghost use Rattle.list_laws.specs.Tests.{allBelow};
 ghost use Rattle.session.specs.Records.{risesTo};
 
 // Whether every number is below the bound.

@@ -1,46 +1,51 @@
 // Load: check 1, then the build with its checks 2 to 11.
-use crate::answers::Doing;
-use crate::answers::Done;
+use crate::answers::CallAnswer;
+use crate::answers::Called;
 use crate::loaded::loaded_from;
+use crate::may::allowed;
 use crate::may::may_load;
 use crate::state::Session;
 use tables::answers::Building;
-use tables::build::build_rules;
-ghost use Rattle.session.specs.Promises.{LoadDone, doingAnswer};
-ghost use Rattle.session.specs.Tests.{lentOf};
+use tables::build::build_tables;
+ghost use Rattle.session.specs.Answers.{callAnswer};
+ghost use Rattle.session.specs.Promises.{LoadDone};
+ghost use Rattle.formats.specs.Inputs.{inputsOf};
 
 impl Session {
     // Builds the tables of a plan and rules into the lent buffers.
-    pub fn load(self, plan: &[u8], rules: &[u8], nums: &mut [u16], bytes: &mut [u8]) -> Done
+    pub fn load(
+        self,
+        plan: &[u8],
+        rules: &[u8],
+        node_table: &mut [u16],
+        state_table: &mut [u8],
+    ) -> Called
         ensures { λ r. ⌜
             LoadDone self
-            (lentOf (now (plan .entry)) (now (rules .entry)) (now (nums .entry)) (now (bytes .entry)))
-            (doingAnswer (r .told)) (r .rec) (now (nums .exit)) (now (bytes .exit)) ⌝ }
+            (inputsOf (now (plan .entry)) (now (rules .entry)) (now («node_table» .entry)) (now («state_table» .entry)))
+            (callAnswer (r .answer)) (r .session) (now («node_table» .exit)) (now («state_table» .exit)) ⌝ }
     {
-        if !may_load(
-            self.head(),
-            &self.nodes,
-            &self.labels,
-            &self.roots,
-            &self.states,
-        ) {
-            return Done {
-                told: Doing::Refused(1),
-                rec: self,
+        let h = self.head;
+        let phase = h.phase;
+        let may = may_load(phase);
+        if !allowed(may, h, &self.nodes, &self.labels, &self.roots, &self.states) {
+            return Called {
+                answer: CallAnswer::Refused(1),
+                session: self,
             };
         }
-        match build_rules(plan, rules, nums, bytes) {
+        match build_tables(plan, rules, node_table, state_table) {
             Building::Built => {
-                let rec = loaded_from(plan, rules);
-                return Done {
-                    told: Doing::Done,
-                    rec,
+                let session = loaded_from(plan, rules);
+                return Called {
+                    answer: CallAnswer::Accepted,
+                    session,
                 };
             }
             Building::Refused(n) => {
-                return Done {
-                    told: Doing::Refused(n),
-                    rec: self,
+                return Called {
+                    answer: CallAnswer::Refused(n),
+                    session: self,
                 };
             }
         }

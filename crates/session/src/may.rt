@@ -1,101 +1,77 @@
-// Which calls may be made: check 1, of a record that can be a session's and is in a state that allows the call.
-// The record is given as its head and its four arrays, lent.
+// Check 1: which calls may be made.
+//     may_load, may_start, may_advance, may_read   the states that allow a call
+//     allowed                                      and the record can be a session's
 use crate::state::Head;
 use crate::state::Phase;
-use crate::valid::answered_fits;
-use crate::valid::empty_fits;
-use crate::valid::loaded_fits;
-use crate::valid::running_fits;
+use crate::valid::fits;
 ghost use mathlib.Core.Path.{_≡_};
 ghost use mathlib.Core.Bool.{_&&_};
-ghost use Rattle.book.specs.Calls.{mayLoad, mayStart, isRunning, isAnswered};
+ghost use Rattle.model.specs.Calls.{mayLoad, mayStart, isRunning, isAnswered};
 ghost use Rattle.session.specs.Records.{phaseOf, whole, valid};
-ghost use Rattle.session.specs.Tests.{Shaped};
 
 // Load: unless running.
-pub fn may_load<'a>(
-    h: Head,
-    nodes: &'a [u16],
-    labels: &'a [u8],
-    roots: &'a [u16],
-    states: &'a [u8],
-) -> bool
-    requires { ⌜ Shaped (whole h (now nodes) (now labels) (now roots) (now states)) ⌝ }
-    ensures { λ r. ⌜ r
-        ≡ (valid (whole h (now (nodes .entry)) (now (labels .entry)) (now (roots .entry)) (now (states .entry)))
-        && mayLoad (phaseOf (h .phase))) ⌝ }
+pub fn may_load(phase: Phase) -> bool
+    ensures { λ r. ⌜ r ≡ mayLoad (phaseOf phase) ⌝ }
 {
-    let phase = h.phase;
     match phase {
-        Phase::Empty => empty_fits(h, nodes, labels, roots, states),
-        Phase::Loaded => loaded_fits(h, nodes, labels, roots, states),
+        Phase::Empty => true,
+        Phase::Loaded => true,
         Phase::Running => false,
-        Phase::Answered => answered_fits(h, nodes, labels, roots, states),
+        Phase::Answered => true,
     }
 }
 
 // Start: in loaded or answered.
-pub fn may_start<'a>(
-    h: Head,
-    nodes: &'a [u16],
-    labels: &'a [u8],
-    roots: &'a [u16],
-    states: &'a [u8],
-) -> bool
-    requires { ⌜ Shaped (whole h (now nodes) (now labels) (now roots) (now states)) ⌝ }
-    ensures { λ r. ⌜ r
-        ≡ (valid (whole h (now (nodes .entry)) (now (labels .entry)) (now (roots .entry)) (now (states .entry)))
-        && mayStart (phaseOf (h .phase))) ⌝ }
+pub fn may_start(phase: Phase) -> bool
+    ensures { λ r. ⌜ r ≡ mayStart (phaseOf phase) ⌝ }
 {
-    let phase = h.phase;
     match phase {
         Phase::Empty => false,
-        Phase::Loaded => loaded_fits(h, nodes, labels, roots, states),
+        Phase::Loaded => true,
         Phase::Running => false,
-        Phase::Answered => answered_fits(h, nodes, labels, roots, states),
+        Phase::Answered => true,
     }
 }
 
 // Advance and Cancel: in running.
-pub fn is_running<'a>(
-    h: Head,
-    nodes: &'a [u16],
-    labels: &'a [u8],
-    roots: &'a [u16],
-    states: &'a [u8],
-) -> bool
-    requires { ⌜ Shaped (whole h (now nodes) (now labels) (now roots) (now states)) ⌝ }
-    ensures { λ r. ⌜ r
-        ≡ (valid (whole h (now (nodes .entry)) (now (labels .entry)) (now (roots .entry)) (now (states .entry)))
-        && isRunning (phaseOf (h .phase))) ⌝ }
+pub fn may_advance(phase: Phase) -> bool
+    ensures { λ r. ⌜ r ≡ isRunning (phaseOf phase) ⌝ }
 {
-    let phase = h.phase;
     match phase {
         Phase::Empty => false,
         Phase::Loaded => false,
-        Phase::Running => running_fits(h, nodes, labels, roots, states),
+        Phase::Running => true,
         Phase::Answered => false,
     }
 }
 
 // Read: in answered.
-pub fn is_answered<'a>(
-    h: Head,
-    nodes: &'a [u16],
-    labels: &'a [u8],
-    roots: &'a [u16],
-    states: &'a [u8],
-) -> bool
-    requires { ⌜ Shaped (whole h (now nodes) (now labels) (now roots) (now states)) ⌝ }
-    ensures { λ r. ⌜ r
-        ≡ (valid (whole h (now (nodes .entry)) (now (labels .entry)) (now (roots .entry)) (now (states .entry)))
-        && isAnswered (phaseOf (h .phase))) ⌝ }
+pub fn may_read(phase: Phase) -> bool
+    ensures { λ r. ⌜ r ≡ isAnswered (phaseOf phase) ⌝ }
 {
-    let phase = h.phase;
     match phase {
         Phase::Empty => false,
         Phase::Loaded => false,
         Phase::Running => false,
-        Phase::Answered => answered_fits(h, nodes, labels, roots, states),
+        Phase::Answered => true,
     }
+}
+
+// Check 1 of a call that the record's state allows or not. The record is given as its head and its four arrays, lent; it is tested
+// only where the state allows the call.
+pub fn allowed<'a>(
+    may: bool,
+    h: Head,
+    nodes: &'a [u16; 64],
+    labels: &'a [u8; 64],
+    roots: &'a [u16; 254],
+    states: &'a [u8; 254],
+) -> bool
+    ensures { λ r. ⌜ r
+        ≡ (valid (whole h (now (nodes .entry)) (now (labels .entry)) (now (roots .entry)) (now (states .entry))) && may) ⌝ }
+{
+    if !may {
+        return false;
+    }
+    fits(h, nodes, labels, roots, states)
 }

@@ -1,39 +1,44 @@
 // Start: checks 1, 17 and 12 to 15, then the roots of the parts; 18 where there are none.
+use crate::answers::StartAnswer;
 use crate::answers::Started;
-use crate::answers::Starting;
 use crate::fill::padded_labels;
 use crate::fill::padded_nodes;
+use crate::may::allowed;
 use crate::may::may_start;
+use crate::state::Head;
 use crate::state::Phase;
 use crate::state::Session;
+use crate::state::Sizes;
+use formats::buffers::rule_buffers_fit;
 use formats::lists::check_list;
-use questions::fits::lengths_fit;
 use questions::roots::roots;
 ghost use mathlib.Core.Path.{_≡_};
-ghost use Rattle.book.specs.Calls as calls;
-ghost use Rattle.session.specs.Promises.{CallDone, startingAnswer};
-ghost use Rattle.session.specs.Tests.{lentOf};
-ghost use Rattle.session.specs.Steps.{ListArgs, startedOf};
+ghost use Rattle.model.specs.Calls as calls;
+ghost use Rattle.session.specs.Answers.{startAnswer};
+ghost use Rattle.session.specs.Promises.{CallDone};
+ghost use Rattle.formats.specs.Inputs.{inputsOf};
+ghost use Rattle.session.specs.inner.Steps.{ListArgs, startedOf};
 
 // A running session with its question and no part handled. Nothing of an earlier question is left.
-fn started(s: Session, nodes: &[u16], labels: &[u8], parts: u8, roots: [u16; 254]) -> Session
+fn started(sizes: Sizes, nodes: &[u16], labels: &[u8], parts: u8, roots: [u16; 254]) -> Session
     requires { ⌜ ListArgs (now nodes) (now labels) ⌝ }
-    ensures { λ r. ⌜ r ≡ startedOf s (now (nodes .entry)) (now (labels .entry)) parts roots ⌝ }
+    ensures { λ r. ⌜ r ≡ startedOf sizes (now (nodes .entry)) (now (labels .entry)) parts roots ⌝ }
 {
     let states = [0u8; 254];
     let listed = padded_nodes(nodes);
     let changes = padded_labels(labels);
     let m = nodes.len() as u8;
-    Session {
+    let head = Head {
         phase: Phase::Running,
         yes: false,
-        n: s.n,
-        s: s.s,
-        k: s.k,
+        sizes,
         m,
         parts,
         handled: 0,
         links: 0,
+    };
+    Session {
+        head,
         nodes: listed,
         labels: changes,
         roots,
@@ -47,58 +52,63 @@ impl Session {
         self,
         plan: &[u8],
         rules: &[u8],
-        nums: &[u16],
-        bytes: &[u8],
+        node_table: &[u16],
+        state_table: &[u8],
         nodes: &[u16],
         labels: &[u8],
     ) -> Started
         ensures { λ r. ⌜
             CallDone self
-            (calls.start (lentOf (now (plan .entry)) (now (rules .entry)) (now (nums .entry)) (now (bytes .entry)))
+            (calls.start (inputsOf (now (plan .entry)) (now (rules .entry)) (now («node_table» .entry)) (now («state_table» .entry)))
             (now (nodes .entry)) (now (labels .entry)))
-            (startingAnswer (r .told)) (r .rec) ⌝ }
+            (startAnswer (r .answer)) (r .session) ⌝ }
     {
-        let n = self.n as usize;
-        let s = self.s as usize;
-        let k = self.k as usize;
-        if !may_start(
-            self.head(),
-            &self.nodes,
-            &self.labels,
-            &self.roots,
-            &self.states,
-        ) {
+        let h = self.head;
+        let phase = h.phase;
+        let may = may_start(phase);
+        if !allowed(may, h, &self.nodes, &self.labels, &self.roots, &self.states) {
             return Started {
-                told: Starting::Refused(1),
-                rec: self,
+                answer: StartAnswer::Refused(1),
+                session: self,
             };
         }
-        if !lengths_fit(n, s, k, plan.len(), rules.len(), nums.len(), bytes.len()) {
+        let n = h.sizes.n as usize;
+        let s = h.sizes.s as usize;
+        let k = h.sizes.k as usize;
+        if !rule_buffers_fit(
+            n,
+            s,
+            k,
+            plan.len(),
+            rules.len(),
+            node_table.len(),
+            state_table.len(),
+        ) {
             return Started {
-                told: Starting::Refused(17),
-                rec: self,
+                answer: StartAnswer::Refused(17),
+                session: self,
             };
         }
         let refused = check_list(n, k, nodes, labels);
         if refused != 0 {
             return Started {
-                told: Starting::Refused(refused),
-                rec: self,
+                answer: StartAnswer::Refused(refused),
+                session: self,
             };
         }
-        let found = roots(n, &nums[..n * 4], nodes);
+        let found = roots(n, &node_table[..n * 4], nodes);
         if !found.ok {
             return Started {
-                told: Starting::Refused(18),
-                rec: self,
+                answer: StartAnswer::Refused(18),
+                session: self,
             };
         }
-        let count = found.count as u8;
-        let parts = found.nodes;
-        let rec = started(self, nodes, labels, count, parts);
+        let parts = found.count as u8;
+        let roots = found.nodes;
+        let session = started(h.sizes, nodes, labels, parts, roots);
         Started {
-            told: Starting::Parts(count),
-            rec,
+            answer: StartAnswer::Parts(parts),
+            session,
         }
     }
 }

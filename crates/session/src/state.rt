@@ -1,6 +1,11 @@
+// The session's record, its limits and the fresh one.
+//     Phase     which of the four states a session is in
+//     Sizes     N, S and K
+//     Head      the record without its arrays. What a later version adds to the record stands here
+//     Session   the record
 use formats::limits;
 ghost use mathlib.Core.Path.{_≡_};
-ghost use Rattle.session.specs.Records.{freshSession, headOf};
+ghost use Rattle.session.specs.Records.{LimitsAre, freshSession, idleSession};
 
 // Which of the four states a session is in.
 pub enum Phase {
@@ -10,38 +15,36 @@ pub enum Phase {
     Answered,
 }
 
-// The session's record: the state, N, S and K, the changes as listed, the roots of the parts, the states of the parts handled so far
-// and their number, the links so far and, once answered, the yes or no. Unused entries are zero.
-pub struct Session {
-    pub phase: Phase,
-    pub yes: bool,
+// N, S and K: how many nodes, states and labels there are.
+pub struct Sizes {
     pub n: u16,
     pub s: u8,
     pub k: u8,
+}
+
+// The record without its arrays: the state, the yes or no once answered, N, S and K, how many changes are listed, how many parts there are,
+// how many are handled, and the links so far. Tests take it beside the lent arrays, so that the record is not copied for them.
+pub struct Head {
+    pub phase: Phase,
+    pub yes: bool,
+    pub sizes: Sizes,
     pub m: u8,
     pub parts: u8,
     pub handled: u8,
     pub links: u32,
+}
+
+// The session's record: its head, the changes as listed, the roots of the parts and the states of the parts handled so far.
+// Unused entries are zero.
+pub struct Session {
+    pub head: Head,
     pub nodes: [u16; 64],
     pub labels: [u8; 64],
     pub roots: [u16; 254],
     pub states: [u8; 254],
 }
 
-// The record without its arrays. Tests take it beside the lent arrays, so that the record is not copied for them.
-pub struct Head {
-    pub phase: Phase,
-    pub yes: bool,
-    pub n: u16,
-    pub s: u8,
-    pub k: u8,
-    pub m: u8,
-    pub parts: u8,
-    pub handled: u8,
-    pub links: u32,
-}
-
-// The limits of document 01, a fresh session, and a session's head.
+// The limits of document 01, and a fresh session. Their values are promised by `fresh`, and the record is tested by them.
 impl Session {
     pub const NODE_LIMIT: usize = limits::NODE_LIMIT;
 
@@ -54,39 +57,36 @@ impl Session {
     // A session with nothing loaded.
     pub fn fresh() -> Session
         ensures { λ r. ⌜ r ≡ freshSession ⌝ }
+        ensures { λ _. do
+          n ← ⟦Session::NODE_LIMIT⟧ .entry
+          s ← ⟦Session::STATE_LIMIT⟧ .entry
+          k ← ⟦Session::LABEL_LIMIT⟧ .entry
+          m ← ⟦Session::CHANGE_LIMIT⟧ .entry
+          ⌜ LimitsAre n s k m ⌝ }
     {
-        Session {
-            phase: Phase::Empty,
-            yes: false,
-            n: 0,
-            s: 0,
-            k: 0,
-            m: 0,
-            parts: 0,
-            handled: 0,
-            links: 0,
-            nodes: [0u16; 64],
-            labels: [0u8; 64],
-            roots: [0u16; 254],
-            states: [0u8; 254],
-        }
+        let sizes = Sizes { n: 0, s: 0, k: 0 };
+        idle(Phase::Empty, sizes)
     }
+}
 
-    // The record without its arrays.
-    pub fn head(self) -> Head
-        ensures { λ r. ⌜ r ≡ headOf self ⌝ }
-    {
-        let phase = self.phase;
-        Head {
-            phase,
-            yes: self.yes,
-            n: self.n,
-            s: self.s,
-            k: self.k,
-            m: self.m,
-            parts: self.parts,
-            handled: self.handled,
-            links: self.links,
-        }
+// A session with no question.
+pub fn idle(phase: Phase, sizes: Sizes) -> Session
+    ensures { λ r. ⌜ r ≡ idleSession phase sizes ⌝ }
+{
+    let head = Head {
+        phase,
+        yes: false,
+        sizes,
+        m: 0,
+        parts: 0,
+        handled: 0,
+        links: 0,
+    };
+    Session {
+        head,
+        nodes: [0u16; 64],
+        labels: [0u8; 64],
+        roots: [0u16; 254],
+        states: [0u8; 254],
     }
 }

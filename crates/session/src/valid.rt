@@ -1,34 +1,41 @@
 // Whether a struct can be a session's: the conditions of docs/LAYOUT.md, by the state that it is in.
-// The record is given as its head and its four arrays, lent.
+// The record is given as its head and its four arrays, lent: as arrays, so that their lengths are constants.
+// `list_fits` and `parts_fit` test parts of them, and take slices.
+//     sizes_fit, no_question, list_fits, parts_fit, question_fits   parts of the conditions
+//     fits                                                          all of them
 use crate::lists::below;
 use crate::lists::rises_to;
 use crate::state::Head;
 use crate::state::Phase;
 use crate::state::Session;
-use formats::limits::CHANGE_LIMIT;
-use formats::limits::LABEL_LIMIT;
-use formats::limits::STATE_LIMIT;
+use crate::state::Sizes;
 use formats::rules::all_below;
 ghost use mathlib.Core.Path.{_≡_};
 ghost use mathlib.Core.List.{List};
 ghost use Prim.Native.Nat.{ℕ};
-ghost use Rattle.session.specs.Records.{whole, sizesFit, noQuestion, listFits, partsFit, validIn, valid};
-ghost use Rattle.session.specs.declared.state.Phase.{Phase};
-ghost use Rattle.session.specs.Tests.{Shaped, ListShaped, PartsShaped};
+ghost use Rattle.session.specs.Records.{whole, sizesFit, noQuestion, listFits, partsFit, questionFits, valid};
+ghost use Rattle.session.specs.inner.Shapes.{ListShaped, PartsShaped};
 
 // N, S and K in their limits.
-fn sizes_fit(h: Head) -> bool
-    ensures { λ r. ⌜ ((vs bs rs qs : List ℕ) → r ≡ sizesFit (whole h vs bs rs qs)) ⌝ }
+fn sizes_fit(z: Sizes) -> bool
+    ensures { λ r. ⌜ r ≡ sizesFit z ⌝ }
 {
-    (0 < h.n)
-        & (0 < h.s)
-        & (h.s as usize <= STATE_LIMIT)
-        & (0 < h.k)
-        & (h.k as usize <= LABEL_LIMIT)
+    (0 < z.n)
+        & (z.n as usize <= Session::NODE_LIMIT)
+        & (0 < z.s)
+        & (z.s as usize <= Session::STATE_LIMIT)
+        & (0 < z.k)
+        & (z.k as usize <= Session::LABEL_LIMIT)
 }
 
 // Nothing listed, no part, no state, no link, no yes.
-fn no_question(h: Head, nodes: &[u16], labels: &[u8], roots: &[u16], states: &[u8]) -> bool
+fn no_question(
+    h: Head,
+    nodes: &[u16; 64],
+    labels: &[u8; 64],
+    roots: &[u16; 254],
+    states: &[u8; 254],
+) -> bool
     ensures { λ r. ⌜ r
         ≡ noQuestion (whole h (now (nodes .entry)) (now (labels .entry)) (now (roots .entry)) (now (states .entry))) ⌝ }
 {
@@ -42,10 +49,10 @@ fn list_fits(h: Head, nodes: &[u16], labels: &[u8]) -> bool
     ensures { λ r. ⌜ ((rs qs : List ℕ) → r ≡ listFits (whole h (now (nodes .entry)) (now (labels .entry)) rs qs)) ⌝ }
 {
     let m = h.m as usize;
-    if CHANGE_LIMIT < m {
+    if Session::CHANGE_LIMIT < m {
         return false;
     }
-    let listed = below(&nodes[..m], h.n) & all_below(&labels[..m], h.k);
+    let listed = below(&nodes[..m], h.sizes.n) & all_below(&labels[..m], h.sizes.k);
     listed & below(&nodes[m..], 1) & all_below(&labels[m..], 1)
 }
 
@@ -62,79 +69,56 @@ fn parts_fit(h: Head, roots: &[u16], states: &[u8]) -> bool
     if 254 < p {
         return false;
     }
-    let rooted = rises_to(h.n - 1, &roots[..p]) & below(&roots[p..], 1);
-    let reached = all_below(&states[..done], h.s) & all_below(&states[done..], 1);
+    let rooted = rises_to(h.sizes.n - 1, &roots[..p]) & below(&roots[p..], 1);
+    let reached = all_below(&states[..done], h.sizes.s) & all_below(&states[done..], 1);
     rooted & reached & (h.links <= 65535 * (h.handled as u32))
 }
 
-// A record in empty.
-pub fn empty_fits<'a>(
+// A question: sizes, changes and parts, and no more parts handled than there are.
+fn question_fits(
     h: Head,
-    nodes: &'a [u16],
-    labels: &'a [u8],
-    roots: &'a [u16],
-    states: &'a [u8],
+    nodes: &[u16; 64],
+    labels: &[u8; 64],
+    roots: &[u16; 254],
+    states: &[u8; 254],
 ) -> bool
     ensures { λ r. ⌜ r
-        ≡ validIn Phase.Empty (whole h (now (nodes .entry)) (now (labels .entry)) (now (roots .entry)) (now (states .entry))) ⌝ }
+        ≡ questionFits (whole h (now (nodes .entry)) (now (labels .entry)) (now (roots .entry)) (now (states .entry))) ⌝ }
 {
-    (h.n == 0) & (h.s == 0) & (h.k == 0) & no_question(h, nodes, labels, roots, states)
-}
-
-// A record in loaded.
-pub fn loaded_fits<'a>(
-    h: Head,
-    nodes: &'a [u16],
-    labels: &'a [u8],
-    roots: &'a [u16],
-    states: &'a [u8],
-) -> bool
-    ensures { λ r. ⌜ r
-        ≡ validIn Phase.Loaded (whole h (now (nodes .entry)) (now (labels .entry)) (now (roots .entry)) (now (states .entry))) ⌝ }
-{
-    sizes_fit(h) & no_question(h, nodes, labels, roots, states)
-}
-
-// A record in running.
-pub fn running_fits<'a>(
-    h: Head,
-    nodes: &'a [u16],
-    labels: &'a [u8],
-    roots: &'a [u16],
-    states: &'a [u8],
-) -> bool
-    requires { ⌜ Shaped (whole h (now nodes) (now labels) (now roots) (now states)) ⌝ }
-    ensures { λ r. ⌜ r
-        ≡ validIn Phase.Running (whole h (now (nodes .entry)) (now (labels .entry)) (now (roots .entry)) (now (states .entry))) ⌝ }
-{
-    if !sizes_fit(h) {
+    if !sizes_fit(h.sizes) {
         return false;
     }
-    if h.parts <= h.handled {
-        return false;
-    }
-    list_fits(h, nodes, labels) & parts_fit(h, roots, states) & !h.yes
-}
-
-// A record in answered.
-pub fn answered_fits<'a>(
-    h: Head,
-    nodes: &'a [u16],
-    labels: &'a [u8],
-    roots: &'a [u16],
-    states: &'a [u8],
-) -> bool
-    requires { ⌜ Shaped (whole h (now nodes) (now labels) (now roots) (now states)) ⌝ }
-    ensures { λ r. ⌜ r
-        ≡ validIn Phase.Answered (whole h (now (nodes .entry)) (now (labels .entry)) (now (roots .entry)) (now (states .entry))) ⌝ }
-{
-    if !sizes_fit(h) {
-        return false;
-    }
-    if h.handled != h.parts {
+    if h.parts < h.handled {
         return false;
     }
     list_fits(h, nodes, labels) & parts_fit(h, roots, states)
+}
+
+// The record is valid, by its state.
+pub fn fits<'a>(
+    h: Head,
+    nodes: &'a [u16; 64],
+    labels: &'a [u8; 64],
+    roots: &'a [u16; 254],
+    states: &'a [u8; 254],
+) -> bool
+    ensures { λ r. ⌜ r
+        ≡ valid (whole h (now (nodes .entry)) (now (labels .entry)) (now (roots .entry)) (now (states .entry))) ⌝ }
+{
+    let phase = h.phase;
+    match phase {
+        Phase::Empty => {
+            let none = (h.sizes.n == 0) & (h.sizes.s == 0) & (h.sizes.k == 0);
+            none & no_question(h, nodes, labels, roots, states)
+        }
+        Phase::Loaded => sizes_fit(h.sizes) & no_question(h, nodes, labels, roots, states),
+        Phase::Running => {
+            question_fits(h, nodes, labels, roots, states) & (h.handled < h.parts) & !h.yes
+        }
+        Phase::Answered => {
+            question_fits(h, nodes, labels, roots, states) & (h.handled == h.parts)
+        }
+    }
 }
 
 impl Session {
@@ -142,19 +126,7 @@ impl Session {
     pub fn valid(self) -> bool
         ensures { λ r. ⌜ r ≡ valid self ⌝ }
     {
-        let h = self.head();
-        let phase = self.phase;
-        match phase {
-            Phase::Empty => empty_fits(h, &self.nodes, &self.labels, &self.roots, &self.states),
-            Phase::Loaded => loaded_fits(h, &self.nodes, &self.labels, &self.roots, &self.states),
-            Phase::Running => running_fits(h, &self.nodes, &self.labels, &self.roots, &self.states),
-            Phase::Answered => answered_fits(
-                h,
-                &self.nodes,
-                &self.labels,
-                &self.roots,
-                &self.states,
-            ),
-        }
+        let h = self.head;
+        fits(h, &self.nodes, &self.labels, &self.roots, &self.states)
     }
 }

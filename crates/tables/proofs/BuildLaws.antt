@@ -15,48 +15,48 @@ use native.Mathlib.Omega.{arith}
 use lib.ListN.{length, take, drop}
 use lib.Seq.{take-at}
 use Rattle.trees.specs.Tree.{Tree, kindsOf, size}
-use Rattle.trees.specs.Tables.{linkTable}
-use Rattle.formats.specs.Bytes.{allBelow}
+use Rattle.trees.specs.Tables.{nodeTableOf}
+use Rattle.trees.proofs.PostorderLaws.{size-of}
+use Rattle.list_laws.specs.Tests.{allBelow}
 use Rattle.formats.specs.Plan.{nodeCount, labelsIn, kindsIn, planTree}
 use Rattle.formats.specs.Rules.{stateCount, labelCount, leafStates, innerStates, ruleMarks, ruleAutomaton}
-use Rattle.formats.specs.Checks.{firstNo, ruleTableChecks, buildChecks, linkLength, stateLength}
-use Rattle.formats.specs.Built.{builtLinks, builtStates, AsBuilt}
+use Rattle.formats.specs.Checks.{firstNo, ruleTableChecks, buildChecks, nodeTableLength, stateTableLength}
+use Rattle.formats.specs.Built.{builtNodeTable, builtStateTable, AsBuilt}
 use Rattle.formats.proofs.PlanLaws.{PlanPasses, length-kindsIn, labels-as-kinds, kinds-planTree}
 use Rattle.formats.proofs.PlanLaws.{labels-planTree, size-planTree, labels-part, kinds-part}
 use Rattle.formats.proofs.RuleLaws.{RulesPass, length-leafStates, length-innerStates, leaf-state-below}
 use Rattle.formats.proofs.RuleLaws.{inner-state-below, leaves-part, inner-part}
 use Rattle.formats.proofs.InputLaws.{rule-table-passes, label-below, build-passes, build-table}
-use Rattle.links.specs.Cells.{LinkArgs}
-use Rattle.links.specs.LinkCells.{LinkCells}
-use Rattle.links.proofs.CellLaws.{length-linkTable, link-cells}
+use Rattle.node_tables.specs.Cells.{NodeTableArgs}
+use Rattle.node_tables.specs.NodeCells.{NodeCells}
+use Rattle.node_tables.proofs.CellLaws.{length-nodeTableOf, link-cells}
 use Rattle.tables.specs.declared.answers.Building.{Building}
 use Rattle.tables.specs.declared.answers.Building.the-variants.{Built, Refused}
-use Rattle.tables.specs.Answers.{numberOf, toldBuild, written, BuildDone}
-use Rattle.tables.specs.States.{RuleRuns}
-use Rattle.tables.specs.Written.{TableArgs, StatesOver, Passed, BuildArgs, BothWritten}
-use Rattle.tables.proofs.StateTurns.{size-of}
-use Rattle.tables.proofs.TableTurns.{length-stateTable}
+use Rattle.tables.specs.Answers.{buildingNumber, buildAnswer, written, BuildDone}
+use Rattle.tables.specs.inner.States.{RuleRuns}
+use Rattle.tables.specs.inner.Written.{TableArgs, StatesOver, Passed, BuildArgs, BothWritten}
+use Rattle.tables.proofs.TableLoop.{length-stateTableOf}
 
 -- ---- the lengths of the tables
 
 module _ (p : List ℕ) (h : PlanPasses p) where
-  pub length-builtLinks : length (builtLinks p) ≡ linkLength (nodeCount p)
-  length-builtLinks = length-linkTable (planTree p) ∙ ap (λ (n : ℕ). n * 4) (size-planTree p h)
+  pub length-builtNodeTable : length (builtNodeTable p) ≡ nodeTableLength (nodeCount p)
+  length-builtNodeTable = length-nodeTableOf (planTree p) ∙ ap (λ (n : ℕ). n * 4) (size-planTree p h)
 
-  pub length-builtStates : (r : List ℕ) → length (builtStates p r) ≡ stateLength (nodeCount p) (stateCount r)
+  pub length-builtStates : (r : List ℕ) → length (builtStateTable p r) ≡ stateTableLength (nodeCount p) (stateCount r)
   length-builtStates r =
-      length-stateTable (ruleAutomaton r) (planTree p) ∙ ap (λ (n : ℕ). n * (stateCount r + 1)) (size-planTree p h)
+      length-stateTableOf (ruleAutomaton r) (planTree p) ∙ ap (λ (n : ℕ). n * (stateCount r + 1)) (size-planTree p h)
 
 -- ---- where all checks pass
 
 abbrev Accepted : List ℕ → List ℕ → ℕ → ℕ → Type 0
 Accepted p r m l =
-    PlanPasses p × RulesPass r × (allBelow (labelCount r) (labelsIn p) ≡ true) × (linkLength (nodeCount p) ≤ m)
-    × (stateLength (nodeCount p) (stateCount r) ≤ l)
+    PlanPasses p × RulesPass r × (allBelow (labelCount r) (labelsIn p) ≡ true) × (nodeTableLength (nodeCount p) ≤ m)
+    × (stateTableLength (nodeCount p) (stateCount r) ≤ l)
 
-module _ (p r nums bytes : List ℕ) (ok : Passed p r nums bytes) where
-  accepted : Accepted p r (length nums) (length bytes)
-  accepted = build-passes p r (length nums) (length bytes) ok
+module _ (p r nodeTable stateTable : List ℕ) (ok : Passed p r nodeTable stateTable) where
+  accepted : Accepted p r (length nodeTable) (length stateTable)
+  accepted = build-passes p r (length nodeTable) (length stateTable) ok
 
   pub plan-headed : 12 ≤ length p
   plan-headed = accepted .0 .long
@@ -64,9 +64,9 @@ module _ (p r nums bytes : List ℕ) (ok : Passed p r nums bytes) where
   pub rules-headed : 20 ≤ length r
   rules-headed = accepted .1 .long
 
-  pub link-args : LinkArgs (kindsIn p) (length nums)
+  pub link-args : NodeTableArgs (kindsIn p) (length nodeTable)
   link-args =
-      let A : Accepted p r (length nums) (length bytes) = accepted in
+      let A : Accepted p r (length nodeTable) (length stateTable) = accepted in
       let n : length (kindsIn p) ≡ nodeCount p = length-kindsIn p (A .0) in
       record { postorder = A .0 .postorder; most = rw n (A .0 .most); room = rw n (A .3) }
 
@@ -83,22 +83,22 @@ module _ (p r nums bytes : List ℕ) (ok : Passed p r nums bytes) where
       }
 
   -- after the table of links is written
-  module _ (after : List ℕ) (same : length after ≡ length nums)
-      (L : (t : Tree) → kindsOf t ≡ kindsIn p → after ≡ linkTable t ++ drop (linkLength (length (kindsIn p))) nums)
+  module _ (after : List ℕ) (same : length after ≡ length nodeTable)
+      (L : (t : Tree) → kindsOf t ≡ kindsIn p → after ≡ nodeTableOf t ++ drop (nodeTableLength (length (kindsIn p))) nodeTable)
     where
-      links-cells : (t : Tree) → kindsOf t ≡ kindsIn p → LinkCells t after
+      links-cells : (t : Tree) → kindsOf t ≡ kindsIn p → NodeCells t after
       links-cells t e =
           let z : length (kindsIn p) ≡ size t = size-of t (kindsIn p) e in
-          let l : length (linkTable t) ≡ linkLength (length (kindsIn p)) = length-linkTable t ∙ ap (λ (n : ℕ). n * 4)
+          let l : length (nodeTableOf t) ≡ nodeTableLength (length (kindsIn p)) = length-nodeTableOf t ∙ ap (λ (n : ℕ). n * 4)
           (sym z) in
           link-cells t (length (kindsIn p)) after z
-          (rw (L t e) (take-at (linkTable t) (drop (linkLength (length (kindsIn p))) nums)
-          (linkLength (length (kindsIn p))) l))
+          (rw (L t e) (take-at (nodeTableOf t) (drop (nodeTableLength (length (kindsIn p))) nodeTable)
+          (nodeTableLength (length (kindsIn p))) l))
 
       pub table-args : TableArgs (kindsIn p) (labelsIn p) after (leafStates r) (innerStates r) (stateCount r)
-          (labelCount r) (length bytes)
+          (labelCount r) (length stateTable)
       table-args =
-          let A : Accepted p r (length nums) (length bytes) = accepted in
+          let A : Accepted p r (length nodeTable) (length stateTable) = accepted in
           let n : length (kindsIn p) ≡ nodeCount p = length-kindsIn p (A .0) in
           record {
             run = record {
@@ -115,23 +115,23 @@ module _ (p r nums bytes : List ℕ) (ok : Passed p r nums bytes) where
           }
 
       pub both-written : (end : List ℕ)
-          → StatesOver (stateCount r) (labelCount r) (leafStates r) (innerStates r) (kindsIn p) (labelsIn p) bytes end
-          → BothWritten p r nums bytes after end
+          → StatesOver (stateCount r) (labelCount r) (leafStates r) (innerStates r) (kindsIn p) (labelsIn p) stateTable end
+          → BothWritten p r nodeTable stateTable after end
       both-written end S =
           let P : PlanPasses p = accepted .0 in
           let n : length (kindsIn p) ≡ nodeCount p = length-kindsIn p P in
           record {
-            links = rw (length-builtLinks p P) (rw n at (L (planTree p) (kinds-planTree p P)));
+            links = rw (length-builtNodeTable p P) (rw n at (L (planTree p) (kinds-planTree p P)));
             states = rw (length-builtStates p P r) (rw n at
                 (S (ruleMarks r) (planTree p) (kinds-planTree p P) (labels-planTree p P)));
           }
 
 -- ---- the same of the parts that are handed on, with N, S and K as read
-pub build-args : (p r nums bytes : List ℕ) (n s k : ℕ) → Passed p r nums bytes → n ≡ nodeCount p → s ≡ stateCount r → k
+pub build-args : (p r nodeTable stateTable : List ℕ) (n s k : ℕ) → Passed p r nodeTable stateTable → n ≡ nodeCount p → s ≡ stateCount r → k
     ≡ labelCount r
-    → BuildArgs p r n s k nums bytes
-build-args p r nums bytes n s k ok x y z =
-    let A : Accepted p r (length nums) (length bytes) = accepted p r nums bytes ok in
+    → BuildArgs p r n s k nodeTable stateTable
+build-args p r nodeTable stateTable n s k ok x y z =
+    let A : Accepted p r (length nodeTable) (length stateTable) = accepted p r nodeTable stateTable ok in
     record {
       passed = ok;
       nodes = x;
@@ -144,9 +144,9 @@ build-args p r nums bytes n s k ok x y z =
       rules-exact = rw (y, z) (A .1 .exact);
     }
 
-module _ (p r nums bytes : List ℕ) (n s k : ℕ) (B : BuildArgs p r n s k nums bytes) where
+module _ (p r nodeTable stateTable : List ℕ) (n s k : ℕ) (B : BuildArgs p r n s k nodeTable stateTable) where
   plan-passed : PlanPasses p
-  plan-passed = accepted p r nums bytes (B .passed) .0
+  plan-passed = accepted p r nodeTable stateTable (B .passed) .0
 
   kinds-are : take (length p - (12 + n)) (drop (12 + n) p) ≡ kindsIn p
   kinds-are = kinds-part p n plan-passed (B .nodes)
@@ -154,48 +154,48 @@ module _ (p r nums bytes : List ℕ) (n s k : ℕ) (B : BuildArgs p r n s k nums
   inner-are : (c : ℕ) → c ≡ s * k * s → take (20 + k + c - (20 + k)) (drop (20 + k) r) ≡ innerStates r
   inner-are c e = rw e (inner-part r s k (B .states) (B .labels))
 
-  pub link-args-of : LinkArgs (take (length p - (12 + n)) (drop (12 + n) p)) (length nums)
-  link-args-of = rw kinds-are (link-args p r nums bytes (B .passed))
+  pub link-args-of : NodeTableArgs (take (length p - (12 + n)) (drop (12 + n) p)) (length nodeTable)
+  link-args-of = rw kinds-are (link-args p r nodeTable stateTable (B .passed))
 
-  module _ (after : List ℕ) (same : length after ≡ length nums)
+  module _ (after : List ℕ) (same : length after ≡ length nodeTable)
       (L : (t : Tree) → kindsOf t ≡ take (length p - (12 + n)) (drop (12 + n) p)
-      → after ≡ linkTable t ++ drop (linkLength (length (take (length p - (12 + n)) (drop (12 + n) p)))) nums)
+      → after ≡ nodeTableOf t ++ drop (nodeTableLength (length (take (length p - (12 + n)) (drop (12 + n) p)))) nodeTable)
       (c : ℕ) (e : c ≡ s * k * s) where
-    links-of : (t : Tree) → kindsOf t ≡ kindsIn p → after ≡ linkTable t ++ drop (linkLength (length (kindsIn p))) nums
+    links-of : (t : Tree) → kindsOf t ≡ kindsIn p → after ≡ nodeTableOf t ++ drop (nodeTableLength (length (kindsIn p))) nodeTable
     links-of = rw kinds-are at L
 
     pub table-args-of : TableArgs (take (length p - (12 + n)) (drop (12 + n) p)) (take (12 + n - 12) (drop 12 p)) after
-        (take (20 + k - 20) (drop 20 r)) (take (20 + k + c - (20 + k)) (drop (20 + k) r)) s k (length bytes)
+        (take (20 + k - 20) (drop 20 r)) (take (20 + k + c - (20 + k)) (drop (20 + k) r)) s k (length stateTable)
     table-args-of =
         rw (kinds-are, labels-part p n (B .nodes), leaves-part r k (B .labels), inner-are c e, B .states, B .labels)
-        (table-args p r nums bytes (B .passed) after same links-of)
+        (table-args p r nodeTable stateTable (B .passed) after same links-of)
 
     pub both-written-of : (end : List ℕ)
         → StatesOver s k (take (20 + k - 20) (drop 20 r)) (take (20 + k + c - (20 + k)) (drop (20 + k) r))
-        (take (length p - (12 + n)) (drop (12 + n) p)) (take (12 + n - 12) (drop 12 p)) bytes end
-        → BothWritten p r nums bytes after end
+        (take (length p - (12 + n)) (drop (12 + n) p)) (take (12 + n - 12) (drop 12 p)) stateTable end
+        → BothWritten p r nodeTable stateTable after end
     both-written-of end S =
-        both-written p r nums bytes (B .passed) after same links-of end
+        both-written p r nodeTable stateTable (B .passed) after same links-of end
         (rw (kinds-are, labels-part p n (B .nodes), leaves-part r k (B .labels), inner-are c e, B .states, B .labels) at
         S)
 
 -- ---- the two answers of a build
 
-module _ (links states nums bytes : List ℕ) where
-  refused : (n : ℕ) → (n ≡ 0 → ⊥) → BuildDone n links states nums bytes (Refused n) nums bytes
-  unfolding toldBuild numberOf written
+module _ (links states nodeTable stateTable : List ℕ) where
+  refused : (n : ℕ) → (n ≡ 0 → ⊥) → BuildDone n links states nodeTable stateTable (Refused n) nodeTable stateTable
+  unfolding buildAnswer buildingNumber written
   refused zero e = absurd (e refl)
-  refused (suc n) e = record { told = refl; number = refl; links-written = refl; states-written = refl }
+  refused (suc n) e = record { result = refl; number = refl; node-table-written = refl; state-table-written = refl }
 
   -- x is the number that a check told
-  pub build-refused : (n x : ℕ) → x ≡ n → (x ≡ 0 → ⊥) → BuildDone n links states nums bytes (Refused x) nums bytes
+  pub build-refused : (n x : ℕ) → x ≡ n → (x ≡ 0 → ⊥) → BuildDone n links states nodeTable stateTable (Refused x) nodeTable stateTable
   build-refused n x e z = rw (← e) (refused x z)
 
-  pub build-done : (n : ℕ) (nums′ bytes′ : List ℕ) → n ≡ 0 → nums′ ≡ links ++ drop (length links) nums
-      → bytes′ ≡ states ++ drop (length states) bytes → BuildDone n links states nums bytes Built nums′ bytes′
-  unfolding toldBuild numberOf written
-  build-done zero nums′ bytes′ e l s = record { told = refl; number = refl; links-written = l; states-written = s }
-  build-done (suc n) nums′ bytes′ e l s = absurd (omega arith)
+  pub build-done : (n : ℕ) (nodeTable′ stateTable′ : List ℕ) → n ≡ 0 → nodeTable′ ≡ links ++ drop (length links) nodeTable
+      → stateTable′ ≡ states ++ drop (length states) stateTable → BuildDone n links states nodeTable stateTable Built nodeTable′ stateTable′
+  unfolding buildAnswer buildingNumber written
+  build-done zero nodeTable′ stateTable′ e l s = record { result = refl; number = refl; node-table-written = l; state-table-written = s }
+  build-done (suc n) nodeTable′ stateTable′ e l s = absurd (omega arith)
 
 -- ---- as built
 
@@ -205,30 +205,30 @@ written-zero zero h table entry = refl
 written-zero (suc n) h table entry = absurd (omega arith)
 
 -- what an accepted build leaves, for rule tables and branch tables
-pub built-lists : (n : ℕ) (links states nums bytes : List ℕ) (answer : Building) (nums′ bytes′ : List ℕ)
-    → BuildDone n links states nums bytes answer nums′ bytes′ → numberOf answer ≡ 0
-    → (n ≡ 0) × (nums′ ≡ links ++ drop (length links) nums) × (bytes′ ≡ states ++ drop (length states) bytes)
-built-lists n links states nums bytes answer nums′ bytes′ D e =
+pub built-lists : (n : ℕ) (links states nodeTable stateTable : List ℕ) (answer : Building) (nodeTable′ stateTable′ : List ℕ)
+    → BuildDone n links states nodeTable stateTable answer nodeTable′ stateTable′ → buildingNumber answer ≡ 0
+    → (n ≡ 0) × (nodeTable′ ≡ links ++ drop (length links) nodeTable) × (stateTable′ ≡ states ++ drop (length states) stateTable)
+built-lists n links states nodeTable stateTable answer nodeTable′ stateTable′ D e =
     let z : n ≡ 0 = sym (D .number) ∙ e in
-    (z, D .links-written ∙ written-zero n z links nums, D .states-written ∙ written-zero n z states bytes)
+    (z, D .node-table-written ∙ written-zero n z links nodeTable, D .state-table-written ∙ written-zero n z states stateTable)
 
 module _ (p r : List ℕ) where
-  pub written-as-built : firstNo (ruleTableChecks p r) ≡ 0 → (x y : List ℕ) → AsBuilt p r (builtLinks p ++ x)
-      (builtStates p r ++ y)
+  pub written-as-built : firstNo (ruleTableChecks p r) ≡ 0 → (x y : List ℕ) → AsBuilt p r (builtNodeTable p ++ x)
+      (builtStateTable p r ++ y)
   written-as-built e x y =
       let P : PlanPasses p = rule-table-passes p r e .0 in
       record {
         accepted = e;
-        links = take-at (builtLinks p) x (linkLength (nodeCount p)) (length-builtLinks p P);
-        states = take-at (builtStates p r) y (stateLength (nodeCount p) (stateCount r)) (length-builtStates p P r);
+        links = take-at (builtNodeTable p) x (nodeTableLength (nodeCount p)) (length-builtNodeTable p P);
+        states = take-at (builtStateTable p r) y (stateTableLength (nodeCount p) (stateCount r)) (length-builtStates p P r);
       }
 
   -- whatever the buffers were, an accepted build leaves them as built
-  pub built-as-built : (nums bytes nums′ bytes′ : List ℕ) (answer : Building)
-      → BuildDone (firstNo (buildChecks p r (length nums) (length bytes))) (builtLinks p) (builtStates p r) nums bytes
-      answer nums′ bytes′
-      → numberOf answer ≡ 0 → AsBuilt p r nums′ bytes′
-  built-as-built nums bytes nums′ bytes′ answer D e =
-      let q = built-lists _ (builtLinks p) (builtStates p r) nums bytes answer nums′ bytes′ D e in
-      rw (q .1, q .2) (written-as-built (build-table p r (length nums) (length bytes) (q .0)) (drop (length (builtLinks p)) nums)
-      (drop (length (builtStates p r)) bytes))
+  pub built-as-built : (nodeTable stateTable nodeTable′ stateTable′ : List ℕ) (answer : Building)
+      → BuildDone (firstNo (buildChecks p r (length nodeTable) (length stateTable))) (builtNodeTable p) (builtStateTable p r) nodeTable stateTable
+      answer nodeTable′ stateTable′
+      → buildingNumber answer ≡ 0 → AsBuilt p r nodeTable′ stateTable′
+  built-as-built nodeTable stateTable nodeTable′ stateTable′ answer D e =
+      let q = built-lists _ (builtNodeTable p) (builtStateTable p r) nodeTable stateTable answer nodeTable′ stateTable′ D e in
+      rw (q .1, q .2) (written-as-built (build-table p r (length nodeTable) (length stateTable) (q .0)) (drop (length (builtNodeTable p)) nodeTable)
+      (drop (length (builtStateTable p r)) stateTable))

@@ -10,61 +10,61 @@ use mathlib.Core.Bool.{Bool, true, false}
 use mathlib.Core.List.{List}
 use native.Mathlib.Omega.{arith}
 use lib.ListN.{length, take, length-take}
-use Rattle.formats.specs.Bytes.{sameList}
-use Rattle.formats.proofs.CheckLaws.{true-false, and-both, and-left, and-right}
-use Rattle.formats.proofs.ListLaws.{sameList-is, sameList-true}
+use Rattle.list_laws.specs.Tests.{sameList}
+use Rattle.list_laws.proofs.BoolLaws.{true-false, and-both, and-left, and-right}
+use Rattle.list_laws.proofs.TestLaws.{sameList-is, sameList-true}
 use Rattle.tables.specs.declared.answers.Checking.{Checking}
 use Rattle.tables.specs.declared.answers.Checking.the-variants.{Yes, No, Refused}
-use Rattle.tables.specs.Answers.{checkNumber, toldCheck, sameTables, CheckDone}
+use Rattle.tables.specs.Answers.{checkNumber, checkAnswer, sameTables, CheckDone}
 
-told-number : (n : ℕ) (same : Bool) → checkNumber (toldCheck n same) ≡ n
-unfolding checkNumber toldCheck
-told-number zero true = refl
-told-number zero false = refl
-told-number (suc n) same = refl
+answer-number : (n : ℕ) (same : Bool) → checkNumber (checkAnswer n same) ≡ n
+unfolding checkNumber checkAnswer
+answer-number zero true = refl
+answer-number zero false = refl
+answer-number (suc n) same = refl
 
-told-yes : (n : ℕ) (same : Bool) → toldCheck n same ≡ Yes → (n ≡ 0) × (same ≡ true)
-unfolding toldCheck
-told-yes zero true e = (refl, refl)
-told-yes zero false e = absurd (let z : _≡_ {A = ℕ} 0 1 = cc in omega arith)
-told-yes (suc n) same e = absurd (let z : _≡_ {A = ℕ} 0 1 = cc in omega arith)
+answer-yes : (n : ℕ) (same : Bool) → checkAnswer n same ≡ Yes → (n ≡ 0) × (same ≡ true)
+unfolding checkAnswer
+answer-yes zero true e = (refl, refl)
+answer-yes zero false e = absurd (let z : _≡_ {A = ℕ} 0 1 = cc in omega arith)
+answer-yes (suc n) same e = absurd (let z : _≡_ {A = ℕ} 0 1 = cc in omega arith)
 
-told-no : (n : ℕ) (same : Bool) → toldCheck n same ≡ No → (n ≡ 0) × (same ≡ false)
-unfolding toldCheck
-told-no zero true e = absurd (let z : _≡_ {A = ℕ} 0 1 = cc in omega arith)
-told-no zero false e = (refl, refl)
-told-no (suc n) same e = absurd (let z : _≡_ {A = ℕ} 0 1 = cc in omega arith)
+answer-no : (n : ℕ) (same : Bool) → checkAnswer n same ≡ No → (n ≡ 0) × (same ≡ false)
+unfolding checkAnswer
+answer-no zero true e = absurd (let z : _≡_ {A = ℕ} 0 1 = cc in omega arith)
+answer-no zero false e = (refl, refl)
+answer-no (suc n) same e = absurd (let z : _≡_ {A = ℕ} 0 1 = cc in omega arith)
 
-yes-told : (n : ℕ) (same : Bool) → n ≡ 0 → same ≡ true → toldCheck n same ≡ Yes
-unfolding toldCheck
-yes-told n same d e = rw (d, e)
+yes-answer : (n : ℕ) (same : Bool) → n ≡ 0 → same ≡ true → checkAnswer n same ≡ Yes
+unfolding checkAnswer
+yes-answer n same d e = rw (d, e)
 
-no-told : (n : ℕ) (same : Bool) → n ≡ 0 → same ≡ false → toldCheck n same ≡ No
-unfolding toldCheck
-no-told n same d e = rw (d, e)
+no-answer : (n : ℕ) (same : Bool) → n ≡ 0 → same ≡ false → checkAnswer n same ≡ No
+unfolding checkAnswer
+no-answer n same d e = rw (d, e)
 
-refused-told : (n : ℕ) (same : Bool) → (n ≡ 0 → ⊥) → toldCheck n same ≡ Refused n
-unfolding toldCheck
-refused-told zero same h = absurd (h refl)
-refused-told (suc n) same h = refl
+refused-answer : (n : ℕ) (same : Bool) → (n ≡ 0 → ⊥) → checkAnswer n same ≡ Refused n
+unfolding checkAnswer
+refused-answer zero same h = absurd (h refl)
+refused-answer (suc n) same h = refl
 
-module _ (n : ℕ) (links states nums bytes : List ℕ) where
+module _ (n : ℕ) (links states nodeTable stateTable : List ℕ) where
   -- the promise from its first part
-  check-done : (answer : Checking) → answer ≡ toldCheck n (sameTables links states nums bytes)
-      → CheckDone n links states nums bytes answer
+  check-done : (answer : Checking) → answer ≡ checkAnswer n (sameTables links states nodeTable stateTable)
+      → CheckDone n links states nodeTable stateTable answer
   check-done answer e =
-      record { told = e; number = ap checkNumber e ∙ told-number n (sameTables links states nums bytes) }
+      record { result = e; number = ap checkNumber e ∙ answer-number n (sameTables links states nodeTable stateTable) }
 
-  pub check-refused : (m : ℕ) → m ≡ n → (m ≡ 0 → ⊥) → CheckDone n links states nums bytes (Refused m)
+  pub check-refused : (m : ℕ) → m ≡ n → (m ≡ 0 → ⊥) → CheckDone n links states nodeTable stateTable (Refused m)
   check-refused m e h =
-      check-done (Refused m) (rw e (sym (refused-told n (sameTables links states nums bytes) (λ z. h (e ∙ z)))))
+      check-done (Refused m) (rw e (sym (refused-answer n (sameTables links states nodeTable stateTable) (λ z. h (e ∙ z)))))
 
-  module _ (pass : n ≡ 0) (same : Bool) (e : same ≡ sameTables links states nums bytes) where
-    pub check-matches : same ≡ true → CheckDone n links states nums bytes Yes
-    check-matches h = check-done Yes (sym (yes-told n (sameTables links states nums bytes) pass (sym e ∙ h)))
+  module _ (pass : n ≡ 0) (same : Bool) (e : same ≡ sameTables links states nodeTable stateTable) where
+    pub check-matches : same ≡ true → CheckDone n links states nodeTable stateTable Yes
+    check-matches h = check-done Yes (sym (yes-answer n (sameTables links states nodeTable stateTable) pass (sym e ∙ h)))
 
-    pub check-differs : same ≡ false → CheckDone n links states nums bytes No
-    check-differs h = check-done No (sym (no-told n (sameTables links states nums bytes) pass (sym e ∙ h)))
+    pub check-differs : same ≡ false → CheckDone n links states nodeTable stateTable No
+    check-differs h = check-done No (sym (no-answer n (sameTables links states nodeTable stateTable) pass (sym e ∙ h)))
 
 pub begins-room : (n : ℕ) (b l : List ℕ) → take n b ≡ l → length l ≡ n → n ≤ length b
 begins-room n b l e z = omega (arith, simp length-take at (ap length e))
@@ -73,49 +73,49 @@ begins-room n b l e z = omega (arith, simp length-take at (ap length e))
 
 -- both buffers begin with their tables
 abbrev pub Begins : List ℕ → List ℕ → List ℕ → List ℕ → Type 0
-Begins links states nums bytes = (take (length links) nums ≡ links) × (take (length states) bytes ≡ states)
+Begins links states nodeTable stateTable = (take (length links) nodeTable ≡ links) × (take (length states) stateTable ≡ states)
 
-module _ (links states nums bytes : List ℕ) where
+module _ (links states nodeTable stateTable : List ℕ) where
   one : Bool
-  one = sameList (take (length links) nums) links
+  one = sameList (take (length links) nodeTable) links
 
   two : Bool
-  two = sameList (take (length states) bytes) states
+  two = sameList (take (length states) stateTable) states
 
-  pub same-begins : sameTables links states nums bytes ≡ true → Begins links states nums bytes
+  pub same-begins : sameTables links states nodeTable stateTable ≡ true → Begins links states nodeTable stateTable
   unfolding sameTables one two
   same-begins e = (
-    sameList-true (take (length links) nums) links (and-left one two e),
-    sameList-true (take (length states) bytes) states (and-right one two e),
+    sameList-true (take (length links) nodeTable) links (and-left one two e),
+    sameList-true (take (length states) stateTable) states (and-right one two e),
   )
 
-  pub begins-same : Begins links states nums bytes → sameTables links states nums bytes ≡ true
+  pub begins-same : Begins links states nodeTable stateTable → sameTables links states nodeTable stateTable ≡ true
   unfolding sameTables one two
   begins-same b =
-      and-both one two (sameList-is (take (length links) nums) links (b .0))
-      (sameList-is (take (length states) bytes) states (b .1))
+      and-both one two (sameList-is (take (length links) nodeTable) links (b .0))
+      (sameList-is (take (length states) stateTable) states (b .1))
 
-module _ (n : ℕ) (links states nums bytes : List ℕ) (answer : Checking)
-    (done : CheckDone n links states nums bytes answer) where
-  pub done-yes : answer ≡ Yes → (n ≡ 0) × Begins links states nums bytes
+module _ (n : ℕ) (links states nodeTable stateTable : List ℕ) (answer : Checking)
+    (done : CheckDone n links states nodeTable stateTable answer) where
+  pub done-yes : answer ≡ Yes → (n ≡ 0) × Begins links states nodeTable stateTable
   done-yes e =
-      let q : (n ≡ 0) × (sameTables links states nums bytes ≡ true) =
-      told-yes n (sameTables links states nums bytes) (sym (done .told) ∙ e) in
-      (q .0, same-begins links states nums bytes (q .1))
+      let q : (n ≡ 0) × (sameTables links states nodeTable stateTable ≡ true) =
+      answer-yes n (sameTables links states nodeTable stateTable) (sym (done .result) ∙ e) in
+      (q .0, same-begins links states nodeTable stateTable (q .1))
 
-  pub yes-done : n ≡ 0 → Begins links states nums bytes → answer ≡ Yes
-  yes-done pass b = done .told ∙ yes-told n (sameTables links states nums bytes) pass
-      (begins-same links states nums bytes b)
+  pub yes-done : n ≡ 0 → Begins links states nodeTable stateTable → answer ≡ Yes
+  yes-done pass b = done .result ∙ yes-answer n (sameTables links states nodeTable stateTable) pass
+      (begins-same links states nodeTable stateTable b)
 
-  pub done-no : answer ≡ No → (n ≡ 0) × (Begins links states nums bytes → ⊥)
+  pub done-no : answer ≡ No → (n ≡ 0) × (Begins links states nodeTable stateTable → ⊥)
   done-no e =
-      let q : (n ≡ 0) × (sameTables links states nums bytes ≡ false) =
-      told-no n (sameTables links states nums bytes) (sym (done .told) ∙ e) in
-      (q .0, λ b. true-false (sym (begins-same links states nums bytes b) ∙ q .1))
+      let q : (n ≡ 0) × (sameTables links states nodeTable stateTable ≡ false) =
+      answer-no n (sameTables links states nodeTable stateTable) (sym (done .result) ∙ e) in
+      (q .0, λ b. true-false (sym (begins-same links states nodeTable stateTable b) ∙ q .1))
 
-  pub no-done : n ≡ 0 → (Begins links states nums bytes → ⊥) → answer ≡ No
-  no-done pass not = done .told ∙ go (sameTables links states nums bytes) refl
+  pub no-done : n ≡ 0 → (Begins links states nodeTable stateTable → ⊥) → answer ≡ No
+  no-done pass not = done .result ∙ go (sameTables links states nodeTable stateTable) refl
     where
-      go : (same : Bool) → sameTables links states nums bytes ≡ same → toldCheck n same ≡ No
-      go true e = absurd (not (same-begins links states nums bytes e))
-      go false e = no-told n false pass refl
+      go : (same : Bool) → sameTables links states nodeTable stateTable ≡ same → checkAnswer n same ≡ No
+      go true e = absurd (not (same-begins links states nodeTable stateTable e))
+      go false e = no-answer n false pass refl

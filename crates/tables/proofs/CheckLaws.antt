@@ -1,6 +1,6 @@
 -- The tests of a whole table: what statesAre and mapsAre tell, and that together they test for the built table.
---     states-yes, states-no, states-told   all state bytes are the run's
---     maps-yes, maps-no, maps-told         all maps are those to the jumps
+--     states-yes, states-no, states-answer   all state bytes are the run's
+--     maps-yes, maps-no, maps-answer         all maps are those to the jumps
 --     table-same                           a buffer begins with the built table exactly where both tests say so
 -- Assumes nothing.
 use Prim.Native.Nat.{ℕ, _+_, _*_, _≤_, _<_}
@@ -12,13 +12,13 @@ use lib.ListN.{length, take}
 use Rattle.trees.specs.Tree.{Tree, size}
 use Rattle.trees.specs.Automaton.{Automaton, state}
 use Rattle.trees.specs.Numbering.{sub}
-use Rattle.trees.specs.Tables.{stateMap, stateTable}
-use Rattle.formats.specs.Bytes.{sameList}
+use Rattle.trees.specs.Tables.{stateMap, stateTableOf}
+use Rattle.list_laws.specs.Tests.{sameList}
 use Rattle.tables.specs.StateCells.{stateCell}
-use Rattle.tables.specs.Compare.{rowIs}
-use Rattle.tables.specs.LocalTables.{statesAre, mapsAre}
-use Rattle.tables.proofs.TableTestLaws.{states-same-yes, states-same-no, states-same-told, maps-same-yes}
-use Rattle.tables.proofs.TableTestLaws.{maps-same-no, maps-same-told, table-test}
+use Rattle.tables.specs.inner.Compare.{rowIs}
+use Rattle.tables.specs.inner.LocalTables.{statesAre, mapsAre}
+use Rattle.tables.proofs.TableTestLaws.{states-same-yes, states-same-no, states-same-answer, maps-same-yes}
+use Rattle.tables.proofs.TableTestLaws.{maps-same-no, maps-same-answer, table-test}
 use Rattle.tables.proofs.LocalLaws.{StatesTo, MapsFrom}
 
 module _ (A : Automaton) (t : Tree) (b : List ℕ) where
@@ -30,9 +30,9 @@ module _ (A : Automaton) (t : Tree) (b : List ℕ) where
   unfolding statesAre
   states-no v h ne = states-same-no (A .states) (size t) (λ u. state A (sub t u)) b v h ne
 
-  pub states-told : statesAre A t b ≡ true → StatesTo A t b (size t)
+  pub states-answer : statesAre A t b ≡ true → StatesTo A t b (size t)
   unfolding statesAre
-  states-told e = states-same-told (A .states) (size t) (λ v. state A (sub t v)) b e
+  states-answer e = states-same-answer (A .states) (size t) (λ v. state A (sub t v)) b e
 
   pub maps-yes : MapsFrom A t b 0 → mapsAre A t b ≡ true
   unfolding mapsAre
@@ -42,11 +42,11 @@ module _ (A : Automaton) (t : Tree) (b : List ℕ) where
   unfolding mapsAre
   maps-no v h ne = maps-same-no (A .states) (size t) (stateMap A t) b v h ne
 
-  pub maps-told : mapsAre A t b ≡ true → MapsFrom A t b 0
+  pub maps-answer : mapsAre A t b ≡ true → MapsFrom A t b 0
   unfolding mapsAre
-  maps-told e v l h = maps-same-told (A .states) (size t) (stateMap A t) b e v h
+  maps-answer e v l h = maps-same-answer (A .states) (size t) (stateMap A t) b e v h
 
   pub table-same : size t * (A .states + 1) ≤ length b
-      → sameList (take (size t * (A .states + 1)) b) (stateTable A t) ≡ (statesAre A t b && mapsAre A t b)
-  unfolding stateTable statesAre mapsAre
+      → sameList (take (size t * (A .states + 1)) b) (stateTableOf A t) ≡ (statesAre A t b && mapsAre A t b)
+  unfolding stateTableOf statesAre mapsAre
   table-same room = table-test (A .states) (size t) (λ v. state A (sub t v)) (stateMap A t) b room

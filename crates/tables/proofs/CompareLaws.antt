@@ -12,9 +12,9 @@ use native.Mathlib.Numerals.{add-one}
 use native.Mathlib.Omega.{arith}
 use lib.Dec.{eqb}
 use borrow.Author.Tests.{eq-eqb, ne-eqb, eqb-true}
-use Rattle.formats.proofs.CheckLaws.{and-both, and-left, and-right, and-no-right}
+use Rattle.list_laws.proofs.BoolLaws.{and-both, and-left, and-right, and-no-right}
 use Rattle.tables.specs.StateCells.{mapCell}
-use Rattle.tables.specs.Compare.{every, rowIs}
+use Rattle.tables.specs.inner.Compare.{every, rowIs}
 
 pub every-all : (n : ℕ) (f : ℕ → Bool) → ((q : ℕ) → q < n → f q ≡ true) → every n f ≡ true
 unfolding every

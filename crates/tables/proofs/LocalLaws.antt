@@ -16,15 +16,15 @@ use Rattle.trees.specs.Tree.{Tree, size, kindAt, labelAt}
 use Rattle.trees.specs.Automaton.{Automaton, state}
 use Rattle.trees.specs.Numbering.{sub, parent}
 use Rattle.trees.specs.Jumps.{jump}
-use Rattle.trees.specs.Tables.{stepUp, stateMap, stateTable}
+use Rattle.trees.specs.Tables.{stepUp, stateMap, stateTableOf}
 use Rattle.trees.proofs.NodeLaws.{up}
 use Rattle.trees.proofs.JumpLaws.{jump-in, jump-above}
-use Rattle.trees.proofs.RowLaws.{stateTable-state}
+use Rattle.trees.proofs.TableRows.{stateTableOf-state}
 use Rattle.trees.proofs.RunLaws.{Children, children, state-leaf, state-inner}
 use Rattle.trees.proofs.MapLaws.{left-sibling-in, right-sibling-in, stepUp-right, stepUp-left, stepUp-below}
 use Rattle.trees.proofs.MapLaws.{stateMap-root, stateMap-near, stateMap-far, stateMap-below}
 use Rattle.tables.specs.StateCells.{stateCell, mapCell}
-use Rattle.tables.specs.LocalTables.{stepCells, LocalStates, LocalMaps}
+use Rattle.tables.specs.inner.LocalTables.{stepCells, LocalStates, LocalMaps}
 use Rattle.tables.proofs.TableTestLaws.{cells-table, table-maps as cells-maps}
 
 -- ---- states: those of the nodes below i are the run's
@@ -128,28 +128,28 @@ module _ (A : Automaton) (t : Tree) (b : List ℕ) (below : (p a q : ℕ) → A 
 
 module _ (A : Automaton) (t : Tree) (b : List ℕ) where
   pub table-of-cells : size t * (A .states + 1) ≤ length b → StatesTo A t b (size t) → MapsFrom A t b 0
-      → take (size t * (A .states + 1)) b ≡ stateTable A t
-  unfolding stateTable
+      → take (size t * (A .states + 1)) b ≡ stateTableOf A t
+  unfolding stateTableOf
   table-of-cells room to from =
       cells-table (A .states) (size t) (λ v. state A (sub t v)) (stateMap A t) b room to (λ v h. from v (omega arith) h)
 
-  module _ (e : take (size t * (A .states + 1)) b ≡ stateTable A t) where
+  module _ (e : take (size t * (A .states + 1)) b ≡ stateTableOf A t) where
     pub table-states : StatesTo A t b (size t)
-    table-states v h = stateTable-state A t b e v h
+    table-states v h = stateTableOf-state A t b e v h
 
     pub table-maps : MapsFrom A t b 0
-    unfolding stateTable
+    unfolding stateTableOf
     table-maps v l h = cells-maps (A .states) (size t) (λ u. state A (sub t u)) (stateMap A t) b e v h
 
 -- a table that satisfies the equations node by node is the built one
 pub local-unique : (A : Automaton) (t : Tree) (b : List ℕ) → ((p a q : ℕ) → A .δ p a q < A .states)
     → size t * (A .states + 1) ≤ length b → LocalStates A t b → LocalMaps A t b
-    → take (size t * (A .states + 1)) b ≡ stateTable A t
+    → take (size t * (A .states + 1)) b ≡ stateTableOf A t
 local-unique A t b below room loc maps =
     table-of-cells A t b room (to-end A t b below loc maps) (maps-from A t b below loc maps (size t) 0 (omega arith))
 
 -- and the built one satisfies them
-module _ (A : Automaton) (t : Tree) (b : List ℕ) (e : take (size t * (A .states + 1)) b ≡ stateTable A t) where
+module _ (A : Automaton) (t : Tree) (b : List ℕ) (e : take (size t * (A .states + 1)) b ≡ stateTableOf A t) where
   pub built-local-states : LocalStates A t b
   built-local-states =
       let to : StatesTo A t b (size t) = table-states A t b e in

@@ -14,14 +14,14 @@ use native.Mathlib.Nat.{mul-le-mul-right}
 use native.Mathlib.Omega.{arith}
 use borrow.Author.Tests.{eq-eqb, ne-eqb}
 use lib.ListN.{length, getD}
-use Rattle.trees.proofs.RowLaws.{stride}
-use Rattle.links.specs.Cells.{parentCell, jumpCell, sizeCell}
+use Rattle.list_laws.proofs.RowLaws.{stride}
+use Rattle.formats.proofs.RuleLaws.{rule-in}
+use Rattle.node_tables.specs.Cells.{parentCell, jumpCell, sizeCell}
 use Rattle.tables.specs.StateCells.{stateCell, mapCell}
-use Rattle.tables.specs.Rows.{Rowed, RowIn, NearArgs, FarArgs, farCell}
-use Rattle.tables.specs.Maps.{siblingOf, nearBase, nearStep, nearValue, farValue, mapValue, BaseArgs, StepArgs, FillArgs}
-use Rattle.tables.specs.Maps.{FarMapArgs}
-use Rattle.tables.proofs.StateTurns.{rule-in}
-use Rattle.tables.proofs.RowTurns.{row-other}
+use Rattle.tables.specs.inner.Rows.{Rowed, RowIn, NearArgs, FarArgs, farCell}
+use Rattle.tables.specs.inner.Maps.{siblingOf, nearBase, nearStep, nearValue, farValue, mapValue, BaseArgs, StepArgs, FillArgs}
+use Rattle.tables.specs.inner.Maps.{FarMapArgs}
+use Rattle.tables.proofs.MapRowLaws.{row-other}
 
 pub state-place : (s u p m : ℕ) → u < p → p * (s + 1) ≤ m → u * (s + 1) < m
 state-place s u p m h room = omega (arith, stride (s + 1) u p h)

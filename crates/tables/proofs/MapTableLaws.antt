@@ -1,6 +1,6 @@
 -- Maps of a whole table, for any maps f: the turns of a loop that writes them node by node, and the table that is
 -- written.
---     written-start, written-turn  no map written, and one more
+--     written-start, written-iteration  no map written, and one more
 --     row-ext                  a written map, by equal entries; kept-row: one that was there already
 --     state-no-map             a state byte is in no map; excess-no-map: nor is the excess
 --     table-written            a buffer with every state byte and every map is the table, and the excess
@@ -13,14 +13,15 @@ use mathlib.Core.List.{List, _∷_, _++_}
 use native.Mathlib.Decide.{ℕ-discrete}
 use native.Mathlib.Omega.{arith}
 use lib.ListN.{length, getD, drop}
-use Rattle.trees.specs.Tables.{tabulate, rows}
-use Rattle.trees.proofs.RowLaws.{stride, cells-apart, length-tabulate, rows-over, mapRow-cells}
+use Rattle.list_laws.specs.Rows.{tabulate, rows}
+use Rattle.list_laws.proofs.RowLaws.{stride, cells-apart, length-tabulate, rows-over}
+use Rattle.trees.proofs.TableRows.{mapRow-cells}
 use Rattle.tables.specs.StateCells.{stateCell, mapCell}
-use Rattle.tables.specs.Rows.{RowTo, Rowed}
-use Rattle.tables.specs.Compare.{rowIs}
-use Rattle.tables.specs.MapTable.{NoMap, MapsWritten}
+use Rattle.tables.specs.inner.Rows.{RowTo, Rowed}
+use Rattle.tables.specs.inner.Compare.{rowIs}
+use Rattle.tables.specs.inner.MapTable.{NoMap, MapsWritten}
 use Rattle.tables.proofs.CompareLaws.{rowIs-map}
-use Rattle.tables.proofs.RowTurns.{row-other}
+use Rattle.tables.proofs.MapRowLaws.{row-other}
 
 pub row-ext : (s : ℕ) (f g : ℕ → ℕ) (v i : ℕ) (b₀ b : List ℕ) → RowTo s f v i b₀ b → ((q : ℕ) → q < i → f q ≡ g q)
     → RowTo s g v i b₀ b
@@ -42,9 +43,9 @@ module _ (s n : ℕ) (f : ℕ → ℕ → ℕ) where
   pub written-start : (b : List ℕ) → MapsWritten s n f n b b
   written-start b = record { maps = λ v q l h m. absurd (omega arith); kept = λ j a. refl }
 
-  pub written-turn : (v : ℕ) (b₀ b b₁ : List ℕ) → v < n → MapsWritten s n f (v + 1) b₀ b → Rowed s (f v) v b b₁
+  pub written-iteration : (v : ℕ) (b₀ b b₁ : List ℕ) → v < n → MapsWritten s n f (v + 1) b₀ b → Rowed s (f v) v b b₁
       → MapsWritten s n f v b₀ b₁
-  written-turn v b₀ b b₁ h M r = record {
+  written-iteration v b₀ b b₁ h M r = record {
     maps = λ u q l g m. elim (ℕ-discrete u v) [
       | yes e ↦ rw e (r .cells q m)
       | no e ↦ row-other s (f v) v s b b₁ r u q e (omega arith) m ∙ M .maps u q (omega arith) g m

@@ -12,14 +12,15 @@ use native.Mathlib.Omega.{arith}
 use lib.Dec.{eqb}
 use lib.ListN.{length, getD, take}
 use borrow.Author.Tests.{eq-eqb, ne-eqb, eqb-true}
-use Rattle.trees.specs.Tables.{tabulate}
-use Rattle.trees.proofs.RowLaws.{length-tabulate, getD-tabulate, rows-of-cells, cells-of-rows, mapRow-cells}
-use Rattle.formats.specs.Bytes.{sameList}
-use Rattle.formats.proofs.CheckLaws.{true-false}
-use Rattle.formats.proofs.ListLaws.{sameList-is, sameList-not}
+use Rattle.list_laws.specs.Rows.{tabulate}
+use Rattle.list_laws.proofs.RowLaws.{length-tabulate, getD-tabulate, rows-of-cells, cells-of-rows}
+use Rattle.trees.proofs.TableRows.{mapRow-cells}
+use Rattle.list_laws.specs.Tests.{sameList}
+use Rattle.list_laws.proofs.BoolLaws.{true-false}
+use Rattle.list_laws.proofs.TestLaws.{sameList-is, sameList-not}
 use Rattle.tables.specs.StateCells.{stateCell, mapCell}
-use Rattle.tables.specs.Compare.{rowIs}
-use Rattle.tables.specs.TableTests.{tableOf, statesSame, mapsSame}
+use Rattle.tables.specs.inner.Compare.{rowIs}
+use Rattle.tables.specs.inner.TableTests.{tableOf, statesSame, mapsSame}
 use Rattle.tables.proofs.CompareLaws.{every-all, every-at, every-not, rowIs-map, map-rowIs}
 
 -- ---- state bytes
@@ -31,8 +32,8 @@ module _ (s n : ℕ) (g : ℕ → ℕ) (b : List ℕ) where
   pub states-same-no : (v : ℕ) → v < n → (stateCell s b v ≡ g v → ⊥) → statesSame s n g b ≡ false
   states-same-no v h ne = every-not n (λ u. eqb (stateCell s b u) (g u)) v h (ne-eqb (stateCell s b v) (g v) ne)
 
-  pub states-same-told : statesSame s n g b ≡ true → (v : ℕ) → v < n → stateCell s b v ≡ g v
-  states-same-told e v h = eqb-true (stateCell s b v) (g v) (every-at n (λ u. eqb (stateCell s b u) (g u)) e v h)
+  pub states-same-answer : statesSame s n g b ≡ true → (v : ℕ) → v < n → stateCell s b v ≡ g v
+  states-same-answer e v h = eqb-true (stateCell s b v) (g v) (every-at n (λ u. eqb (stateCell s b u) (g u)) e v h)
 
 -- ---- maps
 
@@ -43,8 +44,8 @@ module _ (s n : ℕ) (f : ℕ → ℕ → ℕ) (b : List ℕ) where
   pub maps-same-no : (v : ℕ) → v < n → rowIs s b v (f v) ≡ false → mapsSame s n f b ≡ false
   maps-same-no v h ne = every-not n (λ u. rowIs s b u (f u)) v h ne
 
-  pub maps-same-told : mapsSame s n f b ≡ true → (v : ℕ) → v < n → (q : ℕ) → q < s → mapCell s b v q ≡ f v q
-  maps-same-told e v h = rowIs-map s b v (f v) (every-at n (λ u. rowIs s b u (f u)) e v h)
+  pub maps-same-answer : mapsSame s n f b ≡ true → (v : ℕ) → v < n → (q : ℕ) → q < s → mapCell s b v q ≡ f v q
+  maps-same-answer e v h = rowIs-map s b v (f v) (every-at n (λ u. rowIs s b u (f u)) e v h)
 
 -- ---- the table
 
@@ -84,7 +85,7 @@ module _ (s n : ℕ) (g : ℕ → ℕ) (f : ℕ → ℕ → ℕ) (b : List ℕ) 
 
       go : (x y : Bool) → statesSame s n g b ≡ x → mapsSame s n f b ≡ y → sameList lent (tableOf s n g f) ≡ (x && y)
       go true true d e =
-          sameList-is lent (tableOf s n g f) (cells-table room (states-same-told s n g b d) (maps-same-told s n f b e))
+          sameList-is lent (tableOf s n g f) (cells-table room (states-same-answer s n g b d) (maps-same-answer s n f b e))
       go true false d e =
           sameList-not lent (tableOf s n g f) (λ z. true-false (sym (maps-same-yes s n f b (table-maps z)) ∙ e))
       go false y d e =

@@ -1,11 +1,5 @@
-pub mod Compare
-pub mod LocalTables
-pub mod Compared
 pub mod Answers
 pub mod StateCells
-pub mod Rows
-pub mod States
-pub mod MapTable
-pub mod Maps
-pub mod Written
-pub mod TableTests
+pub mod Climbs
+pub mod Compose
+pub mod inner

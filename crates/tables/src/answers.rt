@@ -10,3 +10,16 @@ pub enum Checking {
     No,
     Refused(u8),
 }
+
+// The state that a climb or a part ends in, and the links that led to it.
+pub struct Reached {
+    pub state: u8,
+    pub links: u32,
+}
+
+// What a climb or a part ends in; or that a value read led outside the plan, the states or the labels, or that a climb
+// did not rise.
+pub enum Climbed {
+    Reached(Reached),
+    OutOfRange,
+}

@@ -4,12 +4,12 @@ use crate::tables::write_states;
 use formats::bytes::read32;
 use formats::inputs::check_build;
 use formats::rules::inner_count;
-use links::build::build_links;
+use node_tables::build::build_node_table;
 ghost use lib.ListN.{length};
 ghost use Rattle.formats.specs.Checks.{firstNo, buildChecks};
-ghost use Rattle.formats.specs.Built.{builtLinks, builtStates};
+ghost use Rattle.formats.specs.Built.{builtNodeTable, builtStateTable};
 ghost use Rattle.tables.specs.Answers.{BuildDone};
-ghost use Rattle.tables.specs.Written.{BuildArgs, BothWritten};
+ghost use Rattle.tables.specs.inner.Written.{BuildArgs, BothWritten};
 
 // Writes both tables of a plan of n nodes and a rule table of s states and k labels that pass their checks.
 // Labels, kinds and states are handed on as parts.
@@ -19,44 +19,49 @@ fn write_tables(
     n: usize,
     s: usize,
     k: usize,
-    nums: &mut [u16],
-    bytes: &mut [u8],
+    node_table: &mut [u16],
+    state_table: &mut [u8],
 )
-    requires { ⌜ BuildArgs (now plan) (now rules) n s k (now nums) (now bytes) ⌝ }
+    requires { ⌜ BuildArgs (now plan) (now rules) n s k (now «node_table») (now «state_table») ⌝ }
     ensures { λ _. ⌜
-        BothWritten (now (plan .entry)) (now (rules .entry)) (now (nums .entry)) (now (bytes .entry))
-        (now (nums .exit)) (now (bytes .exit)) ⌝ }
+        BothWritten (now (plan .entry)) (now (rules .entry)) (now («node_table» .entry)) (now («state_table» .entry))
+        (now («node_table» .exit)) (now («state_table» .exit)) ⌝ }
 {
     let end = 20 + k + inner_count(s, k);
-    build_links(&plan[12 + n..], nums);
+    build_node_table(&plan[12 + n..], node_table);
     write_states(
         &plan[12 + n..],
         &plan[12..12 + n],
-        nums,
+        node_table,
         &rules[20..20 + k],
         &rules[20 + k..end],
         s,
         k,
-        bytes,
+        state_table,
     );
 }
 
 // Builds the tables of a plan and a rule table into the lent buffers, or refuses and alters nothing.
-pub fn build_rules(plan: &[u8], rules: &[u8], nums: &mut [u16], bytes: &mut [u8]) -> Building
+pub fn build_tables(
+    plan: &[u8],
+    rules: &[u8],
+    node_table: &mut [u16],
+    state_table: &mut [u8],
+) -> Building
     ensures { λ a. ⌜
         BuildDone
         (firstNo (buildChecks (now (plan .entry)) (now (rules .entry))
-        (length (now (nums .entry))) (length (now (bytes .entry)))))
-        (builtLinks (now (plan .entry))) (builtStates (now (plan .entry)) (now (rules .entry)))
-        (now (nums .entry)) (now (bytes .entry)) a (now (nums .exit)) (now (bytes .exit)) ⌝ }
+        (length (now («node_table» .entry))) (length (now («state_table» .entry)))))
+        (builtNodeTable (now (plan .entry))) (builtStateTable (now (plan .entry)) (now (rules .entry)))
+        (now («node_table» .entry)) (now («state_table» .entry)) a (now («node_table» .exit)) (now («state_table» .exit)) ⌝ }
 {
-    let refused = check_build(plan, rules, nums.len(), bytes.len());
+    let refused = check_build(plan, rules, node_table.len(), state_table.len());
     if refused != 0 {
         return Building::Refused(refused);
     }
     let n = read32(plan, 0);
     let s = read32(rules, 0);
     let k = read32(rules, 4);
-    write_tables(plan, rules, n, s, k, nums, bytes);
+    write_tables(plan, rules, n, s, k, node_table, state_table);
     Building::Built
 }

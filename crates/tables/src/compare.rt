@@ -1,19 +1,19 @@
 // Rows of a table of states compared with what they have to be, for the full checks of rule and of branch tables.
 ghost use mathlib.Core.Path.{_≡_};
 ghost use lib.ListN.{length};
-ghost use Rattle.tables.specs.Rows.{RowIn, NearArgs};
-ghost use Rattle.tables.specs.Compare.{rowIs, nearEntry, farEntry, FarIsArgs};
+ghost use Rattle.tables.specs.inner.Rows.{RowIn, NearArgs};
+ghost use Rattle.tables.specs.inner.Compare.{rowIs, nearEntry, farEntry, FarIsArgs};
 
 // Whether node v's map is the identity, as the root's has to be.
-pub fn root_row_is(bytes: &[u8], s: usize, v: usize) -> bool
-    requires { ⌜ RowIn (length (now bytes)) s v ⌝ }
-    ensures { λ r. ⌜ r ≡ rowIs s (now (bytes .entry)) v (λ q. q) ⌝ }
+pub fn root_row_is(state_table: &[u8], s: usize, v: usize) -> bool
+    requires { ⌜ RowIn (length (now «state_table»)) s v ⌝ }
+    ensures { λ r. ⌜ r ≡ rowIs s (now («state_table» .entry)) v (λ q. q) ⌝ }
 {
     let at = v * (s + 1);
     let mut same = true;
     let mut q = 0;
     while q < s {
-        let x = bytes[at + (1 + q)] as usize;
+        let x = state_table[at + (1 + q)] as usize;
         if x != q {
             same = false;
         }
@@ -24,21 +24,21 @@ pub fn root_row_is(bytes: &[u8], s: usize, v: usize) -> bool
 
 // Whether node v's map has the rule's values that start at `base`, `stride` apart.
 pub fn near_row_is(
-    bytes: &[u8],
+    state_table: &[u8],
     s: usize,
     v: usize,
     table: &[u8],
     base: usize,
     stride: usize,
 ) -> bool
-    requires { ⌜ NearArgs (length (now bytes)) s v (length (now table)) base stride ⌝ }
-    ensures { λ r. ⌜ r ≡ rowIs s (now (bytes .entry)) v (nearEntry (now (table .entry)) base stride) ⌝ }
+    requires { ⌜ NearArgs (length (now «state_table»)) s v (length (now table)) base stride ⌝ }
+    ensures { λ r. ⌜ r ≡ rowIs s (now («state_table» .entry)) v (nearEntry (now (table .entry)) base stride) ⌝ }
 {
     let at = v * (s + 1);
     let mut same = true;
     let mut q = 0;
     while q < s {
-        let x = bytes[at + (1 + q)];
+        let x = state_table[at + (1 + q)];
         let y = table[base + q * stride];
         if x != y {
             same = false;
@@ -50,7 +50,7 @@ pub fn near_row_is(
 
 // Whether node v's map has those values taken on by the maps of nodes p and j.
 pub fn far_row_is(
-    bytes: &[u8],
+    state_table: &[u8],
     s: usize,
     v: usize,
     p: usize,
@@ -59,9 +59,9 @@ pub fn far_row_is(
     base: usize,
     stride: usize,
 ) -> bool
-    requires { ⌜ FarIsArgs s (now bytes) v p j (now table) base stride ⌝ }
-    ensures { λ r. ⌜ r ≡ rowIs s (now (bytes .entry)) v
-        (farEntry s (now (bytes .entry)) p j (now (table .entry)) base stride) ⌝ }
+    requires { ⌜ FarIsArgs s (now «state_table») v p j (now table) base stride ⌝ }
+    ensures { λ r. ⌜ r ≡ rowIs s (now («state_table» .entry)) v
+        (farEntry s (now («state_table» .entry)) p j (now (table .entry)) base stride) ⌝ }
 {
     let at = v * (s + 1);
     let first = p * (s + 1);
@@ -69,10 +69,10 @@ pub fn far_row_is(
     let mut same = true;
     let mut q = 0;
     while q < s {
-        let x = bytes[at + (1 + q)];
+        let x = state_table[at + (1 + q)];
         let near = table[base + q * stride] as usize;
-        let next = bytes[first + (1 + near)] as usize;
-        let y = bytes[second + (1 + next)];
+        let next = state_table[first + (1 + near)] as usize;
+        let y = state_table[second + (1 + next)];
         if x != y {
             same = false;
         }

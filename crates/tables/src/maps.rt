@@ -5,36 +5,36 @@ use crate::rows::same_row;
 ghost use mathlib.Core.Path.{_≡_};
 ghost use Prim.Native.Nat.{_+_, _*_};
 ghost use Rattle.tables.specs.StateCells.{mapCell};
-ghost use Rattle.tables.specs.Rows.{Rowed};
-ghost use Rattle.tables.specs.Maps.{SiblingArgs, BaseArgs, StepArgs, FillArgs, FarMapArgs, MapArgs};
-ghost use Rattle.tables.specs.Maps.{siblingOf, nearBase, nearStep, nearValue, farValue, mapValue, Maps};
+ghost use Rattle.tables.specs.inner.Rows.{Rowed};
+ghost use Rattle.tables.specs.inner.Maps.{SiblingArgs, BaseArgs, StepArgs, FillArgs, FarMapArgs, MapArgs};
+ghost use Rattle.tables.specs.inner.Maps.{siblingOf, nearBase, nearStep, nearValue, farValue, mapValue, Maps};
 
 // The other child of node v's parent p.
-pub fn sibling(nums: &[u16], v: usize, p: usize) -> usize
-    requires { ⌜ SiblingArgs (now nums) v p ⌝ }
-    ensures { λ r. ⌜ r ≡ siblingOf (now (nums .entry)) v p ⌝ }
+pub fn sibling(node_table: &[u16], v: usize, p: usize) -> usize
+    requires { ⌜ SiblingArgs (now «node_table») v p ⌝ }
+    ensures { λ r. ⌜ r ≡ siblingOf (now («node_table» .entry)) v p ⌝ }
 {
     if v + 1 == p {
-        return v - (nums[v * 4 + 3] as usize);
+        return v - (node_table[v * 4 + 3] as usize);
     }
     p - 1
 }
 
 // Where the step from node v to its parent p of label a stands in the inner states.
 pub fn near_base(
-    nums: &[u16],
-    bytes: &[u8],
+    node_table: &[u16],
+    state_table: &[u8],
     s: usize,
     k: usize,
     v: usize,
     p: usize,
     a: usize,
 ) -> usize
-    requires { ⌜ BaseArgs (now nums) (now bytes) s k v p a ⌝ }
-    ensures { λ r. ⌜ r ≡ nearBase (now (nums .entry)) (now (bytes .entry)) s k v p a ⌝ }
+    requires { ⌜ BaseArgs (now «node_table») (now «state_table») s k v p a ⌝ }
+    ensures { λ r. ⌜ r ≡ nearBase (now («node_table» .entry)) (now («state_table» .entry)) s k v p a ⌝ }
 {
-    let u = sibling(nums, v, p);
-    let x = bytes[u * (s + 1)] as usize;
+    let u = sibling(node_table, v, p);
+    let x = state_table[u * (s + 1)] as usize;
     if v + 1 == p {
         return (x * k + a) * s;
     }
@@ -55,68 +55,75 @@ pub fn near_step(s: usize, k: usize, v: usize, p: usize) -> usize
 // Node v's map becomes the step to its parent.
 fn near_map(
     labels: &[u8],
-    nums: &[u16],
+    node_table: &[u16],
     inner: &[u8],
     s: usize,
     k: usize,
     v: usize,
-    bytes: &mut [u8],
+    state_table: &mut [u8],
 )
-    requires { ⌜ FillArgs (now labels) (now nums) (now inner) s k (now bytes) v ⌝ }
+    requires { ⌜ FillArgs (now labels) (now «node_table») (now inner) s k (now «state_table») v ⌝ }
     ensures { λ _. ⌜
-        Rowed s (nearValue (now (labels .entry)) (now (nums .entry)) (now (inner .entry)) s k (now (bytes .entry)) v) v
-        (now (bytes .entry)) (now (bytes .exit)) ⌝ }
+        Rowed s (nearValue (now (labels .entry)) (now («node_table» .entry)) (now (inner .entry)) s k (now («state_table» .entry)) v) v
+        (now («state_table» .entry)) (now («state_table» .exit)) ⌝ }
 {
-    let p = nums[v * 4] as usize;
+    let p = node_table[v * 4] as usize;
     let a = labels[p] as usize;
-    let base = near_base(nums, bytes, s, k, v, p, a);
+    let base = near_base(node_table, state_table, s, k, v, p, a);
     let step = near_step(s, k, v, p);
-    near_row(bytes, s, v, inner, base, step);
+    near_row(state_table, s, v, inner, base, step);
 }
 
 // Node v's map, where its jump is not the parent, goes on by the maps of the parent and of its jump.
-fn far_map(nums: &[u16], s: usize, v: usize, bytes: &mut [u8])
-    requires { ⌜ FarMapArgs (now nums) s (now bytes) v ⌝ }
+fn far_map(node_table: &[u16], s: usize, v: usize, state_table: &mut [u8])
+    requires { ⌜ FarMapArgs (now «node_table») s (now «state_table») v ⌝ }
     ensures { λ _. ⌜
-        Rowed s (λ q. farValue (now (nums .entry)) s (now (bytes .entry)) v (mapCell s (now (bytes .entry)) v q)) v
-        (now (bytes .entry)) (now (bytes .exit)) ⌝ }
+        Rowed s (λ q. farValue (now («node_table» .entry)) s (now («state_table» .entry)) v (mapCell s (now («state_table» .entry)) v q)) v
+        (now («state_table» .entry)) (now («state_table» .exit)) ⌝ }
 {
-    let p = nums[v * 4] as usize;
-    if (nums[v * 4 + 1] as usize) != p {
-        far_row(bytes, s, v, p, nums[p * 4 + 1] as usize);
+    let p = node_table[v * 4] as usize;
+    if (node_table[v * 4 + 1] as usize) != p {
+        far_row(state_table, s, v, p, node_table[p * 4 + 1] as usize);
     }
 }
 
 // Node v's map.
 fn fill_map(
     labels: &[u8],
-    nums: &[u16],
+    node_table: &[u16],
     inner: &[u8],
     s: usize,
     k: usize,
     v: usize,
-    bytes: &mut [u8],
+    state_table: &mut [u8],
 )
-    requires { ⌜ FillArgs (now labels) (now nums) (now inner) s k (now bytes) v ⌝ }
+    requires { ⌜ FillArgs (now labels) (now «node_table») (now inner) s k (now «state_table») v ⌝ }
     ensures { λ _. ⌜
-        Rowed s (mapValue (now (labels .entry)) (now (nums .entry)) (now (inner .entry)) s k (now (bytes .entry)) v) v
-        (now (bytes .entry)) (now (bytes .exit)) ⌝ }
+        Rowed s (mapValue (now (labels .entry)) (now («node_table» .entry)) (now (inner .entry)) s k (now («state_table» .entry)) v) v
+        (now («state_table» .entry)) (now («state_table» .exit)) ⌝ }
 {
-    near_map(labels, nums, inner, s, k, v, bytes);
-    far_map(nums, s, v, bytes);
+    near_map(labels, node_table, inner, s, k, v, state_table);
+    far_map(node_table, s, v, state_table);
 }
 
 // Writes each node's map.
-pub fn fill_maps(labels: &[u8], nums: &[u16], inner: &[u8], s: usize, k: usize, bytes: &mut [u8])
-    requires { ⌜ MapArgs (now labels) (now nums) (now inner) s k (now bytes) ⌝ }
+pub fn fill_maps(
+    labels: &[u8],
+    node_table: &[u16],
+    inner: &[u8],
+    s: usize,
+    k: usize,
+    state_table: &mut [u8],
+)
+    requires { ⌜ MapArgs (now labels) (now «node_table») (now inner) s k (now «state_table») ⌝ }
     ensures { λ _. ⌜
-        Maps (now (labels .entry)) (now (nums .entry)) (now (inner .entry)) s k 0
-        (now (bytes .entry)) (now (bytes .exit)) ⌝ }
+        Maps (now (labels .entry)) (now («node_table» .entry)) (now (inner .entry)) s k 0
+        (now («state_table» .entry)) (now («state_table» .exit)) ⌝ }
 {
     let mut v = labels.len() - 1;
-    same_row(bytes, s, v);
+    same_row(state_table, s, v);
     while 0 < v {
         v -= 1;
-        fill_map(labels, nums, inner, s, k, v, bytes);
+        fill_map(labels, node_table, inner, s, k, v, state_table);
     }
 }

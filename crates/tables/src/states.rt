@@ -1,35 +1,27 @@
 // The run over a plan: each node's state byte, in rising node number.
+use formats::rules::rule;
 ghost use mathlib.Core.Path.{_≡_};
-ghost use Prim.Native.Nat.{_+_, _*_};
 ghost use lib.ListN.{length, getD};
-ghost use Rattle.tables.specs.States.{RuleArgs, InnerArgs, StateArgs, Runs, innerState};
-
-// The rule for left state p, label a and right state q.
-fn rule(inner: &[u8], s: usize, k: usize, p: usize, a: usize, q: usize) -> u8
-    requires { ⌜ RuleArgs (now inner) s k p a q ⌝ }
-    ensures { λ r. ⌜ r ≡ getD (now (inner .entry)) ((p * k + a) * s + q) 0 ⌝ }
-{
-    inner[(p * k + a) * s + q]
-}
+ghost use Rattle.tables.specs.inner.States.{InnerArgs, StateArgs, Runs, innerState};
 
 // The state of the inner node v of label a, from its children's.
 pub fn inner_state(
-    nums: &[u16],
-    bytes: &[u8],
+    node_table: &[u16],
+    state_table: &[u8],
     inner: &[u8],
     s: usize,
     k: usize,
     v: usize,
     a: usize,
 ) -> u8
-    requires { ⌜ InnerArgs (now nums) (now bytes) (now inner) s k v a ⌝ }
-    ensures { λ r. ⌜ r ≡ innerState (now (nums .entry)) (now (bytes .entry)) (now (inner .entry)) s k v a ⌝ }
+    requires { ⌜ InnerArgs (now «node_table») (now «state_table») (now inner) s k v a ⌝ }
+    ensures { λ r. ⌜ r ≡ innerState (now («node_table» .entry)) (now («state_table» .entry)) (now (inner .entry)) s k v a ⌝ }
 {
     let w = s + 1;
     let right = v - 1;
-    let left = right - (nums[right * 4 + 3] as usize);
-    let p = bytes[left * w] as usize;
-    let q = bytes[right * w] as usize;
+    let left = right - (node_table[right * 4 + 3] as usize);
+    let p = state_table[left * w] as usize;
+    let q = state_table[right * w] as usize;
     rule(inner, s, k, p, a, q)
 }
 
@@ -37,17 +29,17 @@ pub fn inner_state(
 pub fn run_states(
     kinds: &[u8],
     labels: &[u8],
-    nums: &[u16],
+    node_table: &[u16],
     leaves: &[u8],
     inner: &[u8],
     s: usize,
     k: usize,
-    bytes: &mut [u8],
+    state_table: &mut [u8],
 )
-    requires { ⌜ StateArgs (now kinds) (now labels) (now nums) (now leaves) (now inner) s k (length (now bytes)) ⌝ }
+    requires { ⌜ StateArgs (now kinds) (now labels) (now «node_table») (now leaves) (now inner) s k (length (now «state_table»)) ⌝ }
     ensures { λ _. ⌜
         Runs s k (now (leaves .entry)) (now (inner .entry)) (now (kinds .entry)) (now (labels .entry))
-        (length (now (kinds .entry))) (now (bytes .entry)) (now (bytes .exit)) ⌝ }
+        (length (now (kinds .entry))) (now («state_table» .entry)) (now («state_table» .exit)) ⌝ }
 {
     let n = kinds.len();
     let w = s + 1;
@@ -57,9 +49,9 @@ pub fn run_states(
         let x = if kinds[v] == 0 {
             leaves[a]
         } else {
-            inner_state(nums, bytes, inner, s, k, v, a)
+            inner_state(node_table, state_table, inner, s, k, v, a)
         };
-        bytes[v * w] = x;
+        state_table[v * w] = x;
         v += 1;
     }
 }

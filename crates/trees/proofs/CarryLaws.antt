@@ -17,7 +17,7 @@ use Rattle.trees.specs.Numbering.{parent, depth, ancestor}
 use Rattle.trees.specs.Jumps.{jump, jumpDepth}
 use Rattle.trees.specs.Climb.{Forest, forestOf, Move, byJump, toParent, target, nextMove}
 use Rattle.trees.specs.Climb.{andThen, before, climb, carry, walk}
-use Rattle.trees.proofs.Choice.{le-or}
+use Rattle.list_laws.proofs.Choice.{le-or}
 use Rattle.trees.proofs.NodeLaws.{up}
 use Rattle.trees.proofs.JumpLaws.{jumpDepth-le, jump-in, jump-is, depth-jump}
 use Rattle.trees.proofs.ClimbLaws.{climb-done, climb-move, climb-stuck, climb-nil, climb-cons}

@@ -19,7 +19,7 @@ use Rattle.trees.specs.Numbering.{parent, depth}
 use Rattle.trees.specs.Jumps.{jump}
 use Rattle.trees.specs.Climb.{Forest, forestOf, Move, byJump, toParent, target, nextMove}
 use Rattle.trees.specs.Climb.{andThen, before, climbIn, climb, climbEnd}
-use Rattle.trees.proofs.Choice.{le-or}
+use Rattle.list_laws.proofs.Choice.{le-or}
 use Rattle.trees.proofs.MoveLaws.{none-some, next-inside, next-rises, next-starts, next-jump, next-parent}
 use Rattle.trees.proofs.MoveLaws.{next-outside, next-jump-flat, next-parent-outside, next-parent-flat}
 

@@ -9,7 +9,7 @@ use mathlib.Core.Path.{_≡_, refl}
 use native.Mathlib.Omega.{arith}
 use native.Mathlib.Nat.{le-refl}
 use Rattle.trees.specs.Climb.{digitsIn, digits}
-use Rattle.trees.proofs.Choice.{by-lt}
+use Rattle.list_laws.proofs.Choice.{by-lt}
 use Rattle.trees.proofs.SkewBinary.{weight}
 
 in-pow : (f n : ℕ) → n ≤ f → n < 2 ^ digitsIn f n

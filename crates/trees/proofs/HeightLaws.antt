@@ -9,7 +9,7 @@ use mathlib.Core.Path.{_≡_, refl}
 use native.Mathlib.Omega.{arith}
 use Rattle.trees.specs.Tree.{Tree, leaf, node, size, height}
 use Rattle.trees.specs.Numbering.{depth}
-use Rattle.trees.proofs.Choice.{le-or}
+use Rattle.list_laws.proofs.Choice.{le-or}
 use Rattle.trees.proofs.NodeLaws.{Place, inL, inR, top, place, size-pos, depth-root}
 use Rattle.trees.proofs.NodeLaws.{depth-left, depth-right, depth-top}
 

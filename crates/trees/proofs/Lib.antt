@@ -1,7 +1,6 @@
 pub mod NodeLaws
 pub mod PostorderLaws
 pub mod JumpLaws
-pub mod Choice
 pub mod SkewBinary
 pub mod Digits
 pub mod MoveCount
@@ -13,8 +12,8 @@ pub mod IntervalLaws
 pub mod WalkLaws
 pub mod CarryLaws
 pub mod Samples
-pub mod RowLaws
+pub mod TableRows
 pub mod RunLaws
 pub mod MapLaws
 pub mod BranchMapLaws
-pub mod StrayLaws
+pub mod LinkRangeLaws

@@ -11,7 +11,7 @@ use native.Mathlib.Omega.{arith}
 use native.Mathlib.Nat.{le-refl}
 use Rattle.trees.specs.Jumps.{jumpDepth}
 use Rattle.trees.specs.Climb.{nextDepth, moveCountIn, moveCount, digits}
-use Rattle.trees.proofs.Choice.{by-le, by-lt, le-or}
+use Rattle.list_laws.proofs.Choice.{by-le, by-lt, le-or}
 use Rattle.trees.proofs.SkewBinary.{jumpDepth-lt, weight, value, rep, value-rep}
 use Rattle.trees.proofs.SkewBinary.{Block, Blocks, blocks, jumpDepth-block, Rising, Canon, canon}
 use Rattle.trees.proofs.Digits.{weight-digits}

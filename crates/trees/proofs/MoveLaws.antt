@@ -16,7 +16,7 @@ use native.Mathlib.Omega.{arith}
 use lib.Dec.{leb, ltb}
 use borrow.Author.Tests.{ltb-true, lt-ltb, le-ltb, le-leb, lt-leb}
 use Rattle.trees.specs.Climb.{Forest, Move, byJump, toParent, target, rising, nextMove}
-use Rattle.trees.proofs.Choice.{by-le}
+use Rattle.list_laws.proofs.Choice.{by-le}
 
 pub none-some : {X : Type 0} {x : X} → none ≡ some x → ⊥
 none-some h = let z : _≡_ {A = ℕ} 0 1 = cc in omega arith

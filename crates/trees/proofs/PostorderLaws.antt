@@ -5,6 +5,8 @@
 --     postorder-unique  and of one only
 --     treeOf-is       the tree that is read back from a tree's post-order
 --     leaf-at .. end-at  the test, node by node: what a loop over the kinds uses
+--     size-of, kind-of   the size of a tree with given kinds, and the kind of one of its nodes
+--     some-tree, some-node  kinds that pass the test have a tree, and so a node
 -- Assumes nothing.
 use Prim.Native.Nat.{ℕ, zero, suc, _+_, _-_, _≤_, _<_}
 use mathlib.Core.Path.{_≡_, refl, sym, ap, ap₂, _∙_, subst}
@@ -20,7 +22,7 @@ use mathlib.Core.Bool.{Bool, true, false}
 use Rattle.trees.specs.Tree.{Tree, leaf, node, kindsOf, labelsOf, size}
 use Rattle.trees.specs.Automaton.{Automaton, state}
 use Rattle.trees.specs.Postorder.{waiting, isOne, isPostorder, read, lastCompleted, treeOf}
-use Rattle.trees.proofs.NodeLaws.{length-kinds}
+use Rattle.trees.proofs.NodeLaws.{length-kinds, size-pos}
 
 -- a bottom-up reading of a tree; the state of an automaton is one, the tree itself another
 abbrev pub fold : {X : Type 0} → (ℕ → X) → (X → ℕ → X → X) → Tree → X
@@ -176,3 +178,19 @@ module _ (ks : List ℕ) (i : ℕ) (h : i < length ks) where
 
 pub end-at : (ks : List ℕ) (i w : ℕ) → length ks ≤ i → waiting (drop i ks) w ≡ some w
 end-at ks i w h = rw (drop-of-length-le ks h)
+
+-- ---- trees with given kinds
+
+pub size-of : (t : Tree) (ks : List ℕ) → kindsOf t ≡ ks → length ks ≡ size t
+size-of t ks e = ap length (sym e) ∙ length-kinds t
+
+-- the kind of node i, of the tree or of the list
+pub kind-of : (t : Tree) (ks : List ℕ) (i : ℕ) → kindsOf t ≡ ks → getD (kindsOf t) i 0 ≡ getD ks i 0
+kind-of t ks i e = ap (λ (l : List ℕ). getD l i 0) e
+
+pub some-tree : (ks : List ℕ) → isPostorder ks ≡ true → (t : Tree) × (kindsOf t ≡ ks)
+some-tree ks h = let T : (t : Tree) × (kindsOf t ≡ ks) × (labelsOf t ≡ ks) = postorder-tree ks ks refl h in (T .0, T .1)
+
+pub some-node : (ks : List ℕ) → isPostorder ks ≡ true → 0 < length ks
+some-node ks h =
+    let T : (t : Tree) × (kindsOf t ≡ ks) = some-tree ks h in omega (arith, size-of (T .0) ks (T .1), size-pos (T .0))

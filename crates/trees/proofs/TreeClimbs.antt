@@ -19,7 +19,7 @@ use Rattle.trees.specs.Numbering.{depth, ancestor}
 use Rattle.trees.specs.Jumps.{jump, jumpDepth}
 use Rattle.trees.specs.Climb.{forestOf, Move, byJump, toParent, target, nextMove, before, climb, climbEnd}
 use Rattle.trees.specs.Climb.{nextDepth, moveCount, digits}
-use Rattle.trees.proofs.Choice.{le-or}
+use Rattle.list_laws.proofs.Choice.{le-or}
 use Rattle.trees.proofs.NodeLaws.{up, depth-root}
 use Rattle.trees.proofs.JumpLaws.{ancestor-add, ancestor-in, ancestor-depth, jump-in, jump-is, depth-jump}
 use Rattle.trees.proofs.SkewBinary.{jumpDepth-lt}

@@ -6,4 +6,4 @@ pub mod Changes
 pub mod Jumps
 pub mod Climb
 pub mod Tables
-pub mod Stray
+pub mod LinkOutOfRange

@@ -6,13 +6,17 @@
 -- ancestor t v n == the node n parents above v
 -- labelsDown t v n == the labels of the n nodes that end at v, from above down to v
 -- word t u v == the labels from u down to v, both included, where u is v or above it
+-- InSubtree t c v == node v stands in the subtree rooted at node c, c included; isInSubtree c z v == the same as a test, for a node c
+--   whose subtree has z nodes: in post-order they are the run of z numbers that ends at c
+-- AtOrBelow t u l == node l is u or stands below it: some number of parents above l is u
 --
 -- Out of range (v not below size t) the values mean nothing.
 -- Assumes nothing.
-use Prim.Native.Nat.{ℕ, zero, suc, _+_, _-_}
-use mathlib.Core.Bool.{Bool, cond}
+use Prim.Native.Nat.{ℕ, zero, suc, _+_, _-_, _≤_, _<_}
+use mathlib.Core.Path.{_≡_}
+use mathlib.Core.Bool.{Bool, cond, _&&_}
 use mathlib.Core.List.{List, [], _∷_, _++_}
-use lib.Dec.{ltb, eqb}
+use lib.Dec.{leb, ltb, eqb}
 use Rattle.trees.specs.Tree.{Tree, leaf, node, size, labelAt}
 
 -- by the place of node v in a tree whose left part has m nodes and whose right part has n:
@@ -47,3 +51,13 @@ labelsDown t v (suc n) = labelsDown t (parent t v) n ++ (labelAt t v ∷ [])
 -- "The word runs from the upper node to the lower, both included; the same node twice is a word of one letter."
 unfoldable pub word : Tree → ℕ → ℕ → List ℕ
 word t u v = labelsDown t v (depth t v - depth t u + 1)
+
+-- "Below a child means in the subtree it roots, the child included."
+abbrev pub InSubtree : Tree → ℕ → ℕ → Type 0
+InSubtree t c v = (v ≤ c) × (c < v + size (sub t c))
+
+unfoldable pub isInSubtree : ℕ → ℕ → ℕ → Bool
+isInSubtree c z v = leb v c && ltb c (v + z)
+
+abbrev pub AtOrBelow : Tree → ℕ → ℕ → Type 0
+AtOrBelow t u l = (n : ℕ) × (n ≤ depth t l) × (ancestor t l n ≡ u)

@@ -1,10 +1,8 @@
 -- The tables that Load writes, as whole lists.
 --
--- tabulate n f == f 0, f 1, .. f (n - 1)
--- rows n f == the lists f 0, f 1, .. f (n - 1), one after the other
--- linkTable t == the 16-bit numbers of a tree: parent, jump, depth and size of the subtree, for each node in node order
+-- nodeTableOf t == the 16-bit numbers of a tree: parent, jump, depth and size of the subtree, for each node in node order
 -- stateTable A t == the bytes for a rule table: the state in the run, then the map, for each node
--- branchTable B t == the bytes for a branch table: the state on the word from the root, then the map, for each node
+-- branchTableOf B t == the bytes for a branch table: the state on the word from the root, then the map, for each node
 -- stepUp A t v q == the state at the parent of v if the state at v is q, the rest as in the run
 --
 -- A map is defined by walking parents one at a time. That the build's composition of maps gives the same is a theorem
@@ -14,26 +12,19 @@ use Prim.Native.Nat.{ℕ, zero, suc, _+_, _-_}
 use mathlib.Core.Bool.{Bool, cond}
 use mathlib.Core.List.{List, [], _∷_, _++_}
 use lib.Dec.{eqb}
+use Rattle.list_laws.specs.Rows.{tabulate, rows}
 use Rattle.trees.specs.Tree.{Tree, leaf, node, size}
 use Rattle.trees.specs.Automaton.{Automaton, state, WordAutomaton, wordRun}
 use Rattle.trees.specs.Numbering.{sub, parent, depth, labelsDown}
 use Rattle.trees.specs.Jumps.{jump}
 use Rattle.trees.specs.Climb.{walk}
 
-unfoldable pub tabulate : ℕ → (ℕ → ℕ) → List ℕ
-tabulate zero f = []
-tabulate (suc n) f = tabulate n f ++ (f n ∷ [])
-
-unfoldable pub rows : ℕ → (ℕ → List ℕ) → List ℕ
-rows zero f = []
-rows (suc n) f = rows n f ++ f n
-
 -- "16-bit numbers, four for each node in node order (parent, jump, depth, size of its subtree)"
-abbrev pub linkRow : Tree → ℕ → List ℕ
-linkRow t v = parent t v ∷ jump t v ∷ depth t v ∷ size (sub t v) ∷ []
+abbrev pub nodeRow : Tree → ℕ → List ℕ
+nodeRow t v = parent t v ∷ jump t v ∷ depth t v ∷ size (sub t v) ∷ []
 
-unfoldable pub linkTable : Tree → List ℕ
-linkTable t = rows (size t) (linkRow t)
+unfoldable pub nodeTableOf : Tree → List ℕ
+nodeTableOf t = rows (size t) (nodeRow t)
 
 -- the state of a tree whose right child (right), or else left child, has the state q in place of the run's
 abbrev pub withChild : Automaton → Bool → ℕ → Tree → ℕ
@@ -57,8 +48,8 @@ stateMap A t v q = walk (stepUp A t) t v (jumpLength t v) q
 abbrev pub stateRow : Automaton → Tree → ℕ → List ℕ
 stateRow A t v = state A (sub t v) ∷ tabulate (A .states) (stateMap A t v)
 
-unfoldable pub stateTable : Automaton → Tree → List ℕ
-stateTable A t = rows (size t) (stateRow A t)
+unfoldable pub stateTableOf : Automaton → Tree → List ℕ
+stateTableOf A t = rows (size t) (stateRow A t)
 
 -- "For a branch table the state byte is the state after the node's label on the word from the root"
 unfoldable pub branchState : WordAutomaton → Tree → ℕ → ℕ
@@ -71,5 +62,5 @@ branchMap B t v q = wordRun B q (labelsDown t v (jumpLength t v))
 abbrev pub branchRow : WordAutomaton → Tree → ℕ → List ℕ
 branchRow B t v = branchState B t v ∷ tabulate (B .states) (branchMap B t v)
 
-unfoldable pub branchTable : WordAutomaton → Tree → List ℕ
-branchTable B t = rows (size t) (branchRow B t)
+unfoldable pub branchTableOf : WordAutomaton → Tree → List ℕ
+branchTableOf B t = rows (size t) (branchRow B t)

@@ -1,7 +1,7 @@
 -- The program's calls tell the definition's answer.
 --     load-cleared        a fresh session that accepted a Load is cleared
 --     cleared-answer      on the session and the tables that an accepted Load left, what is told of a question is answerTo
--- From the theorem over every list of calls: each call is answered as the panel book says, and the book of a clean question says this.
+-- From the theorem over every list of calls: each call is answered as the reference model says, and that of a clean question says this.
 -- Assumes nothing.
 use Prim.Native.Nat.{ℕ, zero, suc, _+_, _≤_, _<_}
 use mathlib.Core.Path.{_≡_, refl, sym, ap, _∙_, subst}
@@ -12,50 +12,53 @@ use lib.Dec.{eqb}
 use lib.ListN.{length}
 use borrow.Author.Tests.{eqb-false}
 use Rattle.formats.specs.Checks.{check, firstNo, listChecks}
-use Rattle.formats.proofs.CheckLaws.{firstNo-yes, and-both, and-left, true-false}
-use Rattle.formats.proofs.ListLaws.{sameList-is}
+use Rattle.formats.proofs.CheckLaws.{firstNo-yes}
+use Rattle.list_laws.proofs.BoolLaws.{and-both, and-left, true-false}
+use Rattle.list_laws.proofs.TestLaws.{sameList-is}
 use Rattle.formats.proofs.InputLaws.{list-passes}
-use Rattle.formats.specs.Built.{builtLinks, builtStates}
+use Rattle.formats.specs.Built.{builtNodeTable, builtStateTable}
 use Rattle.tables.specs.Answers.{written}
 use Rattle.ready.specs.Parts.{Part}
-use Rattle.book.specs.Lends.{Lent, Sizes, sizesIn, fits, usedNums, usedBytes, sameLinks, sameLent, linksBuilt, bytesBuilt, sound}
-use Rattle.book.specs.Calls.{Call, load, start, advance, read, Answer, refused, accepted, more, finished, Phase, isRunning, isAnswered}
-use Rattle.book.specs.Calls.{mayStart}
-use Rattle.book.specs.Refusals.{refusal}
-use Rattle.book.specs.Book.{Question, State, Book, settled, phase, newBook, inState, step, decided, proceed, reading}
-use Rattle.book.specs.Book.{partCount, freshAnswer, longer, advanced, goesOn, firmly, advancing}
-use Rattle.book.specs.Demand3.{Conforms, after, Agrees}
-use Rattle.book.specs.Model.{Record, idle, freshRecord, act}
-use Rattle.book.specs.Alone.{isRefused}
-use Rattle.book.specs.Judge.{answersOf}
-use Rattle.book.proofs.Theorems.{session-model}
-use Rattle.book.proofs.LayersHold.{layers}
-use Rattle.book.proofs.Simulation.{book}
-use Rattle.book.proofs.AloneLaws.{at, going, over}
-use Rattle.book.proofs.Ceilings.{Few, ready-count}
-use Rattle.book.proofs.StartSim.{some-part}
-use Rattle.book.proofs.QuestionTheorem.{question}
-use Rattle.book.proofs.WrittenSound.{loaded, written-sound, written-fits, start-written}
+use Rattle.formats.specs.Inputs.{Inputs, Sizes, sizesIn, fits, usedNodeTable, usedStateTable, sameNodeInputs}
+use Rattle.formats.specs.Inputs.{sameInputs, nodeTableBuilt, stateTableBuilt, sound, inputsOf}
+use Rattle.model.specs.Calls.{Call, load, start, advance, read, Answer, refused, accepted, more, finished, Phase}
+use Rattle.model.specs.Calls.{isRunning, isAnswered, mayStart, isRefused}
+use Rattle.model.specs.Refusals.{refusal, stage}
+use Rattle.model.specs.Model.{stageOf, Record, idle, freshRecord, act}
+use Rattle.reference.specs.Reference.{Question, State, Reference, settled, phase, newReference, inState, step, decided}
+use Rattle.reference.specs.Reference.{proceed, reading, partCount, freshAnswer, longer, advanced, goesOn}
+use Rattle.reference.specs.Reference.{advancingByRule, advancing}
+use Rattle.reference.specs.Demand3.{Conforms, after, Agrees}
+use Rattle.reference.specs.AgreementTest.{answersOf}
+use Rattle.reference.proofs.Theorems.{model-agrees}
+use Rattle.model.proofs.LayersHold.{layers}
+use Rattle.reference.proofs.Simulation.{referenceOf}
+use Rattle.reference.proofs.UndisturbedLaws.{at, going, over}
+use Rattle.reference.proofs.Ceilings.{Few, ready-count}
+use Rattle.reference.proofs.StartSimulation.{some-part}
+use Rattle.reference.proofs.QuestionTheorem.{question}
+use Rattle.reference.proofs.WrittenSound.{loaded, written-sound, written-fits, start-written}
 use Rattle.session.specs.declared.state.Session.{Session}
 use Rattle.session.specs.Records.{freshSession}
-use Rattle.session.specs.Tests.{lentOf}
-use Rattle.session.specs.declared.answers.Doing.{Doing}
-use Rattle.session.specs.declared.answers.Doing.the-variants.{Done}
-use Rattle.session.specs.Promises.{LoadDone, doingAnswer, answerOn, recordOn, refusalOn}
+use Rattle.formats.specs.Inputs.{inputsOf}
+use Rattle.session.specs.declared.answers.CallAnswer.{CallAnswer}
+use Rattle.session.specs.declared.answers.CallAnswer.the-variants.{Accepted}
+use Rattle.session.specs.Answers.{callAnswer}
+use Rattle.session.specs.Promises.{LoadDone, answerOn, recordOn, refusalOn}
 use Rattle.session.proofs.Refine.{Seen, fresh-seen, call-refines}
 use Rattle.whatif.specs.Asked.{afterAdvance, finishedIn, mostParts, afterStart, askedOn}
 use Rattle.whatif.specs.Cleared.{answerBy, answerTo, Cleared}
 
--- the session holds a record whose answers, to any list of calls, agree with the book
-record Follows (s : Session) (b : Book) : Type 0 where
+-- the session holds a record whose answers, to any list of calls, agree with the reference model
+record Follows (s : Session) (b : Reference) : Type 0 where
   pub holds : Record
   pub seen : Seen s holds
   pub agrees : (cs : List Call) → Agrees b cs (answersOf holds cs)
 
-fresh-follows : Follows freshSession newBook
-fresh-follows = record { holds = freshRecord; seen = fresh-seen; agrees = session-model }
+fresh-follows : Follows freshSession newReference
+fresh-follows = record { holds = freshRecord; seen = fresh-seen; agrees = model-agrees }
 
-module _ (s : Session) (b : Book) (F : Follows s b) (c : Call) where
+module _ (s : Session) (b : Reference) (F : Follows s b) (c : Call) where
   answer-is : answerOn s c ≡ act (F .holds) c .answer
   answer-is = call-refines s (F .holds) (F .seen) c _ _ refl refl .1 .tells
 
@@ -74,8 +77,8 @@ module _ (s : Session) (b : Book) (F : Follows s b) (c : Call) where
             (F .agrees (c ∷ cs) .1);
       }
 
--- a settled call: its answer, and the book then
-module _ (s : Session) (b : Book) (F : Follows s b) (c : Call) (a : Answer) (b′ : Book) (e : step b c ≡ settled a b′) where
+-- a settled call: its answer, and the reference model then
+module _ (s : Session) (b : Reference) (F : Follows s b) (c : Call) (a : Answer) (b′ : Reference) (e : step b c ≡ settled a b′) where
   settled-answer : answerOn s c ≡ a
   settled-answer =
       let g : Conforms (settled a b′) (answerOn s c) = subst (λ n. Conforms n (answerOn s c)) e (conforms s b F c) in g
@@ -85,32 +88,32 @@ module _ (s : Session) (b : Book) (F : Follows s b) (c : Call) (a : Answer) (b�
 
 -- ---- a clean question
 
-module _ (z : Sizes) (x : Lent) (long : fits z x ≡ true) where
-  same : sameLent z x x ≡ true
-  unfolding sameLent sameLinks
+module _ (z : Sizes) (x : Inputs) (long : fits z x ≡ true) where
+  same : sameInputs z x x ≡ true
+  unfolding sameInputs sameNodeInputs
   same =
       and-both _ _ (and-both _ _ (sameList-is (x .plan) (x .plan) refl) (and-both _ _ (sameList-is (x .rules) (x .rules) refl)
-      (sameList-is (usedNums z x) (usedNums z x) refl))) (sameList-is (usedBytes z x) (usedBytes z x) refl)
+      (sameList-is (usedNodeTable z x) (usedNodeTable z x) refl))) (sameList-is (usedStateTable z x) (usedStateTable z x) refl)
 
-  advance-allowed : refusal Phase.running z (advance x) ≡ 0
+  advance-allowed : refusal (stage Phase.running z) (advance x) ≡ 0
   unfolding refusal isRunning firstNo
   advance-allowed = firstNo-yes 17 (fits z x) [] long
 
   -- an advance goes on
-  advance-step : (q : Question) (c : ℕ) (tr : List Part) → q .lent ≡ x
+  advance-step : (q : Question) (c : ℕ) (tr : List Part) → q .inputs ≡ x
       → step (going z q c tr) (advance x) ≡ goesOn (going z q c tr) (at q (suc c) (longer z (at q c tr) x))
   unfolding step decided phase proceed advancing advanced
   advance-step q c tr e =
       ap (λ (n : ℕ). decided n (going z q c tr) (advance x)) advance-allowed
-      ∙ ap (λ (b : Bool). cond b (goesOn (going z q c tr) (at q (suc c) (longer z (at q c tr) x))) (firmly (going z q c tr) x (at q c tr)))
-      (subst (λ (y : Lent). sameLent z y x ≡ true) (sym e) same)
+      ∙ ap (λ (b : Bool). cond b (goesOn (going z q c tr) (at q (suc c) (longer z (at q c tr) x))) (advancingByRule (going z q c tr) x (at q c tr)))
+      (subst (λ (y : Inputs). sameInputs z y x ≡ true) (sym e) same)
 
   -- a Read tells the fresh run's answer
   read-step : (q : Question) (c : ℕ) (tr : List Part) → step (over z q c tr) read ≡ settled (freshAnswer q) (over z q c tr)
   unfolding step decided phase proceed reading refusal firstNo isAnswered freshAnswer
   read-step q c tr = refl
 
-  finish-clean : (f : ℕ) (s : Session) (q : Question) (c : ℕ) (tr : List Part) → q .lent ≡ x → Follows s (going z q c tr)
+  finish-clean : (f : ℕ) (s : Session) (q : Question) (c : ℕ) (tr : List Part) → q .inputs ≡ x → Follows s (going z q c tr)
       → c < partCount q → partCount q ≤ c + f → finishedIn f s x ≡ freshAnswer q
   unfolding goesOn inState finishedIn afterAdvance
   finish-clean zero s q c tr e F l m = absurd (omega arith)
@@ -149,99 +152,99 @@ few-parts : (m p : ℕ) → Few m p → m ≤ 64 → p ≤ 254
 few-parts zero p h l = omega (arith, h .one refl)
 few-parts (suc m) p h l = omega (arith, h .few (omega arith))
 
-module _ (y : Lent) (passed : refusal (phase (newBook .state)) (newBook .sizes) (load y) ≡ 0) (s : Session)
-    (F : Follows s (book State.loaded (sizesIn y))) (vs bs : List ℕ) where
-  start-number : refusal Phase.loaded (sizesIn y) (start (loaded y) vs bs) ≡ firstNo (listChecks (sizesIn y .n) (sizesIn y .k) vs bs)
+module _ (y : Inputs) (passed : refusal (stage (phase (newReference .state)) (newReference .sizes)) (load y) ≡ 0) (s : Session)
+    (F : Follows s (referenceOf State.loaded (sizesIn y))) (vs bs : List ℕ) where
+  start-number : refusal (stage Phase.loaded (sizesIn y)) (start (loaded y) vs bs) ≡ firstNo (listChecks (sizesIn y .n) (sizesIn y .k) vs bs)
   unfolding refusal mayStart
   start-number =
       firstNo-yes 1 true (check 17 (fits (sizesIn y) (loaded y)) ∷ listChecks (sizesIn y .n) (sizesIn y .k) vs bs) refl
       ∙ firstNo-yes 17 (fits (sizesIn y) (loaded y)) (listChecks (sizesIn y .n) (sizesIn y .k) vs bs)
-      (written-fits (phase (newBook .state)) (newBook .sizes) y passed)
+      (written-fits (stage (phase (newReference .state)) (newReference .sizes)) y passed)
 
-  told-refused : (n : ℕ) → firstNo (listChecks (sizesIn y .n) (sizesIn y .k) vs bs) ≡ suc n
+  answer-refused : (n : ℕ) → firstNo (listChecks (sizesIn y .n) (sizesIn y .k) vs bs) ≡ suc n
       → askedOn s (loaded y) vs bs ≡ refused (suc n)
   unfolding askedOn afterStart step decided phase
-  told-refused n e =
+  answer-refused n e =
       ap (λ (a : Answer). afterStart a (finishedIn mostParts (recordOn s (start (loaded y) vs bs)) (loaded y)))
-      (settled-answer s (book State.loaded (sizesIn y)) F (start (loaded y) vs bs) (refused (suc n)) (book State.loaded (sizesIn y))
-      (ap (λ (k : ℕ). decided k (book State.loaded (sizesIn y)) (start (loaded y) vs bs)) (start-number ∙ e)))
+      (settled-answer s (referenceOf State.loaded (sizesIn y)) F (start (loaded y) vs bs) (refused (suc n)) (referenceOf State.loaded (sizesIn y))
+      (ap (λ (k : ℕ). decided k (referenceOf State.loaded (sizesIn y)) (start (loaded y) vs bs)) (start-number ∙ e)))
 
-  told-clean : firstNo (listChecks (sizesIn y .n) (sizesIn y .k) vs bs) ≡ 0
+  answer-clean : firstNo (listChecks (sizesIn y .n) (sizesIn y .k) vs bs) ≡ 0
       → askedOn s (loaded y) vs bs ≡ freshAnswer (question (loaded y) vs bs)
   unfolding askedOn afterStart sound phase mayStart
-  told-clean e =
-      let p = phase (newBook .state) in
+  answer-clean e =
+      let p = phase (newReference .state) in
       let q = question (loaded y) vs bs in
-      let w = start-written p (newBook .sizes) y State.loaded vs bs passed refl e in
-      let a = settled-answer s (book State.loaded (sizesIn y)) F (start (loaded y) vs bs) _ _ w in
-      let G = settled-follows s (book State.loaded (sizesIn y)) F (start (loaded y) vs bs) _ _ w in
-      let l = and-left (linksBuilt (sizesIn y) (loaded y)) (bytesBuilt (sizesIn y) (loaded y))
-      (written-sound p (newBook .sizes) y passed) in
+      let w = start-written (stage p (newReference .sizes)) y State.loaded vs bs passed refl e in
+      let a = settled-answer s (referenceOf State.loaded (sizesIn y)) F (start (loaded y) vs bs) _ _ w in
+      let G = settled-follows s (referenceOf State.loaded (sizesIn y)) F (start (loaded y) vs bs) _ _ w in
+      let l = and-left (nodeTableBuilt (sizesIn y) (loaded y)) (stateTableBuilt (sizesIn y) (loaded y))
+      (written-sound (stage p (newReference .sizes)) y passed) in
       let k = list-passes (sizesIn y .n) (sizesIn y .k) vs bs e in
       let few : partCount q ≤ 254 = few-parts (length vs) (partCount q) (ready-count layers (sizesIn y) (loaded y) vs l (k .nodes-below))
       (k .most) in
       ap (λ (t : Answer). afterStart t (finishedIn mostParts (recordOn s (start (loaded y) vs bs)) (loaded y))) a
-      ∙ finish-clean (sizesIn y) (loaded y) (written-fits p (newBook .sizes) y passed) mostParts
+      ∙ finish-clean (sizesIn y) (loaded y) (written-fits (stage p (newReference .sizes)) y passed) mostParts
       (recordOn s (start (loaded y) vs bs)) q 0 [] refl G (some-part q) (omega arith)
 
-  told : askedOn s (loaded y) vs bs ≡ answerTo (y .plan) (y .rules) vs bs
+  result : askedOn s (loaded y) vs bs ≡ answerTo (y .plan) (y .rules) vs bs
   unfolding answerBy loaded freshAnswer
-  told = go (firstNo (listChecks (sizesIn y .n) (sizesIn y .k) vs bs)) refl
+  result = go (firstNo (listChecks (sizesIn y .n) (sizesIn y .k) vs bs)) refl
     where
       go : (n : ℕ) → firstNo (listChecks (sizesIn y .n) (sizesIn y .k) vs bs) ≡ n
           → askedOn s (loaded y) vs bs ≡ answerBy n (y .plan) (y .rules) vs bs
-      go zero e = told-clean e
-      go (suc n) e = told-refused n e
+      go zero e = answer-clean e
+      go (suc n) e = answer-refused n e
 
 -- ---- the theorem
 
--- an accepted Load passed its checks, and leaves the session and the book loaded
-load-passed : (y : Lent) → answerOn freshSession (load y) ≡ accepted → refusal (phase (newBook .state)) (newBook .sizes) (load y) ≡ 0
+-- an accepted Load passed its checks, and leaves the session and the reference model loaded
+load-passed : (y : Inputs) → answerOn freshSession (load y) ≡ accepted → refusal (stage (phase (newReference .state)) (newReference .sizes)) (load y) ≡ 0
 unfolding step decided
 load-passed y e =
-    go (refusal (phase (newBook .state)) (newBook .sizes) (load y))
-    (subst (λ (a : Answer). Conforms (step newBook (load y)) a) e (conforms freshSession newBook fresh-follows (load y)))
+    go (refusal (stage (phase (newReference .state)) (newReference .sizes)) (load y))
+    (subst (λ (a : Answer). Conforms (step newReference (load y)) a) e (conforms freshSession newReference fresh-follows (load y)))
   where
-    go : (n : ℕ) → Conforms (decided n newBook (load y)) accepted → n ≡ 0
+    go : (n : ℕ) → Conforms (decided n newReference (load y)) accepted → n ≡ 0
     go zero h = refl
     go (suc n) h = absurd (true-false (sym (ap isRefused h)))
 
-load-follows : (y : Lent) → refusal (phase (newBook .state)) (newBook .sizes) (load y) ≡ 0
-    → Follows (recordOn freshSession (load y)) (book State.loaded (sizesIn y))
+load-follows : (y : Inputs) → refusal (stage (phase (newReference .state)) (newReference .sizes)) (load y) ≡ 0
+    → Follows (recordOn freshSession (load y)) (referenceOf State.loaded (sizesIn y))
 unfolding step decided proceed
 load-follows y e =
-    settled-follows freshSession newBook fresh-follows (load y) accepted (book State.loaded (sizesIn y))
-    (ap (λ (n : ℕ). decided n newBook (load y)) e)
+    settled-follows freshSession newReference fresh-follows (load y) accepted (referenceOf State.loaded (sizesIn y))
+    (ap (λ (n : ℕ). decided n newReference (load y)) e)
 
-same-lent : (p p′ r r′ n n′ b b′ : List ℕ) → p′ ≡ p → r′ ≡ r → n′ ≡ n → b′ ≡ b → lentOf p r n b ≡ lentOf p′ r′ n′ b′
-same-lent p p′ r r′ n n′ b b′ e f g h = rw (e, f, g, h) refl
+same-given : (p p′ r r′ n n′ b b′ : List ℕ) → p′ ≡ p → r′ ≡ r → n′ ≡ n → b′ ≡ b → inputsOf p r n b ≡ inputsOf p′ r′ n′ b′
+same-given p p′ r r′ n n′ b b′ e f g h = rw (e, f, g, h) refl
 
-lent-is : (s : Session) (x : Lent) (C : Cleared s x) → loaded (C .lent) ≡ x
+given-is : (s : Session) (x : Inputs) (C : Cleared s x) → loaded (C .lent) ≡ x
 unfolding loaded
-lent-is s x C = same-lent _ (x .plan) _ (x .rules) _ (x .nums) _ (x .bytes) (C .plan) (C .rules) (C .nums) (C .bytes)
+given-is s x C = same-given _ (x .plan) _ (x .rules) _ (x .nodeTable) _ (x .stateTable) (C .plan) (C .rules) (C .nodeTable) (C .stateTable)
 
-pub cleared-answer : (s : Session) (x : Lent) (vs bs : List ℕ) → Cleared s x → askedOn s x vs bs ≡ answerTo (x .plan) (x .rules) vs bs
+pub cleared-answer : (s : Session) (x : Inputs) (vs bs : List ℕ) → Cleared s x → askedOn s x vs bs ≡ answerTo (x .plan) (x .rules) vs bs
 unfolding loaded
 cleared-answer s x vs bs C =
     let y = C .lent in
     let passed = load-passed y (C .taken) in
-    let F = subst (λ (t : Session). Follows t (book State.loaded (sizesIn y))) (sym (C .session)) (load-follows y passed) in
-    subst (λ (t : Lent). askedOn s t vs bs ≡ answerTo (t .plan) (t .rules) vs bs) (lent-is s x C) (told y passed s F vs bs)
+    let F = subst (λ (t : Session). Follows t (referenceOf State.loaded (sizesIn y))) (sym (C .session)) (load-follows y passed) in
+    subst (λ (t : Inputs). askedOn s t vs bs ≡ answerTo (t .plan) (t .rules) vs bs) (given-is s x C) (result y passed s F vs bs)
 
 -- ---- an accepted Load of a fresh session clears it
 
-fresh-refusal : (y : Lent) → answerOn freshSession (load y) ≡ accepted → refusalOn freshSession (load y) ≡ 0
-unfolding refusalOn freshRecord idle newBook phase
+fresh-refusal : (y : Inputs) → answerOn freshSession (load y) ≡ accepted → refusalOn freshSession (load y) ≡ 0
+unfolding refusalOn freshRecord idle newReference phase
 fresh-refusal y e =
     rw (fresh-seen .passes)
-    (ap (λ (r : Record). refusal (r .phase) (r .sizes) (load y)) (fresh-seen .holds) ∙ load-passed y e)
+    (ap (λ (r : Record). refusal (stageOf r) (load y)) (fresh-seen .holds) ∙ load-passed y e)
 
-fresh-cleared : (s : Session) (p r n b n′ b′ : List ℕ) (t : Doing) → t ≡ Done
-    → LoadDone freshSession (lentOf p r n b) (doingAnswer t) s n′ b′ → Cleared s (lentOf p r n′ b′)
-unfolding doingAnswer
+fresh-cleared : (s : Session) (p r n b n′ b′ : List ℕ) (t : CallAnswer) → t ≡ Accepted
+    → LoadDone freshSession (inputsOf p r n b) (callAnswer t) s n′ b′ → Cleared s (inputsOf p r n′ b′)
+unfolding callAnswer
 fresh-cleared s p r n b n′ b′ t e L =
-    let y = lentOf p r n b in
-    let a : answerOn freshSession (load y) ≡ accepted = sym (L .call .tells) ∙ ap doingAnswer e in
+    let y = inputsOf p r n b in
+    let a : answerOn freshSession (load y) ≡ accepted = sym (L .call .tells) ∙ ap callAnswer e in
     let z = fresh-refusal y a in
     record {
       lent = y;
@@ -249,11 +252,11 @@ fresh-cleared s p r n b n′ b′ t e L =
       session = L .call .leaves;
       plan = refl;
       rules = refl;
-      nums = L .links-written ∙ ap (λ (k : ℕ). written k (builtLinks p) n) z;
-      bytes = L .states-written ∙ ap (λ (k : ℕ). written k (builtStates p r) b) z;
+      nodeTable = L .node-table-written ∙ ap (λ (k : ℕ). written k (builtNodeTable p) n) z;
+      stateTable = L .state-table-written ∙ ap (λ (k : ℕ). written k (builtStateTable p r) b) z;
     }
 
-pub load-cleared : (f s : Session) (p r n b n′ b′ : List ℕ) (t : Doing) → f ≡ freshSession → t ≡ Done
-    → LoadDone f (lentOf p r n b) (doingAnswer t) s n′ b′ → Cleared s (lentOf p r n′ b′)
+pub load-cleared : (f s : Session) (p r n b n′ b′ : List ℕ) (t : CallAnswer) → f ≡ freshSession → t ≡ Accepted
+    → LoadDone f (inputsOf p r n b) (callAnswer t) s n′ b′ → Cleared s (inputsOf p r n′ b′)
 load-cleared f s p r n b n′ b′ t d e L =
-    fresh-cleared s p r n b n′ b′ t e (subst (λ (g : Session). LoadDone g (lentOf p r n b) (doingAnswer t) s n′ b′) d L)
+    fresh-cleared s p r n b n′ b′ t e (subst (λ (g : Session). LoadDone g (inputsOf p r n b) (callAnswer t) s n′ b′) d L)

@@ -1,7 +1,7 @@
 -- The buffer of a question that is not yet whole, and the lines of the questions that become so.
 --     held-empty      nothing is held at the start
 --     held-more       one more byte, kept if there is room
---     whole-told      whether the question is whole is told by the buffer
+--     whole-answer      whether the question is whole is told by the buffer
 --     list-kept       and so is the list of a whole question
 --     kept-line       the line of a whole question
 --     open-chunks, lines-chunks       one chunk after another
@@ -18,7 +18,7 @@ use lib.ListN.{length, getD, take, drop, set, length-append, length-drop, length
 use lib.Seq.{take-all, take-take, take-add, drop-at, take-suc-set, set-out, take-append-le, getD-take, length-take-le}
 use borrow.Author.Tests.{leb-true, leb-false, lt-leb, ne-eqb, eqb-true}
 use Rattle.formats.specs.Checks.{firstNo, listChecks}
-use Rattle.book.specs.Calls.{Answer, refused}
+use Rattle.model.specs.Calls.{Answer, refused}
 use Rattle.whatif.specs.Text.{Put}
 use Rattle.whatif.specs.Line.{lineOf}
 use Rattle.whatif.specs.Cleared.{answerBy, answerTo}
@@ -67,8 +67,8 @@ module _ (q kept : List ℕ) (have : ℕ) (h : Held q kept have) where
   pub count-kept : 2 ≤ have → changeCount kept ≡ changeCount q
   count-kept k = rw (byte-kept 0 (omega arith) (omega arith), byte-kept 1 (omega arith) (omega arith)) refl
 
-  pub whole-told : eqb have (questionLength kept) ≡ isWhole q
-  whole-told = go (leb 2 have) refl
+  pub whole-answer : eqb have (questionLength kept) ≡ isWhole q
+  whole-answer = go (leb 2 have) refl
     where
       go : (t : Bool) → leb 2 have ≡ t → eqb have (questionLength kept) ≡ isWhole q
       go true e = rw (count-kept (leb-true 2 have e), h .counted) refl
@@ -175,11 +175,11 @@ unfolding openBy openAfter linesBy lineAfter
 byte-kept-open f kept have b out end e = record {
   held = λ q h.
       let m = held-more q kept have b h in
-      let w = sym (whole-told (q ++ (b ∷ [])) (set kept have b) (have + 1) m) ∙ e in
+      let w = sym (whole-answer (q ++ (b ∷ [])) (set kept have b) (have + 1) m) ∙ e in
       rw w m;
   text = λ q h.
       let m = held-more q kept have b h in
-      let w = sym (whole-told (q ++ (b ∷ [])) (set kept have b) (have + 1) m) ∙ e in
+      let w = sym (whole-answer (q ++ (b ∷ [])) (set kept have b) (have + 1) m) ∙ e in
       rw w (put-nothing out end);
 }
 
@@ -198,11 +198,11 @@ unfolding openBy openAfter linesBy lineAfter
 byte-answered p r kept have b out end out′ end′ e l t = record {
   held = λ q h.
       let m = held-more q kept have b h in
-      let w = sym (whole-told (q ++ (b ∷ [])) (set kept have b) (have + 1) m) ∙ e in
+      let w = sym (whole-answer (q ++ (b ∷ [])) (set kept have b) (have + 1) m) ∙ e in
       rw w (held-empty (set kept have b) (length-set kept have b ∙ l));
   text = λ q h.
       let m = held-more q kept have b h in
-      let w = sym (whole-told (q ++ (b ∷ [])) (set kept have b) (have + 1) m) ∙ e in
+      let w = sym (whole-answer (q ++ (b ∷ [])) (set kept have b) (have + 1) m) ∙ e in
       let k = line-kept p r (q ++ (b ∷ [])) (set kept have b) (have + 1) m w in
       rw (w, append-nil, ← k) t;
 }

@@ -6,8 +6,8 @@
 use Prim.Native.Nat.{ℕ}
 use mathlib.Core.Path.{_≡_, refl}
 use mathlib.Core.List.{List, [], _∷_, _++_}
-use Rattle.book.specs.Lends.{Lent}
-use Rattle.book.proofs.Sample.{computing, planA, tableA}
+use Rattle.formats.specs.Inputs.{Inputs}
+use Rattle.reference.proofs.Sample.{computing, planA, tableA}
 use Rattle.session.specs.declared.state.Session.{Session}
 use Rattle.whatif.specs.Question.{nodesIn, labelsIn}
 use Rattle.whatif.specs.Asked.{askedOn}
@@ -18,7 +18,7 @@ use Rattle.whatif.specs.Stream.{questionLine, openAfter, openBy, lineAft
 use Rattle.whatif.proofs.ClearedLaws.{cleared-answer}
 use Rattle.whatif.proofs.StreamLaws.{lines-chunks}
 
-pub calls-tell : (s : Session) (x : Lent) (vs bs : List ℕ) → Cleared s x → askedOn s x vs bs ≡ answerTo (x .plan) (x .rules) vs bs
+pub calls-tell : (s : Session) (x : Inputs) (vs bs : List ℕ) → Cleared s x → askedOn s x vs bs ≡ answerTo (x .plan) (x .rules) vs bs
 calls-tell = cleared-answer
 
 pub chunks-alike : (f : List ℕ → List ℕ) (q c d : List ℕ) → linesBy f q (c ++ d) ≡ linesBy f q c ++ linesBy f (openBy q c) d
@@ -39,25 +39,25 @@ questionsA =
     ∷ []
 
 -- a line of one-digit numbers, by the codes of its digits
-toldText : ℕ → List ℕ → ℕ → ℕ → List ℕ
-toldText q y p l = (q ∷ y) ++ (p ∷ 32 ∷ l ∷ 10 ∷ [])
+outcomeText : ℕ → List ℕ → ℕ → ℕ → List ℕ
+outcomeText q y p l = (q ∷ y) ++ (p ∷ 32 ∷ l ∷ 10 ∷ [])
 
 refusedText : ℕ → List ℕ
 refusedText d = refusedWord ++ (49 ∷ d ∷ 10 ∷ [])
 
 -- "1 yes 1 0", "0 no 2 1", "1 yes 3 0", "0 no 5 0", "0 no 2 1", "1 yes 1 0", "refused 13", "refused 14", "refused 15"
 linesA : List ℕ
-unfolding toldText refusedText
+unfolding outcomeText refusedText
 linesA =
-    toldText 49 (32 ∷ 121 ∷ 101 ∷ 115 ∷ 32 ∷ []) 49 48
-    ++ (toldText 48 (32 ∷ 110 ∷ 111 ∷ 32 ∷ []) 50 49
-    ++ (toldText 49 (32 ∷ 121 ∷ 101 ∷ 115 ∷ 32 ∷ []) 51 48
-    ++ (toldText 48 (32 ∷ 110 ∷ 111 ∷ 32 ∷ []) 53 48
-    ++ (toldText 48 (32 ∷ 110 ∷ 111 ∷ 32 ∷ []) 50 49
-    ++ (toldText 49 (32 ∷ 121 ∷ 101 ∷ 115 ∷ 32 ∷ []) 49 48
+    outcomeText 49 (32 ∷ 121 ∷ 101 ∷ 115 ∷ 32 ∷ []) 49 48
+    ++ (outcomeText 48 (32 ∷ 110 ∷ 111 ∷ 32 ∷ []) 50 49
+    ++ (outcomeText 49 (32 ∷ 121 ∷ 101 ∷ 115 ∷ 32 ∷ []) 51 48
+    ++ (outcomeText 48 (32 ∷ 110 ∷ 111 ∷ 32 ∷ []) 53 48
+    ++ (outcomeText 48 (32 ∷ 110 ∷ 111 ∷ 32 ∷ []) 50 49
+    ++ (outcomeText 49 (32 ∷ 121 ∷ 101 ∷ 115 ∷ 32 ∷ []) 49 48
     ++ (refusedText 51 ++ (refusedText 52 ++ refusedText 53)))))))
 
 sample-lines : linesBy (questionLine planA tableA) [] questionsA ≡ linesA
 unfolding computing planA tableA questionsA linesA linesBy lineAfter openAfter questionLine nodesIn labelsIn answerBy lineOf decimal
-    placesIn toldText refusedText
+    placesIn outcomeText refusedText
 sample-lines = refl

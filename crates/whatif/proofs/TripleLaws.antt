@@ -2,7 +2,7 @@
 --     ByThree f g    f takes a list apart three by three, and makes g of each three
 --     nodes-by-three, labels-by-three
 --     nodes-count    how many nodes a list has
---     taken-turn     one more three taken: what is done and what is left to do make the whole
+--     taken-iteration     one more three taken: what is done and what is left to do make the whole
 --     taken-end      less than three are left
 -- Assumes nothing.
 use Prim.Native.Nat.{ℕ, suc, _+_, _*_, _/_, _≤_, _<_}
@@ -67,10 +67,10 @@ three-more l p h =
     let c : suc (p + 2) ≡ p + 3 = omega arith in
     rw (drop-cons l p 0 (omega arith), a, drop-cons l (p + 1) 0 (omega arith), b, drop-cons l (p + 2) 0 h, c)
 
-pub taken-turn : (f : List ℕ → List ℕ) (g : ℕ → ℕ → ℕ → ℕ) → ByThree f g → (l xs : List ℕ) (i x : ℕ)
+pub taken-iteration : (f : List ℕ → List ℕ) (g : ℕ → ℕ → ℕ → ℕ) → ByThree f g → (l xs : List ℕ) (i x : ℕ)
     → 3 * i + 2 < length l → i < length xs → x ≡ g (getD l (3 * i) 0) (getD l (3 * i + 1) 0) (getD l (3 * i + 2) 0)
     → take i xs ++ f (drop (3 * i) l) ≡ f l → take (i + 1) (set xs i x) ++ f (drop (3 * (i + 1)) l) ≡ f l
-taken-turn f g F l xs i x h k e o =
+taken-iteration f g F l xs i x h k e o =
     let m : 3 * (i + 1) ≡ 3 * i + 3 = omega arith in
     let w = f (drop (3 * i + 3) l) in
     let d : f (drop (3 * i) l) ≡ x ∷ w =

@@ -2,7 +2,7 @@
 --
 -- answerTo p r vs bs == of the changes vs to bs on the plan p and the rules r: the number of the first check of 12 to 15 that fails, or the
 --   state and the yes or no of a run on the changed plan, the parts, and as links the moves of their climbs
--- Cleared s x == the session s is the one that an accepted Load left, and x is what was lent then, with the tables that it wrote
+-- Cleared s x == the session s is the one that an accepted Load left, and x is what it was given, with the tables that it wrote
 --
 -- That the program's calls tell this answer is proofs/Theorems.
 -- Assumes nothing.
@@ -17,12 +17,12 @@ use Rattle.trees.specs.Changes.{changed}
 use Rattle.formats.specs.Plan.{nodeCount, planTree, labelsIn, kindsIn}
 use Rattle.formats.specs.Rules.{labelCount, ruleAutomaton}
 use Rattle.formats.specs.Checks.{firstNo, listChecks}
-use Rattle.formats.specs.Built.{builtLinks, builtStates}
+use Rattle.formats.specs.Built.{builtNodeTable, builtStateTable}
 use Rattle.tables.specs.Answers.{written}
 use Rattle.ready.specs.Members.{roots}
 use Rattle.ready.specs.Parts.{questionLinks}
-use Rattle.book.specs.Lends.{Lent}
-use Rattle.book.specs.Calls.{load, Answer, refused, accepted, told}
+use Rattle.formats.specs.Inputs.{Inputs}
+use Rattle.model.specs.Calls.{load, Answer, refused, accepted, outcomeAnswer}
 use Rattle.session.specs.declared.state.Session.{Session}
 use Rattle.session.specs.Records.{freshSession}
 use Rattle.session.specs.Promises.{answerOn, recordOn}
@@ -33,19 +33,19 @@ changedPlan p vs bs = treeOf (kindsIn p) (changed (labelsIn p) vs bs)
 
 unfoldable pub answerBy : ℕ → List ℕ → List ℕ → List ℕ → List ℕ → Answer
 answerBy zero p r vs bs =
-    told (state (ruleAutomaton r) (changedPlan p vs bs)) (accepts (ruleAutomaton r) (changedPlan p vs bs))
+    outcomeAnswer (state (ruleAutomaton r) (changedPlan p vs bs)) (accepts (ruleAutomaton r) (changedPlan p vs bs))
     (length (roots (planTree p) vs)) (questionLinks (planTree p) (roots (planTree p) vs))
 answerBy (suc n) p r vs bs = refused (suc n)
 
 abbrev pub answerTo : List ℕ → List ℕ → List ℕ → List ℕ → Answer
 answerTo p r vs bs = answerBy (firstNo (listChecks (nodeCount p) (labelCount r) vs bs)) p r vs bs
 
-pub record Cleared (s : Session) (x : Lent) : Type 0 where
-  -- what Load was lent
-  pub lent : Lent
+pub record Cleared (s : Session) (x : Inputs) : Type 0 where
+  -- what Load was given
+  pub lent : Inputs
   pub taken : answerOn freshSession (load lent) ≡ accepted
   pub session : s ≡ recordOn freshSession (load lent)
   pub plan : x .plan ≡ lent .plan
   pub rules : x .rules ≡ lent .rules
-  pub nums : x .nums ≡ written 0 (builtLinks (lent .plan)) (lent .nums)
-  pub bytes : x .bytes ≡ written 0 (builtStates (lent .plan) (lent .rules)) (lent .bytes)
+  pub nodeTable : x .nodeTable ≡ written 0 (builtNodeTable (lent .plan)) (lent .nodeTable)
+  pub stateTable : x .stateTable ≡ written 0 (builtStateTable (lent .plan) (lent .rules)) (lent .stateTable)

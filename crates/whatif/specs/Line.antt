@@ -7,7 +7,7 @@
 use Prim.Native.Nat.{ℕ}
 use mathlib.Core.Bool.{Bool, true, false}
 use mathlib.Core.List.{List, [], _∷_, _++_}
-use Rattle.book.specs.Calls.{Answer, refused, accepted, parts, more, finished, told}
+use Rattle.model.specs.Calls.{Answer, parts, onRefused, onOutcome}
 use Rattle.whatif.specs.Text.{decimal}
 
 -- " yes " or " no "
@@ -25,16 +25,11 @@ newline = 10 ∷ []
 abbrev pub refusedWord : List ℕ
 refusedWord = 114 ∷ 101 ∷ 102 ∷ 117 ∷ 115 ∷ 101 ∷ 100 ∷ 32 ∷ []
 
-abbrev pub toldLine : ℕ → Bool → ℕ → ℕ → List ℕ
-toldLine q y p l = decimal q ++ (yesOrNo y ++ (decimal p ++ (space ++ (decimal l ++ newline))))
+abbrev pub outcomeLine : ℕ → Bool → ℕ → ℕ → List ℕ
+outcomeLine q y p l = decimal q ++ (yesOrNo y ++ (decimal p ++ (space ++ (decimal l ++ newline))))
 
 abbrev pub refusedLine : ℕ → List ℕ
 refusedLine n = refusedWord ++ (decimal n ++ newline)
 
 unfoldable pub lineOf : Answer → List ℕ
-lineOf (told q y p l) = toldLine q y p l
-lineOf (refused n) = refusedLine n
-lineOf accepted = []
-lineOf (parts p) = []
-lineOf more = []
-lineOf finished = []
+lineOf a = onOutcome (λ o. outcomeLine (o .state) (o .yes) (o .parts) (o .links)) (onRefused refusedLine [] a) a

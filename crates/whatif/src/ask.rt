@@ -1,34 +1,40 @@
 // A question put to the session: Start, advances until finished, Read.
-use session::answers::Advancing;
-use session::answers::Reading;
-use session::answers::Starting;
+use session::answers::AdvanceAnswer;
+use session::answers::ReadAnswer;
+use session::answers::StartAnswer;
 use session::state::Session;
 ghost use mathlib.Core.Path.{_≡_};
-ghost use Rattle.session.specs.Promises.{readingAnswer};
-ghost use Rattle.session.specs.Tests.{lentOf};
+ghost use Rattle.session.specs.Answers.{readAnswer};
+ghost use Rattle.formats.specs.Inputs.{inputsOf};
 ghost use Rattle.whatif.specs.Asked.{mostParts, finishedIn, askedOn};
 
 // Advances until finished, and reads.
-fn finish(started: Session, plan: &[u8], rules: &[u8], nums: &[u16], bytes: &[u8]) -> Reading
+fn finish(
+    started: Session,
+    plan: &[u8],
+    rules: &[u8],
+    node_table: &[u16],
+    state_table: &[u8],
+) -> ReadAnswer
     ensures { λ r. ⌜
-        readingAnswer r
-        ≡ finishedIn mostParts started (lentOf (now (plan .entry)) (now (rules .entry)) (now (nums .entry)) (now (bytes .entry))) ⌝ }
+        readAnswer r
+        ≡ finishedIn mostParts started (inputsOf (now (plan .entry)) (now (rules .entry)) (now («node_table» .entry)) (now («state_table» .entry))) ⌝ }
 {
     let mut rec = started;
-    let mut turns: u8 = 0;
-    while turns < 254 {
-        let next = rec.advance(plan, rules, nums, bytes);
-        rec = next.rec;
-        let told = next.told;
-        match told {
-            Advancing::More => {
-                turns += 1;
+    let mut iterations: u8 = 0;
+    while iterations < 254 {
+        let next = rec.advance(plan, rules, node_table, state_table);
+        rec = next.session;
+        let answer = next.answer;
+        match answer {
+            AdvanceAnswer::More => {
+                iterations += 1;
             }
-            Advancing::Finished => {
+            AdvanceAnswer::Finished => {
                 return rec.read();
             }
-            Advancing::Refused(n) => {
-                return Reading::Refused(n);
+            AdvanceAnswer::Refused(n) => {
+                return ReadAnswer::Refused(n);
             }
         }
     }
@@ -40,25 +46,25 @@ pub fn ask(
     loaded: Session,
     plan: &[u8],
     rules: &[u8],
-    nums: &[u16],
-    bytes: &[u8],
+    node_table: &[u16],
+    state_table: &[u8],
     nodes: &[u16],
     labels: &[u8],
-) -> Reading
+) -> ReadAnswer
     ensures { λ r. ⌜
-        readingAnswer r
-        ≡ askedOn loaded (lentOf (now (plan .entry)) (now (rules .entry)) (now (nums .entry)) (now (bytes .entry)))
+        readAnswer r
+        ≡ askedOn loaded (inputsOf (now (plan .entry)) (now (rules .entry)) (now («node_table» .entry)) (now («state_table» .entry)))
         (now (nodes .entry)) (now (labels .entry)) ⌝ }
 {
-    let started = loaded.start(plan, rules, nums, bytes, nodes, labels);
-    let told = started.told;
-    match told {
-        Starting::Parts(_) => {
-            let rec = started.rec;
-            return finish(rec, plan, rules, nums, bytes);
+    let started = loaded.start(plan, rules, node_table, state_table, nodes, labels);
+    let answer = started.answer;
+    match answer {
+        StartAnswer::Parts(_) => {
+            let rec = started.session;
+            return finish(rec, plan, rules, node_table, state_table);
         }
-        Starting::Refused(n) => {
-            return Reading::Refused(n);
+        StartAnswer::Refused(n) => {
+            return ReadAnswer::Refused(n);
         }
     }
 }

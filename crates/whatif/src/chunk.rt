@@ -11,7 +11,7 @@ ghost use mathlib.Core.Path.{_≡_};
 ghost use mathlib.Core.List.{[], _∷_};
 ghost use Prim.Native.Nat.{_+_, _*_, _≤_};
 ghost use lib.ListN.{length};
-ghost use Rattle.session.specs.Tests.{lentOf};
+ghost use Rattle.formats.specs.Inputs.{inputsOf};
 ghost use Rattle.whatif.specs.Cleared.{Cleared};
 ghost use Rattle.whatif.specs.Text.{Put};
 ghost use Rattle.whatif.specs.Stream.{keptLine, questionLine, Keeps, Advances};
@@ -27,15 +27,15 @@ fn put_answer(
     loaded: Session,
     plan: &[u8],
     rules: &[u8],
-    nums: &[u16],
-    bytes: &[u8],
+    node_table: &[u16],
+    state_table: &[u8],
     asked: &[u8],
     out: &mut [u8],
     end: usize,
 ) -> usize
     requires { ⌜ length (now asked) ≡ 197 ⌝ }
     requires { ⌜ end + 37 ≤ length (now out) ⌝ }
-    requires { ⌜ Cleared loaded (lentOf (now plan) (now rules) (now nums) (now bytes)) ⌝ }
+    requires { ⌜ Cleared loaded (inputsOf (now plan) (now rules) (now «node_table») (now «state_table»)) ⌝ }
     ensures { λ r. ⌜
         Put (now (out .entry)) end
         (keptLine (now (plan .entry)) (now (rules .entry)) (now (asked .entry)))
@@ -46,7 +46,15 @@ fn put_answer(
     let last = 2 + 3 * k;
     let nodes = nodes_in(&asked[2..last]);
     let labels = labels_in(&asked[2..last]);
-    let answer = ask(loaded, plan, rules, nums, bytes, &nodes[..k], &labels[..k]);
+    let answer = ask(
+        loaded,
+        plan,
+        rules,
+        node_table,
+        state_table,
+        &nodes[..k],
+        &labels[..k],
+    );
     put_line(out, end, answer)
 }
 
@@ -55,8 +63,8 @@ fn take_byte(
     loaded: Session,
     plan: &[u8],
     rules: &[u8],
-    nums: &[u16],
-    bytes: &[u8],
+    node_table: &[u16],
+    state_table: &[u8],
     b: u8,
     asked: &mut [u8],
     have: usize,
@@ -66,7 +74,7 @@ fn take_byte(
     requires { ⌜ Keeps (now asked) have ⌝ }
     requires { ⌜ end + 37 ≤ length (now out) ⌝ }
     requires { ⌜ have ≤ 4294967295 ⌝ }
-    requires { ⌜ Cleared loaded (lentOf (now plan) (now rules) (now nums) (now bytes)) ⌝ }
+    requires { ⌜ Cleared loaded (inputsOf (now plan) (now rules) (now «node_table») (now «state_table»)) ⌝ }
     ensures { λ r. ⌜
         Advances (questionLine (now (plan .entry)) (now (rules .entry)))
         (b ∷ []) (now (asked .entry)) have (now (asked .exit)) (r .have) (now (out .entry)) end (now (out .exit)) (r .end) ⌝ }
@@ -77,7 +85,16 @@ fn take_byte(
     if more != question_length(asked) {
         return Taken { have: more, end };
     }
-    let next = put_answer(loaded, plan, rules, nums, bytes, asked, out, end);
+    let next = put_answer(
+        loaded,
+        plan,
+        rules,
+        node_table,
+        state_table,
+        asked,
+        out,
+        end,
+    );
     Taken { have: 0, end: next }
 }
 
@@ -86,8 +103,8 @@ pub fn take_in(
     loaded: Session,
     plan: &[u8],
     rules: &[u8],
-    nums: &[u16],
-    bytes: &[u8],
+    node_table: &[u16],
+    state_table: &[u8],
     chunk: &[u8],
     asked: &mut [u8],
     have: usize,
@@ -96,7 +113,7 @@ pub fn take_in(
     requires { ⌜ Keeps (now asked) have ⌝ }
     requires { ⌜ have + length (now chunk) ≤ 4294967295 ⌝ }
     requires { ⌜ 37 * length (now chunk) ≤ length (now out) ⌝ }
-    requires { ⌜ Cleared loaded (lentOf (now plan) (now rules) (now nums) (now bytes)) ⌝ }
+    requires { ⌜ Cleared loaded (inputsOf (now plan) (now rules) (now «node_table») (now «state_table»)) ⌝ }
     ensures { λ r. ⌜
         Advances (questionLine (now (plan .entry)) (now (rules .entry)))
         (now (chunk .entry)) (now (asked .entry)) have (now (asked .exit)) (r .have) (now (out .entry)) 0 (now (out .exit)) (r .end) ⌝ }
@@ -110,8 +127,8 @@ pub fn take_in(
             loaded,
             plan,
             rules,
-            nums,
-            bytes,
+            node_table,
+            state_table,
             chunk[i],
             asked,
             part,

@@ -57,13 +57,13 @@ pub fn rules_space() -> [u8; RULES_LIMIT]
 }
 
 // The tables of N 1,001: four numbers a node, and seventeen bytes a node for S 16.
-pub fn nums_space() -> [u16; 4004]
+pub fn node_table_space() -> [u16; 4004]
     ensures { λ r. ⌜ length r ≡ 4004 ⌝ }
 {
     [0; 4004]
 }
 
-pub fn bytes_space() -> [u8; 17017]
+pub fn state_table_space() -> [u8; 17017]
     ensures { λ r. ⌜ length r ≡ 17017 ⌝ }
 {
     [0; 17017]

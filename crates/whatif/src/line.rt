@@ -1,12 +1,12 @@
 // The line of an answer.
 use crate::text::put_number;
 use crate::text::put_word;
-use session::answers::Reading;
+use session::answers::ReadAnswer;
 ghost use Prim.Native.Nat.{_+_, _≤_};
 ghost use lib.ListN.{length};
-ghost use Rattle.session.specs.Promises.{readingAnswer};
+ghost use Rattle.session.specs.Answers.{readAnswer};
 ghost use Rattle.whatif.specs.Text.{Put};
-ghost use Rattle.whatif.specs.Line.{yesOrNo, toldLine, refusedLine, lineOf};
+ghost use Rattle.whatif.specs.Line.{yesOrNo, outcomeLine, refusedLine, lineOf};
 
 fn put_yes_or_no(out: &mut [u8], at: usize, yes: bool) -> usize
     requires { ⌜ at + 5 ≤ length (now out) ⌝ }
@@ -18,9 +18,9 @@ fn put_yes_or_no(out: &mut [u8], at: usize, yes: bool) -> usize
     put_word(out, at, b" no ")
 }
 
-fn put_told(out: &mut [u8], at: usize, state: u8, yes: bool, parts: u8, links: u32) -> usize
+fn put_outcome(out: &mut [u8], at: usize, state: u8, yes: bool, parts: u8, links: u32) -> usize
     requires { ⌜ at + 37 ≤ length (now out) ⌝ }
-    ensures { λ r. ⌜ Put (now (out .entry)) at (toldLine state yes parts links) (now (out .exit)) r ⌝ }
+    ensures { λ r. ⌜ Put (now (out .entry)) at (outcomeLine state yes parts links) (now (out .exit)) r ⌝ }
     ensures { λ r. ⌜ r ≤ at + 37 ⌝ }
 {
     let a = put_number(out, at, state as u32);
@@ -42,16 +42,16 @@ pub fn put_refused(out: &mut [u8], at: usize, n: u8) -> usize
 }
 
 // At most 37 bytes, the newline included.
-pub fn put_line(out: &mut [u8], at: usize, answer: Reading) -> usize
+pub fn put_line(out: &mut [u8], at: usize, answer: ReadAnswer) -> usize
     requires { ⌜ at + 37 ≤ length (now out) ⌝ }
-    ensures { λ r. ⌜ Put (now (out .entry)) at (lineOf (readingAnswer answer)) (now (out .exit)) r ⌝ }
+    ensures { λ r. ⌜ Put (now (out .entry)) at (lineOf (readAnswer answer)) (now (out .exit)) r ⌝ }
     ensures { λ r. ⌜ r ≤ at + 37 ⌝ }
 {
     match answer {
-        Reading::Told(state, yes, parts, links) => {
-            return put_told(out, at, state, yes, parts, links);
+        ReadAnswer::Outcome(o) => {
+            return put_outcome(out, at, o.state, o.yes, o.parts, o.links);
         }
-        Reading::Refused(n) => {
+        ReadAnswer::Refused(n) => {
             return put_refused(out, at, n);
         }
     }

@@ -14,22 +14,22 @@ mod text;
 
 use chunk::take_in;
 use input::asked_space;
-use input::bytes_space;
 use input::chunk_space;
 use input::is_too_large;
 use input::length_at;
-use input::nums_space;
+use input::node_table_space;
 use input::plan_space;
 use input::read_some;
 use input::read_whole;
 use input::rules_space;
+use input::state_table_space;
 use libc::STDIN_FILENO;
 use libc::STDOUT_FILENO;
 use line::put_refused;
-use session::answers::Doing;
+use session::answers::CallAnswer;
 use session::state::Session;
 ghost use Prim.Native.Nat.{_+_, _≤_};
-ghost use Rattle.session.specs.Tests.{lentOf};
+ghost use Rattle.formats.specs.Inputs.{inputsOf};
 ghost use Rattle.whatif.specs.Cleared.{Cleared};
 ghost use Rattle.whatif.specs.Stream.{Keeps};
 
@@ -46,15 +46,15 @@ fn some_questions(
     loaded: Session,
     plan: &[u8],
     rules: &[u8],
-    nums: &[u16],
-    bytes: &[u8],
+    node_table: &[u16],
+    state_table: &[u8],
     asked: &mut [u8],
     have: usize,
     left: usize,
 ) -> Turn
     requires { ⌜ Keeps (now asked) have ⌝ }
     requires { ⌜ have + left ≤ 4294967295 ⌝ }
-    requires { ⌜ Cleared loaded (lentOf (now plan) (now rules) (now nums) (now bytes)) ⌝ }
+    requires { ⌜ Cleared loaded (inputsOf (now plan) (now rules) (now «node_table») (now «state_table»)) ⌝ }
     ensures { λ r. ⌜ Keeps (now (asked .exit)) (r .have) ⌝ }
     ensures { λ r. ⌜ (r .came ≤ left) × (r .have ≤ have + r .came) ⌝ }
 {
@@ -65,8 +65,8 @@ fn some_questions(
         loaded,
         plan,
         rules,
-        nums,
-        bytes,
+        node_table,
+        state_table,
         &space[..n],
         asked,
         have,
@@ -86,18 +86,27 @@ fn put_questions(
     loaded: Session,
     plan: &[u8],
     rules: &[u8],
-    nums: &[u16],
-    bytes: &[u8],
+    node_table: &[u16],
+    state_table: &[u8],
     stated: usize,
 )
     requires { ⌜ stated ≤ 4294967295 ⌝ }
-    requires { ⌜ Cleared loaded (lentOf (now plan) (now rules) (now nums) (now bytes)) ⌝ }
+    requires { ⌜ Cleared loaded (inputsOf (now plan) (now rules) (now «node_table») (now «state_table»)) ⌝ }
 {
     let mut asked = asked_space();
     let mut have = 0;
     let mut left = stated;
     while left > 0 {
-        let turn = some_questions(loaded, plan, rules, nums, bytes, &mut asked, have, left);
+        let turn = some_questions(
+            loaded,
+            plan,
+            rules,
+            node_table,
+            state_table,
+            &mut asked,
+            have,
+            left,
+        );
         if turn.came == 0 {
             return;
         }
@@ -119,17 +128,17 @@ fn say_refused(n: u8) {
 fn clear(plan: &[u8], rules: &[u8], stated: usize)
     requires { ⌜ stated ≤ 4294967295 ⌝ }
 {
-    let mut nums = nums_space();
-    let mut bytes = bytes_space();
+    let mut node_table = node_table_space();
+    let mut state_table = state_table_space();
     let fresh = Session::fresh();
-    let done = fresh.load(plan, rules, &mut nums, &mut bytes);
-    let told = done.told;
-    match told {
-        Doing::Done => {
-            let loaded = done.rec;
-            put_questions(loaded, plan, rules, &nums, &bytes, stated);
+    let done = fresh.load(plan, rules, &mut node_table, &mut state_table);
+    let answer = done.answer;
+    match answer {
+        CallAnswer::Accepted => {
+            let loaded = done.session;
+            put_questions(loaded, plan, rules, &node_table, &state_table, stated);
         }
-        Doing::Refused(n) => {
+        CallAnswer::Refused(n) => {
             say_refused(n);
         }
     }

@@ -4,17 +4,12 @@
 //!
 //! For each row both sides do the same work by turns, 31 turns each, and the median counts. The work is one plan of
 //! 65,535 nodes, or 65 plans of 1,001 nodes one after the other (so that neither side learns a plan by heart). Times are
-//! for one call. Without a word the whole table is printed; with words:
-//!
-//!     bench only TEXT                the rows whose work has this text in its name
-//!     bench --markdown FILE          the table as Markdown, between the two lines of FILE that mark its place
-//!     bench plot FILE.svg            time of a question and of a fresh run over N
-//!     bench calls SHAPE N S M        nothing but 20 calls of each kind; bench/instructions counts their instructions
-//!
-//! Without `--features probes` roots, part and the rows in place are missing.
+//! for one call. Rows are printed as they are measured. USAGE has the words.
 
 mod calls;
 mod cases;
+#[cfg(feature = "probes")]
+mod in_place;
 mod measure;
 #[cfg(feature = "probes")]
 mod places;
@@ -25,7 +20,18 @@ mod sessions;
 mod table;
 mod tables;
 
+use std::process::exit;
 use table::Row;
+
+const USAGE: &str = "usage: bench                      the whole table, in some minutes
+       bench only TEXT            the rows whose work has this text in its name
+       bench --markdown FILE      the table as Markdown, between the two lines of FILE that mark its place
+       bench plot FILE.svg        time of a question and of a fresh run over N
+       bench calls SHAPE N S M    nothing but 20 calls of each kind; bench/instructions counts their instructions
+       bench in-place --seed S --count C
+                                  nothing is measured: C cases of calls in place against the same calls on record bytes
+       bench --help
+Without the feature 'probes' roots, part, the rows in place and 'in-place' are missing.";
 
 fn main() {
     let words: Vec<String> = std::env::args().skip(1).collect();
@@ -35,13 +41,37 @@ fn main() {
         ["only", wanted] => print(wanted),
         ["--markdown", file] => put_between_marks(file),
         ["plot", file] => std::fs::write(file, plot::svg()).expect(file),
-        ["calls", shape, n, s, m] => calls::make(shape, [n, s, m].map(|number| number.parse().expect(number))),
-        _ => panic!("unknown words: see the head of bench/src/main.rs"),
+        ["calls", shape, n, s, m] => {
+            calls::make(shape, [n, s, m].map(|number| number.parse().unwrap_or_else(|_| usage())))
+        }
+        #[cfg(feature = "probes")]
+        ["in-place", "--seed", seed, "--count", count] => {
+            let [seed, count] = [seed, count].map(|number| number.parse().unwrap_or_else(|_| usage()));
+            if let Err(found) = in_place::compare(seed, count) {
+                eprintln!("{}", found);
+                exit(1);
+            }
+        }
+        ["--help"] => println!("{}", USAGE),
+        _ => usage(),
     }
 }
 
-fn rows(wanted: &str) -> Vec<Row> {
-    table::in_order(tables::rows(wanted).into_iter().chain(sessions::rows(wanted)).collect())
+fn usage() -> ! {
+    eprintln!("{}", USAGE);
+    exit(2)
+}
+
+/// All rows, each handed to `measured` when it is there; by work in the end.
+fn rows(wanted: &str, mut measured: impl FnMut(&Row)) -> Vec<Row> {
+    let mut rows = Vec::new();
+    let mut keep = |row: Row| {
+        measured(&row);
+        rows.push(row);
+    };
+    tables::rows(wanted, &mut keep);
+    sessions::rows(wanted, &mut keep);
+    table::in_order(rows)
 }
 
 fn print(wanted: &str) {
@@ -49,8 +79,9 @@ fn print(wanted: &str) {
     println!("plain Rust: opt-level 3, codegen-units 1, plain x86-64 (no target-cpu); K 64");
     println!("random: all trees of that size alike; m: changes in the list");
     println!();
-    let rows = rows(wanted);
-    println!("{}", table::text(&rows));
+    print!("{}", table::head());
+    let rows = rows(wanted, |row| print!("{}", table::line(row)));
+    println!();
     print!("{}", table::summary(&rows));
 }
 
@@ -61,7 +92,7 @@ fn put_between_marks(file: &str) {
     let text = std::fs::read_to_string(file).expect(file);
     let (before, rest) = text.split_once(BEGIN).expect(BEGIN);
     let (_, after) = rest.split_once(END).expect(END);
-    let rows = rows("");
+    let rows = rows("", |row| eprint!("{}", table::line(row)));
     let tables = format!("{}\n{}", table::summary(&rows), table::markdown(&rows));
     std::fs::write(file, [before, BEGIN, &tables, END, after].concat()).expect(file);
 }

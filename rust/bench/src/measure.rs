@@ -8,26 +8,26 @@ pub const TURNS: usize = 31;
 pub type Pair = (f64, f64);
 
 /// The median nanoseconds of library and plain, run by turns, for one of `count` calls.
-pub fn by_turns(count: usize, mut library: impl FnMut(), mut plain: impl FnMut()) -> Pair {
-    by_turns_timed(count, || time(&mut library), || time(&mut plain))
+pub fn by_turns(count: usize, mut library: impl FnMut(), mut yardstick: impl FnMut()) -> Pair {
+    by_turns_timed(count, || time(&mut library), || time(&mut yardstick))
 }
 
 /// The same for sides that take their time themselves.
-pub fn by_turns_timed(count: usize, mut library: impl FnMut() -> f64, mut plain: impl FnMut() -> f64) -> Pair {
+pub fn by_turns_timed(count: usize, mut library: impl FnMut() -> f64, mut yardstick: impl FnMut() -> f64) -> Pair {
     library();
-    plain();
-    let (mut of_library, mut of_plain) = (Vec::new(), Vec::new());
+    yardstick();
+    let (mut of_library, mut of_yardstick) = (Vec::new(), Vec::new());
     for turn in 0..TURNS {
         // who goes first changes
         if turn % 2 == 0 {
             of_library.push(library());
-            of_plain.push(plain());
+            of_yardstick.push(yardstick());
         } else {
-            of_plain.push(plain());
+            of_yardstick.push(yardstick());
             of_library.push(library());
         }
     }
-    (median(of_library) / count as f64, median(of_plain) / count as f64)
+    (median(of_library) / count as f64, median(of_yardstick) / count as f64)
 }
 
 /// The nanoseconds of a run of `f`.
@@ -47,7 +47,7 @@ extern "C" {
     fn clock_gettime(clock: i32, time: *mut Timespec) -> i32;
 }
 
-/// Linux's CLOCK_THREAD_CPUTIME_ID, in nanoseconds.
+/// Linux's CLOCK_THREAD_CPUTIME_ID, in nanoseconds. The clock's number and the two 64-bit fields are those of x86-64 Linux.
 fn processor_time() -> i64 {
     let mut now = Timespec { seconds: 0, nanoseconds: 0 };
     // SAFETY: C's function, on a place of this function

@@ -1,15 +1,15 @@
 //! Work below the exported calls: roots and one part alone, and the session in place, without the record's bytes.
 //!
-//! In place stands for the library's calls by value in one loop (crates/probes), which make the same copies; the plain
-//! side alters a struct where it is. Both begin with a loaded record made anew. An advance is what Start and all
+//! In place are the library's calls on a session that they alter where it is, one after the other (crates/probes); the
+//! plain side alters a struct likewise. Both begin with a loaded session made anew. An advance is what Start and all
 //! advances of a question take, less what Start takes.
 
 use crate::cases::List;
 use crate::measure::{by_turns, by_turns_timed, time, Pair};
 use crate::probes;
 use crate::sessions::{One, Set, Work};
-use plain::layers;
-use plain::place::{Lends, Session};
+use yardstick::layers;
+use yardstick::place::{Lends, Session};
 
 pub const WORKS: [Work; 5] = [
     ("roots", roots),
@@ -28,7 +28,7 @@ fn roots(set: &Set) -> Pair {
         },
         |one, (nodes, _)| {
             let mut out = [0; 254];
-            tell(layers::roots(one.case.n, &one.numbers, nodes, &mut out), &out)
+            tell(layers::roots(one.case.n, &one.node_table, nodes, &mut out), &out)
         },
     )
 }
@@ -57,11 +57,12 @@ impl<'a> Handled<'a> {
         probes::part(self.one, &self.roots, &self.states[..i], self.list)
     }
 
-    fn plain(&self, i: usize) -> (u32, u32) {
-        let (One { case, numbers, bytes, .. }, (nodes, labels)) = (self.one, self.list);
+    fn yardstick(&self, i: usize) -> (u32, u32) {
+        let (One { case, node_table, state_table, .. }, (nodes, labels)) = (self.one, self.list);
         let sizes = (case.n, case.s, case.k);
         let states = &self.states[..i];
-        let told = layers::part(sizes, &case.plan, &case.rules, numbers, bytes, &self.roots, states, nodes, labels);
+        let told =
+            layers::part(sizes, &case.plan, &case.rules, node_table, state_table, &self.roots, states, nodes, labels);
         let (state, links) = told.expect("accepted");
         (u32::from(state), links)
     }
@@ -72,24 +73,24 @@ fn part(set: &Set) -> Pair {
     let count = all.iter().map(|handled| handled.roots.len()).sum();
     let parts = || all.iter().flat_map(|handled| (0..handled.roots.len()).map(move |i| (handled, i)));
     let tell = |(state, links): (u32, u32)| state + 16 * links;
-    let (mut library, mut plain) = (0, 0);
+    let (mut library, mut yardstick) = (0, 0);
     let times = by_turns(
         count,
         || library = parts().map(|(handled, i)| tell(handled.library(i))).sum(),
-        || plain = parts().map(|(handled, i)| tell(handled.plain(i))).sum(),
+        || yardstick = parts().map(|(handled, i)| tell(handled.yardstick(i))).sum(),
     );
-    assert_eq!(library, plain, "both tell the same");
+    assert_eq!(library, yardstick, "both tell the same");
     times
 }
 
 fn loaded(one: &One) -> (Session, Lends<'_>) {
-    let One { case, numbers, bytes, .. } = one;
+    let One { case, node_table, state_table, .. } = one;
     let session = Session::loaded(case.n as u16, case.s as u8, case.k as u8);
-    (session, Lends { plan: &case.plan, rules: &case.rules, numbers, bytes })
+    (session, Lends { plan: &case.plan, rules: &case.rules, node_table, state_table })
 }
 
 /// Parts and links after Start and, if wanted, all advances.
-fn plain_steps(one: &One, (nodes, labels): &List, advances: bool) -> u32 {
+fn yardstick_steps(one: &One, (nodes, labels): &List, advances: bool) -> u32 {
     let (mut session, lends) = loaded(one);
     let parts = session.start(&lends, nodes, labels).expect("accepted");
     while advances && session.advance(&lends) == Ok(false) {}
@@ -99,24 +100,28 @@ fn plain_steps(one: &One, (nodes, labels): &List, advances: bool) -> u32 {
 fn start(set: &Set) -> Pair {
     set.told(
         |one, list| {
-            let told = probes::steps(one, list, 0);
+            let told = probes::steps(one.sizes(), &one.lent(), list, 0);
             told.parts + 256 * told.links
         },
-        |one, list| plain_steps(one, list, false),
+        |one, list| yardstick_steps(one, list, false),
     )
 }
 
 fn advance(set: &Set) -> Pair {
-    let parts: Vec<u32> = set.lists.iter().map(|(at, list)| probes::steps(&set.plans[*at], list, 0).parts).collect();
+    let steps = |at: usize, list: &List, count: u32| {
+        let one = &set.plans[at];
+        probes::steps(one.sizes(), &one.lent(), list, count)
+    };
+    let parts: Vec<u32> = set.lists.iter().map(|(at, list)| steps(*at, list, 0).parts).collect();
     let library = |advances: bool| -> u32 {
-        let steps = |((at, list), count): (&(usize, List), &u32)| {
-            let told = probes::steps(&set.plans[*at], list, if advances { *count } else { 0 });
+        let one = |((at, list), count): (&(usize, List), &u32)| {
+            let told = steps(*at, list, if advances { *count } else { 0 });
             told.parts + 256 * told.links
         };
-        set.lists.iter().zip(&parts).map(steps).sum()
+        set.lists.iter().zip(&parts).map(one).sum()
     };
-    let plain = |advances: bool| set.sum(|one, list| plain_steps(one, list, advances));
-    assert_eq!(library(true), plain(true), "both tell the same");
+    let yardstick = |advances: bool| set.sum(|one, list| yardstick_steps(one, list, advances));
+    assert_eq!(library(true), yardstick(true), "both tell the same");
     let less_start = |f: &dyn Fn(bool) -> u32| {
         let mut told = 0;
         let all = time(&mut || told = f(true));
@@ -125,15 +130,15 @@ fn advance(set: &Set) -> Pair {
         all - start
     };
     let count: u32 = parts.iter().sum();
-    by_turns_timed(count as usize, || less_start(&library), || less_start(&plain))
+    by_turns_timed(count as usize, || less_start(&library), || less_start(&yardstick))
 }
 
 fn ask(one: &One, list: &List) -> u32 {
-    let told = probes::question(one, list);
+    let told = probes::question(one.sizes(), &one.lent(), list);
     told.state + 16 * u32::from(told.yes) + 32 * told.links + told.parts
 }
 
-fn plain_ask(one: &One, (nodes, labels): &List) -> u32 {
+fn yardstick_ask(one: &One, (nodes, labels): &List) -> u32 {
     let (mut session, lends) = loaded(one);
     session.start(&lends, nodes, labels).expect("accepted");
     while session.advance(&lends) == Ok(false) {}
@@ -142,15 +147,15 @@ fn plain_ask(one: &One, (nodes, labels): &List) -> u32 {
 }
 
 fn question(set: &Set) -> Pair {
-    set.told(ask, plain_ask)
+    set.told(ask, yardstick_ask)
 }
 
 /// A question in place and its roots and parts alone, by both sides.
 pub fn once(one: &One, list: &List) {
-    assert_eq!(ask(one, list), plain_ask(one, list), "both tell the same");
+    assert_eq!(ask(one, list), yardstick_ask(one, list), "both tell the same");
     let handled = Handled::new(one, list);
     let mut roots = [0; 254];
-    let count = layers::roots(one.case.n, &one.numbers, &list.0, &mut roots);
+    let count = layers::roots(one.case.n, &one.node_table, &list.0, &mut roots);
     assert_eq!(handled.roots, roots[..count], "both tell the same");
-    assert!((0..count).all(|i| handled.states[i] as u32 == handled.plain(i).0), "both tell the same");
+    assert!((0..count).all(|i| handled.states[i] as u32 == handled.yardstick(i).0), "both tell the same");
 }

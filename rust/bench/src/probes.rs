@@ -1,7 +1,9 @@
-//! The functions of libprobes.a (crates/probes): roots, one part, Start with some advances, a whole question by value.
+//! The functions of libprobes.a (crates/probes): roots and one part; and, made of the calls in place, Start with some
+//! advances, a whole question and a life of a session.
 
 use crate::cases::List;
 use crate::sessions::One;
+use whatif::Lent;
 
 #[repr(C)]
 struct RawPart {
@@ -9,12 +11,16 @@ struct RawPart {
     links: u32,
 }
 
+/// A question's parts (0 where Start is refused), and its links so far.
+#[derive(Clone, Copy, Debug, PartialEq, Eq)]
 #[repr(C)]
 pub struct Steps {
     pub parts: u32,
     pub links: u32,
 }
 
+/// What Read tells; state 16 and zeros where it is refused.
+#[derive(Clone, Copy, Debug, PartialEq, Eq)]
 #[repr(C)]
 pub struct Question {
     pub state: u32,
@@ -23,12 +29,22 @@ pub struct Question {
     pub links: u32,
 }
 
+/// The numbers of Load and Cancel, the parts that the first Start tells (0 where it is refused), and the question again.
+#[derive(Clone, Copy, Debug, PartialEq, Eq)]
+#[repr(C)]
+pub struct Life {
+    pub load: u32,
+    pub parts: u32,
+    pub cancel: u32,
+    pub again: Question,
+}
+
 // A slice is a pointer, then its count of elements.
 extern "C" {
     fn probe_roots(
         n: usize,
-        numbers: *const u16,
-        numbers_len: usize,
+        node_table: *const u16,
+        node_table_len: usize,
         nodes: *const u16,
         nodes_len: usize,
         out: *mut [u16; 254],
@@ -42,10 +58,10 @@ extern "C" {
         plan_len: usize,
         rules: *const u8,
         rules_len: usize,
-        numbers: *const u16,
-        numbers_len: usize,
-        bytes: *const u8,
-        bytes_len: usize,
+        node_table: *const u16,
+        node_table_len: usize,
+        state_table: *const u8,
+        state_table_len: usize,
         roots: *const u16,
         roots_len: usize,
         states: *const u8,
@@ -64,10 +80,10 @@ extern "C" {
         plan_len: usize,
         rules: *const u8,
         rules_len: usize,
-        numbers: *const u16,
-        numbers_len: usize,
-        bytes: *const u8,
-        bytes_len: usize,
+        node_table: *const u16,
+        node_table_len: usize,
+        state_table: *const u8,
+        state_table_len: usize,
         nodes: *const u16,
         nodes_len: usize,
         labels: *const u8,
@@ -83,26 +99,41 @@ extern "C" {
         plan_len: usize,
         rules: *const u8,
         rules_len: usize,
-        numbers: *const u16,
-        numbers_len: usize,
-        bytes: *const u8,
-        bytes_len: usize,
+        node_table: *const u16,
+        node_table_len: usize,
+        state_table: *const u8,
+        state_table_len: usize,
         nodes: *const u16,
         nodes_len: usize,
         labels: *const u8,
         labels_len: usize,
     ) -> Question;
+
+    fn probe_life(
+        plan: *const u8,
+        plan_len: usize,
+        rules: *const u8,
+        rules_len: usize,
+        node_table: *mut u16,
+        node_table_len: usize,
+        state_table: *mut u8,
+        state_table_len: usize,
+        nodes: *const u16,
+        nodes_len: usize,
+        labels: *const u8,
+        labels_len: usize,
+    ) -> Life;
 }
 
 pub fn roots(one: &One, nodes: &[u16], out: &mut [u16; 254]) -> usize {
-    let numbers = &one.numbers;
+    let node_table = &one.node_table;
     // SAFETY: each pointer comes with its own slice's length, and `out` is borrowed for writing
-    unsafe { probe_roots(one.case.n, numbers.as_ptr(), numbers.len(), nodes.as_ptr(), nodes.len(), out) }
+    unsafe { probe_roots(one.case.n, node_table.as_ptr(), node_table.len(), nodes.as_ptr(), nodes.len(), out) }
 }
 
 /// The part of the root that comes next after those whose states are given: state and links.
 pub fn part(one: &One, roots: &[u16], states: &[u8], (nodes, labels): &List) -> (u32, u32) {
-    let (case, numbers, bytes) = (&one.case, &one.numbers, &one.bytes);
+    let (case, node_table, state_table) = (&one.case, &one.node_table, &one.state_table);
     // SAFETY: each pointer comes with its own slice's length
     let told = unsafe {
         probe_part(
@@ -113,10 +144,10 @@ pub fn part(one: &One, roots: &[u16], states: &[u8], (nodes, labels): &List) -> 
             case.plan.len(),
             case.rules.as_ptr(),
             case.rules.len(),
-            numbers.as_ptr(),
-            numbers.len(),
-            bytes.as_ptr(),
-            bytes.len(),
+            node_table.as_ptr(),
+            node_table.len(),
+            state_table.as_ptr(),
+            state_table.len(),
             roots.as_ptr(),
             roots.len(),
             states.as_ptr(),
@@ -130,23 +161,31 @@ pub fn part(one: &One, roots: &[u16], states: &[u8], (nodes, labels): &List) -> 
     (told.state, told.links)
 }
 
+/// N, S and K of a loaded session.
+#[derive(Clone, Copy, Debug)]
+pub struct Sizes {
+    pub n: u16,
+    pub s: u8,
+    pub k: u8,
+}
+
 /// Start on a loaded session, then `count` advances.
-pub fn steps(one: &One, (nodes, labels): &List, count: u32) -> Steps {
-    let (case, numbers, bytes) = (&one.case, &one.numbers, &one.bytes);
+pub fn steps(sizes: Sizes, lent: &Lent, (nodes, labels): &List, count: u32) -> Steps {
+    let Lent { plan, rules, node_table, state_table } = *lent;
     // SAFETY: each pointer comes with its own slice's length
     unsafe {
         probe_steps(
-            case.n as u16,
-            case.s as u8,
-            case.k as u8,
-            case.plan.as_ptr(),
-            case.plan.len(),
-            case.rules.as_ptr(),
-            case.rules.len(),
-            numbers.as_ptr(),
-            numbers.len(),
-            bytes.as_ptr(),
-            bytes.len(),
+            sizes.n,
+            sizes.s,
+            sizes.k,
+            plan.as_ptr(),
+            plan.len(),
+            rules.as_ptr(),
+            rules.len(),
+            node_table.as_ptr(),
+            node_table.len(),
+            state_table.as_ptr(),
+            state_table.len(),
             nodes.as_ptr(),
             nodes.len(),
             labels.as_ptr(),
@@ -156,23 +195,44 @@ pub fn steps(one: &One, (nodes, labels): &List, count: u32) -> Steps {
     }
 }
 
-/// A whole question on a loaded session.
-pub fn question(one: &One, (nodes, labels): &List) -> Question {
-    let (case, numbers, bytes) = (&one.case, &one.numbers, &one.bytes);
+/// A whole question on a loaded session: Start, as many advances as it has parts, Read.
+pub fn question(sizes: Sizes, lent: &Lent, (nodes, labels): &List) -> Question {
+    let Lent { plan, rules, node_table, state_table } = *lent;
     // SAFETY: each pointer comes with its own slice's length
     unsafe {
         probe_question(
-            case.n as u16,
-            case.s as u8,
-            case.k as u8,
-            case.plan.as_ptr(),
-            case.plan.len(),
-            case.rules.as_ptr(),
-            case.rules.len(),
-            numbers.as_ptr(),
-            numbers.len(),
-            bytes.as_ptr(),
-            bytes.len(),
+            sizes.n,
+            sizes.s,
+            sizes.k,
+            plan.as_ptr(),
+            plan.len(),
+            rules.as_ptr(),
+            rules.len(),
+            node_table.as_ptr(),
+            node_table.len(),
+            state_table.as_ptr(),
+            state_table.len(),
+            nodes.as_ptr(),
+            nodes.len(),
+            labels.as_ptr(),
+            labels.len(),
+        )
+    }
+}
+
+/// A fresh session: Load, Start, Cancel, and the question again.
+pub fn life(plan: &[u8], rules: &[u8], node_table: &mut [u16], state_table: &mut [u8], (nodes, labels): &List) -> Life {
+    // SAFETY: each pointer comes with its own slice's length, and the borrows keep the buffers apart
+    unsafe {
+        probe_life(
+            plan.as_ptr(),
+            plan.len(),
+            rules.as_ptr(),
+            rules.len(),
+            node_table.as_mut_ptr(),
+            node_table.len(),
+            state_table.as_mut_ptr(),
+            state_table.len(),
             nodes.as_ptr(),
             nodes.len(),
             labels.as_ptr(),

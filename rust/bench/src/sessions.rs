@@ -8,36 +8,44 @@ use crate::measure::{by_turns, Pair};
 use crate::table::{Row, BESIDE_FRESH_RUN};
 use compare::inputs::Case;
 use compare::random::Random;
-use plain::session;
 use whatif::sizes::RECORD_BYTES;
-use whatif::{Progress, Session};
+use whatif::{Lent, Progress, Session};
+use yardstick::session;
 
 const QUESTIONS: usize = 130;
 
 /// A case with its tables, and a session that has loaded it.
 pub struct One {
     pub case: Case,
-    pub numbers: Vec<u16>,
-    pub bytes: Vec<u8>,
+    pub node_table: Vec<u16>,
+    pub state_table: Vec<u8>,
     loaded: Session,
 }
 
 impl One {
     pub fn new(case: Case) -> One {
-        let (mut numbers, mut bytes) = (vec![0; case.numbers_len()], vec![0; case.bytes_len()]);
+        let (mut node_table, mut state_table) = (vec![0; case.node_table_len()], vec![0; case.state_table_len()]);
         let mut loaded = Session::new();
-        loaded.load(&case.plan, &case.rules, &mut numbers, &mut bytes).expect("accepted");
-        One { case, numbers, bytes, loaded }
+        loaded.load(&case.plan, &case.rules, &mut node_table, &mut state_table).expect("accepted");
+        One { case, node_table, state_table, loaded }
+    }
+
+    #[cfg(feature = "probes")]
+    pub fn sizes(&self) -> crate::probes::Sizes {
+        crate::probes::Sizes { n: self.case.n as u16, s: self.case.s as u8, k: self.case.k as u8 }
+    }
+
+    pub fn lent(&self) -> Lent<'_> {
+        let Case { plan, rules, .. } = &self.case;
+        Lent { plan, rules, node_table: &self.node_table, state_table: &self.state_table }
     }
 
     fn start(&self, session: &mut Session, list: &List) -> u32 {
-        let case = &self.case;
-        session.start(&case.plan, &case.rules, &self.numbers, &self.bytes, &list.0, &list.1).expect("accepted")
+        session.start(&self.lent(), &list.0, &list.1).expect("accepted")
     }
 
     fn finish(&self, session: &mut Session) {
-        let case = &self.case;
-        while session.advance(&case.plan, &case.rules, &self.numbers, &self.bytes) == Ok(Progress::More) {}
+        while session.advance(&self.lent()) == Ok(Progress::More) {}
     }
 
     pub fn ask(&self, list: &List) -> u32 {
@@ -53,20 +61,21 @@ impl One {
         u32::from(told.state)
     }
 
-    fn plain_start(&self, record: &mut [u8; RECORD_BYTES], list: &List) -> u32 {
+    fn yardstick_start(&self, record: &mut [u8; RECORD_BYTES], list: &List) -> u32 {
         let case = &self.case;
-        session::start(record, &case.plan, &case.rules, &self.numbers, &self.bytes, &list.0, &list.1).expect("accepted")
+        session::start(record, &case.plan, &case.rules, &self.node_table, &self.state_table, &list.0, &list.1)
+            .expect("accepted")
     }
 
-    fn plain_finish(&self, record: &mut [u8; RECORD_BYTES]) {
+    fn yardstick_finish(&self, record: &mut [u8; RECORD_BYTES]) {
         let case = &self.case;
-        while session::advance(record, &case.plan, &case.rules, &self.numbers, &self.bytes) == Ok(false) {}
+        while session::advance(record, &case.plan, &case.rules, &self.node_table, &self.state_table) == Ok(false) {}
     }
 
-    pub fn plain_ask(&self, list: &List) -> u32 {
+    pub fn yardstick_ask(&self, list: &List) -> u32 {
         let mut record = *self.loaded.as_bytes();
-        self.plain_start(&mut record, list);
-        self.plain_finish(&mut record);
+        self.yardstick_start(&mut record, list);
+        self.yardstick_finish(&mut record);
         let told = session::read(&record).expect("accepted");
         u32::from(told.state) + 16 * told.links + told.parts
     }
@@ -91,10 +100,11 @@ impl Set {
     }
 
     /// Both sides by turns on every question; both must tell the same.
-    pub fn told(&self, library: impl Fn(&One, &List) -> u32, plain: impl Fn(&One, &List) -> u32) -> Pair {
-        let (mut by_library, mut by_plain) = (0, 0);
-        let times = by_turns(self.lists.len(), || by_library = self.sum(&library), || by_plain = self.sum(&plain));
-        assert_eq!(by_library, by_plain, "both tell the same");
+    pub fn told(&self, library: impl Fn(&One, &List) -> u32, yardstick: impl Fn(&One, &List) -> u32) -> Pair {
+        let (mut by_library, mut by_yardstick) = (0, 0);
+        let times =
+            by_turns(self.lists.len(), || by_library = self.sum(&library), || by_yardstick = self.sum(&yardstick));
+        assert_eq!(by_library, by_yardstick, "both tell the same");
         times
     }
 
@@ -105,7 +115,7 @@ impl Set {
     fn start(&self) -> Pair {
         self.told(
             |one, list| one.start(&mut one.loaded.clone(), list),
-            |one, list| one.plain_start(&mut one.loaded.as_bytes().clone(), list),
+            |one, list| one.yardstick_start(&mut one.loaded.as_bytes().clone(), list),
         )
     }
 
@@ -121,12 +131,12 @@ impl Set {
         by_turns(
             parts,
             || started.iter().for_each(|(one, session)| one.finish(&mut session.clone())),
-            || started.iter().for_each(|(one, session)| one.plain_finish(&mut session.as_bytes().clone())),
+            || started.iter().for_each(|(one, session)| one.yardstick_finish(&mut session.as_bytes().clone())),
         )
     }
 
     fn question(&self) -> Pair {
-        self.told(One::ask, One::plain_ask)
+        self.told(One::ask, One::yardstick_ask)
     }
 
     /// Fewer of them: a fresh run of a large plan is slow.
@@ -143,8 +153,8 @@ impl Set {
 /// What is measured, and how.
 pub type Work = (&'static str, fn(&Set) -> Pair);
 
-/// Rows whose work has this text in its name.
-pub fn rows(wanted: &str) -> Vec<Row> {
+/// Rows whose work has this text in its name, each handed on when it is measured.
+pub fn rows(wanted: &str, keep: &mut dyn FnMut(Row)) {
     let random = &mut Random::new(3);
     let mut sets = each(random, |cases, _| Set::new(cases));
     let works: [Work; 4] = [
@@ -155,15 +165,13 @@ pub fn rows(wanted: &str) -> Vec<Row> {
     ];
     #[cfg(feature = "probes")]
     let works: Vec<Work> = works.into_iter().chain(crate::places::WORKS).collect();
-    let mut rows = Vec::new();
     for m in [0, 1, 8, 64] {
         for (shape, s, both) in &mut sets {
             both.iter_mut().for_each(|set| set.with_changes(m, random));
             for (work, measured) in works.iter().filter(|(work, _)| work.contains(wanted)) {
                 let times = [measured(&both[0]), measured(&both[1])];
-                rows.push(Row { work, m: Some(m), shape, s: *s, times });
+                keep(Row { work, m: Some(m), shape, s: *s, times });
             }
         }
     }
-    rows
 }

@@ -97,7 +97,8 @@ fn goal_of(goal: Option<f64>) -> String {
     goal.map_or("-".to_string(), |goal| format!("{:.1}", goal))
 }
 
-pub fn text(rows: &[Row]) -> String {
+/// The head of the table as text.
+pub fn head() -> String {
     let mut out = format!("{:<39} {:^27} {:^27}\n", "", "N 1,001", "N 65,535");
     let head = ["library", "plain", "ratio"];
     writeln!(
@@ -106,15 +107,18 @@ pub fn text(rows: &[Row]) -> String {
         "", "shape", "S", head[0], head[1], head[2], head[0], head[1], head[2], "goal"
     )
     .unwrap();
-    for row in rows {
-        write!(out, "{:<24} {:<10} {:>3}", row.name(), row.shape, row.s).unwrap();
-        for at in [SMALL, LARGE] {
-            let (library, plain) = row.times[at];
-            write!(out, " {:>9} {:>9} {:>7.2}", short(library), short(plain), row.ratio(at)).unwrap();
-        }
-        let over = if row.over(SMALL) || row.over(LARGE) { " over" } else { "" };
-        writeln!(out, " {:>6}{}", goal_of(row.goal(LARGE)), over).unwrap();
+    out
+}
+
+/// A row as a line of text.
+pub fn line(row: &Row) -> String {
+    let mut out = format!("{:<24} {:<10} {:>3}", row.name(), row.shape, row.s);
+    for at in [SMALL, LARGE] {
+        let (library, yardstick) = row.times[at];
+        write!(out, " {:>9} {:>9} {:>7.2}", short(library), short(yardstick), row.ratio(at)).unwrap();
     }
+    let over = if row.over(SMALL) || row.over(LARGE) { " over" } else { "" };
+    writeln!(out, " {:>6}{}", goal_of(row.goal(LARGE)), over).unwrap();
     out
 }
 

@@ -6,10 +6,10 @@ use crate::measure::{by_turns, Pair};
 use crate::table::Row;
 use compare::inputs::Case;
 use compare::random::Random;
-use plain::session;
 use reference::tree::Tree;
 use whatif::sizes::RECORD_BYTES;
 use whatif::Session;
+use yardstick::session;
 
 const QUESTIONS: usize = 2_000;
 
@@ -19,7 +19,7 @@ type Buffers = (Vec<u16>, Vec<u8>);
 struct One {
     case: Case,
     library: Buffers,
-    plain: Buffers,
+    yardstick: Buffers,
     /// The list of a fresh run.
     list: List,
     /// Branch questions: upper and lower node.
@@ -28,11 +28,11 @@ struct One {
 
 impl One {
     fn new(case: Case, questions: usize, random: &mut Random) -> One {
-        let buffers = (vec![0; case.numbers_len()], vec![0; case.bytes_len()]);
+        let buffers = (vec![0; case.node_table_len()], vec![0; case.state_table_len()]);
         let list = list(&case, 64, random);
         let tree = Tree::of(&reference::formats::read_plan(&case.plan).expect("accepted"));
         let pairs = (0..questions).map(|_| pair(&tree, random)).collect();
-        One { case, library: buffers.clone(), plain: buffers, list, pairs }
+        One { case, library: buffers.clone(), yardstick: buffers, list, pairs }
     }
 }
 
@@ -58,16 +58,16 @@ impl Set {
         Set(cases.into_iter().map(|case| One::new(case, questions, random)).collect())
     }
 
-    fn build(&mut self, library: Build, plain: Build) -> Pair {
+    fn build(&mut self, library: Build, yardstick: Build) -> Pair {
         let count = self.0.len();
-        let (mut to_library, mut to_plain): (Vec<_>, Vec<_>) =
-            self.0.iter_mut().map(|one| ((&one.case, &mut one.library), (&one.case, &mut one.plain))).unzip();
+        let (mut to_library, mut to_yardstick): (Vec<_>, Vec<_>) =
+            self.0.iter_mut().map(|one| ((&one.case, &mut one.library), (&one.case, &mut one.yardstick))).unzip();
         let times = by_turns(
             count,
             || assert!(to_library.iter_mut().all(|(case, to)| library(case, to))),
-            || assert!(to_plain.iter_mut().all(|(case, to)| plain(case, to))),
+            || assert!(to_yardstick.iter_mut().all(|(case, to)| yardstick(case, to))),
         );
-        assert!(self.0.iter().all(|one| one.library == one.plain), "both build the same");
+        assert!(self.0.iter().all(|one| one.library == one.yardstick), "both build the same");
         times
     }
 
@@ -81,15 +81,15 @@ impl Set {
     fn branch_build(&mut self) -> Pair {
         self.build(
             |case, to| whatif::branch_build(&case.plan, &case.branch, &mut to.0, &mut to.1).is_ok(),
-            |case, to| plain::branch_build(&case.plan, &case.branch, &mut to.0, &mut to.1).is_ok(),
+            |case, to| yardstick::branch_build(&case.plan, &case.branch, &mut to.0, &mut to.1).is_ok(),
         )
     }
 
-    fn check(&self, library: Check, plain: Check) -> Pair {
+    fn check(&self, library: Check, yardstick: Check) -> Pair {
         by_turns(
             self.0.len(),
             || assert!(self.0.iter().all(|one| library(&one.case, &one.library)), "a full check says yes"),
-            || assert!(self.0.iter().all(|one| plain(&one.case, &one.library)), "a full check says yes"),
+            || assert!(self.0.iter().all(|one| yardstick(&one.case, &one.library)), "a full check says yes"),
         )
     }
 
@@ -97,7 +97,7 @@ impl Set {
     fn full_check(&self) -> Pair {
         self.check(
             |case, of| whatif::check(&case.plan, &case.rules, &of.0, &of.1) == Ok(true),
-            |case, of| plain::check(&case.plan, &case.rules, &of.0, &of.1) == Ok(true),
+            |case, of| yardstick::check(&case.plan, &case.rules, &of.0, &of.1) == Ok(true),
         )
     }
 
@@ -105,19 +105,19 @@ impl Set {
     fn branch_check(&self) -> Pair {
         self.check(
             |case, of| whatif::branch_check(&case.plan, &case.branch, &of.0, &of.1) == Ok(true),
-            |case, of| plain::branch_check(&case.plan, &case.branch, &of.0, &of.1) == Ok(true),
+            |case, of| yardstick::branch_check(&case.plan, &case.branch, &of.0, &of.1) == Ok(true),
         )
     }
 
     /// Both sides by turns on every plan; both must tell the same.
-    fn told(&self, count: usize, library: impl Fn(&One) -> u32, plain: impl Fn(&One) -> u32) -> Pair {
-        let (mut by_library, mut by_plain) = (0, 0);
+    fn told(&self, count: usize, library: impl Fn(&One) -> u32, yardstick: impl Fn(&One) -> u32) -> Pair {
+        let (mut by_library, mut by_yardstick) = (0, 0);
         let times = by_turns(
             count,
             || by_library = self.0.iter().map(&library).sum(),
-            || by_plain = self.0.iter().map(&plain).sum(),
+            || by_yardstick = self.0.iter().map(&yardstick).sum(),
         );
-        assert_eq!(by_library, by_plain, "both tell the same");
+        assert_eq!(by_library, by_yardstick, "both tell the same");
         times
     }
 
@@ -129,7 +129,7 @@ impl Set {
                 u32::from(told.state) * 2 + u32::from(told.yes)
             },
             |One { case, list: (nodes, labels), .. }| {
-                let told = plain::fresh_run(&case.plan, &case.rules, &nodes[..m], &labels[..m]).unwrap();
+                let told = yardstick::fresh_run(&case.plan, &case.rules, &nodes[..m], &labels[..m]).unwrap();
                 u32::from(told.0) * 2 + u32::from(told.1)
             },
         )
@@ -139,30 +139,33 @@ impl Set {
     fn branch_question(&self) -> Pair {
         self.told(
             self.0.iter().map(|one| one.pairs.len()).sum(),
-            |One { case, library: (numbers, bytes), pairs, .. }| {
-                let ask =
-                    |&(upper, lower)| whatif::branch(&case.plan, &case.branch, numbers, bytes, upper, lower).unwrap();
+            |One { case, library: (node_table, state_table), pairs, .. }| {
+                let ask = |&(upper, lower)| {
+                    whatif::branch(&case.plan, &case.branch, node_table, state_table, upper, lower).unwrap()
+                };
                 pairs.iter().map(ask).map(|told| u32::from(told.state) + 16 * told.links).sum()
             },
-            |One { case, library: (numbers, bytes), pairs, .. }| {
-                let ask = |&(upper, lower)| plain::ask(&case.plan, &case.branch, numbers, bytes, upper, lower).unwrap();
+            |One { case, library: (node_table, state_table), pairs, .. }| {
+                let ask = |&(upper, lower)| {
+                    yardstick::ask(&case.plan, &case.branch, node_table, state_table, upper, lower).unwrap()
+                };
                 pairs.iter().map(ask).map(|told| u32::from(told.state) + 16 * told.links).sum()
             },
         )
     }
 }
 
-/// Rows whose work has this text in its name; the builds always, since what follows needs them.
-pub fn rows(wanted: &str) -> Vec<Row> {
+/// Rows whose work has this text in its name, each handed on when it is measured; the builds always, since what follows
+/// needs them.
+pub fn rows(wanted: &str, keep: &mut dyn FnMut(Row)) {
     let mut sets = each(&mut Random::new(2), Set::new);
-    let mut rows = Vec::new();
     let mut measure = |work: &'static str, m: Option<usize>, measured: &mut dyn FnMut(&mut Set) -> Pair| {
         if !work.contains(wanted) && work != "Load" && work != "branch build" {
             return;
         }
         for (shape, s, [small, large]) in &mut sets {
             let times = [measured(small), measured(large)];
-            rows.push(Row { work, m, shape, s: *s, times });
+            keep(Row { work, m, shape, s: *s, times });
         }
     };
     measure("Load", None, &mut Set::load);
@@ -173,5 +176,4 @@ pub fn rows(wanted: &str) -> Vec<Row> {
     measure("branch build", None, &mut Set::branch_build);
     measure("branch check", None, &mut |set| set.branch_check());
     measure("branch question", None, &mut |set| set.branch_question());
-    rows
 }

@@ -28,7 +28,7 @@ pub enum Alteration {
     BytesBelow,
     /// Run states and maps, some not below S.
     Bytes,
-    /// 16-bit numbers, inside the plan or not.
+    /// The node table, inside the plan or not.
     Numbers,
     /// Labels of the plan, some not below K.
     Labels,
@@ -60,17 +60,17 @@ impl Alteration {
         trace::say(format!("{:?} altered", self));
         match self {
             Alteration::Excess => {
-                let (more_numbers, more_bytes) = (random.below(5), random.below(5));
-                lent.numbers.truncate(4 * n);
-                lent.bytes.truncate((s + 1) * n);
-                lent.numbers.extend(random.numbers(more_numbers));
-                lent.bytes.extend(random.bytes(more_bytes));
+                let (more_nodes, more_states) = (random.below(5), random.below(5));
+                lent.node_table.truncate(4 * n);
+                lent.state_table.truncate((s + 1) * n);
+                lent.node_table.extend(random.numbers(more_nodes));
+                lent.state_table.extend(random.bytes(more_states));
             }
-            Alteration::BytesBelow => damage(&mut lent.bytes, share, random, |random| random.below(s) as u8),
-            Alteration::Bytes => damage(&mut lent.bytes, share, random, |random| random.below(s + 2) as u8),
+            Alteration::BytesBelow => damage(&mut lent.state_table, share, random, |random| random.below(s) as u8),
+            Alteration::Bytes => damage(&mut lent.state_table, share, random, |random| random.below(s + 2) as u8),
             Alteration::Numbers => {
                 let limit = *random.pick(&[n, n + 1, 65_536]);
-                damage(&mut lent.numbers, share, random, |random| random.below(limit) as u16);
+                damage(&mut lent.node_table, share, random, |random| random.below(limit) as u16);
             }
             Alteration::Labels => {
                 let limit = k + random.below(2);
@@ -94,7 +94,7 @@ pub fn wrong_length(lent: &mut Lent, case: &Case, way: usize, random: &mut Rando
         1 => lent.plan.truncate(shorter(case.plan.len(), random)),
         2 => lent.rules.push(0),
         3 => lent.rules.truncate(shorter(case.rules.len(), random)),
-        4 => lent.numbers.truncate(shorter(case.numbers_len(), random)),
-        _ => lent.bytes.truncate(shorter(case.bytes_len(), random)),
+        4 => lent.node_table.truncate(shorter(case.node_table_len(), random)),
+        _ => lent.state_table.truncate(shorter(case.state_table_len(), random)),
     }
 }

@@ -10,24 +10,25 @@ use reference::tree::Tree;
 pub struct Built {
     pub kind: Kind,
     pub case: Case,
-    pub numbers: Vec<u16>,
-    pub bytes: Vec<u8>,
+    pub node_table: Vec<u16>,
+    pub state_table: Vec<u8>,
 }
 
 impl Built {
     /// In buffers that are exactly long enough.
     pub fn new(kind: Kind, case: Case, random: &mut Random) -> Built {
-        let lens = (case.numbers_len(), case.bytes_len());
-        let (numbers, bytes) = calls::build(kind, &case.plan, case.table(kind), lens, random).expect("accepted");
-        Built { kind, case, numbers, bytes }
+        let lens = (case.node_table_len(), case.state_table_len());
+        let (node_table, state_table) =
+            calls::build(kind, &case.plan, case.table(kind), lens, random).expect("accepted");
+        Built { kind, case, node_table, state_table }
     }
 
     /// In longer buffers, with anything behind the tables.
     pub fn with_excess(kind: Kind, case: Case, random: &mut Random) -> Built {
         let mut built = Built::new(kind, case, random);
-        let (more_numbers, more_bytes) = (random.below(3), random.below(3));
-        built.numbers.extend(random.numbers(more_numbers));
-        built.bytes.extend(random.bytes(more_bytes));
+        let (more_nodes, more_states) = (random.below(3), random.below(3));
+        built.node_table.extend(random.numbers(more_nodes));
+        built.state_table.extend(random.bytes(more_states));
         built
     }
 
@@ -36,14 +37,19 @@ impl Built {
     }
 
     /// What the full check says of some tables with this case's plan and table.
-    pub fn says(&self, numbers: &[u16], bytes: &[u8], random: &mut Random) -> bool {
+    pub fn says(&self, node_table: &[u16], state_table: &[u8], random: &mut Random) -> bool {
         let table = self.case.table(self.kind);
-        calls::library_check(self.kind, &self.case.plan, table, numbers, bytes, random).expect("accepted")
+        calls::library_check(self.kind, &self.case.plan, table, node_table, state_table, random).expect("accepted")
     }
 
     /// For a branch question.
     pub fn lent(&self) -> Lent<'_> {
-        Lent { plan: &self.case.plan, branch: &self.case.branch, numbers: &self.numbers, bytes: &self.bytes }
+        Lent {
+            plan: &self.case.plan,
+            branch: &self.case.branch,
+            node_table: &self.node_table,
+            state_table: &self.state_table,
+        }
     }
 
     /// A random node and one of the nodes from it up to the root: lower, upper.

@@ -52,25 +52,26 @@ pub fn build_as(
     expected: Result<&Tables, u32>,
     random: &mut Random,
 ) -> Result<(Vec<u16>, Vec<u8>), u32> {
-    let mut numbers = random.numbers(lens.0 + 2 * MARGIN);
-    let mut bytes = random.bytes(lens.1 + 2 * MARGIN);
-    let (mut want_numbers, mut want_bytes) = (numbers.clone(), bytes.clone());
+    let mut node_table = random.numbers(lens.0 + 2 * MARGIN);
+    let mut state_table = random.bytes(lens.1 + 2 * MARGIN);
+    let (mut want_node_table, mut want_state_table) = (node_table.clone(), state_table.clone());
     let (plan_was, table_was) = (plan.to_vec(), table.to_vec());
     let build = match kind {
         Kind::Rules => slices::build,
         Kind::Branch => slices::branch_build,
     };
-    let number = build(plan, table, &mut numbers[MARGIN..MARGIN + lens.0], &mut bytes[MARGIN..MARGIN + lens.1]);
+    let number =
+        build(plan, table, &mut node_table[MARGIN..MARGIN + lens.0], &mut state_table[MARGIN..MARGIN + lens.1]);
     assert_eq!(number, expected.err().unwrap_or(0), "the answer of the build");
     if let Ok(tables) = expected {
-        want_numbers[MARGIN..MARGIN + tables.numbers.len()].copy_from_slice(&tables.numbers);
-        want_bytes[MARGIN..MARGIN + tables.bytes.len()].copy_from_slice(&tables.bytes);
+        want_node_table[MARGIN..MARGIN + tables.node_table.len()].copy_from_slice(&tables.node_table);
+        want_state_table[MARGIN..MARGIN + tables.state_table.len()].copy_from_slice(&tables.state_table);
     }
-    same("node table", &numbers, &want_numbers);
-    same("state table", &bytes, &want_bytes);
+    same("node table", &node_table, &want_node_table);
+    same("state table", &state_table, &want_state_table);
     same("plan", plan, &plan_was);
     same("table", table, &table_was);
-    let lent = (numbers[MARGIN..MARGIN + lens.0].to_vec(), bytes[MARGIN..MARGIN + lens.1].to_vec());
+    let lent = (node_table[MARGIN..MARGIN + lens.0].to_vec(), state_table[MARGIN..MARGIN + lens.1].to_vec());
     expected.map(|_| lent)
 }
 
@@ -79,8 +80,8 @@ pub fn library_check(
     kind: Kind,
     plan: &[u8],
     table: &[u8],
-    numbers: &[u16],
-    bytes: &[u8],
+    node_table: &[u16],
+    state_table: &[u8],
     random: &mut Random,
 ) -> Result<bool, u32> {
     let unset = random.word() as u32 | 2;
@@ -89,7 +90,7 @@ pub fn library_check(
         Kind::Rules => slices::check,
         Kind::Branch => slices::branch_check,
     };
-    let number = check(plan, table, numbers, bytes, &mut yes);
+    let number = check(plan, table, node_table, state_table, &mut yes);
     told(number, &[yes], &[unset])?;
     assert!(yes <= 1, "the full check told {}", yes);
     Ok(yes == 1)
@@ -100,15 +101,15 @@ pub fn check(
     kind: Kind,
     plan: &[u8],
     table: &[u8],
-    numbers: &[u16],
-    bytes: &[u8],
+    node_table: &[u16],
+    state_table: &[u8],
     random: &mut Random,
 ) -> Result<bool, u32> {
     let expected = match kind {
-        Kind::Rules => reference::check(plan, table, numbers, bytes),
-        Kind::Branch => reference::branch_check(plan, table, numbers, bytes),
+        Kind::Rules => reference::check(plan, table, node_table, state_table),
+        Kind::Branch => reference::branch_check(plan, table, node_table, state_table),
     };
-    let answer = library_check(kind, plan, table, numbers, bytes, random);
+    let answer = library_check(kind, plan, table, node_table, state_table, random);
     assert_eq!(answer, expected, "the answer of the full check");
     answer
 }
@@ -130,21 +131,22 @@ pub fn fresh_run(plan: &[u8], rules: &[u8], nodes: &[u16], labels: &[u8], random
 pub struct Lent<'a> {
     pub plan: &'a [u8],
     pub branch: &'a [u8],
-    pub numbers: &'a [u16],
-    pub bytes: &'a [u8],
+    pub node_table: &'a [u16],
+    pub state_table: &'a [u8],
 }
 
 /// A branch question, its answer alone: state, yes and links, and nothing on a refusal.
 pub fn library_branch(lent: Lent, upper: u32, lower: u32, random: &mut Random) -> Result<[u32; 3], u32> {
     let unset = [random.word() as u32, random.word() as u32, random.word() as u32];
     let mut out = unset;
-    let number = slices::branch(lent.plan, lent.branch, lent.numbers, lent.bytes, upper, lower, &mut out);
+    let number = slices::branch(lent.plan, lent.branch, lent.node_table, lent.state_table, upper, lower, &mut out);
     told(number, &out, &unset).map(|()| out)
 }
 
 /// A branch question on any tables, compared with the rule on those very tables.
 pub fn branch(lent: Lent, upper: u32, lower: u32, random: &mut Random) -> Result<[u32; 3], u32> {
-    let expected = reference::branch::on_tables(lent.plan, lent.branch, lent.numbers, lent.bytes, upper, lower);
+    let expected =
+        reference::branch::on_tables(lent.plan, lent.branch, lent.node_table, lent.state_table, upper, lower);
     let answer = library_branch(lent, upper, lower, random);
     let want = expected.map(|told| [told.state as u32, told.yes as u32, told.links as u32]);
     assert_eq!(answer, want, "the branch question from {} to {}", upper, lower);

@@ -20,8 +20,8 @@ pub struct Input {
     k: usize,
     pub plan: Vec<u8>,
     pub table: Vec<u8>,
-    pub numbers_len: usize,
-    pub bytes_len: usize,
+    pub node_table_len: usize,
+    pub state_table_len: usize,
     pub nodes: Vec<u16>,
     pub labels: Vec<u8>,
 }
@@ -40,8 +40,8 @@ impl Input {
             k: case.k,
             plan: case.plan.clone(),
             table: case.table(kind).to_vec(),
-            numbers_len: case.numbers_len() + random.below(3),
-            bytes_len: case.bytes_len() + random.below(3),
+            node_table_len: case.node_table_len() + random.below(3),
+            state_table_len: case.state_table_len() + random.below(3),
             nodes,
             labels,
         }
@@ -141,13 +141,13 @@ impl Input {
     }
 
     fn buffers(&mut self, random: &mut Random) {
-        let (numbers, bytes) = (4 * self.n, (self.s + 1) * self.n);
+        let (node_table, state_table) = (4 * self.n, (self.s + 1) * self.n);
         let which = random.below(3);
         if which != 1 {
-            self.numbers_len = shorter(numbers, random);
+            self.node_table_len = shorter(node_table, random);
         }
         if which != 0 {
-            self.bytes_len = shorter(bytes, random);
+            self.state_table_len = shorter(state_table, random);
         }
     }
 }

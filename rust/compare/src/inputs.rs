@@ -100,11 +100,11 @@ impl Case {
         }
     }
 
-    pub fn numbers_len(&self) -> usize {
+    pub fn node_table_len(&self) -> usize {
         4 * self.n
     }
 
-    pub fn bytes_len(&self) -> usize {
+    pub fn state_table_len(&self) -> usize {
         (self.s + 1) * self.n
     }
 

@@ -12,7 +12,7 @@ const USAGE: &str = "usage: compare [--seed S] [--seconds T]";
 const SEED: u64 = 1;
 const ROUNDS_ALONE: u64 = 1_000;
 /// Between two lines of progress.
-const PAUSE: Duration = Duration::from_secs(10);
+const PAUSE: Duration = Duration::from_secs(2);
 
 /// The first seed, and the seconds if there is a limit.
 fn options() -> Option<(u64, Option<u64>)> {

@@ -15,19 +15,24 @@ use reference::record::Record;
 pub struct Lent {
     pub plan: Vec<u8>,
     pub rules: Vec<u8>,
-    pub numbers: Vec<u16>,
-    pub bytes: Vec<u8>,
+    pub node_table: Vec<u16>,
+    pub state_table: Vec<u8>,
 }
 
 impl Lent {
     /// With the tables that Load writes.
     pub fn built(case: &Case, random: &mut Random) -> Lent {
         let built = Built::new(Kind::Rules, case.clone(), random);
-        Lent { plan: case.plan.clone(), rules: case.rules.clone(), numbers: built.numbers, bytes: built.bytes }
+        Lent {
+            plan: case.plan.clone(),
+            rules: case.rules.clone(),
+            node_table: built.node_table,
+            state_table: built.state_table,
+        }
     }
 
     pub fn lends(&self) -> Lends<'_> {
-        Lends { plan: &self.plan, rules: &self.rules, numbers: &self.numbers, bytes: &self.bytes }
+        Lends { plan: &self.plan, rules: &self.rules, node_table: &self.node_table, state_table: &self.state_table }
     }
 }
 

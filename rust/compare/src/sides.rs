@@ -13,7 +13,7 @@ use reference::tables::Tables;
 /// A call on a record, the buffers of a Load and the places of what is told, four of them. The answer's number.
 type Side = fn(&Call, &mut [u8], &mut [u16], &mut [u8], &mut [u32; 4]) -> u32;
 
-const SIDES: &[(&str, Side)] = &[("the library", library::call), ("plain Rust", by_plain)];
+const SIDES: &[(&str, Side)] = &[("the library", library::call), ("plain Rust", by_yardstick)];
 
 const MARGIN: usize = 9;
 /// Lends above this many bytes are not copied to see whether they stay.
@@ -30,27 +30,28 @@ pub fn call(record: &[u8], call: &Call, random: &mut Random) -> Done {
 
 fn compare(name: &str, side: Side, record: &[u8], call: &Call, done: &Done, random: &mut Random) {
     let mut own = Margins::new(record, random.bytes(2 * MARGIN));
-    let (mut numbers, mut bytes) = match call {
+    let (mut node_table, mut state_table) = match call {
         Call::Load(lends) => (
-            Margins::new(lends.numbers, random.numbers(2 * MARGIN)),
-            Margins::new(lends.bytes, random.bytes(2 * MARGIN)),
+            Margins::new(lends.node_table, random.numbers(2 * MARGIN)),
+            Margins::new(lends.state_table, random.bytes(2 * MARGIN)),
         ),
         _ => (Margins::new(&[], vec![]), Margins::new(&[], vec![])),
     };
     let unset = [0; 4].map(|_: u32| random.word() as u32 | 1 << 20);
     let mut out = unset;
-    let lent = lent(call).filter(|lends| lends.plan.len() + 2 * lends.numbers.len() + lends.bytes.len() < COPIED);
+    let lent =
+        lent(call).filter(|lends| lends.plan.len() + 2 * lends.node_table.len() + lends.state_table.len() < COPIED);
     let before = lent.map(copies);
-    let number = side(call, own.lent(), numbers.lent(), bytes.lent(), &mut out);
+    let number = side(call, own.lent(), node_table.lent(), state_table.lent(), &mut out);
     assert_eq!(answer(call, number, &out, &unset), done.answer, "{}: the answer", name);
     let what = |written: &str| format!("{}: the {}", name, written);
     own.is(&what("record"), &done.record);
-    if let (Call::Load(_), Some(Tables { numbers: n, bytes: b })) = (call, &done.tables) {
-        numbers.starts(&what("node table"), n);
-        bytes.starts(&what("state table"), b);
+    if let (Call::Load(_), Some(Tables { node_table: n, state_table: b })) = (call, &done.tables) {
+        node_table.starts(&what("node table"), n);
+        state_table.starts(&what("state table"), b);
     } else if let Call::Load(lends) = call {
-        numbers.is(&what("node table"), lends.numbers);
-        bytes.is(&what("state table"), lends.bytes);
+        node_table.is(&what("node table"), lends.node_table);
+        state_table.is(&what("state table"), lends.state_table);
     }
     assert!(lent.map(copies) == before, "{}: something lent was written", name);
 }
@@ -63,7 +64,7 @@ fn lent<'a>(call: &Call<'a>) -> Option<Lends<'a>> {
 }
 
 fn copies(lends: Lends) -> (Vec<u8>, Vec<u8>, Vec<u16>, Vec<u8>) {
-    (lends.plan.to_vec(), lends.rules.to_vec(), lends.numbers.to_vec(), lends.bytes.to_vec())
+    (lends.plan.to_vec(), lends.rules.to_vec(), lends.node_table.to_vec(), lends.state_table.to_vec())
 }
 
 /// What a number and the told values mean; the values that the call does not tell are as they were.
@@ -122,16 +123,22 @@ impl<T: Copy + PartialEq + std::fmt::Debug> Margins<T> {
     }
 }
 
-fn by_plain(call: &Call, record: &mut [u8], numbers: &mut [u16], bytes: &mut [u8], out: &mut [u32; 4]) -> u32 {
-    use plain::session;
+fn by_yardstick(
+    call: &Call,
+    record: &mut [u8],
+    node_table: &mut [u16],
+    state_table: &mut [u8],
+    out: &mut [u32; 4],
+) -> u32 {
+    use yardstick::session;
     let done = match *call {
-        Call::Load(lends) => session::load(record, lends.plan, lends.rules, numbers, bytes),
+        Call::Load(lends) => session::load(record, lends.plan, lends.rules, node_table, state_table),
         Call::Start(lends, nodes, labels) => {
-            let Lends { plan, rules, numbers, bytes } = lends;
-            session::start(record, plan, rules, numbers, bytes, nodes, labels).map(|parts| out[0] = parts)
+            let Lends { plan, rules, node_table, state_table } = lends;
+            session::start(record, plan, rules, node_table, state_table, nodes, labels).map(|parts| out[0] = parts)
         }
-        Call::Advance(Lends { plan, rules, numbers, bytes }) => {
-            session::advance(record, plan, rules, numbers, bytes).map(|finished| out[0] = finished as u32)
+        Call::Advance(Lends { plan, rules, node_table, state_table }) => {
+            session::advance(record, plan, rules, node_table, state_table).map(|finished| out[0] = finished as u32)
         }
         Call::Cancel => session::cancel(record),
         Call::Read => {
@@ -145,14 +152,20 @@ mod library {
     use super::{Call, Lends};
     use whatif::slices;
 
-    pub fn call(call: &Call, record: &mut [u8], numbers: &mut [u16], bytes: &mut [u8], out: &mut [u32; 4]) -> u32 {
+    pub fn call(
+        call: &Call,
+        record: &mut [u8],
+        node_table: &mut [u16],
+        state_table: &mut [u8],
+        out: &mut [u32; 4],
+    ) -> u32 {
         match *call {
-            Call::Load(Lends { plan, rules, .. }) => slices::load(record, plan, rules, numbers, bytes),
-            Call::Start(Lends { plan, rules, numbers, bytes }, nodes, labels) => {
-                slices::start(record, plan, rules, numbers, bytes, nodes, labels, &mut out[0])
+            Call::Load(Lends { plan, rules, .. }) => slices::load(record, plan, rules, node_table, state_table),
+            Call::Start(Lends { plan, rules, node_table, state_table }, nodes, labels) => {
+                slices::start(record, plan, rules, node_table, state_table, nodes, labels, &mut out[0])
             }
-            Call::Advance(Lends { plan, rules, numbers, bytes }) => {
-                slices::advance(record, plan, rules, numbers, bytes, &mut out[0])
+            Call::Advance(Lends { plan, rules, node_table, state_table }) => {
+                slices::advance(record, plan, rules, node_table, state_table, &mut out[0])
             }
             Call::Cancel => slices::cancel(record),
             Call::Read => slices::read(record, out),

@@ -42,14 +42,19 @@ fn resized<T: Clone>(table: &[T], by: isize, excess: Vec<T>) -> Vec<T> {
 const SHORT: [(isize, isize); 5] = [(-1, 0), (0, -1), (-1, -1), (-1, 9), (9, -1)];
 const ENOUGH: [(isize, isize); 4] = [(0, 0), (1, 0), (0, 1), (9, 9)];
 
-fn both_resized(numbers: &[u16], bytes: &[u8], by: (isize, isize), random: &mut Random) -> (Vec<u16>, Vec<u8>) {
+fn both_resized(
+    node_table: &[u16],
+    state_table: &[u8],
+    by: (isize, isize),
+    random: &mut Random,
+) -> (Vec<u16>, Vec<u8>) {
     let more = (by.0.max(0) as usize, by.1.max(0) as usize);
-    (resized(numbers, by.0, random.numbers(more.0)), resized(bytes, by.1, random.bytes(more.1)))
+    (resized(node_table, by.0, random.numbers(more.0)), resized(state_table, by.1, random.bytes(more.1)))
 }
 
 fn lent_resized(lent: &Lent, by: (isize, isize), random: &mut Random) -> Lent {
-    let (numbers, bytes) = both_resized(&lent.numbers, &lent.bytes, by, random);
-    Lent { plan: lent.plan.clone(), rules: lent.rules.clone(), numbers, bytes }
+    let (node_table, state_table) = both_resized(&lent.node_table, &lent.state_table, by, random);
+    Lent { plan: lent.plan.clone(), rules: lent.rules.clone(), node_table, state_table }
 }
 
 /// Load gets 11, Start and advance 17, and a whole question goes on with any excess.
@@ -90,8 +95,8 @@ fn branch_questions() {
         let (lower, upper) = built.pair(&built.tree(), random);
         let told = calls::branch(built.lent(), upper, lower, random).expect("accepted");
         for (by, wanted) in SHORT.map(|by| (by, Err(17))).into_iter().chain(ENOUGH.map(|by| (by, Ok(told)))) {
-            let (numbers, bytes) = both_resized(&built.numbers, &built.bytes, by, random);
-            let lent = calls::Lent { numbers: &numbers, bytes: &bytes, ..built.lent() };
+            let (node_table, state_table) = both_resized(&built.node_table, &built.state_table, by, random);
+            let lent = calls::Lent { node_table: &node_table, state_table: &state_table, ..built.lent() };
             assert_eq!(calls::branch(lent, upper, lower, random), wanted);
         }
     }

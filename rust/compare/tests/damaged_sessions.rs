@@ -1,5 +1,5 @@
-//! Sessions on lends that are not as built: numbers, bytes, labels, kinds, headers and rules with other values. Every
-//! answer and every record is the reference's, which follows the lent values and gives 18 where one leads outside.
+//! Sessions on lends that are not as built: node table, state table, labels, kinds, headers and rules with other
+//! values. Every answer and every record is the reference's, which follows the lent values and gives 18 where one leads outside.
 
 use compare::alterations::{wrong_length, Alteration};
 use compare::counts::Counts;
@@ -22,7 +22,7 @@ fn the_rule_on_any_lends() {
         }
         let count = |what: &str| counts.of(&format!("{:?}: {}", kind, what));
         assert!(count("finished") > 150, "{}", counts);
-        // Start reads the numbers alone; excess, headers and bytes below S lead nowhere
+        // Start reads the node table alone; excess, headers and bytes below S lead nowhere
         let never = [Alteration::Excess, Alteration::BytesBelow, Alteration::Headers].contains(&kind);
         assert_eq!(count("18 at Start") > 50, kind == Alteration::Numbers, "{}", counts);
         assert_eq!(count("18 at an advance") == 0, never, "{}", counts);
@@ -107,7 +107,7 @@ fn the_longest_climbs() {
     let mut bad = good.clone();
     for v in 0..case.n {
         let next = v as u16 + 1;
-        bad.numbers[4 * v..4 * v + 3].copy_from_slice(&[next, next, 65_534 - v as u16]);
+        bad.node_table[4 * v..4 * v + 3].copy_from_slice(&[next, next, 65_534 - v as u16]);
     }
     let mut panel = Panel::loaded(&good, random);
     assert_eq!(panel.start(&good, &[0], &[0], random), Answer::Parts(2));
@@ -120,7 +120,7 @@ fn the_longest_climbs() {
     // a move to the same depth does not rise
     assert_eq!(panel.start(&good, &[0], &[0], random), Answer::Parts(2));
     panel.advance(&good, random);
-    bad.numbers[4 * 30_000 + 2] = bad.numbers[4 * 30_001 + 2];
+    bad.node_table[4 * 30_000 + 2] = bad.node_table[4 * 30_001 + 2];
     assert_eq!(panel.advance(&bad, random), Answer::Refused(18));
     assert_eq!(panel.advance(&good, random), Answer::Finished);
 }

@@ -29,7 +29,7 @@ fn state_bytes_are_not_read() {
         let (lower, upper) = built.pair(&built.tree(), random);
         let before = calls::library_branch(built.lent(), upper, lower, random);
         let row = built.case.s + 1;
-        built.bytes.iter_mut().step_by(row).for_each(|state| *state = 255);
+        built.state_table.iter_mut().step_by(row).for_each(|state| *state = 255);
         assert_eq!(calls::library_branch(built.lent(), upper, lower, random), before);
     }
 }
@@ -53,11 +53,11 @@ fn the_longest_climb() {
     let mut built = Built::new(Kind::Branch, Case::new(Shape::Uniform, 32_768, 4, 4, random), random);
     for v in 0..built.case.n {
         let next = v as u16 + 1;
-        built.numbers[4 * v..4 * v + 4].copy_from_slice(&[next, next, 65_534 - v as u16, u16::MAX]);
+        built.node_table[4 * v..4 * v + 4].copy_from_slice(&[next, next, 65_534 - v as u16, u16::MAX]);
     }
     let answer = calls::branch(built.lent(), 65_534, 0, random).expect("accepted");
     assert_eq!(answer[2], 65_534);
     // a move to the same depth does not rise
-    built.numbers[4 * 30_000 + 2] = built.numbers[4 * 30_001 + 2];
+    built.node_table[4 * 30_000 + 2] = built.node_table[4 * 30_001 + 2];
     assert_eq!(calls::branch(built.lent(), 65_534, 0, random), Err(18));
 }

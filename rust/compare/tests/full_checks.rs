@@ -17,26 +17,26 @@ fn every_entry_of_small_tables() {
         {
             for kind in KINDS {
                 let mut built = Built::new(kind, Case::new(shape, leaves, s, k, random), random);
-                assert!(built.says(&built.numbers, &built.bytes, random));
-                for at in 0..built.numbers.len() {
-                    let was = built.numbers[at];
+                assert!(built.says(&built.node_table, &built.state_table, random));
+                for at in 0..built.node_table.len() {
+                    let was = built.node_table[at];
                     let mut others: Vec<u16> = (0..16).map(|bit| was ^ (1 << bit)).collect();
                     others.extend([was.wrapping_add(1), was.wrapping_sub(1), 0, built.case.n as u16 - 1, u16::MAX]);
                     for other in others.into_iter().filter(|&other| other != was) {
-                        built.numbers[at] = other;
-                        assert!(!built.says(&built.numbers, &built.bytes, random), "number {}: {}", at, other);
+                        built.node_table[at] = other;
+                        assert!(!built.says(&built.node_table, &built.state_table, random), "number {}: {}", at, other);
                     }
-                    built.numbers[at] = was;
+                    built.node_table[at] = was;
                 }
-                for at in 0..built.bytes.len() {
-                    let was = built.bytes[at];
+                for at in 0..built.state_table.len() {
+                    let was = built.state_table[at];
                     for other in (0..=20).chain([127, 128, 254, 255]).filter(|&other| other != was) {
-                        built.bytes[at] = other;
-                        assert!(!built.says(&built.numbers, &built.bytes, random), "byte {}: {}", at, other);
+                        built.state_table[at] = other;
+                        assert!(!built.says(&built.node_table, &built.state_table, random), "byte {}: {}", at, other);
                     }
-                    built.bytes[at] = was;
+                    built.state_table[at] = was;
                 }
-                assert!(built.says(&built.numbers, &built.bytes, random));
+                assert!(built.says(&built.node_table, &built.state_table, random));
             }
         }
     }
@@ -53,17 +53,17 @@ fn single_entries_of_the_largest_tables() {
                 // now and then at the root or at the first node
                 let v = *random.pick(&[root, 0, turn * 430, turn * 430 + 1]);
                 let at = 4 * v + random.below(4);
-                let was = built.numbers[at];
-                built.numbers[at] = was ^ (1 << random.below(16));
-                assert!(!built.says(&built.numbers, &built.bytes, random), "number {} of node {}", at % 4, v);
-                built.numbers[at] = was;
+                let was = built.node_table[at];
+                built.node_table[at] = was ^ (1 << random.below(16));
+                assert!(!built.says(&built.node_table, &built.state_table, random), "number {} of node {}", at % 4, v);
+                built.node_table[at] = was;
                 let at = 17 * v + random.below(17);
-                let was = built.bytes[at];
-                built.bytes[at] = (was as usize + random.between(1, 15)) as u8 % 16;
-                assert!(!built.says(&built.numbers, &built.bytes, random), "byte {} of node {}", at % 17, v);
-                built.bytes[at] = was;
+                let was = built.state_table[at];
+                built.state_table[at] = (was as usize + random.between(1, 15)) as u8 % 16;
+                assert!(!built.says(&built.node_table, &built.state_table, random), "byte {} of node {}", at % 17, v);
+                built.state_table[at] = was;
             }
-            assert!(built.says(&built.numbers, &built.bytes, random));
+            assert!(built.says(&built.node_table, &built.state_table, random));
         }
     }
 }
@@ -109,7 +109,7 @@ fn tables_of_something_else() {
     assert!(counts.of("no: tables of something else") > 400, "{}", counts);
 }
 
-/// Any numbers and bytes at all: no crash, and as the reference says.
+/// Any tables at all: no crash, and as the reference says.
 #[test]
 fn any_tables() {
     let random = &mut Random::new(405);

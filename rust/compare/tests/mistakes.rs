@@ -33,7 +33,7 @@ const NOTICED: [(Mistake, &[&str]); 23] = [
     (Mistake::AnyMarkIsYes, &["damaged tables", "damaged lends"]),
     (Mistake::FirstEntryHolds, &["damaged records"]),
     (Mistake::TailsFree, &["damaged records", "call lists"]),
-    (Mistake::LinksAreNoCause, &["call lists"]),
+    (Mistake::NodeTableIsNoCause, &["call lists"]),
 ];
 
 /// The first difference in the rounds of a kind, and its seed.

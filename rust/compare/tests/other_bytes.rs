@@ -1,5 +1,5 @@
-//! Run states and maps that are any bytes below S, under plan, rules and numbers as built: "an advance goes on as always
-//! and stores and counts what this rule gives on those bytes". The book replays the rule on the tree.
+//! Run states and maps that are any bytes below S, under plan, rules and node table as built: "an advance goes on as
+//! always and stores and counts what this rule gives on those bytes". The book replays the rule on the tree.
 
 use compare::counts::Counts;
 use compare::inputs::Case;
@@ -42,16 +42,16 @@ fn which_bytes_are_read() {
     for state in 0..3 {
         let mut panel = Panel::loaded(&lent, random);
         let mut other = lent.clone();
-        other.bytes[1..4].fill(state);
+        other.state_table[1..4].fill(state);
         let root = 4 * 4;
-        other.bytes[root..].fill(2 - state);
-        other.bytes[0] = state;
+        other.state_table[root..].fill(2 - state);
+        other.state_table[0] = state;
         assert_eq!(panel.start(&other, &[0], &[0], random), Answer::Parts(2));
         let (_, told) = panel.finish(&other, random);
         assert_eq!(told.links, 1);
         let rule = |p: u8, a: u8, q: u8| case.rules[20 + 2 + (p as usize * 2 + a as usize) * 3 + q as usize];
         // node 2 is the parent of 0 and 1; node 3 is the root's right child
-        assert_eq!(told.state as u8, rule(state, case.labels()[4], lent.bytes[4 * 3]));
+        assert_eq!(told.state as u8, rule(state, case.labels()[4], lent.state_table[4 * 3]));
     }
 }
 
@@ -67,11 +67,11 @@ fn clean_then_firm() {
         panel.start(&lent, &nodes, &labels, random);
         // as long as only 17 comes between, it is clean
         let mut short = lent.clone();
-        short.bytes.pop();
+        short.state_table.pop();
         assert_eq!(panel.advance(&short, random), Answer::Refused(17));
         assert_eq!(panel.advance(&lent, random), Answer::More);
         assert_eq!(panel.book.standing(), Some(Standing::Clean));
-        let other = Lent { bytes: random.bytes_below(lent.bytes.len(), 4), ..lent.clone() };
+        let other = Lent { state_table: random.bytes_below(lent.state_table.len(), 4), ..lent.clone() };
         panel.advance(&other, random);
         assert_eq!(panel.book.standing(), Some(Standing::Firm));
         if panel.says().states.len() < panel.says().roots.len() {

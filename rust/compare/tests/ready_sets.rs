@@ -1,5 +1,5 @@
 //! The reference implementation's own ways to the parts of a question, held to each other: the ready set by closing it
-//! literally, by marks, and by neighbours on lent numbers as built. No call of the library is made here.
+//! literally, by marks, and by neighbours on a lent node table as built. No call of the library is made here.
 
 use compare::inputs::Case;
 use compare::panel::Lent;
@@ -29,7 +29,7 @@ fn compare(case: &Case, lent: &Lent, tree: &Tree, nodes: &[u16], labels: &[u8], 
     assert!(members.len() <= most && members.last() == Some(&tree.root()));
     let (plan, rules) = (read_plan(&case.plan).unwrap(), read_rules(&case.rules).unwrap());
     let changed = changed(plan.labels, nodes, labels);
-    let given = Given { tree, labels: plan.labels, changed: &changed, rules: &rules, bytes: &lent.bytes };
+    let given = Given { tree, labels: plan.labels, changed: &changed, rules: &rules, state_table: &lent.state_table };
     let states = run(plan.kinds, &changed, &rules);
     for (part, &v) in given.parts(&members).iter().zip(&members) {
         assert_eq!(part.state, states[v], "the state at {}", v);

@@ -79,8 +79,8 @@ fn random_bytes() {
         let lens = (random.below(40), random.below(40));
         for kind in KINDS {
             let _ = calls::build(kind, &plan, &table, lens, random);
-            let (numbers, bytes) = (random.numbers(lens.0), random.bytes(lens.1));
-            let _ = calls::check(kind, &plan, &table, &numbers, &bytes, random);
+            let (node_table, state_table) = (random.numbers(lens.0), random.bytes(lens.1));
+            let _ = calls::check(kind, &plan, &table, &node_table, &state_table, random);
         }
         let _ = calls::fresh_run(&plan, &table, &[0], &[0], random);
     }
@@ -99,7 +99,7 @@ fn every_byte_of_a_small_input() {
                     let (mut plan, mut table) = (input.plan.clone(), input.table.clone());
                     let byte = plan.iter_mut().chain(table.iter_mut()).nth(at).unwrap();
                     *byte = byte.wrapping_add(add);
-                    let lens = (input.numbers_len, input.bytes_len);
+                    let lens = (input.node_table_len, input.state_table_len);
                     let _ = calls::build(kind, &plan, &table, lens, random);
                     if kind == Kind::Rules {
                         let _ = calls::fresh_run(&plan, &table, &input.nodes, &input.labels, random);

@@ -36,19 +36,25 @@ fn tables(s: usize, k: usize, random: &mut Random) -> (Vec<u8>, Vec<u8>) {
 /// The numbers that every call gives: builds, full checks, fresh run, Load; then the branch question, which has 17.
 fn every_call(plan: &[u8], rules: &[u8], branch: &[u8], random: &mut Random) -> [u32; 7] {
     let n = (plan.len() - 12) / 2;
-    let (numbers, bytes) = (random.numbers(4 * n), random.bytes(18 * n));
-    let lens = (numbers.len(), bytes.len());
-    let lent = Lent { plan: plan.to_vec(), rules: rules.to_vec(), numbers: numbers.clone(), bytes: bytes.clone() };
+    let (node_table, state_table) = (random.numbers(4 * n), random.bytes(18 * n));
+    let lens = (node_table.len(), state_table.len());
+    let lent = Lent {
+        plan: plan.to_vec(),
+        rules: rules.to_vec(),
+        node_table: node_table.clone(),
+        state_table: state_table.clone(),
+    };
     let built = calls::build(Kind::Branch, plan, branch, lens, random);
-    let question = built.as_ref().map_or((&numbers, &bytes), |(numbers, bytes)| (numbers, bytes));
-    let question = calls::Lent { plan, branch, numbers: question.0, bytes: question.1 };
+    let question =
+        built.as_ref().map_or((&node_table, &state_table), |(node_table, state_table)| (node_table, state_table));
+    let question = calls::Lent { plan, branch, node_table: question.0, state_table: question.1 };
     [
         calls::build(Kind::Rules, plan, rules, lens, random).err(),
-        calls::check(Kind::Rules, plan, rules, &numbers, &bytes, random).err(),
+        calls::check(Kind::Rules, plan, rules, &node_table, &state_table, random).err(),
         calls::fresh_run(plan, rules, &[0], &[0], random).err(),
         refusal(sides::call(&[0; 967], &Call::Load(lent.lends()), random).answer),
         built.as_ref().err().copied(),
-        calls::check(Kind::Branch, plan, branch, &numbers, &bytes, random).err(),
+        calls::check(Kind::Branch, plan, branch, &node_table, &state_table, random).err(),
         calls::branch(question, n as u32 - 1, 0, random).err(),
     ]
     .map(|number| number.unwrap_or(0))
@@ -90,7 +96,7 @@ fn depth_32_767() {
     let random = &mut Random::new(1803);
     for shape in DEEPEST {
         let mut asked = Asked::new(Case::new(shape, 32_768, 16, 64, random), random);
-        let depths: Vec<u16> = asked.lent.numbers.chunks(4).map(|row| row[2]).collect();
+        let depths: Vec<u16> = asked.lent.node_table.chunks(4).map(|row| row[2]).collect();
         assert_eq!((asked.case.n, depths.iter().max()), (65_535, Some(&32_767)));
         let deep = depths.iter().position(|&depth| depth == 32_767).unwrap();
         // one climb up to the root's child, of 15 binary digits
@@ -103,7 +109,7 @@ fn depth_32_767() {
         let built = Built::with_excess(Kind::Branch, case, random);
         let answer = branch_questions::ask(&built, &asked.tree, 65_534, deep as u32, random).expect("accepted");
         assert!((1..=45).contains(&answer[2]), "{} links", answer[2]);
-        assert!(built.says(&built.numbers, &built.bytes, random));
+        assert!(built.says(&built.node_table, &built.state_table, random));
     }
 }
 

@@ -46,18 +46,19 @@ fn every_number_of_the_headers() {
 /// The calls that read the headers of a kind; a branch question looks at the counts alone, which have numbers 3, 7 or,
 /// where another length follows from them, 4.
 fn every_call(kind: Kind, good: &Case, case: &Case, wanted: u32, random: &mut Random) {
-    let lens = (case.numbers_len(), case.bytes_len());
-    let (numbers, bytes) = calls::build(kind, &good.plan, good.table(kind), lens, random).expect("accepted");
+    let lens = (case.node_table_len(), case.state_table_len());
+    let (node_table, state_table) = calls::build(kind, &good.plan, good.table(kind), lens, random).expect("accepted");
     assert_eq!(calls::build(kind, &case.plan, case.table(kind), lens, random).err(), Some(wanted));
-    assert_eq!(calls::check(kind, &case.plan, case.table(kind), &numbers, &bytes, random), Err(wanted));
+    assert_eq!(calls::check(kind, &case.plan, case.table(kind), &node_table, &state_table, random), Err(wanted));
     if kind == Kind::Rules {
         assert_eq!(calls::fresh_run(&case.plan, &case.rules, &[], &[], random), Err(wanted));
-        let lent = Lent { plan: case.plan.clone(), rules: case.rules.clone(), numbers, bytes };
+        let lent = Lent { plan: case.plan.clone(), rules: case.rules.clone(), node_table, state_table };
         let answer = sides::call(&[0; 967], &Call::Load(lent.lends()), random).answer;
         assert_eq!(answer, Answer::Refused(wanted));
         return;
     }
-    let lent = calls::Lent { plan: &case.plan, branch: &case.branch, numbers: &numbers, bytes: &bytes };
+    let lent =
+        calls::Lent { plan: &case.plan, branch: &case.branch, node_table: &node_table, state_table: &state_table };
     let counts = case.plan[..4] != good.plan[..4] || case.branch[..8] != good.branch[..8];
     let told = calls::branch(lent, case.n as u32 - 1, 0, random).err();
     assert_eq!(told, if counts { Some(17) } else { None });

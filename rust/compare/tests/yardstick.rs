@@ -5,38 +5,40 @@ use compare::faults::{Input, BUILD_CHECKS, FRESH_CHECKS};
 use compare::inputs::Case;
 use compare::random::Random;
 use compare::shapes::SHAPES;
-use plain::layers;
-use plain::place::{Lends, Session};
-use plain::session;
+use yardstick::layers;
+use yardstick::place::{Lends, Session};
+use yardstick::session;
 
 type Build = fn(&[u8], &[u8], &mut [u16], &mut [u8]) -> Result<(), u32>;
 type Check = fn(&[u8], &[u8], &[u16], &[u8]) -> Result<bool, u32>;
 
 fn compare(case: &Case, random: &mut Random) {
-    let built = reference::build(&case.plan, &case.rules, case.numbers_len(), case.bytes_len()).unwrap();
-    let words = reference::branch_build(&case.plan, &case.branch, case.numbers_len(), case.bytes_len()).unwrap();
+    let built = reference::build(&case.plan, &case.rules, case.node_table_len(), case.state_table_len()).unwrap();
+    let words =
+        reference::branch_build(&case.plan, &case.branch, case.node_table_len(), case.state_table_len()).unwrap();
     for (build, check, table, tables) in [
-        (plain::build as Build, plain::check as Check, &case.rules, built),
-        (plain::branch_build, plain::branch_check, &case.branch, words),
+        (yardstick::build as Build, yardstick::check as Check, &case.rules, built),
+        (yardstick::branch_build, yardstick::branch_check, &case.branch, words),
     ] {
-        let (mut numbers, mut bytes) = (random.numbers(case.numbers_len()), random.bytes(case.bytes_len()));
-        assert_eq!(build(&case.plan, table, &mut numbers, &mut bytes), Ok(()));
-        same("node table", &numbers, &tables.numbers);
-        same("state table", &bytes, &tables.bytes);
-        assert_eq!(check(&case.plan, table, &numbers, &bytes), Ok(true));
-        let at = random.below(numbers.len());
-        numbers[at] ^= 1;
-        assert_eq!(check(&case.plan, table, &numbers, &bytes), Ok(false));
-        numbers[at] ^= 1;
-        let at = random.below(bytes.len());
-        bytes[at] ^= 1;
-        assert_eq!(check(&case.plan, table, &numbers, &bytes), Ok(false));
-        bytes[at] ^= 1;
+        let (mut node_table, mut state_table) =
+            (random.numbers(case.node_table_len()), random.bytes(case.state_table_len()));
+        assert_eq!(build(&case.plan, table, &mut node_table, &mut state_table), Ok(()));
+        same("node table", &node_table, &tables.node_table);
+        same("state table", &state_table, &tables.state_table);
+        assert_eq!(check(&case.plan, table, &node_table, &state_table), Ok(true));
+        let at = random.below(node_table.len());
+        node_table[at] ^= 1;
+        assert_eq!(check(&case.plan, table, &node_table, &state_table), Ok(false));
+        node_table[at] ^= 1;
+        let at = random.below(state_table.len());
+        state_table[at] ^= 1;
+        assert_eq!(check(&case.plan, table, &node_table, &state_table), Ok(false));
+        state_table[at] ^= 1;
         for _ in 0..20 {
             // rule tables are odd branch tables: any bytes will do for a question
             let (upper, lower) = (random.below(case.n) as u32, random.below(case.n) as u32);
-            let told = plain::ask(&case.plan, &case.branch, &numbers, &bytes, upper, lower);
-            let want = reference::branch::on_tables(&case.plan, &case.branch, &numbers, &bytes, upper, lower);
+            let told = yardstick::ask(&case.plan, &case.branch, &node_table, &state_table, upper, lower);
+            let want = reference::branch::on_tables(&case.plan, &case.branch, &node_table, &state_table, upper, lower);
             assert_eq!(told.map(|t| (t.state, t.yes, t.links as usize)), want.map(|t| (t.state, t.yes, t.links)));
         }
     }
@@ -61,38 +63,42 @@ fn refusals_and_fresh_runs() {
         let mut input = Input::new(&case, compare::calls::Kind::Rules, random);
         let faults: Vec<u32> = FRESH_CHECKS.iter().copied().filter(|_| random.below(9) == 0).collect();
         input.lay(&faults, random);
-        let told = plain::fresh_run(&input.plan, &input.table, &input.nodes, &input.labels);
+        let told = yardstick::fresh_run(&input.plan, &input.table, &input.nodes, &input.labels);
         let want = reference::fresh::fresh_run(&input.plan, &input.table, &input.nodes, &input.labels);
         assert_eq!(told, want.map(|t| (t.state, t.yes)));
         let mut input = Input::new(&case, compare::calls::Kind::Rules, random);
         let faults: Vec<u32> = BUILD_CHECKS.iter().copied().filter(|_| random.below(9) == 0).collect();
         input.lay(&faults, random);
-        let (mut numbers, mut bytes) = (vec![0; input.numbers_len], vec![0; input.bytes_len]);
-        let told = plain::build(&input.plan, &input.table, &mut numbers, &mut bytes);
+        let (mut node_table, mut state_table) = (vec![0; input.node_table_len], vec![0; input.state_table_len]);
+        let told = yardstick::build(&input.plan, &input.table, &mut node_table, &mut state_table);
         assert_eq!(told.err(), faults.first().copied());
     }
 }
 
 /// The session in place, roots and parts alone give what the session on bytes gives, which `call_lists` compares.
 fn in_place(case: &Case, m: usize, random: &mut Random) {
-    let (mut numbers, mut bytes) = (vec![0; case.numbers_len()], vec![0; case.bytes_len()]);
+    let (mut node_table, mut state_table) = (vec![0; case.node_table_len()], vec![0; case.state_table_len()]);
     let mut record = [0u8; 967];
-    session::load(&mut record, &case.plan, &case.rules, &mut numbers, &mut bytes).unwrap();
+    session::load(&mut record, &case.plan, &case.rules, &mut node_table, &mut state_table).unwrap();
     let (nodes, labels) = case.list(m, random);
-    let lends = Lends { plan: &case.plan, rules: &case.rules, numbers: &numbers, bytes: &bytes };
+    let lends = Lends { plan: &case.plan, rules: &case.rules, node_table: &node_table, state_table: &state_table };
     let mut placed = Session::loaded(case.n as u16, case.s as u8, case.k as u8);
     let parts = placed.start(&lends, &nodes, &labels).unwrap();
-    assert_eq!(Ok(parts), session::start(&mut record, &case.plan, &case.rules, &numbers, &bytes, &nodes, &labels));
+    assert_eq!(
+        Ok(parts),
+        session::start(&mut record, &case.plan, &case.rules, &node_table, &state_table, &nodes, &labels)
+    );
     let mut roots = [0; 254];
-    assert_eq!(layers::roots(case.n, &numbers, &nodes, &mut roots), parts as usize);
+    assert_eq!(layers::roots(case.n, &node_table, &nodes, &mut roots), parts as usize);
     let roots = &roots[..parts as usize];
     let (sizes, mut states, mut links) = ((case.n, case.s, case.k), Vec::new(), 0);
     for _ in 0..parts {
         let (plan, rules) = (&case.plan, &case.rules);
-        let told = layers::part(sizes, plan, rules, &numbers, &bytes, roots, &states, &nodes, &labels).unwrap();
+        let told =
+            layers::part(sizes, plan, rules, &node_table, &state_table, roots, &states, &nodes, &labels).unwrap();
         states.push(told.0);
         links += told.1;
-        assert_eq!(placed.advance(&lends), session::advance(&mut record, plan, rules, &numbers, &bytes));
+        assert_eq!(placed.advance(&lends), session::advance(&mut record, plan, rules, &node_table, &state_table));
         assert_eq!(placed.links(), links);
     }
     let answer = session::read(&record).unwrap();

@@ -3,7 +3,7 @@
 //! program's is known.
 //!
 //! What is left to the program, "save what Parts of a question and the closing words on 18 below settle": where plan,
-//! rules and 16-bit numbers are as built and as at Start, a question is `Firm` while the bytes lent with each accepted
+//! rules and node table are as built and as at Start, a question is `Firm` while the bytes lent with each accepted
 //! advance are below S. The rule settles it then, and never with 18. Elsewhere 18 is allowed where what is lent gives a
 //! cause for it.
 
@@ -42,12 +42,12 @@ struct Start {
     labels: Vec<u8>,
     plan: Vec<u8>,
     rules: Vec<u8>,
-    numbers: Vec<u16>,
-    bytes: Vec<u8>,
+    node_table: Vec<u16>,
+    state_table: Vec<u8>,
     built: Option<Built>,
 }
 
-/// Where plan and rules pass 2 to 10 with N, S and K, and the numbers are what Load writes: the tree, the labels as
+/// Where plan and rules pass 2 to 10 with N, S and K, and the node table is what Load writes: the tree, the labels as
 /// changed, and the roots of the parts.
 struct Built {
     tree: Tree,
@@ -109,7 +109,9 @@ impl Book {
     fn first_no(&self, call: &Call) -> Result<(), u32> {
         self.phase.allows(call)?;
         match *call {
-            Call::Load(lends) => crate::build_checks(lends.plan, lends.rules, lends.numbers.len(), lends.bytes.len()),
+            Call::Load(lends) => {
+                crate::build_checks(lends.plan, lends.rules, lends.node_table.len(), lends.state_table.len())
+            }
             Call::Start(lends, nodes, labels) => {
                 self.sizes.fit(&lends)?;
                 check_list(nodes, labels, self.sizes.n, self.sizes.k)
@@ -137,7 +139,7 @@ impl Book {
         if let Some(parts) = roots {
             return Next::Settled(Answer::Parts(parts as u32), running);
         }
-        let (as_is, caused) = (self.clone(), causes::in_numbers(self.sizes, &lends));
+        let (as_is, caused) = (self.clone(), causes::in_node_table(self.sizes, &lends));
         Next::Left(Box::new(move |answer| match answer {
             Answer::Refused(18) if caused => Some(as_is.clone()),
             Answer::Parts(_) => Some(running.clone()),
@@ -160,7 +162,7 @@ impl Book {
         question.standing = standing;
         let built = question.start.built.as_ref().expect("clean or firm");
         let (v, last) = (built.roots[question.parts.len()], question.count == built.roots.len());
-        let part = question.start.on(lends.bytes, |given| given.part(&built.roots, &question.parts, v));
+        let part = question.start.on(lends.state_table, |given| given.part(&built.roots, &question.parts, v));
         question.parts.push(part);
         if last {
             Next::Settled(Answer::Finished, self.with(Phase::Answered, question))
@@ -210,8 +212,8 @@ impl Start {
             labels: labels.to_vec(),
             plan: lends.plan.to_vec(),
             rules: lends.rules.to_vec(),
-            numbers: lends.numbers[..4 * sizes.n].to_vec(),
-            bytes: lends.bytes[..(sizes.s + 1) * sizes.n].to_vec(),
+            node_table: lends.node_table[..4 * sizes.n].to_vec(),
+            state_table: lends.state_table[..(sizes.s + 1) * sizes.n].to_vec(),
             built: None,
         };
         let passes = crate::build_checks(lends.plan, lends.rules, usize::MAX, usize::MAX).is_ok();
@@ -220,37 +222,37 @@ impl Start {
         }
         let (plan, rules) = (read_plan(lends.plan).unwrap(), read_rules(lends.rules).unwrap());
         let written = rule_tables(&plan, &rules);
-        if start.numbers != written.numbers {
+        if start.node_table != written.node_table {
             return (start, Standing::Loose);
         }
         let tree = Tree::of(&plan);
         let (changed, roots) = (changed(plan.labels, nodes, labels), by_marks(&tree, nodes));
         start.built = Some(Built { tree, changed, roots });
-        let sound = start.bytes == written.bytes;
+        let sound = start.state_table == written.state_table;
         (start, if sound { Standing::Clean } else { Standing::Firm })
     }
 
-    fn same_links(&self, lends: &Lends) -> bool {
-        lends.plan == self.plan && lends.rules == self.rules && lends.numbers.starts_with(&self.numbers)
+    fn same_but_states(&self, lends: &Lends) -> bool {
+        lends.plan == self.plan && lends.rules == self.rules && lends.node_table.starts_with(&self.node_table)
     }
 
     /// "lent the same, excess aside"
     fn same(&self, lends: &Lends) -> bool {
-        self.same_links(lends) && lends.bytes.starts_with(&self.bytes)
+        self.same_but_states(lends) && lends.state_table.starts_with(&self.state_table)
     }
 
     /// "Where plan and rules name the record's N, S and K and, like the 16-bit numbers, are as at Start and as built,
     /// but run states and maps are any bytes below S".
     fn usable(&self, sizes: Sizes, lends: &Lends) -> bool {
-        let used = &lends.bytes[..self.bytes.len()];
-        self.built.is_some() && self.same_links(lends) && used.iter().all(|&q| (q as usize) < sizes.s)
+        let used = &lends.state_table[..self.state_table.len()];
+        self.built.is_some() && self.same_but_states(lends) && used.iter().all(|&q| (q as usize) < sizes.s)
     }
 
     /// The rule on Start's plan and rules and some bytes.
-    fn on<T>(&self, bytes: &[u8], f: impl FnOnce(&Given) -> T) -> T {
+    fn on<T>(&self, state_table: &[u8], f: impl FnOnce(&Given) -> T) -> T {
         let (plan, rules) = (read_plan(&self.plan).unwrap(), read_rules(&self.rules).unwrap());
         let built = self.built.as_ref().expect("clean or firm");
-        f(&Given { tree: &built.tree, labels: plan.labels, changed: &built.changed, rules: &rules, bytes })
+        f(&Given { tree: &built.tree, labels: plan.labels, changed: &built.changed, rules: &rules, state_table })
     }
 
     /// "the root state, and its yes or no, of a fresh run (.. on Start's plan with the listed labels changed), the
@@ -258,7 +260,7 @@ impl Start {
     fn fresh_answer(&self) -> Told {
         let fresh = fresh_run(&self.plan, &self.rules, &self.nodes, &self.labels).expect("sound");
         let roots = &self.built.as_ref().expect("sound").roots;
-        let links: usize = self.on(&self.bytes, |given| given.parts(roots)).iter().map(|part| part.links).sum();
+        let links: usize = self.on(&self.state_table, |given| given.parts(roots)).iter().map(|part| part.links).sum();
         Told { state: fresh.state as u32, yes: fresh.yes, parts: roots.len() as u32, links: links as u32 }
     }
 

@@ -33,9 +33,9 @@ pub fn by_word(tree: &Tree, plan: &Plan, branch: &Branch, upper: u32, lower: u32
 
 /// Lent bytes with the counts that the headers name, of the lengths that these need.
 struct Question<'a> {
-    links: Lent<'a>,
+    tree: Lent<'a>,
     labels: &'a [u8],
-    bytes: &'a [u8],
+    state_table: &'a [u8],
     s: usize,
     k: usize,
     steps: &'a [u8],
@@ -44,7 +44,7 @@ struct Question<'a> {
 
 /// "A branch question takes N, S and K from the lent headers: 17, also for a header cut short or a number outside its
 /// limits". Offsets and kinds are not looked at.
-fn lent<'a>(plan: &'a [u8], branch: &'a [u8], numbers: &'a [u16], bytes: &'a [u8]) -> Option<Question<'a>> {
+fn lent<'a>(plan: &'a [u8], branch: &'a [u8], node_table: &'a [u16], state_table: &'a [u8]) -> Option<Question<'a>> {
     if plan.len() < 12 || branch.len() < 16 {
         return None;
     }
@@ -54,32 +54,32 @@ fn lent<'a>(plan: &'a [u8], branch: &'a [u8], numbers: &'a [u16], bytes: &'a [u8
     }
     let (n, s, k) = (n as usize, s as usize, k as usize);
     let exact = plan.len() == 12 + 2 * n && branch.len() == 16 + s * k + s;
-    if !exact || numbers.len() < 4 * n || bytes.len() < (s + 1) * n {
+    if !exact || node_table.len() < 4 * n || state_table.len() < (s + 1) * n {
         return None;
     }
     let (steps, marks) = branch[16..].split_at(s * k);
-    Some(Question { links: Lent { nodes: n, numbers }, labels: &plan[12..12 + n], bytes, s, k, steps, marks })
+    Some(Question { tree: Lent { nodes: n, node_table }, labels: &plan[12..12 + n], state_table, s, k, steps, marks })
 }
 
 /// 17, 13, 16, 18 or the answer.
 pub fn on_tables(
     plan: &[u8],
     branch: &[u8],
-    numbers: &[u16],
-    bytes: &[u8],
+    node_table: &[u16],
+    state_table: &[u8],
     upper: u32,
     lower: u32,
 ) -> Result<Answer, u32> {
-    let lent = lent(plan, branch, numbers, bytes).ok_or(17u32)?;
+    let lent = lent(plan, branch, node_table, state_table).ok_or(17u32)?;
     let [upper, lower] = [upper, lower].map(|v| unless(Mistake::NodesCut, v, v & 0xffff) as usize);
-    if upper >= lent.links.nodes || lower >= lent.links.nodes {
+    if upper >= lent.tree.nodes || lower >= lent.tree.nodes {
         return Err(13);
     }
     // by the lent size of the upper node's subtree, which ends at the upper node
-    if lower > upper || upper >= lower + lent.links.size(upper) {
+    if lower > upper || upper >= lower + lent.tree.size(upper) {
         return Err(16);
     }
-    let moves = climb(&lent.links, lower, lent.links.depth(upper))?;
+    let moves = climb(&lent.tree, lower, lent.tree.depth(upper))?;
     lent.answer(upper, &moves)
 }
 
@@ -102,7 +102,7 @@ impl Question<'_> {
     /// The state at the lower end of a move, from the state at its upper end.
     fn through(&self, one: Move, state: usize) -> Result<usize, u32> {
         match one {
-            Move::ByJump(v) => self.inside(self.bytes[(self.s + 1) * v + 1 + state]),
+            Move::ByJump(v) => self.inside(self.state_table[(self.s + 1) * v + 1 + state]),
             Move::ToParent(v) => self.step(state, v),
         }
     }

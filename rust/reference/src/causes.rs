@@ -6,14 +6,14 @@ use crate::mistakes::{made, Mistake};
 use crate::panel::{Lends, Sizes};
 
 /// The four numbers of each node; 0 past the last node.
-struct Numbers<'a> {
+struct NodeTable<'a> {
     n: usize,
-    numbers: &'a [u16],
+    node_table: &'a [u16],
 }
 
-impl Numbers<'_> {
+impl NodeTable<'_> {
     fn cell(&self, v: usize, which: usize) -> usize {
-        self.numbers[..4 * self.n].get(4 * v + which).map_or(0, |&number| number as usize)
+        self.node_table[..4 * self.n].get(4 * v + which).map_or(0, |&number| number as usize)
     }
 
     fn parent(&self, v: usize) -> usize {
@@ -50,22 +50,22 @@ impl Numbers<'_> {
     }
 }
 
-/// A cause in the 16-bit numbers: of what a Start reads.
-pub fn in_numbers(sizes: Sizes, lends: &Lends) -> bool {
-    let numbers = Numbers { n: sizes.n, numbers: lends.numbers };
-    !made(Mistake::LinksAreNoCause) && (0..sizes.n).any(|v| numbers.strays(v) || numbers.is_apart(v))
+/// A cause in the node table: of what a Start reads.
+pub fn in_node_table(sizes: Sizes, lends: &Lends) -> bool {
+    let node_table = NodeTable { n: sizes.n, node_table: lends.node_table };
+    !made(Mistake::NodeTableIsNoCause) && (0..sizes.n).any(|v| node_table.strays(v) || node_table.is_apart(v))
 }
 
 /// A cause anywhere: of what an advance reads, with the labels as the list changes them.
 pub fn anywhere(sizes: Sizes, lends: &Lends, nodes: &[u16], labels: &[u8]) -> bool {
     let Sizes { n, s, k } = sizes;
     let (plan_labels, kinds) = lends.plan[12..].split_at(n);
-    let (states, rules) = (&lends.bytes[..(s + 1) * n], &lends.rules[20..20 + k + s * k * s]);
-    let numbers = Numbers { n, numbers: lends.numbers };
+    let (states, rules) = (&lends.state_table[..(s + 1) * n], &lends.rules[20..20 + k + s * k * s]);
+    let node_table = NodeTable { n, node_table: lends.node_table };
     let no_state = |&q: &u8| q as usize >= s;
     let no_label = |&a: &u8| a as usize >= k;
-    in_numbers(sizes, lends)
+    in_node_table(sizes, lends)
         || states.iter().chain(rules).any(no_state)
         || plan_labels.iter().chain(&changed(plan_labels, nodes, labels)).any(no_label)
-        || (0..n).any(|v| kinds[v] != 0 && numbers.is_childless(v))
+        || (0..n).any(|v| kinds[v] != 0 && node_table.is_childless(v))
 }

@@ -54,15 +54,15 @@ impl Links for crate::tree::Tree {
     }
 }
 
-/// The numbers of a lent node table, for its first `nodes` nodes.
+/// A lent node table, for its first `nodes` nodes.
 pub struct Lent<'a> {
     pub nodes: usize,
-    pub numbers: &'a [u16],
+    pub node_table: &'a [u16],
 }
 
 impl Lent<'_> {
     pub fn size(&self, v: usize) -> usize {
-        self.numbers[4 * v + 3] as usize
+        self.node_table[4 * v + 3] as usize
     }
 }
 
@@ -71,12 +71,12 @@ impl Links for Lent<'_> {
         self.nodes
     }
     fn parent(&self, v: usize) -> usize {
-        self.numbers[4 * v] as usize
+        self.node_table[4 * v] as usize
     }
     fn jump(&self, v: usize) -> usize {
-        self.numbers[4 * v + 1] as usize
+        self.node_table[4 * v + 1] as usize
     }
     fn depth(&self, v: usize) -> usize {
-        self.numbers[4 * v + 2] as usize
+        self.node_table[4 * v + 2] as usize
     }
 }

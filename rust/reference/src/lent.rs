@@ -15,8 +15,8 @@ pub struct View<'a> {
     leaf: &'a [u8],
     inner: &'a [u8],
     marks: &'a [u8],
-    links: Lent<'a>,
-    bytes: &'a [u8],
+    tree: Lent<'a>,
+    state_table: &'a [u8],
 }
 
 impl<'a> View<'a> {
@@ -26,8 +26,8 @@ impl<'a> View<'a> {
         let (labels, kinds) = lends.plan[12..].split_at(n);
         let (leaf, rest) = lends.rules[20..].split_at(k);
         let (inner, marks) = rest.split_at(s * k * s);
-        let links = Lent { nodes: n, numbers: &lends.numbers[..4 * n] };
-        View { sizes, labels, kinds, leaf, inner, marks, links, bytes: &lends.bytes[..(s + 1) * n] }
+        let tree = Lent { nodes: n, node_table: &lends.node_table[..4 * n] };
+        View { sizes, labels, kinds, leaf, inner, marks, tree, state_table: &lends.state_table[..(s + 1) * n] }
     }
 
     /// The listed nodes and the root; for each two neighbours of these, the root apart, the lowest node at or above the
@@ -54,12 +54,12 @@ impl<'a> View<'a> {
     fn meet(&self, u: usize, v: usize) -> Result<usize, u32> {
         let mut x = v;
         while !self.is_below(u, x) {
-            let jump = self.links.jump(x);
+            let jump = self.tree.jump(x);
             if jump >= self.sizes.n {
                 return Err(18);
             }
-            let next = if self.is_below(u, jump) { self.links.parent(x) } else { jump };
-            if next >= self.sizes.n || self.links.depth(next) >= self.links.depth(x) {
+            let next = if self.is_below(u, jump) { self.tree.parent(x) } else { jump };
+            if next >= self.sizes.n || self.tree.depth(next) >= self.tree.depth(x) {
                 return Err(18);
             }
             x = next;
@@ -69,13 +69,13 @@ impl<'a> View<'a> {
 
     /// By the lent size of c.
     fn is_below(&self, v: usize, c: usize) -> bool {
-        v <= c && c < v + self.links.size(c)
+        v <= c && c < v + self.tree.size(c)
     }
 
     /// In post-order the right child of x is the node before it, and the left one stands before the right one's nodes.
     fn children(&self, x: usize) -> Result<(usize, usize), u32> {
         let right = x.checked_sub(1).ok_or(18u32)?;
-        let left = right.checked_sub(self.links.size(right)).ok_or(18u32)?;
+        let left = right.checked_sub(self.tree.size(right)).ok_or(18u32)?;
         Ok((left, right))
     }
 
@@ -88,7 +88,7 @@ impl<'a> View<'a> {
         }
         let (left, right) = self.children(v)?;
         let last_below = |c: usize| handled.iter().copied().rfind(|&(w, _)| self.is_below(w, c));
-        let depth = self.links.depth(v) + 1;
+        let depth = self.tree.depth(v) + 1;
         let unmoved = |state: u8| Part { state, links: 0 };
         let (l, r) = match (last_below(left), last_below(right)) {
             (Some(w), None) | (None, Some(w)) if made(Mistake::ClimbToTheRoot) => return self.climbed(w, depth - 1),
@@ -110,11 +110,11 @@ impl<'a> View<'a> {
 
     /// The climb from a root and its state to a depth.
     fn climbed(&self, (w, from): (usize, u8), depth: usize) -> Result<Part, u32> {
-        let moves = climb(&self.links, w, depth)?;
+        let moves = climb(&self.tree, w, depth)?;
         let mut q = from;
         for &one in &moves {
             q = match one {
-                Move::ByJump(v) => self.state(self.bytes[self.row(v) + 1 + q as usize])?,
+                Move::ByJump(v) => self.state(self.state_table[self.row(v) + 1 + q as usize])?,
                 Move::ToParent(v) => self.to_parent(v, q)?,
             };
         }
@@ -123,10 +123,10 @@ impl<'a> View<'a> {
 
     /// v is the right child where its parent is the next node.
     fn to_parent(&self, v: usize, q: u8) -> Result<u8, u32> {
-        let p = self.links.parent(v);
+        let p = self.tree.parent(v);
         let a = self.labels[unless(Mistake::LabelOfTheNode, p, v)] as usize;
         if p == v + 1 {
-            let left = v.checked_sub(self.links.size(v)).ok_or(18u32)?;
+            let left = v.checked_sub(self.tree.size(v)).ok_or(18u32)?;
             self.rule(self.run(left)?, a, q)
         } else {
             let right = p.checked_sub(1).ok_or(18u32)?;
@@ -147,7 +147,7 @@ impl<'a> View<'a> {
     }
 
     fn run(&self, v: usize) -> Result<u8, u32> {
-        self.state(self.bytes[self.row(v)])
+        self.state(self.state_table[self.row(v)])
     }
 
     fn row(&self, v: usize) -> usize {

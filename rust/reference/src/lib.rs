@@ -32,36 +32,36 @@ use tables::Tables;
 
 /// The tables of a plan and a rule table, or the first of 2 to 11.
 /// Of the buffers only the lengths matter: count of 16-bit numbers, count of bytes.
-pub fn build(plan: &[u8], rules: &[u8], numbers_len: usize, bytes_len: usize) -> Result<Tables, u32> {
-    build_checks(plan, rules, numbers_len, bytes_len)?;
+pub fn build(plan: &[u8], rules: &[u8], node_table_len: usize, state_table_len: usize) -> Result<Tables, u32> {
+    build_checks(plan, rules, node_table_len, state_table_len)?;
     Ok(tables::rule_tables(&read_plan(plan)?, &read_rules(rules)?))
 }
 
 /// 2 to 11 of a build of rule tables.
-pub fn build_checks(plan: &[u8], rules: &[u8], numbers_len: usize, bytes_len: usize) -> Result<(), u32> {
+pub fn build_checks(plan: &[u8], rules: &[u8], node_table_len: usize, state_table_len: usize) -> Result<(), u32> {
     let plan = read_plan(plan)?;
     let rules = read_rules(rules)?;
-    labels_and_buffers(&plan, rules.states, rules.labels, numbers_len, bytes_len)
+    labels_and_buffers(&plan, rules.states, rules.labels, node_table_len, state_table_len)
 }
 
 /// The tables of a plan and a branch table, or the first of 2 to 11.
-pub fn branch_build(plan: &[u8], branch: &[u8], numbers_len: usize, bytes_len: usize) -> Result<Tables, u32> {
+pub fn branch_build(plan: &[u8], branch: &[u8], node_table_len: usize, state_table_len: usize) -> Result<Tables, u32> {
     let plan = read_plan(plan)?;
     let branch = read_branch(branch)?;
-    labels_and_buffers(&plan, branch.states, branch.labels, numbers_len, bytes_len)?;
+    labels_and_buffers(&plan, branch.states, branch.labels, node_table_len, state_table_len)?;
     Ok(tables::branch_tables(&plan, &branch))
 }
 
 /// Are the lent tables what `build` writes? Or the first of 2 to 11.
-pub fn check(plan: &[u8], rules: &[u8], numbers: &[u16], bytes: &[u8]) -> Result<bool, u32> {
-    let built = build(plan, rules, numbers.len(), bytes.len())?;
-    Ok(built.starts(numbers, bytes))
+pub fn check(plan: &[u8], rules: &[u8], node_table: &[u16], state_table: &[u8]) -> Result<bool, u32> {
+    let built = build(plan, rules, node_table.len(), state_table.len())?;
+    Ok(built.starts(node_table, state_table))
 }
 
 /// Are the lent tables what `branch_build` writes? Or the first of 2 to 11.
-pub fn branch_check(plan: &[u8], branch: &[u8], numbers: &[u16], bytes: &[u8]) -> Result<bool, u32> {
-    let built = branch_build(plan, branch, numbers.len(), bytes.len())?;
-    Ok(built.starts(numbers, bytes))
+pub fn branch_check(plan: &[u8], branch: &[u8], node_table: &[u16], state_table: &[u8]) -> Result<bool, u32> {
+    let built = branch_build(plan, branch, node_table.len(), state_table.len())?;
+    Ok(built.starts(node_table, state_table))
 }
 
 /// "every plan label below K? 10; both table buffers long enough? 11"
@@ -69,12 +69,12 @@ fn labels_and_buffers(
     plan: &Plan,
     states: usize,
     labels: usize,
-    numbers_len: usize,
-    bytes_len: usize,
+    node_table_len: usize,
+    state_table_len: usize,
 ) -> Result<(), u32> {
     plan.labels_below(labels)?;
     let n = plan.nodes();
-    if numbers_len < 4 * n || bytes_len < (states + 1) * n {
+    if node_table_len < 4 * n || state_table_len < (states + 1) * n {
         return Err(11);
     }
     Ok(())

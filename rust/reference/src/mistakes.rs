@@ -50,7 +50,7 @@ pub enum Mistake {
     /// Unused entries of a record may be anything.
     TailsFree,
     /// A link that leads outside the plan or does not rise is no cause for 18.
-    LinksAreNoCause,
+    NodeTableIsNoCause,
 }
 
 thread_local! {

@@ -5,8 +5,8 @@
 pub struct Lends<'a> {
     pub plan: &'a [u8],
     pub rules: &'a [u8],
-    pub numbers: &'a [u16],
-    pub bytes: &'a [u8],
+    pub node_table: &'a [u16],
+    pub state_table: &'a [u8],
 }
 
 #[derive(Clone, Copy)]
@@ -62,7 +62,7 @@ impl Sizes {
     pub fn fit(&self, lends: &Lends) -> Result<(), u32> {
         let Sizes { n, s, k } = *self;
         let exact = lends.plan.len() == 12 + 2 * n && lends.rules.len() == 20 + k + s * k * s + s;
-        if exact && lends.numbers.len() >= 4 * n && lends.bytes.len() >= (s + 1) * n {
+        if exact && lends.node_table.len() >= 4 * n && lends.state_table.len() >= (s + 1) * n {
             Ok(())
         } else {
             Err(17)

@@ -6,13 +6,13 @@ use crate::formats::Rules;
 use crate::mistakes::{made, unless, Mistake};
 use crate::tree::Tree;
 
-/// What the rule reads: `labels` are the plan's, `changed` those with the changes; `bytes` is a state table.
+/// What the rule reads: `labels` are the plan's, `changed` those with the changes.
 pub struct Given<'a> {
     pub tree: &'a Tree,
     pub labels: &'a [u8],
     pub changed: &'a [u8],
     pub rules: &'a Rules<'a>,
-    pub bytes: &'a [u8],
+    pub state_table: &'a [u8],
 }
 
 /// The state of a part, and the moves of its climb.
@@ -77,7 +77,7 @@ impl Given<'_> {
         let mut q = from;
         for &one in &moves {
             q = match one {
-                Move::ByJump(v) => self.bytes[self.row(v) + 1 + q as usize],
+                Move::ByJump(v) => self.state_table[self.row(v) + 1 + q as usize],
                 Move::ToParent(v) => {
                     let p = self.tree.parent[v];
                     let (left, right) = self.tree.children[p].expect("a parent is an inner node");
@@ -94,7 +94,7 @@ impl Given<'_> {
     }
 
     fn run(&self, v: usize) -> u8 {
-        self.bytes[self.row(v)]
+        self.state_table[self.row(v)]
     }
 
     fn row(&self, v: usize) -> usize {

@@ -88,7 +88,7 @@ impl Record {
 
 /// 2 to 11.
 fn load(lends: Lends) -> Result<After, u32> {
-    let tables = build(lends.plan, lends.rules, lends.numbers.len(), lends.bytes.len())?;
+    let tables = build(lends.plan, lends.rules, lends.node_table.len(), lends.state_table.len())?;
     Ok((Answer::Accepted, Record::loaded(named(&lends)), Some(tables)))
 }
 

@@ -8,16 +8,17 @@ use crate::tree::Tree;
 /// Both tables, exactly as long as they need to be.
 #[derive(Clone, Debug, PartialEq, Eq)]
 pub struct Tables {
-    pub numbers: Vec<u16>,
-    pub bytes: Vec<u8>,
+    pub node_table: Vec<u16>,
+    pub state_table: Vec<u8>,
 }
 
 impl Tables {
     /// Do the lent buffers start with these tables? Their excess is not looked at.
-    pub fn starts(&self, numbers: &[u16], bytes: &[u8]) -> bool {
-        let looked_at = self.bytes.len() - unless(Mistake::LastByteFree, 0, 1);
-        let starts = numbers.starts_with(&self.numbers) && bytes.starts_with(&self.bytes[..looked_at]);
-        unless(Mistake::ExcessCompared, starts, numbers == self.numbers && bytes == self.bytes)
+    pub fn starts(&self, node_table: &[u16], state_table: &[u8]) -> bool {
+        let looked_at = self.state_table.len() - unless(Mistake::LastByteFree, 0, 1);
+        let starts =
+            node_table.starts_with(&self.node_table) && state_table.starts_with(&self.state_table[..looked_at]);
+        unless(Mistake::ExcessCompared, starts, node_table == self.node_table && state_table == self.state_table)
     }
 }
 
@@ -42,38 +43,38 @@ pub fn run(kinds: &[u8], labels: &[u8], rules: &Rules) -> Vec<u8> {
 pub fn rule_tables(plan: &Plan, rules: &Rules) -> Tables {
     let tree = Tree::of(plan);
     let states = run(plan.kinds, plan.labels, rules);
-    let mut bytes = Vec::new();
+    let mut state_table = Vec::new();
     for (v, &state) in states.iter().enumerate() {
-        bytes.push(state);
+        state_table.push(state);
         for q in 0..rules.states as u8 {
-            bytes.push(state_at_jump(&tree, plan.labels, rules, &states, v, q));
+            state_table.push(state_at_jump(&tree, plan.labels, rules, &states, v, q));
         }
     }
-    Tables { numbers: numbers(&tree), bytes }
+    Tables { node_table: node_table(&tree), state_table }
 }
 
 pub fn branch_tables(plan: &Plan, branch: &Branch) -> Tables {
     let tree = Tree::of(plan);
     let states = states_from_root(&tree, plan.labels, branch);
-    let mut bytes = Vec::new();
+    let mut state_table = Vec::new();
     for (v, &state) in states.iter().enumerate() {
-        bytes.push(state);
+        state_table.push(state);
         let word = labels_down(&tree, plan.labels, tree.jump[v], v);
         for q in 0..branch.states as u8 {
-            bytes.push(word.iter().fold(q, |s, &a| branch.step(s, a)));
+            state_table.push(word.iter().fold(q, |s, &a| branch.step(s, a)));
         }
     }
-    Tables { numbers: numbers(&tree), bytes }
+    Tables { node_table: node_table(&tree), state_table }
 }
 
-fn numbers(tree: &Tree) -> Vec<u16> {
-    let mut numbers = Vec::new();
+fn node_table(tree: &Tree) -> Vec<u16> {
+    let mut node_table = Vec::new();
     for v in 0..=tree.root() {
         for number in [tree.parent[v], tree.jump[v], tree.depth[v], tree.size[v]] {
-            numbers.push(u16::try_from(number).expect("a plan has at most 65,535 nodes"));
+            node_table.push(u16::try_from(number).expect("a plan has at most 65,535 nodes"));
         }
     }
-    numbers
+    node_table
 }
 
 /// "The map gives, for each state assumed at the node, the state that follows at its jump, with the plan's labels and

@@ -1,13 +1,15 @@
 //! `whatif-text write` makes the bytes that the program `whatif` reads from text, `whatif-text show` makes text from such
 //! bytes, `whatif-text dot` draws a plan with the parts of one of its questions, counted from 1; from standard input to
-//! standard output. The form of the text stands in lib.rs.
+//! standard output. The form of the text stands in lib.rs. The status is 0, 1 where the input is wrong or the output can't
+//! be written whole, 2 for other words than these.
 
 use std::io::{self, Read, Write};
 use std::process::exit;
 
 const USAGE: &str = "usage: whatif-text write < TEXT > BYTES
        whatif-text show < BYTES > TEXT
-       whatif-text dot QUESTION < TEXT > GRAPHVIZ";
+       whatif-text dot QUESTION < TEXT > GRAPHVIZ
+       whatif-text --help | --version";
 
 const NOT_WHOLE: &str = "the input is shorter or longer than its three lengths say";
 
@@ -18,15 +20,24 @@ fn main() {
         ["write"] => read_text().and_then(|text| text::write(&text).map_err(|wrong| wrong.to_string())),
         ["show"] => read().and_then(|input| text::show(&input).ok_or_else(|| NOT_WHOLE.into())).map(String::into_bytes),
         ["dot", question] => read_text().and_then(|text| draw(&text, question)).map(String::into_bytes),
+        ["--help"] => Ok(format!("{}\n", USAGE).into_bytes()),
+        ["--version"] => Ok(format!("whatif-text {}\n", env!("CARGO_PKG_VERSION")).into_bytes()),
         _ => {
             eprintln!("{}", USAGE);
             exit(2);
         }
     };
-    if let Err(what) = made.and_then(|bytes| io::stdout().write_all(&bytes).map_err(|error| error.to_string())) {
+    if let Err(what) = made.and_then(|bytes| write_out(&bytes).map_err(|error| error.to_string())) {
         eprintln!("whatif-text: {}", what);
         exit(1);
     }
+}
+
+/// All of it, or an error: what a buffer still holds is written here, where a failure is seen.
+fn write_out(bytes: &[u8]) -> io::Result<()> {
+    let mut out = io::stdout().lock();
+    out.write_all(bytes)?;
+    out.flush()
 }
 
 fn draw(text: &str, question: &str) -> Result<String, String> {

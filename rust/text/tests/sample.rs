@@ -33,7 +33,7 @@ fn the_text_is_the_sample() {
 fn answers(nodes: &[u16], labels: &[u8]) -> String {
     let (plan, rules) = (plan_a(), table_a());
     let tables = reference::build(&plan, &rules, 28, 21).unwrap();
-    let lends = Lends { plan: &plan, rules: &rules, numbers: &tables.numbers, bytes: &tables.bytes };
+    let lends = Lends { plan: &plan, rules: &rules, node_table: &tables.node_table, state_table: &tables.state_table };
     let mut record = Record::fresh().bytes();
     let mut step = |next: Call| {
         let done = call(&record, &next);

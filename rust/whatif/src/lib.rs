@@ -4,8 +4,8 @@
 //! automaton on the words from an upper node down to a lower. Plans and tables are bytes (docs/LAYOUT.md). The library
 //! never allocates; the caller lends the tables. A refused call has changed nothing.
 //!
-//! Order: `sizes` (limits and lengths), `Refusal`, the calls on tables, `Session`, the panel session.
-//! `raw` has the library's own functions, `slices` the same on slices.
+//! Order: `sizes` (limits and lengths), `Refusal`, the calls on tables, `Session`, the panel session, with `Lent`.
+//! The crate `whatif-sys` has the library's own functions. Without the feature `std` this crate needs `core` alone.
 //!
 //! The sample of document 01: plan A of seven nodes, and table A, under which label 0 takes the greater state of two
 //! children and label 1 the lesser.
@@ -37,17 +37,36 @@
 //! # }
 //! ```
 
-pub mod raw;
+#![no_std]
+#![deny(missing_docs, unsafe_op_in_unsafe_fn)]
+
+#[cfg(feature = "std")]
+extern crate std;
+
 mod refusal;
 mod session;
 pub mod sizes;
+#[doc(hidden)]
 pub mod slices;
 
 pub use refusal::Refusal;
-pub use session::{Answer, Progress, Session};
+pub use session::{Answer, Lent, Progress, Session, State};
 
-/// The library's version.
+/// This crate's version.
 pub const VERSION: &str = env!("CARGO_PKG_VERSION");
+
+/// This crate's version, as major * 10000 + minor * 100 + patch: that of the archive it is made for.
+pub const VERSION_NUMBER: u32 = 200;
+
+/// The version of the archive that is linked.
+///
+/// ```
+/// assert_eq!(whatif::version(), whatif::VERSION_NUMBER);
+/// ```
+pub fn version() -> u32 {
+    // SAFETY: it takes nothing
+    unsafe { whatif_sys::whatif_version() }
+}
 
 /// What a fresh run tells.
 #[derive(Clone, Copy, Debug, PartialEq, Eq)]
@@ -150,9 +169,5 @@ pub fn branch(
 
 /// 0 is accepted; any other number is a refusal's.
 fn accepted(number: u32) -> Result<(), Refusal> {
-    match Refusal::from_number(number) {
-        None if number == 0 => Ok(()),
-        None => panic!("the library answered {}, which this wrapper does not know", number),
-        Some(refusal) => Err(refusal),
-    }
+    Refusal::from_number(number).map_or(Ok(()), Err)
 }

@@ -1,39 +1,51 @@
 //! Why a call was refused: the pinned numbers of include/whatif.h, with its sentences.
 
-use std::fmt;
+use core::fmt;
 
 macro_rules! refusals {
     ($($name:ident = $number:literal, $sentence:literal;)*) => {
         /// Why a call was refused. A refused call has changed nothing.
         #[derive(Clone, Copy, Debug, PartialEq, Eq, Hash)]
         #[non_exhaustive]
-        #[repr(u32)]
         pub enum Refusal {
-            $(#[doc = $sentence] $name = $number,)*
+            $(#[doc = $sentence] $name,)*
+            /// A number that this version does not know: the archive is of another one.
+            Unknown(u32),
         }
 
         impl Refusal {
-            /// All of them, by rising number.
+            /// All that this version knows, by rising number.
             pub const ALL: &'static [Refusal] = &[$(Refusal::$name),*];
 
-            /// The refusal of a number, if it has one.
+            /// The refusal of a number; none of 0, which is no refusal.
             ///
             /// ```
             /// use whatif::Refusal;
             /// assert_eq!(Refusal::from_number(5), Some(Refusal::PlanTree));
             /// assert_eq!(Refusal::from_number(0), None);
+            /// assert_eq!(Refusal::from_number(999), Some(Refusal::Unknown(999)));
             /// ```
-            pub fn from_number(number: u32) -> Option<Refusal> {
+            pub const fn from_number(number: u32) -> Option<Refusal> {
                 match number {
+                    0 => None,
                     $($number => Some(Refusal::$name),)*
-                    _ => None,
+                    other => Some(Refusal::Unknown(other)),
                 }
             }
 
-            /// One plain sentence.
-            pub fn sentence(self) -> &'static str {
+            /// The library's number, as document 01 gives it.
+            pub const fn number(self) -> u32 {
+                match self {
+                    $(Refusal::$name => $number,)*
+                    Refusal::Unknown(number) => number,
+                }
+            }
+
+            /// One sentence.
+            pub const fn sentence(self) -> &'static str {
                 match self {
                     $(Refusal::$name => $sentence,)*
+                    Refusal::Unknown(_) => "This is no answer of this version.",
                 }
             }
         }
@@ -61,17 +73,11 @@ refusals! {
     LentValue = 18, "A value read leads outside the plan, the states or the labels, or a climb does not rise.";
 }
 
-impl Refusal {
-    /// The library's number, as document 01 gives it.
-    pub fn number(self) -> u32 {
-        self as u32
-    }
-}
-
 impl fmt::Display for Refusal {
     fn fmt(&self, f: &mut fmt::Formatter<'_>) -> fmt::Result {
         write!(f, "refused {}: {}", self.number(), self.sentence())
     }
 }
 
+#[cfg(feature = "std")]
 impl std::error::Error for Refusal {}

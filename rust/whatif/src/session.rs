@@ -10,7 +10,7 @@ use crate::{accepted, slices, Refusal};
 /// [`Refusal::SessionState`].
 ///
 /// ```
-/// use whatif::{Progress, Refusal, Session};
+/// use whatif::{Lent, Progress, Refusal, Session, State};
 /// # fn main() -> Result<(), Refusal> {
 /// # let plan: Vec<u8> = [7u32, 12, 19].iter().flat_map(|n| n.to_le_bytes())
 /// #     .chain([1, 1, 1, 0, 1, 0, 1]).chain([0, 0, 1, 0, 0, 1, 1]).collect();
@@ -21,20 +21,20 @@ use crate::{accepted, slices, Refusal};
 /// let mut state_table = [0u8; whatif::sizes::state_table_len(7, 2)];
 /// let mut session = Session::new();
 /// session.load(&plan, &rules, &mut node_table, &mut state_table)?;
+/// let lent = Lent { plan: &plan, rules: &rules, node_table: &node_table, state_table: &state_table };
 ///
 /// // what if node 0 took label 0 and node 3 label 1?
-/// let parts = session.start(&plan, &rules, &node_table, &state_table, &[0, 3], &[0, 1])?;
+/// let parts = session.start(&lent, &[0, 3], &[0, 1])?;
 /// assert_eq!(parts, 5);
-/// let mut handled = 1;
-/// while session.advance(&plan, &rules, &node_table, &state_table)? == Progress::More {
-///     handled += 1;
+/// while session.advance(&lent)? == Progress::More {
+///     println!("{} of {} parts", session.parts_done(), session.parts());
 /// }
-/// assert_eq!(handled, parts);
+/// assert_eq!((session.state(), session.parts_done()), (Some(State::Answered), parts));
 /// let answer = session.read()?;
 /// assert_eq!((answer.state, answer.yes, answer.parts, answer.links), (0, false, 5, 0));
 ///
 /// // a refused call changes nothing: the answer is still there
-/// let refused = session.start(&plan, &rules, &node_table, &state_table, &[7], &[0]);
+/// let refused = session.start(&lent, &[7], &[0]);
 /// assert_eq!(refused, Err(Refusal::Node));
 /// assert_eq!(session.read(), Ok(answer));
 /// # Ok(())
@@ -43,6 +43,32 @@ use crate::{accepted, slices, Refusal};
 #[derive(Clone, Debug, PartialEq, Eq)]
 pub struct Session {
     record: [u8; RECORD_BYTES],
+}
+
+/// What is lent with each `start` and `advance`, by name: a plan and rules are both bytes, and easily exchanged.
+#[derive(Clone, Copy, Debug, PartialEq, Eq)]
+pub struct Lent<'a> {
+    /// The plan.
+    pub plan: &'a [u8],
+    /// The rule table.
+    pub rules: &'a [u8],
+    /// The node table that `load` wrote.
+    pub node_table: &'a [u16],
+    /// The state table that `load` wrote.
+    pub state_table: &'a [u8],
+}
+
+/// The state of a session.
+#[derive(Clone, Copy, Debug, PartialEq, Eq, Hash)]
+pub enum State {
+    /// No plan is loaded.
+    Empty,
+    /// A plan is loaded, and no question is put.
+    Loaded,
+    /// A question has parts left.
+    Running,
+    /// A question is answered.
+    Answered,
 }
 
 /// What an advance tells.
@@ -104,28 +130,16 @@ impl Session {
 
     /// Puts a question: node `nodes[i]` takes `labels[i]`. Tells the number of its parts; the session is running then.
     /// Refused with 1, 17, 12, 13, 14, 15, 18 (in this order).
-    pub fn start(
-        &mut self,
-        plan: &[u8],
-        rules: &[u8],
-        node_table: &[u16],
-        state_table: &[u8],
-        nodes: &[u16],
-        labels: &[u8],
-    ) -> Result<u32, Refusal> {
+    pub fn start(&mut self, lent: &Lent<'_>, nodes: &[u16], labels: &[u8]) -> Result<u32, Refusal> {
+        let Lent { plan, rules, node_table, state_table } = *lent;
         let mut parts = 0;
         accepted(slices::start(&mut self.record, plan, rules, node_table, state_table, nodes, labels, &mut parts))?;
         Ok(parts)
     }
 
     /// Handles the next part. The session is answered after the last one. Refused with 1, 17, 18.
-    pub fn advance(
-        &mut self,
-        plan: &[u8],
-        rules: &[u8],
-        node_table: &[u16],
-        state_table: &[u8],
-    ) -> Result<Progress, Refusal> {
+    pub fn advance(&mut self, lent: &Lent<'_>) -> Result<Progress, Refusal> {
+        let Lent { plan, rules, node_table, state_table } = *lent;
         let mut finished = 0;
         accepted(slices::advance(&mut self.record, plan, rules, node_table, state_table, &mut finished))?;
         Ok(if finished == 1 { Progress::Finished } else { Progress::More })
@@ -146,6 +160,43 @@ impl Session {
         accepted(slices::read(&self.record, &mut told))?;
         let [state, yes, parts, links] = told;
         Ok(Answer { state: state as u8, yes: yes == 1, parts, links })
+    }
+}
+
+/// What the record tells, from single bytes of it: nothing else is tested.
+impl Session {
+    /// The state; none where the record's first byte is not one of a state.
+    ///
+    /// ```
+    /// use whatif::{Session, State};
+    /// assert_eq!(Session::new().state(), Some(State::Empty));
+    /// assert_eq!(Session::from_bytes([9; 967]).state(), None);
+    /// ```
+    pub const fn state(&self) -> Option<State> {
+        match self.record[0] {
+            0 => Some(State::Empty),
+            1 => Some(State::Loaded),
+            2 => Some(State::Running),
+            3 => Some(State::Answered),
+            _ => None,
+        }
+    }
+
+    /// The parts of a question that is running or answered, else 0.
+    pub const fn parts(&self) -> u32 {
+        self.told(7)
+    }
+
+    /// How many of them are handled.
+    pub const fn parts_done(&self) -> u32 {
+        self.told(8)
+    }
+
+    const fn told(&self, at: usize) -> u32 {
+        match self.state() {
+            None => 0,
+            Some(_) => self.record[at] as u32,
+        }
     }
 }
 

@@ -1,8 +1,12 @@
 //! Limits and sizes, as the macros of include/whatif.h have them.
 
+/// The most nodes of a plan. An inner node has two children, so a plan has an odd number of them.
 pub const MAX_NODES: usize = 65_535;
+/// The most states of a table.
 pub const MAX_STATES: usize = 16;
+/// The most labels of a table.
 pub const MAX_LABELS: usize = 64;
+/// The most changes in a list.
 pub const MAX_CHANGES: usize = 64;
 /// The most parts that a question can have: 4 × 64 - 2.
 pub const MAX_PARTS: usize = 254;
@@ -11,7 +15,7 @@ pub const MAX_DEPTH: usize = 32_767;
 
 /// Bytes of a session's record.
 pub const RECORD_BYTES: usize = 967;
-/// The version of the record's layout.
+/// The version of the record's layout. Records of different versions differ in length.
 pub const RECORD_LAYOUT: usize = 1;
 
 /// Bytes of a plan of `n` nodes.

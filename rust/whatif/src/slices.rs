@@ -1,7 +1,9 @@
 //! The library's functions on slices: each pointer with its own slice's count, kept apart by the borrows. The answer is a
 //! number, 0 or a refusal's; what is told goes to the last parameter, in the header's order, and only where that is 0.
+//! Not for callers: the crate's own functions are. The comparison calls these, to see every number and every place.
+#![allow(missing_docs)]
 
-use crate::raw;
+use whatif_sys as raw;
 
 type Build = unsafe extern "C" fn(*const u8, usize, *const u8, usize, *mut u16, usize, *mut u8, usize) -> u32;
 type Check =
@@ -110,7 +112,7 @@ pub fn branch(
 pub use session::*;
 
 mod session {
-    use crate::raw;
+    use whatif_sys as raw;
 
     pub fn load(record: &mut [u8], plan: &[u8], rules: &[u8], node_table: &mut [u16], state_table: &mut [u8]) -> u32 {
         // SAFETY: each pointer comes with its own slice's count, and the borrows keep the buffers apart

@@ -6,37 +6,10 @@ use Rattle.whatif.proofs.clear.Reads as reads
 use Rattle.whatif.proofs.clear.Lts as lts
 use Rattle.session.proofs.state.Session.fresh.Reads as fresh-reads
 use Rattle.session.proofs.state.Session.load.Reads as load-reads
-use Rattle.whatif.proofs.input.bytes_space.Reads as bytes-space-reads
-use Rattle.whatif.proofs.input.nums_space.Reads as nums-space-reads
+use Rattle.whatif.proofs.input.state_table_space.Reads as bytes-space-reads
+use Rattle.whatif.proofs.input.node_table_space.Reads as nums-space-reads
 use Rattle.whatif.proofs.put_questions.Reads as put-questions-reads
 use Rattle.whatif.proofs.say_refused.Reads as say-refused-reads
-
-nums-space-requires : tie.Need-nums-space-requires
-nums-space-requires c κs = search needs
-
-bytes-space-requires : tie.Need-bytes-space-requires
-bytes-space-requires c κs = search needs
-
-fresh-requires : tie.Need-fresh-requires
-fresh-requires c κs = search needs
-
-slice-aggregate-load : tie.Need-slice-aggregate-load
-slice-aggregate-load c = search needs
-
-slice-aggregate-load-2 : tie.Need-slice-aggregate-load-2
-slice-aggregate-load-2 c = search needs
-
-load-requires : tie.Need-load-requires
-load-requires c κs = search needs
-
-enum-told : tie.Need-enum-told
-enum-told c = search needs
-
-slice-aggregate-put-questions : tie.Need-slice-aggregate-put-questions
-slice-aggregate-put-questions c = search needs
-
-slice-aggregate-put-questions-2 : tie.Need-slice-aggregate-put-questions-2
-slice-aggregate-put-questions-2 c = search needs
 
 put-questions-requires : tie.Need-put-questions-requires
 put-questions-requires c κs =
@@ -48,37 +21,25 @@ put-questions-requires c κs =
     let s = n .before .before .before in
     let a = s .args in (
       s .pre,
-      load-cleared (f .fresh .result) (d .load .result .rec) (a .plan .now) (a .rules .now) (n .nums-space .result)
-          (b .bytes-space .result) _ _ (d .load .result .told) (f .fresh .ensures) (m .enum-told .given .1) (d .load .ensures),
+      load-cleared (f .fresh .result) (d .load .result .session) (a .plan .now) (a .rules .now) (n .node-table-space .result)
+          (b .state-table-space .result) _ _ (d .load .result .answer) (f .fresh .ensures .0) (m .enum-told .given .1) (d .load .ensures),
     )
-
-enum-known-told : tie.Need-enum-known-told
-enum-known-told c = search needs
-
-say-refused-requires : tie.Need-say-refused-requires
-say-refused-requires c κs = search needs
-
-returns : tie.Need-returns
-returns c = search needs
-
-returns-2 : tie.Need-returns-2
-returns-2 c = search needs
 
 pub clear-spec : {M : Type 1} → statement M
 clear-spec =
     tie.close
     (tie.spec
-    nums-space-requires
-    bytes-space-requires
-    fresh-requires
-    slice-aggregate-load
-    slice-aggregate-load-2
-    load-requires
-    enum-told
-    slice-aggregate-put-questions
-    slice-aggregate-put-questions-2
+    (λ c κs. search needs)
+    (λ c κs. search needs)
+    (λ c κs. search needs)
+    (λ c. search needs)
+    (λ c. search needs)
+    (λ c κs. search needs)
+    (λ c. search needs)
+    (λ c. search needs)
+    (λ c. search needs)
     put-questions-requires
-    enum-known-told
-    say-refused-requires
-    returns
-    returns-2)
+    (λ c. search needs)
+    (λ c κs. search needs)
+    (λ c. search needs)
+    (λ c. search needs))

@@ -12,10 +12,10 @@ use Rattle.whatif.proofs.input.asked_space.Reads as asked-space-reads
 use Rattle.whatif.proofs.some_questions.Reads as some-questions-reads
 
 abbrev Inv-loop : tie.InvT-loop
-Inv-loop loaded plan rules nums bytes stated asked₀ have₀ left₀ asked have left = (have + left ≤ 4294967295) × Keeps asked have
+Inv-loop loaded plan rules nodeTable stateTable stated asked₀ have₀ left₀ asked have left = (have + left ≤ 4294967295) × Keeps asked have
 
 abbrev μ-loop : tie.MeasureT-loop
-μ-loop loaded plan rules nums bytes stated asked₀ have₀ left₀ asked have left = left
+μ-loop loaded plan rules nodeTable stateTable stated asked₀ have₀ left₀ asked have left = left
 
 asked-space-requires : tie.Need-asked-space-requires Inv-loop μ-loop
 asked-space-requires c κs = search needs

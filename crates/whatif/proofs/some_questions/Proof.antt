@@ -14,26 +14,11 @@ use Rattle.whatif.proofs.chunk.take_in.Reads as take-in-reads
 use Rattle.whatif.proofs.input.chunk_space.Reads as chunk-space-reads
 use Rattle.whatif.proofs.input.read_some.Reads as read-some-reads
 
-chunk-space-requires : tie.Need-chunk-space-requires
-chunk-space-requires c κs = search needs
-
-slice-aggregate-read-some : tie.Need-slice-aggregate-read-some
-slice-aggregate-read-some c = search needs
-
-read-some-requires : tie.Need-read-some-requires
-read-some-requires c κs = search needs
-
-large-buffer-requires : tie.Need-large-buffer-requires
-large-buffer-requires c κs = search needs
-
 array-share-prefix-space : tie.Need-array-share-prefix-space
 array-share-prefix-space c = c .before .before .read-some .ensures .1 .1 .0
 
 slice-aggregate-take-in : tie.Need-slice-aggregate-take-in
 slice-aggregate-take-in c = c .before .before .before .read-some .ensures .1 .1 .1
-
-slice-aggregate-take-in-2 : tie.Need-slice-aggregate-take-in-2
-slice-aggregate-take-in-2 c = search needs
 
 take-in-requires : tie.Need-take-in-requires
 take-in-requires c κs =
@@ -73,12 +58,6 @@ array-share-prefix-out c = fits (c .before .before .before)
 slice-aggregate-write-all : tie.Need-slice-aggregate-write-all
 slice-aggregate-write-all c = sym (length-take-le _ _ (fits (c .before .before .before .before)))
 
-write-all-requires : tie.Need-write-all-requires
-write-all-requires c κs = search needs
-
-same-length : tie.Need-same-length
-same-length c = search needs
-
 returns : tie.Need-returns
 returns c =
     let t = c .before .before .before .before .before in
@@ -92,16 +71,16 @@ pub some-questions-spec : {M : Type 1} → statement M
 some-questions-spec =
     tie.close
     (tie.spec
-    chunk-space-requires
-    slice-aggregate-read-some
-    read-some-requires
-    large-buffer-requires
+    (λ c κs. search needs)
+    (λ c. search needs)
+    (λ c κs. search needs)
+    (λ c κs. search needs)
     array-share-prefix-space
     slice-aggregate-take-in
-    slice-aggregate-take-in-2
+    (λ c. search needs)
     take-in-requires
     array-share-prefix-out
     slice-aggregate-write-all
-    write-all-requires
-    same-length
+    (λ c κs. search needs)
+    (λ c. search needs)
     returns)

@@ -57,8 +57,8 @@ fn wrong_length(built: &Built, way: usize, random: &mut Random) -> Built {
         7 => header(&mut wrong.case.branch, 0, *random.pick(&[0, 17, 65_536 + case.s, u32::MAX as usize])),
         8 => header(&mut wrong.case.branch, 4, *random.pick(&[0, 65, 65_536 + case.k, u32::MAX as usize])),
         9 => [0, 4].iter().for_each(|&at| header(&mut wrong.case.branch, at, u32::MAX as usize)),
-        10 => wrong.numbers.truncate(shorter(case.numbers_len(), random)),
-        _ => wrong.bytes.truncate(shorter(case.bytes_len(), random)),
+        10 => wrong.node_table.truncate(shorter(case.node_table_len(), random)),
+        _ => wrong.state_table.truncate(shorter(case.state_table_len(), random)),
     }
     wrong
 }
@@ -76,7 +76,7 @@ pub fn refusals(case: Case, way: usize, random: &mut Random, counts: &mut Counts
     // not below: a node and the root, the wrong way round; a lower node whose jump leads outside gets 18
     let (root, v, out) = (n as u32 - 1, random.below(n - 1) as u32, no_node(n, random));
     let mut damaged = good.clone();
-    damaged.numbers[4 * v as usize + 1] = u16::MAX;
+    damaged.node_table[4 * v as usize + 1] = u16::MAX;
     let (short, both) = (wrong_length(&good, way, random), wrong_length(&damaged, way, random));
     for (built, upper, lower, wanted, what) in [
         (&good, root, v, 0, "no fault"),

@@ -148,8 +148,8 @@ impl World<'_> {
             let faults = [*random.pick(&BUILD_CHECKS), *random.pick(&BUILD_CHECKS)];
             input.lay(&faults[random.below(2)..], random);
         }
-        let (numbers, bytes) = (random.numbers(input.numbers_len), random.bytes(input.bytes_len));
-        let lent = Lent { plan: input.plan, rules: input.table, numbers, bytes };
+        let (node_table, state_table) = (random.numbers(input.node_table_len), random.bytes(input.state_table_len));
+        let lent = Lent { plan: input.plan, rules: input.table, node_table, state_table };
         let answer = session.panel.call(&Call::Load(lent.lends()), random);
         if answer == Answer::Accepted {
             // what Load wrote

@@ -1,5 +1,5 @@
-//! Sessions on lends that are not as built: numbers, bytes, labels, kinds, headers and rules with other values. Every
-//! answer and every record is the reference's, which follows the lent values and gives 18 where one leads outside.
+//! Sessions on lends that are not as built: node table, state table, labels, kinds, headers and rules with other
+//! values. Every answer and every record is the reference's, which follows the lent values and gives 18 where one leads outside.
 
 use crate::alterations::{Alteration, ALTERATIONS};
 use crate::counts::Counts;
@@ -44,9 +44,9 @@ pub fn everything(random: &mut Random, counts: &mut Counts) {
         }
     }
     if random.below(5) == 0 {
-        bad.numbers = random.numbers(bad.numbers.len());
+        bad.node_table = random.numbers(bad.node_table.len());
         let n = case.n as u16;
-        bad.numbers.iter_mut().for_each(|number| *number %= n);
+        bad.node_table.iter_mut().for_each(|number| *number %= n);
     }
     let mut panel = Panel::loaded(&good, random);
     let came = ask(&mut panel, &case, &good, &bad, random);

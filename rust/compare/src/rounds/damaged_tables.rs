@@ -15,19 +15,20 @@ pub fn round(random: &mut Random, counts: &mut Counts) {
     }
 }
 
-/// Damages numbers, bytes, or labels, steps and marks: a few or all of them, inside the plan and the states or not.
+/// Damages the node table, the state table, or labels, steps and marks: a few or all of them, inside the plan and the
+/// states or not.
 fn damaged(case: Case, random: &mut Random) -> Built {
     let mut built = Built::new(Kind::Branch, case, random);
     let (n, s, k) = (built.case.n, built.case.s, built.case.k);
     let share = *random.pick(&[1, 2, 10, 50]);
     let inside = random.below(2) == 0;
-    let (numbers, states) = if inside { (n, s) } else { (65_536, s + 2) };
+    let (node_table, states) = if inside { (n, s) } else { (65_536, s + 2) };
     let which = random.below(7);
     if which & 1 == 0 {
-        damage(&mut built.numbers, share, random, |random| random.below(numbers) as u16);
+        damage(&mut built.node_table, share, random, |random| random.below(node_table) as u16);
     }
     if which & 2 == 0 {
-        damage(&mut built.bytes, share, random, |random| random.below(states) as u8);
+        damage(&mut built.state_table, share, random, |random| random.below(states) as u8);
     }
     if which & 4 == 0 {
         damage(&mut built.case.plan[12..12 + n], share, random, |random| random.below(k + 1) as u8);

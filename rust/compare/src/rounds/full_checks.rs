@@ -19,9 +19,9 @@ pub fn round(random: &mut Random, counts: &mut Counts) {
 }
 
 /// What the full check says of some tables, compared.
-fn says(built: &Built, numbers: &[u16], bytes: &[u8], random: &mut Random) -> bool {
+fn says(built: &Built, node_table: &[u16], state_table: &[u8], random: &mut Random) -> bool {
     let table = built.case.table(built.kind);
-    calls::check(built.kind, &built.case.plan, table, numbers, bytes, random).expect("accepted")
+    calls::check(built.kind, &built.case.plan, table, node_table, state_table, random).expect("accepted")
 }
 
 /// One entry altered: at the root, at a leaf or at another node; one of the four numbers, the state or the map.
@@ -34,41 +34,41 @@ pub fn single_entry(built: &Built, random: &mut Random, counts: &mut Counts) {
         0 => "a leaf",
         _ => "another node",
     };
-    let (mut numbers, mut bytes) = (built.numbers.clone(), built.bytes.clone());
+    let (mut node_table, mut state_table) = (built.node_table.clone(), built.state_table.clone());
     let entry = match random.below(6) {
         at @ 0..=3 => {
-            numbers[4 * v + at] ^= 1 << random.below(16);
+            node_table[4 * v + at] ^= 1 << random.below(16);
             ["parent", "jump", "depth", "size"][at]
         }
         4 => {
-            bytes[(s + 1) * v] ^= 1 << random.below(8);
+            state_table[(s + 1) * v] ^= 1 << random.below(8);
             "state"
         }
         _ => {
-            bytes[(s + 1) * v + random.between(1, s)] ^= 1 << random.below(8);
+            state_table[(s + 1) * v + random.between(1, s)] ^= 1 << random.below(8);
             "map"
         }
     };
-    assert!(!says(built, &numbers, &bytes, random), "{} of {} altered", entry, node);
-    assert!(says(built, &built.numbers, &built.bytes, random));
+    assert!(!says(built, &node_table, &state_table, random), "{} of {} altered", entry, node);
+    assert!(says(built, &built.node_table, &built.state_table, random));
     counts.add(format!("no: {} of {}", entry, node));
 }
 
 /// Tables that fit together entry by entry, from another start at the root.
 pub fn wrong_root(built: &Built, random: &mut Random, counts: &mut Counts) {
-    let mut deeper = built.numbers.clone();
-    deeper[..built.case.numbers_len()].iter_mut().skip(2).step_by(4).for_each(|depth| *depth += 1);
-    assert!(!says(built, &deeper, &built.bytes, random), "all depths one too large");
+    let mut deeper = built.node_table.clone();
+    deeper[..built.case.node_table_len()].iter_mut().skip(2).step_by(4).for_each(|depth| *depth += 1);
+    assert!(!says(built, &deeper, &built.state_table, random), "all depths one too large");
     counts.add("no: all depths one too large");
     if built.case.s < 2 {
         return;
     }
     // every map followed by one more exchange of two states, which alters the root's map too
-    let mut exchanged = built.bytes.clone();
-    for row in exchanged[..built.case.bytes_len()].chunks_mut(built.case.s + 1) {
+    let mut exchanged = built.state_table.clone();
+    for row in exchanged[..built.case.state_table_len()].chunks_mut(built.case.s + 1) {
         row[1..].iter_mut().filter(|state| **state < 2).for_each(|state| *state = 1 - *state);
     }
-    assert!(!says(built, &built.numbers, &exchanged, random), "all maps with two states exchanged");
+    assert!(!says(built, &built.node_table, &exchanged, random), "all maps with two states exchanged");
     counts.add("no: all maps with two states exchanged");
 }
 
@@ -90,21 +90,21 @@ pub fn something_else(kind: Kind, random: &mut Random, counts: &mut Counts) {
         }
     }
     let other = Built::new(kind, other, random);
-    let yes = says(&other, &built.numbers, &built.bytes, random);
-    assert_eq!(yes, (&other.numbers, &other.bytes) == (&built.numbers, &built.bytes));
+    let yes = says(&other, &built.node_table, &built.state_table, random);
+    assert_eq!(yes, (&other.node_table, &other.state_table) == (&built.node_table, &built.state_table));
     counts.add(if yes { "yes: tables of something like it" } else { "no: tables of something else" });
 }
 
-/// Any numbers and bytes at all.
+/// Any tables at all.
 pub fn any_tables(random: &mut Random, counts: &mut Counts) {
     let case = Case::random(20, random);
     let kind = *random.pick(&KINDS);
     let limit = random.between(1, case.n);
-    let mut numbers = random.numbers(case.numbers_len());
+    let mut node_table = random.numbers(case.node_table_len());
     if random.below(2) == 0 {
-        numbers.iter_mut().for_each(|number| *number %= limit as u16 + 1);
+        node_table.iter_mut().for_each(|number| *number %= limit as u16 + 1);
     }
-    let bytes = random.bytes_below(case.bytes_len(), case.s + 1);
-    let _ = calls::check(kind, &case.plan, case.table(kind), &numbers, &bytes, random);
+    let state_table = random.bytes_below(case.state_table_len(), case.s + 1);
+    let _ = calls::check(kind, &case.plan, case.table(kind), &node_table, &state_table, random);
     counts.add("any tables");
 }

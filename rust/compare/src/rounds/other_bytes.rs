@@ -1,5 +1,5 @@
-//! Run states and maps that are any bytes below S, under plan, rules and numbers as built: "an advance goes on as always
-//! and stores and counts what this rule gives on those bytes". The book replays the rule on the tree.
+//! Run states and maps that are any bytes below S, under plan, rules and node table as built: "an advance goes on as
+//! always and stores and counts what this rule gives on those bytes". The book replays the rule on the tree.
 
 use crate::alterations::Alteration;
 use crate::counts::Counts;
@@ -24,7 +24,7 @@ fn altered(lent: &Lent, case: &Case, random: &mut Random) -> Lent {
     if random.below(2) == 0 {
         Alteration::BytesBelow.lay(&mut other, case, random);
     } else {
-        other.bytes = random.bytes_below(lent.bytes.len(), case.s);
+        other.state_table = random.bytes_below(lent.state_table.len(), case.s);
     }
     other
 }

@@ -43,12 +43,12 @@ pub fn any_set(checks: &[u32], random: &mut Random) -> Vec<u32> {
 pub fn build_and_check(case: &Case, kind: Kind, faults: &[u32], random: &mut Random, counts: &mut Counts) {
     let mut input = Input::new(case, kind, random);
     input.lay(faults, random);
-    let lens = (input.numbers_len, input.bytes_len);
+    let lens = (input.node_table_len, input.state_table_len);
     let wanted = faults.first().copied();
     let built = calls::build(kind, &input.plan, &input.table, lens, random);
     assert_eq!(built.err(), wanted, "the build of {:?} with {:?}", kind, faults);
-    let (numbers, bytes) = (random.numbers(lens.0), random.bytes(lens.1));
-    let checked = calls::check(kind, &input.plan, &input.table, &numbers, &bytes, random);
+    let (node_table, state_table) = (random.numbers(lens.0), random.bytes(lens.1));
+    let checked = calls::check(kind, &input.plan, &input.table, &node_table, &state_table, random);
     assert_eq!(checked.err(), wanted, "the full check of {:?} with {:?}", kind, faults);
     counts.add(format!("{:?}: build and full check, {}", kind, named(wanted)));
 }

@@ -49,8 +49,8 @@ fn load(faults: &[u32], random: &mut Random) -> Answer {
     let mut input = Input::new(&scene.case, Kind::Rules, random);
     let of_input: Vec<u32> = faults.iter().copied().filter(|fault| BUILD_CHECKS.contains(fault)).collect();
     input.lay(&of_input, random);
-    let (numbers, bytes) = (random.numbers(input.numbers_len), random.bytes(input.bytes_len));
-    let lent = Lent { plan: input.plan, rules: input.table, numbers, bytes };
+    let (node_table, state_table) = (random.numbers(input.node_table_len), random.bytes(input.state_table_len));
+    let lent = Lent { plan: input.plan, rules: input.table, node_table, state_table };
     let record = scene.record(&[Phase::Empty, Phase::Loaded, Phase::Answered], faults, random);
     sides::call(&record, &Call::Load(lent.lends()), random).answer
 }
@@ -130,7 +130,7 @@ impl Scene {
         let has = |number: &u32| faults.contains(number);
         if has(&18) {
             // no jump leads inside the plan, and no result is a state
-            self.lent.numbers.iter_mut().skip(1).step_by(4).for_each(|jump| *jump = u16::MAX);
+            self.lent.node_table.iter_mut().skip(1).step_by(4).for_each(|jump| *jump = u16::MAX);
             self.lent.rules[20..].fill(255);
         }
         for check in [15, 14, 13, 12].into_iter().filter(has) {

@@ -5,22 +5,24 @@ use native.Mathlib.Omega.{arith}
 use lib.ListN.{length, take, drop}
 use borrow.Author.Tests.{not-true, not-false}
 use Rattle.formats.specs.Rules.{stateCount, labelCount}
-use Rattle.branches.proofs.FitLaws.{LentFits, lent-fits}
+use Rattle.formats.specs.Buffers.{branchTables}
+use Rattle.formats.proofs.BufferLaws.{Headed, headed-are}
 use Rattle.branches.proofs.AskParts.{Handed, handed}
 use Rattle.branches.proofs.AskAnswer.{compose-args, finish-args, answer-none, answer-some}
 use borrow.Author.Needs.{needs}
+use Rattle.formats.proofs.bytes.read32.Reads as read32-reads
+use Rattle.node_tables.proofs.moves.depth_at.Reads as depth-at-reads
+use Rattle.tables.proofs.branch_climb.compose_climb.Reads as compose-climb-reads
 use Rattle.branches.proofs.ask.answer_branch.Statement.{statement}
 use Rattle.branches.proofs.ask.answer_branch.Tie as tie
 use Rattle.branches.proofs.ask.answer_branch.Reads as reads
 use Rattle.branches.proofs.ask.answer_branch.Lts as lts
 use Rattle.branches.proofs.ask.finish_answer.Reads as finish-answer-reads
-use Rattle.branches.proofs.climb.compose_climb.Reads as compose-climb-reads
-use Rattle.formats.proofs.bytes.read32.Reads as read32-reads
-use Rattle.links.proofs.moves.depth_at.Reads as depth-at-reads
 
 -- what the lent headers and lengths say
-fit : (s : tie.Start) → LentFits (s .args .plan .now) (s .args .branch .now) (s .args .nums .now) (s .args .bytes .now)
-fit s = lent-fits _ _ _ _ (s .pre .fits)
+fit : (s : tie.Start) → let g = s .args in
+    Headed branchTables (g .plan .now) (g .branch .now) (length (g .node-table .now)) (length (g .state-table .now))
+fit s = headed-are _ _ _ _ _ (s .pre .fits)
 
 -- the steps end inside the branch table
 steps-end : (c : tie.After-read323) → 16 + c .before .read322 .result * c .read323 .result
@@ -30,7 +32,7 @@ steps-end c =
     let e : c .before .read322 .result * c .read323 .result
     ≡ stateCount (s .args .branch .now) * labelCount (s .args .branch .now) =
     ap₂ (λ (i j : ℕ). i * j) (c .before .read322 .ensures) (c .read323 .ensures) in
-    omega (arith, fit s .branch .exact)
+    omega (arith, fit s .table-exact)
 
 abbrev begun : tie.After-depth-at → tie.Start
 begun c = c .before .before .before .before .before .before .before .before .before .before
@@ -60,54 +62,36 @@ mark-run c =
 
 on : (c : tie.After-depth-at)
     → let g = begun c .args in
-    Handed (g .plan .now) (g .branch .now) (g .nums .now) (g .u) (nodes c) (states c) (labels c) (c .depth-at .result)
+    Handed (g .plan .now) (g .branch .now) (g .node-table .now) (g .u) (nodes c) (states c) (labels c) (c .depth-at .result)
     (label-run c) (step-run c) (mark-run c)
 on c =
     handed _ _ _ _ (nodes c) (states c) (labels c) (c .depth-at .result)
     (c .before .before .before .before .before .read32 .ensures) (c .before .before .before .before .read322 .ensures)
     (c .before .before .before .read323 .ensures) (c .depth-at .ensures)
-    (fit (begun c) .branch .exact)
+    (fit (begun c) .table-exact)
 
 read32-requires : tie.Need-read32-requires
-read32-requires c κs = omega (arith, fit (c .before .before .before .before) .plan .long)
+read32-requires c κs = omega (arith, fit (c .before .before .before .before) .headers .plan-long)
 
 read32-requires-2 : tie.Need-read32-requires-2
-read32-requires-2 c κs = omega (arith, fit (c .before .before .before .before .before) .branch .long)
+read32-requires-2 c κs = omega (arith, fit (c .before .before .before .before .before) .headers .table-long)
 
 read32-requires-3 : tie.Need-read32-requires-3
-read32-requires-3 c κs = omega (arith, fit (c .before .before .before .before .before .before) .branch .long)
+read32-requires-3 c κs = omega (arith, fit (c .before .before .before .before .before .before) .headers .table-long)
 
 add-labels : tie.Need-add-labels
 add-labels c = omega (
   arith,
-  fit (c .before .before .before .before .before .before .before) .plan .most,
+  fit (c .before .before .before .before .before .before .before) .headers .in-limits .most,
   c .before .before .read32 .ensures,
 )
-
-sub-labels : tie.Need-sub-labels
-sub-labels c = search needs
-
-part-labels-start : tie.Need-part-labels-start
-part-labels-start c = search needs
 
 part-labels-end : tie.Need-part-labels-end
 part-labels-end c = omega (
   arith,
-  fit (c .before .before .before .before .before .before .before) .plan .exact,
+  fit (c .before .before .before .before .before .before .before) .plan-exact,
   c .before .before .read32 .ensures,
 )
-
-mul-steps : tie.Need-mul-steps
-mul-steps c = omega (arith, steps-end (c .before))
-
-add-steps : tie.Need-add-steps
-add-steps c = omega (arith, steps-end (c .before))
-
-sub-steps : tie.Need-sub-steps
-sub-steps c = search needs
-
-part-steps-start : tie.Need-part-steps-start
-part-steps-start c = search needs
 
 part-steps-end : tie.Need-part-steps-end
 part-steps-end c = steps-end (c .before)
@@ -117,11 +101,8 @@ depth-at-requires c κs =
     omega (
       arith,
       c .before .before .before .before .before .before .before .before .before .pre .upper,
-      fit (c .before .before .before .before .before .before .before .before .before) .nums-room,
+      fit (c .before .before .before .before .before .before .before .before .before) .node-table-room,
     )
-
-slice-aggregate-compose-climb : tie.Need-slice-aggregate-compose-climb
-slice-aggregate-compose-climb c = search needs
 
 compose-climb-requires : tie.Need-compose-climb-requires
 compose-climb-requires c κs =
@@ -147,12 +128,6 @@ sub-finish-answer c = steps-end (c .before .before .before .before .before .befo
 part-finish-answer-start : tie.Need-part-finish-answer-start
 part-finish-answer-start c = steps-end (c .before .before .before .before .before .before .before .before)
 
-part-finish-answer-end : tie.Need-part-finish-answer-end
-part-finish-answer-end c = search needs
-
-slice-aggregate-finish-answer : tie.Need-slice-aggregate-finish-answer
-slice-aggregate-finish-answer c = search needs
-
 finish-answer-requires : tie.Need-finish-answer-requires
 finish-answer-requires c κs =
     let x = c .before .before .before .before .before in
@@ -176,23 +151,23 @@ answer-branch-spec =
     read32-requires-2
     read32-requires-3
     add-labels
-    sub-labels
-    part-labels-start
+    (λ c. search needs)
+    (λ c. search needs)
     part-labels-end
-    mul-steps
-    add-steps
-    sub-steps
-    part-steps-start
+    (λ c. omega (arith, steps-end (c .before)))
+    (λ c. omega (arith, steps-end (c .before)))
+    (λ c. search needs)
+    (λ c. search needs)
     part-steps-end
     depth-at-requires
-    slice-aggregate-compose-climb
+    (λ c. search needs)
     compose-climb-requires
     returns
     mul-finish-answer
     add-finish-answer
     sub-finish-answer
     part-finish-answer-start
-    part-finish-answer-end
-    slice-aggregate-finish-answer
+    (λ c. search needs)
+    (λ c. search needs)
     finish-answer-requires
     returns-2)

@@ -2,25 +2,25 @@ use Prim.Native.Nat.{_<_}
 use mathlib.Core.Path.{_≡_, sym, _∙_}
 use mathlib.Core.Bool.{true}
 use native.Mathlib.Omega.{arith}
+use lib.ListN.{length}
 use borrow.Author.Tests.{not-true, not-false}
 use Rattle.formats.specs.Plan.{nodeCount}
-use Rattle.branches.specs.Question.{lentFits}
-use Rattle.branches.proofs.FitLaws.{lent-fits}
+use Rattle.formats.specs.Buffers.{headedBuffersFit, branchTables}
+use Rattle.formats.proofs.BufferLaws.{headed-are}
 use Rattle.branches.proofs.AskChecks.{ask-17, ask-13-upper, ask-13-lower, ask-16, ask-on}
 use Rattle.branches.proofs.AskTheorem.{ask-done}
 use borrow.Author.Needs.{needs}
+use Rattle.formats.proofs.bytes.read32.Reads as read32-reads
 use Rattle.branches.proofs.ask.ask_branch.Statement.{statement}
 use Rattle.branches.proofs.ask.ask_branch.Tie as tie
 use Rattle.branches.proofs.ask.ask_branch.Reads as reads
 use Rattle.branches.proofs.ask.ask_branch.Lts as lts
 use Rattle.branches.proofs.ask.answer_branch.Reads as answer-branch-reads
-use Rattle.branches.proofs.lent.lent_fits.Reads as lent-fits-reads
-use Rattle.formats.proofs.bytes.read32.Reads as read32-reads
 
 -- 17 passes
 fits : (c : tie.Else1) → let g = c .before .before .before .before .before .before .args in
-    lentFits (g .plan .now) (g .branch .now) (g .nums .now) (g .bytes .now) ≡ true
-fits c = sym (c .before .lent-fits .ensures) ∙ not-false _ (c .if1 .left)
+    headedBuffersFit branchTables (g .plan .now) (g .branch .now) (length (g .node-table .now)) (length (g .state-table .now)) ≡ true
+fits c = sym (c .before .branch-buffers-fit .ensures) ∙ not-false _ (c .if1 .left)
 
 -- 13 passes
 upper-in : (c : tie.Else2) → let g = c .before .before .before .before .before .before .before .before .args in
@@ -31,15 +31,15 @@ lower-in : (c : tie.Else3) → let g = c .before .before .before .before .before
     g .lower < nodeCount (g .plan .now)
 lower-in c = omega (arith, c .if3 .left, c .before .before .read32 .ensures)
 
-lent-fits-requires : tie.Need-lent-fits-requires
-lent-fits-requires c κs = search needs
+branch-buffers-fit-requires : tie.Need-branch-buffers-fit-requires
+branch-buffers-fit-requires c κs = search needs
 
 returns : tie.Need-returns
 returns c = ask-done _ _ _ _ _ _ _
-    (ask-17 _ _ _ _ _ _ (sym (c .before .lent-fits .ensures) ∙ not-true _ (c .if1 .taken)))
+    (ask-17 _ _ _ _ _ _ (sym (c .before .branch-buffers-fit .ensures) ∙ not-true _ (c .if1 .taken)))
 
 read32-requires : tie.Need-read32-requires
-read32-requires c κs = omega (arith, lent-fits _ _ _ _ (fits c) .plan .long)
+read32-requires c κs = omega (arith, headed-are _ _ _ _ _ (fits c) .headers .plan-long)
 
 returns-2 : tie.Need-returns-2
 returns-2 c = ask-done _ _ _ _ _ _ _
@@ -53,7 +53,7 @@ returns-3 c =
 
 is-below-requires : tie.Need-is-below-requires
 is-below-requires c κs =
-    omega (arith, upper-in (c .before), lent-fits _ _ _ _ (fits (c .before .before .before)) .nums-room)
+    omega (arith, upper-in (c .before), headed-are _ _ _ _ _ (fits (c .before .before .before)) .node-table-room)
 
 returns-4 : tie.Need-returns-4
 returns-4 c =
@@ -79,7 +79,7 @@ pub ask-branch-spec : {M : Type 1} → statement M
 ask-branch-spec =
     tie.close
     (tie.spec
-    lent-fits-requires
+    branch-buffers-fit-requires
     returns
     read32-requires
     returns-2

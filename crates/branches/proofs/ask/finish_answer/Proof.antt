@@ -1,8 +1,8 @@
 use Prim.Native.Nat.{ℕ, _+_}
 use native.Mathlib.Omega.{arith}
 use lib.ListN.{getD}
-use Rattle.trees.proofs.RowLaws.{stride}
-use Rattle.branches.proofs.FinishLaws.{finish-no-label, finish-no-state, finish-told}
+use Rattle.list_laws.proofs.RowLaws.{stride}
+use Rattle.branches.proofs.FinishLaws.{finish-no-label, finish-no-state, finish-result}
 use borrow.Author.Needs.{needs}
 use Rattle.branches.proofs.ask.finish_answer.Statement.{statement}
 use Rattle.branches.proofs.ask.finish_answer.Tie as tie
@@ -52,7 +52,7 @@ shared-slice-read-mark c =
     omega (arith, s .pre .below (state-first s) (c .before .before .if2 .left), s .pre .marks-room)
 
 returns-3 : tie.Need-returns-3
-returns-3 c = finish-told _ _ _ _ _ _ _ _ _ (c .before .before .before .before .if1 .left) (c .before .before .if2 .left)
+returns-3 c = finish-result _ _ _ _ _ _ _ _ _ (c .before .before .before .before .if1 .left) (c .before .before .if2 .left)
 
 pub finish-answer-spec : {M : Type 1} → statement M
 finish-answer-spec =

@@ -6,14 +6,14 @@ use borrow.Author.Needs.{needs}
 use Rattle.branches.proofs.build.fill_branch.Statement.{statement}
 use Rattle.branches.proofs.build.fill_branch.Tie as tie
 
-build-links-requires : tie.Need-build-links-requires
-build-links-requires c κs = fill-link-args _ _ _ _ _ _ _ (c .before .before .before .before .before .before .pre)
+build-node-table-requires : tie.Need-build-node-table-requires
+build-node-table-requires c κs = fill-link-args _ _ _ _ _ _ _ (c .before .before .before .before .before .before .pre)
 
 fill-steps-requires : tie.Need-fill-steps-requires
 fill-steps-requires c κs =
-    let b = c .before .before .before .before .build-links in
+    let b = c .before .before .before .before .build-node-table in
     let a = c .before .before .before .before .before .before .before .before .before .before .before in
-    fill-branch-args _ _ _ _ _ _ _ (a .pre) (a .args .nums .now) (b .last .1 .0) (b .ensures) (b .kept .1 .0)
+    fill-branch-args _ _ _ _ _ _ _ (a .pre) (a .args .node-table .now) (b .last .1 .0) (b .ensures) (b .kept .1 .0)
 
 fill-maps-requires : tie.Need-fill-maps-requires
 fill-maps-requires c κs =
@@ -21,9 +21,9 @@ fill-maps-requires c κs =
     let e = d .before .before .before .before .before in
     let a = e .before .before .before .before .before .before .before in
     let f = d .fill-steps in
-    let b = e .build-links in
+    let b = e .build-node-table in
     rw (f .kept .1 .1 .1 .1 .1 .1 .0)
-    (fill-branch-args _ _ _ _ _ _ _ (a .pre) (a .args .nums .now) (b .last .1 .0) (b .ensures) (b .kept .1 .0))
+    (fill-branch-args _ _ _ _ _ _ _ (a .pre) (a .args .node-table .now) (b .last .1 .0) (b .ensures) (b .kept .1 .0))
 
 same-length : tie.Need-same-length
 same-length c = search needs
@@ -38,8 +38,8 @@ returns c =
     let e = d .before .before .before .before .before in
     let a = e .before .before .before .before .before .before .before in
     let f = d .fill-steps in
-    let b = e .build-links in
-    filled _ _ _ _ _ _ _ (a .pre) (a .args .nums .now) (b .last .1 .0) (b .ensures) (a .args .bytes .now)
+    let b = e .build-node-table in
+    filled _ _ _ _ _ _ _ (a .pre) (a .args .node-table .now) (b .last .1 .0) (b .ensures) (a .args .state-table .now)
     (f .last .1 .1 .1 .1 .1 .1 .0) (m .last .1 .1 .1 .1 .1 .1 .0) refl
     (m .kept .1 .1 .1 .1 .1 .1 .0 ∙ f .kept .1 .1 .1 .1 .1 .1 .0)
     (f .ensures) (m .ensures)
@@ -48,7 +48,7 @@ pub fill-branch-spec : {M : Type 1} → statement M
 fill-branch-spec =
     tie.close
     (tie.spec
-    build-links-requires
+    build-node-table-requires
     fill-steps-requires
     fill-maps-requires
     same-length

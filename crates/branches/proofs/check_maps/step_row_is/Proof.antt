@@ -6,31 +6,31 @@ use mathlib.Core.Logic.{inl, inr}
 use lib.Dec.{eqb}
 use lib.ListN.{length}
 use Rattle.tables.specs.StateCells.{mapCell}
-use Rattle.tables.specs.Compare.{every}
+use Rattle.tables.specs.inner.Compare.{every}
 use Rattle.tables.proofs.CompareLaws.{every-same, every-other}
-use Rattle.branches.specs.Maps.{stepCell}
+use Rattle.branches.specs.inner.Maps.{stepCell}
 use native.Mathlib.Omega.{arith}
 use borrow.Author.Needs.{needs}
 use Rattle.branches.proofs.check_maps.step_row_is.Statement.{statement}
 use Rattle.branches.proofs.check_maps.step_row_is.Tie as tie
 
 abbrev Inv-loop : tie.InvT-loop
-Inv-loop bytes s v p j steps k a at near far same₀ q₀ same q =
-    (q ≤ s) × (same ≡ every q (λ x. eqb (mapCell s bytes v x) (stepCell s bytes p j steps k a x)))
+Inv-loop stateTable s v p j steps k a at near far same₀ q₀ same q =
+    (q ≤ s) × (same ≡ every q (λ x. eqb (mapCell s stateTable v x) (stepCell s stateTable p j steps k a x)))
 
 abbrev μ-loop : tie.MeasureT-loop
-μ-loop bytes s v p j steps k a at near far same₀ q₀ same q = s - q
+μ-loop stateTable s v p j steps k a at near far same₀ q₀ same q = s - q
 
 -- what a turn reads
 far-below : (c : tie.In-loop Inv-loop μ-loop) → let g = c .before .before .args in
-    mapCell (g .s) (g .bytes .now) (g .j) (c .before .loop .q) < g .s
+    mapCell (g .s) (g .state-table .now) (g .j) (c .before .loop .q) < g .s
 far-below c = c .before .before .pre .far-below (c .before .loop .q) (c .loop-test .taken)
 
 inside : (c : tie.In-loop Inv-loop μ-loop) → let g = c .before .before .args in
-    mapCell (g .s) (g .bytes .now) (g .p) (mapCell (g .s) (g .bytes .now) (g .j) (c .before .loop .q)) * g .k + g .a
+    mapCell (g .s) (g .state-table .now) (g .p) (mapCell (g .s) (g .state-table .now) (g .j) (c .before .loop .q)) * g .k + g .a
     < length (g .steps .now)
 inside c = let g = c .before .before .args in
-    c .before .before .pre .inside (mapCell (g .s) (g .bytes .now) (g .j) (c .before .loop .q)) (far-below c)
+    c .before .before .pre .inside (mapCell (g .s) (g .state-table .now) (g .j) (c .before .loop .q)) (far-below c)
 
 add-at : tie.Need-add-at Inv-loop μ-loop
 add-at c = search needs
@@ -92,7 +92,7 @@ cast-z c =
     omega (
       arith,
       c .shared-slice-known3 .given
-          (g .p * (g .s + 1) + (1 + mapCell (g .s) (g .bytes .now) (g .j) (i .before .loop .q))),
+          (g .p * (g .s + 1) + (1 + mapCell (g .s) (g .state-table .now) (g .j) (i .before .loop .q))),
     )
 
 mul-next : tie.Need-mul-next Inv-loop μ-loop
@@ -114,11 +114,11 @@ loop-again : tie.Need-loop-again Inv-loop μ-loop
 loop-again c =
     let l = c .before .before .before .before .before .before .loop in
     let g = c .before .before .before .before .before .before .before .args in
-    let f : ℕ → ℕ = stepCell (g .s) (g .bytes .now) (g .p) (g .j) (g .steps .now) (g .k) (g .a) in (
+    let f : ℕ → ℕ = stepCell (g .s) (g .state-table .now) (g .p) (g .j) (g .steps .now) (g .k) (g .a) in (
       omega arith,
       elim (c .if1 .came) [
-        | inl w ↦ w .1 ∙ every-other (l .q) (mapCell (g .s) (g .bytes .now) (g .v)) f (w .0 .taken)
-        | inr w ↦ w .1 ∙ every-same (l .q) (mapCell (g .s) (g .bytes .now) (g .v)) f (l .same) (l .inv .1) (w .0 .left)
+        | inl w ↦ w .1 ∙ every-other (l .q) (mapCell (g .s) (g .state-table .now) (g .v)) f (w .0 .taken)
+        | inr w ↦ w .1 ∙ every-same (l .q) (mapCell (g .s) (g .state-table .now) (g .v)) f (l .same) (l .inv .1) (w .0 .left)
       ],
     )
 

@@ -3,24 +3,24 @@
 use Prim.Native.Nat.{_+_, _-_, _*_, _<_}
 use mathlib.Core.Path.{_≡_}
 use lib.ListN.{length}
-use Rattle.links.specs.Cells.{parentCell}
-use Rattle.branches.specs.Lent.{BranchArgs, Stepped}
-use Rattle.branches.proofs.StepTurns.{args-pos, args-labels, state-in, StepFits, step-fits, root-inside}
-use Rattle.branches.proofs.ToldTurns.{root-state-same, root-state-differs, state-same, state-differs, all-states}
+use Rattle.node_tables.specs.Cells.{parentCell}
+use Rattle.branches.specs.inner.BranchGiven.{BranchArgs, Stepped}
+use Rattle.branches.proofs.StepLoop.{args-pos, args-labels, state-in, StepFits, step-fits, root-inside}
+use Rattle.branches.proofs.TestLoop.{root-state-same, root-state-differs, state-same, state-differs, all-states}
 use native.Mathlib.Omega.{arith}
 use borrow.Author.Needs.{needs}
 use Rattle.branches.proofs.check_steps.check_steps.Statement.{statement}
 use Rattle.branches.proofs.check_steps.check_steps.Tie as tie
 
 abbrev Inv-loop : tie.InvT-loop
-Inv-loop labels nums steps s k n bytes w root first x y v₀ v =
-    (v < n) × Stepped labels nums steps s k n v bytes bytes
+Inv-loop labels nodeTable steps s k n stateTable w root first x y v₀ v =
+    (v < n) × Stepped labels nodeTable steps s k n v stateTable stateTable
 
 abbrev μ-loop : tie.MeasureT-loop
-μ-loop labels nums steps s k n bytes w root first x y v₀ v = v
+μ-loop labels nodeTable steps s k n stateTable w root first x y v₀ v = v
 
-entered : (s : tie.Start Inv-loop μ-loop) → BranchArgs (s .args .labels .now) (s .args .nums .now) (s .args .steps .now)
-    (s .args .s) (s .args .k) (s .args .n) (length (s .args .bytes .now))
+entered : (s : tie.Start Inv-loop μ-loop) → BranchArgs (s .args .labels .now) (s .args .node-table .now) (s .args .steps .now)
+    (s .args .s) (s .args .k) (s .args .n) (length (s .args .state-table .now))
 entered s = s .pre
 
 pos : (s : tie.Start Inv-loop μ-loop) → 0 < s .args .n
@@ -29,24 +29,24 @@ pos s = args-pos _ _ _ _ _ _ _ (entered s)
 labels-in : (s : tie.Start Inv-loop μ-loop) → length (s .args .labels .now) ≡ s .args .n
 labels-in s = args-labels _ _ _ _ _ _ _ (entered s)
 
-root-in : (s : tie.Start Inv-loop μ-loop) → (s .args .n - 1) * (s .args .s + 1) < length (s .args .bytes .now)
-root-in s = state-in (s .args .s) (s .args .n) (s .args .n - 1) (length (s .args .bytes .now)) (omega (arith, pos s))
+root-in : (s : tie.Start Inv-loop μ-loop) → (s .args .n - 1) * (s .args .s + 1) < length (s .args .state-table .now)
+root-in s = state-in (s .args .s) (s .args .n) (s .args .n - 1) (length (s .args .state-table .now)) (omega (arith, pos s))
     (s .pre .room)
 
 -- the state bytes above the node that a turn looks at
 above : (c : tie.In-loop Inv-loop μ-loop) → let g = c .before .before .before .before .before .before .args in
-    Stepped (g .labels .now) (g .nums .now) (g .steps .now) (g .s) (g .k) (g .n) (c .before .loop .v - 1 + 1)
-    (g .bytes .now)
-    (g .bytes .now)
+    Stepped (g .labels .now) (g .node-table .now) (g .steps .now) (g .s) (g .k) (g .n) (c .before .loop .v - 1 + 1)
+    (g .state-table .now)
+    (g .state-table .now)
 above c =
     let e : c .before .loop .v - 1 + 1 ≡ c .before .loop .v = omega (arith, c .loop-test .taken) in rw e
     (c .before .loop .inv .1)
 
 fits : (c : tie.In-loop Inv-loop μ-loop) → let g = c .before .before .before .before .before .before .args in
-    StepFits (g .labels .now) (g .nums .now) (g .steps .now) (g .s) (g .k) (c .before .loop .v - 1) (g .bytes .now)
+    StepFits (g .labels .now) (g .node-table .now) (g .steps .now) (g .s) (g .k) (c .before .loop .v - 1) (g .state-table .now)
 fits c =
     let s = c .before .before .before .before .before .before in
-    step-fits _ _ _ _ _ _ _ (entered s) (c .before .loop .v - 1) (s .args .bytes .now) (s .args .bytes .now) (above c)
+    step-fits _ _ _ _ _ _ _ (entered s) (c .before .loop .v - 1) (s .args .state-table .now) (s .args .state-table .now) (above c)
     (omega (arith, c .before .loop .inv .0, c .loop-test .taken)) (s .pre .room)
 
 add-w : tie.Need-add-w Inv-loop μ-loop
@@ -79,14 +79,14 @@ shared-slice-read-y c = root-in (c .before .before .before)
 returns : tie.Need-returns Inv-loop μ-loop
 returns c =
     let s = c .before .before .before .before in
-    root-state-differs _ _ _ _ _ _ _ (entered s) (s .args .bytes .now) (s .args .n - 1) (omega (arith, pos s))
+    root-state-differs _ _ _ _ _ _ _ (entered s) (s .args .state-table .now) (s .args .n - 1) (omega (arith, pos s))
     (c .if1 .taken)
 
 loop-holds : tie.Need-loop-holds Inv-loop μ-loop
 loop-holds c =
     let s = c .before .before .before .before in (
       omega (arith, pos s),
-      root-state-same _ _ _ _ _ _ _ (entered s) (s .args .bytes .now) (s .args .n - 1) (omega (arith, pos s))
+      root-state-same _ _ _ _ _ _ _ (entered s) (s .args .state-table .now) (s .args .n - 1) (omega (arith, pos s))
           (c .if1 .left),
     )
 
@@ -115,7 +115,7 @@ cast-q : tie.Need-cast-q Inv-loop μ-loop
 cast-q c =
     let a = c .before .before .before in
     let g = a .before .before .before .before .before .args in
-    omega (arith, c .shared-slice-known5 .given (parentCell (g .nums .now) (a .loop .v - 1) * (g .s + 1)))
+    omega (arith, c .shared-slice-known5 .given (parentCell (g .node-table .now) (a .loop .v - 1) * (g .s + 1)))
 
 shared-slice-read-a : tie.Need-shared-slice-read-a Inv-loop μ-loop
 shared-slice-read-a c =
@@ -144,7 +144,7 @@ returns-2 : tie.Need-returns-2 Inv-loop μ-loop
 returns-2 c =
     let i = c .before .before .before .before .before .before in
     let s = i .before .before .before .before .before .before in
-    state-differs _ _ _ _ _ _ _ (entered s) (s .args .bytes .now) (i .before .loop .v - 1)
+    state-differs _ _ _ _ _ _ _ (entered s) (s .args .state-table .now) (i .before .loop .v - 1)
     (omega (arith, i .before .loop .inv .0, i .loop-test .taken)) (above i) (c .if2 .taken)
 
 loop-less : tie.Need-loop-less Inv-loop μ-loop
@@ -155,7 +155,7 @@ loop-again c =
     let i = c .before .before .before .before .before .before in
     let s = i .before .before .before .before .before .before in (
       omega (arith, i .before .loop .inv .0),
-      state-same _ _ _ _ _ _ _ (entered s) (s .args .bytes .now) (i .before .loop .v - 1)
+      state-same _ _ _ _ _ _ _ (entered s) (s .args .state-table .now) (i .before .loop .v - 1)
           (omega (arith, i .before .loop .inv .0, i .loop-test .taken)) (above i) (c .if2 .left),
     )
 
@@ -164,7 +164,7 @@ returns-3 c =
     let a = c .before in
     let s = a .before .before .before .before .before in
     let e : 0 ≡ a .loop .v = omega (arith, c .loop-test .left) in
-    all-states _ _ _ _ _ _ _ (entered s) (s .args .bytes .now) (rw e (a .loop .inv .1))
+    all-states _ _ _ _ _ _ _ (entered s) (s .args .state-table .now) (rw e (a .loop .inv .1))
 
 pub check-steps-spec : {M : Type 1} → statement M
 check-steps-spec =

@@ -6,45 +6,45 @@ use Prim.Native.Nat.{ℕ, _+_, _-_, _<_}
 use mathlib.Core.Path.{_≡_, refl, _∙_}
 use mathlib.Core.List.{List}
 use lib.ListN.{length}
-use Rattle.branches.specs.Lent.{BranchArgs}
-use Rattle.branches.specs.Maps.{Mapped}
-use Rattle.branches.proofs.StepTurns.{args-pos}
-use Rattle.branches.proofs.MapTurns.{row-in, map-args, map-turn, map-root}
+use Rattle.branches.specs.inner.BranchGiven.{BranchArgs}
+use Rattle.branches.specs.inner.Maps.{Mapped}
+use Rattle.branches.proofs.StepLoop.{args-pos}
+use Rattle.branches.proofs.MapLoop.{row-in, map-args, map-iteration, map-root}
 use native.Mathlib.Omega.{arith}
 use borrow.Author.Needs.{needs}
 use Rattle.branches.proofs.maps.fill_maps.Statement.{statement}
 use Rattle.branches.proofs.maps.fill_maps.Tie as tie
 
 abbrev Inv-loop : tie.InvT-loop
-Inv-loop labels nums steps s k n bytes₀ root v₀ bytes v =
-    (v < n) × (length bytes ≡ length bytes₀)
-    × ((b : List ℕ) → Mapped labels nums steps s k n v₀ b bytes₀ → Mapped labels nums steps s k n v b bytes)
+Inv-loop labels nodeTable steps s k n bytes₀ root v₀ stateTable v =
+    (v < n) × (length stateTable ≡ length bytes₀)
+    × ((b : List ℕ) → Mapped labels nodeTable steps s k n v₀ b bytes₀ → Mapped labels nodeTable steps s k n v b stateTable)
 
 abbrev μ-loop : tie.MeasureT-loop
-μ-loop labels nums steps s k n bytes₀ root v₀ bytes v = v
+μ-loop labels nodeTable steps s k n bytes₀ root v₀ stateTable v = v
 
-entered : (s : tie.Start Inv-loop μ-loop) → BranchArgs (s .args .labels .now) (s .args .nums .now) (s .args .steps .now)
-    (s .args .s) (s .args .k) (s .args .n) (length (s .args .bytes .now))
+entered : (s : tie.Start Inv-loop μ-loop) → BranchArgs (s .args .labels .now) (s .args .node-table .now) (s .args .steps .now)
+    (s .args .s) (s .args .k) (s .args .n) (length (s .args .state-table .now))
 entered s = s .pre
 
 pos : (s : tie.Start Inv-loop μ-loop) → 0 < s .args .n
 pos s = args-pos _ _ _ _ _ _ _ (entered s)
 
 -- the buffer at the function's entry and after the root's map
-kept-length : (a : tie.At-loop Inv-loop μ-loop) → length (a .loop .bytes) ≡ length
-    (a .before .before .before .before .before .before .before .before .before .args .bytes .now)
+kept-length : (a : tie.At-loop Inv-loop μ-loop) → length (a .loop .state-table) ≡ length
+    (a .before .before .before .before .before .before .before .before .before .args .state-table .now)
 kept-length a = a .loop .inv .1 ∙ a .before .before .before .same-row .kept .0
 
 -- the maps from v on, since the function's entry
 mapped : (a : tie.At-loop Inv-loop μ-loop)
     → let g = a .before .before .before .before .before .before .before .before .before .args in
-    Mapped (g .labels .now) (g .nums .now) (g .steps .now) (g .s) (g .k) (g .n) (a .loop .v) (g .bytes .now)
-    (a .loop .bytes)
+    Mapped (g .labels .now) (g .node-table .now) (g .steps .now) (g .s) (g .k) (g .n) (a .loop .v) (g .state-table .now)
+    (a .loop .state-table)
 mapped a =
     let s = a .before .before .before .before .before .before .before .before .before in
     let r = a .before .before .before .same-row in
-    a .loop .inv .2 (s .args .bytes .now)
-    (map-root _ _ _ _ _ _ _ (entered s) (s .args .n - 1) (s .args .bytes .now) (r .last .0) (omega (arith, pos s))
+    a .loop .inv .2 (s .args .state-table .now)
+    (map-root _ _ _ _ _ _ _ (entered s) (s .args .n - 1) (s .args .state-table .now) (r .last .0) (omega (arith, pos s))
     (r .ensures))
 
 sub-root : tie.Need-sub-root Inv-loop μ-loop
@@ -54,7 +54,7 @@ same-row-requires : tie.Need-same-row-requires Inv-loop μ-loop
 same-row-requires c κs =
     let s = c .before .before .before .before .before in
     record {
-      room = row-in (s .args .s) (s .args .n) (s .args .n - 1) (length (s .args .bytes .now)) (omega (arith, pos s))
+      room = row-in (s .args .s) (s .args .n) (s .args .n - 1) (length (s .args .state-table .now)) (omega (arith, pos s))
           (s .pre .room);
       few = omega (arith, s .pre .few);
     }
@@ -71,7 +71,7 @@ node-map-requires c κs =
     let a = i .before in
     let s = a .before .before .before .before .before .before .before .before .before in
     let e : a .loop .v - 1 + 1 ≡ a .loop .v = omega (arith, i .loop-test .taken) in
-    map-args _ _ _ _ _ _ _ (entered s) (a .loop .v - 1) (s .args .bytes .now) (a .loop .bytes) (rw e (mapped a))
+    map-args _ _ _ _ _ _ _ (entered s) (a .loop .v - 1) (s .args .state-table .now) (a .loop .state-table) (rw e (mapped a))
     (omega (arith, a .loop .inv .0, i .loop-test .taken)) (omega (arith, kept-length a, s .pre .room))
 
 loop-less : tie.Need-loop-less Inv-loop μ-loop
@@ -86,7 +86,7 @@ loop-again c =
     let e : a .loop .v - 1 + 1 ≡ a .loop .v = omega (arith, i .loop-test .taken) in (
       omega (arith, a .loop .inv .0),
       n .node-map .kept .1 .1 .1 .1 .1 .1 .0 ∙ a .loop .inv .1,
-      λ b d. map-turn _ _ _ _ _ _ _ (entered s) (a .loop .v - 1) b (a .loop .bytes)
+      λ b d. map-iteration _ _ _ _ _ _ _ (entered s) (a .loop .v - 1) b (a .loop .state-table)
           (n .node-map .last .1 .1 .1 .1 .1 .1 .0)
           (rw e (a .loop .inv .2 b d)) (omega (arith, a .loop .inv .0, i .loop-test .taken)) (n .node-map .ensures),
     )

@@ -5,40 +5,40 @@ use Prim.Native.Nat.{ℕ, _+_, _-_, _*_, _≤_, _<_}
 use mathlib.Core.Path.{_≡_, refl, subst}
 use lib.ListN.{length, length-set}
 use Rattle.tables.specs.StateCells.{mapCell}
-use Rattle.tables.specs.Rows.{RowTo}
-use Rattle.tables.proofs.RowTurns.{row-turn}
-use Rattle.branches.specs.Maps.{stepCell}
-use Rattle.branches.proofs.StepRowTurns.{step-far-below, step-inside, step-is}
+use Rattle.tables.specs.inner.Rows.{RowTo}
+use Rattle.tables.proofs.MapRowLaws.{row-iteration}
+use Rattle.branches.specs.inner.Maps.{stepCell}
+use Rattle.branches.proofs.StepRowLoop.{step-far-below, step-inside, step-is}
 use native.Mathlib.Omega.{arith}
 use borrow.Author.Needs.{needs}
 use Rattle.branches.proofs.maps.step_row.Statement.{statement}
 use Rattle.branches.proofs.maps.step_row.Tie as tie
 
 abbrev Inv-loop : tie.InvT-loop
-Inv-loop bytes₀ s v p j steps k a at near far q₀ bytes q =
-    (q ≤ s) × (length bytes ≡ length bytes₀) × RowTo s (stepCell s bytes₀ p j steps k a) v q bytes₀ bytes
+Inv-loop bytes₀ s v p j steps k a at near far q₀ stateTable q =
+    (q ≤ s) × (length stateTable ≡ length bytes₀) × RowTo s (stepCell s bytes₀ p j steps k a) v q bytes₀ stateTable
 
 abbrev μ-loop : tie.MeasureT-loop
-μ-loop bytes₀ s v p j steps k a at near far q₀ bytes q = s - q
+μ-loop bytes₀ s v p j steps k a at near far q₀ stateTable q = s - q
 
 -- what a turn reads
 far-below : (c : tie.In-loop Inv-loop μ-loop) → let g = c .before .before .args in
-    mapCell (g .s) (c .before .loop .bytes) (g .j) (c .before .loop .q) < g .s
+    mapCell (g .s) (c .before .loop .state-table) (g .j) (c .before .loop .q) < g .s
 far-below c =
     let a = c .before in
     let g = a .before .args in
-    step-far-below (g .s) (g .v) (g .p) (g .j) (g .k) (g .a) (a .loop .q) (g .steps .now) (g .bytes .now)
-    (a .loop .bytes)
+    step-far-below (g .s) (g .v) (g .p) (g .j) (g .k) (g .a) (a .loop .q) (g .steps .now) (g .state-table .now)
+    (a .loop .state-table)
     (a .loop .inv .2) (a .before .pre) (c .loop-test .taken)
 
 inside : (c : tie.In-loop Inv-loop μ-loop) → let g = c .before .before .args in
     mapCell (g .s)
-    (c .before .loop .bytes) (g .p) (mapCell (g .s) (c .before .loop .bytes) (g .j) (c .before .loop .q)) * g .k
+    (c .before .loop .state-table) (g .p) (mapCell (g .s) (c .before .loop .state-table) (g .j) (c .before .loop .q)) * g .k
     + g .a < length (g .steps .now)
 inside c =
     let a = c .before in
     let g = a .before .args in
-    step-inside (g .s) (g .v) (g .p) (g .j) (g .k) (g .a) (a .loop .q) (g .steps .now) (g .bytes .now) (a .loop .bytes)
+    step-inside (g .s) (g .v) (g .p) (g .j) (g .k) (g .a) (a .loop .q) (g .steps .now) (g .state-table .now) (a .loop .state-table)
     (a .loop .inv .2) (a .before .pre) (c .loop-test .taken)
 
 add-at : tie.Need-add-at Inv-loop μ-loop
@@ -92,26 +92,26 @@ cast-y c =
     omega (
       arith,
       c .slice-known2 .given
-          (g .p * (g .s + 1) + (1 + mapCell (g .s) (a .loop .bytes) (g .j) (a .loop .q))),
+          (g .p * (g .s + 1) + (1 + mapCell (g .s) (a .loop .state-table) (g .j) (a .loop .q))),
     )
 
-mul-bytes : tie.Need-mul-bytes Inv-loop μ-loop
-mul-bytes c = omega (arith, inside (c .before .before))
+mul-state-table : tie.Need-mul-state-table Inv-loop μ-loop
+mul-state-table c = omega (arith, inside (c .before .before))
 
-add-bytes : tie.Need-add-bytes Inv-loop μ-loop
-add-bytes c = omega (arith, inside (c .before .before))
+add-state-table : tie.Need-add-state-table Inv-loop μ-loop
+add-state-table c = omega (arith, inside (c .before .before))
 
-shared-slice-read-bytes : tie.Need-shared-slice-read-bytes Inv-loop μ-loop
-shared-slice-read-bytes c = inside (c .before .before .before)
+shared-slice-read-state-table : tie.Need-shared-slice-read-state-table Inv-loop μ-loop
+shared-slice-read-state-table c = inside (c .before .before .before)
 
-add-bytes-2 : tie.Need-add-bytes-2 Inv-loop μ-loop
-add-bytes-2 c = search needs
+add-state-table-2 : tie.Need-add-state-table-2 Inv-loop μ-loop
+add-state-table-2 c = search needs
 
-add-bytes-3 : tie.Need-add-bytes-3 Inv-loop μ-loop
-add-bytes-3 c = search needs
+add-state-table-3 : tie.Need-add-state-table-3 Inv-loop μ-loop
+add-state-table-3 c = search needs
 
-slice-write-bytes : tie.Need-slice-write-bytes Inv-loop μ-loop
-slice-write-bytes c = search needs
+slice-write-state-table : tie.Need-slice-write-state-table Inv-loop μ-loop
+slice-write-state-table c = search needs
 
 add-q : tie.Need-add-q Inv-loop μ-loop
 add-q c = search needs
@@ -127,12 +127,12 @@ loop-again c =
     let g = s .args in (
       omega arith,
       simp length-set (a .loop .inv .1),
-      row-turn (g .s) (stepCell (g .s) (g .bytes .now) (g .p) (g .j) (g .steps .now) (g .k) (g .a)) (g .v)
-          (a .loop .q) (g .bytes .now)
-          (a .loop .bytes) (a .loop .inv .2) (g .v * (g .s + 1) + (1 + a .loop .q)) _ refl
+      row-iteration (g .s) (stepCell (g .s) (g .state-table .now) (g .p) (g .j) (g .steps .now) (g .k) (g .a)) (g .v)
+          (a .loop .q) (g .state-table .now)
+          (a .loop .state-table) (a .loop .inv .2) (g .v * (g .s + 1) + (1 + a .loop .q)) _ refl
           (omega (arith, i .loop-test .taken, s .pre .room, a .loop .inv .1))
-          (step-is (g .s) (g .v) (g .p) (g .j) (g .k) (g .a) (a .loop .q) (g .steps .now) (g .bytes .now)
-          (a .loop .bytes)
+          (step-is (g .s) (g .v) (g .p) (g .j) (g .k) (g .a) (a .loop .q) (g .steps .now) (g .state-table .now)
+          (a .loop .state-table)
           (a .loop .inv .2) (s .pre) (i .loop-test .taken)),
     )
 
@@ -144,9 +144,9 @@ returns c =
     let a = c .before in
     let g = a .before .args in
     let e : a .loop .q ≡ g .s = omega (arith, a .loop .inv .0, c .loop-test .left) in
-    subst (λ (i : ℕ). RowTo (g .s) (stepCell (g .s) (g .bytes .now) (g .p) (g .j) (g .steps .now) (g .k) (g .a))
+    subst (λ (i : ℕ). RowTo (g .s) (stepCell (g .s) (g .state-table .now) (g .p) (g .j) (g .steps .now) (g .k) (g .a))
     (g .v) i
-    (g .bytes .now) (a .loop .bytes)) e (a .loop .inv .2)
+    (g .state-table .now) (a .loop .state-table)) e (a .loop .inv .2)
 
 pub step-row-spec : {M : Type 1} → statement M
 step-row-spec =
@@ -169,12 +169,12 @@ step-row-spec =
     add-y-2
     slice-read-y
     cast-y
-    mul-bytes
-    add-bytes
-    shared-slice-read-bytes
-    add-bytes-2
-    add-bytes-3
-    slice-write-bytes
+    mul-state-table
+    add-state-table
+    shared-slice-read-state-table
+    add-state-table-2
+    add-state-table-3
+    slice-write-state-table
     add-q
     loop-less
     loop-again

@@ -15,7 +15,7 @@ plan-none : (e : tie.Else1) → firstNo (planChecks (e .before .before .before .
 plan-none e = sym (e .before .check-plan .ensures) ∙ e .if1 .left
 
 table-none : (f : tie.Else2) → firstNo (branchChecks (f .before .before .before .before .before .before .args .branch .now)) ≡ 0
-table-none f = sym (f .before .check-branch .ensures) ∙ f .if2 .left
+table-none f = sym (f .before .check-branch-bytes .ensures) ∙ f .if2 .left
 
 plan-is : (f : tie.Else2) → PlanPasses (f .before .before .before .before .before .before .args .plan .now)
 plan-is f = plan-passes _ (plan-none (f .before .before))
@@ -30,15 +30,15 @@ returns : tie.Need-returns
 unfolding branchTableChecks
 returns c = first-part _ _ _ (c .before .check-plan .ensures) (c .if1 .taken)
 
-check-branch-requires : tie.Need-check-branch-requires
-check-branch-requires c κs = search needs
+check-branch-bytes-requires : tie.Need-check-branch-bytes-requires
+check-branch-bytes-requires c κs = search needs
 
 returns-2 : tie.Need-returns-2
 unfolding branchTableChecks
 returns-2 c =
     let e = c .before .before in
     let r = e .before .before .before .before .args .branch .now in
-    table-rules _ (labelCount r) (labelCount r) refl _ (branch-numbered r) (plan-none e) _ (c .before .check-branch .ensures) (c .if2 .taken)
+    table-rules _ (labelCount r) (labelCount r) refl _ (branch-numbered r) (plan-none e) _ (c .before .check-branch-bytes .ensures) (c .if2 .taken)
 
 read32-requires : tie.Need-read32-requires
 read32-requires c κs = omega (arith, table-is c .long)
@@ -72,7 +72,7 @@ check-branch-inputs-spec =
     (tie.spec
     check-plan-requires
     returns
-    check-branch-requires
+    check-branch-bytes-requires
     returns-2
     read32-requires
     plan-labels-below-requires

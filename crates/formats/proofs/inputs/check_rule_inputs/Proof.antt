@@ -15,7 +15,7 @@ plan-none : (e : tie.Else1) → firstNo (planChecks (e .before .before .before .
 plan-none e = sym (e .before .check-plan .ensures) ∙ e .if1 .left
 
 table-none : (f : tie.Else2) → firstNo (ruleChecks (f .before .before .before .before .before .before .args .rules .now)) ≡ 0
-table-none f = sym (f .before .check-rules .ensures) ∙ f .if2 .left
+table-none f = sym (f .before .check-rule-bytes .ensures) ∙ f .if2 .left
 
 plan-is : (f : tie.Else2) → PlanPasses (f .before .before .before .before .before .before .args .plan .now)
 plan-is f = plan-passes _ (plan-none (f .before .before))
@@ -30,15 +30,15 @@ returns : tie.Need-returns
 unfolding ruleTableChecks
 returns c = first-part _ _ _ (c .before .check-plan .ensures) (c .if1 .taken)
 
-check-rules-requires : tie.Need-check-rules-requires
-check-rules-requires c κs = search needs
+check-rule-bytes-requires : tie.Need-check-rule-bytes-requires
+check-rule-bytes-requires c κs = search needs
 
 returns-2 : tie.Need-returns-2
 unfolding ruleTableChecks
 returns-2 c =
     let e = c .before .before in
     let r = e .before .before .before .before .args .rules .now in
-    table-rules _ (labelCount r) (labelCount r) refl _ (rules-numbered r) (plan-none e) _ (c .before .check-rules .ensures) (c .if2 .taken)
+    table-rules _ (labelCount r) (labelCount r) refl _ (rules-numbered r) (plan-none e) _ (c .before .check-rule-bytes .ensures) (c .if2 .taken)
 
 read32-requires : tie.Need-read32-requires
 read32-requires c κs = omega (arith, table-is c .long)
@@ -72,7 +72,7 @@ check-rule-inputs-spec =
     (tie.spec
     check-plan-requires
     returns
-    check-rules-requires
+    check-rule-bytes-requires
     returns-2
     read32-requires
     plan-labels-below-requires

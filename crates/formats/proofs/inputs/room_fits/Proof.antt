@@ -9,7 +9,7 @@ mul-if1 : tie.Need-mul-if1
 mul-if1 c = search needs
 
 returns : tie.Need-returns
-returns c = let a = c .before .args in room-links (a .n) (a .s) (a .nums) (a .bytes) (c .if1 .taken)
+returns c = let a = c .before .args in room-links (a .n) (a .s) (a .node-table) (a .state-table) (c .if1 .taken)
 
 add-result : tie.Need-add-result
 add-result c = search needs
@@ -20,7 +20,7 @@ mul-result c =
     omega (arith, product-states (b .args .n) (b .args .s) (b .pre .nodes) (b .pre .states))
 
 returns-2 : tie.Need-returns-2
-returns-2 c = let a = c .before .args in room-states (a .n) (a .s) (a .nums) (a .bytes) (c .if1 .left)
+returns-2 c = let a = c .before .args in room-states (a .n) (a .s) (a .node-table) (a .state-table) (c .if1 .left)
 
 pub room-fits-spec : {M : Type 1} → statement M
 room-fits-spec = tie.close (tie.spec mul-if1 returns add-result mul-result returns-2)

@@ -3,8 +3,8 @@
 use Prim.Native.Nat.{_-_, _≤_}
 use mathlib.Core.Path.{_≡_, refl, sym, _∙_}
 use lib.ListN.{length, drop}
-use Rattle.formats.specs.Bytes.{distinct}
-use Rattle.formats.proofs.TurnLaws.{distinct-no, distinct-yes, distinct-end}
+use Rattle.list_laws.specs.Tests.{distinct}
+use Rattle.list_laws.proofs.LoopLaws.{distinct-no, distinct-yes, distinct-end}
 use native.Mathlib.Omega.{arith}
 use borrow.Author.Needs.{needs}
 use Rattle.formats.proofs.lists.all_distinct.Statement.{statement}

@@ -4,39 +4,27 @@ use borrow.Author.Needs.{needs}
 use Rattle.formats.proofs.lists.check_list.Statement.{statement}
 use Rattle.formats.proofs.lists.check_list.Tie as tie
 
-lengths-fit-requires : tie.Need-lengths-fit-requires
-lengths-fit-requires c κs = search needs
-
 returns : tie.Need-returns
-returns c = list-12 _ _ _ _ _ (c .before .lengths-fit .ensures) (c .if1 .taken)
-
-nodes-below-requires : tie.Need-nodes-below-requires
-nodes-below-requires c κs = search needs
+returns c = list-12 _ _ _ _ _ (c .before .lists-fit .ensures) (c .if1 .taken)
 
 returns-2 : tie.Need-returns-2
 returns-2 c =
     let e = c .before .before in
-    list-13 _ _ _ _ _ (e .before .lengths-fit .ensures) (e .if1 .left) _ (c .before .nodes-below .ensures) (c .if2 .taken)
-
-labels-below-requires : tie.Need-labels-below-requires
-labels-below-requires c κs = search needs
+    list-13 _ _ _ _ _ (e .before .lists-fit .ensures) (e .if1 .left) _ (c .before .nodes-below .ensures) (c .if2 .taken)
 
 returns-3 : tie.Need-returns-3
 returns-3 c =
     let f = c .before .before in
     let e = f .before .before in
-    list-14 _ _ _ _ _ (e .before .lengths-fit .ensures) (e .if1 .left) _ (f .before .nodes-below .ensures) (f .if2 .left)
+    list-14 _ _ _ _ _ (e .before .lists-fit .ensures) (e .if1 .left) _ (f .before .nodes-below .ensures) (f .if2 .left)
     _ (c .before .labels-below .ensures) (c .if3 .taken)
-
-all-distinct-requires : tie.Need-all-distinct-requires
-all-distinct-requires c κs = search needs
 
 returns-4 : tie.Need-returns-4
 returns-4 c =
     let g = c .before .before in
     let f = g .before .before in
     let e = f .before .before in
-    list-15 _ _ _ _ _ (e .before .lengths-fit .ensures) (e .if1 .left) _ (f .before .nodes-below .ensures) (f .if2 .left)
+    list-15 _ _ _ _ _ (e .before .lists-fit .ensures) (e .if1 .left) _ (f .before .nodes-below .ensures) (f .if2 .left)
     _ (g .before .labels-below .ensures) (g .if3 .left) _ (c .before .all-distinct .ensures) (c .if4 .taken)
 
 returns-5 : tie.Need-returns-5
@@ -44,19 +32,19 @@ returns-5 c =
     let g = c .before .before in
     let f = g .before .before in
     let e = f .before .before in
-    list-good _ _ _ _ _ (e .before .lengths-fit .ensures) (e .if1 .left) _ (f .before .nodes-below .ensures) (f .if2 .left)
+    list-good _ _ _ _ _ (e .before .lists-fit .ensures) (e .if1 .left) _ (f .before .nodes-below .ensures) (f .if2 .left)
     _ (g .before .labels-below .ensures) (g .if3 .left) _ (c .before .all-distinct .ensures) (c .if4 .left)
 
 pub check-list-spec : {M : Type 1} → statement M
 check-list-spec =
     tie.close
     (tie.spec
-    lengths-fit-requires
+    (λ c κs. search needs)
     returns
-    nodes-below-requires
+    (λ c κs. search needs)
     returns-2
-    labels-below-requires
+    (λ c κs. search needs)
     returns-3
-    all-distinct-requires
+    (λ c κs. search needs)
     returns-4
     returns-5)

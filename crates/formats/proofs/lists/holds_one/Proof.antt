@@ -4,8 +4,8 @@ use Prim.Native.Nat.{_-_, _≤_}
 use mathlib.Core.Path.{_≡_, refl, sym, _∙_}
 use mathlib.Core.Bool.{_||_}
 use lib.ListN.{length, drop}
-use Rattle.formats.specs.Bytes.{holds}
-use Rattle.formats.proofs.TurnLaws.{holds-turn, holds-end}
+use Rattle.list_laws.specs.Tests.{holds}
+use Rattle.list_laws.proofs.LoopLaws.{holds-iteration, holds-end}
 use native.Mathlib.Omega.{arith}
 use borrow.Author.Needs.{needs}
 use Rattle.formats.proofs.lists.holds_one.Statement.{statement}
@@ -36,7 +36,7 @@ loop-again : tie.Need-loop-again Inv-loop μ-loop
 loop-again c =
     let l = c .before .before .loop in
     let a = c .before .before .before .args in
-    (omega arith, holds-turn (a .nodes .now) (l .i) (a .x) (l .found) (c .before .loop-test .taken) ∙ l .inv .1)
+    (omega arith, holds-iteration (a .nodes .now) (l .i) (a .x) (l .found) (c .before .loop-test .taken) ∙ l .inv .1)
 
 returns : tie.Need-returns Inv-loop μ-loop
 returns c = sym (holds-end _ _ _ _ (c .loop-test .left)) ∙ c .before .loop .inv .1

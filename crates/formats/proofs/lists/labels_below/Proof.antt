@@ -1,6 +1,6 @@
 -- `formats::lists::labels_below` meets its contract: a byte is below a K above 255. Assumes nothing.
 use mathlib.Core.Path.{sym}
-use Rattle.formats.proofs.ListLaws.{at-allBelow}
+use Rattle.list_laws.proofs.TestLaws.{at-allBelow}
 use native.Mathlib.Omega.{arith}
 use borrow.Author.Needs.{needs}
 use Rattle.formats.proofs.lists.labels_below.Statement.{statement}

@@ -4,8 +4,8 @@ use Prim.Native.Nat.{_-_, _≤_}
 use mathlib.Core.Path.{_≡_, refl, sym, _∙_}
 use mathlib.Core.Bool.{_&&_}
 use lib.ListN.{length, drop}
-use Rattle.formats.specs.Bytes.{allBelow}
-use Rattle.formats.proofs.TurnLaws.{below-turn, below-end}
+use Rattle.list_laws.specs.Tests.{allBelow}
+use Rattle.list_laws.proofs.LoopLaws.{below-iteration, below-end}
 use native.Mathlib.Omega.{arith}
 use borrow.Author.Needs.{needs}
 use Rattle.formats.proofs.lists.nodes_below.Statement.{statement}
@@ -39,7 +39,7 @@ loop-again : tie.Need-loop-again Inv-loop μ-loop
 loop-again c =
     let l = c .before .before .loop in
     let a = c .before .before .before .args in
-    (omega arith, below-turn (a .nodes .now) (l .i) (a .n) (l .ok) (c .before .loop-test .taken) ∙ l .inv .1)
+    (omega arith, below-iteration (a .nodes .now) (l .i) (a .n) (l .ok) (c .before .loop-test .taken) ∙ l .inv .1)
 
 returns : tie.Need-returns Inv-loop μ-loop
 returns c = sym (below-end _ _ _ _ (c .loop-test .left)) ∙ c .before .loop .inv .1

@@ -1,7 +1,7 @@
--- `formats::plan::is_postorder` meets its contract: the loop's invariant is Counted of KindTurns. Assumes nothing.
+-- `formats::plan::is_postorder` meets its contract: the loop's invariant is Counted of KindLoop. Assumes nothing.
 use Prim.Native.Nat.{_-_}
 use lib.ListN.{length}
-use Rattle.formats.proofs.KindTurns.{Counted, counted-start, counted-turn, counted-end}
+use Rattle.formats.proofs.KindLoop.{Counted, counted-start, counted-iteration, counted-end}
 use native.Mathlib.Omega.{arith}
 use borrow.Author.Needs.{needs}
 use Rattle.formats.proofs.plan.is_postorder.Statement.{statement}
@@ -40,7 +40,7 @@ loop-less c = search needs
 loop-again : tie.Need-loop-again Inv-loop μ-loop
 loop-again c =
     let l = c .before .before .loop in
-    counted-turn _ _ (l .trees) (l .i) (l .ok) (l .inv) (c .before .loop-test .taken)
+    counted-iteration _ _ (l .trees) (l .i) (l .ok) (l .inv) (c .before .loop-test .taken)
 
 add-result : tie.Need-add-result Inv-loop μ-loop
 add-result c = search needs

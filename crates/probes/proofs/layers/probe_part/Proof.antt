@@ -1,30 +1,20 @@
 use Rattle.probes.proofs.ProbeLaws.{part-reached, part-outside}
 use native.Mathlib.Omega.{arith}
 use borrow.Author.Needs.{needs}
+use Rattle.questions.proofs.part.part.Reads as part-reads
 use Rattle.probes.proofs.layers.probe_part.Statement.{statement}
 use Rattle.probes.proofs.layers.probe_part.Tie as tie
 use Rattle.probes.proofs.layers.probe_part.Reads as reads
 use Rattle.probes.proofs.layers.probe_part.Lts as lts
-use Rattle.questions.proofs.part.part.Reads as part-reads
-
-part-requires : tie.Need-part-requires
-part-requires c κs = search needs
-
-enum-known-q : tie.Need-enum-known-q
-enum-known-q c = search needs
-
-cast-t15 : tie.Need-cast-t15
-cast-t15 c = search needs
 
 returns : tie.Need-returns
-returns c = part-reached _ _ _ _ (c .before .q .given .1) (c .before .before .before .part .ensures .told)
-
-enum-told : tie.Need-enum-told
-enum-told c = search needs
+returns c =
+    let f = c .before .before in
+    part-reached _ _ (f .found .given .0 .0) (f .found .given .1) (f .before .before .part .ensures .result)
 
 returns-2 : tie.Need-returns-2
-returns-2 c = part-outside _ _ (c .enum-told .given .1) (c .before .before .part .ensures .told)
+returns-2 c = part-outside _ _ (c .enum-told .given .1) (c .before .before .part .ensures .result)
 
 pub probe-part-spec : {M : Type 1} → statement M
 probe-part-spec =
-    tie.close (tie.spec part-requires enum-known-q cast-t15 returns enum-told returns-2)
+    tie.close (tie.spec (λ c κs. search needs) (λ c. search needs) (λ c. search needs) returns (λ c. search needs) returns-2)

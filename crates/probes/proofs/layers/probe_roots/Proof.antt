@@ -11,7 +11,7 @@ roots-requires : tie.Need-roots-requires
 roots-requires c κs = search needs
 
 returns : tie.Need-returns
-returns c = roots-probed _ _ (c .before .roots .ensures .told)
+returns c = roots-probed _ _ (c .before .roots .ensures .result)
 
 pub probe-roots-spec : {M : Type 1} → statement M
 probe-roots-spec = tie.close (tie.spec roots-requires returns)

@@ -1,5 +1,5 @@
 use mathlib.Core.Path.{_≡_, refl}
-use Rattle.session.specs.Tests.{lentOf}
+use Rattle.formats.specs.Inputs.{inputsOf}
 use Rattle.probes.specs.Probed.{advanced}
 use Rattle.probes.proofs.ProbeLaws.{once-more, all-done}
 use native.Mathlib.Omega.{arith}
@@ -8,20 +8,19 @@ use Rattle.probes.proofs.whole.advance_by.Statement.{statement}
 use Rattle.probes.proofs.whole.advance_by.Tie as tie
 use Rattle.probes.proofs.whole.advance_by.Reads as reads
 use Rattle.probes.proofs.whole.advance_by.Lts as lts
-use Rattle.session.proofs.state.Session.advance.Reads as advance-reads
 
 abbrev Inv-loop : tie.InvT-loop
-Inv-loop count plan rules nums bytes u₀ left₀ u left =
-    advanced left (lentOf plan rules nums bytes) u ≡ advanced left₀ (lentOf plan rules nums bytes) u₀
+Inv-loop count plan rules nodeTable stateTable u₀ left₀ u left =
+    advanced left (inputsOf plan rules nodeTable stateTable) u ≡ advanced left₀ (inputsOf plan rules nodeTable stateTable) u₀
 
 abbrev μ-loop : tie.MeasureT-loop
-μ-loop count plan rules nums bytes u₀ left₀ u left = left
+μ-loop count plan rules nodeTable stateTable u₀ left₀ u left = left
 
 loop-holds : tie.Need-loop-holds Inv-loop μ-loop
 loop-holds c = refl
 
-advance-requires : tie.Need-advance-requires Inv-loop μ-loop
-advance-requires c κs = search needs
+advance-at-requires : tie.Need-advance-at-requires Inv-loop μ-loop
+advance-at-requires c κs = search needs
 
 sub-left : tie.Need-sub-left Inv-loop μ-loop
 sub-left c = search needs
@@ -32,7 +31,7 @@ loop-less c = search needs
 loop-again : tie.Need-loop-again Inv-loop μ-loop
 loop-again c =
     let l = c .before .before .before .loop in
-    once-more _ (l .u) _ (l .left) (l .inv) _ (omega arith) (c .before .advance .ensures .leaves)
+    once-more _ (l .u) _ (l .left) (l .inv) _ (omega arith) (c .before .advance-at .ensures .leaves)
 
 returns : tie.Need-returns Inv-loop μ-loop
 returns c =
@@ -42,4 +41,4 @@ returns c =
 pub advance-by-spec : {M : Type 1} → statement M
 advance-by-spec =
     tie.close
-    (tie.spec Inv-loop μ-loop loop-holds advance-requires sub-left loop-less loop-again returns)
+    (tie.spec Inv-loop μ-loop loop-holds advance-at-requires sub-left loop-less loop-again returns)

@@ -1,5 +1,4 @@
-use mathlib.Core.Path.{refl}
-use Rattle.book.specs.Model.{idle}
+use Rattle.model.specs.Model.{idle}
 use Rattle.session.specs.Records.{sessionOf, phaseTo}
 use native.Mathlib.Omega.{arith}
 use borrow.Author.Needs.{needs}
@@ -8,9 +7,12 @@ use Rattle.probes.proofs.whole.loaded.Tie as tie
 use Rattle.probes.proofs.whole.loaded.Reads as reads
 use Rattle.probes.proofs.whole.loaded.Lts as lts
 
+idle-requires : tie.Need-idle-requires
+idle-requires c κs = search needs
+
 returns : tie.Need-returns
 unfolding sessionOf phaseTo idle
-returns c = refl
+returns c = c .idle .ensures
 
 pub loaded-spec : {M : Type 1} → statement M
-loaded-spec = tie.close (tie.spec returns)
+loaded-spec = tie.close (tie.spec idle-requires returns)

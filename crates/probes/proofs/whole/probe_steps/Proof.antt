@@ -1,4 +1,4 @@
-use Rattle.probes.proofs.ProbeLaws.{steps-told}
+use Rattle.probes.proofs.ProbeLaws.{steps-answer}
 use native.Mathlib.Omega.{arith}
 use borrow.Author.Needs.{needs}
 use Rattle.probes.proofs.whole.probe_steps.Statement.{statement}
@@ -7,28 +7,15 @@ use Rattle.probes.proofs.whole.probe_steps.Reads as reads
 use Rattle.probes.proofs.whole.probe_steps.Lts as lts
 use Rattle.probes.proofs.whole.advance_by.Reads as advance-by-reads
 use Rattle.probes.proofs.whole.loaded.Reads as loaded-reads
-use Rattle.probes.proofs.whole.parts_told.Reads as parts-told-reads
-use Rattle.session.proofs.state.Session.start.Reads as start-reads
-
-loaded-requires : tie.Need-loaded-requires
-loaded-requires c κs = search needs
-
-start-requires : tie.Need-start-requires
-start-requires c κs = search needs
-
-parts-told-requires : tie.Need-parts-told-requires
-parts-told-requires c κs = search needs
-
-advance-by-requires : tie.Need-advance-by-requires
-advance-by-requires c κs = search needs
+use Rattle.probes.proofs.whole.parts_in.Reads as parts-told-reads
 
 returns : tie.Need-returns
 returns c =
     let t = c .before in
     let o = t .before .before in
-    steps-told _ _ _ _ _ _ (o .before .loaded .ensures) (o .start .ensures) _ _ _ (t .parts-told .ensures) (c .advance-by .ensures)
+    steps-answer _ _ _ _ _ _ (o .before .loaded .ensures) (o .start-at .ensures) _ _ _ (t .parts-in .ensures) (c .advance-by .ensures)
 
 pub probe-steps-spec : {M : Type 1} → statement M
 probe-steps-spec =
     tie.close
-    (tie.spec loaded-requires start-requires parts-told-requires advance-by-requires returns)
+    (tie.spec (λ c κs. search needs) (λ c κs. search needs) (λ c κs. search needs) (λ c κs. search needs) returns)

@@ -3,33 +3,21 @@ use native.Mathlib.Omega.{arith}
 use borrow.Author.Needs.{needs}
 use Prim.Native.Nat.{ℕ, _+_, _-_, _*_}
 use mathlib.Core.Path.{ap}
-use Rattle.questions.specs.Climbs.{View}
-use Rattle.questions.specs.PathViews.{pathView}
-use Rattle.questions.proofs.PartTurns.{side-args, side-few, fork-told}
+use Rattle.tables.specs.Climbs.{View}
+use Rattle.tables.specs.inner.PathViews.{pathView}
+use Rattle.questions.proofs.PartLoop.{side-args, side-few, fork-answer}
 use Rattle.questions.proofs.part.fork_on.Statement.{statement}
 use Rattle.questions.proofs.part.fork_on.Tie as tie
 
 abbrev view : tie.Start → View
 view s =
     let g = s .args in
-    pathView (g .n) (g .s) (g .k) (g .labels .now) (g .inner .now) (g .nums .now) (g .bytes .now)
-
-depth-at-requires : tie.Need-depth-at-requires
-depth-at-requires c κs = search needs
+    pathView (g .n) (g .s) (g .k) (g .labels .now) (g .inner .now) (g .node-table .now) (g .state-table .now)
 
 add-to : tie.Need-add-to
 add-to c =
     let k = c .before .before .before .before in
     omega (arith, c .depth-at .ensures, k .shared-slice-known3 .given (k .before .before .before .args .v * 4 + 2))
-
-last-below-requires : tie.Need-last-below-requires
-last-below-requires c κs = search needs
-
-sub-last-below : tie.Need-sub-last-below
-sub-last-below c = search needs
-
-last-below-requires-2 : tie.Need-last-below-requires-2
-last-below-requires-2 c κs = search needs
 
 side-on-requires : tie.Need-side-on-requires
 side-on-requires c κs =
@@ -37,9 +25,6 @@ side-on-requires c κs =
     side-args _ _ _ _ _ _ _ _ _ _ (c .before .last-below .result) (s .pre .path)
     (omega (arith, s .pre .left, s .pre .at)) (s .pre .same)
     (c .before .last-below .ensures)
-
-sub-side-on : tie.Need-sub-side-on
-sub-side-on c = search needs
 
 side-on-requires-2 : tie.Need-side-on-requires-2
 side-on-requires-2 c κs =
@@ -68,7 +53,7 @@ returns c =
     let i = j .before in
     let s = i .before .before .before .before .before .before .before .before in
     let g = s .args in
-    fork-told (view s) (g .earlier .now) (g .states .now) (g .v) (g .l) (g .a) (i .last-below .result)
+    fork-answer (view s) (g .earlier .now) (g .states .now) (g .v) (g .l) (g .a) (i .last-below .result)
     (j .last-below2 .result)
     (i .before .depth-at .result + 1) (s .pre .same) (ap (λ (d : ℕ). d + 1) (i .before .depth-at .ensures))
     (i .last-below .ensures) (j .last-below2 .ensures) (l .side-on .result) (r .side-on2 .result) (c .join-on .result)
@@ -78,13 +63,13 @@ pub fork-on-spec : {M : Type 1} → statement M
 fork-on-spec =
     tie.close
     (tie.spec
-    depth-at-requires
+    (λ c κs. search needs)
     add-to
-    last-below-requires
-    sub-last-below
-    last-below-requires-2
+    (λ c κs. search needs)
+    (λ c. search needs)
+    (λ c κs. search needs)
     side-on-requires
-    sub-side-on
+    (λ c. search needs)
     side-on-requires-2
     join-on-requires
     returns)

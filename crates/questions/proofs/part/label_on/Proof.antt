@@ -5,7 +5,7 @@ use Prim.Native.Nat.{_-_}
 use mathlib.Core.Path.{_≡_, sym, ap, _∙_}
 use lib.ListN.{getD}
 use Rattle.trees.specs.Changes.{changed}
-use Rattle.questions.specs.Scans.{labelOf}
+use Rattle.questions.specs.inner.Scans.{labelOf}
 use Rattle.questions.proofs.ScanLaws.{last-bound, label-scan}
 use Rattle.questions.proofs.PartLaws.{label-none, label-found}
 use Rattle.questions.proofs.part.label_on.Statement.{statement}
@@ -21,18 +21,6 @@ scanned l =
     label-scan (g .v) (g .labels .now) (g .nodes .now) (g .changes .now) (s .pre .at) (s .pre .same)
     ∙ ap (labelOf (g .labels .now) (g .changes .now) (g .v)) (sym (l .last-in .ensures))
 
-cast-last-in : tie.Need-cast-last-in
-cast-last-in c = search needs
-
-last-in-requires : tie.Need-last-in-requires
-last-in-requires c κs = search needs
-
-cast-at : tie.Need-cast-at
-cast-at c = search needs
-
-shared-slice-read-result : tie.Need-shared-slice-read-result
-shared-slice-read-result c = search needs
-
 cast-result : tie.Need-cast-result
 cast-result c =
     omega (arith, c .shared-slice-known4 .given (c .before .before .before .before .before .before .args .v))
@@ -42,9 +30,6 @@ returns c =
     let l = c .before .before in
     let g = l .before .before .before .before .args in
     sym (scanned l ∙ label-none (l .last-in .result) (g .labels .now) (g .changes .now) (g .v) (c .before .if1 .taken))
-
-sub-result : tie.Need-sub-result
-sub-result c = search needs
 
 shared-slice-read-result-2 : tie.Need-shared-slice-read-result-2
 shared-slice-read-result-2 c =
@@ -69,13 +54,13 @@ pub label-on-spec : {M : Type 1} → statement M
 label-on-spec =
     tie.close
     (tie.spec
-    cast-last-in
-    last-in-requires
-    cast-at
-    shared-slice-read-result
+    (λ c. search needs)
+    (λ c κs. search needs)
+    (λ c. search needs)
+    (λ c. search needs)
     cast-result
     returns
-    sub-result
+    (λ c. search needs)
     shared-slice-read-result-2
     cast-result-2
     returns-2)

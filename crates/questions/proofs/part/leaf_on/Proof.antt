@@ -1,10 +1,10 @@
 -- `leaf_on` meets its contract. Assumes nothing.
 use native.Mathlib.Omega.{arith}
 use borrow.Author.Needs.{needs}
+use Rattle.tables.specs.Climbs.{climbedOf}
 use Rattle.questions.proofs.PartLaws.{leaf-outside, leaf-at}
 use mathlib.Core.Path.{sym, ap, _∙_}
-use Rattle.questions.specs.PartArgs.{leavesView}
-use Rattle.questions.specs.PartTold.{toldReached}
+use Rattle.questions.specs.inner.PartArgs.{leavesView}
 use Rattle.questions.proofs.part.leaf_on.Statement.{statement}
 use Rattle.questions.proofs.part.leaf_on.Tie as tie
 
@@ -13,23 +13,23 @@ returns c =
     let g = c .before .before .args in
     leaf-outside (leavesView (g .s) (g .k) (g .leaves .now)) (g .a) (c .if1 .taken)
 
-shared-slice-read-told-state : tie.Need-shared-slice-read-told-state
-shared-slice-read-told-state c = search needs
+shared-slice-read-handled-state : tie.Need-shared-slice-read-handled-state
+shared-slice-read-handled-state c = search needs
 
-cast-told-state : tie.Need-cast-told-state
-cast-told-state c =
+cast-handled-state : tie.Need-cast-handled-state
+cast-handled-state c =
     omega (arith, c .shared-slice-known2 .given (c .before .before .before .args .a))
 
-told-state-requires : tie.Need-told-state-requires
-told-state-requires c κs = search needs
+handled-state-requires : tie.Need-handled-state-requires
+handled-state-requires c κs = search needs
 
 returns-2 : tie.Need-returns-2
 returns-2 c =
     let g = c .before .before .before .before .args in
-    c .told-state .ensures
-    ∙ ap toldReached (sym (leaf-at (leavesView (g .s) (g .k) (g .leaves .now)) (g .a) (c .before .before .if1 .left)))
+    c .handled-state .ensures
+    ∙ ap climbedOf (sym (leaf-at (leavesView (g .s) (g .k) (g .leaves .now)) (g .a) (c .before .before .if1 .left)))
 
 pub leaf-on-spec : {M : Type 1} → statement M
 leaf-on-spec =
     tie.close
-    (tie.spec returns shared-slice-read-told-state cast-told-state told-state-requires returns-2)
+    (tie.spec returns shared-slice-read-handled-state cast-handled-state handled-state-requires returns-2)

@@ -2,29 +2,20 @@
 use native.Mathlib.Omega.{arith}
 use borrow.Author.Needs.{needs}
 use Prim.Native.Nat.{_-_}
-use Rattle.questions.specs.Climbs.{View}
-use Rattle.questions.specs.PartArgs.{partView}
-use Rattle.questions.proofs.PartTurns.{part-leaf, part-first, part-outside, part-fork}
+use Rattle.tables.specs.Climbs.{View}
+use Rattle.questions.specs.inner.PartArgs.{partView}
+use Rattle.questions.proofs.PartLoop.{part-leaf, part-first, part-outside, part-fork}
 use Rattle.questions.proofs.part.part_on.Statement.{statement}
 use Rattle.questions.proofs.part.part_on.Tie as tie
 
 abbrev view : tie.Start → View
 view s =
     let g = s .args in
-    partView (g .n) (g .s) (g .k) (g .labels .now) (g .kinds .now) (g .leaves .now) (g .inner .now) (g .nums .now)
-    (g .bytes .now)
+    partView (g .n) (g .s) (g .k) (g .labels .now) (g .kinds .now) (g .leaves .now) (g .inner .now) (g .node-table .now)
+    (g .state-table .now)
 
 abbrev start : tie.After-label-on → tie.Start
 start a = a .before .before .before .before .before .before .before .before .before .before .before
-
-label-on-requires : tie.Need-label-on-requires
-label-on-requires c κs = search needs
-
-shared-slice-read-if1 : tie.Need-shared-slice-read-if1
-shared-slice-read-if1 c = search needs
-
-leaf-on-requires : tie.Need-leaf-on-requires
-leaf-on-requires c κs = search needs
 
 returns : tie.Need-returns
 returns c =
@@ -44,15 +35,6 @@ returns-2 c =
     (a .label-on .result) (a .label-on .ensures)
     (c .before .if1 .left) (c .if2 .taken)
 
-sub-size-at : tie.Need-sub-size-at
-sub-size-at c = search needs
-
-size-at-requires : tie.Need-size-at-requires
-size-at-requires c κs = search needs
-
-sub-if3 : tie.Need-sub-if3
-sub-if3 c = search needs
-
 returns-3 : tie.Need-returns-3
 returns-3 c =
     let a = c .before .before .before .before .before in
@@ -62,15 +44,6 @@ returns-3 c =
     (a .label-on .result) (a .label-on .ensures)
     (c .before .before .before .if1 .left) (c .before .before .if2 .left)
     (omega (arith, c .if3 .taken, c .before .size-at .ensures))
-
-sub-fork-on : tie.Need-sub-fork-on
-sub-fork-on c = search needs
-
-sub-fork-on-2 : tie.Need-sub-fork-on-2
-sub-fork-on-2 c = search needs
-
-fork-on-requires : tie.Need-fork-on-requires
-fork-on-requires c κs = search needs
 
 returns-4 : tie.Need-returns-4
 returns-4 c =
@@ -88,16 +61,16 @@ pub part-on-spec : {M : Type 1} → statement M
 part-on-spec =
     tie.close
     (tie.spec
-    label-on-requires
-    shared-slice-read-if1
-    leaf-on-requires
+    (λ c κs. search needs)
+    (λ c. search needs)
+    (λ c κs. search needs)
     returns
     returns-2
-    sub-size-at
-    size-at-requires
-    sub-if3
+    (λ c. search needs)
+    (λ c κs. search needs)
+    (λ c. search needs)
     returns-3
-    sub-fork-on
-    sub-fork-on-2
-    fork-on-requires
+    (λ c. search needs)
+    (λ c. search needs)
+    (λ c κs. search needs)
     returns-4)

@@ -4,10 +4,9 @@ use borrow.Author.Needs.{needs}
 use Prim.Native.Nat.{_+_, _-_}
 use mathlib.Core.Path.{_≡_, ap, _∙_}
 use lib.ListN.{length}
-use Rattle.questions.specs.Climbs.{View}
-use Rattle.questions.specs.PathViews.{pathView}
-use Rattle.questions.specs.PartTold.{toldReached}
-use Rattle.questions.proofs.LookupLaws.{state-place}
+use Rattle.tables.specs.Climbs.{View, climbedOf}
+use Rattle.tables.specs.inner.PathViews.{pathView}
+use Rattle.tables.proofs.LookupLaws.{state-place}
 use Rattle.questions.proofs.PartLaws.{side-run, side-own, side-lost, side-climb}
 use Rattle.questions.proofs.part.side_on.Statement.{statement}
 use Rattle.questions.proofs.part.side_on.Tie as tie
@@ -15,7 +14,7 @@ use Rattle.questions.proofs.part.side_on.Tie as tie
 abbrev view : tie.Start → View
 view s =
     let g = s .args in
-    pathView (g .n) (g .s) (g .k) (g .labels .now) (g .inner .now) (g .nums .now) (g .bytes .now)
+    pathView (g .n) (g .s) (g .k) (g .labels .now) (g .inner .now) (g .node-table .now) (g .state-table .now)
 
 run-on-requires : tie.Need-run-on-requires
 run-on-requires c κs =
@@ -23,42 +22,30 @@ run-on-requires c κs =
     let g = s .args in
     record {
       few = s .pre .path .few;
-      at = state-place (g .n) (g .s) (g .c) (length (g .bytes .now)) (s .pre .at) (s .pre .path .bytes-room);
+      at = state-place (g .n) (g .s) (g .c) (length (g .state-table .now)) (s .pre .at) (s .pre .path .state-table-room);
     }
-
-told-state-requires : tie.Need-told-state-requires
-told-state-requires c κs = search needs
 
 returns : tie.Need-returns
 returns c =
     let r = c .before in
     let s = r .before .before .before .before .before .before .before .before in
     let g = s .args in
-    c .told-state .ensures
-    ∙ ap toldReached (side-run (view s) (g .to) (g .c) (g .earlier .now) (g .states .now) (g .own) (g .other)
+    c .handled-state .ensures
+    ∙ ap climbedOf (side-run (view s) (g .to) (g .c) (g .earlier .now) (g .states .now) (g .own) (g .other)
     (r .run-on .result) (r .run-on .ensures) (r .before .if1 .taken))
-
-sub-q : tie.Need-sub-q
-sub-q c = search needs
-
-shared-slice-read-q : tie.Need-shared-slice-read-q
-shared-slice-read-q c = search needs
 
 cast-q : tie.Need-cast-q
 cast-q c =
     let g = c .before .before .before .before .before .before .before .before .args in
     omega (arith, c .shared-slice-known7 .given (g .own - 1))
 
-told-state-requires-2 : tie.Need-told-state-requires-2
-told-state-requires-2 c κs = search needs
-
 returns-2 : tie.Need-returns-2
 returns-2 c =
     let e = c .before .before .before in
     let s = e .before .before .before .before .before .before .before in
     let g = s .args in
-    c .told-state2 .ensures
-    ∙ ap toldReached (side-own (view s) (g .to) (g .c) (g .earlier .now) (g .states .now) (g .own) (g .other)
+    c .handled-state2 .ensures
+    ∙ ap climbedOf (side-own (view s) (g .to) (g .c) (g .earlier .now) (g .states .now) (g .own) (g .other)
     (e .if1 .left) (c .before .if2 .taken))
 
 returns-3 : tie.Need-returns-3
@@ -68,15 +55,6 @@ returns-3 c =
     let g = s .args in
     side-lost (view s) (g .to) (g .c) (g .earlier .now) (g .states .now) (g .own) (g .other)
     (e .if1 .left) (c .before .if2 .left) (c .if3 .taken)
-
-sub-climb-state : tie.Need-sub-climb-state
-sub-climb-state c = search needs
-
-mul-climb-state : tie.Need-mul-climb-state
-mul-climb-state c = search needs
-
-shared-slice-read-climb-state : tie.Need-shared-slice-read-climb-state
-shared-slice-read-climb-state c = search needs
 
 cast-climb-state : tie.Need-cast-climb-state
 cast-climb-state c =
@@ -98,7 +76,7 @@ returns-4 c =
     let s = e .before .before .before .before .before .before .before in
     let g = s .args in
     c .climb-state .ensures
-    ∙ ap toldReached (side-climb (view s) (g .to) (g .c) (g .earlier .now) (g .states .now) (g .own) (g .other)
+    ∙ ap climbedOf (side-climb (view s) (g .to) (g .c) (g .earlier .now) (g .states .now) (g .own) (g .other)
     (e .if1 .left) (c .before .before .before .if2 .left) (c .before .before .if3 .left))
 
 pub side-on-spec : {M : Type 1} → statement M
@@ -106,17 +84,17 @@ side-on-spec =
     tie.close
     (tie.spec
     run-on-requires
-    told-state-requires
+    (λ c κs. search needs)
     returns
-    sub-q
-    shared-slice-read-q
+    (λ c. search needs)
+    (λ c. search needs)
     cast-q
-    told-state-requires-2
+    (λ c κs. search needs)
     returns-2
     returns-3
-    sub-climb-state
-    mul-climb-state
-    shared-slice-read-climb-state
+    (λ c. search needs)
+    (λ c. search needs)
+    (λ c. search needs)
     cast-climb-state
     climb-state-requires
     returns-4)

@@ -2,7 +2,7 @@
 use Prim.Native.Nat.{_-_, _≤_}
 use mathlib.Core.Path.{_≡_, refl, sym, _∙_}
 use lib.ListN.{length, drop}
-use Rattle.questions.specs.Scans.{lastFrom, lastIn}
+use Rattle.questions.specs.inner.Scans.{lastFrom, lastIn}
 use Rattle.questions.proofs.ScanLaws.{last-more, last-same, last-end}
 use native.Mathlib.Omega.{arith}
 use borrow.Author.Needs.{needs}
@@ -34,8 +34,8 @@ shared-slice-read-e c = search needs
 add-i : tie.Need-add-i Inv-loop μ-loop
 add-i c = search needs
 
-place-of-requires : tie.Need-place-of-requires Inv-loop μ-loop
-place-of-requires c κs = search needs
+place-if-covered-requires : tie.Need-place-if-covered-requires Inv-loop μ-loop
+place-if-covered-requires c κs = search needs
 
 loop-less : tie.Need-loop-less Inv-loop μ-loop
 loop-less c = search needs
@@ -45,8 +45,8 @@ loop-again c =
     let a = c .before .before .before .before in
     let g = a .before .before .args in
     let m =
-    last-more (g .c) (g .z) (g .list .now) (a .loop .i) (a .loop .at) (c .before .place-of .result)
-    (c .before .before .before .loop-test .taken) (c .before .place-of .ensures) (c .if1 .taken) in
+    last-more (g .c) (g .z) (g .list .now) (a .loop .i) (a .loop .at) (c .before .place-if-covered .result)
+    (c .before .before .before .loop-test .taken) (c .before .place-if-covered .ensures) (c .if1 .taken) in
     (omega (arith, c .before .before .before .loop-test .taken), (omega (arith, m .0), m .1 ∙ a .loop .inv .1 .1))
 
 loop-less-2 : tie.Need-loop-less-2 Inv-loop μ-loop
@@ -58,8 +58,8 @@ loop-again-2 c =
     let g = a .before .before .args in
     let t = c .before .before .before .loop-test .taken in
     let m =
-    last-same (g .c) (g .z) (g .list .now) (a .loop .i) (a .loop .at) (c .before .place-of .result)
-    t (c .before .place-of .ensures) (a .loop .inv .1 .0) (c .if1 .left) in (
+    last-same (g .c) (g .z) (g .list .now) (a .loop .i) (a .loop .at) (c .before .place-if-covered .result)
+    t (c .before .place-if-covered .ensures) (a .loop .inv .1 .0) (c .if1 .left) in (
       omega arith,
       (omega (arith, a .loop .inv .1 .0), m ∙ a .loop .inv .1 .1),
     )
@@ -82,7 +82,7 @@ last-in-spec =
     mul-e
     shared-slice-read-e
     add-i
-    place-of-requires
+    place-if-covered-requires
     loop-less
     loop-again
     loop-less-2

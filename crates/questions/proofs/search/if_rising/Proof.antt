@@ -1,7 +1,7 @@
 -- `if_rising` meets its contract. Assumes nothing.
 use native.Mathlib.Omega.{arith}
-use Rattle.links.specs.Cells.{cellForest}
-use Rattle.questions.proofs.MeetWays.{rising-outside, rising-flat, rising-up}
+use Rattle.node_tables.specs.Cells.{cellForest}
+use Rattle.questions.proofs.MeetCases.{rising-outside, rising-flat, rising-up}
 use borrow.Author.Needs.{needs}
 use Rattle.questions.proofs.search.if_rising.Statement.{statement}
 use Rattle.questions.proofs.search.if_rising.Tie as tie
@@ -9,7 +9,7 @@ use Rattle.questions.proofs.search.if_rising.Tie as tie
 returns : tie.Need-returns
 returns c =
     let a = c .before .before .args in
-    rising-outside (cellForest (a .n) (a .nums .now)) (a .v) (a .u) (c .if1 .taken)
+    rising-outside (cellForest (a .n) (a .node-table .now)) (a .v) (a .u) (c .if1 .taken)
 
 depth-at-requires : tie.Need-depth-at-requires
 depth-at-requires c κs = search needs
@@ -21,14 +21,14 @@ returns-2 : tie.Need-returns-2
 returns-2 c =
     let d = c .before .before in
     let a = d .before .before .before .args in
-    rising-flat (cellForest (a .n) (a .nums .now)) (a .v) (a .u) (d .before .if1 .left)
+    rising-flat (cellForest (a .n) (a .node-table .now)) (a .v) (a .u) (d .before .if1 .left)
     (omega (arith, c .before .depth-at2 .ensures, d .depth-at .ensures, c .if2 .taken))
 
 returns-3 : tie.Need-returns-3
 returns-3 c =
     let d = c .before .before in
     let a = d .before .before .before .args in
-    rising-up (cellForest (a .n) (a .nums .now)) (a .v) (a .u) (d .before .if1 .left)
+    rising-up (cellForest (a .n) (a .node-table .now)) (a .v) (a .u) (d .before .if1 .left)
     (omega (arith, c .before .depth-at2 .ensures, d .depth-at .ensures, c .if2 .left))
 
 pub if-rising-spec : {M : Type 1} → statement M

@@ -1,31 +1,19 @@
 -- `next_unless` meets its contract, by the way each test went. Assumes nothing.
 use Prim.Native.Nat.{ℕ}
 use mathlib.Core.Path.{sym, _∙_}
-use Rattle.links.specs.Cells.{cellForest}
-use Rattle.links.specs.Cells.{isBelow}
-use Rattle.questions.proofs.MeetWays.{jump-outside, parent-taken, jump-taken}
+use Rattle.node_tables.specs.Cells.{cellForest}
+use Rattle.node_tables.specs.Cells.{isInSubtreeOn}
+use Rattle.questions.proofs.MeetCases.{jump-outside, parent-taken, jump-taken}
 use borrow.Author.Needs.{needs}
 use Rattle.questions.proofs.search.next_unless.Statement.{statement}
 use Rattle.questions.proofs.search.next_unless.Tie as tie
 
-jump-at-requires : tie.Need-jump-at-requires
-jump-at-requires c κs = search needs
-
 returns : tie.Need-returns
 returns c =
     let a = c .before .before .before .args in
-    jump-outside (cellForest (a .n) (a .nums .now)) (λ (x : ℕ). isBelow (a .nums .now) x (a .u)) (a .v)
+    jump-outside (cellForest (a .n) (a .node-table .now)) (λ (x : ℕ). isInSubtreeOn (a .node-table .now) x (a .u)) (a .v)
     (c .before .jump-at .result)
     (c .before .jump-at .ensures) (c .if1 .taken)
-
-is-below-requires : tie.Need-is-below-requires
-is-below-requires c κs = search needs
-
-parent-at-requires : tie.Need-parent-at-requires
-parent-at-requires c κs = search needs
-
-if-rising-requires : tie.Need-if-rising-requires
-if-rising-requires c κs = search needs
 
 returns-2 : tie.Need-returns-2
 returns-2 c =
@@ -34,13 +22,10 @@ returns-2 c =
     let j = b .before .before in
     let a = j .before .before .args in
     c .if-rising .ensures
-    ∙ parent-taken (cellForest (a .n) (a .nums .now)) (λ (x : ℕ). isBelow (a .nums .now) x (a .u)) (a .v)
+    ∙ parent-taken (cellForest (a .n) (a .node-table .now)) (λ (x : ℕ). isInSubtreeOn (a .node-table .now) x (a .u)) (a .v)
     (j .jump-at .result)
     (j .jump-at .ensures) (b .before .if1 .left) (p .parent-at .result) (p .parent-at .ensures)
     (sym (b .is-below .ensures) ∙ p .before .if2 .taken)
-
-if-rising-requires-2 : tie.Need-if-rising-requires-2
-if-rising-requires-2 c κs = search needs
 
 returns-3 : tie.Need-returns-3
 returns-3 c =
@@ -48,7 +33,7 @@ returns-3 c =
     let j = b .before .before in
     let a = j .before .before .args in
     c .if-rising2 .ensures
-    ∙ jump-taken (cellForest (a .n) (a .nums .now)) (λ (x : ℕ). isBelow (a .nums .now) x (a .u)) (a .v)
+    ∙ jump-taken (cellForest (a .n) (a .node-table .now)) (λ (x : ℕ). isInSubtreeOn (a .node-table .now) x (a .u)) (a .v)
     (j .jump-at .result)
     (j .jump-at .ensures) (b .before .if1 .left) (sym (b .is-below .ensures) ∙ c .before .if2 .left)
 
@@ -56,11 +41,11 @@ pub next-unless-spec : {M : Type 1} → statement M
 next-unless-spec =
     tie.close
     (tie.spec
-    jump-at-requires
+    (λ c κs. search needs)
     returns
-    is-below-requires
-    parent-at-requires
-    if-rising-requires
+    (λ c κs. search needs)
+    (λ c κs. search needs)
+    (λ c κs. search needs)
     returns-2
-    if-rising-requires-2
+    (λ c κs. search needs)
     returns-3)

@@ -1,25 +1,60 @@
+-- `records::bytes::encode` meets its contract. A buffer of another length is left; the head and the four arrays are written one after the other.
+-- Assumes nothing.
 use native.Mathlib.Omega.{arith}
-use Rattle.records.proofs.ByteTests.{encode-other, encode-done}
+use mathlib.Core.Path.{sym}
+use lib.Seq.{length-take-le}
+use Rattle.records.proofs.Types.{in-types}
+use Rattle.records.proofs.ByteTests.{encode-other, encode-done, record-written}
 use borrow.Author.Needs.{needs}
 use Rattle.records.proofs.bytes.encode.Statement.{statement}
 use Rattle.records.proofs.bytes.encode.Tie as tie
-use Rattle.records.proofs.bytes.encode.Reads as reads
-use Rattle.records.proofs.bytes.encode.Lts as lts
-use Rattle.records.proofs.bytes.put_record.Reads as put-record-reads
 
 returns : tie.Need-returns
-returns c = encode-other (c .before .before .args .out .now) (c .before .before .args .rec) (c .if1 .taken)
+returns c = encode-other (c .before .before .args .out .now) (c .before .before .args .t1) (c .if1 .taken)
 
-put-record-requires : tie.Need-put-record-requires
-put-record-requires c κs = search needs
+slice-aggregate-put-head : tie.Need-slice-aggregate-put-head
+slice-aggregate-put-head c = sym (length-take-le 13 (c .before .before .before .before .args .out .now) (omega arith))
 
-same-length : tie.Need-same-length
-same-length c = search needs
+put-head-requires : tie.Need-put-head-requires
+put-head-requires c κs = length-take-le 13 (c .before .before .before .before .args .out .now) (omega arith)
 
 returns-2 : tie.Need-returns-2
 returns-2 c =
-    let a = c .before .before .before .before .before .before .args in
-    encode-done (a .out .now) (a .rec) _ (omega arith) (c .before .before .put-record .ensures)
+    let p₅ = c .before .before in
+    let p₄ = p₅ .before .before .before .before .before .before .before in
+    let p₃ = p₄ .before .before .before .before .before .before .before in
+    let p₂ = p₃ .before .before .before .before .before .before .before in
+    let p₁ = p₂ .before .before .before .before .before .before .before in
+    let e = p₁ .before .before .before in
+    let a = e .before .before in
+    encode-done (a .args .out .now) (a .args .t1) _ (omega arith)
+    (record-written (a .args .out .now) (a .args .t1) _ _ _ _ _ (omega arith) (in-types (a .args .t1) (a .good .0))
+    (p₁ .put-head .ensures) (p₂ .put-numbers .ensures) (p₃ .copy-bytes .ensures) (p₄ .put-numbers2 .ensures)
+    (p₅ .copy-bytes2 .ensures))
 
 pub encode-spec : {M : Type 1} → statement M
-encode-spec = tie.close (tie.spec returns put-record-requires same-length returns-2)
+encode-spec =
+    tie.close
+    (tie.spec
+    returns
+    (λ c. search needs)
+    slice-aggregate-put-head
+    put-head-requires
+    (λ c. search needs)
+    (λ c. search needs)
+    (λ c. search needs)
+    (λ c κs. search needs)
+    (λ c. search needs)
+    (λ c. search needs)
+    (λ c. search needs)
+    (λ c κs. search needs)
+    (λ c. search needs)
+    (λ c. search needs)
+    (λ c. search needs)
+    (λ c κs. search needs)
+    (λ c. search needs)
+    (λ c. search needs)
+    (λ c. search needs)
+    (λ c κs. search needs)
+    (λ c. search needs)
+    returns-2)

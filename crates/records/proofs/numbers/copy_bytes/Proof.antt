@@ -3,8 +3,8 @@ use mathlib.Core.Path.{_≡_, refl}
 use mathlib.Core.List.{_++_}
 use native.Mathlib.Omega.{arith}
 use lib.ListN.{length, take, drop, length-set}
-use Rattle.session.proofs.PadLaws.{copy-turn}
-use Rattle.records.proofs.NumberTurns.{copy-end}
+use Rattle.session.proofs.PadLaws.{copy-iteration}
+use Rattle.records.proofs.NumberLoop.{copy-end}
 use borrow.Author.Needs.{needs}
 use Rattle.records.proofs.numbers.copy_bytes.Statement.{statement}
 use Rattle.records.proofs.numbers.copy_bytes.Tie as tie
@@ -36,7 +36,7 @@ loop-again : tie.Need-loop-again Inv-loop μ-loop
 loop-again c =
     let l = c .before .before .loop in
     let a = c .before .before .before .args in
-    let e = copy-turn (a .bytes .now) (a .out .now) (l .out) (l .i) (omega arith) (omega arith) (l .inv .2) in
+    let e = copy-iteration (a .bytes .now) (a .out .now) (l .out) (l .i) (omega arith) (omega arith) (l .inv .2) in
     (search needs, simp length-set (omega arith), e)
 
 same-length : tie.Need-same-length Inv-loop μ-loop

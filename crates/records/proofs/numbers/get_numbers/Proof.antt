@@ -4,7 +4,7 @@ use mathlib.Core.List.{_++_}
 use native.Mathlib.Omega.{arith}
 use lib.ListN.{length, take, drop, length-set}
 use Rattle.records.specs.Layout.{numbers16}
-use Rattle.records.proofs.NumberTurns.{get-turn, get-end}
+use Rattle.records.proofs.NumberLoop.{get-iteration, get-end}
 use borrow.Author.Needs.{needs}
 use Rattle.records.proofs.numbers.get_numbers.Statement.{statement}
 use Rattle.records.proofs.numbers.get_numbers.Tie as tie
@@ -47,7 +47,7 @@ loop-again c =
     let a = c .before .before .before .before .before .args in (
       search needs,
       simp length-set (omega arith),
-      get-turn (a .bytes .now) (a .out .now) (l .out) (l .i) (c .number16 .result) (omega arith) (omega arith)
+      get-iteration (a .bytes .now) (a .out .now) (l .out) (l .i) (c .number16 .result) (omega arith) (omega arith)
           (c .number16 .ensures) (l .inv .2),
     )
 

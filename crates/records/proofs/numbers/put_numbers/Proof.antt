@@ -4,7 +4,7 @@ use mathlib.Core.List.{_++_}
 use native.Mathlib.Omega.{arith}
 use lib.ListN.{length, getD, take, drop, length-set}
 use Rattle.records.specs.Layout.{bytes16}
-use Rattle.records.proofs.NumberTurns.{put-turn, put-end}
+use Rattle.records.proofs.NumberLoop.{put-iteration, put-end}
 use borrow.Author.Needs.{needs}
 use Rattle.records.proofs.numbers.put_numbers.Statement.{statement}
 use Rattle.records.proofs.numbers.put_numbers.Tie as tie
@@ -68,7 +68,7 @@ loop-again c =
     let x : getD (a .numbers .now) (l .i) 0 < 65536 = omega (arith, c .shared-slice-known2 .given (l .i)) in (
       search needs,
       simp length-set (omega arith),
-      put-turn (a .numbers .now) (a .out .now) (l .out) (l .i) _ _ (omega arith) (omega arith) refl (omega arith)
+      put-iteration (a .numbers .now) (a .out .now) (l .out) (l .i) _ _ (omega arith) (omega arith) refl (omega arith)
           (l .inv .2),
     )
 

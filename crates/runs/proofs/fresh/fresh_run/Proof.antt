@@ -5,8 +5,8 @@ use borrow.Author.Needs.{needs}
 use mathlib.Core.Path.{sym, _∙_}
 use Rattle.formats.specs.Plan.{nodeCount}
 use Rattle.formats.specs.Rules.{stateCount, labelCount}
-use Rattle.runs.specs.Pass.{RunArgs}
-use Rattle.runs.proofs.RunLaws.{run-args, done-told, done-refused}
+use Rattle.runs.specs.inner.Pass.{RunArgs}
+use Rattle.runs.proofs.RunLaws.{run-args, done-answer, done-refused}
 use Rattle.runs.proofs.fresh.fresh_run.Statement.{statement}
 use Rattle.runs.proofs.fresh.fresh_run.Tie as tie
 use Rattle.runs.proofs.fresh.fresh_run.Reads as reads
@@ -25,23 +25,11 @@ passed c =
     run-args (a .plan .now) (a .rules .now) (a .nodes .now) (a .labels .now)
     (sym (c .before .check-fresh-run .ensures) ∙ c .if1 .left)
 
-check-fresh-run-requires : tie.Need-check-fresh-run-requires
-check-fresh-run-requires c κs = search needs
-
 returns : tie.Need-returns
 returns c =
     let a = c .before .before .before .before .before .before .args in
     done-refused (a .plan .now) (a .rules .now) (a .nodes .now) (a .labels .now)
     (c .before .check-fresh-run .ensures) (c .if1 .taken)
-
-read32-requires : tie.Need-read32-requires
-read32-requires c κs = omega (arith, passed c .plan-length)
-
-read32-requires-2 : tie.Need-read32-requires-2
-read32-requires-2 c κs = omega (arith, passed (c .before) .rules-length)
-
-read32-requires-3 : tie.Need-read32-requires-3
-read32-requires-3 c κs = omega (arith, passed (c .before .before) .rules-length)
 
 run-passed-requires : tie.Need-run-passed-requires
 run-passed-requires c κs =
@@ -51,16 +39,16 @@ run-passed-requires c κs =
 returns-2 : tie.Need-returns-2
 returns-2 c =
     let a = c .before .before .before .before .before .before .before .before .before .before .args in
-    done-told (a .plan .now) (a .rules .now) (a .nodes .now) (a .labels .now) (c .run-passed .ensures)
+    done-answer (a .plan .now) (a .rules .now) (a .nodes .now) (a .labels .now) (c .run-passed .ensures)
 
 pub fresh-run-spec : {M : Type 1} → statement M
 fresh-run-spec =
     tie.close
     (tie.spec
-    check-fresh-run-requires
+    (λ c κs. search needs)
     returns
-    read32-requires
-    read32-requires-2
-    read32-requires-3
+    (λ c κs. omega (arith, passed c .plan-length))
+    (λ c κs. omega (arith, passed (c .before) .rules-length))
+    (λ c κs. omega (arith, passed (c .before .before) .rules-length))
     run-passed-requires
     returns-2)

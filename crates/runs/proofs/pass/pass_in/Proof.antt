@@ -9,19 +9,18 @@ use native.Mathlib.Omega.{arith}
 use borrow.Author.Needs.{needs}
 use lib.ListN.{length, getD, length-set}
 use Rattle.trees.specs.Changes.{changed}
-use Rattle.runs.specs.Listed.{ListArgs, ChangesFrom}
-use Rattle.runs.specs.Pass.{PassArgs}
+use Rattle.runs.specs.inner.Listed.{ListArgs, ChangesFrom}
+use Rattle.runs.specs.inner.Pass.{PassArgs}
 use Rattle.runs.proofs.ListedLaws.{label-below, label-changed, length-changed}
 use Rattle.runs.proofs.ChangeLaws.{label-after}
-use Rattle.runs.proofs.PassTurns.{Passed, pass-start, leaf-turn, inner-turn, pass-end}
-use Rattle.runs.proofs.PassTurns.{top-most, leaf-room, inner-two, rule-args}
+use Rattle.runs.proofs.PassLoop.{Passed, pass-start, leaf-iteration, inner-iteration, pass-end}
+use Rattle.runs.proofs.PassLoop.{top-most, leaf-room, inner-two, rule-args}
 use Rattle.runs.proofs.pass.pass_in.Statement.{statement}
 use Rattle.runs.proofs.pass.pass_in.Tie as tie
 use Rattle.runs.proofs.pass.pass_in.Reads as reads
 use Rattle.runs.proofs.pass.pass_in.Lts as lts
 use Rattle.runs.proofs.changes.after_change.Reads as after-change-reads
 use Rattle.runs.proofs.changes.changes_from.Reads as changes-from-reads
-use Rattle.runs.proofs.pass.rule.Reads as rule-reads
 
 abbrev Inv-loop : tie.InvT-loop
 Inv-loop waiting₀ kinds labels nodes news leaves inner s k n top₀ changes₀ j₀ v₀ waiting top changes j v =
@@ -218,8 +217,8 @@ loop-again c =
     let e : l .loop .v + 1 - (y .if1 .j + 1) ≡ l .loop .v - y .if1 .j = omega arith in (
       refl,
       ⊎-elim
-          (λ w. rw (w .2, w .3) (leaf-turn i h g (w .0 .taken) (p .leaf-below) (label-is m)))
-          (λ w. rw (w .4, w .5 ∙ w .3 .ensures) (inner-turn i h g (w .0 .left) (p .inner-below) (label-is m) refl))
+          (λ w. rw (w .2, w .3) (leaf-iteration i h g (w .0 .taken) (p .leaf-below) (label-is m)))
+          (λ w. rw (w .4, w .5 ∙ w .3 .ensures) (inner-iteration i h g (w .0 .left) (p .inner-below) (label-is m) refl))
           (z .if2 .came),
       length-set (l .loop .waiting) (z .if2 .top) (z .if2 .x) ∙ l .loop .inv .2,
       omega (arith, d .0),

@@ -5,30 +5,12 @@ use borrow.Author.Needs.{needs}
 use Rattle.session.proofs.advance.handled.Statement.{statement}
 use Rattle.session.proofs.advance.handled.Tie as tie
 
-add-if1 : tie.Need-add-if1
-add-if1 c = search needs
-
-cast-is-marked : tie.Need-cast-is-marked
-cast-is-marked c = search needs
-
-cast-is-marked-2 : tie.Need-cast-is-marked-2
-cast-is-marked-2 c = search needs
-
-is-marked-requires : tie.Need-is-marked-requires
-is-marked-requires c κs = search needs
-
-stepped-requires : tie.Need-stepped-requires
-stepped-requires c κs = search needs
-
 returns : tie.Need-returns
 returns c =
     let m = c .before in
     let e = m .before .before .before in
     let a = e .before .before .before .before .args in
     handled-last (a .h) (a .rules .now) (a .q) (a .links) _ (e .if1 .taken) _ (c .stepped .ensures) (m .is-marked .ensures)
-
-stepped-requires-2 : tie.Need-stepped-requires-2
-stepped-requires-2 c κs = search needs
 
 returns-2 : tie.Need-returns-2
 returns-2 c =
@@ -39,11 +21,11 @@ pub handled-spec : {M : Type 1} → statement M
 handled-spec =
     tie.close
     (tie.spec
-    add-if1
-    cast-is-marked
-    cast-is-marked-2
-    is-marked-requires
-    stepped-requires
+    (λ c. search needs)
+    (λ c. search needs)
+    (λ c. search needs)
+    (λ c κs. search needs)
+    (λ c κs. search needs)
     returns
-    stepped-requires-2
+    (λ c κs. search needs)
     returns-2)

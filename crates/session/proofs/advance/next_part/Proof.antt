@@ -9,24 +9,6 @@ use Rattle.session.proofs.advance.next_part.Tie as tie
 abbrev of : tie.After-struct-known6 → tie.Start
 of a = a .before .before .before .before .before .before .before .before .before .before .before .before .before .before
 
-cast-p : tie.Need-cast-p
-cast-p c = search needs
-
-cast-done : tie.Need-cast-done
-cast-done c = search needs
-
-cast-m : tie.Need-cast-m
-cast-m c = search needs
-
-cast-part : tie.Need-cast-part
-cast-part c = search needs
-
-cast-part-2 : tie.Need-cast-part-2
-cast-part-2 c = search needs
-
-cast-part-3 : tie.Need-cast-part-3
-cast-part-3 c = search needs
-
 slice-aggregate-part : tie.Need-slice-aggregate-part
 slice-aggregate-part c =
     let a = of (c .before) in
@@ -47,25 +29,22 @@ slice-aggregate-part-4 c =
     let a = of (c .before .before .before .before) in
     sym (length-take-le (a .args .h .m) (a .args .labels .now) (a .pre .few-labels))
 
-part-requires : tie.Need-part-requires
-part-requires c κs = search needs
-
 returns : tie.Need-returns
-returns c = c .part .ensures .told
+returns c = c .part .ensures .result
 
 pub next-part-spec : {M : Type 1} → statement M
 next-part-spec =
     tie.close
     (tie.spec
-    cast-p
-    cast-done
-    cast-m
-    cast-part
-    cast-part-2
-    cast-part-3
+    (λ c. search needs)
+    (λ c. search needs)
+    (λ c. search needs)
+    (λ c. search needs)
+    (λ c. search needs)
+    (λ c. search needs)
     slice-aggregate-part
     slice-aggregate-part-2
     slice-aggregate-part-3
     slice-aggregate-part-4
-    part-requires
+    (λ c κs. search needs)
     returns)

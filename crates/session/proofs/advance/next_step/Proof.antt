@@ -1,57 +1,45 @@
 -- `session::advance::next_step` meets its contract. Each return cites the law of its answer.
 -- Assumes nothing.
-use Rattle.book.specs.Lends.{Lent}
-use Rattle.book.specs.Calls.{Call, advance}
+use mathlib.Core.Path.{_≡_}
+use mathlib.Core.Bool.{_&&_}
+use Rattle.formats.specs.Inputs.{Inputs}
+use Rattle.model.specs.Calls.{advance, isRunning}
 use Rattle.session.specs.declared.state.Session.{Session}
-use Rattle.session.specs.Records.{whole}
-use Rattle.session.specs.Tests.{lentOf}
+use Rattle.session.specs.Records.{phaseOf, whole, valid}
+use Rattle.formats.specs.Inputs.{inputsOf}
+use Rattle.session.proofs.CallLaws.{allowed-by}
 use Rattle.session.proofs.AdvanceLaws.{advance-1, advance-limits, advance-17, next-args, handle-args, advance-18}
-use Rattle.session.proofs.AdvanceLaws.{made-found}
+use Rattle.session.proofs.AdvanceLaws.{step-found}
 use Rattle.session.proofs.StepLaws.{refused-found}
 use borrow.Author.Needs.{needs}
 use Rattle.session.proofs.advance.next_step.Statement.{statement}
 use Rattle.session.proofs.advance.next_step.Tie as tie
 
-abbrev at : tie.After-is-running → tie.Start
-at a = a .before .before .before .before .before .before .before .before .before
+abbrev at : tie.After-allowed → tie.Start
+at a = a .before .before .before .before .before .before
 
-abbrev of : tie.After-is-running → Session
+abbrev of : tie.After-allowed → Session
 of a =
     let b = at a .args in whole (b .h) (b .nodes .now) (b .labels .now) (b .roots .now) (b .states .now)
 
-abbrev lent : tie.After-is-running → Lent
-lent a = let b = at a .args in lentOf (b .plan .now) (b .rules .now) (b .nums .now) (b .bytes .now)
+abbrev lent : tie.After-allowed → Inputs
+lent a = let b = at a .args in inputsOf (b .plan .now) (b .rules .now) (b .node-table .now) (b .state-table .now)
 
-is-running-requires : tie.Need-is-running-requires
-is-running-requires c κs = search needs
-
-refused-step-requires : tie.Need-refused-step-requires
-refused-step-requires c κs = search needs
+may : (a : tie.After-allowed) → a .allowed .result ≡ (valid (of a) && isRunning (phaseOf (of a .head .phase)))
+may a = allowed-by isRunning (of a) _ _ (a .before .may-advance .ensures) (a .allowed .ensures)
 
 returns : tie.Need-returns
 returns c =
     let i = c .before in
     let m = i .before in
     refused-found (of m) (advance (lent m)) 1 _ (c .refused-step .ensures)
-    (advance-1 (of m) (at m .pre) (lent m) _ (m .is-running .ensures) (i .if1 .taken))
+    (advance-1 (of m) (at m .pre) (lent m) _ (may m) (i .if1 .taken))
 
-cast-n : tie.Need-cast-n
-cast-n c = search needs
-
-cast-s : tie.Need-cast-s
-cast-s c = search needs
-
-cast-k : tie.Need-cast-k
-cast-k c = search needs
-
-lengths-fit-requires : tie.Need-lengths-fit-requires
-lengths-fit-requires c κs =
+rule-buffers-fit-requires : tie.Need-rule-buffers-fit-requires
+rule-buffers-fit-requires c κs =
     let e = c .before .before .before in
     let m = e .before in
-    advance-limits (of m) (at m .pre) (lent m) _ (m .is-running .ensures) (e .if1 .left)
-
-refused-step-requires-2 : tie.Need-refused-step-requires-2
-refused-step-requires-2 c κs = search needs
+    advance-limits (of m) (at m .pre) (lent m) _ (may m) (e .if1 .left)
 
 returns-2 : tie.Need-returns-2
 returns-2 c =
@@ -60,74 +48,67 @@ returns-2 c =
     let e = k .before .before .before .before in
     let m = e .before in
     refused-found (of m) (advance (lent m)) 17 _ (c .refused-step2 .ensures)
-    (advance-17 (of m) (at m .pre) (lent m) _ (m .is-running .ensures) (e .if1 .left) _ (k .lengths-fit .ensures) (i .if2 .taken))
+    (advance-17 (of m) (at m .pre) (lent m) _ (may m) (e .if1 .left) _ (k .rule-buffers-fit .ensures) (i .if2 .taken))
 
 next-part-requires : tie.Need-next-part-requires
 next-part-requires c κs =
-    let k = c .before in
+    let k = c .before .before .before .before .before in
     let e = k .before .before .before .before in
     let m = e .before in
-    next-args (of m) (at m .pre) (lent m) _ (m .is-running .ensures) (e .if1 .left)
-
-enum-known-q : tie.Need-enum-known-q
-enum-known-q c = search needs
+    next-args (of m) (at m .pre) (lent m) _ (may m) (e .if1 .left)
 
 handled-requires : tie.Need-handled-requires
 handled-requires c κs =
-    let p = c .before .before .before in
-    let t = p .before in
+    let f = c .before in
+    let p = f .before .before in
+    let t = p .before .before .before .before .before in
     let k = t .before in
     let e = k .before .before .before .before in
     let m = e .before in
-    handle-args (of m) (at m .pre) (lent m) _ (m .is-running .ensures) (e .if1 .left) _ (k .lengths-fit .ensures) (t .if2 .left) _
-    (p .next-part .ensures) _ _ (c .before .q .given .1)
+    handle-args (of m) (at m .pre) (lent m) _ (may m) (e .if1 .left) _ (k .rule-buffers-fit .ensures) (t .if2 .left) _
+    (p .next-part .ensures) (f .found .given .0 .0 .state) (f .found .given .0 .0 .links) (f .found .given .1)
 
 returns-3 : tie.Need-returns-3
 returns-3 c =
-    let d = c .before in
-    let p = d .before .before .before in
-    let t = p .before in
+    let f = c .before .before in
+    let p = f .before .before in
+    let t = p .before .before .before .before .before in
     let k = t .before in
     let e = k .before .before .before .before in
     let m = e .before in
-    made-found (of m) (at m .pre) (lent m) _ (m .is-running .ensures) (e .if1 .left) _ (k .lengths-fit .ensures) (t .if2 .left) _
-    (p .next-part .ensures) _ _ (d .before .q .given .1) _ (c .handled .ensures)
-
-enum-told : tie.Need-enum-told
-enum-told c = search needs
-
-refused-step-requires-3 : tie.Need-refused-step-requires-3
-refused-step-requires-3 c κs = search needs
+    step-found (of m) (at m .pre) (lent m) _ (may m) (e .if1 .left) _ (k .rule-buffers-fit .ensures) (t .if2 .left) _
+    (p .next-part .ensures) (f .found .given .0 .0 .state) (f .found .given .0 .0 .links) (f .found .given .1) _ (c .handled .ensures)
 
 returns-4 : tie.Need-returns-4
 returns-4 c =
     let i = c .before in
     let p = i .before .before in
-    let t = p .before in
+    let t = p .before .before .before .before .before in
     let k = t .before in
     let e = k .before .before .before .before in
     let m = e .before in
     refused-found (of m) (advance (lent m)) 18 _ (c .refused-step3 .ensures)
-    (advance-18 (of m) (at m .pre) (lent m) _ (m .is-running .ensures) (e .if1 .left) _ (k .lengths-fit .ensures) (t .if2 .left) _
+    (advance-18 (of m) (at m .pre) (lent m) _ (may m) (e .if1 .left) _ (k .rule-buffers-fit .ensures) (t .if2 .left) _
     (p .next-part .ensures) (i .enum-told .given .1))
 
 pub next-step-spec : {M : Type 1} → statement M
 next-step-spec =
     tie.close
     (tie.spec
-    is-running-requires
-    refused-step-requires
+    (λ c κs. search needs)
+    (λ c κs. search needs)
+    (λ c κs. search needs)
     returns
-    cast-n
-    cast-s
-    cast-k
-    lengths-fit-requires
-    refused-step-requires-2
+    (λ c. search needs)
+    (λ c. search needs)
+    (λ c. search needs)
+    rule-buffers-fit-requires
+    (λ c κs. search needs)
     returns-2
     next-part-requires
-    enum-known-q
+    (λ c. search needs)
     handled-requires
     returns-3
-    enum-told
-    refused-step-requires-3
+    (λ c. search needs)
+    (λ c κs. search needs)
     returns-4)

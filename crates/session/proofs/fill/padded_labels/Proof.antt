@@ -5,7 +5,7 @@ use Prim.Native.Nat.{_-_, _≤_}
 use mathlib.Core.Path.{_≡_, refl}
 use mathlib.Core.List.{_++_}
 use lib.ListN.{length, take, drop, replicate, length-set}
-use Rattle.session.proofs.PadLaws.{copy-turn, copy-end}
+use Rattle.session.proofs.PadLaws.{copy-iteration, copy-end}
 use native.Mathlib.Omega.{arith}
 use borrow.Author.Needs.{needs}
 use Rattle.session.proofs.fill.padded_labels.Statement.{statement}
@@ -39,7 +39,7 @@ loop-again c =
       omega arith,
       (
         simp length-set (l .inv .1 .0),
-        copy-turn (a .labels .now) (replicate 64 0) (l .out) (l .i) (c .before .loop-test .taken) (omega arith)
+        copy-iteration (a .labels .now) (replicate 64 0) (l .out) (l .i) (c .before .loop-test .taken) (omega arith)
             (l .inv .1 .1),
       ),
     )

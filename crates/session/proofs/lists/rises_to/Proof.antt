@@ -6,7 +6,7 @@ use mathlib.Core.Path.{_≡_, refl, sym, _∙_}
 use mathlib.Core.Bool.{_&&_}
 use lib.ListN.{length, drop}
 use Rattle.session.specs.Records.{risesTo}
-use Rattle.session.proofs.RunLaws.{rises-turn, rises-end, rises-none}
+use Rattle.session.proofs.RunLaws.{rises-iteration, rises-end, rises-none}
 use native.Mathlib.Omega.{arith}
 use borrow.Author.Needs.{needs}
 use Rattle.session.proofs.lists.rises_to.Statement.{statement}
@@ -54,7 +54,7 @@ loop-again c =
       omega arith,
       (
         omega arith,
-        rw e (rises-turn (a .last) (a .xs .now) (l .i) (l .i - 1) (omega arith) (l .ok) (c .before .before .loop-test .taken) ∙ l .inv .1 .1),
+        rw e (rises-iteration (a .last) (a .xs .now) (l .i) (l .i - 1) (omega arith) (l .ok) (c .before .before .loop-test .taken) ∙ l .inv .1 .1),
       ),
     )
 

@@ -5,43 +5,22 @@ use borrow.Author.Needs.{needs}
 use Rattle.session.proofs.loaded.loaded_from.Statement.{statement}
 use Rattle.session.proofs.loaded.loaded_from.Tie as tie
 
-read32-requires : tie.Need-read32-requires
-read32-requires c κs = search needs
-
-read32-requires-2 : tie.Need-read32-requires-2
-read32-requires-2 c κs = search needs
-
-read32-requires-3 : tie.Need-read32-requires-3
-read32-requires-3 c κs = search needs
-
-cast-loaded : tie.Need-cast-loaded
-cast-loaded c = search needs
-
-cast-loaded-2 : tie.Need-cast-loaded-2
-cast-loaded-2 c = search needs
-
-cast-loaded-3 : tie.Need-cast-loaded-3
-cast-loaded-3 c = search needs
-
-loaded-requires : tie.Need-loaded-requires
-loaded-requires c κs = search needs
-
 returns : tie.Need-returns
 returns c =
-    let a = c .before in
-    loaded-same (a .before .before .before .before .before .args .plan .now)
-    (a .before .before .before .before .before .args .rules .now) _ _ _ _
-    (c .loaded .ensures) (a .before .before .read32 .ensures) (a .before .read322 .ensures) (a .read323 .ensures)
+    let k = c .before in
+    let a = k .before .before .before .before .before in
+    loaded-same (a .args .plan .now) (a .args .rules .now) _ _ _ _
+    (c .loaded .ensures) (k .before .before .read32 .ensures) (k .before .read322 .ensures) (k .read323 .ensures)
 
 pub loaded-from-spec : {M : Type 1} → statement M
 loaded-from-spec =
     tie.close
     (tie.spec
-    read32-requires
-    read32-requires-2
-    read32-requires-3
-    cast-loaded
-    cast-loaded-2
-    cast-loaded-3
-    loaded-requires
+    (λ c κs. search needs)
+    (λ c κs. search needs)
+    (λ c κs. search needs)
+    (λ c. search needs)
+    (λ c. search needs)
+    (λ c. search needs)
+    (λ c κs. search needs)
     returns)

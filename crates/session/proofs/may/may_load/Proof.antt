@@ -1,77 +1,29 @@
 -- `session::may::may_load` meets its contract. Each state has its arm.
 -- Assumes nothing.
-use mathlib.Core.Path.{refl}
-use Rattle.book.specs.Calls.{mayLoad}
-use Rattle.session.specs.declared.state.Session.{Session}
-use Rattle.session.specs.Records.{phaseOf, whole}
-use Rattle.session.proofs.ValidLaws.{phase-test}
-use Rattle.session.proofs.CallLaws.{state-yes, state-no}
+use Rattle.model.specs.Calls.{mayLoad}
+use Rattle.session.specs.Records.{phaseOf}
+use Rattle.session.proofs.CallLaws.{by-state}
 use borrow.Author.Needs.{needs}
 use Rattle.session.proofs.may.may_load.Statement.{statement}
 use Rattle.session.proofs.may.may_load.Tie as tie
 
-abbrev of : tie.Start → Session
-of a = whole (a .args .h) (a .args .nodes .now) (a .args .labels .now) (a .args .roots .now) (a .args .states .now)
-
-enum-told : tie.Need-enum-told
-enum-told c = search needs
-
-empty-fits-requires : tie.Need-empty-fits-requires
-empty-fits-requires c κs = search needs
-
-enum-told-2 : tie.Need-enum-told-2
-enum-told-2 c = search needs
-
-loaded-fits-requires : tie.Need-loaded-fits-requires
-loaded-fits-requires c κs = search needs
-
-enum-told-3 : tie.Need-enum-told-3
-enum-told-3 c = search needs
-
-enum-told-4 : tie.Need-enum-told-4
-enum-told-4 c = search needs
-
-answered-fits-requires : tie.Need-answered-fits-requires
-answered-fits-requires c κs = search needs
-
 returns : tie.Need-returns
 unfolding phaseOf mayLoad
-returns c =
-    let e = c .before in
-    state-yes mayLoad (of (c .before .before .before .before .before .before .before)) _ (e .enum-told .given .1) refl _
-    (phase-test (of (c .before .before .before .before .before .before .before)) _ _ (c .empty-fits .ensures) (e .enum-told .given .1))
+returns c = by-state mayLoad _ _ (c .enum-told .given .1)
 
 returns-2 : tie.Need-returns-2
 unfolding phaseOf mayLoad
-returns-2 c =
-    let e = c .before in
-    state-yes mayLoad (of (c .before .before .before .before .before .before .before)) _ (e .enum-told2 .given .1) refl _
-    (phase-test (of (c .before .before .before .before .before .before .before)) _ _ (c .loaded-fits .ensures) (e .enum-told2 .given .1))
+returns-2 c = by-state mayLoad _ _ (c .enum-told2 .given .1)
 
 returns-3 : tie.Need-returns-3
 unfolding phaseOf mayLoad
-returns-3 c =
-    state-no mayLoad (of (c .before .before .before .before .before .before)) _ (c .enum-told3 .given .1) refl
+returns-3 c = by-state mayLoad _ _ (c .enum-told3 .given .1)
 
 returns-4 : tie.Need-returns-4
 unfolding phaseOf mayLoad
-returns-4 c =
-    let e = c .before in
-    state-yes mayLoad (of (c .before .before .before .before .before .before .before)) _ (e .enum-told4 .given .1) refl _
-    (phase-test (of (c .before .before .before .before .before .before .before)) _ _ (c .answered-fits .ensures) (e .enum-told4 .given .1))
+returns-4 c = by-state mayLoad _ _ (c .enum-told4 .given .1)
 
 pub may-load-spec : {M : Type 1} → statement M
 may-load-spec =
     tie.close
-    (tie.spec
-    enum-told
-    empty-fits-requires
-    enum-told-2
-    loaded-fits-requires
-    enum-told-3
-    enum-told-4
-    answered-fits-requires
-    returns
-    returns-2
-    returns-3
-    returns-4)
+    (tie.spec (λ c. search needs) (λ c. search needs) (λ c. search needs) (λ c. search needs) returns returns-2 returns-3 returns-4)

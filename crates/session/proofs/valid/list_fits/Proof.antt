@@ -17,9 +17,6 @@ at a = a .before .before .before .before
 abbrev of : tie.Start → List ℕ → List ℕ → Session
 of a rs qs = whole (a .args .h) (a .args .nodes .now) (a .args .labels .now) rs qs
 
-cast-m : tie.Need-cast-m
-cast-m c = search needs
-
 returns : tie.Need-returns
 returns c = λ rs qs. list-long (of (c .before .before .before .before) rs qs) (c .if1 .taken)
 
@@ -28,43 +25,10 @@ slice-aggregate-below c =
     let a = at (c .before) in
     take-long 64 (a .args .h .m) (a .args .nodes .now) (a .pre .nodes) (omega arith)
 
-below-requires : tie.Need-below-requires
-below-requires c κs = search needs
-
 slice-aggregate-all-below : tie.Need-slice-aggregate-all-below
 slice-aggregate-all-below c =
     let a = at (c .before .before .before) in
     take-long 64 (a .args .h .m) (a .args .labels .now) (a .pre .labels) (omega arith)
-
-all-below-requires : tie.Need-all-below-requires
-all-below-requires c κs = search needs
-
-mul-below : tie.Need-mul-below
-mul-below c = search needs
-
-sub-below : tie.Need-sub-below
-sub-below c = search needs
-
-part-below-start : tie.Need-part-below-start
-part-below-start c = search needs
-
-part-below-end : tie.Need-part-below-end
-part-below-end c = search needs
-
-below-requires-2 : tie.Need-below-requires-2
-below-requires-2 c κs = search needs
-
-sub-all-below : tie.Need-sub-all-below
-sub-all-below c = search needs
-
-part-all-below-start : tie.Need-part-all-below-start
-part-all-below-start c = search needs
-
-part-all-below-end : tie.Need-part-all-below-end
-part-all-below-end c = search needs
-
-all-below-requires-2 : tie.Need-all-below-requires-2
-all-below-requires-2 c κs = search needs
 
 returns-2 : tie.Need-returns-2
 returns-2 c =
@@ -80,19 +44,19 @@ pub list-fits-spec : {M : Type 1} → statement M
 list-fits-spec =
     tie.close
     (tie.spec
-    cast-m
+    (λ c. search needs)
     returns
     slice-aggregate-below
-    below-requires
+    (λ c κs. search needs)
     slice-aggregate-all-below
-    all-below-requires
-    mul-below
-    sub-below
-    part-below-start
-    part-below-end
-    below-requires-2
-    sub-all-below
-    part-all-below-start
-    part-all-below-end
-    all-below-requires-2
+    (λ c κs. search needs)
+    (λ c. search needs)
+    (λ c. search needs)
+    (λ c. search needs)
+    (λ c. search needs)
+    (λ c κs. search needs)
+    (λ c. search needs)
+    (λ c. search needs)
+    (λ c. search needs)
+    (λ c κs. search needs)
     returns-2)

@@ -10,32 +10,20 @@ use Rattle.session.proofs.valid.no_question.Tie as tie
 abbrev of : tie.Start → Session
 of a = whole (a .args .h) (a .args .nodes .now) (a .args .labels .now) (a .args .roots .now) (a .args .states .now)
 
-below-requires : tie.Need-below-requires
-below-requires c κs = search needs
-
-all-below-requires : tie.Need-all-below-requires
-all-below-requires c κs = search needs
-
-below-requires-2 : tie.Need-below-requires-2
-below-requires-2 c κs = search needs
-
-all-below-requires-2 : tie.Need-all-below-requires-2
-all-below-requires-2 c κs = search needs
-
 returns : tie.Need-returns
 returns c =
-    let d = c .before in
-    let b = d .before in
-    let a = b .before in
-    let s = a .before .before .before .before .before .before .before .before .before .before in
+    let d = c .before .before in
+    let b = d .before .before in
+    let a = b .before .before in
+    let s = a .before .before .before .before .before .before .before in
     question-test (of s) _ _ _ _ (a .below .ensures) (b .all-below .ensures) (d .below2 .ensures) (c .all-below2 .ensures)
 
 pub no-question-spec : {M : Type 1} → statement M
 no-question-spec =
     tie.close
     (tie.spec
-    below-requires
-    all-below-requires
-    below-requires-2
-    all-below-requires-2
+    (λ c κs. search needs)
+    (λ c κs. search needs)
+    (λ c κs. search needs)
+    (λ c κs. search needs)
     returns)

@@ -1,8 +1,6 @@
--- `session::valid::sizes_fit` meets its contract. A 16-bit N is at most its limit.
+-- `session::valid::sizes_fit` meets its contract. Each test is one of the definition's.
 -- Assumes nothing.
-use Rattle.session.specs.Records.{whole}
 use Rattle.session.proofs.ValidLaws.{sizes-test}
-use native.Mathlib.Omega.{arith}
 use borrow.Author.Needs.{needs}
 use Rattle.session.proofs.valid.sizes_fit.Statement.{statement}
 use Rattle.session.proofs.valid.sizes_fit.Tie as tie
@@ -13,14 +11,11 @@ cast-result c = search needs
 cast-result-2 : tie.Need-cast-result-2
 cast-result-2 c = search needs
 
+cast-result-3 : tie.Need-cast-result-3
+cast-result-3 c = search needs
+
 returns : tie.Need-returns
-returns c =
-    λ vs bs rs qs. sizes-test (whole (c .before .before .before .before .before .args .h) vs bs rs qs) (omega arith)
+returns c = sizes-test _
 
 pub sizes-fit-spec : {M : Type 1} → statement M
-sizes-fit-spec =
-    tie.close
-    (tie.spec
-    cast-result
-    cast-result-2
-    returns)
+sizes-fit-spec = tie.close (tie.spec cast-result cast-result-2 cast-result-3 returns)

@@ -2,7 +2,7 @@
 -- Assumes nothing.
 use Prim.Native.Nat.{_+_, _*_}
 use mathlib.Core.Path.{_∙_}
-use Rattle.links.specs.Cells.{parentCell}
+use Rattle.node_tables.specs.Cells.{parentCell}
 use Rattle.tables.proofs.MapPlaces.{base-args}
 use Rattle.tables.proofs.CheckMapPlaces.{near-is-args, far-is-args, near-is-row, far-is-row}
 use native.Mathlib.Omega.{arith}
@@ -10,47 +10,17 @@ use borrow.Author.Needs.{needs}
 use Rattle.tables.proofs.check_maps.map_is.Statement.{statement}
 use Rattle.tables.proofs.check_maps.map_is.Tie as tie
 
-mul-p : tie.Need-mul-p
-mul-p c = search needs
-
-mul-p-2 : tie.Need-mul-p-2
-mul-p-2 c = search needs
-
-shared-slice-read-p : tie.Need-shared-slice-read-p
-shared-slice-read-p c = search needs
-
-cast-p : tie.Need-cast-p
-cast-p c = search needs
-
-shared-slice-read-a : tie.Need-shared-slice-read-a
-shared-slice-read-a c = search needs
-
 cast-a : tie.Need-cast-a
 cast-a c =
     let s = c .before .before .before .before .before .before in
     let g = s .args in
-    omega (arith, c .shared-slice-known6 .given (parentCell (g .nums .now) (g .v)))
+    omega (arith, c .shared-slice-known6 .given (parentCell (g .node-table .now) (g .v)))
 
 near-base-requires : tie.Need-near-base-requires
 near-base-requires c κs =
     let s = c .before .before .before .before .before .before in
     let g = s .args in
-    base-args (g .labels .now) (g .nums .now) (g .inner .now) (g .s) (g .k) (g .bytes .now) (g .v) (s .pre)
-
-near-step-requires : tie.Need-near-step-requires
-near-step-requires c κs = search needs
-
-mul-if1 : tie.Need-mul-if1
-mul-if1 c = search needs
-
-add-if1 : tie.Need-add-if1
-add-if1 c = search needs
-
-mul-if1-2 : tie.Need-mul-if1-2
-mul-if1-2 c = search needs
-
-shared-slice-read-if1 : tie.Need-shared-slice-read-if1
-shared-slice-read-if1 c = search needs
+    base-args (g .labels .now) (g .node-table .now) (g .inner .now) (g .s) (g .k) (g .state-table .now) (g .v) (s .pre)
 
 cast-if1 : tie.Need-cast-if1
 cast-if1 c =
@@ -64,7 +34,7 @@ near-row-is-requires c κs =
     let g = s .args in
     let nb = c .before .before .before .near-base in
     let ns = c .before .before .near-step in
-    near-is-args (g .labels .now) (g .nums .now) (g .inner .now) (g .s) (g .k) (g .bytes .now)
+    near-is-args (g .labels .now) (g .node-table .now) (g .inner .now) (g .s) (g .k) (g .state-table .now)
     (g .v) (s .pre) (nb .result) (ns .result) (nb .ensures) (ns .ensures)
 
 returns : tie.Need-returns
@@ -73,23 +43,8 @@ returns c =
     let g = s .args in
     let nb = c .before .before .before .before .near-base in
     let ns = c .before .before .before .near-step in
-    c .near-row-is .ensures ∙ near-is-row (g .labels .now) (g .nums .now) (g .inner .now) (g .s) (g .k) (g .bytes .now)
+    c .near-row-is .ensures ∙ near-is-row (g .labels .now) (g .node-table .now) (g .inner .now) (g .s) (g .k) (g .state-table .now)
     (g .v) (s .pre) (nb .result) (ns .result) (nb .ensures) (ns .ensures) (c .before .if1 .taken)
-
-mul-far-row-is : tie.Need-mul-far-row-is
-mul-far-row-is c = search needs
-
-add-far-row-is : tie.Need-add-far-row-is
-add-far-row-is c = search needs
-
-mul-far-row-is-2 : tie.Need-mul-far-row-is-2
-mul-far-row-is-2 c = search needs
-
-shared-slice-read-far-row-is : tie.Need-shared-slice-read-far-row-is
-shared-slice-read-far-row-is c = search needs
-
-cast-far-row-is : tie.Need-cast-far-row-is
-cast-far-row-is c = search needs
 
 far-row-is-requires : tie.Need-far-row-is-requires
 far-row-is-requires c κs =
@@ -97,7 +52,7 @@ far-row-is-requires c κs =
     let g = s .args in
     let nb = c .before .before .before .before .near-base in
     let ns = c .before .before .before .near-step in
-    far-is-args (g .labels .now) (g .nums .now) (g .inner .now) (g .s) (g .k) (g .bytes .now)
+    far-is-args (g .labels .now) (g .node-table .now) (g .inner .now) (g .s) (g .k) (g .state-table .now)
     (g .v) (s .pre) (nb .result) (ns .result) (nb .ensures) (ns .ensures)
 
 returns-2 : tie.Need-returns-2
@@ -106,32 +61,32 @@ returns-2 c =
     let g = s .args in
     let nb = c .before .before .before .before .before .near-base in
     let ns = c .before .before .before .before .near-step in
-    c .far-row-is .ensures ∙ far-is-row (g .labels .now) (g .nums .now) (g .inner .now) (g .s) (g .k) (g .bytes .now)
+    c .far-row-is .ensures ∙ far-is-row (g .labels .now) (g .node-table .now) (g .inner .now) (g .s) (g .k) (g .state-table .now)
     (g .v) (s .pre) (nb .result) (ns .result) (nb .ensures) (ns .ensures) (c .before .before .if1 .left)
 
 pub map-is-spec : {M : Type 1} → statement M
 map-is-spec =
     tie.close
     (tie.spec
-    mul-p
-    mul-p-2
-    shared-slice-read-p
-    cast-p
-    shared-slice-read-a
+    (λ c. search needs)
+    (λ c. search needs)
+    (λ c. search needs)
+    (λ c. search needs)
+    (λ c. search needs)
     cast-a
     near-base-requires
-    near-step-requires
-    mul-if1
-    add-if1
-    mul-if1-2
-    shared-slice-read-if1
+    (λ c κs. search needs)
+    (λ c. search needs)
+    (λ c. search needs)
+    (λ c. search needs)
+    (λ c. search needs)
     cast-if1
     near-row-is-requires
     returns
-    mul-far-row-is
-    add-far-row-is
-    mul-far-row-is-2
-    shared-slice-read-far-row-is
-    cast-far-row-is
+    (λ c. search needs)
+    (λ c. search needs)
+    (λ c. search needs)
+    (λ c. search needs)
+    (λ c. search needs)
     far-row-is-requires
     returns-2)

@@ -4,26 +4,26 @@ use Prim.Native.Nat.{_+_, _-_, _*_, _≤_, _<_}
 use mathlib.Core.Path.{_≡_, refl, _∙_}
 use mathlib.Core.Logic.{inl, inr}
 use lib.ListN.{length, set}
-use Rattle.trees.proofs.RowLaws.{stride}
-use Rattle.tables.specs.States.{Runs}
-use Rattle.tables.proofs.StateTurns.{leaf-states, inner-states, inner-args}
-use Rattle.tables.proofs.CheckStateTurns.{states-start, state-same, state-differs, all-same}
+use Rattle.list_laws.proofs.RowLaws.{stride}
+use Rattle.tables.specs.inner.States.{Runs}
+use Rattle.tables.proofs.StateLoop.{leaf-states, inner-states, inner-args}
+use Rattle.tables.proofs.CheckStateLoop.{states-start, state-same, state-differs, all-same}
 use native.Mathlib.Omega.{arith}
 use borrow.Author.Needs.{needs}
 use Rattle.tables.proofs.check_states.check_states.Statement.{statement}
 use Rattle.tables.proofs.check_states.check_states.Tie as tie
 
 abbrev Inv-loop : tie.InvT-loop
-Inv-loop kinds labels nums leaves inner s k bytes n w v₀ v =
-    (v ≤ length kinds) × (n ≡ length kinds) × Runs s k leaves inner kinds labels v bytes bytes
+Inv-loop kinds labels nodeTable leaves inner s k stateTable n w v₀ v =
+    (v ≤ length kinds) × (n ≡ length kinds) × Runs s k leaves inner kinds labels v stateTable stateTable
 
 abbrev μ-loop : tie.MeasureT-loop
-μ-loop kinds labels nums leaves inner s k bytes n w v₀ v = n - v
+μ-loop kinds labels nodeTable leaves inner s k stateTable n w v₀ v = n - v
 
 -- the place of the state byte that a turn reads
 place-in : (c : tie.In-loop Inv-loop μ-loop)
     → c .before .loop .v * (c .before .before .before .before .before .before .before .before .args .s + 1)
-    < length (c .before .before .before .before .before .before .before .before .args .bytes .now)
+    < length (c .before .before .before .before .before .before .before .before .args .state-table .now)
 place-in c =
     let a = c .before in
     let s = a .before .before .before .before .before .before .before in
@@ -35,7 +35,7 @@ written : (c : tie.Joined1 Inv-loop μ-loop)
     → (let a = c .before .before .before .before in
     let g = a .before .before .before .before .before .before .before .args in
     Runs (g .s) (g .k) (g .leaves .now) (g .inner .now) (g .kinds .now) (g .labels .now) (a .loop .v + 1)
-    (g .bytes .now) (set (g .bytes .now) (a .loop .v * (g .s + 1)) (c .if1 .x)))
+    (g .state-table .now) (set (g .state-table .now) (a .loop .v * (g .s + 1)) (c .if1 .x)))
 written c =
     let a = c .before .before .before .before in
     let s = a .before .before .before .before .before .before .before in
@@ -43,10 +43,10 @@ written c =
     let l = c .before .before .before .loop-test .taken in
     elim (c .if1 .came) [
       | inl w ↦ rw (w .2) (leaf-states (g .s) (g .k) (g .leaves .now) (g .inner .now) (g .kinds .now) (g .labels .now)
-          (a .loop .v) (g .nums .now) (g .bytes .now) (g .bytes .now) (a .loop .inv .2) (s .pre) refl l (w .0 .taken))
+          (a .loop .v) (g .node-table .now) (g .state-table .now) (g .state-table .now) (a .loop .inv .2) (s .pre) refl l (w .0 .taken))
       | inr w ↦ rw (w .2 ∙ w .1 .ensures)
           (inner-states (g .s) (g .k) (g .leaves .now) (g .inner .now) (g .kinds .now) (g .labels .now)
-          (a .loop .v) (g .nums .now) (g .bytes .now) (g .bytes .now) (a .loop .inv .2) (s .pre) refl l (w .0 .left))
+          (a .loop .v) (g .node-table .now) (g .state-table .now) (g .state-table .now) (a .loop .inv .2) (s .pre) refl l (w .0 .left))
     ]
 
 add-w : tie.Need-add-w Inv-loop μ-loop
@@ -57,7 +57,7 @@ loop-holds c =
     let g = c .before .before .before .before .before .before .args in (
       omega arith,
       refl,
-      states-start (g .s) (g .k) (g .leaves .now) (g .inner .now) (g .kinds .now) (g .labels .now) (g .bytes .now),
+      states-start (g .s) (g .k) (g .leaves .now) (g .inner .now) (g .kinds .now) (g .labels .now) (g .state-table .now),
     )
 
 shared-slice-read-a : tie.Need-shared-slice-read-a Inv-loop μ-loop
@@ -82,7 +82,7 @@ inner-state-requires c κs =
     let s = a .before .before .before .before .before .before .before in
     let g = s .args in
     inner-args (g .s) (g .k) (g .leaves .now) (g .inner .now) (g .kinds .now) (g .labels .now)
-    (a .loop .v) (g .nums .now) (g .bytes .now) (g .bytes .now)
+    (a .loop .v) (g .node-table .now) (g .state-table .now) (g .state-table .now)
     (a .loop .inv .2) (s .pre) refl (c .before .before .before .loop-test .taken) (c .if1 .left)
 
 mul-y : tie.Need-mul-y Inv-loop μ-loop
@@ -97,7 +97,7 @@ returns c =
     let s = a .before .before .before .before .before .before .before in
     let g = s .args in
     state-differs (g .s) (g .k) (g .leaves .now) (g .inner .now) (g .kinds .now) (g .labels .now)
-    (g .bytes .now) (a .loop .v) (c .before .before .if1 .x) (written (c .before .before))
+    (g .state-table .now) (a .loop .v) (c .before .before .if1 .x) (written (c .before .before))
     (c .before .before .before .before .before .loop-test .taken) (s .pre .room) (c .if2 .taken)
 
 add-v : tie.Need-add-v Inv-loop μ-loop
@@ -114,7 +114,7 @@ loop-again c =
       omega arith,
       refl,
       state-same (g .s) (g .k) (g .leaves .now) (g .inner .now) (g .kinds .now) (g .labels .now)
-          (g .bytes .now) (a .loop .v) (c .before .before .if1 .x) (written (c .before .before)) (c .if2 .left),
+          (g .state-table .now) (a .loop .v) (c .before .before .if1 .x) (written (c .before .before)) (c .if2 .left),
     )
 
 returns-2 : tie.Need-returns-2 Inv-loop μ-loop
@@ -123,7 +123,7 @@ returns-2 c =
     let s = a .before .before .before .before .before .before .before in
     let g = s .args in
     all-same (g .s) (g .k) (g .leaves .now) (g .inner .now) (g .kinds .now) (g .labels .now)
-    (g .bytes .now) (a .loop .v) (omega arith) (a .loop .inv .2)
+    (g .state-table .now) (a .loop .v) (omega arith) (a .loop .inv .2)
 
 pub check-states-spec : {M : Type 1} → statement M
 check-states-spec =

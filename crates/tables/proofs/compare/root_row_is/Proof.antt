@@ -5,7 +5,7 @@ use mathlib.Core.Path.{_≡_, refl, _∙_}
 use mathlib.Core.Logic.{inl, inr}
 use lib.Dec.{eqb}
 use Rattle.tables.specs.StateCells.{mapCell}
-use Rattle.tables.specs.Compare.{every}
+use Rattle.tables.specs.inner.Compare.{every}
 use Rattle.tables.proofs.CompareLaws.{every-same, every-other}
 use native.Mathlib.Omega.{arith}
 use borrow.Author.Needs.{needs}
@@ -13,11 +13,11 @@ use Rattle.tables.proofs.compare.root_row_is.Statement.{statement}
 use Rattle.tables.proofs.compare.root_row_is.Tie as tie
 
 abbrev Inv-loop : tie.InvT-loop
-Inv-loop bytes s v at same₀ q₀ same q =
-    (q ≤ s) × (same ≡ every q (λ x. eqb (mapCell s bytes v x) (x)))
+Inv-loop stateTable s v at same₀ q₀ same q =
+    (q ≤ s) × (same ≡ every q (λ x. eqb (mapCell s stateTable v x) (x)))
 
 abbrev μ-loop : tie.MeasureT-loop
-μ-loop bytes s v at same₀ q₀ same q = s - q
+μ-loop stateTable s v at same₀ q₀ same q = s - q
 
 add-at : tie.Need-add-at Inv-loop μ-loop
 add-at c = search needs
@@ -55,9 +55,9 @@ loop-again c =
     let a = c .before .before .before .before .args in (
       omega arith,
       elim (c .if1 .came) [
-        | inl w ↦ w .1 ∙ every-other (l .q) (mapCell (a .s) (a .bytes .now) (a .v)) (λ x. x) (w .0 .taken)
+        | inl w ↦ w .1 ∙ every-other (l .q) (mapCell (a .s) (a .state-table .now) (a .v)) (λ x. x) (w .0 .taken)
         | inr w ↦ w .1
-            ∙ every-same (l .q) (mapCell (a .s) (a .bytes .now) (a .v)) (λ x. x) (l .same) (l .inv .1) (w .0 .left)
+            ∙ every-same (l .q) (mapCell (a .s) (a .state-table .now) (a .v)) (λ x. x) (l .same) (l .inv .1) (w .0 .left)
       ],
     )
 

@@ -13,8 +13,8 @@ far-map-requires : tie.Need-far-map-requires
 far-map-requires c κs =
     let r = c .before .before .before in
     let s = r .before .before .before .before .before .before in
-    far-map-args (s .args .labels .now) (s .args .nums .now) (s .args .inner .now) (s .args .s) (s .args .k)
-    (s .args .bytes .now) (s .args .v) (s .pre) (r .near-map .last .1 .1 .1 .1 .1 .1 .0) (r .near-map .ensures)
+    far-map-args (s .args .labels .now) (s .args .node-table .now) (s .args .inner .now) (s .args .s) (s .args .k)
+    (s .args .state-table .now) (s .args .v) (s .pre) (r .near-map .last .1 .1 .1 .1 .1 .1 .0) (r .near-map .ensures)
     (omega arith)
 
 same-length : tie.Need-same-length
@@ -25,8 +25,8 @@ returns c =
     let f = c .before .before in
     let r = f .before .before .before .before in
     let s = r .before .before .before .before .before .before in
-    fill-done (s .args .labels .now) (s .args .nums .now) (s .args .inner .now) (s .args .s) (s .args .k)
-    (s .args .bytes .now) (s .args .v) (s .pre) (r .near-map .last .1 .1 .1 .1 .1 .1 .0) (r .near-map .ensures)
+    fill-done (s .args .labels .now) (s .args .node-table .now) (s .args .inner .now) (s .args .s) (s .args .k)
+    (s .args .state-table .now) (s .args .v) (s .pre) (r .near-map .last .1 .1 .1 .1 .1 .1 .0) (r .near-map .ensures)
     (f .far-map .last .1 .1 .1 .0) (f .far-map .ensures)
 
 pub fill-map-spec : {M : Type 1} → statement M

@@ -13,32 +13,23 @@ use Rattle.tables.proofs.maps.near_base.Tie as tie
 
 -- the sibling's state byte is inside the table
 sibling-in : (c : tie.After-sibling)
-    → c .sibling .result * (c .before .before .before .args .s + 1) < length (c .before .before .before .args .bytes .now)
+    → c .sibling .result * (c .before .before .before .args .s + 1) < length (c .before .before .before .args .state-table .now)
 sibling-in c =
     let s = c .before .before .before in
-    state-place (s .args .s) (c .sibling .result) (s .args .p) (length (s .args .bytes .now))
-    (sibling-below (s .args .nums .now) (s .args .v) (s .args .p) (c .sibling .result) (c .sibling .ensures) (s .pre .above))
+    state-place (s .args .s) (c .sibling .result) (s .args .p) (length (s .args .state-table .now))
+    (sibling-below (s .args .node-table .now) (s .args .v) (s .args .p) (c .sibling .result) (c .sibling .ensures) (s .pre .above))
     (s .pre .room)
 
 -- and small
 sibling-small : (c : tie.After-shared-slice-known3)
     → Small (c .before .before .before .before .args .s) (c .before .before .before .before .args .k)
-    (stateCell (c .before .before .before .before .args .s) (c .before .before .before .before .args .bytes .now)
+    (stateCell (c .before .before .before .before .args .s) (c .before .before .before .before .args .state-table .now)
     (c .before .sibling .result)) (c .before .before .before .before .args .a)
 sibling-small c =
     let s = c .before .before .before .before in
     let u : ℕ = c .before .sibling .result in
-    small (s .args .s) (s .args .k) (stateCell (s .args .s) (s .args .bytes .now) u) (s .args .a) (s .pre .few)
+    small (s .args .s) (s .args .k) (stateCell (s .args .s) (s .args .state-table .now) u) (s .args .a) (s .pre .few)
     (s .pre .labels) (s .pre .label) (omega (arith, c .shared-slice-known3 .given (u * (s .args .s + 1))))
-
-sibling-requires : tie.Need-sibling-requires
-sibling-requires c κs = search needs
-
-add-x : tie.Need-add-x
-add-x c = search needs
-
-mul-x : tie.Need-mul-x
-mul-x c = omega (arith, sibling-in c)
 
 shared-slice-read-x : tie.Need-shared-slice-read-x
 shared-slice-read-x c = sibling-in (c .before)
@@ -46,29 +37,14 @@ shared-slice-read-x c = sibling-in (c .before)
 cast-x : tie.Need-cast-x
 cast-x c = omega (arith, c .shared-slice-known3 .given (c .before .sibling .result * (c .before .before .before .before .args .s + 1)))
 
-add-if1 : tie.Need-add-if1
-add-if1 c = search needs
-
-mul-result : tie.Need-mul-result
-mul-result c = omega (arith, sibling-small (c .before) .product)
-
-add-result : tie.Need-add-result
-add-result c = omega (arith, sibling-small (c .before) .sum)
-
-mul-result-2 : tie.Need-mul-result-2
-mul-result-2 c = omega (arith, sibling-small (c .before) .place)
-
 returns : tie.Need-returns
 returns c =
     let r = c .before .before in
     let s = r .before .before .before in
     let u : ℕ = r .sibling .result in
     rw (eq-eqb (s .args .v + 1) (s .args .p) (c .if1 .taken))
-    (ap (λ (w : ℕ). (stateCell (s .args .s) (s .args .bytes .now) w * s .args .k + s .args .a) * s .args .s)
-    (sibling-left (s .args .nums .now) (s .args .v) (s .args .p) u (r .sibling .ensures) (c .if1 .taken)))
-
-mul-result-3 : tie.Need-mul-result-3
-mul-result-3 c = omega (arith, sibling-small (c .before) .label)
+    (ap (λ (w : ℕ). (stateCell (s .args .s) (s .args .state-table .now) w * s .args .k + s .args .a) * s .args .s)
+    (sibling-left (s .args .node-table .now) (s .args .v) (s .args .p) u (r .sibling .ensures) (c .if1 .taken)))
 
 add-result-2 : tie.Need-add-result-2
 add-result-2 c =
@@ -82,23 +58,23 @@ returns-2 c =
     let s = r .before .before .before in
     let u : ℕ = r .sibling .result in
     rw (ne-eqb (s .args .v + 1) (s .args .p) (c .if1 .left))
-    (ap (λ (w : ℕ). s .args .a * s .args .s + stateCell (s .args .s) (s .args .bytes .now) w)
-    (sibling-right (s .args .nums .now) (s .args .v) (s .args .p) u (r .sibling .ensures) (c .if1 .left)))
+    (ap (λ (w : ℕ). s .args .a * s .args .s + stateCell (s .args .s) (s .args .state-table .now) w)
+    (sibling-right (s .args .node-table .now) (s .args .v) (s .args .p) u (r .sibling .ensures) (c .if1 .left)))
 
 pub near-base-spec : {M : Type 1} → statement M
 near-base-spec =
     tie.close
     (tie.spec
-    sibling-requires
-    add-x
-    mul-x
+    (λ c κs. search needs)
+    (λ c. search needs)
+    (λ c. omega (arith, sibling-in c))
     shared-slice-read-x
     cast-x
-    add-if1
-    mul-result
-    add-result
-    mul-result-2
+    (λ c. search needs)
+    (λ c. omega (arith, sibling-small (c .before) .product))
+    (λ c. omega (arith, sibling-small (c .before) .sum))
+    (λ c. omega (arith, sibling-small (c .before) .place))
     returns
-    mul-result-3
+    (λ c. omega (arith, sibling-small (c .before) .label))
     add-result-2
     returns-2)

@@ -4,37 +4,38 @@
 use Prim.Native.Nat.{ℕ, _+_, _-_, _*_, _≤_, _<_}
 use mathlib.Core.Path.{_≡_, subst}
 use lib.ListN.{length, length-set}
-use Rattle.tables.specs.Rows.{RowTo, farCell}
-use Rattle.tables.proofs.RowTurns.{row-turn, placed, far-here-below, far-near-below, far-is}
+use Rattle.tables.specs.inner.Rows.{RowTo, farCell}
+use Rattle.tables.proofs.MapRowLaws.{row-iteration}
+use Rattle.tables.proofs.RowLoop.{placed, far-here-below, far-near-below, far-is}
 use native.Mathlib.Omega.{arith}
 use borrow.Author.Needs.{needs}
 use Rattle.tables.proofs.rows.far_row.Statement.{statement}
 use Rattle.tables.proofs.rows.far_row.Tie as tie
 
 abbrev Inv-loop : tie.InvT-loop
-Inv-loop bytes₀ s v p j at near far q₀ bytes q =
-    (q ≤ s) × (length bytes ≡ length bytes₀) × RowTo s (farCell s bytes₀ v p j) v q bytes₀ bytes
+Inv-loop bytes₀ s v p j at near far q₀ stateTable q =
+    (q ≤ s) × (length stateTable ≡ length bytes₀) × RowTo s (farCell s bytes₀ v p j) v q bytes₀ stateTable
 
 abbrev μ-loop : tie.MeasureT-loop
-μ-loop bytes₀ s v p j at near far q₀ bytes q = s - q
+μ-loop bytes₀ s v p j at near far q₀ stateTable q = s - q
 
 -- what a turn reads
-here : (c : tie.In-loop Inv-loop μ-loop) → placed (c .before .before .args .s) (c .before .loop .bytes)
+here : (c : tie.In-loop Inv-loop μ-loop) → placed (c .before .before .args .s) (c .before .loop .state-table)
     (c .before .before .args .v) (c .before .loop .q) < c .before .before .args .s
 here c =
     let a = c .before in
     let s = a .before in
-    far-here-below (s .args .s) (s .args .v) (s .args .p) (s .args .j) (a .loop .q) (s .args .bytes .now)
-    (a .loop .bytes) (a .loop .inv .2) (s .pre) (c .loop-test .taken)
+    far-here-below (s .args .s) (s .args .v) (s .args .p) (s .args .j) (a .loop .q) (s .args .state-table .now)
+    (a .loop .state-table) (a .loop .inv .2) (s .pre) (c .loop-test .taken)
 
-near : (c : tie.In-loop Inv-loop μ-loop) → placed (c .before .before .args .s) (c .before .loop .bytes)
-    (c .before .before .args .p) (placed (c .before .before .args .s) (c .before .loop .bytes)
+near : (c : tie.In-loop Inv-loop μ-loop) → placed (c .before .before .args .s) (c .before .loop .state-table)
+    (c .before .before .args .p) (placed (c .before .before .args .s) (c .before .loop .state-table)
     (c .before .before .args .v) (c .before .loop .q)) < c .before .before .args .s
 near c =
     let a = c .before in
     let s = a .before in
-    far-near-below (s .args .s) (s .args .v) (s .args .p) (s .args .j) (a .loop .q) (s .args .bytes .now)
-    (a .loop .bytes) (a .loop .inv .2) (s .pre) (c .loop-test .taken)
+    far-near-below (s .args .s) (s .args .v) (s .args .p) (s .args .j) (a .loop .q) (s .args .state-table .now)
+    (a .loop .state-table) (a .loop .inv .2) (s .pre) (c .loop-test .taken)
 
 add-at : tie.Need-add-at Inv-loop μ-loop
 add-at c = search needs
@@ -89,22 +90,22 @@ slice-read-y c = omega (
 cast-y : tie.Need-cast-y Inv-loop μ-loop
 cast-y c = omega (arith, near (c .before .before))
 
-add-bytes : tie.Need-add-bytes Inv-loop μ-loop
-add-bytes c = omega (arith, near (c .before .before), c .before .before .before .before .pre .far-room)
+add-state-table : tie.Need-add-state-table Inv-loop μ-loop
+add-state-table c = omega (arith, near (c .before .before), c .before .before .before .before .pre .far-room)
 
-slice-read-bytes : tie.Need-slice-read-bytes Inv-loop μ-loop
-slice-read-bytes c = omega (
+slice-read-state-table : tie.Need-slice-read-state-table Inv-loop μ-loop
+slice-read-state-table c = omega (
   arith,
   near (c .before .before .before),
   c .before .before .before .before .before .pre .far-room,
   c .before .before .before .before .loop .inv .1,
 )
 
-add-bytes-2 : tie.Need-add-bytes-2 Inv-loop μ-loop
-add-bytes-2 c = search needs
+add-state-table-2 : tie.Need-add-state-table-2 Inv-loop μ-loop
+add-state-table-2 c = search needs
 
-slice-write-bytes : tie.Need-slice-write-bytes Inv-loop μ-loop
-slice-write-bytes c = search needs
+slice-write-state-table : tie.Need-slice-write-state-table Inv-loop μ-loop
+slice-write-state-table c = search needs
 
 add-q : tie.Need-add-q Inv-loop μ-loop
 add-q c = search needs
@@ -119,11 +120,11 @@ loop-again c =
     let l = c .before .before .before .loop-test .taken in (
       omega arith,
       simp length-set (a .loop .inv .1),
-      row-turn (s .args .s) (farCell (s .args .s) (s .args .bytes .now) (s .args .v) (s .args .p) (s .args .j))
-          (s .args .v) (a .loop .q) (s .args .bytes .now) (a .loop .bytes)
+      row-iteration (s .args .s) (farCell (s .args .s) (s .args .state-table .now) (s .args .v) (s .args .p) (s .args .j))
+          (s .args .v) (a .loop .q) (s .args .state-table .now) (a .loop .state-table)
           (a .loop .inv .2) (s .args .v * (s .args .s + 1) + 1 + a .loop .q) _ (omega arith) (omega arith)
-          (far-is (s .args .s) (s .args .v) (s .args .p) (s .args .j) (a .loop .q) (s .args .bytes .now)
-          (a .loop .bytes) (a .loop .inv .2) (s .pre) l),
+          (far-is (s .args .s) (s .args .v) (s .args .p) (s .args .j) (a .loop .q) (s .args .state-table .now)
+          (a .loop .state-table) (a .loop .inv .2) (s .pre) l),
     )
 
 same-length : tie.Need-same-length Inv-loop μ-loop
@@ -134,8 +135,8 @@ returns c =
     let a = c .before in
     let s = a .before in
     let e : a .loop .q ≡ s .args .s = omega arith in
-    subst (λ (i : ℕ). RowTo (s .args .s) (farCell (s .args .s) (s .args .bytes .now) (s .args .v) (s .args .p)
-    (s .args .j)) (s .args .v) i (s .args .bytes .now) (a .loop .bytes)) e (a .loop .inv .2)
+    subst (λ (i : ℕ). RowTo (s .args .s) (farCell (s .args .s) (s .args .state-table .now) (s .args .v) (s .args .p)
+    (s .args .j)) (s .args .v) i (s .args .state-table .now) (a .loop .state-table)) e (a .loop .inv .2)
 
 pub far-row-spec : {M : Type 1} → statement M
 far-row-spec =
@@ -159,10 +160,10 @@ far-row-spec =
     add-y
     slice-read-y
     cast-y
-    add-bytes
-    slice-read-bytes
-    add-bytes-2
-    slice-write-bytes
+    add-state-table
+    slice-read-state-table
+    add-state-table-2
+    slice-write-state-table
     add-q
     loop-less
     loop-again

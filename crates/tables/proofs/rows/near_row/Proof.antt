@@ -4,19 +4,19 @@
 use Prim.Native.Nat.{ℕ, _+_, _-_, _*_, _≤_}
 use mathlib.Core.Path.{_≡_, refl, subst}
 use lib.ListN.{length, getD, length-set}
-use Rattle.tables.specs.Rows.{RowTo}
-use Rattle.tables.proofs.RowTurns.{row-turn}
+use Rattle.tables.specs.inner.Rows.{RowTo}
+use Rattle.tables.proofs.MapRowLaws.{row-iteration}
 use native.Mathlib.Omega.{arith}
 use borrow.Author.Needs.{needs}
 use Rattle.tables.proofs.rows.near_row.Statement.{statement}
 use Rattle.tables.proofs.rows.near_row.Tie as tie
 
 abbrev Inv-loop : tie.InvT-loop
-Inv-loop bytes₀ s v table base stride at q₀ bytes q =
-    (q ≤ s) × (length bytes ≡ length bytes₀) × RowTo s (λ x. getD table (base + x * stride) 0) v q bytes₀ bytes
+Inv-loop bytes₀ s v table base stride at q₀ stateTable q =
+    (q ≤ s) × (length stateTable ≡ length bytes₀) × RowTo s (λ x. getD table (base + x * stride) 0) v q bytes₀ stateTable
 
 abbrev μ-loop : tie.MeasureT-loop
-μ-loop bytes₀ s v table base stride at q₀ bytes q = s - q
+μ-loop bytes₀ s v table base stride at q₀ stateTable q = s - q
 
 add-at : tie.Need-add-at Inv-loop μ-loop
 add-at c = search needs
@@ -30,21 +30,21 @@ add-at-2 c = search needs
 loop-holds : tie.Need-loop-holds Inv-loop μ-loop
 loop-holds c = search needs
 
-mul-bytes : tie.Need-mul-bytes Inv-loop μ-loop
-mul-bytes c = omega (arith, c .before .before .pre .inside (c .before .loop .q) (c .loop-test .taken))
+mul-state-table : tie.Need-mul-state-table Inv-loop μ-loop
+mul-state-table c = omega (arith, c .before .before .pre .inside (c .before .loop .q) (c .loop-test .taken))
 
-add-bytes : tie.Need-add-bytes Inv-loop μ-loop
-add-bytes c = omega (arith, c .before .before .pre .inside (c .before .loop .q) (c .loop-test .taken))
+add-state-table : tie.Need-add-state-table Inv-loop μ-loop
+add-state-table c = omega (arith, c .before .before .pre .inside (c .before .loop .q) (c .loop-test .taken))
 
-shared-slice-read-bytes : tie.Need-shared-slice-read-bytes Inv-loop μ-loop
-shared-slice-read-bytes c = c .before .before .before .pre .inside (c .before .before .loop .q)
+shared-slice-read-state-table : tie.Need-shared-slice-read-state-table Inv-loop μ-loop
+shared-slice-read-state-table c = c .before .before .before .pre .inside (c .before .before .loop .q)
     (c .before .loop-test .taken)
 
-add-bytes-2 : tie.Need-add-bytes-2 Inv-loop μ-loop
-add-bytes-2 c = search needs
+add-state-table-2 : tie.Need-add-state-table-2 Inv-loop μ-loop
+add-state-table-2 c = search needs
 
-slice-write-bytes : tie.Need-slice-write-bytes Inv-loop μ-loop
-slice-write-bytes c = search needs
+slice-write-state-table : tie.Need-slice-write-state-table Inv-loop μ-loop
+slice-write-state-table c = search needs
 
 add-q : tie.Need-add-q Inv-loop μ-loop
 add-q c = search needs
@@ -59,8 +59,8 @@ loop-again c =
     let l = c .before .loop-test .taken in (
       omega arith,
       simp length-set (a .loop .inv .1),
-      row-turn (s .args .s) (λ x. getD (s .args .table .now) (s .args .base + x * s .args .stride) 0) (s .args .v)
-          (a .loop .q) (s .args .bytes .now) (a .loop .bytes)
+      row-iteration (s .args .s) (λ x. getD (s .args .table .now) (s .args .base + x * s .args .stride) 0) (s .args .v)
+          (a .loop .q) (s .args .state-table .now) (a .loop .state-table)
           (a .loop .inv .2) (s .args .v * (s .args .s + 1) + 1 + a .loop .q) _ (omega arith) (omega arith) refl,
     )
 
@@ -73,7 +73,7 @@ returns c =
     let s = a .before in
     let e : a .loop .q ≡ s .args .s = omega arith in
     subst (λ (i : ℕ). RowTo (s .args .s) (λ x. getD (s .args .table .now) (s .args .base + x * s .args .stride) 0)
-    (s .args .v) i (s .args .bytes .now) (a .loop .bytes)) e (a .loop .inv .2)
+    (s .args .v) i (s .args .state-table .now) (a .loop .state-table)) e (a .loop .inv .2)
 
 pub near-row-spec : {M : Type 1} → statement M
 near-row-spec =
@@ -85,11 +85,11 @@ near-row-spec =
     mul-at
     add-at-2
     loop-holds
-    mul-bytes
-    add-bytes
-    shared-slice-read-bytes
-    add-bytes-2
-    slice-write-bytes
+    mul-state-table
+    add-state-table
+    shared-slice-read-state-table
+    add-state-table-2
+    slice-write-state-table
     add-q
     loop-less
     loop-again

@@ -4,19 +4,19 @@
 use Prim.Native.Nat.{ℕ, _+_, _-_, _*_, _≤_}
 use mathlib.Core.Path.{_≡_, refl, subst}
 use lib.ListN.{length, length-set}
-use Rattle.tables.specs.Rows.{RowTo}
-use Rattle.tables.proofs.RowTurns.{row-turn}
+use Rattle.tables.specs.inner.Rows.{RowTo}
+use Rattle.tables.proofs.MapRowLaws.{row-iteration}
 use native.Mathlib.Omega.{arith}
 use borrow.Author.Needs.{needs}
 use Rattle.tables.proofs.rows.same_row.Statement.{statement}
 use Rattle.tables.proofs.rows.same_row.Tie as tie
 
 abbrev Inv-loop : tie.InvT-loop
-Inv-loop bytes₀ s v at q₀ bytes q =
-    (q ≤ s) × (length bytes ≡ length bytes₀) × RowTo s (λ x. x) v q bytes₀ bytes
+Inv-loop bytes₀ s v at q₀ stateTable q =
+    (q ≤ s) × (length stateTable ≡ length bytes₀) × RowTo s (λ x. x) v q bytes₀ stateTable
 
 abbrev μ-loop : tie.MeasureT-loop
-μ-loop bytes₀ s v at q₀ bytes q = s - q
+μ-loop bytes₀ s v at q₀ stateTable q = s - q
 
 add-at : tie.Need-add-at Inv-loop μ-loop
 add-at c = search needs
@@ -30,14 +30,14 @@ add-at-2 c = search needs
 loop-holds : tie.Need-loop-holds Inv-loop μ-loop
 loop-holds c = search needs
 
-cast-bytes : tie.Need-cast-bytes Inv-loop μ-loop
-cast-bytes c = search needs
+cast-state-table : tie.Need-cast-state-table Inv-loop μ-loop
+cast-state-table c = search needs
 
-add-bytes : tie.Need-add-bytes Inv-loop μ-loop
-add-bytes c = search needs
+add-state-table : tie.Need-add-state-table Inv-loop μ-loop
+add-state-table c = search needs
 
-slice-write-bytes : tie.Need-slice-write-bytes Inv-loop μ-loop
-slice-write-bytes c = search needs
+slice-write-state-table : tie.Need-slice-write-state-table Inv-loop μ-loop
+slice-write-state-table c = search needs
 
 add-q : tie.Need-add-q Inv-loop μ-loop
 add-q c = search needs
@@ -52,7 +52,7 @@ loop-again c =
     let l = c .loop-test .taken in (
       omega arith,
       simp length-set (a .loop .inv .1),
-      row-turn (s .args .s) (λ x. x) (s .args .v) (a .loop .q) (s .args .bytes .now) (a .loop .bytes)
+      row-iteration (s .args .s) (λ x. x) (s .args .v) (a .loop .q) (s .args .state-table .now) (a .loop .state-table)
           (a .loop .inv .2) (s .args .v * (s .args .s + 1) + 1 + a .loop .q) _ (omega arith) (omega arith) refl,
     )
 
@@ -64,7 +64,7 @@ returns c =
     let a = c .before in
     let s = a .before in
     let e : a .loop .q ≡ s .args .s = omega arith in
-    subst (λ (i : ℕ). RowTo (s .args .s) (λ x. x) (s .args .v) i (s .args .bytes .now) (a .loop .bytes)) e
+    subst (λ (i : ℕ). RowTo (s .args .s) (λ x. x) (s .args .v) i (s .args .state-table .now) (a .loop .state-table)) e
     (a .loop .inv .2)
 
 pub same-row-spec : {M : Type 1} → statement M
@@ -77,9 +77,9 @@ same-row-spec =
     mul-at
     add-at-2
     loop-holds
-    cast-bytes
-    add-bytes
-    slice-write-bytes
+    cast-state-table
+    add-state-table
+    slice-write-state-table
     add-q
     loop-less
     loop-again

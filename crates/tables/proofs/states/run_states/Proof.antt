@@ -5,25 +5,25 @@ use Prim.Native.Nat.{ℕ, _+_, _-_, _*_, _≤_, _<_}
 use mathlib.Core.Path.{_≡_, refl, subst, _∙_}
 use mathlib.Core.Logic.{⊎-elim}
 use lib.ListN.{length, length-set}
-use Rattle.trees.proofs.RowLaws.{stride}
-use Rattle.tables.specs.States.{Runs}
-use Rattle.tables.proofs.StateTurns.{leaf-states, inner-states, inner-args}
+use Rattle.list_laws.proofs.RowLaws.{stride}
+use Rattle.tables.specs.inner.States.{Runs}
+use Rattle.tables.proofs.StateLoop.{leaf-states, inner-states, inner-args}
 use native.Mathlib.Omega.{arith}
 use borrow.Author.Needs.{needs}
 use Rattle.tables.proofs.states.run_states.Statement.{statement}
 use Rattle.tables.proofs.states.run_states.Tie as tie
 
 abbrev Inv-loop : tie.InvT-loop
-Inv-loop kinds labels nums leaves inner s k bytes₀ n w v₀ bytes v =
-    (v ≤ length kinds) × (length bytes ≡ length bytes₀) × (n ≡ length kinds) × Runs s k leaves inner kinds labels v
-    bytes₀ bytes
+Inv-loop kinds labels nodeTable leaves inner s k bytes₀ n w v₀ stateTable v =
+    (v ≤ length kinds) × (length stateTable ≡ length bytes₀) × (n ≡ length kinds) × Runs s k leaves inner kinds labels v
+    bytes₀ stateTable
 
 abbrev μ-loop : tie.MeasureT-loop
-μ-loop kinds labels nums leaves inner s k bytes₀ n w v₀ bytes v = n - v
+μ-loop kinds labels nodeTable leaves inner s k bytes₀ n w v₀ stateTable v = n - v
 
 -- the place of the state byte that a turn writes
 place-in : (c : tie.In-loop Inv-loop μ-loop) → c .before .loop .v *
-    (c .before .before .before .before .before .before .before .before .args .s + 1) < length (c .before .loop .bytes)
+    (c .before .before .before .before .before .before .before .before .args .s + 1) < length (c .before .loop .state-table)
 place-in c =
     let a = c .before in
     let s = a .before .before .before .before .before .before .before in
@@ -61,14 +61,14 @@ inner-state-requires c κs =
     let s = a .before .before .before .before .before .before .before in
     inner-args (s .args .s) (s .args .k) (s .args .leaves .now) (s .args .inner .now) (s .args .kinds .now)
     (s .args .labels .now)
-    (a .loop .v) (s .args .nums .now) (s .args .bytes .now) (a .loop .bytes) (a .loop .inv .3) (s .pre)
+    (a .loop .v) (s .args .node-table .now) (s .args .state-table .now) (a .loop .state-table) (a .loop .inv .3) (s .pre)
     (a .loop .inv .1) (c .before .before .before .before .loop-test .taken) (c .before .if1 .left)
 
-mul-bytes : tie.Need-mul-bytes Inv-loop μ-loop
-mul-bytes c = omega (arith, place-in (c .before .before .before))
+mul-state-table : tie.Need-mul-state-table Inv-loop μ-loop
+mul-state-table c = omega (arith, place-in (c .before .before .before))
 
-slice-write-bytes : tie.Need-slice-write-bytes Inv-loop μ-loop
-slice-write-bytes c = place-in (c .before .before .before)
+slice-write-state-table : tie.Need-slice-write-state-table Inv-loop μ-loop
+slice-write-state-table c = place-in (c .before .before .before)
 
 add-v : tie.Need-add-v Inv-loop μ-loop
 add-v c = search needs
@@ -87,11 +87,11 @@ loop-again c =
       ⊎-elim
           (λ w. rw (w .2) (leaf-states (s .args .s) (s .args .k) (s .args .leaves .now) (s .args .inner .now)
           (s .args .kinds .now) (s .args .labels .now)
-          (a .loop .v) (s .args .nums .now) (s .args .bytes .now) (a .loop .bytes) (a .loop .inv .3) (s .pre)
+          (a .loop .v) (s .args .node-table .now) (s .args .state-table .now) (a .loop .state-table) (a .loop .inv .3) (s .pre)
           (a .loop .inv .1) l (w .0 .taken)))
           (λ w. rw (w .3 ∙ w .2 .ensures) (inner-states (s .args .s) (s .args .k) (s .args .leaves .now)
           (s .args .inner .now) (s .args .kinds .now) (s .args .labels .now)
-          (a .loop .v) (s .args .nums .now) (s .args .bytes .now) (a .loop .bytes) (a .loop .inv .3) (s .pre)
+          (a .loop .v) (s .args .node-table .now) (s .args .state-table .now) (a .loop .state-table) (a .loop .inv .3) (s .pre)
           (a .loop .inv .1) l (w .0 .left)))
           (c .if1 .came),
     )
@@ -106,7 +106,7 @@ returns c =
     let e : a .loop .v ≡ length (s .args .kinds .now) = omega arith in
     subst (λ (i : ℕ). Runs (s .args .s) (s .args .k) (s .args .leaves .now) (s .args .inner .now) (s .args .kinds .now)
     (s .args .labels .now)
-    i (s .args .bytes .now) (a .loop .bytes)) e (a .loop .inv .3)
+    i (s .args .state-table .now) (a .loop .state-table)) e (a .loop .inv .3)
 
 pub run-states-spec : {M : Type 1} → statement M
 run-states-spec =
@@ -121,8 +121,8 @@ run-states-spec =
     shared-slice-read-if1
     shared-slice-read-x
     inner-state-requires
-    mul-bytes
-    slice-write-bytes
+    mul-state-table
+    slice-write-state-table
     add-v
     loop-less
     loop-again

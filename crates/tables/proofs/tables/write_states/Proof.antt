@@ -1,6 +1,6 @@
 -- `tables::write_states` meets its contract.
 -- Assumes nothing.
-use Rattle.tables.proofs.TableTurns.{map-args, states-over}
+use Rattle.tables.proofs.TableLoop.{map-args, states-over}
 use native.Mathlib.Omega.{arith}
 use borrow.Author.Needs.{needs}
 use Rattle.tables.proofs.tables.write_states.Statement.{statement}
@@ -13,9 +13,9 @@ fill-maps-requires : tie.Need-fill-maps-requires
 fill-maps-requires c κs =
     let r = c .before .before .before in
     let s = r .before .before .before .before .before .before .before .before in
-    map-args (s .args .kinds .now) (s .args .labels .now) (s .args .nums .now) (s .args .leaves .now)
+    map-args (s .args .kinds .now) (s .args .labels .now) (s .args .node-table .now) (s .args .leaves .now)
     (s .args .inner .now) (s .args .s) (s .args .k)
-    (s .args .bytes .now) (r .run-states .last .1 .1 .1 .1 .1 .1 .1 .0) (s .pre) (r .run-states .ensures) (omega arith)
+    (s .args .state-table .now) (r .run-states .last .1 .1 .1 .1 .1 .1 .1 .0) (s .pre) (r .run-states .ensures) (omega arith)
 
 same-length : tie.Need-same-length
 same-length c = search needs
@@ -25,9 +25,9 @@ returns c =
     let f = c .before .before in
     let r = f .before .before .before .before in
     let s = r .before .before .before .before .before .before .before .before in
-    states-over (s .args .kinds .now) (s .args .labels .now) (s .args .nums .now) (s .args .leaves .now)
+    states-over (s .args .kinds .now) (s .args .labels .now) (s .args .node-table .now) (s .args .leaves .now)
     (s .args .inner .now) (s .args .s) (s .args .k)
-    (s .args .bytes .now) (r .run-states .last .1 .1 .1 .1 .1 .1 .1 .0) (s .pre) (r .run-states .ensures)
+    (s .args .state-table .now) (r .run-states .last .1 .1 .1 .1 .1 .1 .1 .0) (s .pre) (r .run-states .ensures)
     (f .fill-maps .last .1 .1 .1 .1 .1 .0) (omega arith) (f .fill-maps .ensures)
 
 pub write-states-spec : {M : Type 1} → statement M

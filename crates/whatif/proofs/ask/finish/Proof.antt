@@ -2,9 +2,9 @@ use native.Mathlib.Omega.{arith}
 use borrow.Author.Needs.{needs}
 use Prim.Native.Nat.{ℕ, suc, _+_, _-_, _≤_}
 use mathlib.Core.Path.{_≡_, refl, ap, sym, _∙_}
-use Rattle.session.specs.Tests.{lentOf}
+use Rattle.formats.specs.Inputs.{inputsOf}
 use Rattle.whatif.specs.Asked.{finishedIn, mostParts}
-use Rattle.whatif.proofs.AskLaws.{more-turn, finished-turn, refused-turn}
+use Rattle.whatif.proofs.AskLaws.{more-iteration, finished-iteration, refused-iteration}
 use Rattle.whatif.proofs.ask.finish.Statement.{statement}
 use Rattle.whatif.proofs.ask.finish.Tie as tie
 use Rattle.whatif.proofs.ask.finish.Reads as reads
@@ -13,11 +13,11 @@ use Rattle.session.proofs.state.Session.advance.Reads as advance-reads
 use Rattle.session.proofs.state.Session.read.Reads as read-reads
 
 abbrev Inv-loop : tie.InvT-loop
-Inv-loop plan rules nums bytes rec₀ turns₀ rec turns =
-    (turns ≤ 254) × (finishedIn (254 - turns) rec (lentOf plan rules nums bytes) ≡ finishedIn mostParts rec₀ (lentOf plan rules nums bytes))
+Inv-loop plan rules nodeTable stateTable rec₀ iterations₀ rec iterations =
+    (iterations ≤ 254) × (finishedIn (254 - iterations) rec (inputsOf plan rules nodeTable stateTable) ≡ finishedIn mostParts rec₀ (inputsOf plan rules nodeTable stateTable))
 
 abbrev μ-loop : tie.MeasureT-loop
-μ-loop plan rules nums bytes rec₀ turns₀ rec turns = 254 - turns
+μ-loop plan rules nodeTable stateTable rec₀ iterations₀ rec iterations = 254 - iterations
 
 loop-holds : tie.Need-loop-holds Inv-loop μ-loop
 loop-holds c = (omega arith, refl)
@@ -28,8 +28,8 @@ advance-requires c κs = search needs
 enum-told : tie.Need-enum-told Inv-loop μ-loop
 enum-told c = search needs
 
-add-turns : tie.Need-add-turns Inv-loop μ-loop
-add-turns c = search needs
+add-iterations : tie.Need-add-iterations Inv-loop μ-loop
+add-iterations c = search needs
 
 loop-less : tie.Need-loop-less Inv-loop μ-loop
 loop-less c = search needs
@@ -37,13 +37,13 @@ loop-less c = search needs
 loop-again : tie.Need-loop-again Inv-loop μ-loop
 loop-again c =
     let a = c .before .before .before .before .before .before .before .before .before .before .args in
-    let x = lentOf (a .plan .now) (a .rules .now) (a .nums .now) (a .bytes .now) in
+    let x = inputsOf (a .plan .now) (a .rules .now) (a .node-table .now) (a .state-table .now) in
     let l = c .before .before .before .before .before .loop in
     let d = c .before .before .before .advance in
-    let e : suc (254 - (l .turns + 1)) ≡ 254 - l .turns = omega arith in
-    let f = 254 - (l .turns + 1) in
+    let e : suc (254 - (l .iterations + 1)) ≡ 254 - l .iterations = omega arith in
+    let f = 254 - (l .iterations + 1) in
     let i = ap (λ (n : ℕ). finishedIn n (l .rec) x) e ∙ l .inv .1 in
-    (omega arith, sym (more-turn f (l .rec) (d .result .rec) x (d .result .told) (d .ensures) (c .enum-told .given .1)) ∙ i)
+    (omega arith, sym (more-iteration f (l .rec) (d .result .session) x (d .result .answer) (d .ensures) (c .enum-told .given .1)) ∙ i)
 
 enum-told-2 : tie.Need-enum-told-2 Inv-loop μ-loop
 enum-told-2 c = search needs
@@ -54,28 +54,28 @@ read-requires c κs = search needs
 returns : tie.Need-returns Inv-loop μ-loop
 returns c =
     let a = c .before .before .before .before .before .before .before .before .before .before .before .args in
-    let x = lentOf (a .plan .now) (a .rules .now) (a .nums .now) (a .bytes .now) in
+    let x = inputsOf (a .plan .now) (a .rules .now) (a .node-table .now) (a .state-table .now) in
     let l = c .before .before .before .before .before .before .loop in
     let d = c .before .before .before .before .advance in
-    let e : suc (254 - (l .turns + 1)) ≡ 254 - l .turns = omega arith in
-    let f = 254 - (l .turns + 1) in
+    let e : suc (254 - (l .iterations + 1)) ≡ 254 - l .iterations = omega arith in
+    let f = 254 - (l .iterations + 1) in
     let i = ap (λ (n : ℕ). finishedIn n (l .rec) x) e ∙ l .inv .1 in
-    let t = finished-turn f (l .rec) (d .result .rec) x (d .result .told) (d .ensures) (c .before .enum-told2 .given .1) in
+    let t = finished-iteration f (l .rec) (d .result .session) x (d .result .answer) (d .ensures) (c .before .enum-told2 .given .1) in
     c .read .ensures ∙ (sym t ∙ i)
 
-enum-known-told : tie.Need-enum-known-told Inv-loop μ-loop
-enum-known-told c = search needs
+enum-known-answer : tie.Need-enum-known-answer Inv-loop μ-loop
+enum-known-answer c = search needs
 
 returns-2 : tie.Need-returns-2 Inv-loop μ-loop
 returns-2 c =
     let a = c .before .before .before .before .before .before .before .before .before .before .before .args in
-    let x = lentOf (a .plan .now) (a .rules .now) (a .nums .now) (a .bytes .now) in
+    let x = inputsOf (a .plan .now) (a .rules .now) (a .node-table .now) (a .state-table .now) in
     let l = c .before .before .before .before .before .before .loop in
     let d = c .before .before .before .before .advance in
-    let e : suc (254 - (l .turns + 1)) ≡ 254 - l .turns = omega arith in
-    let f = 254 - (l .turns + 1) in
+    let e : suc (254 - (l .iterations + 1)) ≡ 254 - l .iterations = omega arith in
+    let f = 254 - (l .iterations + 1) in
     let i = ap (λ (n : ℕ). finishedIn n (l .rec) x) e ∙ l .inv .1 in
-    sym (refused-turn f (l .rec) (d .result .rec) x (d .result .told) (d .ensures) _ (c .before .told .given .1)) ∙ i
+    sym (refused-iteration f (l .rec) (d .result .session) x (d .result .answer) (d .ensures) _ (c .before .answer .given .1)) ∙ i
 
 read-requires-2 : tie.Need-read-requires-2 Inv-loop μ-loop
 read-requires-2 c κs = search needs
@@ -84,9 +84,9 @@ returns-3 : tie.Need-returns-3 Inv-loop μ-loop
 unfolding finishedIn
 returns-3 c =
     let a = c .before .before .before .before .before .before .before .args in
-    let x = lentOf (a .plan .now) (a .rules .now) (a .nums .now) (a .bytes .now) in
+    let x = inputsOf (a .plan .now) (a .rules .now) (a .node-table .now) (a .state-table .now) in
     let l = c .before .before .loop in
-    let e : 0 ≡ 254 - l .turns = omega arith in
+    let e : 0 ≡ 254 - l .iterations = omega arith in
     c .read2 .ensures ∙ (ap (λ (n : ℕ). finishedIn n (l .rec) x) e ∙ l .inv .1)
 
 pub finish-spec : {M : Type 1} → statement M
@@ -98,13 +98,13 @@ finish-spec =
     loop-holds
     advance-requires
     enum-told
-    add-turns
+    add-iterations
     loop-less
     loop-again
     enum-told-2
     read-requires
     returns
-    enum-known-told
+    enum-known-answer
     returns-2
     read-requires-2
     returns-3)

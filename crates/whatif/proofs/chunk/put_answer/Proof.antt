@@ -4,8 +4,8 @@ use Prim.Native.Nat.{ℕ}
 use mathlib.Core.Path.{sym, subst, _∙_}
 use lib.ListN.{take}
 use mathlib.Core.List.{List}
-use Rattle.session.specs.Promises.{readingAnswer}
-use Rattle.session.specs.Tests.{lentOf}
+use Rattle.session.specs.Answers.{readAnswer}
+use Rattle.formats.specs.Inputs.{inputsOf}
 use Rattle.whatif.specs.Text.{Put}
 use Rattle.whatif.proofs.ClearedLaws.{cleared-answer}
 use Rattle.whatif.proofs.StreamLaws.{kept-line}
@@ -20,65 +20,17 @@ use Rattle.whatif.proofs.question.kept_changes.Reads as kept-changes-re
 use Rattle.whatif.proofs.question.labels_in.Reads as labels-in-reads
 use Rattle.whatif.proofs.question.nodes_in.Reads as nodes-in-reads
 
-kept-changes-requires : tie.Need-kept-changes-requires
-kept-changes-requires c κs = search needs
-
-mul-last : tie.Need-mul-last
-mul-last c = search needs
-
-add-last : tie.Need-add-last
-add-last c = search needs
-
-sub-nodes-in : tie.Need-sub-nodes-in
-sub-nodes-in c = search needs
-
-part-nodes-in-start : tie.Need-part-nodes-in-start
-part-nodes-in-start c = search needs
-
-part-nodes-in-end : tie.Need-part-nodes-in-end
-part-nodes-in-end c = search needs
-
-nodes-in-requires : tie.Need-nodes-in-requires
-nodes-in-requires c κs = search needs
-
-sub-labels-in : tie.Need-sub-labels-in
-sub-labels-in c = search needs
-
-part-labels-in-start : tie.Need-part-labels-in-start
-part-labels-in-start c = search needs
-
-part-labels-in-end : tie.Need-part-labels-in-end
-part-labels-in-end c = search needs
-
-labels-in-requires : tie.Need-labels-in-requires
-labels-in-requires c κs = search needs
-
-array-share-prefix-nodes : tie.Need-array-share-prefix-nodes
-array-share-prefix-nodes c = search needs
-
 slice-aggregate-ask : tie.Need-slice-aggregate-ask
 slice-aggregate-ask c =
     let n = c .before .before .before .nodes-in in
     let k = c .before .before .before .before .before .kept-changes in
     sym (length-take-le (k .result) (n .result) (omega (arith, n .ensures .1, k .ensures .1)))
 
-array-share-prefix-labels : tie.Need-array-share-prefix-labels
-array-share-prefix-labels c = search needs
-
 slice-aggregate-ask-2 : tie.Need-slice-aggregate-ask-2
 slice-aggregate-ask-2 c =
     let n = c .before .before .labels-in in
     let k = c .before .before .before .before .before .before .kept-changes in
     sym (length-take-le (k .result) (n .result) (omega (arith, n .ensures .1, k .ensures .1)))
-
-ask-requires : tie.Need-ask-requires
-ask-requires c κs = search needs
-
-put-line-requires : tie.Need-put-line-requires
-put-line-requires c κs = search needs
-
-same-length : tie.Need-same-length
-same-length c = search needs
 
 returns : tie.Need-returns
 returns c =
@@ -91,34 +43,34 @@ returns c =
     let k = m .kept-changes in
     let s = m .before .before .before .before .before .before .before in
     let a = s .args in
-    let x = lentOf (a .plan .now) (a .rules .now) (a .nums .now) (a .bytes .now) in
+    let x = inputsOf (a .plan .now) (a .rules .now) (a .node-table .now) (a .state-table .now) in
     let v = take (k .result) (n .result) in
     let b = take (k .result) (l .result) in
     let e =
     kept-line (a .asked .now) (k .result) (s .pre .0) (k .ensures .0) (a .plan .now) (a .rules .now) (n .result) (l .result)
-    (readingAnswer (q .result)) (n .ensures .0) (l .ensures .0) (q .ensures ∙ cleared-answer (a .loaded) x v b (s .pre .1 .1)) in
+    (readAnswer (q .result)) (n .ensures .0) (l .ensures .0) (q .ensures ∙ cleared-answer (a .loaded) x v b (s .pre .1 .1)) in
     (subst (λ (t : List ℕ). Put (a .out .now) (a .end) t (p .last .0) (p .result)) e (p .ensures .0), p .ensures .1)
 
 pub put-answer-spec : {M : Type 1} → statement M
 put-answer-spec =
     tie.close
     (tie.spec
-    kept-changes-requires
-    mul-last
-    add-last
-    sub-nodes-in
-    part-nodes-in-start
-    part-nodes-in-end
-    nodes-in-requires
-    sub-labels-in
-    part-labels-in-start
-    part-labels-in-end
-    labels-in-requires
-    array-share-prefix-nodes
+    (λ c κs. search needs)
+    (λ c. search needs)
+    (λ c. search needs)
+    (λ c. search needs)
+    (λ c. search needs)
+    (λ c. search needs)
+    (λ c κs. search needs)
+    (λ c. search needs)
+    (λ c. search needs)
+    (λ c. search needs)
+    (λ c κs. search needs)
+    (λ c. search needs)
     slice-aggregate-ask
-    array-share-prefix-labels
+    (λ c. search needs)
     slice-aggregate-ask-2
-    ask-requires
-    put-line-requires
-    same-length
+    (λ c κs. search needs)
+    (λ c κs. search needs)
+    (λ c. search needs)
     returns)

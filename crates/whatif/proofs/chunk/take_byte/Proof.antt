@@ -19,18 +19,6 @@ use Rattle.whatif.proofs.chunk.put_answer.Reads as put-answer-reads
 use Rattle.whatif.proofs.question.keep.Reads as keep-reads
 use Rattle.whatif.proofs.question.question_length.Reads as question-length-reads
 
-keep-requires : tie.Need-keep-requires
-keep-requires c κs = search needs
-
-add-more : tie.Need-add-more
-add-more c = search needs
-
-question-length-requires : tie.Need-question-length-requires
-question-length-requires c κs = search needs
-
-same-length : tie.Need-same-length
-same-length c = search needs
-
 returns : tie.Need-returns
 returns c =
     let a = c .before .before .before .before .before .before .before .before .before .before .before .before .before .args in
@@ -43,15 +31,6 @@ returns c =
           (sym (k .ensures)) (byte-kept-open f (a .asked .now) (a .have) (a .b) (a .out .now) (a .end) e),
       (omega arith, omega arith),
     )
-
-put-answer-requires : tie.Need-put-answer-requires
-put-answer-requires c κs = search needs
-
-same-length-2 : tie.Need-same-length-2
-same-length-2 c = search needs
-
-same-length-3 : tie.Need-same-length-3
-same-length-3 c = search needs
 
 returns-2 : tie.Need-returns-2
 returns-2 c =
@@ -79,12 +58,12 @@ pub take-byte-spec : {M : Type 1} → statement M
 take-byte-spec =
     tie.close
     (tie.spec
-    keep-requires
-    add-more
-    question-length-requires
-    same-length
+    (λ c κs. search needs)
+    (λ c. search needs)
+    (λ c κs. search needs)
+    (λ c. search needs)
     returns
-    put-answer-requires
-    same-length-2
-    same-length-3
+    (λ c κs. search needs)
+    (λ c. search needs)
+    (λ c. search needs)
     returns-2)

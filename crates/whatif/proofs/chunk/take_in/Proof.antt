@@ -15,12 +15,12 @@ use Rattle.whatif.proofs.chunk.take_in.Lts as lts
 use Rattle.whatif.proofs.chunk.take_byte.Reads as take-byte-reads
 
 abbrev Inv-loop : tie.InvT-loop
-Inv-loop loaded plan rules nums bytes chunk asked₀ have out₀ part₀ end₀ i₀ asked out part end i =
+Inv-loop loaded plan rules nodeTable stateTable chunk asked₀ have out₀ part₀ end₀ i₀ asked out part end i =
     (i ≤ length chunk) × (end ≤ 37 * i) × (part ≤ have + i)
     × Advances (questionLine plan rules) (take i chunk) asked₀ have asked part out₀ 0 out end
 
 abbrev μ-loop : tie.MeasureT-loop
-μ-loop loaded plan rules nums bytes chunk asked₀ have out₀ part₀ end₀ i₀ asked out part end i = length chunk - i
+μ-loop loaded plan rules nodeTable stateTable chunk asked₀ have out₀ part₀ end₀ i₀ asked out part end i = length chunk - i
 
 loop-holds : tie.Need-loop-holds Inv-loop μ-loop
 loop-holds c = (omega arith, omega arith, omega arith, advances-none _ _ _ _ _)

@@ -12,29 +12,11 @@ use Rattle.io.proofs.count.Reads as count-reads
 use Rattle.libc.proofs.read.Reads as read-reads
 use Rattle.whatif.proofs.input.least.Reads as least-reads
 
-least-requires : tie.Need-least-requires
-least-requires c κs = search needs
-
-slice-relend-prefix-read : tie.Need-slice-relend-prefix-read
-slice-relend-prefix-read c = search needs
-
 slice-aggregate-read : tie.Need-slice-aggregate-read
 slice-aggregate-read c = sym (length-take-le _ _ (c .before .least .ensures .1))
 
-read-requires : tie.Need-read-requires
-read-requires c κs = search needs
-
-slice-reshare-prefix-count : tie.Need-slice-reshare-prefix-count
-slice-reshare-prefix-count c = search needs
-
 slice-aggregate-count : tie.Need-slice-aggregate-count
 slice-aggregate-count c = sym (length-take-le _ _ (search needs))
-
-count-requires : tie.Need-count-requires
-count-requires c κs = search needs
-
-same-length : tie.Need-same-length
-same-length c = search needs
 
 returns : tie.Need-returns
 returns c =
@@ -49,12 +31,12 @@ pub read-some-spec : {M : Type 1} → statement M
 read-some-spec =
     tie.close
     (tie.spec
-    least-requires
-    slice-relend-prefix-read
+    (λ c κs. search needs)
+    (λ c. search needs)
     slice-aggregate-read
-    read-requires
-    slice-reshare-prefix-count
+    (λ c κs. search needs)
+    (λ c. search needs)
     slice-aggregate-count
-    count-requires
-    same-length
+    (λ c κs. search needs)
+    (λ c. search needs)
     returns)

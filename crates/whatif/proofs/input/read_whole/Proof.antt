@@ -9,20 +9,8 @@ use Rattle.whatif.proofs.input.read_whole.Lts as lts
 use Rattle.io.proofs.read_full.Reads as read-full-reads
 use Rattle.whatif.proofs.input.least.Reads as least-reads
 
-least-requires : tie.Need-least-requires
-least-requires c κs = search needs
-
-slice-relend-prefix-read-full : tie.Need-slice-relend-prefix-read-full
-slice-relend-prefix-read-full c = search needs
-
 slice-aggregate-read-full : tie.Need-slice-aggregate-read-full
 slice-aggregate-read-full c = sym (length-take-le _ _ (c .before .least .ensures .1))
-
-read-full-requires : tie.Need-read-full-requires
-read-full-requires c κs = search needs
-
-same-length : tie.Need-same-length
-same-length c = search needs
 
 returns : tie.Need-returns
 returns c =
@@ -33,9 +21,9 @@ pub read-whole-spec : {M : Type 1} → statement M
 read-whole-spec =
     tie.close
     (tie.spec
-    least-requires
-    slice-relend-prefix-read-full
+    (λ c κs. search needs)
+    (λ c. search needs)
     slice-aggregate-read-full
-    read-full-requires
-    same-length
+    (λ c κs. search needs)
+    (λ c. search needs)
     returns)

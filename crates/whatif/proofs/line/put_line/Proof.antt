@@ -2,8 +2,8 @@ use borrow.Author.Needs.{needs}
 use Prim.Native.Nat.{ℕ}
 use mathlib.Core.Path.{subst, sym, ap}
 use mathlib.Core.List.{List}
-use Rattle.session.specs.declared.answers.Reading.{Reading}
-use Rattle.session.specs.Promises.{readingAnswer}
+use Rattle.session.specs.declared.answers.ReadAnswer.{ReadAnswer}
+use Rattle.session.specs.Answers.{readAnswer}
 use Rattle.whatif.specs.Text.{Put}
 use Rattle.whatif.specs.Line.{lineOf}
 use Rattle.whatif.proofs.line.put_line.Statement.{statement}
@@ -11,45 +11,27 @@ use Rattle.whatif.proofs.line.put_line.Tie as tie
 use Rattle.whatif.proofs.line.put_line.Reads as reads
 use Rattle.whatif.proofs.line.put_line.Lts as lts
 use Rattle.whatif.proofs.line.put_refused.Reads as put-refused-reads
-use Rattle.whatif.proofs.line.put_told.Reads as put-told-reads
-
-enum-known-answer : tie.Need-enum-known-answer
-enum-known-answer c = search needs
-
-put-told-requires : tie.Need-put-told-requires
-put-told-requires c κs = search needs
-
-same-length : tie.Need-same-length
-same-length c = search needs
+use Rattle.whatif.proofs.line.put_outcome.Reads as put-told-reads
 
 returns : tie.Need-returns
-unfolding lineOf readingAnswer
+unfolding lineOf readAnswer
 returns c =
     let p = c .before .before in
     let m = p .before .before .before in
     let a = m .before .before .before .args in (
-      subst (λ (t : List ℕ). Put (a .out .now) (a .at) t (p .put-told .last .0) (p .put-told .result))
-          (ap (λ (r : Reading). lineOf (readingAnswer r)) (sym (m .answer .given .1))) (p .put-told .ensures .0),
-      p .put-told .ensures .1,
+      subst (λ (t : List ℕ). Put (a .out .now) (a .at) t (p .put-outcome .last .0) (p .put-outcome .result))
+          (ap (λ (r : ReadAnswer). lineOf (readAnswer r)) (sym (m .answer .given .1))) (p .put-outcome .ensures .0),
+      p .put-outcome .ensures .1,
     )
 
-enum-known-answer-2 : tie.Need-enum-known-answer-2
-enum-known-answer-2 c = search needs
-
-put-refused-requires : tie.Need-put-refused-requires
-put-refused-requires c κs = search needs
-
-same-length-2 : tie.Need-same-length-2
-same-length-2 c = search needs
-
 returns-2 : tie.Need-returns-2
-unfolding lineOf readingAnswer
+unfolding lineOf readAnswer
 returns-2 c =
     let p = c .before .before in
     let m = p .before .before .before in
     let a = m .before .before .before .args in (
       subst (λ (t : List ℕ). Put (a .out .now) (a .at) t (p .put-refused .last .0) (p .put-refused .result))
-          (ap (λ (r : Reading). lineOf (readingAnswer r)) (sym (m .answer2 .given .1))) (p .put-refused .ensures .0),
+          (ap (λ (r : ReadAnswer). lineOf (readAnswer r)) (sym (m .answer2 .given .1))) (p .put-refused .ensures .0),
       p .put-refused .ensures .1,
     )
 
@@ -57,11 +39,11 @@ pub put-line-spec : {M : Type 1} → statement M
 put-line-spec =
     tie.close
     (tie.spec
-    enum-known-answer
-    put-told-requires
-    same-length
+    (λ c. search needs)
+    (λ c κs. search needs)
+    (λ c. search needs)
     returns
-    enum-known-answer-2
-    put-refused-requires
-    same-length-2
+    (λ c. search needs)
+    (λ c κs. search needs)
+    (λ c. search needs)
     returns-2)

@@ -8,28 +8,16 @@ use Rattle.whatif.proofs.line.put_refused.Lts as lts
 use Rattle.whatif.proofs.text.put_number.Reads as put-number-reads
 use Rattle.whatif.proofs.text.put_word.Reads as put-word-reads
 
-slice-aggregate-put-word : tie.Need-slice-aggregate-put-word
-slice-aggregate-put-word c = search needs
-
-put-word-requires : tie.Need-put-word-requires
-put-word-requires c κs = search needs
-
 put-number-requires : tie.Need-put-number-requires
 put-number-requires c κs =
     let w = c .before .before .before .put-word .ensures in
     omega (arith, w .as-long, w .end)
-
-slice-aggregate-put-word-2 : tie.Need-slice-aggregate-put-word-2
-slice-aggregate-put-word-2 c = search needs
 
 put-word-requires-2 : tie.Need-put-word-requires-2
 put-word-requires-2 c κs =
     let n = c .before .before .before .before .put-number .ensures in
     let w = c .before .before .before .before .before .before .before .before .put-word .ensures in
     omega (arith, n .0 .as-long, n .1, w .as-long, w .end)
-
-same-length : tie.Need-same-length
-same-length c = search needs
 
 returns : tie.Need-returns
 returns c =
@@ -42,10 +30,10 @@ pub put-refused-spec : {M : Type 1} → statement M
 put-refused-spec =
     tie.close
     (tie.spec
-    slice-aggregate-put-word
-    put-word-requires
+    (λ c. search needs)
+    (λ c κs. search needs)
     put-number-requires
-    slice-aggregate-put-word-2
+    (λ c. search needs)
     put-word-requires-2
-    same-length
+    (λ c. search needs)
     returns)

@@ -9,15 +9,6 @@ use Rattle.whatif.proofs.line.put_yes_or_no.Reads as reads
 use Rattle.whatif.proofs.line.put_yes_or_no.Lts as lts
 use Rattle.whatif.proofs.text.put_word.Reads as put-word-reads
 
-slice-aggregate-put-word : tie.Need-slice-aggregate-put-word
-slice-aggregate-put-word c = search needs
-
-put-word-requires : tie.Need-put-word-requires
-put-word-requires c κs = search needs
-
-same-length : tie.Need-same-length
-same-length c = search needs
-
 returns : tie.Need-returns
 returns c =
     let p = c .before .before in
@@ -25,15 +16,6 @@ returns c =
     let a = i .before .before .args in
     subst (λ (y : Bool). Put (a .out .now) (a .at) (yesOrNo y) (p .put-word .last .0) (p .put-word .result))
     (sym (i .if1 .taken)) (p .put-word .ensures)
-
-slice-aggregate-put-word-2 : tie.Need-slice-aggregate-put-word-2
-slice-aggregate-put-word-2 c = search needs
-
-put-word-requires-2 : tie.Need-put-word-requires-2
-put-word-requires-2 c κs = search needs
-
-same-length-2 : tie.Need-same-length-2
-same-length-2 c = search needs
 
 returns-2 : tie.Need-returns-2
 returns-2 c =
@@ -47,11 +29,11 @@ pub put-yes-or-no-spec : {M : Type 1} → statement M
 put-yes-or-no-spec =
     tie.close
     (tie.spec
-    slice-aggregate-put-word
-    put-word-requires
-    same-length
+    (λ c. search needs)
+    (λ c κs. search needs)
+    (λ c. search needs)
     returns
-    slice-aggregate-put-word-2
-    put-word-requires-2
-    same-length-2
+    (λ c. search needs)
+    (λ c κs. search needs)
+    (λ c. search needs)
     returns-2)

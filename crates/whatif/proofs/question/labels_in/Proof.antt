@@ -5,7 +5,7 @@ use mathlib.Core.Path.{_≡_, refl}
 use mathlib.Core.List.{_++_}
 use lib.ListN.{length, take, drop, length-set}
 use Rattle.whatif.specs.Question.{labelsIn}
-use Rattle.whatif.proofs.TripleLaws.{labelOf, labels-by-three, taken-turn, taken-end}
+use Rattle.whatif.proofs.TripleLaws.{labelOf, labels-by-three, taken-iteration, taken-end}
 use Rattle.whatif.proofs.question.labels_in.Statement.{statement}
 use Rattle.whatif.proofs.question.labels_in.Tie as tie
 use Rattle.whatif.proofs.question.labels_in.Reads as reads
@@ -51,7 +51,7 @@ loop-again c =
       omega arith,
       (
         simp length-set (omega arith),
-        taken-turn labelsIn labelOf labels-by-three (c .before .before .before .args .list .now)
+        taken-iteration labelsIn labelOf labels-by-three (c .before .before .before .args .list .now)
             (l .labels) (l .i) _ (omega arith) (omega arith) refl (l .inv .1 .1),
       ),
     )

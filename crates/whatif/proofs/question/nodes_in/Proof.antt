@@ -5,7 +5,7 @@ use mathlib.Core.Path.{_≡_, refl}
 use mathlib.Core.List.{_++_}
 use lib.ListN.{length, take, drop, length-set}
 use Rattle.whatif.specs.Question.{nodesIn}
-use Rattle.whatif.proofs.TripleLaws.{nodeOf, nodes-by-three, taken-turn, taken-end}
+use Rattle.whatif.proofs.TripleLaws.{nodeOf, nodes-by-three, taken-iteration, taken-end}
 use Rattle.whatif.proofs.question.nodes_in.Statement.{statement}
 use Rattle.whatif.proofs.question.nodes_in.Tie as tie
 use Rattle.whatif.proofs.question.nodes_in.Reads as reads
@@ -55,7 +55,7 @@ loop-again c =
       omega arith,
       (
         simp length-set (omega arith),
-        taken-turn nodesIn nodeOf nodes-by-three (c .before .before .before .before .args .list .now)
+        taken-iteration nodesIn nodeOf nodes-by-three (c .before .before .before .before .args .list .now)
             (l .nodes) (l .i) (c .number16 .result) (omega arith) (omega arith) (c .number16 .ensures .0) (l .inv .1 .1),
       ),
     )

@@ -12,24 +12,12 @@ use Rattle.whatif.proofs.text.put_number.Lts as lts
 use Rattle.io.proofs.decimal.Reads as decimal-reads
 use Rattle.whatif.proofs.text.put_word.Reads as put-word-reads
 
-decimal-requires : tie.Need-decimal-requires
-decimal-requires c κs = search needs
-
-array-share-prefix-digits : tie.Need-array-share-prefix-digits
-array-share-prefix-digits c = search needs
-
-slice-aggregate-put-word : tie.Need-slice-aggregate-put-word
-slice-aggregate-put-word c = search needs
-
 put-word-requires : tie.Need-put-word-requires
 put-word-requires c κs =
     let d = c .before .before in
     let a = d .before .before .before .args in
     let k = ten-digits (a .n) (d .decimal .result) (d .decimal .ensures .1 .0) (omega arith) in
     omega (arith, d .decimal .ensures .0 .1, k)
-
-same-length : tie.Need-same-length
-same-length c = search needs
 
 returns : tie.Need-returns
 returns c =
@@ -45,9 +33,9 @@ pub put-number-spec : {M : Type 1} → statement M
 put-number-spec =
     tie.close
     (tie.spec
-    decimal-requires
-    array-share-prefix-digits
-    slice-aggregate-put-word
+    (λ c κs. search needs)
+    (λ c. search needs)
+    (λ c. search needs)
     put-word-requires
-    same-length
+    (λ c. search needs)
     returns)

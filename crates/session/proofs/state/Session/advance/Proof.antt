@@ -1,38 +1,43 @@
 -- `session::state::Session::advance` meets its contract: its step is found by the record's head and arrays.
 -- Assumes nothing.
-use Rattle.book.specs.Lends.{Lent}
-use Rattle.book.specs.Calls.{advance}
-use Rattle.session.specs.Tests.{lentOf}
-use Rattle.session.specs.Steps.{StepFound}
-use Rattle.session.proofs.StepLaws.{found-by, step-done}
+use mathlib.Core.Logic.{inl, inr}
+use Rattle.formats.specs.Inputs.{Inputs}
+use Rattle.model.specs.Calls.{advance}
+use Rattle.formats.specs.Inputs.{inputsOf}
+use Rattle.session.specs.inner.Steps.{StepFound}
+use Rattle.session.proofs.StepLaws.{chosen, not-chosen, step-done}
 use borrow.Author.Needs.{needs}
 use Rattle.session.proofs.state.Session.advance.Statement.{statement}
 use Rattle.session.proofs.state.Session.advance.Tie as tie
 
-abbrev of : tie.After-next-step → tie.Start
-of a = a .before .before .before .before .before .before .before .before .before .before .before .before .before .before .before
+-- where the step was found, and the call's beginning
+abbrev stepped : tie.After-struct-known → tie.After-next-step
+stepped a = a .before .before .before .before .before
 
-abbrev lent : tie.Start → Lent
-lent c = lentOf (c .args .plan .now) (c .args .rules .now) (c .args .nums .now) (c .args .bytes .now)
+abbrev of : tie.After-next-step → tie.Start
+of a = a .before .before .before .before .before .before .before .before .before .before .before
+
+abbrev lent : tie.Start → Inputs
+lent c = inputsOf (c .args .plan .now) (c .args .rules .now) (c .args .node-table .now) (c .args .state-table .now)
 
 found : (c : tie.After-next-step) → StepFound (of c .args .t1) (advance (lent (of c))) (c .next-step .result)
-found c =
-    found-by (of c .args .t1) (advance (lent (of c))) _ (c .before .before .before .before .before .before .before .before .before .before .head .ensures) _
-    (c .next-step .ensures)
-
-head-requires : tie.Need-head-requires
-head-requires c κs = search needs
+found c = c .next-step .ensures
 
 next-step-requires : tie.Need-next-step-requires
 next-step-requires c κs = search needs
 
-applied-requires : tie.Need-applied-requires
-applied-requires c κs = found c .room
+cast-at : tie.Need-cast-at
+cast-at c = search needs
+
+array-write-states : tie.Need-array-write-states
+array-write-states c = found (stepped (c .before)) .room (c .if1 .taken)
 
 returns : tie.Need-returns
 returns c =
-    let n = c .before in
-    step-done (of n .args .t1) (advance (lent (of n))) _ (found n) _ (c .applied .ensures)
+    let j = c .before in
+    let n = stepped (j .before) in
+    step-done (of n .args .t1) (advance (lent (of n))) _ (found n) _
+    (elim (j .if1 .came) [ inl w ↦ chosen _ _ _ _ (w .0 .taken) (w .1) | inr w ↦ not-chosen _ _ _ _ (w .0 .left) (w .1) ])
 
 pub advance-spec : {M : Type 1} → statement M
-advance-spec = tie.close (tie.spec head-requires next-step-requires applied-requires returns)
+advance-spec = tie.close (tie.spec next-step-requires cast-at array-write-states returns)

@@ -2,11 +2,11 @@
 -- Assumes nothing.
 use mathlib.Core.Path.{_≡_}
 use mathlib.Core.Bool.{_&&_}
-use Rattle.book.specs.Calls.{isRunning}
+use Rattle.model.specs.Calls.{isRunning}
 use Rattle.session.specs.Records.{phaseOf, valid}
-use Rattle.session.specs.Tests.{Shaped}
-use Rattle.session.proofs.Shapes.{shaped}
-use Rattle.session.proofs.CallLaws.{may-by}
+use Rattle.session.specs.inner.Shapes.{Shaped}
+use Rattle.session.proofs.ShapeLaws.{shaped}
+use Rattle.session.proofs.CallLaws.{allowed-by}
 use Rattle.session.proofs.CancelLaws.{cancel-no, cancel-yes}
 use borrow.Author.Needs.{needs}
 use Rattle.session.proofs.state.Session.cancel.Statement.{statement}
@@ -15,22 +15,22 @@ use Rattle.session.proofs.state.Session.cancel.Tie as tie
 shape : (c : tie.Start) → Shaped (c .args .t1)
 shape c = shaped (c .args .t1) (c .good .0)
 
--- where the record's head was read, and the call's beginning
-abbrev headed : tie.After-is-running → tie.After-head
-headed m = m .before .before .before .before .before .before .before .before .before .before
+-- where the state was tested, and the call's beginning
+abbrev tested : tie.After-allowed → tie.After-may-advance
+tested m = m .before .before .before .before .before .before
 
-abbrev of : tie.After-is-running → tie.Start
-of m = headed m .before
+abbrev of : tie.After-allowed → tie.Start
+of m = tested m .before .before
 
-may : (m : tie.After-is-running) → m .is-running .result
-    ≡ (valid (of m .args .t1) && isRunning (phaseOf (of m .args .t1 .phase)))
-may m = may-by isRunning (of m .args .t1) _ (headed m .head .ensures) _ (m .is-running .ensures)
+may : (m : tie.After-allowed) → m .allowed .result
+    ≡ (valid (of m .args .t1) && isRunning (phaseOf (of m .args .t1 .head .phase)))
+may m = allowed-by isRunning (of m .args .t1) _ _ (tested m .may-advance .ensures) (m .allowed .ensures)
 
-head-requires : tie.Need-head-requires
-head-requires c κs = search needs
+may-advance-requires : tie.Need-may-advance-requires
+may-advance-requires c κs = search needs
 
-is-running-requires : tie.Need-is-running-requires
-is-running-requires c κs = search needs
+allowed-requires : tie.Need-allowed-requires
+allowed-requires c κs = search needs
 
 returns : tie.Need-returns
 returns c =
@@ -47,4 +47,4 @@ returns-2 c =
     cancel-yes (of m .args .t1) (shape (of m)) _ (may m) (e .if1 .left) _ (c .loaded .ensures)
 
 pub cancel-spec : {M : Type 1} → statement M
-cancel-spec = tie.close (tie.spec head-requires is-running-requires returns loaded-requires returns-2)
+cancel-spec = tie.close (tie.spec may-advance-requires allowed-requires returns loaded-requires returns-2)

@@ -1,13 +1,14 @@
 -- `session::state::Session::load` meets its contract. Each return cites the law of its answer.
 -- Assumes nothing.
-use Rattle.book.specs.Lends.{Lent}
+use Rattle.formats.specs.Inputs.{Inputs, inputsOf}
 use mathlib.Core.Path.{_≡_}
 use mathlib.Core.Bool.{_&&_}
-use Rattle.book.specs.Calls.{mayLoad}
+use Rattle.model.specs.Calls.{mayLoad}
 use Rattle.session.specs.Records.{phaseOf, valid}
-use Rattle.session.specs.Tests.{Shaped, lentOf}
-use Rattle.session.proofs.Shapes.{shaped}
-use Rattle.session.proofs.CallLaws.{may-by}
+use Rattle.session.specs.inner.Shapes.{Shaped}
+use Rattle.formats.specs.Inputs.{inputsOf}
+use Rattle.session.proofs.ShapeLaws.{shaped}
+use Rattle.session.proofs.CallLaws.{allowed-by}
 use Rattle.session.proofs.LoadLaws.{load-1, load-headers, load-built, load-refused}
 use borrow.Author.Needs.{needs}
 use Rattle.session.proofs.state.Session.load.Statement.{statement}
@@ -16,36 +17,24 @@ use Rattle.session.proofs.state.Session.load.Tie as tie
 shape : (c : tie.Start) → Shaped (c .args .t1)
 shape c = shaped (c .args .t1) (c .good .0)
 
-abbrev lent : tie.Start → Lent
-lent c = lentOf (c .args .plan .now) (c .args .rules .now) (c .args .nums .now) (c .args .bytes .now)
+abbrev lent : tie.Start → Inputs
+lent c = inputsOf (c .args .plan .now) (c .args .rules .now) (c .args .node-table .now) (c .args .state-table .now)
 
--- where the record's head was read, and the call's beginning
-abbrev headed : tie.After-may-load → tie.After-head
-headed m = m .before .before .before .before .before .before .before .before .before .before
+-- where the state was tested, and the call's beginning
+abbrev tested : tie.After-allowed → tie.After-may-load
+tested m = m .before .before .before .before .before .before
 
-abbrev of : tie.After-may-load → tie.Start
-of m = headed m .before .before .before .before .before
+abbrev of : tie.After-allowed → tie.Start
+of m = tested m .before .before .before .before .before .before
 
-may : (m : tie.After-may-load) → m .may-load .result
-    ≡ (valid (of m .args .t1) && mayLoad (phaseOf (of m .args .t1 .phase)))
-may m = may-by mayLoad (of m .args .t1) _ (headed m .head .ensures) _ (m .may-load .ensures)
-
-head-requires : tie.Need-head-requires
-head-requires c κs = search needs
-
-may-load-requires : tie.Need-may-load-requires
-may-load-requires c κs = search needs
+may : (m : tie.After-allowed) → m .allowed .result
+    ≡ (valid (of m .args .t1) && mayLoad (phaseOf (of m .args .t1 .head .phase)))
+may m = allowed-by mayLoad (of m .args .t1) _ _ (tested m .may-load .ensures) (m .allowed .ensures)
 
 returns : tie.Need-returns
 returns c =
     let m = c .before in
     load-1 (of m .args .t1) (shape (of m)) (lent (of m)) _ (may m) (c .if1 .taken)
-
-build-rules-requires : tie.Need-build-rules-requires
-build-rules-requires c κs = search needs
-
-enum-told : tie.Need-enum-told
-enum-told c = search needs
 
 loaded-from-requires : tie.Need-loaded-from-requires
 loaded-from-requires c κs =
@@ -53,13 +42,7 @@ loaded-from-requires c κs =
     let e = b .before .before .before in
     let m = e .before in
     load-headers (of m .args .t1) (shape (of m)) (lent (of m)) _ (may m) (e .if1 .left) _ _ _
-    (b .build-rules .ensures) (c .enum-told .given .1)
-
-same-length : tie.Need-same-length
-same-length c = search needs
-
-same-length-2 : tie.Need-same-length-2
-same-length-2 c = search needs
+    (b .build-tables .ensures) (c .enum-told .given .1)
 
 returns-2 : tie.Need-returns-2
 returns-2 c =
@@ -68,16 +51,7 @@ returns-2 c =
     let e = b .before .before .before in
     let m = e .before in
     load-built (of m .args .t1) (shape (of m)) (lent (of m)) _ (may m) (e .if1 .left) _ _ _
-    (b .build-rules .ensures) (d .enum-told .given .1) _ (c .loaded-from .ensures)
-
-enum-known-n : tie.Need-enum-known-n
-enum-known-n c = search needs
-
-same-length-3 : tie.Need-same-length-3
-same-length-3 c = search needs
-
-same-length-4 : tie.Need-same-length-4
-same-length-4 c = search needs
+    (b .build-tables .ensures) (d .enum-told .given .1) _ (c .loaded-from .ensures)
 
 returns-3 : tie.Need-returns-3
 returns-3 c =
@@ -86,22 +60,22 @@ returns-3 c =
     let e = b .before .before .before in
     let m = e .before in
     load-refused (of m .args .t1) (shape (of m)) (lent (of m)) _ (may m) (e .if1 .left) _ _ _
-    (b .build-rules .ensures) _ (d .n .given .1)
+    (b .build-tables .ensures) _ (d .n .given .1)
 
 pub load-spec : {M : Type 1} → statement M
 load-spec =
     tie.close
     (tie.spec
-    head-requires
-    may-load-requires
+    (λ c κs. search needs)
+    (λ c κs. search needs)
     returns
-    build-rules-requires
-    enum-told
+    (λ c κs. search needs)
+    (λ c. search needs)
     loaded-from-requires
-    same-length
-    same-length-2
+    (λ c. search needs)
+    (λ c. search needs)
     returns-2
-    enum-known-n
-    same-length-3
-    same-length-4
+    (λ c. search needs)
+    (λ c. search needs)
+    (λ c. search needs)
     returns-3)

@@ -2,12 +2,12 @@
 -- Assumes nothing.
 use mathlib.Core.Path.{_≡_}
 use mathlib.Core.Bool.{_&&_}
-use Rattle.book.specs.Calls.{isAnswered}
+use Rattle.model.specs.Calls.{isAnswered}
 use Rattle.session.specs.Records.{phaseOf, valid}
-use Rattle.session.specs.Tests.{Shaped}
-use Rattle.session.proofs.Shapes.{shaped}
-use Rattle.session.proofs.CallLaws.{may-by}
-use Rattle.session.proofs.CancelLaws.{read-no, counted, read-yes}
+use Rattle.session.specs.inner.Shapes.{Shaped}
+use Rattle.session.proofs.ShapeLaws.{shaped}
+use Rattle.session.proofs.CallLaws.{allowed-by}
+use Rattle.session.proofs.ReadLaws.{read-no, counted, read-yes}
 use native.Mathlib.Omega.{arith}
 use borrow.Author.Needs.{needs}
 use Rattle.session.proofs.state.Session.read.Statement.{statement}
@@ -16,22 +16,22 @@ use Rattle.session.proofs.state.Session.read.Tie as tie
 shape : (c : tie.Start) → Shaped (c .args .t1)
 shape c = shaped (c .args .t1) (c .good .0)
 
--- where the record's head was read, and the call's beginning
-abbrev headed : tie.After-is-answered → tie.After-head
-headed m = m .before .before .before .before .before .before .before .before .before .before
+-- where the state was tested, and the call's beginning
+abbrev tested : tie.After-allowed → tie.After-may-read
+tested m = m .before .before .before .before .before .before
 
-abbrev of : tie.After-is-answered → tie.Start
-of m = headed m .before
+abbrev of : tie.After-allowed → tie.Start
+of m = tested m .before .before
 
-may : (m : tie.After-is-answered) → m .is-answered .result
-    ≡ (valid (of m .args .t1) && isAnswered (phaseOf (of m .args .t1 .phase)))
-may m = may-by isAnswered (of m .args .t1) _ (headed m .head .ensures) _ (m .is-answered .ensures)
+may : (m : tie.After-allowed) → m .allowed .result
+    ≡ (valid (of m .args .t1) && isAnswered (phaseOf (of m .args .t1 .head .phase)))
+may m = allowed-by isAnswered (of m .args .t1) _ _ (tested m .may-read .ensures) (m .allowed .ensures)
 
-head-requires : tie.Need-head-requires
-head-requires c κs = search needs
+may-read-requires : tie.Need-may-read-requires
+may-read-requires c κs = search needs
 
-is-answered-requires : tie.Need-is-answered-requires
-is-answered-requires c κs = search needs
+allowed-requires : tie.Need-allowed-requires
+allowed-requires c κs = search needs
 
 returns : tie.Need-returns
 returns c =
@@ -43,23 +43,23 @@ cast-last c = search needs
 
 sub-last : tie.Need-sub-last
 sub-last c =
-    let e = c .before in
+    let e = c .before .before in
     let m = e .before in
     counted (of m .args .t1) (shape (of m)) _ (may m) (e .if1 .left) .0
 
-array-read-t18 : tie.Need-array-read-t18
-array-read-t18 c =
-    let e = c .before in
+array-read-t19 : tie.Need-array-read-t19
+array-read-t19 c =
+    let e = c .before .before in
     let m = e .before in
     let k = counted (of m .args .t1) (shape (of m)) _ (may m) (e .if1 .left) in
     omega (arith, k .0, k .1)
 
 returns-2 : tie.Need-returns-2
 returns-2 c =
-    let e = c .before in
+    let e = c .before .before in
     let m = e .before in
     read-yes (of m .args .t1) (shape (of m)) _ (may m) (e .if1 .left)
 
 pub read-spec : {M : Type 1} → statement M
 read-spec =
-    tie.close (tie.spec head-requires is-answered-requires returns cast-last sub-last array-read-t18 returns-2)
+    tie.close (tie.spec may-read-requires allowed-requires returns cast-last sub-last array-read-t19 returns-2)

@@ -2,16 +2,16 @@
 -- Assumes nothing.
 use Prim.Native.Nat.{_*_}
 use lib.Seq.{length-take-le}
-use Rattle.book.specs.Lends.{Lent}
+use Rattle.formats.specs.Inputs.{Inputs, inputsOf}
 use mathlib.Core.Path.{_≡_, sym}
 use mathlib.Core.Bool.{_&&_}
-use Rattle.book.specs.Calls.{mayStart}
+use Rattle.model.specs.Calls.{mayStart}
 use Rattle.session.specs.Records.{phaseOf, valid}
-use Rattle.session.specs.Tests.{Shaped, lentOf}
-use Rattle.session.proofs.Shapes.{shaped}
-use Rattle.session.proofs.CallLaws.{may-by}
-use Rattle.session.proofs.StartLaws.{start-1, start-limits, start-17, start-room, start-list, start-listed, start-18}
-use Rattle.session.proofs.StartLaws.{start-count, start-yes}
+use Rattle.session.specs.inner.Shapes.{Shaped}
+use Rattle.formats.specs.Inputs.{inputsOf}
+use Rattle.session.proofs.ShapeLaws.{shaped}
+use Rattle.session.proofs.CallLaws.{allowed-by}
+use Rattle.session.proofs.StartLaws.{start-1, start-limits, start-17, start-room, start-list, start-listed, start-18, start-count, start-yes}
 use native.Mathlib.Omega.{arith}
 use borrow.Author.Needs.{needs}
 use Rattle.session.proofs.state.Session.start.Statement.{statement}
@@ -20,25 +20,19 @@ use Rattle.session.proofs.state.Session.start.Tie as tie
 shape : (c : tie.Start) → Shaped (c .args .t1)
 shape c = shaped (c .args .t1) (c .good .0)
 
-abbrev lent : tie.Start → Lent
-lent c = lentOf (c .args .plan .now) (c .args .rules .now) (c .args .nums .now) (c .args .bytes .now)
+abbrev lent : tie.Start → Inputs
+lent c = inputsOf (c .args .plan .now) (c .args .rules .now) (c .args .node-table .now) (c .args .state-table .now)
 
--- where the record's head was read, and the call's beginning
-abbrev headed : tie.After-may-start → tie.After-head
-headed m = m .before .before .before .before .before .before .before .before .before .before
+-- where the state was tested, and the call's beginning
+abbrev tested : tie.After-allowed → tie.After-may-start
+tested m = m .before .before .before .before .before .before
 
-abbrev of : tie.After-may-start → tie.Start
-of m = headed m .before .before .before .before .before .before .before
+abbrev of : tie.After-allowed → tie.Start
+of m = tested m .before .before .before .before .before .before .before .before
 
-may : (m : tie.After-may-start) → m .may-start .result
-    ≡ (valid (of m .args .t1) && mayStart (phaseOf (of m .args .t1 .phase)))
-may m = may-by mayStart (of m .args .t1) _ (headed m .head .ensures) _ (m .may-start .ensures)
-
-head-requires : tie.Need-head-requires
-head-requires c κs = search needs
-
-may-start-requires : tie.Need-may-start-requires
-may-start-requires c κs = search needs
+may : (m : tie.After-allowed) → m .allowed .result
+    ≡ (valid (of m .args .t1) && mayStart (phaseOf (of m .args .t1 .head .phase)))
+may m = allowed-by mayStart (of m .args .t1) _ _ (tested m .may-start .ensures) (m .allowed .ensures)
 
 returns : tie.Need-returns
 returns c =
@@ -46,47 +40,36 @@ returns c =
     start-1 (of m .args .t1) (shape (of m)) (lent (of m)) (of m .args .nodes .now) (of m .args .labels .now) _
     (may m) (c .if1 .taken)
 
-cast-n : tie.Need-cast-n
-cast-n c = search needs
-
-cast-s : tie.Need-cast-s
-cast-s c = search needs
-
-cast-k : tie.Need-cast-k
-cast-k c = search needs
-
-lengths-fit-requires : tie.Need-lengths-fit-requires
-lengths-fit-requires c κs =
-    let m = c .before in
+rule-buffers-fit-requires : tie.Need-rule-buffers-fit-requires
+rule-buffers-fit-requires c κs =
+    let e = c .before .before .before in
+    let m = e .before in
     start-limits (of m .args .t1) (shape (of m)) (lent (of m)) (of m .args .nodes .now) (of m .args .labels .now) _
-    (may m) (c .if1 .left)
+    (may m) (e .if1 .left)
 
 returns-2 : tie.Need-returns-2
 returns-2 c =
     let k = c .before in
-    let e = k .before in
+    let e = k .before .before .before .before in
     let m = e .before in
     start-17 (of m .args .t1) (shape (of m)) (lent (of m)) (of m .args .nodes .now) (of m .args .labels .now) _
     (may m)
-    (e .if1 .left) _ (k .lengths-fit .ensures) (c .if2 .taken)
-
-check-list-requires : tie.Need-check-list-requires
-check-list-requires c κs = search needs
+    (e .if1 .left) _ (k .rule-buffers-fit .ensures) (c .if2 .taken)
 
 returns-3 : tie.Need-returns-3
 returns-3 c =
     let l = c .before in
     let t = l .before in
     let k = t .before in
-    let e = k .before in
+    let e = k .before .before .before .before in
     let m = e .before in
     start-list (of m .args .t1) (shape (of m)) (lent (of m)) (of m .args .nodes .now) (of m .args .labels .now) _
     (may m)
-    (e .if1 .left) _ (k .lengths-fit .ensures) (t .if2 .left) _ (l .check-list .ensures) (c .if3 .taken)
+    (e .if1 .left) _ (k .rule-buffers-fit .ensures) (t .if2 .left) _ (l .check-list .ensures) (c .if3 .taken)
 
 mul-roots : tie.Need-mul-roots
 mul-roots c =
-    let e = c .before .before .before .before in
+    let e = c .before .before .before .before .before .before .before in
     let m = e .before in
     omega (
       arith,
@@ -98,15 +81,12 @@ slice-aggregate-roots : tie.Need-slice-aggregate-roots
 slice-aggregate-roots c =
     let t = c .before .before .before in
     let k = t .before in
-    let e = k .before in
+    let e = k .before .before .before .before in
     let m = e .before in
     let h =
     start-room (of m .args .t1) (shape (of m)) (lent (of m)) (of m .args .nodes .now) (of m .args .labels .now) _
-    (may m) (e .if1 .left) _ (k .lengths-fit .ensures) (t .if2 .left) in
-    sym (length-take-le (of m .args .t1 .n * 4) (of m .args .nums .now) h)
-
-roots-requires : tie.Need-roots-requires
-roots-requires c κs = search needs
+    (may m) (e .if1 .left) _ (k .rule-buffers-fit .ensures) (t .if2 .left) in
+    sym (length-take-le (of m .args .t1 .head .sizes .n * 4) (of m .args .node-table .now) h)
 
 returns-4 : tie.Need-returns-4
 returns-4 c =
@@ -115,29 +95,29 @@ returns-4 c =
     let l = u .before in
     let t = l .before in
     let k = t .before in
-    let e = k .before in
+    let e = k .before .before .before .before in
     let m = e .before in
     start-18 (of m .args .t1) (shape (of m)) (lent (of m)) (of m .args .nodes .now) (of m .args .labels .now) _
     (may m)
-    (e .if1 .left) _ (k .lengths-fit .ensures) (t .if2 .left) _ (l .check-list .ensures) (u .if3 .left) _ (r .roots .ensures .told)
+    (e .if1 .left) _ (k .rule-buffers-fit .ensures) (t .if2 .left) _ (l .check-list .ensures) (u .if3 .left) _ (r .roots .ensures .result)
     (c .if4 .taken)
 
-cast-count : tie.Need-cast-count
-cast-count c =
+cast-parts : tie.Need-cast-parts
+cast-parts c =
     let w = c .before in
     let r = w .before .before in
     let u = r .before .before in
     let l = u .before in
     let t = l .before in
     let k = t .before in
-    let e = k .before in
+    let e = k .before .before .before .before in
     let m = e .before in
     omega (
       arith,
       start-count (of m .args .t1) (shape (of m)) (lent (of m)) (of m .args .nodes .now) (of m .args .labels .now) _
           (may m)
-          (e .if1 .left) _ (k .lengths-fit .ensures) (t .if2 .left) _ (l .check-list .ensures) (u .if3 .left) _
-          (r .roots .ensures .told) (w .if4 .left),
+          (e .if1 .left) _ (k .rule-buffers-fit .ensures) (t .if2 .left) _ (l .check-list .ensures) (u .if3 .left) _
+          (r .roots .ensures .result) (w .if4 .left),
     )
 
 started-requires : tie.Need-started-requires
@@ -148,11 +128,11 @@ started-requires c κs =
     let l = u .before in
     let t = l .before in
     let k = t .before in
-    let e = k .before in
+    let e = k .before .before .before .before in
     let m = e .before in
     start-listed (of m .args .t1) (shape (of m)) (lent (of m)) (of m .args .nodes .now) (of m .args .labels .now) _
     (may m)
-    (e .if1 .left) _ (k .lengths-fit .ensures) (t .if2 .left) _ (l .check-list .ensures) (u .if3 .left)
+    (e .if1 .left) _ (k .rule-buffers-fit .ensures) (t .if2 .left) _ (l .check-list .ensures) (u .if3 .left)
 
 returns-5 : tie.Need-returns-5
 returns-5 c =
@@ -162,11 +142,11 @@ returns-5 c =
     let l = u .before in
     let t = l .before in
     let k = t .before in
-    let e = k .before in
+    let e = k .before .before .before .before in
     let m = e .before in
     start-yes (of m .args .t1) (shape (of m)) (lent (of m)) (of m .args .nodes .now) (of m .args .labels .now) _
     (may m)
-    (e .if1 .left) _ (k .lengths-fit .ensures) (t .if2 .left) _ (l .check-list .ensures) (u .if3 .left) _ (r .roots .ensures .told)
+    (e .if1 .left) _ (k .rule-buffers-fit .ensures) (t .if2 .left) _ (l .check-list .ensures) (u .if3 .left) _ (r .roots .ensures .result)
     (w .if4 .left)
     _ (c .started .ensures)
 
@@ -174,20 +154,20 @@ pub start-spec : {M : Type 1} → statement M
 start-spec =
     tie.close
     (tie.spec
-    cast-n
-    cast-s
-    cast-k
-    head-requires
-    may-start-requires
+    (λ c κs. search needs)
+    (λ c κs. search needs)
     returns
-    lengths-fit-requires
+    (λ c. search needs)
+    (λ c. search needs)
+    (λ c. search needs)
+    rule-buffers-fit-requires
     returns-2
-    check-list-requires
+    (λ c κs. search needs)
     returns-3
     mul-roots
     slice-aggregate-roots
-    roots-requires
+    (λ c κs. search needs)
     returns-4
-    cast-count
+    cast-parts
     started-requires
     returns-5)

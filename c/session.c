@@ -1,0 +1,74 @@
+/*
+ * The sample clearance of document 01 through the session's calls: a line for each of its nine questions, state, yes or
+ * no, parts and links, or the refusal. What it prints is held to examples/sample.expected.
+ */
+#include "sample.h"
+
+#include <stdio.h>
+#include <string.h>
+
+static uint8_t record[WHATIF_RECORD_BYTES];
+static uint16_t node_table[WHATIF_NODE_TABLE_LEN(SAMPLE_NODES)];
+static uint8_t state_table[WHATIF_STATE_TABLE_LEN(SAMPLE_NODES, SAMPLE_STATES)];
+static const struct whatif_lent lent = {
+    .plan = plan,
+    .plan_len = sizeof plan,
+    .rules = rules,
+    .rules_len = sizeof rules,
+    .node_table = node_table,
+    .node_table_len = sizeof node_table / sizeof *node_table,
+    .state_table = state_table,
+    .state_table_len = sizeof state_table,
+};
+
+/* The record tells this state and this progress. */
+static void tells(uint32_t state, uint32_t parts, uint32_t done) {
+    if (whatif_session_state(record, sizeof record) != state || whatif_parts(record, sizeof record) != parts ||
+        whatif_parts_done(record, sizeof record) != done)
+        printf("the record tells something ELSE\n");
+}
+
+/* A refused call leaves the record and what it would tell. */
+static int refused(uint32_t answer, const uint8_t *before, uint32_t told) {
+    if (answer == WHATIF_ACCEPTED)
+        return 0;
+    printf("refused %u%s\n", answer, memcmp(record, before, sizeof record) || told != 77 ? ", and ALTERED" : "");
+    return 1;
+}
+
+static void ask(const struct question *q) {
+    uint8_t before[WHATIF_RECORD_BYTES];
+    uint32_t parts = 77, finished = 0, advances = 0, state, yes, told_parts, links;
+    memcpy(before, record, sizeof record);
+    uint32_t answer = whatif_start_lent(record, sizeof record, &lent, q->nodes, q->labels, q->m, &parts);
+    if (refused(answer, before, parts))
+        return;
+    for (; !finished; advances++) {
+        tells(WHATIF_RUNNING, parts, advances);
+        if (whatif_advance_lent(record, sizeof record, &lent, &finished) != WHATIF_ACCEPTED)
+            printf("an advance was REFUSED\n");
+    }
+    tells(WHATIF_ANSWERED, parts, advances);
+    if (whatif_read(record, sizeof record, &state, &yes, &told_parts, &links) != WHATIF_ACCEPTED)
+        printf("the Read was REFUSED\n");
+    if (advances != parts || told_parts != parts)
+        printf("NOT as many advances as parts\n");
+    printf("%u %s %u %u\n", state, yes ? "yes" : "no", told_parts, links);
+}
+
+int main(void) {
+    tells(WHATIF_EMPTY, 0, 0);
+    uint32_t answer = whatif_load(record, sizeof record, plan, sizeof plan, rules, sizeof rules, node_table,
+                                  lent.node_table_len, state_table, lent.state_table_len);
+    if (answer != WHATIF_ACCEPTED)
+        return 1;
+    tells(WHATIF_LOADED, 0, 0);
+    for (size_t i = 0; i < QUESTIONS; i++)
+        ask(&questions[i]);
+    /* a record of another length, as another layout version has, and bytes without a state */
+    if (whatif_session_state(record, sizeof record - 1) != WHATIF_NO_STATE || whatif_parts(record, sizeof record + 8))
+        printf("another length is taken for a RECORD\n");
+    record[0] = 4;
+    tells(WHATIF_NO_STATE, 0, 0);
+    return 0;
+}

@@ -1,0 +1,132 @@
+/*
+ * The stack that each call needs, on plans of 65,535 nodes with 16 states, 64 labels and 64 changes: it is run on a painted
+ * stack, and what it leaves unpainted is counted, less what an empty call leaves. Held to what the header says.
+ */
+#define _POSIX_C_SOURCE 200809L
+#include "whatif.h"
+
+#include <pthread.h>
+#include <stdio.h>
+#include <stdlib.h>
+#include <string.h>
+
+#define N 65535u
+#define STATES 16u
+#define LABELS 64u
+#define PAINT 0xA5
+#define ROOM ((size_t)1 << 18)
+
+static uint8_t plan[WHATIF_PLAN_BYTES(N)], record[WHATIF_RECORD_BYTES];
+static uint8_t rules[WHATIF_RULES_BYTES(STATES, LABELS)], branch[WHATIF_BRANCH_BYTES(STATES, LABELS)];
+static uint16_t node_table[WHATIF_NODE_TABLE_LEN(N)], nodes[WHATIF_MAX_CHANGES];
+static uint8_t state_table[WHATIF_STATE_TABLE_LEN(N, STATES)], labels[WHATIF_MAX_CHANGES];
+static uint32_t answer, out[4];
+static _Alignas(64) uint8_t stack[ROOM];
+
+#define RULES plan, sizeof plan, rules, sizeof rules
+#define BRANCH plan, sizeof plan, branch, sizeof branch
+#define TABLES node_table, WHATIF_NODE_TABLE_LEN(N), state_table, sizeof state_table
+#define LIST nodes, WHATIF_MAX_CHANGES, labels, WHATIF_MAX_CHANGES
+#define RECORD record, sizeof record
+
+static void nothing(void) { answer = 0; }
+static void build(void) { answer = whatif_build(RULES, TABLES); }
+static void check(void) { answer = whatif_check(RULES, TABLES, out); }
+static void fresh_run(void) { answer = whatif_fresh_run(RULES, LIST, out, out + 1); }
+static void branch_build(void) { answer = whatif_branch_build(BRANCH, TABLES); }
+static void branch_check(void) { answer = whatif_branch_check(BRANCH, TABLES, out); }
+static void ask(void) { answer = whatif_branch(BRANCH, TABLES, N - 1, 1, out, out + 1, out + 2); }
+static void load(void) { answer = whatif_load(RECORD, RULES, TABLES); }
+static void start(void) { answer = whatif_start(RECORD, RULES, TABLES, LIST, out); }
+static void cancel(void) { answer = whatif_cancel(RECORD); }
+static void read_answer(void) { answer = whatif_read(RECORD, out, out + 1, out + 2, out + 3); }
+static void advance(void) {
+    do
+        answer = whatif_advance(RECORD, RULES, TABLES, out);
+    while (!answer && !out[0]);
+}
+
+/* In an order in which every call is accepted; the bytes that the header allows it. */
+static const struct call {
+    const char *name;
+    void (*make)(void);
+    size_t most;
+} calls[] = {
+    {"build", build, 1024},
+    {"check", check, 1024},
+    {"fresh run", fresh_run, 40 * 1024},
+    {"load", load, 4096},
+    {"start", start, 4096},
+    {"cancel", cancel, 4096},
+    {"start", start, 4096},
+    {"advance", advance, 4096},
+    {"read", read_answer, 4096},
+    {"branch build", branch_build, 1024},
+    {"branch check", branch_check, 1024},
+    {"branch question", ask, 1024},
+};
+
+static void *run(void *make) {
+    ((const struct call *)make)->make();
+    return NULL;
+}
+
+static size_t used(const struct call *call) {
+    pthread_attr_t attributes;
+    pthread_t thread;
+    size_t left = 0;
+    memset(stack, PAINT, sizeof stack);
+    if (pthread_attr_init(&attributes) || pthread_attr_setstack(&attributes, stack, sizeof stack) ||
+        pthread_create(&thread, &attributes, run, (void *)(uintptr_t)call) || pthread_join(thread, NULL))
+        exit(2);
+    pthread_attr_destroy(&attributes);
+    while (left < sizeof stack && stack[left] == PAINT)
+        left++;
+    return sizeof stack - left;
+}
+
+static void put(uint8_t *at, size_t number) {
+    for (int i = 0; i < 4; i++)
+        at[i] = (uint8_t)(number >> (8 * i));
+}
+
+static void header(uint8_t *at, size_t count, const size_t *numbers) {
+    for (size_t i = 0; i < count; i++)
+        put(at + 4 * i, numbers[i]);
+}
+
+/* A comb to the left or to the right; tables and lists that lead anywhere. */
+static void make_inputs(int left) {
+    const size_t inner = 20 + LABELS, marks = inner + STATES * LABELS * STATES, branch_marks = 16 + STATES * LABELS;
+    header(plan, 3, (const size_t[]){N, 12, 12 + N});
+    for (size_t v = 0; v < N; v++) {
+        plan[12 + v] = (uint8_t)(v * 7 % LABELS);
+        plan[12 + N + v] = left ? v > 0 && v % 2 == 0 : v > N / 2;
+    }
+    header(rules, 5, (const size_t[]){STATES, LABELS, 20, inner, marks});
+    for (size_t i = 20; i < marks; i++)
+        rules[i] = (uint8_t)((i * i + i / 3) % STATES);
+    header(branch, 4, (const size_t[]){STATES, LABELS, 16, branch_marks});
+    for (size_t i = 16; i < branch_marks; i++)
+        branch[i] = (uint8_t)((i * i + i / 5) % STATES);
+    for (size_t i = 0; i < WHATIF_MAX_CHANGES; i++) {
+        nodes[i] = (uint16_t)(1 + i * 1000);
+        labels[i] = (uint8_t)((i * 5 + 1) % LABELS);
+    }
+    memset(record, 0, sizeof record);
+}
+
+int main(void) {
+    const struct call empty = {"nothing", nothing, 0};
+    int wrong = 0;
+    for (int left = 0; left < 2; left++) {
+        make_inputs(left);
+        for (size_t i = 0; i < sizeof calls / sizeof *calls; i++) {
+            size_t least = used(&empty), most = used(&calls[i]);
+            int fits = answer == WHATIF_ACCEPTED && most - least <= calls[i].most;
+            printf("c: stack of %s: %zu bytes%s\n", calls[i].name, most - least, fits ? "" : ", NOT as the header says");
+            wrong |= !fits;
+        }
+    }
+    return wrong;
+}

@@ -1,5 +1,0 @@
-pub mod Numbers
-pub mod HeardLaws
-pub mod PanelLaws
-pub mod PanelTheorem
-pub mod Theorems

@@ -1,4 +1,0 @@
-pub mod Exported
-pub mod Heard
-pub mod Panel
-pub mod Stored

@@ -1,0 +1,2 @@
+pub mod BranchNumberLaws
+pub mod Theorems

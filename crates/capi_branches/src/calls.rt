@@ -1,0 +1,88 @@
+// The branches' calls: build, full check and the question.
+use branches::answers::Branching;
+use branches::ask::ask_branch;
+use branches::build::build_branch_tables;
+use branches::check::check_branch_tables;
+use capi_numbers::numbers::bit;
+use capi_numbers::numbers::build_number;
+use capi_numbers::numbers::check_number;
+ghost use lib.ListN.{length};
+ghost use Rattle.formats.specs.Checks.{firstNo, branchBuildChecks};
+ghost use Rattle.formats.specs.Built.{builtNodeTable, builtBranchTable};
+ghost use Rattle.capi_numbers.specs.Numbers.{BuildExported, CheckExported};
+ghost use Rattle.capi_branches.specs.BranchExported.{AskNumber, AskExported};
+
+// Builds the tables of a plan for a branch table.
+#[no_mangle]
+pub extern "C" fn whatif_branch_build(
+    plan: &[u8],
+    branch: &[u8],
+    node_table: &mut [u16],
+    state_table: &mut [u8],
+) -> u32
+    ensures { λ r. ⌜
+        BuildExported
+        (firstNo (branchBuildChecks (now (plan .entry)) (now (branch .entry)) (length (now («node_table» .entry))) (length (now («state_table» .entry)))))
+        (builtNodeTable (now (plan .entry))) (builtBranchTable (now (plan .entry)) (now (branch .entry)))
+        (now («node_table» .entry)) (now («state_table» .entry)) r (now («node_table» .exit)) (now («state_table» .exit)) ⌝ }
+{
+    let answer = build_branch_tables(plan, branch, node_table, state_table);
+    build_number(answer)
+}
+
+// Whether the tables are what the build writes for the plan and the branch table.
+#[no_mangle]
+pub extern "C" fn whatif_branch_check(
+    plan: &[u8],
+    branch: &[u8],
+    node_table: &[u16],
+    state_table: &[u8],
+    yes: &mut u32,
+) -> u32
+    ensures { λ r. ⌜
+        CheckExported
+        (firstNo (branchBuildChecks (now (plan .entry)) (now (branch .entry)) (length (now («node_table» .entry))) (length (now («state_table» .entry)))))
+        (builtNodeTable (now (plan .entry))) (builtBranchTable (now (plan .entry)) (now (branch .entry)))
+        (now («node_table» .entry)) (now («state_table» .entry)) r (now (yes .entry)) (now (yes .exit)) ⌝ }
+{
+    let answer = check_branch_tables(plan, branch, node_table, state_table);
+    check_number(answer, yes)
+}
+
+// The number of a branch question's answer; its state, whether it is marked and its links go to `state`, `yes` and `links`.
+fn ask_number(answer: Branching, state: &mut u32, yes: &mut u32, links: &mut u32) -> u32
+    ensures { λ r. ⌜
+        AskNumber answer (now (state .entry)) (now (yes .entry)) (now (links .entry))
+        r (now (state .exit)) (now (yes .exit)) (now (links .exit)) ⌝ }
+{
+    match answer {
+        Branching::Answered(q, marked, moves) => {
+            *state = q as u32;
+            *yes = bit(marked);
+            *links = moves;
+            0
+        }
+        Branching::Refused(n) => n as u32,
+    }
+}
+
+// The branch question: the word from node `upper` down to node `lower`.
+#[no_mangle]
+pub extern "C" fn whatif_branch(
+    plan: &[u8],
+    branch: &[u8],
+    node_table: &[u16],
+    state_table: &[u8],
+    upper: u32,
+    lower: u32,
+    state: &mut u32,
+    yes: &mut u32,
+    links: &mut u32,
+) -> u32
+    ensures { λ r. ⌜
+        AskExported (now (plan .entry)) (now (branch .entry)) (now («node_table» .entry)) (now («state_table» .entry)) upper lower
+        r (now (state .entry)) (now (yes .entry)) (now (links .entry)) (now (state .exit)) (now (yes .exit)) (now (links .exit)) ⌝ }
+{
+    let answer = ask_branch(plan, branch, node_table, state_table, upper, lower);
+    ask_number(answer, state, yes, links)
+}

@@ -1,0 +1,43 @@
+-- Answers as numbers: a yes or no, and what an exported build and full check promise: the promise of the call below for its answer,
+-- and that answer's number and values.
+--
+-- bitOf b == 1 for yes, 0 for no
+-- yesOf a old == what the place of a full check's yes holds afterwards: the answer's value, or what it held where it is refused
+-- BuildNumber, CheckNumber == an answer told as a number and values
+-- BuildExported, CheckExported == the promises of the exported functions
+--
+-- Assumes nothing.
+use Prim.Native.Nat.{ℕ}
+use mathlib.Core.Path.{_≡_}
+use mathlib.Core.Bool.{Bool, true, false}
+use mathlib.Core.List.{List}
+use Rattle.tables.specs.declared.answers.Building.{Building}
+use Rattle.tables.specs.declared.answers.Checking.{Checking}
+use Rattle.tables.specs.declared.answers.Checking.the-variants.{Yes, No, Refused as NotChecked}
+use Rattle.tables.specs.Answers.{buildingNumber, checkNumber, BuildDone, CheckDone}
+
+abbrev pub bitOf : Bool → ℕ
+bitOf true = 1
+bitOf false = 0
+
+abbrev pub BuildNumber : Building → ℕ → Type 0
+BuildNumber a r = r ≡ buildingNumber a
+
+pub record BuildExported (n : ℕ) (links states nodeTable stateTable : List ℕ) (r : ℕ) (nodeTable′ stateTable′ : List ℕ) : Type 0 where
+  pub answer : Building
+  pub done : BuildDone n links states nodeTable stateTable answer nodeTable′ stateTable′
+  pub result : r ≡ buildingNumber answer
+
+abbrev pub yesOf : Checking → ℕ → ℕ
+yesOf Yes old = 1
+yesOf No old = 0
+yesOf (NotChecked n) old = old
+
+pub record CheckNumber (a : Checking) (yes₀ r yes₁ : ℕ) : Type 0 where
+  pub result : r ≡ checkNumber a
+  pub yes-answer : yes₁ ≡ yesOf a yes₀
+
+pub record CheckExported (n : ℕ) (links states nodeTable stateTable : List ℕ) (r yes₀ yes₁ : ℕ) : Type 0 where
+  pub answer : Checking
+  pub done : CheckDone n links states nodeTable stateTable answer
+  pub number : CheckNumber answer yes₀ r yes₁

@@ -1,0 +1,189 @@
+-- Each exported session call on record bytes is the session's call on the struct of those bytes.
+--     settled            a refusal leaves the record, so its bytes
+--     step-is            a call on the bytes of a struct
+--     exports-is         the same of an exported function, its number and values decoded (DecodedAnswers)
+--     exported-refines   each call on bytes refines the session's call
+--     fresh-held         967 zeros are the fresh record
+--     record-stays       every record that a call leaves is one again
+-- Assumes nothing.
+use Prim.Native.Nat.{ℕ, zero, suc}
+use mathlib.Core.Path.{_≡_, refl, sym, ap, ap₂, _∙_, subst}
+use mathlib.Core.Bool.{Bool, true, false, cond}
+use mathlib.Core.Option.{Option, none, some}
+use mathlib.Core.List.{List}
+use lib.Dec.{eqb}
+use lib.ListN.{length, getD, replicate}
+use Rattle.list_laws.proofs.BoolLaws.{and-left}
+use Rattle.tables.specs.declared.answers.Reached.{Reached}
+use Rattle.formats.specs.Inputs.{Inputs}
+use Rattle.model.specs.Calls.{Call, load, start, advance, cancel, read, Answer, more, finished, Phase}
+use Rattle.model.specs.Refusals.{refusal}
+use Rattle.model.specs.Model.{stageOf}
+use Rattle.model.specs.Model.{Record, Acted, acted, stepped, marksBy, freshRecord, proceeds, unless, act}
+use Rattle.model.specs.Model.{startWith, advanceWith, Does}
+use Rattle.model.proofs.Refinement.{Refines}
+use Rattle.session.specs.declared.state.Session.{Session}
+use Rattle.session.specs.Records.{recordOf, sessionOf, valid, freshSession}
+use Rattle.session.specs.Promises.{answerOn, recordOn}
+use Rattle.session.specs.inner.Shapes.{Shaped}
+use Rattle.session.proofs.Holds.{struct-is}
+use Rattle.session.proofs.Refine.{Seen, fresh-seen, read-keeps, call-refines}
+use Rattle.records.specs.Layout.{encoded, decoded, laidOut, validBytes, InTypes, Bytes}
+use Rattle.records.proofs.Theorems.{decode-encode, encode-decode, encoded-valid, decoded-valid, decoded-types, fresh-bytes}
+use Rattle.records.proofs.ValidTypes.{valid-types}
+use Rattle.capi_session.specs.SessionExported.{answerFor, answerNumber, unlessRefused, recordFor, partsOf, finishedOf, answeredPlaces}
+use Rattle.capi_session.specs.DecodedAnswers.{decodedDone, decodedStart, decodedAdvance, decodedRead, Exports, loads, starts, advances, cancels, reads}
+use Rattle.capi_session.proofs.SessionExportedLaws.{laid-length}
+use Rattle.capi_session.proofs.DecodedAnswersLaws.{decoded-load, decoded-start, decoded-advance, decoded-cancel, decoded-read}
+
+-- a call on bytes: the answer and the bytes that its contract names
+record ByteStep (b : List ℕ) (c : Call) (a : Answer) (b′ : List ℕ) : Type 0 where
+  tells : a ≡ answerFor b c
+  leaves : b′ ≡ recordFor b c
+
+-- the bytes of a struct that holds record r
+pub record Held (b : List ℕ) (r : Record) : Type 0 where
+  pub struct : Session
+  pub bytes : b ≡ encoded struct
+  pub seen : Seen struct r
+
+-- ---- a refusal leaves the record, so its bytes
+
+abbrev bytesOf : Record → List ℕ
+bytesOf r = encoded (sessionOf r)
+
+abbrev Settled : Record → Acted → Type 0
+Settled r a = unlessRefused (a .answer) (bytesOf (a .record′)) (bytesOf r) ≡ bytesOf (a .record′)
+
+module _ (r : Record) where
+  on-cond : (b : Bool) (x y : Acted) → Settled r x → Settled r y → Settled r (cond b x y)
+  on-cond true x y e f = e
+  on-cond false x y e f = f
+
+  on-start : (vs bs : List ℕ) (o : Option (List ℕ)) → Settled r (startWith r vs bs o)
+  unfolding startWith unlessRefused
+  on-start vs bs none = refl
+  on-start vs bs (some rs) = refl
+
+  on-advance : (x : Inputs) (o : Option Reached) → Settled r (advanceWith r x o)
+  unfolding advanceWith unlessRefused
+  on-advance x none = refl
+  on-advance x (some y) =
+      on-cond (eqb (suc (length (r .states))) (length (r .roots)))
+      (acted finished (stepped r Phase.answered y (eqb (getD (marksBy (r .sizes) x) (y .state) 0) 1)))
+      (acted more (stepped r Phase.running y false)) refl refl
+
+  on-call : (c : Call) → Settled r (proceeds r c)
+  unfolding proceeds unlessRefused
+  on-call (load x) = refl
+  on-call (start x vs bs) = on-start vs bs _
+  on-call (advance x) = on-advance x _
+  on-call cancel = refl
+  on-call read = refl
+
+  settled : (c : Call) → Settled r (act r c)
+  unfolding act unless unlessRefused
+  settled c = go (refusal (stageOf r) c)
+    where
+      go : (n : ℕ) → Settled r (unless n r c)
+      go zero = on-call c
+      go (suc n) = refl
+
+-- ---- a call on the bytes of a struct
+
+module _ (s : Session) (r : Record) (i : Seen s r) (c : Call) where
+  types : InTypes s
+  types = valid-types s (i .shaped) (i .passes)
+
+  laid : laidOut (encoded s) ≡ true
+  unfolding validBytes
+  laid = and-left (laidOut (encoded s)) (valid (decoded (encoded s))) (encoded-valid s types (i .passes))
+
+  answer-is : answerFor (encoded s) c ≡ answerOn s c
+  unfolding answerFor
+  answer-is = rw laid (ap (λ (t : Session). answerOn t c) (decode-encode s types))
+
+  model-answer : answerOn s c ≡ act (recordOf s) c .answer
+  unfolding answerOn
+  model-answer = rw (i .passes)
+
+  model-record : recordOn s c ≡ sessionOf (act (recordOf s) c .record′)
+  unfolding recordOn
+  model-record = rw (i .passes)
+
+  record-is : recordFor (encoded s) c ≡ encoded (recordOn s c)
+  unfolding recordFor
+  record-is =
+      ap₂ (λ (a : Answer) (t : Session). unlessRefused a (encoded (recordOn t c)) (encoded s)) (answer-is ∙ model-answer) (decode-encode s types)
+      ∙ ap₂ (λ (t u : Session). unlessRefused (act (recordOf s) c .answer) (encoded t) (encoded u)) model-record
+      (sym (struct-is s (i .shaped) (i .passes)))
+      ∙ settled (recordOf s) c
+      ∙ sym (ap encoded model-record)
+
+  step-is : (a : Answer) (b′ : List ℕ) → ByteStep (encoded s) c a b′ → (r′ : Record) × Does r c a r′ × Held b′ r′
+  step-is a b′ e =
+      let d = call-refines s r i c a (recordOn s c) (e .tells ∙ answer-is) refl in
+      (d .0, d .1, record { struct = recordOn s c; bytes = e .leaves ∙ record-is; seen = d .2 })
+
+-- ---- a call as its number and values are decoded
+
+module _ (s : Session) (r : Record) (i : Seen s r) where
+  -- what is decoded is the answer, if that tells itself
+  decoded-answer : (c : Call) (f : Answer → Answer) → f (act (recordOf s) c .answer) ≡ act (recordOf s) c .answer
+      → f (answerFor (encoded s) c) ≡ answerFor (encoded s) c
+  decoded-answer c f e =
+      let a : answerFor (encoded s) c ≡ act (recordOf s) c .answer = answer-is s r i c ∙ model-answer s r i c in
+      ap f a ∙ e ∙ sym a
+
+  read-leaves : encoded s ≡ recordFor (encoded s) read
+  read-leaves =
+      ap encoded (sym (struct-is s (i .shaped) (i .passes)) ∙ ap sessionOf (sym (read-keeps (recordOf s))) ∙ sym (model-record s r i read))
+      ∙ sym (record-is s r i read)
+
+  exports-is : (c : Call) (a : Answer) (b b′ : List ℕ) → b ≡ encoded s → Exports b c a b′ → ByteStep (encoded s) c a b′
+  exports-is c a b b′ q (loads {x} n nodeTable stateTable e) = record {
+    tells = rw (e .call .number, q) (decoded-answer (load x) (λ (y : Answer). decodedDone (answerNumber y)) (decoded-load (recordOf s) x));
+    leaves = e .call .left ∙ ap (λ (t : List ℕ). recordFor t (load x)) q;
+  }
+  exports-is c a b b′ q (starts {x} {vs} {bs} n p₀ p₁ e) = record {
+    tells = rw (e .call .number, e .parts-after, q)
+        (decoded-answer (start x vs bs) (λ (y : Answer). decodedStart (answerNumber y) (partsOf y p₀)) (decoded-start (recordOf s) p₀ x vs bs));
+    leaves = e .call .left ∙ ap (λ (t : List ℕ). recordFor t (start x vs bs)) q;
+  }
+  exports-is c a b b′ q (advances {x} n f₀ f₁ e) = record {
+    tells = rw (e .call .number, e .finished-after, q)
+        (decoded-answer (advance x) (λ (y : Answer). decodedAdvance (answerNumber y) (finishedOf y f₀)) (decoded-advance (recordOf s) f₀ x));
+    leaves = e .call .left ∙ ap (λ (t : List ℕ). recordFor t (advance x)) q;
+  }
+  exports-is c a b b′ q (cancels n e) = record {
+    tells = rw (e .number, q) (decoded-answer cancel (λ (y : Answer). decodedDone (answerNumber y)) (decoded-cancel (recordOf s)));
+    leaves = e .left ∙ ap (λ (t : List ℕ). recordFor t cancel) q;
+  }
+  exports-is c a b b′ q (reads n before after e) = record {
+    tells = rw (e .number, e .values-are, q)
+        (decoded-answer read (λ (y : Answer). decodedRead (answerNumber y) (answeredPlaces y before)) (decoded-read (recordOf s) before));
+    leaves = q ∙ read-leaves;
+  }
+
+pub exported-refines : Refines Exports Does Held
+exported-refines b b′ r c a h e =
+    step-is (h .struct) r (h .seen) c a b′ (exports-is (h .struct) r (h .seen) c a b b′ (h .bytes) e)
+
+pub fresh-held : Held (replicate 967 0) freshRecord
+fresh-held = record { struct = freshSession; bytes = sym fresh-bytes; seen = fresh-seen }
+
+-- ---- every record that a call leaves is a record again
+
+pub record-stays : (b : List ℕ) → validBytes b ≡ true → Bytes b → (c : Call) → validBytes (recordFor b c) ≡ true
+unfolding validBytes
+record-stays b v fits c =
+    let l = laid-length b (and-left (laidOut b) (valid (decoded b)) v) in
+    let T = decoded-types b l fits in
+    let S : Shaped (decoded b) =
+    record { nodes = T .nodes-length; labels = T .labels-length; roots = T .roots-length; states = T .states-length } in
+    let i : Seen (decoded b) (recordOf (decoded b)) = record { shaped = S; passes = decoded-valid b v; holds = refl } in
+    let d = call-refines (decoded b) (recordOf (decoded b)) i c (answerOn (decoded b) c) (recordOn (decoded b) c) refl refl in
+    let e : recordFor b c ≡ encoded (recordOn (decoded b) c) =
+    ap (λ (a : List ℕ). recordFor a c) (sym (encode-decode b v fits)) ∙ record-is (decoded b) (recordOf (decoded b)) i c in
+    subst (λ (a : List ℕ). validBytes a ≡ true) (sym e)
+    (encoded-valid (recordOn (decoded b) c) (valid-types (recordOn (decoded b) c) (d .2 .shaped) (d .2 .passes)) (d .2 .passes))

@@ -1,0 +1,20 @@
+-- Demand 3 for the session calls on record bytes: every list of calls, from 967 zeros, whatever is lent, is answered as the
+-- panel book says.
+--     exported-demand-3    the theorem, over the very promises of the five exported functions, decoded from numbers and values
+--     exported-questions   a question on sound tables left alone: parts, advances, what Reads tell, ceilings (CleanlyTold, crate book)
+-- Assumes nothing.
+use lib.ListN.{replicate}
+use Rattle.reference.specs.Demand3.{Demand3}
+use Rattle.model.specs.Model.{freshRecord, Does}
+use Rattle.reference.proofs.Demand3Theorem.{demand-3, demand-3-of}
+use Rattle.model.proofs.LayersHold.{layers}
+use Rattle.reference.proofs.QuestionTheorem.{QuestionsAnswered, question-answered, questions-of}
+use Rattle.capi_session.specs.DecodedAnswers.{Exports}
+use Rattle.capi_session.proofs.ExportedRefines.{Held, exported-refines, fresh-held}
+
+pub exported-demand-3 : Demand3 (replicate 967 0) Exports
+exported-demand-3 = demand-3-of Exports Does Held exported-refines (replicate 967 0) freshRecord fresh-held (demand-3 layers)
+
+-- a question on sound tables left alone
+pub exported-questions : QuestionsAnswered (replicate 967 0) Exports
+exported-questions = questions-of Exports Does Held exported-refines (replicate 967 0) freshRecord fresh-held (question-answered layers)

@@ -1,0 +1,4 @@
+pub mod DecodedAnswersLaws
+pub mod SessionExportedLaws
+pub mod ExportedRefines
+pub mod ExportedTheorem

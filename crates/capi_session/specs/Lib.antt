@@ -1,0 +1,3 @@
+pub mod DecodedAnswers
+pub mod SessionExported
+pub mod Stored

@@ -1,0 +1,2 @@
+pub mod RunExported
+pub mod Version

@@ -1,0 +1,6 @@
+pub mod ModelLaws
+pub mod ResultLaws
+pub mod Facts
+pub mod LayersHold
+pub mod LeftOpenLaws
+pub mod Refinement

@@ -1,0 +1,61 @@
+-- What a call that no check refuses has, and what the calls read of the inputs.
+--     load-running     Load is refused with 1 while a question runs
+--     start-list       a Start that no check refuses has a list that passes 12 to 15
+--     advance-fits     an advance that no check refuses has room: check 17
+--     some-root        there is always a part: the plan's root
+--     marks-built      the accept marks by the record's S and K are the rule table's
+-- Assumes nothing.
+use Prim.Native.Nat.{ℕ, _+_, _-_, _*_, _<_}
+use mathlib.Core.Path.{_≡_, refl, sym, ap, ap₂, _∙_}
+use mathlib.Core.Bool.{true}
+use mathlib.Core.List.{List, [], _∷_}
+use native.Mathlib.Omega.{arith}
+use lib.ListN.{length, take, drop}
+use Rattle.trees.specs.Tree.{size}
+use Rattle.trees.proofs.NodeLaws.{size-pos}
+use Rattle.list_laws.specs.Tests.{holds}
+use Rattle.formats.specs.Plan.{planTree}
+use Rattle.formats.specs.Rules.{ruleMarks}
+use Rattle.formats.specs.Checks.{check, firstNo, listChecks}
+use Rattle.formats.specs.Inputs.{Inputs, Sizes, fits}
+use Rattle.formats.proofs.CheckLaws.{firstNo-head, firstNo-tail}
+use Rattle.formats.proofs.InputsLaws.{Built}
+use Rattle.ready.specs.Members.{roots}
+use Rattle.ready.proofs.ListLaws.{list-last}
+use Rattle.model.specs.Calls.{load, start, advance, Phase, mayLoad, mayStart, isRunning}
+use Rattle.model.specs.Refusals.{Stage, stage, refusal}
+use Rattle.model.specs.Model.{marksBy}
+use Rattle.model.proofs.Facts.{rootsIn}
+use Rattle.model.proofs.ResultLaws.{length-more}
+
+-- "Load is allowed unless running"
+pub load-running : (z : Sizes) (x : Inputs) → refusal (stage Phase.running z) (load x) ≡ 1
+unfolding refusal firstNo mayLoad
+load-running z x = refl
+
+pub start-list : (t : Stage) (x : Inputs) (vs bs : List ℕ) → refusal t (start x vs bs) ≡ 0
+    → firstNo (listChecks (t .sizes .n) (t .sizes .k) vs bs) ≡ 0
+unfolding refusal
+start-list t x vs bs e =
+    let list = listChecks (t .sizes .n) (t .sizes .k) vs bs in
+    firstNo-tail 17 (fits (t .sizes) x) list (omega arith)
+    (firstNo-tail 1 (mayStart (t .phase)) (check 17 (fits (t .sizes) x) ∷ list) (omega arith) e)
+
+pub advance-fits : (t : Stage) (x : Inputs) → refusal t (advance x) ≡ 0 → fits (t .sizes) x ≡ true
+unfolding refusal
+advance-fits t x e =
+    firstNo-head 17 (fits (t .sizes) x) [] (omega arith)
+    (firstNo-tail 1 (isRunning (t .phase)) (check 17 (fits (t .sizes) x) ∷ []) (omega arith) e)
+
+pub some-root : (y : Inputs) (vs : List ℕ) → 0 < length (rootsIn y vs)
+unfolding roots
+some-root y vs =
+    let t = planTree (y .plan) in
+    let top : size t - 1 + 1 ≡ size t = omega (arith, size-pos t) in
+    let L = list-last (λ v. holds v vs) t (size t - 1) top in
+    rw (L .1) (omega (arith, length-more (L .0) (size t - 1)))
+
+pub marks-built : (z : Sizes) (x y : Inputs) → Built z x → x .rules ≡ y .rules → marksBy z y ≡ ruleMarks (x .rules)
+marks-built z x y B e =
+    ap (λ (r : List ℕ). take (z .s) (drop (20 + z .k + z .s * z .k * z .s) r)) (sym e)
+    ∙ sym (ap₂ (λ (s k : ℕ). take s (drop (20 + k + s * k * s) (x .rules))) (B .s-is) (B .k-is))

@@ -1,0 +1,6 @@
+pub mod Calls
+pub mod Refusals
+pub mod Model
+pub mod PartInputs
+pub mod LeftOpen
+pub mod History

@@ -1,0 +1,134 @@
+-- The session's record and its five calls, with lists for arrays.
+--
+-- Record == document 01's session record
+-- freshRecord == that of a fresh session; loadedRecord z == that after a first Load
+-- stageOf r == its stage, as the refusals ask for it
+-- act r c == a call on a record: the answer and the record then
+-- Does r c a r′ == the same as a relation
+--
+-- What is left to the program goes by the definitions of the questions layer: rootsOn and partOn; 18 where they give none.
+-- Assumes nothing.
+use Prim.Native.Nat.{ℕ, zero, suc, _+_, _*_}
+use mathlib.Core.Path.{_≡_}
+use mathlib.Core.Bool.{Bool, true, false, cond}
+use mathlib.Core.List.{List, [], _∷_, _++_}
+use mathlib.Core.Option.{Option, none, some}
+use lib.Dec.{eqb}
+use lib.ListN.{length, getD, take, drop}
+use Rattle.tables.specs.declared.answers.Reached.{Reached}
+use Rattle.tables.specs.Climbs.{View, viewOf}
+use Rattle.questions.specs.Roots.{rootsOn}
+use Rattle.questions.specs.Part.{partOn}
+use Rattle.formats.specs.Inputs.{Inputs, Sizes, sizesIn, usedNodeTable, usedStateTable}
+use Rattle.model.specs.Calls.{Call, load, start, advance, cancel, read, Answer, refused, parts, more, finished}
+use Rattle.model.specs.Calls.{outcome, Phase}
+use Rattle.model.specs.Refusals.{Stage, stage, refusal}
+
+-- "The record holds which of the four states it is in, N, S, K, the changes as listed, the root nodes of the parts, the states of parts
+-- handled so far and their number, the links so far and, once answered, the yes or no"
+pub record Record : Type 0 where
+  pub phase : Phase
+  pub sizes : Sizes
+  pub nodes : List ℕ
+  pub labels : List ℕ
+  pub roots : List ℕ
+  pub states : List ℕ
+  pub links : ℕ
+  pub yes : Bool
+
+-- what the checks ask of it
+abbrev pub stageOf : Record → Stage
+stageOf r = stage (r .phase) (r .sizes)
+
+pub record Acted : Type 0 where
+  pub answer : Answer
+  pub record′ : Record
+
+abbrev pub acted : Answer → Record → Acted
+acted a r = record { answer = a; record′ = r }
+
+unfoldable pub idle : Phase → Sizes → Record
+idle p z = record { phase = p; sizes = z; nodes = []; labels = []; roots = []; states = []; links = 0; yes = false }
+
+unfoldable pub freshRecord : Record
+freshRecord = idle Phase.empty (record { n = 0; s = 0; k = 0 })
+
+-- "Load and Cancel end in loaded with the record exactly as after a first Load of that plan."
+abbrev pub loadedRecord : Sizes → Record
+loadedRecord z = idle Phase.loaded z
+
+-- what the calls read of the inputs: by the record's N, S and K, excess aside
+abbrev pub viewBy : Sizes → Inputs → View
+viewBy z x = viewOf (z .n) (z .s) (z .k) (x .plan) (x .rules) (usedNodeTable z x) (usedStateTable z x)
+
+-- the accept marks by the record's S and K
+abbrev pub marksBy : Sizes → Inputs → List ℕ
+marksBy z x = take (z .s) (drop (20 + z .k + z .s * z .k * z .s) (x .rules))
+
+-- ---- Start: "running", no part state, no link
+
+unfoldable pub started : Sizes → List ℕ → List ℕ → List ℕ → Record
+started z vs bs rs =
+    record { phase = Phase.running; sizes = z; nodes = vs; labels = bs; roots = rs; states = []; links = 0; yes = false }
+
+unfoldable pub startWith : Record → List ℕ → List ℕ → Option (List ℕ) → Acted
+startWith r vs bs none = acted (refused 18) r
+startWith r vs bs (some rs) = acted (parts (length rs)) (started (r .sizes) vs bs rs)
+
+-- ---- advance: one more part state, and its links
+
+unfoldable pub stepped : Record → Phase → Reached → Bool → Record
+stepped r p x y = record {
+  phase = p;
+  sizes = r .sizes;
+  nodes = r .nodes;
+  labels = r .labels;
+  roots = r .roots;
+  states = r .states ++ (x .state ∷ []);
+  links = r .links + x .links;
+  yes = y;
+}
+
+unfoldable pub advanceWith : Record → Inputs → Option Reached → Acted
+advanceWith r x none = acted (refused 18) r
+advanceWith r x (some y) =
+    cond (eqb (suc (length (r .states))) (length (r .roots)))
+    (acted finished (stepped r Phase.answered y (eqb (getD (marksBy (r .sizes) x) (y .state) 0) 1)))
+    (acted more (stepped r Phase.running y false))
+
+-- the next part of a record: its root, and the roots before it
+abbrev pub partNext : Record → Inputs → Option Reached
+partNext r x =
+    partOn (viewBy (r .sizes) x) (take (length (r .states)) (r .roots)) (r .states) (r .nodes) (r .labels)
+    (getD (r .roots) (length (r .states)) 0)
+
+-- ---- Read
+
+unfoldable pub lastOf : List ℕ → ℕ → ℕ
+lastOf [] q = q
+lastOf (x ∷ xs) q = lastOf xs x
+
+abbrev pub outcomeOf : Record → Answer
+outcomeOf r =
+    outcome (record { state = lastOf (r .states) 0; yes = r .yes; parts = length (r .roots); links = r .links })
+
+-- ---- the calls
+
+unfoldable pub proceeds : Record → Call → Acted
+proceeds r (load x) = acted Answer.accepted (loadedRecord (sizesIn x))
+proceeds r (start x vs bs) = startWith r vs bs (rootsOn (r .sizes .n) (usedNodeTable (r .sizes) x) vs)
+proceeds r (advance x) = advanceWith r x (partNext r x)
+proceeds r cancel = acted Answer.accepted (loadedRecord (r .sizes))
+proceeds r read = acted (outcomeOf r) r
+
+-- "The first no gives its number; nothing else is returned and nothing is altered."
+unfoldable pub unless : ℕ → Record → Call → Acted
+unless zero r c = proceeds r c
+unless (suc n) r c = acted (refused (suc n)) r
+
+unfoldable pub act : Record → Call → Acted
+act r c = unless (refusal (stageOf r) c) r c
+
+pub record Does (r : Record) (c : Call) (a : Answer) (r′ : Record) : Type 0 where
+  pub tells : a ≡ act r c .answer
+  pub leaves : r′ ≡ act r c .record′

@@ -1,0 +1,38 @@
+-- The refusal of each session call, 18 apart: "The first no gives its number".
+--
+-- Stage == what the checks ask of a session: which state it is in, and the N, S and K of the last accepted Load
+-- refusal t c == the number of the first failing check of call c at stage t; 0 where none fails. It looks at the stage and the inputs
+--   alone, so the reference model and the calls share it
+--
+-- Assumes nothing.
+use Prim.Native.Nat.{ℕ}
+use mathlib.Core.List.{List, [], _∷_}
+use lib.ListN.{length}
+use Rattle.formats.specs.Checks.{Check, check, firstNo, buildChecks, listChecks}
+use Rattle.formats.specs.Inputs.{Sizes, Inputs, fits}
+use Rattle.model.specs.Calls.{Call, load, start, advance, cancel, read, Phase, mayLoad, mayStart, isRunning}
+use Rattle.model.specs.Calls.{isAnswered}
+
+pub record Stage : Type 0 where
+  pub phase : Phase
+  pub sizes : Sizes
+
+abbrev pub stage : Phase → Sizes → Stage
+stage p z = record { phase = p; sizes = z }
+
+-- "Any session call: may it be made in this state? 1. Load and the builds go on: .." (2 to 11)
+abbrev pub loadChecks : Stage → Inputs → List Check
+loadChecks t x =
+    check 1 (mayLoad (t .phase)) ∷ buildChecks (x .plan) (x .rules) (length (x .nodeTable)) (length (x .stateTable))
+
+-- "Start: .. 17; .. 12; .. 13; .. 14; .. 15"
+abbrev pub startChecks : Stage → Inputs → List ℕ → List ℕ → List Check
+startChecks t x vs bs =
+    check 1 (mayStart (t .phase)) ∷ check 17 (fits (t .sizes) x) ∷ listChecks (t .sizes .n) (t .sizes .k) vs bs
+
+unfoldable pub refusal : Stage → Call → ℕ
+refusal t (load x) = firstNo (loadChecks t x)
+refusal t (start x vs bs) = firstNo (startChecks t x vs bs)
+refusal t (advance x) = firstNo (check 1 (isRunning (t .phase)) ∷ check 17 (fits (t .sizes) x) ∷ [])
+refusal t cancel = firstNo (check 1 (isRunning (t .phase)) ∷ [])
+refusal t read = firstNo (check 1 (isAnswered (t .phase)) ∷ [])

@@ -1,0 +1,184 @@
+-- The turns of the pass up that writes sizes and parents.
+--     iteration-other .. iteration-right        what a turn leaves and what it writes
+--     at-right .. inner-args          an inner node's children and size, from the table so far
+--     leaf-iteration, inner-iteration           one node more
+--     none-yet, all-up                before the first and after the last
+--     leaf-turns .. all-written       the same of every tree with these kinds, as the loop has it
+-- Assumes nothing.
+use Prim.Native.Nat.{ℕ, _+_, _-_, _*_, _≤_, _<_}
+use mathlib.Core.Path.{_≡_, refl, sym, ap, _∙_, subst}
+use mathlib.Core.Bool.{true}
+use mathlib.Core.List.{List}
+use mathlib.Core.Logic.{_⊎_, inl, inr}
+use native.Mathlib.Decide.{ℕ-discrete}
+use native.Mathlib.Omega.{arith}
+use lib.ListN.{length, getD, set, length-set}
+use lib.Seq.{getD-set-same, getD-set-other}
+use Rattle.trees.specs.Tree.{Tree, kindsOf, size}
+use Rattle.trees.specs.Numbering.{sub, parent}
+use Rattle.trees.proofs.NodeLaws.{Inner, inner, Up, up, sub-leaf, sub-size, size-pos, parent-root}
+use Rattle.trees.proofs.PostorderLaws.{size-of, kind-of, some-tree}
+use Rattle.node_tables.specs.Cells.{parentCell, sizeCell, NodeTableArgs}
+use Rattle.node_tables.specs.NodeCells.{UpTo, UpWritten, AllUpWritten}
+use Rattle.node_tables.specs.inner.UpPass.{leftOf, innerSize, iteration, innerIteration, InnerArgs}
+
+-- ---- what a turn leaves and what it writes
+
+module _ (b : List ℕ) (i s r l : ℕ) (room : i * 4 + 4 ≤ length b) (hr : r < i) (hl : l < i) where
+  iteration-other : (j : ℕ) → (j ≡ i * 4 + 3 → ⊥) → (j ≡ r * 4 → ⊥) → (j ≡ l * 4 → ⊥)
+      → getD (iteration b i s r l) j 0 ≡ getD b j 0
+  iteration-other j a c d =
+      getD-set-other (set (set b (i * 4 + 3) s) (r * 4) i) (l * 4) j i 0 d
+      ∙ getD-set-other (set b (i * 4 + 3) s) (r * 4) j i 0 c ∙ getD-set-other b (i * 4 + 3) j s 0 a
+
+  iteration-size : sizeCell (iteration b i s r l) i ≡ s
+  iteration-size =
+      getD-set-other (set (set b (i * 4 + 3) s) (r * 4) i) (l * 4) (i * 4 + 3) i 0 (omega arith)
+      ∙ getD-set-other (set b (i * 4 + 3) s) (r * 4) (i * 4 + 3) i 0 (omega arith)
+      ∙ getD-set-same b (i * 4 + 3) s 0 (omega arith)
+
+  iteration-left : parentCell (iteration b i s r l) l ≡ i
+  iteration-left = getD-set-same (set (set b (i * 4 + 3) s) (r * 4) i) (l * 4) i 0 (simp length-set (omega arith))
+
+  iteration-right : (r ≡ l → ⊥) → parentCell (iteration b i s r l) r ≡ i
+  iteration-right ne =
+      getD-set-other (set (set b (i * 4 + 3) s) (r * 4) i) (l * 4) (r * 4) i 0 (omega arith)
+      ∙ getD-set-same (set b (i * 4 + 3) s) (r * 4) i 0 (simp length-set (omega arith))
+
+-- ---- an inner node's children and size, from the table so far
+
+-- a leaf is no parent
+pub no-parent : (t : Tree) (i v : ℕ) → getD (kindsOf t) i 0 ≡ 0 → v + 1 < size t → parent t v ≡ i → ⊥
+no-parent t i v k l e = omega (arith, up t v l .inside, ap (λ (n : ℕ). getD (kindsOf t) n 0) e)
+
+-- an inner node's children are its right and its left one
+pub child-is : (t : Tree) (i : ℕ) (I : Inner t i) (v : ℕ) → Up t v i → (v ≡ i - 1) ⊎ (v ≡ I .left)
+child-is t i I v u = elim (u .child) [ inl c ↦ inl (omega arith) | inr c ↦ inr (omega (arith, I .at)) ]
+
+module _ (t : Tree) (i : ℕ) (b : List ℕ) (p : UpTo t i b) (h : i < size t) (I : Inner t i) where
+  pub at-right : sizeCell b (i - 1) ≡ size (sub t (i - 1))
+  at-right = p .sizes (i - 1) (omega (arith, I .at))
+
+  pub at-left : leftOf b i ≡ I .left
+  at-left = omega (arith, at-right, I .at)
+
+  left-size : sizeCell b (leftOf b i) ≡ size (sub t (I .left))
+  left-size = ap (sizeCell b) at-left ∙ p .sizes (I .left) (omega (arith, I .at))
+
+  pub new-size : innerSize b i ≡ size (sub t i)
+  new-size = omega (arith, left-size, at-right, ap size (I .is))
+
+  pub inner-args : i * 4 + 4 ≤ length b → size t ≤ 65535 → InnerArgs b i
+  inner-args room m = record {
+    pos = omega (arith, I .at);
+    small = omega arith;
+    room = room;
+    right = omega (arith, at-right, I .at);
+    fits = omega (arith, new-size, sub-size t i h);
+  }
+
+-- ---- one node more
+
+module _ (t : Tree) (i : ℕ) (b₀ b : List ℕ) (p : UpWritten t i b₀ b) (h : i < size t)
+    (room : i * 4 + 4 ≤ length b) where
+  leaf-iteration : getD (kindsOf t) i 0 ≡ 0 → UpWritten t (i + 1) b₀ (set b (i * 4 + 3) 1)
+  leaf-iteration k = record {
+    cells = record {
+      sizes = λ v l. elim (ℕ-discrete v i) [
+        | yes e ↦ rw e (getD-set-same b (i * 4 + 3) 1 0 (omega arith) ∙ sym (ap size (sub-leaf t i h k)))
+        | no e ↦ getD-set-other b (i * 4 + 3) (v * 4 + 3) 1 0 (omega arith) ∙ p .cells .sizes v (omega arith)
+      ];
+      parents = λ v l q. getD-set-other b (i * 4 + 3) (v * 4) 1 0 (omega arith)
+          ∙ p .cells .parents v l (omega (arith, no-parent t i v k l));
+    };
+    kept = λ j a. getD-set-other b (i * 4 + 3) j 1 0 (a i h .1) ∙ p .kept j a;
+  }
+
+  module _ (I : Inner t i) where
+    iterated : (v : ℕ) → (v ≡ i - 1) ⊎ (v ≡ I .left) → parentCell (iteration b i (size (sub t i)) (i - 1) (I .left)) v ≡ i
+    iterated v (inl e) =
+        rw e (iteration-right b i (size (sub t i)) (i - 1) (I .left) room (omega (arith, I .at)) (omega (arith, I .at))
+        (omega (arith, I .at, size-pos (sub t (i - 1)))))
+    iterated v (inr e) =
+        rw e (iteration-left b i (size (sub t i)) (i - 1) (I .left) room (omega (arith, I .at)) (omega (arith, I .at)))
+
+    iteration-written : UpWritten t (i + 1) b₀ (iteration b i (size (sub t i)) (i - 1) (I .left))
+    iteration-written =
+        let rl : i - 1 < i = omega (arith, I .at) in
+        let ll : I .left < i = omega (arith, I .at) in
+        let other = iteration-other b i (size (sub t i)) (i - 1) (I .left) room rl ll in
+        record {
+          cells = record {
+            sizes = λ v l. elim (ℕ-discrete v i) [
+              | yes e ↦ rw e (iteration-size b i (size (sub t i)) (i - 1) (I .left) room rl ll)
+              | no e ↦ other (v * 4 + 3) (omega arith) (omega arith) (omega arith) ∙ p .cells .sizes v (omega arith)
+            ];
+            parents = λ v l q. elim (ℕ-discrete (parent t v) i) [
+              | yes e ↦ iterated v (child-is t i I v (subst (Up t v) e (up t v l))) ∙ sym e
+              | no e ↦ other (v * 4) (omega arith) (λ z. e (ap (parent t) (omega arith) ∙ I .right-up))
+                  (λ z. e (ap (parent t) (omega arith) ∙ I .left-up)) ∙ p .cells .parents v l (omega arith)
+            ];
+          };
+          kept = λ j a. other j (a i h .1) (omega (arith, a (i - 1) (omega arith) .0))
+              (omega (arith, a (I .left) (omega arith) .0))
+              ∙ p .kept j a;
+        }
+
+    inner-iteration : UpWritten t (i + 1) b₀ (innerIteration b i)
+    inner-iteration = rw (new-size t i b (p .cells) h I, at-left t i b (p .cells) h I) iteration-written
+
+-- ---- before the first node and after the last
+
+pub none-yet : (t : Tree) (b : List ℕ) → UpTo t 0 b
+none-yet t b = record { sizes = λ v l. absurd (omega arith); parents = λ v l q. absurd (omega arith) }
+
+-- the root's own parent is stored after all
+all-up : (t : Tree) (b₀ b : List ℕ) → UpWritten t (size t) b₀ b → size t * 4 ≤ length b → (m : ℕ) → m + 1 ≡ size t
+    → AllUpWritten t b₀ (set b (m * 4) m)
+all-up t b₀ b p room m e = record {
+  cells = record {
+    sizes = λ v l. getD-set-other b (m * 4) (v * 4 + 3) m 0 (omega arith) ∙ p .cells .sizes v l;
+    parents = λ v l. elim (ℕ-discrete v m) [
+      | yes q ↦ rw q (getD-set-same b (m * 4) m 0 (omega arith) ∙ sym (parent-root t m e))
+      | no q ↦ getD-set-other b (m * 4) (v * 4) m 0 (omega arith)
+          ∙ p .cells .parents v (omega arith) (up t v (omega arith) .below)
+    ];
+  };
+  kept = λ j a. getD-set-other b (m * 4) j m 0 (omega (arith, a m (omega arith) .0)) ∙ p .kept j a;
+}
+
+-- ---- the same of every tree with these kinds
+
+abbrev pub UpsWritten : List ℕ → ℕ → List ℕ → List ℕ → Type 0
+UpsWritten ks i b₀ b = (t : Tree) → kindsOf t ≡ ks → UpWritten t i b₀ b
+
+pub nothing-written : (ks b : List ℕ) → UpsWritten ks 0 b b
+nothing-written ks b t e = record { cells = none-yet t b; kept = λ j a. refl }
+
+module _ (ks : List ℕ) (i : ℕ) (b₀ b : List ℕ) (all : UpsWritten ks i b₀ b) where
+  module _ (h : i < length ks) (room : length ks * 4 ≤ length b) where
+    pub leaf-turns : getD ks i 0 ≡ 0 → UpsWritten ks (i + 1) b₀ (set b (i * 4 + 3) 1)
+    leaf-turns k t e =
+        leaf-iteration t i b₀ b (all t e) (omega (arith, size-of t ks e)) (omega arith) (kind-of t ks i e ∙ k)
+
+    pub inner-turns : (getD ks i 0 ≡ 0 → ⊥) → UpsWritten ks (i + 1) b₀ (innerIteration b i)
+    inner-turns k t e =
+        let hi : i < size t = omega (arith, size-of t ks e) in
+        inner-iteration t i b₀ b (all t e) hi (omega arith) (inner t i hi (λ z. k (sym (kind-of t ks i e) ∙ z)))
+
+  pub all-written : length ks ≤ i → i ≤ length ks → length ks * 4 ≤ length b → (t : Tree) → kindsOf t ≡ ks
+      → AllUpWritten t b₀ (set b ((length ks - 1) * 4) (length ks - 1))
+  all-written g h room t e =
+      let z : i ≡ size t = omega (arith, size-of t ks e) in
+      all-up t b₀ b (subst (λ (n : ℕ). UpWritten t n b₀ b) z (all t e)) (omega (arith, size-of t ks e)) (length ks - 1)
+      (omega (arith, size-of t ks e, size-pos t))
+
+-- what an inner node's turn needs, from the kinds
+pub inner-room : (ks : List ℕ) (i m : ℕ) (b : List ℕ) → NodeTableArgs ks m → length b ≡ m → i < length ks
+    → (getD ks i 0 ≡ 0 → ⊥) → ((t : Tree) → kindsOf t ≡ ks → UpTo t i b) → InnerArgs b i
+inner-room ks i m b args lb h k all =
+    let T : (t : Tree) × (kindsOf t ≡ ks) = some-tree ks (args .postorder) in
+    let s : length ks ≡ size (T .0) = size-of (T .0) ks (T .1) in
+    let hi : i < size (T .0) = omega arith in
+    inner-args (T .0) i b (all (T .0) (T .1)) hi (inner (T .0) i hi (λ z. k (sym (kind-of (T .0) ks i (T .1)) ∙ z)))
+    (omega (arith, args .room)) (omega (arith, args .most))

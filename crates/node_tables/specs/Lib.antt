@@ -1,0 +1,4 @@
+pub mod Cells
+pub mod NodeCells
+pub mod OutOfRange
+pub mod inner

@@ -1,0 +1,4 @@
+pub mod CheckPass
+pub mod DownPass
+pub mod MoveAnswers
+pub mod UpPass

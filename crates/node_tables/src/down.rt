@@ -1,0 +1,47 @@
+// The pass down: the depth and the jump of each node, from its parent's.
+ghost use mathlib.Core.Path.{_≡_};
+ghost use Rattle.trees.specs.Tree.{Tree};
+ghost use Rattle.node_tables.specs.NodeCells.{Parents, DownWritten};
+ghost use Rattle.node_tables.specs.inner.DownPass.{childJump, nodeIteration, JumpArgs, NodeArgs, DownArgs};
+
+// The jump of a child of node p.
+pub fn child_jump(node_table: &[u16], p: usize) -> u16
+    requires { ⌜ JumpArgs (now «node_table») p ⌝ }
+    ensures { λ r. ⌜ r ≡ childJump (now («node_table» .entry)) p ⌝ }
+{
+    let j = node_table[p * 4 + 1] as usize;
+    let jj = node_table[j * 4 + 1];
+    let far = jj as usize;
+    let d = node_table[p * 4 + 2];
+    let e = node_table[j * 4 + 2];
+    let f = node_table[far * 4 + 2];
+    if d - e == e - f { jj } else { p as u16 }
+}
+
+// Node v's turn: its jump and its depth, from its parent's.
+fn write_node(node_table: &mut [u16], v: usize)
+    requires { ⌜ NodeArgs (now «node_table») v ⌝ }
+    ensures { λ _. ⌜ now («node_table» .exit) ≡ nodeIteration (now («node_table» .entry)) v ⌝ }
+{
+    let p = node_table[v * 4] as usize;
+    let d = node_table[p * 4 + 2] + 1;
+    let j = child_jump(node_table, p);
+    node_table[v * 4 + 1] = j;
+    node_table[v * 4 + 2] = d;
+}
+
+// Writes the depth and the jump of each of the n nodes, from their parents.
+pub fn write_down(node_table: &mut [u16], n: usize)
+    requires { ⌜ DownArgs n (now «node_table») ⌝ }
+    ensures { λ _. ⌜ ((t : Tree) → Parents t n (now («node_table» .entry))
+        → DownWritten t 0 (now («node_table» .entry)) (now («node_table» .exit))) ⌝ }
+{
+    let root = n - 1;
+    node_table[root * 4 + 1] = root as u16;
+    node_table[root * 4 + 2] = 0;
+    let mut v = root;
+    while 0 < v {
+        v -= 1;
+        write_node(node_table, v);
+    }
+}

@@ -1,0 +1,59 @@
+// The pass up: the size of each node's subtree, and each inner node as its children's parent.
+ghost use mathlib.Core.Path.{_≡_};
+ghost use lib.ListN.{length};
+ghost use Rattle.trees.specs.Tree.{Tree, kindsOf};
+ghost use Rattle.node_tables.specs.Cells.{NodeTableArgs};
+ghost use Rattle.node_tables.specs.NodeCells.{AllUpWritten};
+ghost use Rattle.node_tables.specs.inner.UpPass.{leftOf, innerSize, innerIteration, InnerArgs};
+
+// The left child of inner node v: it stands before the subtree of the right child, v - 1.
+pub fn left_child(node_table: &[u16], v: usize) -> usize
+    requires { ⌜ InnerArgs (now «node_table») v ⌝ }
+    ensures { λ r. ⌜ r ≡ leftOf (now («node_table» .entry)) v ⌝ }
+{
+    let right = v - 1;
+    right - node_table[right * 4 + 3] as usize
+}
+
+// The size of inner node v, from its children's.
+pub fn inner_size(node_table: &[u16], v: usize) -> u16
+    requires { ⌜ InnerArgs (now «node_table») v ⌝ }
+    ensures { λ r. ⌜ r ≡ innerSize (now («node_table» .entry)) v ⌝ }
+{
+    let right = v - 1;
+    let left = left_child(node_table, v);
+    node_table[left * 4 + 3] + node_table[right * 4 + 3] + 1
+}
+
+// Inner node v's turn: its size, and itself as its children's parent.
+fn write_inner(node_table: &mut [u16], v: usize)
+    requires { ⌜ InnerArgs (now «node_table») v ⌝ }
+    ensures { λ _. ⌜ now («node_table» .exit) ≡ innerIteration (now («node_table» .entry)) v ⌝ }
+{
+    let right = v - 1;
+    let left = left_child(node_table, v);
+    let size = inner_size(node_table, v);
+    node_table[v * 4 + 3] = size;
+    node_table[right * 4] = v as u16;
+    node_table[left * 4] = v as u16;
+}
+
+// Writes each node's parent and the size of its subtree.
+pub fn write_up(kinds: &[u8], node_table: &mut [u16])
+    requires { ⌜ NodeTableArgs (now kinds) (length (now «node_table»)) ⌝ }
+    ensures { λ _. ⌜ ((t : Tree) → kindsOf t ≡ now (kinds .entry)
+        → AllUpWritten t (now («node_table» .entry)) (now («node_table» .exit))) ⌝ }
+{
+    let n = kinds.len();
+    let mut v = 0;
+    while v < n {
+        if kinds[v] == 0 {
+            node_table[v * 4 + 3] = 1;
+        } else {
+            write_inner(node_table, v);
+        }
+        v += 1;
+    }
+    let root = n - 1;
+    node_table[root * 4] = root as u16;
+}

@@ -1,3 +1,0 @@
-mod InPlace
-pub mod InPlaceTheorem
-mod Lendings

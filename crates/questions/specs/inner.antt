@@ -1,0 +1,3 @@
+pub mod PartArgs
+pub mod Scans
+pub mod SearchAnswers

@@ -1,0 +1,29 @@
+-- `records::bytes::decode_head` meets its contract. Each field is read at its offset.
+-- Assumes nothing.
+use Rattle.records.proofs.ByteTests.{head-read}
+use borrow.Author.Needs.{needs}
+use Rattle.records.proofs.bytes.decode_head.Statement.{statement}
+use Rattle.records.proofs.bytes.decode_head.Tie as tie
+
+returns : tie.Need-returns
+returns c =
+    let p = c .before .before .before .before .before in
+    let n = p .before .before .before .before in
+    head-read (n .before .before .args .bytes .now) (p .phase-at .result) (n .number16 .result) (c .number32 .result)
+    (p .phase-at .ensures) (n .number16 .ensures) (c .number32 .ensures)
+
+pub decode-head-spec : {M : Type 1} → statement M
+decode-head-spec =
+    tie.close
+    (tie.spec
+    (λ c κs. search needs)
+    (λ c. search needs)
+    (λ c. search needs)
+    (λ c. search needs)
+    (λ c κs. search needs)
+    (λ c. search needs)
+    (λ c. search needs)
+    (λ c. search needs)
+    (λ c. search needs)
+    (λ c κs. search needs)
+    returns)

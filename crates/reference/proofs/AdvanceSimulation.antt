@@ -1,0 +1,398 @@
+-- Advance on record and reference model.
+--     parted-more      one more part, whatever its state below S
+--     on-advance       what advance tells conforms, and record and reference model stay related
+-- Assumes nothing.
+use Prim.Native.Nat.{ℕ, suc, _+_, _<_}
+use mathlib.Core.Path.{_≡_, refl, sym, ap, ap₂, _∙_, subst}
+use mathlib.Core.Bool.{Bool, true, false, cond, not, _&&_}
+use mathlib.Core.List.{List, [], _∷_, _++_}
+use mathlib.Core.Option.{Option, none, some}
+use native.Mathlib.Omega.{arith}
+use lib.Dec.{eqb}
+use lib.ListN.{length, getD, take}
+use lib.Seq.{take-suc}
+use borrow.Author.Tests.{eqb-true, eqb-false}
+use Rattle.trees.proofs.MoveLaws.{none-some}
+use Rattle.list_laws.specs.Tests.{allBelow}
+use Rattle.formats.specs.Rules.{ruleAutomaton}
+use Rattle.formats.specs.Checks.{check, firstNo}
+use Rattle.list_laws.proofs.BoolLaws.{true-false, and-both, and-left, and-right}
+use Rattle.formats.proofs.CheckLaws.{firstNo-head, firstNo-tail}
+use Rattle.list_laws.proofs.TestLaws.{allBelow-at}
+use Rattle.tables.specs.declared.answers.Reached.{Reached}
+use Rattle.ready.specs.Parts.{Given, Part, part, partOf, partsFrom, statesOf}
+use Rattle.ready.proofs.PartsRun.{nodes-more}
+use Rattle.questions.specs.Part.{partOn}
+use Rattle.questions.specs.OutOfRange.{PartOutOfRange}
+use Rattle.questions.proofs.PartRange.{part-out-of-range}
+use Rattle.questions.proofs.PartBounds.{part-bounded}
+use Rattle.trees.proofs.MoveLaws.{none-some}
+use Rattle.ready.proofs.PartsRun.{nodes-more}
+use Rattle.formats.specs.Inputs.{Inputs, Sizes, fits, sameNodeInputs, sameInputs, nodeTableBuilt, statesBelow}
+use Rattle.model.specs.Calls.{advance, more, finished, Phase, isRunning}
+use Rattle.model.specs.Refusals.{stage, refusal}
+use Rattle.model.specs.PartInputs.{givenOf}
+use Rattle.reference.specs.Reference.{Settlement, clean, byRule, byProgram, Question, State, settled, phase}
+use Rattle.reference.specs.Reference.{inState, rootsOf, partCount, givenBy, longer, advanced, goesOn, otherStates}
+use Rattle.reference.specs.Reference.{mayAdvanceWith, byAnswer, advancingByProgram, advancingByRule, advancing}
+use Rattle.reference.specs.Reference.{proceed}
+use Rattle.model.specs.Model.{Record, acted, viewBy, marksBy, stepped, advanceWith, partNext, proceeds}
+use Rattle.model.proofs.ModelLaws.{advance-fits, marks-built}
+use Rattle.model.proofs.Facts.{reachedBy, nextRoot, Layers}
+use Rattle.model.proofs.ResultLaws.{length-states, states-more, length-more, last-more, links-more, below-more}
+use Rattle.model.proofs.ResultLaws.{from-more}
+use Rattle.formats.proofs.InputsLaws.{Built, Same, node-table-built, same-node-inputs, same-inputs-nodes}
+use Rattle.formats.proofs.InputsLaws.{same-state-table}
+use Rattle.reference.proofs.FreshLaws.{part-state, given-same, sound-below}
+use Rattle.reference.proofs.CauseLaws.{advance-cause}
+use Rattle.reference.proofs.Relation.{Parted, Counted, Cleanly, SomeParted, SettledAs, Unended, Marked, Ended}
+use Rattle.reference.proofs.Relation.{Asking, Rel}
+use Rattle.reference.proofs.Simulation.{Sim, referenceOf, Simulates, some-number, by-refusal, does}
+
+-- ---- other bytes
+
+module _ (z : Sizes) (q : Question) (x : Inputs) where
+  pub other-built : otherStates z q x ≡ true → nodeTableBuilt z (q .inputs) ≡ true
+  unfolding otherStates
+  other-built e = and-left (nodeTableBuilt z (q .inputs)) (sameNodeInputs z (q .inputs) x && statesBelow z x) e
+
+  pub other-same : otherStates z q x ≡ true → sameNodeInputs z (q .inputs) x ≡ true
+  unfolding otherStates
+  other-same e = and-left (sameNodeInputs z (q .inputs) x) (statesBelow z x)
+      (and-right (nodeTableBuilt z (q .inputs)) (sameNodeInputs z (q .inputs) x && statesBelow z x) e)
+
+  pub other-below : otherStates z q x ≡ true → statesBelow z x ≡ true
+  unfolding otherStates
+  other-below e = and-right (sameNodeInputs z (q .inputs) x) (statesBelow z x)
+      (and-right (nodeTableBuilt z (q .inputs)) (sameNodeInputs z (q .inputs) x && statesBelow z x) e)
+
+  pub is-other : nodeTableBuilt z (q .inputs) ≡ true → sameNodeInputs z (q .inputs) x ≡ true → statesBelow z x ≡ true
+      → otherStates z q x ≡ true
+  unfolding otherStates
+  is-other a b c =
+      and-both (nodeTableBuilt z (q .inputs)) (sameNodeInputs z (q .inputs) x && statesBelow z x) a
+      (and-both (sameNodeInputs z (q .inputs) x) (statesBelow z x) b c)
+
+-- ---- the next part
+
+-- the part that an advance works out, by what it reads
+abbrev partAt : Sizes → Inputs → List ℕ → List ℕ → List ℕ → List ℕ → Option Reached
+partAt z x rs ss vs bs = partOn (viewBy z x) (take (length ss) rs) ss vs bs (getD rs (length ss) 0)
+
+part-same : (y z : Sizes) (x : Inputs) (rs rs′ ss ss′ vs vs′ bs bs′ : List ℕ) → y ≡ z → rs ≡ rs′ → ss ≡ ss′
+    → vs ≡ vs′ → bs ≡ bs′ → partAt y x rs ss vs bs ≡ partAt z x rs′ ss′ vs′ bs′
+part-same y z x rs rs′ ss ss′ vs vs′ bs bs′ e f g h i = rw (e, f, g, h, i)
+
+module _ (r : Record) (z : Sizes) (q : Question) (x : Inputs) (sizes : r .sizes ≡ z) where
+  -- the part that the rule of document 01 gives after ps, on the state table given
+  abbrev ruled : List Part → Part
+  ruled ps = partOf (givenBy z q x) (rootsOf q) ps (nextRoot (rootsOf q) ps)
+
+  part-next : Layers → (ps : List Part) → Parted r z q ps → length ps < partCount q → otherStates z q x ≡ true
+      → fits z x ≡ true → partNext r x ≡ some (reachedBy (ruled ps))
+  part-next L ps p l o f =
+      part-same (r .sizes) z x (r .roots) (rootsOf q) (r .states) (statesOf ps) (r .nodes) (q .nodes)
+      (r .labels) (q .labels) sizes (p .roots) (p .states) (p .nodes) (p .labels)
+      ∙ ap (λ (n : ℕ). partOn (viewBy z x) (take n (rootsOf q)) (statesOf ps) (q .nodes) (q .labels)
+      (getD (rootsOf q) n 0)) (length-states ps)
+      ∙ L .part-built z (q .inputs) (q .nodes) (q .labels) x ps
+      (record {
+        built = other-built z q x o;
+        same = other-same z q x o;
+        below = other-below z q x o;
+        room = f;
+        listed = p .listed;
+      })
+      (p .handled) l
+
+  part-low : (y : Reached) → partNext r x ≡ some y → y .state < z .s
+  part-low y e =
+      subst (λ (s : Sizes). y .state < s .s) sizes
+      (part-bounded (viewBy (r .sizes) x) (take (length (r .states)) (r .roots)) (r .states) (r .nodes) (r .labels)
+      (getD (r .roots) (length (r .states)) 0) y e .state)
+
+-- one more part, whatever its state below S
+pub parted-more : (r : Record) (z : Sizes) (q : Question) (ps : List Part) → Parted r z q ps → length ps < partCount q
+    → (y : Reached) → y .state < z .s → (f : Phase) (m : Bool) (k : Settlement) (tr : List Part)
+    → Parted (stepped r f y m) z (advanced q k tr) (ps ++ (part (nextRoot (rootsOf q) ps) (y .state) (y .links) ∷ []))
+unfolding stepped advanced
+parted-more r z q ps p l y b f m k tr = record {
+  nodes = p .nodes;
+  labels = p .labels;
+  roots = p .roots;
+  states = ap (λ (ss : List ℕ). ss ++ (y .state ∷ [])) (p .states) ∙ sym (states-more ps new);
+  listed = p .listed;
+  handled = record {
+    nodes =
+        nodes-more ps new
+        ∙ ap (λ (vs : List ℕ). vs ++ (nextRoot (rootsOf q) ps ∷ [])) (p .handled .nodes)
+        ∙ sym (take-suc (rootsOf q) (length ps) 0 l)
+        ∙ ap (λ (n : ℕ). take n (rootsOf q)) (sym (length-more ps new));
+    states =
+        ap (allBelow (z .s)) (states-more ps new) ∙ below-more (z .s) (statesOf ps) (y .state) (p .handled .states) b;
+  };
+}
+  where
+    new : Part
+    new = part (nextRoot (rootsOf q) ps) (y .state) (y .links)
+
+-- ---- one advance
+
+module _ (L : Layers) (r : Record) (z : Sizes) (q : Question) (x : Inputs) (i : Rel r (referenceOf (State.running q) z))
+    (room : fits z x ≡ true) where
+  abbrev rule : Part
+  rule = ruled r z q x (i .sizes) (q .results)
+
+  -- the question after an advance that the rule settles
+  abbrev onward : Settlement → Question
+  onward k = advanced q k (longer z q x)
+
+  counted-next : (c : Counted r z q) → length (q .results) < partCount q → (f : Phase) (m : Bool) (k : Settlement)
+      → Counted (stepped r f (reachedBy rule) m) z (onward k)
+  unfolding stepped advanced longer partOf
+  counted-next c l f m k = record {
+    built = c .built;
+    parted =
+        parted-more r z q (q .results) (c .parted) l (reachedBy rule)
+        (part-state z q (node-table-built z (q .inputs) (c .built)) x (q .results) (nextRoot (rootsOf q) (q .results)))
+        f m k (longer z q x);
+    links = ap (λ (n : ℕ). n + rule .links) (c .links) ∙ sym (links-more (q .results) rule);
+    count = ap suc (c .count) ∙ sym (length-more (q .results) rule);
+  }
+
+  -- a part is left unless this was the last
+  unended-next : (y : Reached) (f : Phase) (m : Bool) (k : Settlement) (tr : List Part)
+      → eqb (suc (length (r .states))) (length (r .roots)) ≡ false
+      → (nodeTableBuilt z (q .inputs) ≡ true → r .roots ≡ rootsOf q) → Unended (stepped r f y m) z (advanced q k tr)
+  unfolding stepped advanced
+  unended-next y f m k tr e roots h =
+      let n : suc (length (r .states)) ≡ length (r .roots)
+      → ⊥ = eqb-false (suc (length (r .states))) (length (r .roots)) e in
+      let d : length (r .roots) ≡ partCount q = ap length (roots h) in
+      rw (length-more (r .states) (y .state)) (let b : length (r .states) < partCount q = i .holds .1 h in
+      omega (arith, n, d, b))
+
+  asked : Asking r z q
+  asked = i .asks .1
+
+  asking-next : (y : Reached) → y .state < z .s → eqb (suc (length (r .states))) (length (r .roots)) ≡ false
+      → (k : Settlement) (tr : List Part) → Asking (stepped r Phase.running y false) z (advanced q k tr)
+  unfolding stepped advanced
+  asking-next y b e k tr =
+      let n : suc (length (r .states)) ≡ length (r .roots)
+      → ⊥ = eqb-false (suc (length (r .states))) (length (r .roots)) e in
+      record {
+        nodes = asked .nodes;
+        labels = asked .labels;
+        roots = asked .roots;
+        next = rw (length-more (r .states) (y .state)) (omega (arith, n, asked .next));
+        states = below-more (z .s) (r .states) (y .state) (asked .states) b;
+      }
+
+  -- 18 has a cause
+  cause-of : partNext r x ≡ none → PartOutOfRange (viewBy z x) (r .states) (q .nodes) (q .labels)
+  cause-of e =
+      let v : ℕ = getD (r .roots) (length (r .states)) 0 in
+      let inside : v < r .sizes .n =
+      subst (λ (y : Sizes). v < y .n) (sym (i .sizes))
+      (allBelow-at (z .n) (r .roots) (length (r .states)) (asked .roots) (asked .next)) in
+      subst (λ (y : Sizes). PartOutOfRange (viewBy y x) (r .states) (q .nodes) (q .labels)) (i .sizes)
+      (subst (λ (l : List ℕ). PartOutOfRange (viewBy (r .sizes) x) (r .states) l (q .labels)) (asked .nodes)
+      (subst (λ (l : List ℕ). PartOutOfRange (viewBy (r .sizes) x) (r .states) (r .nodes) l) (asked .labels)
+      (part-out-of-range (viewBy (r .sizes) x) (r .states) (r .nodes) (r .labels) (take (length (r .states)) (r .roots)) v inside e)))
+
+  -- an advance that goes on as always, to settlement k
+  goes-on : (k : Settlement) → Counted r z q → otherStates z q x ≡ true
+      → ((s : Record) → Counted s z (onward k) → SettledAs s z (onward k) k)
+      → ((s : Record) → Marked s (onward k) → suc (q .count) ≡ partCount q → Ended s (onward k) k)
+      → Sim (goesOn (referenceOf (State.running q) z) (onward k)) (advanceWith r x (partNext r x))
+  unfolding goesOn advanceWith inState phase advanced stepped longer
+  goes-on k c o stands ends =
+      subst (λ (y : Option Reached). Sim (goesOn (referenceOf (State.running q) z) (onward k)) (advanceWith r x y))
+      (sym (part-next r z q x (i .sizes) L (q .results) (c .parted) left-over o room))
+      (go (eqb (suc (q .count)) (partCount q)) (eqb (suc (length (r .states))) (length (r .roots)))
+      (ap₂ (λ (m n : ℕ). eqb (suc m) n) (ap length (c .parted .states) ∙ length-states (q .results)
+      ∙ sym (c .count)) (ap length (c .parted .roots))) refl refl)
+    where
+      left-over : length (q .results) < partCount q
+      left-over =
+          let b : length (r .states) < partCount q = i .holds .1 (c .built) in
+          let n : length (r .states) ≡ length (q .results) = ap length (c .parted .states) ∙ length-states (q .results) in
+          omega (arith, b, n)
+
+      yes : Bool
+      yes = eqb (getD (marksBy (r .sizes) x) (rule .state) 0) 1
+
+      marked : Marked (stepped r Phase.answered (reachedBy rule) yes) (onward k)
+      marked =
+          let same : Same z (q .inputs) x = same-node-inputs z (q .inputs) x (other-same z q x o) in
+          let B : Built z (q .inputs) = node-table-built z (q .inputs) (c .built) in
+          ap (λ (w : List ℕ). eqb (getD w (rule .state) 0) 1)
+          (ap (λ (y : Sizes). marksBy y x) (i .sizes) ∙ marks-built z (q .inputs) x B (same .rules))
+          ∙ ap (ruleAutomaton (q .inputs .rules) .accepting) (sym (last-more (q .results) rule 0))
+
+      go : (b d : Bool) → d ≡ b → eqb (suc (q .count)) (partCount q) ≡ b
+          → eqb (suc (length (r .states))) (length (r .roots)) ≡ d
+          → Sim (cond b (settled finished (referenceOf (State.answered (onward k)) z))
+          (settled more (referenceOf (State.running (onward k)) z)))
+          (cond d (acted finished (stepped r Phase.answered (reachedBy rule) yes))
+          (acted more (stepped r Phase.running (reachedBy rule) false)))
+      go true true e g h = (
+        refl,
+        record {
+          phases = refl;
+          sizes = i .sizes;
+          holds = (
+            stands _ (counted-next c left-over Phase.answered yes k),
+            ends _ marked
+                (eqb-true (suc (q .count)) (partCount q) g),
+          );
+          asks = i .asks .0;
+        },
+      )
+      go false false e g h = (
+        refl,
+        record {
+          phases = refl;
+          sizes = i .sizes;
+          holds = (
+            stands _ (counted-next c left-over Phase.running false k),
+            unended-next (reachedBy rule) Phase.running false k (longer z q x) h (λ l. c .parted .roots),
+          );
+          asks = (
+            i .asks .0,
+            asking-next (reachedBy rule)
+                (part-state z q (node-table-built z (q .inputs) (c .built)) x (q .results) (nextRoot (rootsOf q) (q .results))) h k (longer z q x),
+          );
+        },
+      )
+      go true false e g h = absurd (true-false (sym e))
+      go false true e g h = absurd (true-false e)
+
+  -- left to the program, save that other bytes never get 18
+  advance-by-program : SomeParted r z q → Sim (advancingByProgram (referenceOf (State.running q) z) x q) (advanceWith r x (partNext r x))
+  unfolding advancingByProgram advanceWith mayAdvanceWith byAnswer advanced inState phase stepped
+  advance-by-program some-parted = go (partNext r x) refl
+    where
+      unended : (ps : List Part) → Parted r z q ps → nodeTableBuilt z (q .inputs) ≡ true → length ps < partCount q
+      unended ps p h =
+          let b : length (r .states) < partCount q = i .holds .1 h in
+          let n : length (r .states) ≡ length ps = ap length (p .states) ∙ length-states ps in
+          omega (arith, b, n)
+
+      not-other : partNext r x ≡ none → (b : Bool) → otherStates z q x ≡ b → not b ≡ true
+      not-other e true o =
+          let s = some-parted (other-built z q x o) in
+          absurd (none-some (sym e ∙ part-next r z q x (i .sizes) L (s .0) (s .1)
+          (unended (s .0) (s .1) (other-built z q x o)) o room))
+      not-other e false o = refl
+
+      parted : (y : Reached) (f : Phase) (m : Bool) → partNext r x ≡ some y
+          → SomeParted (stepped r f y m) z (advanced q byProgram [])
+      parted y f m e h =
+          let s = some-parted h in (
+            s .0 ++ (part (nextRoot (rootsOf q) (s .0)) (y .state) (y .links) ∷ []),
+            parted-more r z q (s .0) (s .1) (unended (s .0) (s .1) h) y (part-low r z q x (i .sizes) y e) f m byProgram [],
+          )
+
+      go : (y : Option Reached) → partNext r x ≡ y → Sim (advancingByProgram (referenceOf (State.running q) z) x q) (advanceWith r x y)
+      go none e = (
+        advance-cause z x (q .nodes) (q .labels) (r .states) (otherStates z q x) (not-other e (otherStates z q x) refl) (asked .states)
+            (cause-of e),
+        i,
+      )
+      go (some y) e = then (eqb (suc (length (r .states))) (length (r .roots))) refl
+        where
+          then : (b : Bool) → eqb (suc (length (r .states))) (length (r .roots)) ≡ b
+              → Sim (advancingByProgram (referenceOf (State.running q) z) x q)
+              (cond b (acted finished (stepped r Phase.answered y (eqb (getD (marksBy (r .sizes) x) (y .state) 0) 1)))
+              (acted more (stepped r Phase.running y false)))
+          then true g = (
+            refl,
+            record { phases = refl; sizes = i .sizes; holds = (parted y Phase.answered _ e, tt); asks = i .asks .0 },
+          )
+          then false g = (
+            refl,
+            record {
+              phases = refl;
+              sizes = i .sizes;
+              holds = (
+                parted y Phase.running false e,
+                unended-next y Phase.running false byProgram [] g
+                    (λ h. some-parted h .1 .roots),
+              );
+              asks = (i .asks .0, asking-next y (part-low r z q x (i .sizes) y e) g byProgram []);
+            },
+          )
+
+  counted-some : Counted r z q → SomeParted r z q
+  counted-some c h = (q .results, c .parted)
+
+  advance-by-rule : Counted r z q → Sim (advancingByRule (referenceOf (State.running q) z) x q) (advanceWith r x (partNext r x))
+  unfolding advancingByRule
+  advance-by-rule c = go (otherStates z q x) refl
+    where
+      go : (b : Bool) → otherStates z q x ≡ b
+          → Sim (cond b (goesOn (referenceOf (State.running q) z) (onward byRule)) (advancingByProgram (referenceOf (State.running q) z) x q))
+          (advanceWith r x (partNext r x))
+      go true o = goes-on byRule c o (λ s d. d) (λ s m e. m)
+      go false o = advance-by-program (counted-some c)
+
+  -- given as at Start: the results go on with the same state table
+  cleanly-next : Counted r z q → Cleanly z q → sameInputs z (q .inputs) x ≡ true → length (q .results) < partCount q
+      → Cleanly z (onward clean)
+  unfolding advanced longer givenOf
+  cleanly-next c k e l = record {
+    stateTable = k .stateTable;
+    replayed =
+        ap (λ (G : Given). q .results ++ (partOf G (rootsOf q) (q .results) v ∷ []))
+        (given-same z q x (q .inputs) (sym (same-state-table z (q .inputs) x e)))
+        ∙ ap (λ (ps : List Part). ps ++ (partOf (givenBy z q (q .inputs)) (rootsOf q) ps v ∷ [])) (k .replayed)
+        ∙ sym (from-more (givenBy z q (q .inputs)) (rootsOf q) [] (take (length (q .results)) (rootsOf q)) v)
+        ∙ ap (partsFrom (givenBy z q (q .inputs)) (rootsOf q) [])
+        (sym (take-suc (rootsOf q) (length (q .results)) 0 l)
+        ∙ ap (λ (n : ℕ). take n (rootsOf q)) (sym (length-more (q .results) rule)));
+  }
+    where
+      v : ℕ
+      v = nextRoot (rootsOf q) (q .results)
+
+  advance-as : (k : Settlement) → SettledAs r z q k
+      → Sim (advancing (referenceOf (State.running q) z) x q k) (advanceWith r x (partNext r x))
+  unfolding advancing statesBelow advanced
+  advance-as clean s = go (sameInputs z (q .inputs) x) refl
+    where
+      left-over : length (q .results) < partCount q
+      left-over =
+          let b : length (r .states) < partCount q = i .holds .1 (s .0 .built) in
+          let n : length (r .states) ≡ length (q .results) = ap length (s .0 .parted .states)
+          ∙ length-states (q .results) in
+          omega (arith, b, n)
+
+      go : (b : Bool) → sameInputs z (q .inputs) x ≡ b
+          → Sim (cond b (goesOn (referenceOf (State.running q) z) (onward clean)) (advancingByRule (referenceOf (State.running q) z) x q))
+          (advanceWith r x (partNext r x))
+      go true e =
+          let low : statesBelow z x ≡ true =
+          ap (allBelow (z .s)) (sym (same-state-table z (q .inputs) x e))
+          ∙ sound-below z q (node-table-built z (q .inputs) (s .0 .built)) (s .1 .stateTable) in
+          goes-on clean (s .0) (is-other z q x (s .0 .built) (same-inputs-nodes z (q .inputs) x e) low)
+          (λ y d. (d, cleanly-next (s .0) (s .1) e left-over)) (λ y m n. (m, n))
+      go false e = advance-by-rule (s .0)
+  advance-as byRule s = advance-by-rule s
+  advance-as byProgram s = advance-by-program s
+
+advance-at : (L : Layers) (r : Record) (s : State) (z : Sizes) (x : Inputs) → Rel r (referenceOf s z)
+    → refusal (stage (phase s) z) (advance x) ≡ 0
+    → Sim (proceed (referenceOf s z) s (advance x)) (proceeds r (advance x))
+unfolding refusal phase firstNo isRunning proceed proceeds
+advance-at L r State.empty z x i h = absurd (some-number h)
+advance-at L r State.loaded z x i h = absurd (some-number h)
+advance-at L r (State.running q) z x i h =
+    advance-as L r z q x i (advance-fits (stage Phase.running z) x h) (q .settlement) (i .holds .0)
+advance-at L r (State.answered q) z x i h = absurd (some-number h)
+
+pub on-advance : Layers → (x : Inputs) → Simulates (advance x)
+on-advance L x r r′ b a i d =
+    does r r′ b (advance x) a d (by-refusal r (b .state) (b .sizes) (advance x) i
+    (advance-at L r (b .state) (b .sizes) x i))

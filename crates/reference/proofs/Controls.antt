@@ -1,0 +1,222 @@
+-- Controls of demand 3 on plan A, computed: where the reference model must settle an answer, where it must leave it to the
+-- program, and wrong answers that it turns down. A premise that is too strong (excess compared, the plan tied to
+-- Load's) shows here: an answer that should be settled is left.
+-- The answers are the model's (act): so that rootsOn and partOn are run too.
+-- Assumes nothing.
+use Prim.Native.Nat.{ℕ}
+use mathlib.Core.Path.{_≡_, refl}
+use mathlib.Core.Bool.{Bool, true, false}
+use mathlib.Core.List.{List, [], _∷_, _++_}
+use mathlib.Core.Option.{Option, none, some}
+use lib.ListN.{set, replicate}
+use Rattle.formats.specs.Built.{builtNodeTable, builtStateTable}
+use Rattle.formats.specs.Inputs.{Inputs}
+use Rattle.model.specs.Calls.{Call, load, start, advance, cancel, read, Answer, refused, parts, more, finished}
+use Rattle.model.specs.Calls.{outcomeAnswer}
+use Rattle.reference.specs.Reference.{newReference}
+use Rattle.reference.specs.AgreementTest.{agreed}
+use Rattle.reference.proofs.Sample.{computing, tableA, loadA, inputsA, Seen, seen, asking}
+
+-- what the reference model settles of a list of calls, all of whose answers agree
+abbrev pub all : List (Option Answer) → Seen
+all says = record { says = says; agrees = true }
+
+-- another plan of 7 nodes, which leans left
+unfoldable pub planB : List ℕ
+planB = 7 ∷ 0 ∷ 0 ∷ 0 ∷ 12 ∷ 0 ∷ 0 ∷ 0 ∷ 19 ∷ 0 ∷ 0 ∷ 0 ∷ 0 ∷ 0 ∷ 0 ∷ 1 ∷ 0 ∷ 0 ∷ 0 ∷ 0 ∷ 0 ∷ 1 ∷ 0 ∷ 1 ∷ 0 ∷ 1 ∷ []
+
+unfoldable pub inputsB : Inputs
+unfolding planB tableA computing
+inputsB = record { plan = planB; rules = tableA; nodeTable = builtNodeTable planB; stateTable = builtStateTable planB tableA }
+
+-- tables with an excess
+abbrev pub longerBy : Inputs → List ℕ → Inputs
+longerBy x l = record { plan = x .plan; rules = x .rules; nodeTable = x .nodeTable ++ l; stateTable = x .stateTable ++ l }
+
+-- one number, or one byte, of plan A's tables set to another; one label of the plan
+unfoldable pub otherNumber : ℕ → ℕ → Inputs
+unfolding inputsA
+otherNumber i n = record {
+  plan = inputsA .plan;
+  rules = inputsA .rules;
+  nodeTable = set (inputsA .nodeTable) i n;
+  stateTable =
+      inputsA .stateTable;
+}
+
+unfoldable pub otherState : ℕ → ℕ → Inputs
+unfolding inputsA
+otherState i n = record { plan = inputsA .plan; rules = inputsA .rules; nodeTable = inputsA .nodeTable; stateTable = set (inputsA .stateTable) i n }
+
+unfoldable pub otherLabel : Inputs
+unfolding inputsA
+otherLabel = record { plan = set (inputsA .plan) 12 0; rules = inputsA .rules; nodeTable = inputsA .nodeTable; stateTable = inputsA .stateTable }
+
+abbrev pub nothing : Inputs
+nothing = record { plan = []; rules = []; nodeTable = []; stateTable = [] }
+
+-- a question that lists node 0: Load, Start x, advance y, advance w, Read
+unfoldable pub onNode0 : Inputs → Inputs → Inputs → List Call
+unfolding loadA
+onNode0 x y w = load loadA ∷ start x (0 ∷ []) (0 ∷ []) ∷ advance y ∷ advance w ∷ read ∷ []
+
+-- ---- settled
+
+pub clean-list : seen (asking [] [] 1)
+    ≡ all (some Answer.accepted ∷ some (parts 1) ∷ some finished ∷ some (outcomeAnswer 1 true 1 0) ∷ [])
+unfolding seen asking
+clean-list = refl
+
+-- "Plan, rules and tables are the panel's to alter or exchange": plan A was loaded and plan B is
+-- asked, with a changing excess
+pub exchanged-plan : seen (onNode0 (longerBy inputsB (5 ∷ [])) (longerBy inputsB (7 ∷ 8 ∷ 9 ∷ [])) inputsB)
+    ≡ all (some Answer.accepted ∷ some (parts 2) ∷ some more ∷ some finished ∷ some (outcomeAnswer 1 true 2 2) ∷ [])
+unfolding seen onNode0 inputsA inputsB
+exchanged-plan = refl
+
+-- "lent the same, excess aside"
+pub changed-excess : seen (onNode0 (longerBy inputsA (5 ∷ [])) (longerBy inputsA (7 ∷ 8 ∷ 9 ∷ [])) inputsA)
+    ≡ all (some Answer.accepted ∷ some (parts 2) ∷ some more ∷ some finished ∷ some (outcomeAnswer 0 false 2 1) ∷ [])
+unfolding seen onNode0 inputsA
+changed-excess = refl
+
+-- 17 and 18 on other inputs, then the tables restored: "18 leaves the book as it is", and so does every refusal.
+-- Number 1 is node 0's jump
+pub restored : seen (load loadA ∷ start inputsA (0 ∷ []) (0 ∷ []) ∷ advance inputsA ∷ advance (otherNumber 1 60000)
+    ∷ advance nothing
+    ∷ advance inputsA ∷ read ∷ [])
+    ≡ all (some Answer.accepted ∷ some (parts 2) ∷ some more ∷ none ∷ some (refused 17) ∷ some finished
+    ∷ some (outcomeAnswer 0 false 2 1) ∷ [])
+unfolding seen otherNumber loadA inputsA
+restored = refl
+
+-- other bytes below S: settled by the rule, on those bytes. Byte 1 is node 0's map at state 0; a fresh run has 0 no
+pub other-states : seen (onNode0 inputsA inputsA (otherState 1 1))
+    ≡ all (some Answer.accepted ∷ some (parts 2) ∷ some more ∷ some finished ∷ some (outcomeAnswer 1 true 2 1) ∷ [])
+unfolding seen onNode0 inputsA otherState
+other-states = refl
+
+-- other bytes at Start already, below S or not: what is given to the advances decides
+pub other-at-start :
+    (seen (onNode0 (otherState 1 1) (otherState 1 1) inputsA)
+    ≡ all (some Answer.accepted ∷ some (parts 2) ∷ some more ∷ some finished ∷ some (outcomeAnswer 0 false 2 1) ∷ []))
+    × (seen (onNode0 (otherState 1 2) inputsA inputsA)
+    ≡ all (some Answer.accepted ∷ some (parts 2) ∷ some more ∷ some finished ∷ some (outcomeAnswer 0 false 2 1) ∷ []))
+unfolding seen onNode0 inputsA otherState
+other-at-start = (refl, refl)
+
+-- a call in the wrong state, a Cancel, and a Start from answered
+pub wrong-state : seen (read ∷ cancel ∷ load loadA ∷ advance inputsA ∷ start inputsA [] [] ∷ load loadA
+    ∷ start inputsA [] [] ∷ cancel
+    ∷ start inputsA [] [] ∷ advance inputsA ∷ read ∷ start inputsA (6 ∷ []) (0 ∷ []) ∷ read ∷ [])
+    ≡ all (some (refused 1) ∷ some (refused 1) ∷ some Answer.accepted ∷ some (refused 1) ∷ some (parts 1)
+    ∷ some (refused 1)
+    ∷ some (refused 1) ∷ some Answer.accepted ∷ some (parts 1) ∷ some finished ∷ some (outcomeAnswer 1 true 1 0)
+    ∷ some (parts 1) ∷ some (refused 1) ∷ [])
+unfolding seen loadA inputsA
+wrong-state = refl
+
+-- two faults at once: the first no in the text's order, 17 before 12, all of 13 before 14
+pub first-no : seen (load loadA ∷ start loadA (7 ∷ []) (2 ∷ []) ∷ start nothing (7 ∷ []) [] ∷ start inputsA (7 ∷ []) []
+    ∷ start inputsA (0 ∷ 7 ∷ []) (2 ∷ 0 ∷ []) ∷ start inputsA (0 ∷ 0 ∷ []) (0 ∷ 2 ∷ []) ∷ start inputsA (replicate 65 0)
+    (replicate 65 0) ∷ [])
+    ≡ all (some Answer.accepted ∷ some (refused 13) ∷ some (refused 17) ∷ some (refused 12)
+    ∷ some (refused 13) ∷ some (refused 14) ∷ some (refused 12) ∷ [])
+unfolding seen loadA inputsA
+first-no = refl
+
+-- a Start refused with 18 leaves the old question, still clean. Number 13 is node 3's jump
+pub refused-start : seen (asking [] [] 1 ++ (start (otherNumber 13 60000) (0 ∷ 3 ∷ []) (0 ∷ 0 ∷ []) ∷ read ∷ []))
+    ≡ all (some Answer.accepted ∷ some (parts 1) ∷ some finished ∷ some (outcomeAnswer 1 true 1 0) ∷ none
+    ∷ some (outcomeAnswer 1 true 1 0) ∷ [])
+unfolding seen asking otherNumber loadA inputsA
+refused-start = refl
+
+-- ---- left to the program, and agreed
+
+-- Start on other numbers: its acceptance and the whole question
+pub unsettled-start : seen (onNode0 (otherNumber 1 6) inputsA inputsA)
+    ≡ all (some Answer.accepted ∷ none ∷ none ∷ none ∷ none ∷ [])
+unfolding seen onNode0 inputsA otherNumber
+unsettled-start = refl
+
+-- an accepted advance on other numbers, or on another plan: unclean from then on, its Read too
+pub unsettled-advance :
+    (seen (onNode0 inputsA (otherNumber 1 6) inputsA)
+    ≡ all (some Answer.accepted ∷ some (parts 2) ∷ none ∷ none ∷ none ∷ []))
+    × (seen (onNode0 inputsA inputsA otherLabel)
+    ≡ all (some Answer.accepted ∷ some (parts 2) ∷ some more ∷ none ∷ none ∷ []))
+unfolding seen onNode0 inputsA otherNumber otherLabel
+unsettled-advance = (refl, refl)
+
+-- a byte of S or above in an advance
+pub unsettled-byte : seen (onNode0 inputsA inputsA (otherState 1 2))
+    ≡ all (some Answer.accepted ∷ some (parts 2) ∷ some more ∷ none ∷ some (refused 1) ∷ [])
+unfolding seen onNode0 inputsA otherState
+unsettled-byte = refl
+
+-- ---- answers that the reference model turns down
+
+unfoldable pub judged : List Answer → Bool
+unfolding computing onNode0 inputsA
+judged xs = agreed newReference (onNode0 inputsA inputsA inputsA) xs
+
+-- the answers; a state, links, parts that are not so; finished told early; 18 on sound inputs; a Load turned
+-- down; an answer missing
+pub iterated-down :
+    judged (Answer.accepted ∷ parts 2 ∷ more ∷ finished ∷ outcomeAnswer 0 false 2 1 ∷ [])
+    ∷ judged (Answer.accepted ∷ parts 2 ∷ more ∷ finished ∷ outcomeAnswer 1 true 2 1 ∷ [])
+    ∷ judged (Answer.accepted ∷ parts 2 ∷ more ∷ finished ∷ outcomeAnswer 0 false 2 0 ∷ [])
+    ∷ judged (Answer.accepted ∷ parts 1 ∷ more ∷ finished ∷ outcomeAnswer 0 false 1 1 ∷ [])
+    ∷ judged (Answer.accepted ∷ parts 2 ∷ finished ∷ refused 1 ∷ outcomeAnswer 0 false 2 1 ∷ [])
+    ∷ judged (Answer.accepted ∷ refused 18 ∷ refused 1 ∷ refused 1 ∷ refused 1 ∷ [])
+    ∷ judged (refused 2 ∷ refused 1 ∷ refused 1 ∷ refused 1 ∷ refused 1 ∷ [])
+    ∷ judged (Answer.accepted ∷ parts 2 ∷ more ∷ finished ∷ [])
+    ∷ []
+    ≡ true ∷ false ∷ false ∷ false ∷ false ∷ false ∷ false ∷ false ∷ []
+unfolding judged
+iterated-down = refl
+
+-- the last advance on other bytes: what the rule gives; a fresh run's state; links reckoned and not followed; 18
+unfoldable pub judgedStates : List Answer → Bool
+unfolding computing onNode0 inputsA otherState
+judgedStates xs = agreed newReference (onNode0 inputsA inputsA (otherState 1 1)) (Answer.accepted ∷ parts 2 ∷ more ∷ xs)
+
+pub iterated-down-states :
+    judgedStates (finished ∷ outcomeAnswer 1 true 2 1 ∷ []) ∷ judgedStates (finished ∷ outcomeAnswer 0 false 2 1 ∷ [])
+    ∷ judgedStates (finished ∷ outcomeAnswer 1 true 2 0 ∷ []) ∷ judgedStates (refused 18 ∷ refused 1 ∷ []) ∷ []
+    ≡ true ∷ false ∷ false ∷ false ∷ []
+unfolding judgedStates
+iterated-down-states = refl
+
+-- in a question that an accepted advance on another plan made unclean, the tables given as at Start again: more
+-- or finished, never 18
+unfoldable pub judgedUnsettled : List Answer → Bool
+unfolding computing onNode0 inputsA otherLabel
+judgedUnsettled xs = agreed newReference (onNode0 inputsA otherLabel inputsA) (Answer.accepted ∷ parts 2 ∷ more ∷ xs)
+
+pub iterated-down-unsettled :
+    judgedUnsettled (finished ∷ outcomeAnswer 1 true 9 9 ∷ []) ∷ judgedUnsettled (more ∷ refused 1 ∷ []) ∷ judgedUnsettled
+    (refused 18 ∷ refused 1 ∷ [])
+    ∷ judgedUnsettled (refused 17 ∷ refused 1 ∷ []) ∷ []
+    ≡ true ∷ true ∷ false ∷ false ∷ []
+unfolding judgedUnsettled
+iterated-down-unsettled = refl
+
+-- 18 without a cause. Numbers that are not as built but lead nowhere outside: node 0's jump to the root, and an advance on another label;
+-- with a cause it is allowed: a jump outside the plan
+unfoldable pub judgedStart : Inputs → Answer → Bool
+unfolding computing loadA
+judgedStart x a = agreed newReference (load loadA ∷ start x (0 ∷ []) (0 ∷ []) ∷ []) (Answer.accepted ∷ a ∷ [])
+
+unfoldable pub judgedAdvance : Inputs → Answer → Bool
+unfolding computing loadA inputsA
+judgedAdvance x a =
+    agreed newReference (load loadA ∷ start inputsA (0 ∷ []) (0 ∷ []) ∷ advance x ∷ []) (Answer.accepted ∷ parts 2 ∷ a ∷ [])
+
+pub iterated-down-causeless :
+    judgedStart (otherNumber 1 6) (refused 18) ∷ judgedStart (otherNumber 1 6) (parts 2) ∷ judgedStart (otherNumber 1 60000) (refused 18)
+    ∷ judgedAdvance otherLabel (refused 18) ∷ judgedAdvance otherLabel more ∷ judgedAdvance (otherNumber 1 60000) (refused 18) ∷ []
+    ≡ false ∷ true ∷ true ∷ false ∷ true ∷ true ∷ []
+unfolding judgedStart judgedAdvance otherNumber otherLabel inputsA
+iterated-down-causeless = refl

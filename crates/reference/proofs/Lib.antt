@@ -1,0 +1,16 @@
+pub mod FreshLaws
+pub mod CauseLaws
+pub mod Relation
+pub mod Simulation
+pub mod StartSimulation
+pub mod AdvanceSimulation
+pub mod Demand3Theorem
+pub mod Ceilings
+pub mod UndisturbedLaws
+pub mod OrderLaws
+pub mod QuestionTheorem
+pub mod WrittenSound
+pub mod AgreementTestLaws
+pub mod Theorems
+pub mod Sample
+pub mod Controls

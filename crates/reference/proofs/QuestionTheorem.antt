@@ -1,0 +1,192 @@
+-- The further statements of demand 3, about what the calls tell of one question.
+--     question x vs bs    the question that a Start on sound inputs x puts
+--     CleanOutcomes       of a question that Start accepted on sound inputs and that was undisturbed: the parts that
+--                         Start told, after how many accepted advances finished is told, what Reads tell, ceilings
+--     question-answered   it holds in every history from a fresh record
+--     questions-of        and passes on to every form of the calls
+--     outcome-order       and does not depend on the order of the list
+-- Refused calls may come between; a Cancel may not.
+-- Assumes nothing.
+use Prim.Native.Nat.{ℕ, zero, suc, _+_, _*_, _≤_, _<_}
+use mathlib.Core.Path.{_≡_, refl, sym, ap, _∙_, subst}
+use mathlib.Core.Bool.{true}
+use mathlib.Core.List.{List, [], _∷_, _++_, zip, List·Permᴰ}
+use mathlib.Core.Option.{none, some}
+use native.Mathlib.Omega.{arith}
+use lib.ListN.{length}
+use Rattle.trees.specs.Tree.{height}
+use Rattle.trees.specs.Climb.{digits}
+use Rattle.list_laws.specs.Tests.{distinct}
+use Rattle.formats.specs.Plan.{planTree}
+use Rattle.formats.specs.Checks.{firstNo, listChecks}
+use Rattle.list_laws.proofs.BoolLaws.{true-false, and-left}
+use Rattle.formats.proofs.InputLaws.{list-passes}
+use Rattle.formats.specs.Inputs.{Inputs, Sizes, nodeTableBuilt, stateTableBuilt, sound}
+use Rattle.model.specs.Calls.{Call, start, Answer, refused, parts, more, finished, outcome, onOutcome, isRefused}
+use Rattle.model.specs.Refusals.{stage, refusal}
+use Rattle.reference.specs.Reference.{Settlement, clean, Question, State, Reference, Reply, phase, inState}
+use Rattle.reference.specs.Reference.{newReference, step, decided, proceed, partCount, freshAnswer, settlementOf}
+use Rattle.reference.specs.Reference.{asked, starting}
+use Rattle.reference.specs.Demand3.{Conforms, after, Agrees}
+use Rattle.model.specs.History.{History}
+use Rattle.model.specs.Model.{freshRecord, Does}
+use Rattle.reference.specs.Undisturbed.{advances, finishedAfter, referenceAt, Undisturbed, OutcomeHas}
+use Rattle.reference.specs.Undisturbed.{EveryOutcome, OnlyOutcome}
+use Rattle.model.proofs.Facts.{Layers}
+use Rattle.reference.proofs.StartSimulation.{some-part}
+use Rattle.model.proofs.ModelLaws.{start-list}
+use Rattle.reference.proofs.Demand3Theorem.{demand-3}
+use Rattle.model.proofs.Refinement.{Refines, refines}
+use Rattle.reference.proofs.Ceilings.{Few, ready-count, question-links}
+use Rattle.reference.proofs.UndisturbedLaws.{going, UndisturbedFrom, agrees-split, undisturbed}
+use Rattle.reference.proofs.OrderLaws.{length-order, parts-order, fresh-order}
+
+abbrev pub question : Inputs → List ℕ → List ℕ → Question
+question x vs bs = record { nodes = vs; labels = bs; inputs = x; count = 0; settlement = clean; results = [] }
+
+-- n is what Start told, ys are the answers of the calls after it
+pub record CleanOutcomes (x : Inputs) (vs bs : List ℕ) (n : ℕ) (ys : List Answer) : Type 0 where
+  -- Start tells the size of the ready set
+  pub parts-are : n ≡ partCount (question x vs bs)
+  -- at most 4 m - 2 parts for m changes, 1 for none
+  pub few : Few (length vs) n
+  -- finished by exactly as many accepted advances as there are parts
+  pub exact : (m : ℕ) → finishedAfter ys ≡ some m → m ≡ n
+  pub unfinished : finishedAfter ys ≡ none → advances ys < n
+  pub most : advances ys ≤ n
+  -- Read tells the fresh run's state and yes or no, the parts, and the moves of their climbs
+  pub only : OnlyOutcome (freshAnswer (question x vs bs)) ys
+  -- at most three links for each binary digit of the plan's height, for each part told
+  pub links : EveryOutcome (λ o. o .links ≤ o .parts * (3 * digits (height (planTree (x .plan))))) ys
+
+-- the same for any form of the calls: cs and xs are the calls and answers before the Start, ds and ys those after it
+abbrev pub QuestionsAnswered : {Record : Type 0} → Record → (Record → Call → Answer → Record → Type 0) → Type 0
+QuestionsAnswered fresh Step = (cs : List Call) (xs : List Answer) (x : Inputs) (vs bs : List ℕ) (n : ℕ) (ds : List Call) (ys : List Answer)
+    → length cs ≡ length xs → History Step fresh (cs ++ (start x vs bs ∷ ds)) (xs ++ (parts n ∷ ys))
+    → sound (referenceAt newReference cs xs .sizes) x ≡ true → Undisturbed (referenceAt newReference cs xs .sizes) x ds ys
+    → CleanOutcomes x vs bs n ys
+
+-- ---- the Start
+
+module _ (z : Sizes) (s : State) (x : Inputs) (vs bs : List ℕ) (n : ℕ) (sounds : sound z x ≡ true) where
+  abbrev b : Reference
+  b = record { state = s; sizes = z }
+
+  begins-clean : settlementOf z x ≡ clean
+  unfolding settlementOf
+  begins-clean = rw sounds
+
+  parts-in : (m : ℕ) → parts n ≡ parts m → n ≡ m
+  parts-in m e = cc
+
+  abbrev opened : Settlement → Question
+  opened k = record { nodes = vs; labels = bs; inputs = x; count = 0; settlement = k; results = [] }
+
+  -- n is the number of parts, and the question runs
+  abbrev Begins : Reply → Type 0
+  Begins r = Conforms r (parts n)
+      → (n ≡ partCount (question x vs bs)) × (after r (parts n) ≡ going z (question x vs bs) 0 [])
+
+  begins-at : Begins (starting b (opened (settlementOf z x)) (settlementOf z x))
+  unfolding starting inState
+  begins-at =
+      subst (λ (k : Settlement). Begins (starting b (opened k) k)) (sym begins-clean)
+      (λ e. (parts-in (partCount (question x vs bs)) e, refl))
+
+  begun : Begins (step b (start x vs bs))
+  unfolding step decided proceed asked
+  begun = go (refusal (stage (phase s) z) (start x vs bs))
+    where
+      go : (m : ℕ) → Begins (decided m b (start x vs bs))
+      go zero e = begins-at e
+      go (suc m) e = absurd (true-false (sym (ap isRefused e)))
+
+  listed : Conforms (step b (start x vs bs)) (parts n) → firstNo (listChecks (z .n) (z .k) vs bs) ≡ 0
+  unfolding step decided
+  listed e = start-list (stage (phase s) z) x vs bs (go (refusal (stage (phase s) z) (start x vs bs)) e)
+    where
+      go : (m : ℕ) → Conforms (decided m b (start x vs bs)) (parts n) → m ≡ 0
+      go zero e = refl
+      go (suc m) e = absurd (true-false (sym (ap isRefused e)))
+
+-- ---- what Reads tell
+
+linksIn : Answer → ℕ
+linksIn a = onOutcome (λ o. o .links) 0 a
+
+partsIn : Answer → ℕ
+partsIn a = onOutcome (λ o. o .parts) 0 a
+
+few-links : (d : ℕ) (a : Answer) → linksIn a ≤ partsIn a * d → (ys : List Answer) → OnlyOutcome a ys
+    → EveryOutcome (λ o. o .links ≤ o .parts * d) ys
+unfolding linksIn partsIn
+few-links d a h [] o = tt
+few-links d a h (y ∷ ys) o = (one y (o .0), few-links d a h ys (o .1))
+  where
+    one : (y : Answer) → OutcomeHas (λ r. outcome r ≡ a) y → OutcomeHas (λ r. r .links ≤ r .parts * d) y
+    one (refused n) e = tt
+    one Answer.accepted e = tt
+    one (parts p) e = tt
+    one more e = tt
+    one finished e = tt
+    one (outcome r) e = subst (λ (c : Answer). linksIn c ≤ partsIn c * d) (sym e) h
+
+fresh-few : (q : Question) → linksIn (freshAnswer q) ≤ partsIn
+    (freshAnswer q) * (3 * digits (height (planTree (q .inputs .plan))))
+unfolding linksIn partsIn freshAnswer
+fresh-few q = question-links (planTree (q .inputs .plan)) (q .nodes)
+
+-- ---- the statements
+
+module _ (L : Layers) (cs : List Call) (xs : List Answer) (x : Inputs) (vs bs : List ℕ) (n : ℕ) (ds : List Call)
+    (ys : List Answer) where
+  -- the N, S and K of the last accepted Load before this Start
+  abbrev pub sizesBefore : Sizes
+  sizesBefore = referenceAt newReference cs xs .sizes
+
+  pub question-answered : length cs ≡ length xs
+      → History Does freshRecord (cs ++ (start x vs bs ∷ ds)) (xs ++ (parts n ∷ ys))
+      → sound sizesBefore x ≡ true → Undisturbed sizesBefore x ds ys → CleanOutcomes x vs bs n ys
+  unfolding sound
+  question-answered same h sounds alone =
+      let A = agrees-split newReference cs (start x vs bs ∷ ds) xs (parts n ∷ ys) same (demand-3 L _ _ h) in
+      let B = begun sizesBefore (referenceAt newReference cs xs .state) x vs bs n sounds (A .0) in
+      let l = listed sizesBefore (referenceAt newReference cs xs .state) x vs bs n sounds (A .0) in
+      let built : nodeTableBuilt sizesBefore x ≡ true =
+      and-left (nodeTableBuilt sizesBefore x) (stateTableBuilt sizesBefore x) sounds in
+      let K : UndisturbedFrom (question x vs bs) 0 ys =
+      undisturbed sizesBefore (question x vs bs) 0 [] (some-part (question x vs bs)) ds ys
+      (subst (λ (b : Reference). Agrees b ds ys) (B .1) (A .1)) alone in
+      record {
+        parts-are = B .0;
+        few = subst (Few (length vs)) (sym (B .0))
+            (ready-count L sizesBefore x vs built (list-passes _ _ vs bs l .nodes-below));
+        exact = λ m e. omega (arith, K .exact m e, B .0);
+        unfinished = λ e. omega (arith, K .unfinished e, B .0);
+        most = omega (arith, K .most, B .0);
+        only = K .only;
+        links = few-links (3 * digits (height (planTree (x .plan)))) (freshAnswer (question x vs bs))
+            (fresh-few (question x vs bs)) ys (K .only);
+      }
+
+-- "whatever the order of the list": where no node is listed twice, what is told of one order is what is told of another
+pub outcome-order : (x : Inputs) (vs bs ws cs : List ℕ) → length vs ≡ length bs → length ws ≡ length cs
+    → List·Permᴰ (zip vs bs) (zip ws cs)
+    → distinct vs ≡ true → (n : ℕ) (ys : List Answer) → CleanOutcomes x vs bs n ys → CleanOutcomes x ws cs n ys
+outcome-order x vs bs ws cs g h d u n ys T = record {
+  parts-are = T .parts-are ∙ parts-order vs bs ws cs g h d (question x vs bs) (question x ws cs) refl refl refl refl
+      refl;
+  few = subst (λ (m : ℕ). Few m n) (length-order vs bs ws cs g h d) (T .few);
+  exact = T .exact;
+  unfinished = T .unfinished;
+  most = T .most;
+  only =
+      subst (λ (a : Answer). OnlyOutcome a ys)
+      (fresh-order vs bs ws cs g h d (question x vs bs) (question x ws cs) refl refl refl refl refl u) (T .only);
+  links = T .links;
+}
+
+-- it passes on to every form of the calls that refines this one
+module _ {A B : Type 0} (StepA : A → Call → Answer → A → Type 0) (StepB : B → Call → Answer → B → Type 0) (Seen : A → B → Type 0) where
+  pub questions-of : Refines StepA StepB Seen → (a : A) (b : B) → Seen a b → QuestionsAnswered b StepB → QuestionsAnswered a StepA
+  questions-of f a b i q cs xs x vs bs n ds ys l h = q cs xs x vs bs n ds ys l (refines StepA StepB Seen f a b _ _ i h)

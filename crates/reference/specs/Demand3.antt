@@ -1,0 +1,31 @@
+-- Demand 3: one statement about every list of calls.
+--
+-- Conforms r a == answer a against the reference model's reply r; after r a == the reference model then
+-- Agrees b cs xs == the whole list of answers xs to the calls cs against the reference model b
+-- Demand3 fresh Step == every history from the fresh record agrees with the new reference model
+--
+-- The contracts come in as `Step`; the session puts its calls' very promises there (History: crate model).
+-- Assumes nothing.
+use mathlib.Core.Path.{_≡_}
+use mathlib.Core.Bool.{Bool, true}
+use mathlib.Core.List.{List, [], _∷_}
+use Rattle.model.specs.Calls.{Call, Answer}
+use Rattle.model.specs.History.{History}
+use Rattle.reference.specs.Reference.{Reference, Reply, settled, unsettled, newReference, step}
+
+abbrev pub Conforms : Reply → Answer → Type 0
+Conforms (settled a b) x = x ≡ a
+Conforms (unsettled ok f) x = ok x ≡ true
+
+abbrev pub after : Reply → Answer → Reference
+after (settled a b) x = b
+after (unsettled ok f) x = f x
+
+abbrev pub Agrees : Reference → List Call → List Answer → Type 0
+Agrees b [] [] = Unit {0}
+Agrees b [] (a ∷ xs) = ⊥
+Agrees b (c ∷ cs) [] = ⊥
+Agrees b (c ∷ cs) (a ∷ xs) = Conforms (step b c) a × Agrees (after (step b c) a) cs xs
+
+abbrev pub Demand3 : {Record : Type 0} → Record → (Record → Call → Answer → Record → Type 0) → Type 0
+Demand3 fresh Step = (cs : List Call) (xs : List Answer) → History Step fresh cs xs → Agrees newReference cs xs

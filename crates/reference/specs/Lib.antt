@@ -1,0 +1,5 @@
+pub mod Causes
+pub mod Reference
+pub mod Demand3
+pub mod Undisturbed
+pub mod AgreementTest

@@ -1,0 +1,50 @@
+-- What the type of a struct says of its arrays, and what the tests of a struct's parts ask.
+--
+-- Shaped s == the four arrays have the layout's lengths
+-- ListShaped vs bs, PartsShaped h rs qs == two arrays have these lengths; for parts also: the plan has a node, and no more
+--   parts are handled than there are
+-- loadedBy n s k, loadedFrom plan rules == the record after a first Load
+-- Headers plan rules == both headers are whole, and N, S and K are at most their limits
+--
+-- Assumes nothing.
+use Prim.Native.Nat.{ℕ, _≤_}
+use mathlib.Core.Path.{_≡_}
+use mathlib.Core.List.{List}
+use lib.ListN.{length}
+use Rattle.formats.specs.Plan.{nodeCount}
+use Rattle.formats.specs.Rules.{stateCount, labelCount}
+use Rattle.formats.specs.Inputs.{Inputs}
+use Rattle.model.specs.Model.{Record, loadedRecord}
+use Rattle.session.specs.declared.state.Head.{Head}
+use Rattle.session.specs.declared.state.Session.{Session}
+
+pub record Shaped (s : Session) : Type 0 where
+  pub nodes : length (s .nodes) ≡ 64
+  pub labels : length (s .labels) ≡ 64
+  pub roots : length (s .roots) ≡ 254
+  pub states : length (s .states) ≡ 254
+
+pub record ListShaped (vs bs : List ℕ) : Type 0 where
+  pub nodes : length vs ≡ 64
+  pub labels : length bs ≡ 64
+
+pub record PartsShaped (h : Head) (rs qs : List ℕ) : Type 0 where
+  pub roots : length rs ≡ 254
+  pub states : length qs ≡ 254
+  pub some-node : 1 ≤ h .sizes .n
+  pub counted : h .handled ≤ h .parts
+
+-- the record after a first Load of N, S and K, and of a plan and rules
+abbrev pub loadedBy : ℕ → ℕ → ℕ → Record
+loadedBy n s k = loadedRecord (record { n = n; s = s; k = k })
+
+abbrev pub loadedFrom : List ℕ → List ℕ → Record
+loadedFrom plan rules = loadedBy (nodeCount plan) (stateCount rules) (labelCount rules)
+
+-- both headers are whole, and N, S and K fit the record
+pub record Headers (plan rules : List ℕ) : Type 0 where
+  pub plan-head : 12 ≤ length plan
+  pub rules-head : 20 ≤ length rules
+  pub nodes-most : nodeCount plan ≤ 65535
+  pub states-most : stateCount rules ≤ 16
+  pub labels-most : labelCount rules ≤ 64

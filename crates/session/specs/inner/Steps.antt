@@ -1,0 +1,98 @@
+-- The structs that Start and advance make, field by field.
+--
+-- ListArgs vs bs == two lists of one length that fit the record
+-- startedOf z vs bs parts roots == a session of sizes z in running with this question and no part handled
+-- NextArgs s == the counts are within the arrays
+-- StepArgs h l == there is room for one more state, and the links fit
+-- marksIn s k rules == the accept marks by S and K; markedIn s k rules q == whether that of state q is 1; MarkArgs rules s k q == the
+--   rules' length is exact, and q is a state
+-- steppedHead h p l y == head h in state p with one more part handled, of l links, and the yes or no y
+-- stepBy h rules q l == the step of an advance where the part's state is q and its links are l; HandleArgs what it asks
+-- refusedStep h n == the step of a refusal
+-- stepOn s t == the record that step t makes of s
+-- StepFound s c t == the step is that of call c on struct s
+--
+-- Assumes nothing.
+use Prim.Native.Nat.{ℕ, _+_, _*_, _≤_, _<_}
+use mathlib.Core.Path.{_≡_}
+use mathlib.Core.Bool.{Bool, true, false, cond}
+use mathlib.Core.List.{List}
+use lib.Dec.{eqb}
+use lib.ListN.{length, getD, take, drop, replicate, set}
+use Rattle.formats.specs.Rules.{ruleLength}
+use Rattle.session.specs.declared.state.Phase.{Phase}
+use Rattle.session.specs.declared.state.Phase.the-variants.{Running, Answered}
+use Rattle.session.specs.declared.answers.AdvanceAnswer.the-variants.{More, Finished, Refused as NotAdvanced}
+use Rattle.session.specs.declared.answers.AdvanceStep.{AdvanceStep}
+use Rattle.session.specs.declared.state.Sizes.{Sizes}
+use Rattle.session.specs.declared.state.Head.{Head}
+use Rattle.session.specs.declared.state.Session.{Session}
+use Rattle.session.specs.Records.{whole, padded}
+use Rattle.model.specs.Calls.{Call}
+use Rattle.session.specs.Answers.{advanceAnswer}
+use Rattle.session.specs.Promises.{CallDone}
+
+pub record ListArgs (vs bs : List ℕ) : Type 0 where
+  pub few : length vs ≤ 64
+  pub few-labels : length bs ≤ 64
+
+abbrev pub startedOf : Sizes → List ℕ → List ℕ → ℕ → List ℕ → Session
+startedOf z vs bs parts roots =
+    whole (record { phase = Running; yes = false; sizes = z; m = length vs; parts = parts; handled = 0; links = 0 })
+    (padded 64 vs) (padded 64 bs) roots (replicate 254 0)
+
+pub record NextArgs (s : Session) : Type 0 where
+  pub few : s .head .m ≤ length (s .nodes)
+  pub few-labels : s .head .m ≤ length (s .labels)
+  pub few-parts : s .head .parts ≤ length (s .roots)
+  pub few-handled : s .head .handled ≤ length (s .states)
+
+pub record StepArgs (h : Head) (l : ℕ) : Type 0 where
+  pub room : h .handled < 254
+  pub links-fit : h .links + l ≤ 16645890
+
+pub record MarkArgs (rules : List ℕ) (s k q : ℕ) : Type 0 where
+  pub exact : length rules ≡ ruleLength s k
+  pub states-most : s ≤ 16
+  pub labels-most : k ≤ 64
+  pub state : q < s
+
+abbrev pub marksIn : ℕ → ℕ → List ℕ → List ℕ
+marksIn s k rules = take s (drop (20 + k + s * k * s) rules)
+
+abbrev pub markedIn : ℕ → ℕ → List ℕ → ℕ → Bool
+markedIn s k rules q = eqb (getD (marksIn s k rules) q 0) 1
+
+pub record HandleArgs (h : Head) (rules : List ℕ) (q l : ℕ) : Type 0 where
+  pub marks : MarkArgs rules (h .sizes .s) (h .sizes .k) q
+  pub step : StepArgs h l
+
+abbrev pub steppedHead : Head → Phase → ℕ → Bool → Head
+steppedHead h p l y = record {
+  phase = p;
+  yes = y;
+  sizes = h .sizes;
+  m = h .m;
+  parts = h .parts;
+  handled = h .handled + 1;
+  links = h .links + l;
+}
+
+unfoldable pub stepBy : Head → List ℕ → ℕ → ℕ → AdvanceStep
+stepBy h rules q l =
+    cond (eqb (h .handled + 1) (h .parts))
+    (record { answer = Finished; head = steppedHead h Answered l (markedIn (h .sizes .s) (h .sizes .k) rules q); stored = true; state = q })
+    (record { answer = More; head = steppedHead h Running l false; stored = true; state = q })
+
+abbrev pub refusedStep : Head → ℕ → AdvanceStep
+refusedStep h n = record { answer = NotAdvanced n; head = h; stored = false; state = 0 }
+
+abbrev pub stepOn : Session → AdvanceStep → Session
+stepOn s t =
+    whole (t .head) (s .nodes) (s .labels) (s .roots)
+    (cond (t .stored) (set (s .states) (s .head .handled) (t .state)) (s .states))
+
+-- the step is that of the call, and there is room for its state
+pub record StepFound (s : Session) (c : Call) (t : AdvanceStep) : Type 0 where
+  pub done : CallDone s c (advanceAnswer (t .answer)) (stepOn s t)
+  pub room : t .stored ≡ true → s .head .handled < 254

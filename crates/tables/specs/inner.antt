@@ -1,0 +1,11 @@
+pub mod Compare
+pub mod Compared
+pub mod LocalTables
+pub mod MapTable
+pub mod Maps
+pub mod PathViews
+pub mod Rows
+pub mod States
+pub mod Steps
+pub mod TableTests
+pub mod Written

@@ -1,0 +1,42 @@
+//! The program itself: its status, and that nothing is lost silently.
+
+use std::fs::File;
+use std::process::{Command, Output, Stdio};
+
+const SAMPLE: &str = concat!(env!("CARGO_MANIFEST_DIR"), "/../../examples/sample.txt");
+
+fn program(words: &[&str], input: &str, output: Stdio) -> Output {
+    let mut program = Command::new(env!("CARGO_BIN_EXE_whatif-text"));
+    program.args(words).stdin(File::open(input).expect(input)).stdout(output).stderr(Stdio::piped());
+    program.output().expect("it starts")
+}
+
+fn status(words: &[&str], input: &str) -> Option<i32> {
+    program(words, input, Stdio::piped()).status.code()
+}
+
+/// An output that can't be written is an error, short or long, for every word that writes.
+#[test]
+fn a_full_disk() {
+    let full = || Stdio::from(File::options().write(true).open("/dev/full").expect("/dev/full"));
+    for words in [&["write"][..], &["dot", "1"], &["--help"], &["--version"]] {
+        let done = program(words, SAMPLE, full());
+        assert_eq!(done.status.code(), Some(1), "{:?}", words);
+        assert!(String::from_utf8_lossy(&done.stderr).starts_with("whatif-text: "), "{:?}", words);
+    }
+}
+
+#[test]
+fn statuses() {
+    assert_eq!(status(&["write"], SAMPLE), Some(0));
+    assert_eq!(status(&["show"], SAMPLE), Some(1));
+    assert_eq!(status(&["dot", "99"], SAMPLE), Some(1));
+    assert_eq!(status(&["draw"], SAMPLE), Some(2));
+}
+
+#[test]
+fn help_and_version() {
+    let said = |words| String::from_utf8(program(words, "/dev/null", Stdio::piped()).stdout).expect("text");
+    assert!(said(&["--help"]).starts_with("usage: whatif-text write"));
+    assert_eq!(said(&["--version"]), concat!("whatif-text ", env!("CARGO_PKG_VERSION"), "\n"));
+}

@@ -1,0 +1,154 @@
+//! The library's functions as include/whatif.h declares them; its comments say what each is lent, writes and answers, and
+//! what a caller must see to. A slice is a pointer, then its count of elements. The gate holds this file to the header and
+//! to the library's source; nothing else checks it. The crate `whatif` has safe functions over these.
+#![no_std]
+#![deny(missing_docs, unsafe_op_in_unsafe_fn)]
+
+extern "C" {
+    /// The archive's version, as major * 10000 + minor * 100 + patch.
+    pub fn whatif_version() -> u32;
+
+    /// Writes the tables of a plan and a rule table.
+    pub fn whatif_build(
+        plan: *const u8,
+        plan_len: usize,
+        rules: *const u8,
+        rules_len: usize,
+        node_table: *mut u16,
+        node_table_len: usize,
+        state_table: *mut u8,
+        state_table_len: usize,
+    ) -> u32;
+
+    /// Are the tables what `whatif_build` writes?
+    pub fn whatif_check(
+        plan: *const u8,
+        plan_len: usize,
+        rules: *const u8,
+        rules_len: usize,
+        node_table: *const u16,
+        node_table_len: usize,
+        state_table: *const u8,
+        state_table_len: usize,
+        yes: *mut u32,
+    ) -> u32;
+
+    /// Runs the rule table over the changed plan, without tables.
+    pub fn whatif_fresh_run(
+        plan: *const u8,
+        plan_len: usize,
+        rules: *const u8,
+        rules_len: usize,
+        nodes: *const u16,
+        nodes_len: usize,
+        labels: *const u8,
+        labels_len: usize,
+        state: *mut u32,
+        yes: *mut u32,
+    ) -> u32;
+
+    /// Writes the tables of a plan and a branch table.
+    pub fn whatif_branch_build(
+        plan: *const u8,
+        plan_len: usize,
+        branch: *const u8,
+        branch_len: usize,
+        node_table: *mut u16,
+        node_table_len: usize,
+        state_table: *mut u8,
+        state_table_len: usize,
+    ) -> u32;
+
+    /// Are the tables what `whatif_branch_build` writes?
+    pub fn whatif_branch_check(
+        plan: *const u8,
+        plan_len: usize,
+        branch: *const u8,
+        branch_len: usize,
+        node_table: *const u16,
+        node_table_len: usize,
+        state_table: *const u8,
+        state_table_len: usize,
+        yes: *mut u32,
+    ) -> u32;
+
+    /// The branch question from `upper` down to `lower`.
+    pub fn whatif_branch(
+        plan: *const u8,
+        plan_len: usize,
+        branch: *const u8,
+        branch_len: usize,
+        node_table: *const u16,
+        node_table_len: usize,
+        state_table: *const u8,
+        state_table_len: usize,
+        upper: u32,
+        lower: u32,
+        state: *mut u32,
+        yes: *mut u32,
+        links: *mut u32,
+    ) -> u32;
+}
+
+extern "C" {
+    /// Load: begins with a plan, and writes its tables.
+    pub fn whatif_load(
+        record: *mut u8,
+        record_len: usize,
+        plan: *const u8,
+        plan_len: usize,
+        rules: *const u8,
+        rules_len: usize,
+        node_table: *mut u16,
+        node_table_len: usize,
+        state_table: *mut u8,
+        state_table_len: usize,
+    ) -> u32;
+
+    /// Start: puts a question.
+    pub fn whatif_start(
+        record: *mut u8,
+        record_len: usize,
+        plan: *const u8,
+        plan_len: usize,
+        rules: *const u8,
+        rules_len: usize,
+        node_table: *const u16,
+        node_table_len: usize,
+        state_table: *const u8,
+        state_table_len: usize,
+        nodes: *const u16,
+        nodes_len: usize,
+        labels: *const u8,
+        labels_len: usize,
+        parts: *mut u32,
+    ) -> u32;
+
+    /// Advance: handles the next part of the question.
+    pub fn whatif_advance(
+        record: *mut u8,
+        record_len: usize,
+        plan: *const u8,
+        plan_len: usize,
+        rules: *const u8,
+        rules_len: usize,
+        node_table: *const u16,
+        node_table_len: usize,
+        state_table: *const u8,
+        state_table_len: usize,
+        finished: *mut u32,
+    ) -> u32;
+
+    /// Cancel: drops the question.
+    pub fn whatif_cancel(record: *mut u8, record_len: usize) -> u32;
+
+    /// Read: tells the answer.
+    pub fn whatif_read(
+        record: *const u8,
+        record_len: usize,
+        state: *mut u32,
+        yes: *mut u32,
+        parts: *mut u32,
+        links: *mut u32,
+    ) -> u32;
+}

@@ -1,0 +1,205 @@
+//! Build and full check of branch tables, and the branch question.
+
+use crate::checks::{self, number, Branch, Plan};
+use crate::node_tables::{self, DEPTH, JUMP, PARENT, SIZE};
+
+pub fn branch_build(plan: &[u8], branch: &[u8], node_table: &mut [u16], state_table: &mut [u8]) -> Result<(), u32> {
+    let plan = checks::plan(plan)?;
+    let branch = checks::branch(branch)?;
+    checks::labels(&plan, branch.k)?;
+    checks::buffers(plan.n, branch.s, node_table.len(), state_table.len())?;
+    let row = branch.s + 1;
+    let (node_table, state_table) = (&mut node_table[..4 * plan.n], &mut state_table[..row * plan.n]);
+    up(&plan, node_table);
+    let root = plan.n - 1;
+    node_table[4 * root..4 * root + 3].copy_from_slice(&node_tables::root(plan.n));
+    state_table[row * root] = branch.steps[plan.labels[root] as usize];
+    for q in 0..branch.s {
+        state_table[row * root + 1 + q] = q as u8;
+    }
+    down(&plan, &branch, node_table, state_table);
+    Ok(())
+}
+
+fn up(plan: &Plan, node_table: &mut [u16]) {
+    for v in 0..plan.n {
+        if plan.kinds[v] == 0 {
+            node_table[4 * v + SIZE] = 1;
+        } else {
+            let (l, r) = node_tables::children(node_table, v);
+            node_table[4 * v + SIZE] = 1 + node_table[4 * l + SIZE] + node_table[4 * r + SIZE];
+            node_table[4 * l + PARENT] = v as u16;
+            node_table[4 * r + PARENT] = v as u16;
+        }
+    }
+}
+
+fn down(plan: &Plan, branch: &Branch, node_table: &mut [u16], state_table: &mut [u8]) {
+    let row = branch.s + 1;
+    for v in (0..plan.n - 1).rev() {
+        let p = node_table[4 * v + PARENT] as usize;
+        let jump = node_tables::jump(node_table, p);
+        node_table[4 * v + JUMP] = jump.to;
+        node_table[4 * v + DEPTH] = jump.depth;
+        let steps = &branch.steps[plan.labels[v] as usize..];
+        let (low, high) = state_table.split_at_mut(row * p);
+        low[row * v] = steps[high[0] as usize * branch.k];
+        let map = &mut low[row * v + 1..row * v + row];
+        match jump.over {
+            // from the top down: the map of p's jump, then p's, then the step
+            Some(j) => {
+                let (of_p, of_j) = (&high[1..row], &high[row * (j - p) + 1..row * (j - p) + row]);
+                for (to, &at_j) in map.iter_mut().zip(of_j) {
+                    *to = steps[of_p[at_j as usize] as usize * branch.k];
+                }
+            }
+            None => {
+                for (q, to) in map.iter_mut().enumerate() {
+                    *to = steps[q * branch.k];
+                }
+            }
+        }
+    }
+}
+
+pub fn branch_check(plan: &[u8], branch: &[u8], node_table: &[u16], state_table: &[u8]) -> Result<bool, u32> {
+    let plan = checks::plan(plan)?;
+    let branch = checks::branch(branch)?;
+    checks::labels(&plan, branch.k)?;
+    checks::buffers(plan.n, branch.s, node_table.len(), state_table.len())?;
+    let row = branch.s + 1;
+    let (node_table, state_table) = (&node_table[..4 * plan.n], &state_table[..row * plan.n]);
+    Ok(checked_up(&plan, node_table) && checked_down(&plan, &branch, node_table, state_table))
+}
+
+fn checked_up(plan: &Plan, node_table: &[u16]) -> bool {
+    for v in 0..plan.n {
+        let mut size = 1;
+        if plan.kinds[v] != 0 {
+            let (l, r) = node_tables::children(node_table, v);
+            if node_table[4 * l + PARENT] as usize != v || node_table[4 * r + PARENT] as usize != v {
+                return false;
+            }
+            size += node_table[4 * l + SIZE] + node_table[4 * r + SIZE];
+        }
+        if node_table[4 * v + SIZE] != size {
+            return false;
+        }
+    }
+    true
+}
+
+fn checked_down(plan: &Plan, branch: &Branch, node_table: &[u16], state_table: &[u8]) -> bool {
+    let row = branch.s + 1;
+    let root = plan.n - 1;
+    if node_table[4 * root..4 * root + 3] != node_tables::root(plan.n)
+        || state_table[row * root] != branch.steps[plan.labels[root] as usize]
+        || (0..branch.s).any(|q| state_table[row * root + 1 + q] != q as u8)
+    {
+        return false;
+    }
+    for v in (0..root).rev() {
+        let p = node_table[4 * v + PARENT] as usize;
+        let jump = node_tables::jump(node_table, p);
+        let state = branch.steps[state_table[row * p] as usize * branch.k + plan.labels[v] as usize];
+        if node_table[4 * v + JUMP] != jump.to
+            || node_table[4 * v + DEPTH] != jump.depth
+            || state_table[row * v] != state
+        {
+            return false;
+        }
+        let steps = &branch.steps[plan.labels[v] as usize..];
+        let map = &state_table[row * v + 1..row * v + row];
+        let same = match jump.over {
+            Some(j) => {
+                let (of_p, of_j) = (&state_table[row * p + 1..row * p + row], &state_table[row * j + 1..row * j + row]);
+                map.iter().zip(of_j).all(|(to, &at_j)| *to == steps[of_p[at_j as usize] as usize * branch.k])
+            }
+            None => map.iter().enumerate().all(|(q, to)| *to == steps[q * branch.k]),
+        };
+        if !same {
+            return false;
+        }
+    }
+    true
+}
+
+#[derive(Clone, Copy, Debug, PartialEq, Eq)]
+pub struct Told {
+    pub state: u8,
+    pub yes: bool,
+    pub links: u32,
+}
+
+/// 17: the parts of the lent bytes by the headers' N, S and K.
+fn lent<'a>(plan: &'a [u8], branch: &'a [u8], node_table: usize, state_table: usize) -> Option<(&'a [u8], Branch<'a>)> {
+    if plan.len() < 12 || branch.len() < 16 {
+        return None;
+    }
+    let (n, s, k) = (number(plan, 0), number(branch, 0), number(branch, 4));
+    if !(1..=65_535).contains(&n) || !(1..=16).contains(&s) || !(1..=64).contains(&k) {
+        return None;
+    }
+    if plan.len() != 12 + 2 * n || branch.len() != 16 + s * k + s || node_table < 4 * n || state_table < (s + 1) * n {
+        return None;
+    }
+    let (steps, marks) = branch[16..].split_at(s * k);
+    Some((&plan[12..12 + n], Branch { s, k, steps, marks }))
+}
+
+/// The branch question. The map carried goes from the node climbed to down to `lower`; each move is put before it.
+pub fn ask(
+    plan: &[u8],
+    branch: &[u8],
+    node_table: &[u16],
+    state_table: &[u8],
+    upper: u32,
+    lower: u32,
+) -> Result<Told, u32> {
+    let (labels, branch) = lent(plan, branch, node_table.len(), state_table.len()).ok_or(17u32)?;
+    let (n, s, k, row) = (labels.len(), branch.s, branch.k, branch.s + 1);
+    let (upper, lower) = (upper as usize, lower as usize);
+    if upper >= n || lower >= n {
+        return Err(13);
+    }
+    if lower > upper || upper >= lower + node_table[4 * upper + SIZE] as usize {
+        return Err(16);
+    }
+    let depth = |v: usize| node_table[4 * v + DEPTH];
+    let top = depth(upper);
+    let mut carried: [u8; 16] = std::array::from_fn(|q| q as u8);
+    let (mut v, mut links) = (lower, 0);
+    while depth(v) > top {
+        let jump = node_table[4 * v + JUMP] as usize;
+        if jump >= n {
+            return Err(18);
+        }
+        let by_jump = depth(jump) >= top;
+        let next = if by_jump { jump } else { node_table[4 * v + PARENT] as usize };
+        if next >= n || depth(next) >= depth(v) {
+            return Err(18);
+        }
+        let before = carried;
+        if by_jump {
+            for (to, &q) in carried[..s].iter_mut().zip(&state_table[row * v + 1..row * v + row]) {
+                *to = *before[..s].get(q as usize).ok_or(18u32)?;
+            }
+        } else {
+            let a = labels[v] as usize;
+            if a >= k {
+                return Err(18);
+            }
+            for (q, to) in carried[..s].iter_mut().enumerate() {
+                *to = *before[..s].get(branch.steps[q * k + a] as usize).ok_or(18u32)?;
+            }
+        }
+        v = next;
+        links += 1;
+    }
+    let a = labels[upper] as usize;
+    if a >= k {
+        return Err(18);
+    }
+    let state = *carried[..s].get(branch.steps[a] as usize).ok_or(18u32)?;
+    Ok(Told { state, yes: branch.marks[state as usize] == 1, links })
+}
