@@ -15,6 +15,8 @@ static int without_a_session() {
             return 1;
     if (whatif_branch(NULL, 0, NULL, 0, NULL, 0, NULL, 0, 0, 0, &state, &yes, &links) != WHATIF_REFUSED_LENT_LENGTH)
         return 2;
+    if (whatif_merge(NULL, 0, NULL, 0, NULL, 0) != WHATIF_REFUSED_TABLE_SHORT)
+        return 8;
     return yes == 9 && state == 9 && links == 9 ? 0 : 3;
 }
 
@@ -37,7 +39,7 @@ static int with_a_session() {
 int main() {
     if (whatif_version() != WHATIF_VERSION_NUMBER || whatif_session_state(NULL, 0) != WHATIF_NO_STATE)
         return 7;
-    for (uint32_t answer = 0; answer <= 19; answer++)
+    for (uint32_t answer = 0; answer <= 28; answer++)
         if (!*whatif_answer_text(answer))
             return 6;
     int failed = without_a_session();

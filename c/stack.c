@@ -20,6 +20,7 @@ static uint8_t plan[WHATIF_PLAN_BYTES(N)], record[WHATIF_RECORD_BYTES];
 static uint8_t rules[WHATIF_RULES_BYTES(STATES, LABELS)], branch[WHATIF_BRANCH_BYTES(STATES, LABELS)];
 static uint16_t node_table[WHATIF_NODE_TABLE_LEN(N)], nodes[WHATIF_MAX_CHANGES];
 static uint8_t state_table[WHATIF_STATE_TABLE_LEN(N, STATES)], labels[WHATIF_MAX_CHANGES];
+static uint8_t four[WHATIF_RULES_BYTES(4, LABELS)], merged[WHATIF_RULES_BYTES(STATES, LABELS)];
 static uint32_t answer, out[4];
 static _Alignas(64) uint8_t stack[ROOM];
 
@@ -28,6 +29,7 @@ static _Alignas(64) uint8_t stack[ROOM];
 #define TABLES node_table, WHATIF_NODE_TABLE_LEN(N), state_table, sizeof state_table
 #define LIST nodes, WHATIF_MAX_CHANGES, labels, WHATIF_MAX_CHANGES
 #define RECORD record, sizeof record
+#define FOUR four, sizeof four
 
 static void nothing(void) { answer = 0; }
 static void build(void) { answer = whatif_build(RULES, TABLES); }
@@ -36,6 +38,7 @@ static void fresh_run(void) { answer = whatif_fresh_run(RULES, LIST, out, out + 
 static void branch_build(void) { answer = whatif_branch_build(BRANCH, TABLES); }
 static void branch_check(void) { answer = whatif_branch_check(BRANCH, TABLES, out); }
 static void ask(void) { answer = whatif_branch(BRANCH, TABLES, N - 1, 1, out, out + 1, out + 2); }
+static void merge(void) { answer = whatif_merge(FOUR, FOUR, merged, sizeof merged); }
 static void load(void) { answer = whatif_load(RECORD, RULES, TABLES); }
 static void start(void) { answer = whatif_start(RECORD, RULES, TABLES, LIST, out); }
 static void cancel(void) { answer = whatif_cancel(RECORD); }
@@ -64,6 +67,7 @@ static const struct call {
     {"branch build", branch_build, 1024},
     {"branch check", branch_check, 1024},
     {"branch question", ask, 1024},
+    {"merge", merge, 1024},
 };
 
 static void *run(void *make) {
@@ -106,6 +110,9 @@ static void make_inputs(int left) {
     header(rules, 5, (const size_t[]){STATES, LABELS, 20, inner, marks});
     for (size_t i = 20; i < marks; i++)
         rules[i] = (uint8_t)((i * i + i / 3) % STATES);
+    header(four, 5, (const size_t[]){4, LABELS, 20, inner, inner + 4 * LABELS * 4});
+    for (size_t i = 20; i < inner + 4 * LABELS * 4; i++)
+        four[i] = (uint8_t)((i * i + i / 3) % 4);
     header(branch, 4, (const size_t[]){STATES, LABELS, 16, branch_marks});
     for (size_t i = 16; i < branch_marks; i++)
         branch[i] = (uint8_t)((i * i + i / 5) % STATES);

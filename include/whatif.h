@@ -1,9 +1,9 @@
 /*
  * whatif.h: the what-if checker for C and C++.
  *
- * Order: version, limits, sizes, answers; the functions for tables and fresh runs, for branch questions, and of the
- * panel session; then what is written here alone: what a record tells, the session's calls with what is lent as one
- * struct, the answers' texts.
+ * Order: version, limits, sizes, answers; the functions for tables and fresh runs, for branch questions, for two rule
+ * tables, and of the panel session; then what is written here alone: what a record tells, the session's calls with what
+ * is lent as one struct, the answers' texts.
  * The bytes of plans, tables and records are in LAYOUT.md, the order of the checks of each call in REFUSALS.md: both
  * stand in docs/ of the sources, and beside this file where it is installed.
  *
@@ -89,7 +89,7 @@ enum whatif_answer {
     WHATIF_REFUSED_TABLE_ENTRY = 9,
     /* The plan has a label that the table does not have. */
     WHATIF_REFUSED_PLAN_LABEL = 10,
-    /* The node table or the state table is too short. */
+    /* The node table, the state table or an output buffer is too short. */
     WHATIF_REFUSED_BUFFER_SHORT = 11,
     /* The list has more than 64 changes, or not as many labels as nodes. */
     WHATIF_REFUSED_LIST_LENGTH = 12,
@@ -104,7 +104,11 @@ enum whatif_answer {
     /* What is lent does not have the length that the counts of nodes, states and labels need. */
     WHATIF_REFUSED_LENT_LENGTH = 17,
     /* A value read leads outside the plan, the states or the labels, or a climb does not rise. */
-    WHATIF_REFUSED_LENT_VALUE = 18
+    WHATIF_REFUSED_LENT_VALUE = 18,
+    /* The two rule tables do not have the same count of labels. */
+    WHATIF_REFUSED_LABEL_COUNTS = 23,
+    /* The product of the two rule tables' counts of states is above 16. */
+    WHATIF_REFUSED_STATE_PRODUCT = 24
 };
 
 /* The archive's version, as WHATIF_VERSION_NUMBER is this header's. It is always answered; there is no refusal. */
@@ -182,6 +186,19 @@ uint32_t whatif_branch(const uint8_t *plan, size_t plan_len, const uint8_t *bran
                        const uint16_t *node_table, size_t node_table_len, const uint8_t *state_table,
                        size_t state_table_len, uint32_t upper, uint32_t lower, uint32_t *state, uint32_t *yes,
                        uint32_t *links);
+
+/*
+ * Merge: writes one rule table that clears exactly the plans that both clear. State p of the first table and q of the
+ * second become p * S2 + q, S2 being the second's count of states: on every plan, at every node, the merged table's
+ * state is that pair of the two tables' states. A state is marked where both of its states are.
+ * Lent:    both rule tables, read; merged, written. The same table may be lent twice.
+ * Written: the first WHATIF_RULES_BYTES(S1 * S2, K) bytes of merged: a rule table, which passes 6 to 9. The rest of a
+ *          longer buffer is untouched.
+ * Answers: WHATIF_ACCEPTED, or the first of 6, 7, 8, 9, 6, 7, 8, 9, 23, 24, 11: 6 to 9 are put to the first table, then
+ *          to the second. Refused, merged is as it was.
+ */
+uint32_t whatif_merge(const uint8_t *first, size_t first_len, const uint8_t *second, size_t second_len, uint8_t *merged,
+                      size_t merged_len);
 
 /*
  * The panel session. Its record, WHATIF_RECORD_BYTES bytes, belongs to the panel: it is all zero at first, passes from
@@ -343,7 +360,7 @@ static inline const char *whatif_answer_text(uint32_t answer) {
     case WHATIF_REFUSED_PLAN_LABEL:
         return "The plan has a label that the table does not have.";
     case WHATIF_REFUSED_BUFFER_SHORT:
-        return "The node table or the state table is too short.";
+        return "The node table, the state table or an output buffer is too short.";
     case WHATIF_REFUSED_LIST_LENGTH:
         return "The list has more than 64 changes, or not as many labels as nodes.";
     case WHATIF_REFUSED_NODE:
@@ -358,6 +375,10 @@ static inline const char *whatif_answer_text(uint32_t answer) {
         return "What is lent does not have the length that the counts of nodes, states and labels need.";
     case WHATIF_REFUSED_LENT_VALUE:
         return "A value read leads outside the plan, the states or the labels, or a climb does not rise.";
+    case WHATIF_REFUSED_LABEL_COUNTS:
+        return "The two rule tables do not have the same count of labels.";
+    case WHATIF_REFUSED_STATE_PRODUCT:
+        return "The product of the two rule tables' counts of states is above 16.";
     default:
         return "This is no answer of this version.";
     }

@@ -22,6 +22,7 @@ enum try {
     READ,
     QUESTION,
     PANEL,
+    MERGE,
     TRIES
 };
 
@@ -47,5 +48,8 @@ uint32_t try_read(struct input *in);
 uint32_t try_question(struct input *in);
 /* A list of calls from a fresh session on, with lent bytes altered between them; the last answer. walks.c */
 uint32_t try_panel(struct input *in);
+
+/* The call on two rule tables, and all three tables on a plan. rules.c */
+uint32_t try_merge(struct input *in);
 
 #endif

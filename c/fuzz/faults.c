@@ -10,11 +10,14 @@
 #define WRITTEN uint16_t *nodes, size_t nodes_len, uint8_t *states, size_t states_len
 #define READ const uint16_t *nodes, size_t nodes_len, const uint8_t *states, size_t states_len
 #define LIST const uint16_t *listed, size_t listed_len, const uint8_t *labels, size_t labels_len
+#define MERGED                                                                                                         \
+    const uint8_t *first, size_t first_len, const uint8_t *second, size_t second_len, uint8_t *merged, size_t merged_len
 #define ALL plan, plan_len, rules, rules_len, nodes, nodes_len, states, states_len
 
 uint32_t __real_whatif_build(PLAN_RULES, WRITTEN);
 uint32_t __real_whatif_check(PLAN_RULES, READ, uint32_t *yes);
 uint32_t __real_whatif_fresh_run(PLAN_RULES, LIST, uint32_t *state, uint32_t *yes);
+uint32_t __real_whatif_merge(MERGED);
 uint32_t __real_whatif_start(uint8_t *record, size_t record_len, PLAN_RULES, READ, LIST, uint32_t *parts);
 uint32_t __real_whatif_cancel(uint8_t *record, size_t record_len);
 uint32_t __real_whatif_read(const uint8_t *record, size_t record_len, uint32_t *state, uint32_t *yes, uint32_t *parts,
@@ -77,5 +80,16 @@ uint32_t __wrap_whatif_read(const uint8_t *record, size_t record_len, uint32_t *
     uint32_t answer = __real_whatif_read(record, record_len, state, yes, parts, links);
     if (laid(11) && answer == 0) /* yes to everything */
         *yes = 1;
+    return answer;
+}
+
+uint32_t __wrap_whatif_merge(MERGED) {
+    uint32_t answer = __real_whatif_merge(first, first_len, second, second_len, merged, merged_len);
+    if (laid(12) && answer != 0 && merged_len > 0) /* a refused merge writes */
+        merged[merged_len - 1]++;
+    if (laid(13) && answer == 0) /* one byte past the output */
+        merged[merged_len]++;
+    if (laid(14) && answer == 0) /* another state of a leaf */
+        merged[21] ^= 1;
     return answer;
 }

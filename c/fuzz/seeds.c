@@ -77,6 +77,7 @@ static const char *const folders[TRIES] = {
     [READ] = "read",
     [QUESTION] = "question",
     [PANEL] = "panel",
+    [MERGE] = "merge",
 };
 
 /* A file in the folder of its call. */
@@ -213,6 +214,24 @@ static void question(const struct plan *p, const struct question *list, const ch
     begin(QUESTION, p->name, which), put(BEFORE, 1), plan_and_rules(p), changes(list), end();
 }
 
+/* A plan's rules with themselves (4 states, or 16), with some excess; too short; with another K; with too many states. */
+static void merges(const struct plan *p, const struct plan *other) {
+    size_t len = WHATIF_RULES_BYTES(p->s * p->s, p->k);
+    begin(MERGE, p->name, ""), put(BEFORE, 1), bytes(PLAN(p)), bytes(RULES(p)), bytes(RULES(p));
+    put((uint32_t)len + 1, 2), end();
+    begin(MERGE, p->name, "-behind"), put(BEHIND, 1), bytes(PLAN(p)), bytes(RULES(p)), bytes(RULES(p));
+    put((uint32_t)len, 2), end();
+    begin(MERGE, p->name, "-11"), put(BEFORE, 1), bytes(PLAN(p)), bytes(RULES(p)), bytes(RULES(p));
+    put((uint32_t)len - 1, 2), end();
+    begin(MERGE, p->name, "-23"), put(BEFORE, 1), bytes(PLAN(p)), bytes(RULES(p)), bytes(RULES(other));
+    put((uint32_t)len, 2), end();
+    uint8_t five[WHATIF_RULES_BYTES(5, K)] = {5, 0, 0, 0, (uint8_t)p->k, 0, 0, 0, 20};
+    size_t inner = 20 + p->k, marks = inner + 5 * p->k * 5, five_len = marks + 5;
+    five[12] = (uint8_t)inner, five[16] = (uint8_t)marks;
+    begin(MERGE, p->name, "-24"), put(BEFORE, 1), bytes(PLAN(p)), bytes(five, five_len), bytes(five, five_len);
+    put((uint32_t)len, 2), end();
+}
+
 int main(int argc, char **argv) {
     must(argc == 2);
     folder = argv[1];
@@ -224,6 +243,7 @@ int main(int argc, char **argv) {
     fill_b();
     on_tables(&sample), on_records(&sample, &questions[1]), panel(&sample, &questions[3]);
     refused_starts();
+    merges(&sample, &comb), merges(&comb, &sample);
     on_tables(&comb), on_records(&comb, &far), panel(&comb, &far), question(&comb, &far, "");
     for (size_t i = 0; i < QUESTIONS; i++) {
         char which[] = {'-', (char)('1' + i), 0};

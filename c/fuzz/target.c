@@ -34,21 +34,23 @@ static const struct {
     [READ] = {"whatif_read", try_read, FROM(0, 1)},
     [QUESTION] = {"a question", try_question, 1u | FROM(2, 15)},
     [PANEL] = {"a list of calls", try_panel, FROM(0, 15) | FROM(17, 18)},
+    [MERGE] = {"whatif_merge", try_merge, 1u | FROM(6, 9) | FROM(11, 11) | FROM(23, 24)},
 };
 
-static size_t given[TRIES][19];
-__attribute__((section("__libfuzzer_extra_counters"))) static uint8_t counters[TRIES][19][16];
+#define MOST 27 /* the greatest number of a refusal */
+static size_t given[TRIES][MOST + 1];
+__attribute__((section("__libfuzzer_extra_counters"))) static uint8_t counters[TRIES][MOST + 1][16];
 
 /* How often each call was accepted, and the refusals that it gave. */
 static void print_given(void) {
     for (size_t i = 0; i < TRIES; i++) {
         size_t refused = 0;
-        for (uint32_t number = 1; number <= 18; number++)
+        for (uint32_t number = 1; number <= MOST; number++)
             refused += given[i][number];
         if (given[i][0] + refused == 0)
             continue;
         printf("fuzz: %s: %zu accepted, %zu refused with", tries[i].name, given[i][0], refused);
-        for (uint32_t number = 1; number <= 18; number++)
+        for (uint32_t number = 1; number <= MOST; number++)
             if (given[i][number])
                 printf(" %u", number);
         printf("\n");
@@ -95,7 +97,7 @@ int LLVMFuzzerTestOneInput(const uint8_t *data, size_t size) {
     size_t at = take(&in, 1) % TRIES;
     give_back(take(&in, 1) & 1);
     uint32_t answer = tries[at].call(&in);
-    sure(answer <= 18 && (tries[at].answers >> answer & 1), "the call may give this answer");
+    sure(answer <= MOST && (tries[at].answers >> answer & 1), "the call may give this answer");
     given[at][answer]++;
     if (!(EARLY >> answer & 1))
         counters[at][answer][binary_digits(size) % 16] = 1;

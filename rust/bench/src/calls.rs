@@ -1,6 +1,7 @@
 //! Twenty calls of each kind by both sides, and nothing else: for bench/instructions.
 
 use crate::cases::{list, List, SHAPES};
+use crate::rule_tables;
 use crate::sessions::One;
 use crate::tables::pair;
 use compare::inputs::Case;
@@ -24,6 +25,7 @@ pub fn make(shape: &str, [n, s, m]: [usize; 3]) {
         crate::places::once(&one, &list);
     }
     branch_questions(one.case, random);
+    rule_tables::calls(random);
 }
 
 /// Loads, branch builds and their full checks, into buffers of each side.

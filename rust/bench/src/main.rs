@@ -16,12 +16,13 @@ mod places;
 mod plot;
 #[cfg(feature = "probes")]
 mod probes;
+mod rule_tables;
 mod sessions;
 mod table;
 mod tables;
 
 use std::process::exit;
-use table::Row;
+use table::{Row, Single};
 
 const USAGE: &str = "usage: bench                      the whole table, in some minutes
        bench only TEXT            the rows whose work has this text in its name
@@ -74,6 +75,13 @@ fn rows(wanted: &str, mut measured: impl FnMut(&Row)) -> Vec<Row> {
     table::in_order(rows)
 }
 
+/// What is measured without a plan.
+fn singles(wanted: &str) -> Vec<Single> {
+    let mut singles = Vec::new();
+    rule_tables::singles(wanted, &mut |single| singles.push(single));
+    singles
+}
+
 fn print(wanted: &str) {
     println!("what-if checker {}: library against plain Rust, times for one call", whatif::VERSION);
     println!("plain Rust: opt-level 3, codegen-units 1, plain x86-64 (no target-cpu); K 64");
@@ -81,8 +89,10 @@ fn print(wanted: &str) {
     println!();
     print!("{}", table::head());
     let rows = rows(wanted, |row| print!("{}", table::line(row)));
+    let singles = singles(wanted);
     println!();
     print!("{}", table::summary(&rows));
+    print!("{}", table::singles(&singles));
 }
 
 const BEGIN: &str = "<!-- bench: begin -->\n";
@@ -93,6 +103,7 @@ fn put_between_marks(file: &str) {
     let (before, rest) = text.split_once(BEGIN).expect(BEGIN);
     let (_, after) = rest.split_once(END).expect(END);
     let rows = rows("", |row| eprint!("{}", table::line(row)));
-    let tables = format!("{}\n{}", table::summary(&rows), table::markdown(&rows));
+    let singles = table::singles(&singles(""));
+    let tables = format!("{}\n{}{}", table::summary(&rows), table::markdown(&rows), singles);
     std::fs::write(file, [before, BEGIN, &tables, END, after].concat()).expect(file);
 }

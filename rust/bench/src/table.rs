@@ -175,6 +175,30 @@ fn without_climb(rows: &[Row]) -> String {
     format!("\nAn advance through bytes that does not climb takes {}, at most {} (goal: 500 ns).\n", median, greatest)
 }
 
+/// A work that needs no plan: on what, the greatest ratio that is wanted, nanoseconds of a call of library and plain.
+pub struct Single {
+    pub work: &'static str,
+    pub on: &'static str,
+    pub goal: f64,
+    pub times: Pair,
+}
+
+/// A line for each; the ratio is bold where it is over the goal.
+pub fn singles(singles: &[Single]) -> String {
+    if singles.is_empty() {
+        return String::new();
+    }
+    let mut out = "\n| work | on | goal | ratio | library | plain |\n|---|---|---|---|---|---|\n".to_string();
+    for Single { work, on, goal, times: (library, plain) } in singles {
+        let ratio = library / plain;
+        let bold = if ratio > *goal { "**" } else { "" };
+        let times = (short(*library), short(*plain));
+        writeln!(out, "| {} | {} | {:.1} | {}{:.2}{} | {} | {} |", work, on, goal, bold, ratio, bold, times.0, times.1)
+            .unwrap();
+    }
+    out
+}
+
 /// A line for each work and m; in a cell the ratios at both sizes, in bold where one is over the goal.
 pub fn markdown(rows: &[Row]) -> String {
     let mut out = String::new();

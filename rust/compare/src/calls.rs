@@ -126,6 +126,31 @@ pub fn fresh_run(plan: &[u8], rules: &[u8], nodes: &[u16], labels: &[u8], random
     answer.map(|_| ())
 }
 
+/// A merge into a buffer of this length that holds random bytes, compared whole; plain Rust too. The merged table alone.
+pub fn merge(first: &[u8], second: &[u8], len: usize, random: &mut Random) -> Result<Vec<u8>, u32> {
+    let expected = reference::merge::merge(first, second, len);
+    let before = random.bytes(len + 2 * MARGIN);
+    let mut want = before.clone();
+    if let Ok(merged) = &expected {
+        want[MARGIN..MARGIN + merged.len()].copy_from_slice(merged);
+    }
+    let (first_was, second_was) = (first.to_vec(), second.to_vec());
+    let by_yardstick =
+        |first: &[u8], second: &[u8], out: &mut [u8]| yardstick::merge(first, second, out).err().unwrap_or(0);
+    let sides: [(&str, Merge); 2] = [("the library", slices::merge), ("plain Rust", by_yardstick)];
+    for (name, side) in sides {
+        let mut merged = before.clone();
+        let number = side(first, second, &mut merged[MARGIN..MARGIN + len]);
+        assert_eq!(number, expected.as_ref().err().copied().unwrap_or(0), "{}: the answer of the merge", name);
+        same("merged table", &merged, &want);
+    }
+    same("first table", first, &first_was);
+    same("second table", second, &second_was);
+    expected
+}
+
+type Merge = fn(&[u8], &[u8], &mut [u8]) -> u32;
+
 /// What is lent for a branch question.
 #[derive(Clone, Copy)]
 pub struct Lent<'a> {

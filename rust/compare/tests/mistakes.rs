@@ -10,7 +10,7 @@ use reference::mistakes::{making, Mistake};
 const SEEDS: std::ops::Range<u64> = 1..201;
 
 /// A mistake, and the rounds that must notice it.
-const NOTICED: [(Mistake, &[&str]); 23] = [
+const NOTICED: [(Mistake, &[&str]); 26] = [
     (Mistake::ChildrenExchanged, &["builds", "fresh runs", "questions", "other bytes", "call lists"]),
     (Mistake::SiblingFromOldRun, &["questions", "other bytes", "damaged lends", "call lists"]),
     (Mistake::ClimbToTheRoot, &["questions", "other bytes", "damaged lends", "call lists"]),
@@ -25,7 +25,7 @@ const NOTICED: [(Mistake, &[&str]); 23] = [
     (Mistake::CleanForEver, &["other bytes", "call lists"]),
     (Mistake::FinishedEarly, &["questions", "call lists"]),
     (Mistake::LinksKept, &["questions", "call lists"]),
-    (Mistake::NumbersCut, &["refusals", "branch questions", "session refusals", "call lists"]),
+    (Mistake::NumbersCut, &["refusals", "branch questions", "session refusals", "call lists", "merges"]),
     (Mistake::NodesCut, &["branch questions"]),
     (Mistake::LabelsBeforeNodes, &["refusals", "session refusals"]),
     (Mistake::ExcessCompared, &["full checks"]),
@@ -34,6 +34,9 @@ const NOTICED: [(Mistake, &[&str]); 23] = [
     (Mistake::FirstEntryHolds, &["damaged records"]),
     (Mistake::TailsFree, &["damaged records", "call lists"]),
     (Mistake::NodeTableIsNoCause, &["call lists"]),
+    (Mistake::PairsExchanged, &["merges"]),
+    (Mistake::EitherMark, &["merges"]),
+    (Mistake::ProductBeforeLabels, &["merges"]),
 ];
 
 /// The first difference in the rounds of a kind, and its seed.

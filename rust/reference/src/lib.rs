@@ -1,8 +1,8 @@
-//! The what-if checker again, written from document 01 alone and for clarity: the library is compared with it.
+//! The what-if checker again, written from documents 01 and 02 alone and for clarity: the library is compared with it.
 //!
 //! Order: `write` (plans and tables made into bytes), `sample` (document 01's sample clearance);
 //! `formats` (bytes and checks 2 to 10), `tree` (parents, depths, sizes, jumps), `tables` (run, maps, both table
-//! buffers), `climb` (moves), `branch` (branch questions), `fresh` (fresh run); `ready` (the ready set), `parts` (the
+//! buffers), `climb` (moves), `branch` (branch questions), `fresh` (fresh run), `merge` (two rule tables); `ready` (the ready set), `parts` (the
 //! rule for a part, on a tree), `lent` (the same on lent tables, whatever they hold); `panel` (the session's calls and
 //! answers), `record` (its record as bytes), `session` (the five calls), `causes` (what 18 is given for), `book` (the
 //! panel book).
@@ -16,6 +16,7 @@ pub mod climb;
 pub mod formats;
 pub mod fresh;
 pub mod lent;
+pub mod merge;
 pub mod mistakes;
 pub mod panel;
 pub mod parts;

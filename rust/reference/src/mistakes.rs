@@ -51,6 +51,12 @@ pub enum Mistake {
     TailsFree,
     /// A link that leads outside the plan or does not rise is no cause for 18.
     NodeTableIsNoCause,
+    /// In a merged table p and q become q×S1+p.
+    PairsExchanged,
+    /// A merged state is marked where one of its two states is.
+    EitherMark,
+    /// 24 is put before 23.
+    ProductBeforeLabels,
 }
 
 thread_local! {

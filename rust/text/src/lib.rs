@@ -22,6 +22,8 @@
 //! the word `bytes` and two digits for each byte. Labels and states need not be those of the table: a program is to
 //! refuse them.
 //!
+//! Two texts of rules can be merged into one; plan and questions beside the rules are left aside.
+//!
 //! Order: `lines` (words and numbers), `plan`, `rules`, `questions` (each from text to bytes and back), `dot` (a picture);
 //! the whole input is in this file.
 
@@ -34,6 +36,7 @@ pub mod rules;
 use lines::{Line, Wrong};
 use reference::formats::number;
 use reference::write::with_header;
+use whatif::sizes::{rules_bytes, MAX_LABELS, MAX_STATES};
 
 /// The lines of each section.
 #[derive(Default)]
@@ -86,6 +89,18 @@ pub fn show(input: &[u8]) -> Option<String> {
     let (rules, questions) = rest.split_at(rules);
     let shown = [plan::to_text(plan), rules::to_text(rules), questions::to_text(questions)];
     Some(NAMES.iter().zip(shown).map(|(name, text)| format!("{}\n{}", name, text)).collect::<Vec<_>>().join("\n"))
+}
+
+/// The rules of a text, as bytes.
+pub fn rules_of(text: &str) -> Result<Vec<u8>, Wrong> {
+    rules::to_bytes(&sections(text)?.rules)
+}
+
+/// The rules that clear exactly the plans that both rules clear, as a section of text; or the merge's refusal.
+pub fn merge(first: &[u8], second: &[u8]) -> Result<String, whatif::Refusal> {
+    let mut merged = [0; rules_bytes(MAX_STATES, MAX_LABELS)];
+    let len = whatif::merge(first, second, &mut merged)?;
+    Ok(format!("{}\n{}", NAMES[1], rules::to_text(&merged[..len])))
 }
 
 /// The plan with the parts of one of the questions, counted from 1, as Graphviz text; or what is wrong.

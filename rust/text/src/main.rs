@@ -1,7 +1,8 @@
 //! `whatif-text write` makes the bytes that the program `whatif` reads from text, `whatif-text show` makes text from such
 //! bytes, `whatif-text dot` draws a plan with the parts of one of its questions, counted from 1; from standard input to
-//! standard output. The form of the text stands in lib.rs. The status is 0, 1 where the input is wrong or the output can't
-//! be written whole, 2 for other words than these.
+//! standard output. `whatif-text merge` takes the rules of two files and makes the text of one table that clears exactly
+//! the plans that both clear. The form of the text stands in lib.rs. The status is 0, 1 where the input is wrong or the
+//! output can't be written whole, 2 for other words than these.
 
 use std::io::{self, Read, Write};
 use std::process::exit;
@@ -9,6 +10,7 @@ use std::process::exit;
 const USAGE: &str = "usage: whatif-text write < TEXT > BYTES
        whatif-text show < BYTES > TEXT
        whatif-text dot QUESTION < TEXT > GRAPHVIZ
+       whatif-text merge TEXT-FILE TEXT-FILE > TEXT
        whatif-text --help | --version";
 
 const NOT_WHOLE: &str = "the input is shorter or longer than its three lengths say";
@@ -20,6 +22,7 @@ fn main() {
         ["write"] => read_text().and_then(|text| text::write(&text).map_err(|wrong| wrong.to_string())),
         ["show"] => read().and_then(|input| text::show(&input).ok_or_else(|| NOT_WHOLE.into())).map(String::into_bytes),
         ["dot", question] => read_text().and_then(|text| draw(&text, question)).map(String::into_bytes),
+        ["merge", first, second] => two_rules(first, second).and_then(|two| merged(&two)).map(String::into_bytes),
         ["--help"] => Ok(format!("{}\n", USAGE).into_bytes()),
         ["--version"] => Ok(format!("whatif-text {}\n", env!("CARGO_PKG_VERSION")).into_bytes()),
         _ => {
@@ -43,6 +46,19 @@ fn write_out(bytes: &[u8]) -> io::Result<()> {
 fn draw(text: &str, question: &str) -> Result<String, String> {
     let question = question.parse().map_err(|_| format!("'{}' is not the number of a question", question))?;
     text::draw(text, question)
+}
+
+/// The rules of two files, as bytes.
+fn two_rules(first: &str, second: &str) -> Result<[Vec<u8>; 2], String> {
+    let rules = |path: &str| {
+        let text = std::fs::read_to_string(path).map_err(|error| format!("{}: {}", path, error))?;
+        text::rules_of(&text).map_err(|wrong| format!("{}: {}", path, wrong))
+    };
+    Ok([rules(first)?, rules(second)?])
+}
+
+fn merged([first, second]: &[Vec<u8>; 2]) -> Result<String, String> {
+    text::merge(first, second).map_err(|refusal| refusal.to_string())
 }
 
 fn read() -> Result<Vec<u8>, String> {

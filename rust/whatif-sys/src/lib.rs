@@ -88,6 +88,16 @@ extern "C" {
         yes: *mut u32,
         links: *mut u32,
     ) -> u32;
+
+    /// Writes one rule table that clears exactly the plans that both clear.
+    pub fn whatif_merge(
+        first: *const u8,
+        first_len: usize,
+        second: *const u8,
+        second_len: usize,
+        merged: *mut u8,
+        merged_len: usize,
+    ) -> u32;
 }
 
 extern "C" {

@@ -167,6 +167,35 @@ pub fn branch(
     Ok(BranchVerdict { state: state as u8, yes: yes == 1, links })
 }
 
+/// Writes one rule table that clears exactly the plans that both clear, and tells how many bytes of `merged` it has; the
+/// rest is untouched. State p of the first table and q of the second become p × S2 + q. Refused with 6 to 9 for the first
+/// table, 6 to 9 for the second, 23, 24, 11 (in this order).
+///
+/// ```
+/// # fn main() -> Result<(), whatif::Refusal> {
+/// let table = |leaf: [u8; 2], marks: [u8; 2]| -> Vec<u8> {
+///     [2u32, 2, 20, 22, 30].iter().flat_map(|n| n.to_le_bytes())
+///         .chain(leaf).chain([0, 1, 0, 0, 1, 1, 0, 1]).chain(marks).collect()
+/// };
+/// let (first, second) = (table([0, 1], [0, 1]), table([1, 1], [1, 0]));
+/// let mut merged = [7u8; whatif::sizes::rules_bytes(4, 2) + 1];
+/// let len = whatif::merge(&first, &second, &mut merged)?;
+/// assert_eq!((len, merged[len]), (whatif::sizes::rules_bytes(4, 2), 7));
+///
+/// // a plan of one leaf with label 1: state 1 in both tables, which the second does not mark
+/// let plan: Vec<u8> = [1u32, 12, 13].iter().flat_map(|n| n.to_le_bytes()).chain([1, 0]).collect();
+/// let told = whatif::fresh_run(&plan, &merged[..len], &[], &[])?;
+/// assert_eq!((told.state, told.yes), (1 * 2 + 1, false));
+/// assert_eq!(whatif::merge(&first, &second, &mut merged[..1]), Err(whatif::Refusal::BufferShort));
+/// # Ok(())
+/// # }
+/// ```
+pub fn merge(first: &[u8], second: &[u8], merged: &mut [u8]) -> Result<usize, Refusal> {
+    accepted(slices::merge(first, second, merged))?;
+    // the counts that its header names now
+    Ok(sizes::rules_bytes(usize::from(merged[0]), usize::from(merged[4])))
+}
+
 /// 0 is accepted; any other number is a refusal's.
 fn accepted(number: u32) -> Result<(), Refusal> {
     Refusal::from_number(number).map_or(Ok(()), Err)

@@ -33,7 +33,7 @@ macro_rules! refusals {
                 }
             }
 
-            /// The library's number, as document 01 gives it.
+            /// The library's number, as the documents give it.
             pub const fn number(self) -> u32 {
                 match self {
                     $(Refusal::$name => $number,)*
@@ -63,7 +63,7 @@ refusals! {
     TableLayout = 8, "The table's offsets or its length are not exact.";
     TableEntry = 9, "The table holds a state that it does not have, or a mark that is neither 0 nor 1.";
     PlanLabel = 10, "The plan has a label that the table does not have.";
-    BufferShort = 11, "The node table or the state table is too short.";
+    BufferShort = 11, "The node table, the state table or an output buffer is too short.";
     ListLength = 12, "The list has more than 64 changes, or not as many labels as nodes.";
     Node = 13, "A node given is not one of the plan.";
     Label = 14, "A label given is not one of the table.";
@@ -71,6 +71,8 @@ refusals! {
     NotBelow = 16, "The lower node is not at or below the upper node.";
     LentLength = 17, "What is lent does not have the length that the counts of nodes, states and labels need.";
     LentValue = 18, "A value read leads outside the plan, the states or the labels, or a climb does not rise.";
+    LabelCounts = 23, "The two rule tables do not have the same count of labels.";
+    StateProduct = 24, "The product of the two rule tables' counts of states is above 16.";
 }
 
 impl fmt::Display for Refusal {

@@ -109,6 +109,13 @@ pub fn branch(
     }
 }
 
+pub fn merge(first: &[u8], second: &[u8], merged: &mut [u8]) -> u32 {
+    // SAFETY: as in `build_by`
+    unsafe {
+        raw::whatif_merge(first.as_ptr(), first.len(), second.as_ptr(), second.len(), merged.as_mut_ptr(), merged.len())
+    }
+}
+
 pub use session::*;
 
 mod session {

@@ -9,6 +9,7 @@ pub mod damaged_records;
 pub mod damaged_tables;
 pub mod fresh_runs;
 pub mod full_checks;
+pub mod merges;
 pub mod other_bytes;
 pub mod questions;
 pub mod refusals;
@@ -26,7 +27,7 @@ pub struct Round {
     compare: fn(&mut Random, &mut Counts),
 }
 
-pub const ROUNDS: [Round; 12] = [
+pub const ROUNDS: [Round; 13] = [
     Round { name: "builds", compare: builds::round },
     Round { name: "full checks", compare: full_checks::round },
     Round { name: "fresh runs", compare: fresh_runs::round },
@@ -39,6 +40,7 @@ pub const ROUNDS: [Round; 12] = [
     Round { name: "call lists", compare: call_lists::round },
     Round { name: "session refusals", compare: session_refusals::round },
     Round { name: "damaged records", compare: damaged_records::round },
+    Round { name: "merges", compare: merges::round },
 ];
 
 impl Round {

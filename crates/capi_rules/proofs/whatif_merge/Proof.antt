@@ -1,0 +1,28 @@
+-- `whatif_merge` meets its contract. Assumes nothing.
+use Rattle.capi_rules.proofs.ExportLaws.{merge-exported}
+use native.Mathlib.Omega.{arith}
+use borrow.Author.Needs.{needs}
+use Rattle.capi_rules.proofs.whatif_merge.Statement.{statement}
+use Rattle.capi_rules.proofs.whatif_merge.Tie as tie
+use Rattle.capi_rules.proofs.whatif_merge.Reads as reads
+use Rattle.capi_rules.proofs.whatif_merge.Lts as lts
+use Rattle.capi_rules.proofs.merge_number.Reads as merge-number-reads
+use Rattle.merging.proofs.merge.Reads as merge-reads
+
+merge-requires : tie.Need-merge-requires
+merge-requires c κs = tt
+
+merge-number-requires : tie.Need-merge-number-requires
+merge-number-requires c κs = tt
+
+same-length : tie.Need-same-length
+same-length c = search needs
+
+returns : tie.Need-returns
+returns c =
+    let g = c .before .before .before .before .before .before .before .before .args in
+    merge-exported (g .first .now) (g .second .now) (g .merged .now) (c .before .before .before .merge .result) _
+    (c .before .before .before .merge .ensures) (c .merge-number .result) (c .merge-number .ensures)
+
+pub whatif-merge-spec : {M : Type 1} → statement M
+whatif-merge-spec = tie.close (tie.spec merge-requires merge-number-requires same-length returns)

@@ -1,0 +1,180 @@
+-- `put_nth_row` meets its contract. Assumes nothing.
+use mathlib.Core.Path.{ap, _∙_}
+use mathlib.Core.List.{List}
+use Prim.Native.Nat.{ℕ}
+use Rattle.merging.specs.Writes.{written}
+use Rattle.merging.proofs.PartLaws.{first-end, second-end, runs-small, rows-small, nth-row, nth-is}
+use native.Mathlib.Omega.{arith}
+use borrow.Author.Needs.{needs}
+use Rattle.merging.proofs.put_nth_row.Statement.{statement}
+use Rattle.merging.proofs.put_nth_row.Tie as tie
+use Rattle.merging.proofs.put_nth_row.Reads as reads
+use Rattle.merging.proofs.put_nth_row.Lts as lts
+use Rattle.merging.proofs.put_row.Reads as put-row-reads
+
+div-p : tie.Need-div-p
+div-p c = search needs
+
+rem-a : tie.Need-rem-a
+rem-a c = search needs
+
+div-i : tie.Need-div-i
+div-i c = search needs
+
+mul-i : tie.Need-mul-i
+mul-i c =
+    let s = c .before .before .before in
+    let g = s .args in
+    omega (
+      arith,
+      rows-small (g .first .now) (g .second .now) (g .s1) (g .s2) (g .k) (g .r) (s .pre .inner)
+          (s .pre .inside) .0,
+    )
+
+add-i : tie.Need-add-i
+add-i c =
+    let s = c .before .before .before in
+    let g = s .args in
+    omega (
+      arith,
+      rows-small (g .first .now) (g .second .now) (g .s1) (g .s2) (g .k) (g .r) (s .pre .inner)
+          (s .pre .inside) .0,
+    )
+
+mul-i-2 : tie.Need-mul-i-2
+mul-i-2 c =
+    let s = c .before .before .before in
+    let g = s .args in
+    omega (
+      arith,
+      first-end (g .first .now) (g .second .now) (g .s1) (g .s2) (g .k) (g .r) (s .pre .inner)
+          (s .pre .inside),
+      runs-small (g .first .now) (g .second .now) (g .s1) (g .s2) (g .k) (g .r) (s .pre .inner)
+          (s .pre .inside) .0,
+    )
+
+rem-j : tie.Need-rem-j
+rem-j c = search needs
+
+mul-j : tie.Need-mul-j
+mul-j c =
+    let s = c .before .before .before in
+    let g = s .args in
+    omega (
+      arith,
+      rows-small (g .first .now) (g .second .now) (g .s1) (g .s2) (g .k) (g .r) (s .pre .inner)
+          (s .pre .inside) .1,
+    )
+
+add-j : tie.Need-add-j
+add-j c =
+    let s = c .before .before .before in
+    let g = s .args in
+    omega (
+      arith,
+      rows-small (g .first .now) (g .second .now) (g .s1) (g .s2) (g .k) (g .r) (s .pre .inner)
+          (s .pre .inside) .1,
+    )
+
+mul-j-2 : tie.Need-mul-j-2
+mul-j-2 c =
+    let s = c .before .before .before in
+    let g = s .args in
+    omega (
+      arith,
+      second-end (g .first .now) (g .second .now) (g .s1) (g .s2) (g .k) (g .r) (s .pre .inner)
+          (s .pre .inside),
+      runs-small (g .first .now) (g .second .now) (g .s1) (g .s2) (g .k) (g .r) (s .pre .inner)
+          (s .pre .inside) .1,
+    )
+
+add-put-row : tie.Need-add-put-row
+add-put-row c =
+    let s = c .before .before .before in
+    let g = s .args in
+    omega (
+      arith,
+      first-end (g .first .now) (g .second .now) (g .s1) (g .s2) (g .k) (g .r) (s .pre .inner)
+          (s .pre .inside),
+      runs-small (g .first .now) (g .second .now) (g .s1) (g .s2) (g .k) (g .r) (s .pre .inner)
+          (s .pre .inside) .0,
+    )
+
+sub-put-row : tie.Need-sub-put-row
+sub-put-row c = search needs
+
+part-put-row-start : tie.Need-part-put-row-start
+part-put-row-start c = search needs
+
+part-put-row-end : tie.Need-part-put-row-end
+part-put-row-end c =
+    let s = c .before .before .before in
+    let g = s .args in
+    first-end (g .first .now) (g .second .now) (g .s1) (g .s2) (g .k) (g .r) (s .pre .inner) (s .pre .inside)
+
+add-put-row-2 : tie.Need-add-put-row-2
+add-put-row-2 c =
+    let s = c .before .before .before .before in
+    let g = s .args in
+    omega (
+      arith,
+      second-end (g .first .now) (g .second .now) (g .s1) (g .s2) (g .k) (g .r) (s .pre .inner)
+          (s .pre .inside),
+      runs-small (g .first .now) (g .second .now) (g .s1) (g .s2) (g .k) (g .r) (s .pre .inner)
+          (s .pre .inside) .1,
+    )
+
+sub-put-row-2 : tie.Need-sub-put-row-2
+sub-put-row-2 c = search needs
+
+part-put-row-start-2 : tie.Need-part-put-row-start-2
+part-put-row-start-2 c = search needs
+
+part-put-row-end-2 : tie.Need-part-put-row-end-2
+part-put-row-end-2 c =
+    let s = c .before .before .before .before in
+    let g = s .args in
+    second-end (g .first .now) (g .second .now) (g .s1) (g .s2) (g .k) (g .r) (s .pre .inner) (s .pre .inside)
+
+put-row-requires : tie.Need-put-row-requires
+put-row-requires c κs =
+    let s = c .before .before .before .before .before .before in
+    let g = s .args in
+    nth-row (g .first .now) (g .second .now) (g .s1) (g .s2) (g .k) (g .r) (s .pre .inner) (s .pre .inside) (g .at)
+    (g .out .now) (s .pre .room)
+
+same-length : tie.Need-same-length
+same-length c = search needs
+
+returns : tie.Need-returns
+returns c =
+    let s = c .before .before .before .before .before .before .before .before .before in
+    let g = s .args in
+    c .before .before .put-row .ensures ∙ ap (λ (x : List ℕ). written (g .at) x (g .out .now)) (nth-is (g .first .now)
+    (g .second .now) (g .s1) (g .s2) (g .k) (g .r) (s .pre .inner) (s .pre .inside))
+
+pub put-nth-row-spec : {M : Type 1} → statement M
+put-nth-row-spec =
+    tie.close
+    (tie.spec
+    div-p
+    rem-a
+    div-i
+    mul-i
+    add-i
+    mul-i-2
+    rem-j
+    mul-j
+    add-j
+    mul-j-2
+    add-put-row
+    sub-put-row
+    part-put-row-start
+    part-put-row-end
+    add-put-row-2
+    sub-put-row-2
+    part-put-row-start-2
+    part-put-row-end-2
+    put-row-requires
+    same-length
+    returns)

@@ -1,0 +1,3 @@
+pub mod Merged
+pub mod Writes
+pub mod Answer

@@ -1,0 +1,4 @@
+pub mod ProductRuns
+pub mod PlanParts
+pub mod RulePairs
+pub mod Theorems

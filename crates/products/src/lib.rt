@@ -1,0 +1,1 @@
+// The product of two tree automata and its run: definitions (specs/) and laws (proofs/). No code.
