@@ -17,6 +17,8 @@ static int without_a_session() {
         return 2;
     if (whatif_merge(NULL, 0, NULL, 0, NULL, 0) != WHATIF_REFUSED_TABLE_SHORT)
         return 8;
+    if (whatif_agree(NULL, 0, NULL, 0, NULL, 0, &yes, &links) != WHATIF_REFUSED_TABLE_SHORT)
+        return 9;
     return yes == 9 && state == 9 && links == 9 ? 0 : 3;
 }
 

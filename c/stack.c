@@ -21,6 +21,7 @@ static uint8_t rules[WHATIF_RULES_BYTES(STATES, LABELS)], branch[WHATIF_BRANCH_B
 static uint16_t node_table[WHATIF_NODE_TABLE_LEN(N)], nodes[WHATIF_MAX_CHANGES];
 static uint8_t state_table[WHATIF_STATE_TABLE_LEN(N, STATES)], labels[WHATIF_MAX_CHANGES];
 static uint8_t four[WHATIF_RULES_BYTES(4, LABELS)], merged[WHATIF_RULES_BYTES(STATES, LABELS)];
+static uint16_t lines[4 * WHATIF_MAX_LINES];
 static uint32_t answer, out[4];
 static _Alignas(64) uint8_t stack[ROOM];
 
@@ -30,6 +31,7 @@ static _Alignas(64) uint8_t stack[ROOM];
 #define LIST nodes, WHATIF_MAX_CHANGES, labels, WHATIF_MAX_CHANGES
 #define RECORD record, sizeof record
 #define FOUR four, sizeof four
+#define SIXTEEN rules, sizeof rules
 
 static void nothing(void) { answer = 0; }
 static void build(void) { answer = whatif_build(RULES, TABLES); }
@@ -39,6 +41,7 @@ static void branch_build(void) { answer = whatif_branch_build(BRANCH, TABLES); }
 static void branch_check(void) { answer = whatif_branch_check(BRANCH, TABLES, out); }
 static void ask(void) { answer = whatif_branch(BRANCH, TABLES, N - 1, 1, out, out + 1, out + 2); }
 static void merge(void) { answer = whatif_merge(FOUR, FOUR, merged, sizeof merged); }
+static void agree(void) { answer = whatif_agree(SIXTEEN, SIXTEEN, lines, 4 * WHATIF_MAX_LINES, out, out + 1); }
 static void load(void) { answer = whatif_load(RECORD, RULES, TABLES); }
 static void start(void) { answer = whatif_start(RECORD, RULES, TABLES, LIST, out); }
 static void cancel(void) { answer = whatif_cancel(RECORD); }
@@ -68,6 +71,7 @@ static const struct call {
     {"branch check", branch_check, 1024},
     {"branch question", ask, 1024},
     {"merge", merge, 1024},
+    {"agreement", agree, 12 * 1024},
 };
 
 static void *run(void *make) {

@@ -10,8 +10,8 @@
  * Link with libwhatif.a or, where it is installed, with libwhatif.so (x86-64 Linux). The library never allocates, keeps
  * nothing between calls and is re-entrant: any number of threads may call it at once, each with buffers that no other
  * thread writes during the call.
- * Stack of a call, as measured on plans of 65,535 nodes: a fresh run at most 40 KiB, a session call at most 4 KiB, any
- * other at most 1 KiB.
+ * Stack of a call, as measured on plans of 65,535 nodes and the largest tables: a fresh run at most 40 KiB, agreement of
+ * two rule tables at most 12 KiB, a session call at most 4 KiB, any other at most 1 KiB.
  *
  * What holds for every function:
  * - A slice is a pointer, then its count of elements (not bytes).
@@ -46,6 +46,8 @@ extern "C" {
 #define WHATIF_MAX_CHANGES 64u
 /* The most parts that a question can have: 4 x 64 - 2. */
 #define WHATIF_MAX_PARTS 254u
+/* The most lines of a separating plan: a line for each pair of states. */
+#define WHATIF_MAX_LINES 256u
 /* The greatest depth of a node, root 0. It follows from the limit on nodes and is no check of its own. */
 #define WHATIF_MAX_DEPTH 32767u
 
@@ -199,6 +201,22 @@ uint32_t whatif_branch(const uint8_t *plan, size_t plan_len, const uint8_t *bran
  */
 uint32_t whatif_merge(const uint8_t *first, size_t first_len, const uint8_t *second, size_t second_len, uint8_t *merged,
                       size_t merged_len);
+
+/*
+ * Do two rule tables agree? They do where every plan, of any size, gets yes from both or no from both. Where they do not, a
+ * separating plan is shown, which one of them clears and the other does not: one of least height among all such plans.
+ * Lent:    both rule tables, read; lines, written. The same table may be lent twice.
+ * Written: *agree, 1 or 0; *count, the lines that are shown, 1 to WHATIF_MAX_LINES, or 0 where the tables agree; and as
+ *          many lines, four numbers each: 0 for a leaf, 1 for an inner node; its label, below K; the numbers of its left
+ *          and its right line, both 0 for a leaf. Lines are numbered from 0, left and right are earlier lines, the last
+ *          line is the root; a line may serve several times, or not at all. The rest of a longer buffer is untouched.
+ *          4 * WHATIF_MAX_LINES numbers always suffice. Written out as a tree, the lines may have more nodes than a plan
+ *          can have.
+ * Answers: WHATIF_ACCEPTED, or the first of 6, 7, 8, 9, 6, 7, 8, 9, 23, 11: 6 to 9 are put to the first table, then to the
+ *          second; 11 is given only where the lines do not fit. Refused, lines, *agree and *count are as they were.
+ */
+uint32_t whatif_agree(const uint8_t *first, size_t first_len, const uint8_t *second, size_t second_len, uint16_t *lines,
+                      size_t lines_len, uint32_t *agree, uint32_t *count);
 
 /*
  * The panel session. Its record, WHATIF_RECORD_BYTES bytes, belongs to the panel: it is all zero at first, passes from

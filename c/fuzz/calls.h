@@ -23,6 +23,7 @@ enum try {
     QUESTION,
     PANEL,
     MERGE,
+    AGREE,
     TRIES
 };
 
@@ -49,7 +50,8 @@ uint32_t try_question(struct input *in);
 /* A list of calls from a fresh session on, with lent bytes altered between them; the last answer. walks.c */
 uint32_t try_panel(struct input *in);
 
-/* The call on two rule tables, and all three tables on a plan. rules.c */
+/* The calls on two rule tables, and these tables on a plan. rules.c */
 uint32_t try_merge(struct input *in);
+uint32_t try_agree(struct input *in);
 
 #endif

@@ -18,6 +18,8 @@ uint32_t __real_whatif_build(PLAN_RULES, WRITTEN);
 uint32_t __real_whatif_check(PLAN_RULES, READ, uint32_t *yes);
 uint32_t __real_whatif_fresh_run(PLAN_RULES, LIST, uint32_t *state, uint32_t *yes);
 uint32_t __real_whatif_merge(MERGED);
+uint32_t __real_whatif_agree(const uint8_t *first, size_t first_len, const uint8_t *second, size_t second_len,
+                             uint16_t *lines, size_t lines_len, uint32_t *agree, uint32_t *count);
 uint32_t __real_whatif_start(uint8_t *record, size_t record_len, PLAN_RULES, READ, LIST, uint32_t *parts);
 uint32_t __real_whatif_cancel(uint8_t *record, size_t record_len);
 uint32_t __real_whatif_read(const uint8_t *record, size_t record_len, uint32_t *state, uint32_t *yes, uint32_t *parts,
@@ -91,5 +93,17 @@ uint32_t __wrap_whatif_merge(MERGED) {
         merged[merged_len]++;
     if (laid(14) && answer == 0) /* another state of a leaf */
         merged[21] ^= 1;
+    return answer;
+}
+
+uint32_t __wrap_whatif_agree(const uint8_t *first, size_t first_len, const uint8_t *second, size_t second_len,
+                             uint16_t *lines, size_t lines_len, uint32_t *agree, uint32_t *count) {
+    uint32_t answer = __real_whatif_agree(first, first_len, second, second_len, lines, lines_len, agree, count);
+    if (laid(15) && answer == 0) /* they agree always */
+        *agree = 1, *count = 0;
+    if (laid(16) && answer == 0 && *count > 0) /* a line that names itself */
+        lines[4 * *count - 2] = (uint16_t)(*count - 1), lines[4 * *count - 4] = 1;
+    if (laid(17) && answer != 0) /* refused, and told */
+        *count = 0;
     return answer;
 }

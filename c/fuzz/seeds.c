@@ -9,6 +9,7 @@
 
 #include <stdio.h>
 #include <stdlib.h>
+#include <string.h>
 #include <sys/stat.h>
 
 /* A plan with its tables. */
@@ -78,6 +79,7 @@ static const char *const folders[TRIES] = {
     [QUESTION] = "question",
     [PANEL] = "panel",
     [MERGE] = "merge",
+    [AGREE] = "agree",
 };
 
 /* A file in the folder of its call. */
@@ -232,6 +234,23 @@ static void merges(const struct plan *p, const struct plan *other) {
     put((uint32_t)len, 2), end();
 }
 
+/* A plan's rules with themselves; with another mark, with room for all lines and for none; with another K. */
+static void agreements(const struct plan *p, const struct plan *other) {
+    uint8_t changed[WHATIF_RULES_BYTES(S, K)];
+    size_t len = WHATIF_RULES_BYTES(p->s, p->k);
+    memcpy(changed, p->rules, len);
+    changed[len - 1] ^= 1;
+    begin(AGREE, p->name, ""), put(BEFORE, 1), bytes(PLAN(p)), bytes(RULES(p)), bytes(RULES(p)), put(0, 2), end();
+    begin(AGREE, p->name, "-no"), put(BEFORE, 1), bytes(PLAN(p)), bytes(RULES(p)), bytes(changed, len);
+    put(4 * WHATIF_MAX_LINES, 2), end();
+    begin(AGREE, p->name, "-behind"), put(BEHIND, 1), bytes(PLAN(p)), bytes(changed, len), bytes(RULES(p));
+    put(60, 2), end();
+    begin(AGREE, p->name, "-11"), put(BEFORE, 1), bytes(PLAN(p)), bytes(RULES(p)), bytes(changed, len);
+    put(3, 2), end();
+    begin(AGREE, p->name, "-23"), put(BEFORE, 1), bytes(PLAN(p)), bytes(RULES(p)), bytes(RULES(other));
+    put(60, 2), end();
+}
+
 int main(int argc, char **argv) {
     must(argc == 2);
     folder = argv[1];
@@ -244,6 +263,7 @@ int main(int argc, char **argv) {
     on_tables(&sample), on_records(&sample, &questions[1]), panel(&sample, &questions[3]);
     refused_starts();
     merges(&sample, &comb), merges(&comb, &sample);
+    agreements(&sample, &comb), agreements(&comb, &sample);
     on_tables(&comb), on_records(&comb, &far), panel(&comb, &far), question(&comb, &far, "");
     for (size_t i = 0; i < QUESTIONS; i++) {
         char which[] = {'-', (char)('1' + i), 0};

@@ -35,6 +35,7 @@ static const struct {
     [QUESTION] = {"a question", try_question, 1u | FROM(2, 15)},
     [PANEL] = {"a list of calls", try_panel, FROM(0, 15) | FROM(17, 18)},
     [MERGE] = {"whatif_merge", try_merge, 1u | FROM(6, 9) | FROM(11, 11) | FROM(23, 24)},
+    [AGREE] = {"whatif_agree", try_agree, 1u | FROM(6, 9) | FROM(11, 11) | FROM(23, 23)},
 };
 
 #define MOST 27 /* the greatest number of a refusal */

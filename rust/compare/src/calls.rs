@@ -4,6 +4,7 @@
 //! Out values start at a random number, which they must keep on a refusal.
 
 use crate::random::Random;
+use reference::agree::{separates, Line, MAX_LINES};
 use reference::tables::Tables;
 use std::fmt::Debug;
 use whatif::slices;
@@ -150,6 +151,42 @@ pub fn merge(first: &[u8], second: &[u8], len: usize, random: &mut Random) -> Re
 }
 
 type Merge = fn(&[u8], &[u8], &mut [u8]) -> u32;
+
+/// Do two rule tables agree? Compared: the answer with the reference, the lines with what they must be, and every number
+/// with plain Rust, which searches in the same order. The lines of the separating plan; none where they agree.
+pub fn agree(first: &[u8], second: &[u8], len: usize, random: &mut Random) -> Result<Option<Vec<Line>>, u32> {
+    let before = random.numbers(len + 2 * MARGIN);
+    let unset = [random.word() as u32 | 1 << 20, random.word() as u32 | 1 << 20];
+    let (first_was, second_was) = (first.to_vec(), second.to_vec());
+    let (mut lines, mut out) = (before.clone(), unset);
+    let number = slices::agree(first, second, &mut lines[MARGIN..MARGIN + len], &mut out);
+    let (mut want, mut want_out) = (before.clone(), unset);
+    let by_yardstick = yardstick::agree(first, second, &mut want[MARGIN..MARGIN + len]);
+    if let Ok((agree, count)) = by_yardstick {
+        want_out = [agree as u32, count as u32];
+    }
+    assert_eq!((number, out), (by_yardstick.err().unwrap_or(0), want_out), "plain Rust's answer");
+    same("lines", &lines, &want);
+    same("first table", first, &first_was);
+    same("second table", second, &second_was);
+    let least = match (number, reference::agree::least_height(first, second)) {
+        // the lines do not fit: they are at least one, and at most 256
+        (11, Ok(Some(_))) if len < 4 * MAX_LINES => return Err(11),
+        (_, Err(wanted)) => {
+            assert_eq!(number, wanted, "the answer of the agreement");
+            return Err(number);
+        }
+        (_, Ok(least)) => least,
+    };
+    assert_eq!((number, out[0]), (0, least.is_none() as u32), "the answer of the agreement");
+    let shown: Vec<Line> =
+        lines[MARGIN..].chunks_exact(4).take(out[1] as usize).map(|line| line.try_into().unwrap()).collect();
+    match least {
+        None => assert_eq!(out[1], 0, "lines where the tables agree"),
+        Some(_) => assert_eq!(separates(first, second, &shown).ok(), least, "{:?}", separates(first, second, &shown)),
+    }
+    Ok(least.map(|_| shown))
+}
 
 /// What is lent for a branch question.
 #[derive(Clone, Copy)]

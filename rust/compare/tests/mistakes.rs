@@ -10,7 +10,7 @@ use reference::mistakes::{making, Mistake};
 const SEEDS: std::ops::Range<u64> = 1..201;
 
 /// A mistake, and the rounds that must notice it.
-const NOTICED: [(Mistake, &[&str]); 26] = [
+const NOTICED: [(Mistake, &[&str]); 28] = [
     (Mistake::ChildrenExchanged, &["builds", "fresh runs", "questions", "other bytes", "call lists"]),
     (Mistake::SiblingFromOldRun, &["questions", "other bytes", "damaged lends", "call lists"]),
     (Mistake::ClimbToTheRoot, &["questions", "other bytes", "damaged lends", "call lists"]),
@@ -37,6 +37,8 @@ const NOTICED: [(Mistake, &[&str]); 26] = [
     (Mistake::PairsExchanged, &["merges"]),
     (Mistake::EitherMark, &["merges"]),
     (Mistake::ProductBeforeLabels, &["merges"]),
+    (Mistake::LeavesAlone, &["agreements"]),
+    (Mistake::NewestOnTheLeft, &["agreements"]),
 ];
 
 /// The first difference in the rounds of a kind, and its seed.

@@ -2,13 +2,15 @@
 //!
 //! Order: `write` (plans and tables made into bytes), `sample` (document 01's sample clearance);
 //! `formats` (bytes and checks 2 to 10), `tree` (parents, depths, sizes, jumps), `tables` (run, maps, both table
-//! buffers), `climb` (moves), `branch` (branch questions), `fresh` (fresh run), `merge` (two rule tables); `ready` (the ready set), `parts` (the
+//! buffers), `climb` (moves), `branch` (branch questions), `fresh` (fresh run), `merge` and `agree` (two rule
+//! tables); `ready` (the ready set), `parts` (the
 //! rule for a part, on a tree), `lent` (the same on lent tables, whatever they hold); `panel` (the session's calls and
 //! answers), `record` (its record as bytes), `session` (the five calls), `causes` (what 18 is given for), `book` (the
 //! panel book).
 //! The calls without a session are in this file. `mistakes` is for a test of the comparison; it does nothing else.
 //! A refusal is its number. Nothing here is fast, and nothing is shared with the library.
 
+pub mod agree;
 pub mod book;
 pub mod branch;
 pub mod causes;

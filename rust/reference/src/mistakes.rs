@@ -57,6 +57,10 @@ pub enum Mistake {
     EitherMark,
     /// 24 is put before 23.
     ProductBeforeLabels,
+    /// Whether two tables agree is asked of plans of one node alone.
+    LeavesAlone,
+    /// Of two children the one that was found last is always the left one.
+    NewestOnTheLeft,
 }
 
 thread_local! {

@@ -22,11 +22,13 @@
 //! the word `bytes` and two digits for each byte. Labels and states need not be those of the table: a program is to
 //! refuse them.
 //!
-//! Two texts of rules can be merged into one; plan and questions beside the rules are left aside.
+//! Two texts of rules can be merged into one, or compared on every plan; plan and questions beside the rules are left aside.
 //!
-//! Order: `lines` (words and numbers), `plan`, `rules`, `questions` (each from text to bytes and back), `dot` (a picture);
+//! Order: `lines` (words and numbers), `plan`, `rules`, `questions` (each from text to bytes and back), `dot` (a picture), `agree`
+//! (a separating plan);
 //! the whole input is in this file.
 
+pub mod agree;
 pub mod dot;
 pub mod lines;
 pub mod plan;

@@ -98,6 +98,18 @@ extern "C" {
         merged: *mut u8,
         merged_len: usize,
     ) -> u32;
+
+    /// Do two rule tables agree on every plan? Else writes a plan on which they differ.
+    pub fn whatif_agree(
+        first: *const u8,
+        first_len: usize,
+        second: *const u8,
+        second_len: usize,
+        lines: *mut u16,
+        lines_len: usize,
+        agree: *mut u32,
+        count: *mut u32,
+    ) -> u32;
 }
 
 extern "C" {

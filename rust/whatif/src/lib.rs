@@ -4,7 +4,8 @@
 //! automaton on the words from an upper node down to a lower. Plans and tables are bytes (docs/LAYOUT.md). The library
 //! never allocates; the caller lends the tables. A refused call has changed nothing.
 //!
-//! Order: `sizes` (limits and lengths), `Refusal`, the calls on tables, `Session`, the panel session, with `Lent`.
+//! Order: `sizes` (limits and lengths), `Refusal`, the calls on tables, those on two rule tables (`merge`, `agree`),
+//! `Session`, the panel session, with `Lent`.
 //! The crate `whatif-sys` has the library's own functions. Without the feature `std` this crate needs `core` alone.
 //!
 //! The sample of document 01: plan A of seven nodes, and table A, under which label 0 takes the greater state of two
@@ -43,12 +44,14 @@
 #[cfg(feature = "std")]
 extern crate std;
 
+mod agree;
 mod refusal;
 mod session;
 pub mod sizes;
 #[doc(hidden)]
 pub mod slices;
 
+pub use agree::{agree, Line, SeparatingPlan};
 pub use refusal::Refusal;
 pub use session::{Answer, Lent, Progress, Session, State};
 

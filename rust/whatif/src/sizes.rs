@@ -10,6 +10,8 @@ pub const MAX_LABELS: usize = 64;
 pub const MAX_CHANGES: usize = 64;
 /// The most parts that a question can have: 4 × 64 - 2.
 pub const MAX_PARTS: usize = 254;
+/// The most lines of a separating plan: a line for each pair of states.
+pub const MAX_LINES: usize = 256;
 /// The greatest depth of a node, root 0. It follows from the limit on nodes.
 pub const MAX_DEPTH: usize = 32_767;
 

@@ -116,6 +116,24 @@ pub fn merge(first: &[u8], second: &[u8], merged: &mut [u8]) -> u32 {
     }
 }
 
+/// Tells whether they agree, and the count of lines.
+pub fn agree(first: &[u8], second: &[u8], lines: &mut [u16], told: &mut [u32; 2]) -> u32 {
+    let [agree, count] = told;
+    // SAFETY: as in `build_by`
+    unsafe {
+        raw::whatif_agree(
+            first.as_ptr(),
+            first.len(),
+            second.as_ptr(),
+            second.len(),
+            lines.as_mut_ptr(),
+            lines.len(),
+            agree,
+            count,
+        )
+    }
+}
+
 pub use session::*;
 
 mod session {

@@ -1,11 +1,13 @@
 //! The what-if checker as one would write it in plain fast Rust: the yardstick of the bench.
 //!
 //! Order: `checks` (2 to 11 and the parts of the lent bytes), `node_tables` (parents, jumps, depths, sizes), `rules` and `branch` (the
-//! bytes, full checks, branch questions), `fresh`, `merge` (two rule tables); `record` (the session's bytes), `question` (roots and parts),
+//! bytes, full checks, branch questions), `fresh`, `merge` and `agree` (two rule tables);
+//! `record` (the session's bytes), `question` (roots and parts),
 //! `layers` (both alone), `session` (the five calls on bytes), `place` (the session as a struct). Each call gives the
 //! same answers as the library's; the comparison tests hold it to the reference implementation as well.
 //! Maps are composed: a far jump's map is the step, then the parent's map, then the map of the parent's jump.
 
+mod agree;
 mod branch;
 mod checks;
 mod fresh;
@@ -18,6 +20,7 @@ mod record;
 mod rules;
 pub mod session;
 
+pub use agree::agree;
 pub use branch::{ask, branch_build, branch_check, Told};
 pub use fresh::fresh_run;
 pub use merge::merge;

@@ -120,7 +120,7 @@ pub fn refused(faults: &[Check], random: &mut Random, counts: &mut Counts) {
 }
 
 /// A random table with these faults of 6 to 9.
-fn table(s: usize, k: usize, faults: &[u32], random: &mut Random) -> Vec<u8> {
+pub fn table(s: usize, k: usize, faults: &[u32], random: &mut Random) -> Vec<u8> {
     let mut input = Input::new(&Case::new(Shape::Uniform, 1, s, k, random), Kind::Rules, random);
     input.lay(faults, random);
     input.table

@@ -1,6 +1,7 @@
 //! Random comparisons in rounds: a round of each kind makes a case or a few, as chance has them, and compares every call
 //! that it makes. The tests run them from fixed seeds and ask what came; the program runs them all, round after round.
 
+pub mod agreements;
 pub mod branch_questions;
 pub mod builds;
 pub mod call_lists;
@@ -27,7 +28,7 @@ pub struct Round {
     compare: fn(&mut Random, &mut Counts),
 }
 
-pub const ROUNDS: [Round; 13] = [
+pub const ROUNDS: [Round; 14] = [
     Round { name: "builds", compare: builds::round },
     Round { name: "full checks", compare: full_checks::round },
     Round { name: "fresh runs", compare: fresh_runs::round },
@@ -41,6 +42,7 @@ pub const ROUNDS: [Round; 13] = [
     Round { name: "session refusals", compare: session_refusals::round },
     Round { name: "damaged records", compare: damaged_records::round },
     Round { name: "merges", compare: merges::round },
+    Round { name: "agreements", compare: agreements::round },
 ];
 
 impl Round {

@@ -1,0 +1,4 @@
+pub mod ReplyLaws
+pub mod TableAnswer
+pub mod PromiseLaws
+pub mod Theorems

@@ -1,0 +1,126 @@
+-- `first_differing` meets its contract. Assumes nothing.
+use Prim.Native.Nat.{_+_, _-_}
+use native.Mathlib.Omega.{arith}
+use Rattle.rule_search.specs.SearchRecord.{MarksArgs}
+use Rattle.rule_search.proofs.MarksLoop.{MarksLoop, marks-loop-start, marks-loop-same, marks-loop-found}
+use Rattle.rule_search.proofs.MarksLoop.{marks-loop-end, mark-first, mark-second}
+use borrow.Author.Needs.{needs}
+use Rattle.rule_search.proofs.first_differing.Statement.{statement}
+use Rattle.rule_search.proofs.first_differing.Tie as tie
+use Rattle.rule_search.proofs.first_differing.Reads as reads
+use Rattle.rule_search.proofs.first_differing.Lts as lts
+
+abbrev Inv-loop : tie.InvT-loop
+Inv-loop first second s2 s i₀ i = MarksArgs first second s2 s × MarksLoop first second s2 s i
+
+abbrev μ-loop : tie.MeasureT-loop
+μ-loop first second s2 s i₀ i = s .count - i
+
+loop-holds : tie.Need-loop-holds Inv-loop μ-loop
+loop-holds c =
+    let g = c .args in
+    (c .pre, marks-loop-start (g .first .now) (g .second .now) (g .s2) (g .t4))
+
+element-copy-out-c : tie.Need-element-copy-out-c Inv-loop μ-loop
+element-copy-out-c c =
+    let a = c .before in
+    let g = a .before .args in
+    let l = a .loop in
+    omega (arith, l .inv .0 .few, c .loop-test .taken)
+
+cast-c : tie.Need-cast-c Inv-loop μ-loop
+cast-c c =
+    let a = c .before .before in
+    let g = a .before .args in
+    let l = a .loop in
+    omega (arith, l .inv .0 .small (l .i))
+
+div-if1 : tie.Need-div-if1 Inv-loop μ-loop
+div-if1 c =
+    let a = c .before .before in
+    let g = a .before .args in
+    let l = a .loop in
+    omega (arith, l .inv .0 .second-least)
+
+shared-slice-read-if1 : tie.Need-shared-slice-read-if1 Inv-loop μ-loop
+shared-slice-read-if1 c =
+    let a = c .before .before .before in
+    let g = a .before .args in
+    let l = a .loop in
+    mark-first (g .first .now) (g .second .now) (g .s2) (g .t4) (l .inv .0) (l .i)
+
+rem-if1 : tie.Need-rem-if1 Inv-loop μ-loop
+rem-if1 c =
+    let a = c .before .before .before in
+    let g = a .before .args in
+    let l = a .loop in
+    omega (arith, l .inv .0 .second-least)
+
+shared-slice-read-if1-2 : tie.Need-shared-slice-read-if1-2 Inv-loop μ-loop
+shared-slice-read-if1-2 c =
+    let a = c .before .before .before .before in
+    let g = a .before .args in
+    let l = a .loop in
+    mark-second (g .first .now) (g .second .now) (g .s2) (g .t4) (l .inv .0) (l .i)
+
+add-result : tie.Need-add-result Inv-loop μ-loop
+add-result c =
+    let a = c .before .before .before .before .before in
+    let g = a .before .args in
+    let l = a .loop in
+    omega (arith, l .inv .0 .few, c .before .before .before .before .loop-test .taken)
+
+returns : tie.Need-returns Inv-loop μ-loop
+returns c =
+    let a = c .before .before .before .before .before in
+    let g = a .before .args in
+    let l = a .loop in
+    marks-loop-found (g .first .now) (g .second .now) (g .s2) (g .t4) (l .i) (l .inv .1)
+    (c .before .before .before .before .loop-test .taken) (c .if1 .taken)
+
+add-i : tie.Need-add-i Inv-loop μ-loop
+add-i c =
+    let a = c .before .before .before .before .before in
+    let g = a .before .args in
+    let l = a .loop in
+    omega (arith, l .inv .0 .few, c .before .before .before .before .loop-test .taken)
+
+loop-less : tie.Need-loop-less Inv-loop μ-loop
+loop-less c = search needs
+
+loop-again : tie.Need-loop-again Inv-loop μ-loop
+loop-again c =
+    let a = c .before .before .before .before .before in
+    let g = a .before .args in
+    let l = a .loop in (
+      l .inv .0,
+      marks-loop-same (g .first .now) (g .second .now) (g .s2) (g .t4) (l .i) (l .inv .1)
+          (c .before .before .before .before .loop-test .taken) (c .if1 .left),
+    )
+
+returns-2 : tie.Need-returns-2 Inv-loop μ-loop
+returns-2 c =
+    let a = c .before in
+    let g = a .before .args in
+    let l = a .loop in
+    marks-loop-end (g .first .now) (g .second .now) (g .s2) (g .t4) (l .i) (l .inv .1) (c .loop-test .left)
+
+pub first-differing-spec : {M : Type 1} → statement M
+first-differing-spec =
+    tie.close
+    (tie.spec
+    Inv-loop
+    μ-loop
+    loop-holds
+    element-copy-out-c
+    cast-c
+    div-if1
+    shared-slice-read-if1
+    rem-if1
+    shared-slice-read-if1-2
+    add-result
+    returns
+    add-i
+    loop-less
+    loop-again
+    returns-2)

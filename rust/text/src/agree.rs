@@ -1,0 +1,81 @@
+//! What `whatif-text agree` says of two tables: a separating plan as lines, as a plan to paste, and as a picture.
+
+use crate::plan;
+use reference::agree as separating;
+use reference::formats::read_rules;
+use whatif::Line;
+
+/// The lines that the root needs, numbered anew in their order.
+pub fn needed(lines: &[Line]) -> Vec<Line> {
+    let mut used = vec![false; lines.len()];
+    if let Some(root) = used.last_mut() {
+        *root = true;
+    }
+    for at in (0..lines.len()).rev() {
+        if let (true, Line::Inner { left, right, .. }) = (used[at], lines[at]) {
+            used[left] = true;
+            used[right] = true;
+        }
+    }
+    let number = |line: usize| used[..line].iter().filter(|used| **used).count();
+    let anew = |line: Line| match line {
+        Line::Inner { label, left, right } => Line::Inner { label, left: number(left), right: number(right) },
+        leaf => leaf,
+    };
+    lines.iter().zip(&used).filter(|(_, used)| **used).map(|(line, _)| anew(*line)).collect()
+}
+
+/// Does a rule table clear the plan of these lines? It passes 6 to 9 and has their labels.
+pub fn clears(rules: &[u8], lines: &[Line]) -> bool {
+    let rules = read_rules(rules).expect("a table that was taken");
+    let mut states: Vec<u8> = Vec::new();
+    for line in lines {
+        states.push(match *line {
+            Line::Leaf { label } => rules.leaf(label),
+            Line::Inner { label, left, right } => rules.inner(states[left], label, states[right]),
+        });
+    }
+    states.last().map_or(false, |&state| rules.accepts(state))
+}
+
+/// Text that can be pasted: the lines as comments, then the plan, where it has no more nodes than a plan can have.
+pub fn text(lines: &[Line]) -> String {
+    let line = |(i, line): (usize, &Line)| match line {
+        Line::Leaf { label } => format!("# line {}: leaf {}\n", i, label),
+        Line::Inner { label, left, right } => format!("# line {}: inner {} over {} and {}\n", i, label, left, right),
+    };
+    let said: String = lines.iter().enumerate().map(line).collect();
+    match separating::plan(&lines.iter().map(numbers).collect::<Vec<_>>()) {
+        Some(plan) => format!("{}plan\n{}", said, plan::to_text(&plan)),
+        None => said + "# as a tree it has more than 65,535 nodes, the most that a plan can have\n",
+    }
+}
+
+fn numbers(line: &Line) -> [u16; 4] {
+    match *line {
+        Line::Leaf { label } => [0, label.into(), 0, 0],
+        Line::Inner { label, left, right } => [1, label.into(), left as u16, right as u16],
+    }
+}
+
+const HEAD: &str = "\
+// LINE: LABEL. A box is a leaf. The root stands on top; a line to the left child leaves to the left.
+digraph separating {
+    graph [ordering=out];
+    node [shape=circle];
+    edge [dir=none];
+";
+
+/// The lines as Graphviz text: a node for each, also where several lead to it.
+pub fn picture(lines: &[Line]) -> String {
+    let mut text = HEAD.to_string();
+    for (i, line) in lines.iter().enumerate().rev() {
+        text += &match line {
+            Line::Leaf { label } => format!("    {} [label=\"{}: {}\", shape=box];\n", i, i, label),
+            Line::Inner { label, left, right } => {
+                format!("    {} [label=\"{}: {}\"];\n    {} -> {};\n    {} -> {};\n", i, i, label, i, left, i, right)
+            }
+        };
+    }
+    text + "}\n"
+}
