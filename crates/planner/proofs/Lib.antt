@@ -1,0 +1,10 @@
+pub mod PreorderLaws
+pub mod ImageLaws
+pub mod OutMachine
+pub mod HomeMachine
+pub mod ItemLaws
+pub mod FileTrees
+pub mod ConversionLaws
+pub mod ImageTestLaws
+pub mod CheckAnswers
+pub mod Theorems

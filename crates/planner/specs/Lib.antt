@@ -1,0 +1,4 @@
+pub mod Siblings
+pub mod File
+pub mod Conversion
+pub mod inner

@@ -1,0 +1,3 @@
+pub mod OutMachine
+pub mod HomeMachine
+pub mod ImageTests

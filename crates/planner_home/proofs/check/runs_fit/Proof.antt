@@ -1,0 +1,62 @@
+use Prim.Native.Nat.{_-_, _≤_}
+use mathlib.Core.Path.{_≡_, refl, sym, _∙_}
+use lib.ListN.{length, drop}
+use Rattle.planner.specs.inner.ImageTests.{runsFit}
+use Rattle.planner_home.proofs.CheckLoop.{runs-no, runs-iteration, runs-end}
+use native.Mathlib.Omega.{arith}
+use borrow.Author.Needs.{needs}
+use Rattle.planner_home.proofs.check.runs_fit.Statement.{statement}
+use Rattle.planner_home.proofs.check.runs_fit.Tie as tie
+use Rattle.planner_home.proofs.check.runs_fit.Reads as reads
+use Rattle.planner_home.proofs.check.runs_fit.Lts as lts
+use Rattle.planner_home.proofs.check.run_after.Reads as run-after-reads
+
+abbrev Inv-loop : tie.InvT-loop
+Inv-loop kinds run₀ i₀ run i = (i ≤ length kinds) × (run ≤ 255) × (runsFit 256 (drop i kinds) run ≡ runsFit 256 kinds 0)
+
+abbrev μ-loop : tie.MeasureT-loop
+μ-loop kinds run₀ i₀ run i = length kinds - i
+
+loop-holds : tie.Need-loop-holds Inv-loop μ-loop
+loop-holds c = (omega arith, omega arith, refl)
+
+shared-slice-read-run-after : tie.Need-shared-slice-read-run-after Inv-loop μ-loop
+shared-slice-read-run-after c = search needs
+
+run-after-requires : tie.Need-run-after-requires Inv-loop μ-loop
+run-after-requires c κs = search needs
+
+returns : tie.Need-returns Inv-loop μ-loop
+returns c = let l = c .before .before .before .before .loop in sym (runs-no _ (l .run) (l .i) (l .inv .2) (omega arith) (c .before .run-after .result) (c .before .run-after .ensures) (omega arith))
+
+add-i : tie.Need-add-i Inv-loop μ-loop
+add-i c = search needs
+
+loop-less : tie.Need-loop-less Inv-loop μ-loop
+loop-less c = search needs
+
+loop-again : tie.Need-loop-again Inv-loop μ-loop
+loop-again c =
+    let l = c .before .before .before .before .loop in (
+      omega arith,
+      omega arith,
+      runs-iteration _ (l .run) (l .i) (l .inv .2) (omega arith) (c .before .run-after .result) (c .before .run-after .ensures) (omega arith),
+    )
+
+returns-2 : tie.Need-returns-2 Inv-loop μ-loop
+returns-2 c = let l = c .before .loop in runs-end _ (l .run) (l .i) (l .inv .2) (omega arith)
+
+pub runs-fit-spec : {M : Type 1} → statement M
+runs-fit-spec =
+    tie.close
+    (tie.spec
+    Inv-loop
+    μ-loop
+    loop-holds
+    shared-slice-read-run-after
+    run-after-requires
+    returns
+    add-i
+    loop-less
+    loop-again
+    returns-2)

@@ -1,0 +1,33 @@
+use mathlib.Core.Path.{sym}
+use Rattle.planner_out.proofs.CheckLoop.{room-many, room-plan, room-rest}
+use native.Mathlib.Omega.{arith}
+use borrow.Author.Needs.{needs}
+use Rattle.planner_out.proofs.check.room_fits.Statement.{statement}
+use Rattle.planner_out.proofs.check.room_fits.Tie as tie
+use Rattle.planner_out.proofs.check.room_fits.Reads as reads
+use Rattle.planner_out.proofs.check.room_fits.Lts as lts
+
+returns : tie.Need-returns
+returns c = sym (room-many _ _ _ (c .if1 .taken))
+
+mul-if2 : tie.Need-mul-if2
+mul-if2 c = search needs
+
+add-if2 : tie.Need-add-if2
+add-if2 c = search needs
+
+mul-if2-2 : tie.Need-mul-if2-2
+mul-if2-2 c = search needs
+
+add-if2-2 : tie.Need-add-if2-2
+add-if2-2 c = search needs
+
+returns-2 : tie.Need-returns-2
+returns-2 c = sym (room-plan _ _ _ (omega arith) (c .if2 .taken))
+
+returns-3 : tie.Need-returns-3
+returns-3 c = room-rest _ _ _ (omega arith) (omega arith)
+
+pub room-fits-spec : {M : Type 1} → statement M
+room-fits-spec =
+    tie.close (tie.spec returns mul-if2 add-if2 mul-if2-2 add-if2-2 returns-2 returns-3)

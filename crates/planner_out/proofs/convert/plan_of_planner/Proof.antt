@@ -1,0 +1,55 @@
+use mathlib.Core.Path.{_≡_, refl, sym, _∙_}
+use denote.Ref.{now}
+use lib.ListN.{length}
+use Rattle.formats.specs.Checks.{firstNo}
+use Rattle.planner.specs.File.{outChecks}
+use Rattle.planner.proofs.CheckAnswers.{out-passes}
+use Rattle.planner_out.proofs.OutLaws.{out-done, out-refused}
+use native.Mathlib.Omega.{arith}
+use borrow.Author.Needs.{needs}
+use Rattle.planner_out.proofs.convert.plan_of_planner.Statement.{statement}
+use Rattle.planner_out.proofs.convert.plan_of_planner.Tie as tie
+use Rattle.planner_out.proofs.convert.plan_of_planner.Reads as reads
+use Rattle.planner_out.proofs.convert.plan_of_planner.Lts as lts
+use Rattle.formats.proofs.bytes.read32.Reads as read32-reads
+use Rattle.planner_out.proofs.check.check_out.Reads as check-out-reads
+use Rattle.planner_out.proofs.convert.write_out.Reads as write-out-reads
+
+-- nothing fails
+passes : (c : tie.Else1)
+    → firstNo (outChecks (now (c .before .before .before .before .before .args .file)) (length (now (c .before .before .before .before .before .args .plan))) (length (now (c .before .before .before .before .before .args .places)))) ≡ 0
+passes c = sym (c .before .check-out .ensures) ∙ omega arith
+
+check-out-requires : tie.Need-check-out-requires
+check-out-requires c κs = search needs
+
+returns : tie.Need-returns
+returns c = out-refused _ _ _ _ (λ e. omega arith) (c .before .check-out .ensures)
+
+read32-requires : tie.Need-read32-requires
+read32-requires c κs = omega (arith, out-passes _ _ _ (passes c) .file .long)
+
+write-out-requires : tie.Need-write-out-requires
+write-out-requires c κs = record { passes = passes (c .before .before .before); count = c .before .before .read32 .ensures }
+
+same-length : tie.Need-same-length
+same-length c = search needs
+
+same-length-2 : tie.Need-same-length-2
+same-length-2 c = search needs
+
+returns-2 : tie.Need-returns-2
+returns-2 c =
+    out-done _ _ _ _ _ _ refl (passes (c .before .before .before .before .before .before .before .before)) (c .before .before .before .before .write-out .ensures)
+
+pub plan-of-planner-spec : {M : Type 1} → statement M
+plan-of-planner-spec =
+    tie.close
+    (tie.spec
+    check-out-requires
+    returns
+    read32-requires
+    write-out-requires
+    same-length
+    same-length-2
+    returns-2)

@@ -1,0 +1,48 @@
+use mathlib.Core.Path.{sym, ap, _∙_}
+use mathlib.Core.Bool.{Bool}
+use denote.Ref.{now}
+use Rattle.planner_out.specs.inner.Stack.{goesOn}
+use Rattle.planner_out.proofs.StackLaws.{goesOn-closing, goesOn-open}
+use native.Mathlib.Omega.{arith}
+use borrow.Author.Needs.{needs}
+use Rattle.planner_out.proofs.places.goes_on.Statement.{statement}
+use Rattle.planner_out.proofs.places.goes_on.Tie as tie
+use Rattle.planner_out.proofs.places.goes_on.Reads as reads
+use Rattle.planner_out.proofs.places.goes_on.Lts as lts
+
+returns : tie.Need-returns
+returns c = search needs
+
+returns-2 : tie.Need-returns-2
+returns-2 c =
+    let a = c .before .before .args in
+    sym (ap (λ (b : Bool). goesOn (now (a .plan)) (a .depth) b) (c .if2 .taken) ∙ goesOn-closing (now (a .plan)) (a .depth) (omega arith))
+
+sub-result : tie.Need-sub-result
+sub-result c = search needs
+
+mul-result : tie.Need-mul-result
+mul-result c = search needs
+
+add-result : tie.Need-add-result
+add-result c = search needs
+
+shared-slice-read-result : tie.Need-shared-slice-read-result
+shared-slice-read-result c = search needs
+
+returns-3 : tie.Need-returns-3
+returns-3 c =
+    let a = c .before .before .before .args in
+    sym (ap (λ (b : Bool). goesOn (now (a .plan)) (a .depth) b) (c .before .if2 .left) ∙ goesOn-open (now (a .plan)) (a .depth) (omega arith))
+
+pub goes-on-spec : {M : Type 1} → statement M
+goes-on-spec =
+    tie.close
+    (tie.spec
+    returns
+    returns-2
+    sub-result
+    mul-result
+    add-result
+    shared-slice-read-result
+    returns-3)
