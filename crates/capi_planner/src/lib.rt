@@ -9,7 +9,8 @@ ghost use Rattle.planner_out.specs.Out.{OutDone};
 #[no_mangle]
 pub extern "C" fn whatif_plan_of_planner(file: &[u8], plan: &mut [u8], places: &mut [u16]) -> u32
     ensures { λ r. ⌜
-        OutDone (now (file .entry)) (now (plan .entry)) (now (places .entry)) r (now (plan .exit)) (now (places .exit)) ⌝ }
+        OutDone (now (file .entry)) (now (plan .entry)) (now (places .entry)) r
+        (now (plan .exit)) (now (places .exit)) ⌝ }
 {
     plan_of_planner(file, plan, places) as u32
 }

@@ -14,7 +14,7 @@ use lib.ListN.{length, getD, take, drop}
 use lib.Seq.{sets, length-sets}
 use borrow.Author.Tests.{eqb-true}
 use Rattle.list_laws.proofs.BoolLaws.{and-left, and-right}
-use Rattle.list_laws.proofs.SliceLaws.{run-part, end-part}
+use Rattle.list_laws.proofs.SliceLaws.{run-part, end-part, rest-cut}
 use Rattle.trees.specs.Tree.{Tree, size, labelsOf, kindsOf}
 use Rattle.formats.specs.Plan.{nodeCount, labelsIn, kindsIn, planTree}
 use Rattle.formats.specs.Checks.{firstNo, planChecks}
@@ -28,7 +28,6 @@ use Rattle.planner.proofs.ImageTestLaws.{image-tests}
 use Rattle.planner.proofs.CheckAnswers.{home-passes}
 use Rattle.planner_out.specs.inner.Laid.{planHeader}
 use Rattle.planner_out.proofs.PlanLaws.{rest-is, headed}
-use Rattle.list_laws.proofs.SliceLaws.{rest-cut}
 use Rattle.planner_home.specs.inner.Cells.{cellsFrom, Kept, Fits, ReadArgs, ReadDone}
 use Rattle.planner_home.specs.Home.{HomeArgs, HomeWritten, HomeDone}
 use Rattle.planner_home.proofs.CheckLoop.{size-unimage}

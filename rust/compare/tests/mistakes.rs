@@ -25,7 +25,10 @@ const NOTICED: [(Mistake, &[&str]); 33] = [
     (Mistake::CleanForEver, &["other bytes", "call lists"]),
     (Mistake::FinishedEarly, &["questions", "call lists"]),
     (Mistake::LinksKept, &["questions", "call lists"]),
-    (Mistake::NumbersCut, &["refusals", "branch questions", "session refusals", "call lists", "merges", "planner files"]),
+    (
+        Mistake::NumbersCut,
+        &["refusals", "branch questions", "session refusals", "call lists", "merges", "planner files"],
+    ),
     (Mistake::NodesCut, &["branch questions"]),
     (Mistake::LabelsBeforeNodes, &["refusals", "session refusals"]),
     (Mistake::ExcessCompared, &["full checks"]),

@@ -80,7 +80,8 @@ lay-nodes-requires c κs =
     let s = d .before .before .before .before .before .before .before .before .before in (
       s .pre .0,
       lay-args (s .pre .0) _ _ _ (s .pre .1) (2 * length (s .args .labels .now) + 1) refl _ _ _
-          (d .before .before .before .before .write-header .ensures) (d .fill .ensures) (c .before .before .before .fill2 .ensures),
+          (d .before .before .before .before .write-header .ensures) (d .fill .ensures)
+          (c .before .before .before .fill2 .ensures),
     )
 
 same-length : tie.Need-same-length
