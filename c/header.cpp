@@ -19,6 +19,10 @@ static int without_a_session() {
         return 8;
     if (whatif_agree(NULL, 0, NULL, 0, NULL, 0, &yes, &links) != WHATIF_REFUSED_TABLE_SHORT)
         return 9;
+    if (whatif_plan_of_planner(NULL, 0, NULL, 0, NULL, 0) != WHATIF_REFUSED_PLANNER_FILE)
+        return 10;
+    if (whatif_planner_of_plan(NULL, 0, NULL, 0) != WHATIF_REFUSED_PLANNER_FILE)
+        return 11;
     return yes == 9 && state == 9 && links == 9 ? 0 : 3;
 }
 

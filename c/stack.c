@@ -22,6 +22,8 @@ static uint16_t node_table[WHATIF_NODE_TABLE_LEN(N)], nodes[WHATIF_MAX_CHANGES];
 static uint8_t state_table[WHATIF_STATE_TABLE_LEN(N, STATES)], labels[WHATIF_MAX_CHANGES];
 static uint8_t four[WHATIF_RULES_BYTES(4, LABELS)], merged[WHATIF_RULES_BYTES(STATES, LABELS)];
 static uint16_t lines[4 * WHATIF_MAX_LINES];
+static uint8_t planner[WHATIF_PLANNER_BYTES(N / 2)], image[WHATIF_PLANNER_PLAN_BYTES(N / 2)];
+static uint16_t places[N / 2];
 static uint32_t answer, out[4];
 static _Alignas(64) uint8_t stack[ROOM];
 
@@ -42,6 +44,10 @@ static void branch_check(void) { answer = whatif_branch_check(BRANCH, TABLES, ou
 static void ask(void) { answer = whatif_branch(BRANCH, TABLES, N - 1, 1, out, out + 1, out + 2); }
 static void merge(void) { answer = whatif_merge(FOUR, FOUR, merged, sizeof merged); }
 static void agree(void) { answer = whatif_agree(SIXTEEN, SIXTEEN, lines, 4 * WHATIF_MAX_LINES, out, out + 1); }
+static void planner_out(void) {
+    answer = whatif_plan_of_planner(planner, sizeof planner, image, sizeof image, places, N / 2);
+}
+static void planner_home(void) { answer = whatif_planner_of_plan(image, sizeof image, planner, sizeof planner); }
 static void load(void) { answer = whatif_load(RECORD, RULES, TABLES); }
 static void start(void) { answer = whatif_start(RECORD, RULES, TABLES, LIST, out); }
 static void cancel(void) { answer = whatif_cancel(RECORD); }
@@ -72,6 +78,8 @@ static const struct call {
     {"branch question", ask, 1024},
     {"merge", merge, 1024},
     {"agreement", agree, 12 * 1024},
+    {"planner out", planner_out, 1024},
+    {"planner home", planner_home, 1024},
 };
 
 static void *run(void *make) {
@@ -103,7 +111,7 @@ static void header(uint8_t *at, size_t count, const size_t *numbers) {
         put(at + 4 * i, numbers[i]);
 }
 
-/* A comb to the left or to the right; tables and lists that lead anywhere. */
+/* A comb to the left or to the right; a planner's chain, or pairs of children, below the first of which others stand; tables and lists that lead anywhere. */
 static void make_inputs(int left) {
     const size_t inner = 20 + LABELS, marks = inner + STATES * LABELS * STATES, branch_marks = 16 + STATES * LABELS;
     header(plan, 3, (const size_t[]){N, 12, 12 + N});
@@ -123,6 +131,11 @@ static void make_inputs(int left) {
     for (size_t i = 0; i < WHATIF_MAX_CHANGES; i++) {
         nodes[i] = (uint16_t)(1 + i * 1000);
         labels[i] = (uint8_t)((i * 5 + 1) % LABELS);
+    }
+    header(planner, 3, (const size_t[]){N / 2, 12, 12 + N / 2});
+    for (size_t v = 0; v < N / 2; v++) {
+        planner[12 + v] = (uint8_t)(v * 7 % 63);
+        planner[12 + N / 2 + v] = left ? v + 1 < N / 2 : v == 0 ? 2 : v % 2 == 1 && v + 2 < N / 2 ? 2 : 0;
     }
     memset(record, 0, sizeof record);
 }

@@ -2,7 +2,7 @@
  * whatif.h: the what-if checker for C and C++.
  *
  * Order: version, limits, sizes, answers; the functions for tables and fresh runs, for branch questions, for two rule
- * tables, and of the panel session; then what is written here alone: what a record tells, the session's calls with what
+ * tables, for the planner's files, and of the panel session; then what is written here alone: what a record tells, the session's calls with what
  * is lent as one struct, the answers' texts.
  * The bytes of plans, tables and records are in LAYOUT.md, the order of the checks of each call in REFUSALS.md: both
  * stand in docs/ of the sources, and beside this file where it is installed.
@@ -50,6 +50,8 @@ extern "C" {
 #define WHATIF_MAX_LINES 256u
 /* The greatest depth of a node, root 0. It follows from the limit on nodes and is no check of its own. */
 #define WHATIF_MAX_DEPTH 32767u
+/* The most nodes of a planner's file: its plan has twice as many and one. */
+#define WHATIF_MAX_PLANNER_NODES 32767u
 
 /* Sizes: bytes of a plan of n nodes, of a rule table and of a branch table of s states and k labels; elements of the
  * node table (uint16_t) and of the state table (uint8_t) for n nodes and s states. A plan, a rule table and a branch
@@ -60,6 +62,9 @@ extern "C" {
 #define WHATIF_BRANCH_BYTES(s, k) ((size_t)16 + (size_t)(s) * (size_t)(k) + (size_t)(s))
 #define WHATIF_NODE_TABLE_LEN(n) ((size_t)4 * (size_t)(n))
 #define WHATIF_STATE_TABLE_LEN(n, s) (((size_t)(s) + (size_t)1) * (size_t)(n))
+/* Bytes of a planner's file of n nodes, and of its plan, which has 2n+1. */
+#define WHATIF_PLANNER_BYTES(n) ((size_t)12 + (size_t)2 * (size_t)(n))
+#define WHATIF_PLANNER_PLAN_BYTES(n) ((size_t)14 + (size_t)4 * (size_t)(n))
 
 /* Bytes of a session's record, and the version of its layout. All zero is a fresh session. Records of different layout
  * versions differ in length: a record that was kept is one of this version where it has WHATIF_RECORD_BYTES bytes, and
@@ -107,6 +112,12 @@ enum whatif_answer {
     WHATIF_REFUSED_LENT_LENGTH = 17,
     /* A value read leads outside the plan, the states or the labels, or a climb does not rise. */
     WHATIF_REFUSED_LENT_VALUE = 18,
+    /* The planner's file is malformed, or the plan is not that of a planner's file. */
+    WHATIF_REFUSED_PLANNER_FILE = 19,
+    /* The planner's file has a label of 63 or more. */
+    WHATIF_REFUSED_PLANNER_LABEL = 20,
+    /* The planner's file has more than 32,767 nodes, or an output buffer is too short for it. */
+    WHATIF_REFUSED_PLANNER_ROOM = 21,
     /* The two rule tables do not have the same count of labels. */
     WHATIF_REFUSED_LABEL_COUNTS = 23,
     /* The product of the two rule tables' counts of states is above 16. */
@@ -217,6 +228,30 @@ uint32_t whatif_merge(const uint8_t *first, size_t first_len, const uint8_t *sec
  */
 uint32_t whatif_agree(const uint8_t *first, size_t first_len, const uint8_t *second, size_t second_len, uint16_t *lines,
                       size_t lines_len, uint32_t *agree, uint32_t *count);
+
+/*
+ * Out: from a planner's file, whose nodes stand top first and have 0 to 255 children each, to our plan. A list of siblings
+ * becomes an inner node with the first one's label, its children's list at the left and the rest at the right; an empty
+ * list a leaf with label 63. So n nodes become 2n+1, and a rule table for such plans has K 64: label 63 is at every leaf.
+ * Lent:    the planner's file, read; plan and places, written. plan serves as work space before it is written.
+ * Written: the first WHATIF_PLANNER_PLAN_BYTES(n) bytes of plan: a plan, which passes 2 to 5; the first n numbers of
+ *          places: for each planner node, by its place in the file, its node in our plan. It is an inner node there, with
+ *          its own label. The rest of longer buffers is untouched.
+ * Answers: WHATIF_ACCEPTED, or the first of 19, 20, 21. Refused, plan and places are as they were.
+ */
+uint32_t whatif_plan_of_planner(const uint8_t *file, size_t file_len, uint8_t *plan, size_t plan_len, uint16_t *places,
+                                size_t places_len);
+
+/*
+ * Home: from our plan back to the planner's file, for exactly the plans that whatif_plan_of_planner can write. Going out
+ * and home restores the file, going home and out the plan.
+ * Lent:    the plan, read; file, written, and work space before.
+ * Written: the first WHATIF_PLANNER_BYTES(n) bytes of file, where the plan has 2n+1 nodes. The rest of a longer buffer is
+ *          untouched.
+ * Answers: WHATIF_ACCEPTED, or the first of 19, 21: 19 for bytes that 2 to 5 refuse and for every plan that comes from no
+ *          planner's file. Refused, file is as it was.
+ */
+uint32_t whatif_planner_of_plan(const uint8_t *plan, size_t plan_len, uint8_t *file, size_t file_len);
 
 /*
  * The panel session. Its record, WHATIF_RECORD_BYTES bytes, belongs to the panel: it is all zero at first, passes from
@@ -393,6 +428,12 @@ static inline const char *whatif_answer_text(uint32_t answer) {
         return "What is lent does not have the length that the counts of nodes, states and labels need.";
     case WHATIF_REFUSED_LENT_VALUE:
         return "A value read leads outside the plan, the states or the labels, or a climb does not rise.";
+    case WHATIF_REFUSED_PLANNER_FILE:
+        return "The planner's file is malformed, or the plan is not that of a planner's file.";
+    case WHATIF_REFUSED_PLANNER_LABEL:
+        return "The planner's file has a label of 63 or more.";
+    case WHATIF_REFUSED_PLANNER_ROOM:
+        return "The planner's file has more than 32,767 nodes, or an output buffer is too short for it.";
     case WHATIF_REFUSED_LABEL_COUNTS:
         return "The two rule tables do not have the same count of labels.";
     case WHATIF_REFUSED_STATE_PRODUCT:

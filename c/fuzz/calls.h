@@ -24,6 +24,8 @@ enum try {
     PANEL,
     MERGE,
     AGREE,
+    PLANNER_OUT,
+    PLANNER_HOME,
     TRIES
 };
 
@@ -53,5 +55,9 @@ uint32_t try_panel(struct input *in);
 /* The calls on two rule tables, and these tables on a plan. rules.c */
 uint32_t try_merge(struct input *in);
 uint32_t try_agree(struct input *in);
+
+/* The calls on planner's files, and what was written back again. planner.c */
+uint32_t try_plan_of_planner(struct input *in);
+uint32_t try_planner_of_plan(struct input *in);
 
 #endif

@@ -12,6 +12,8 @@
 #define LIST const uint16_t *listed, size_t listed_len, const uint8_t *labels, size_t labels_len
 #define MERGED                                                                                                         \
     const uint8_t *first, size_t first_len, const uint8_t *second, size_t second_len, uint8_t *merged, size_t merged_len
+#define PLANNER_OUT                                                                                                    \
+    const uint8_t *file, size_t file_len, uint8_t *plan, size_t plan_len, uint16_t *places, size_t places_len
 #define ALL plan, plan_len, rules, rules_len, nodes, nodes_len, states, states_len
 
 uint32_t __real_whatif_build(PLAN_RULES, WRITTEN);
@@ -20,6 +22,8 @@ uint32_t __real_whatif_fresh_run(PLAN_RULES, LIST, uint32_t *state, uint32_t *ye
 uint32_t __real_whatif_merge(MERGED);
 uint32_t __real_whatif_agree(const uint8_t *first, size_t first_len, const uint8_t *second, size_t second_len,
                              uint16_t *lines, size_t lines_len, uint32_t *agree, uint32_t *count);
+uint32_t __real_whatif_plan_of_planner(PLANNER_OUT);
+uint32_t __real_whatif_planner_of_plan(const uint8_t *plan, size_t plan_len, uint8_t *file, size_t file_len);
 uint32_t __real_whatif_start(uint8_t *record, size_t record_len, PLAN_RULES, READ, LIST, uint32_t *parts);
 uint32_t __real_whatif_cancel(uint8_t *record, size_t record_len);
 uint32_t __real_whatif_read(const uint8_t *record, size_t record_len, uint32_t *state, uint32_t *yes, uint32_t *parts,
@@ -105,5 +109,21 @@ uint32_t __wrap_whatif_agree(const uint8_t *first, size_t first_len, const uint8
         lines[4 * *count - 2] = (uint16_t)(*count - 1), lines[4 * *count - 4] = 1;
     if (laid(17) && answer != 0) /* refused, and told */
         *count = 0;
+    return answer;
+}
+
+uint32_t __wrap_whatif_plan_of_planner(PLANNER_OUT) {
+    uint32_t answer = __real_whatif_plan_of_planner(file, file_len, plan, plan_len, places, places_len);
+    if (laid(18) && answer != 0 && places_len > 0) /* a refused call writes */
+        places[0]++;
+    if (laid(19) && answer == 0) /* a place is told one too early */
+        places[0]--;
+    return answer;
+}
+
+uint32_t __wrap_whatif_planner_of_plan(const uint8_t *plan, size_t plan_len, uint8_t *file, size_t file_len) {
+    uint32_t answer = __real_whatif_planner_of_plan(plan, plan_len, file, file_len);
+    if (laid(20) && answer == 0) /* another label comes home */
+        file[12]++;
     return answer;
 }

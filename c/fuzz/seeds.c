@@ -80,6 +80,8 @@ static const char *const folders[TRIES] = {
     [PANEL] = "panel",
     [MERGE] = "merge",
     [AGREE] = "agree",
+    [PLANNER_OUT] = "plan-of-planner",
+    [PLANNER_HOME] = "planner-of-plan",
 };
 
 /* A file in the folder of its call. */
@@ -251,6 +253,34 @@ static void agreements(const struct plan *p, const struct plan *other) {
     put(60, 2), end();
 }
 
+/* A planner's file of n nodes by its labels and child counts, out and home: with some excess, exact behind a page; a label
+ * of 63, two trees, too short outputs; a plan that comes from no file. */
+static void planner_files(const char *name, const uint8_t *labels, const uint8_t *counts, size_t n) {
+    uint8_t bytes_of[WHATIF_PLANNER_BYTES(9)] = {(uint8_t)n, 0, 0, 0, 12, 0, 0, 0, (uint8_t)(12 + n)};
+    uint8_t out[WHATIF_PLANNER_PLAN_BYTES(9)];
+    uint16_t places[9];
+    size_t len = WHATIF_PLANNER_BYTES(n), plan_len = WHATIF_PLANNER_PLAN_BYTES(n);
+    memcpy(bytes_of + 12, labels, n), memcpy(bytes_of + 12 + n, counts, n);
+    must(whatif_plan_of_planner(bytes_of, len, out, plan_len, places, n) == 0);
+    begin(PLANNER_OUT, name, ""), put(BEFORE, 1), bytes(bytes_of, len), put((uint32_t)plan_len + 1, 2);
+    put((uint32_t)n + 1, 2), end();
+    begin(PLANNER_OUT, name, "-behind"), put(BEHIND, 1), bytes(bytes_of, len), put((uint32_t)plan_len, 2);
+    put((uint32_t)n, 2), end();
+    begin(PLANNER_OUT, name, "-21"), put(BEFORE, 1), bytes(bytes_of, len), put((uint32_t)plan_len, 2);
+    put((uint32_t)n - 1, 2), end();
+    begin(PLANNER_HOME, name, ""), put(BEFORE, 1), bytes(out, plan_len), put((uint32_t)len + 1, 2), end();
+    begin(PLANNER_HOME, name, "-behind"), put(BEHIND, 1), bytes(out, plan_len), put((uint32_t)len, 2), end();
+    begin(PLANNER_HOME, name, "-21"), put(BEFORE, 1), bytes(out, plan_len), put((uint32_t)len - 1, 2), end();
+    out[12] = 62;
+    begin(PLANNER_HOME, name, "-19"), put(BEFORE, 1), bytes(out, plan_len), put((uint32_t)len, 2), end();
+    bytes_of[12] = 63;
+    begin(PLANNER_OUT, name, "-20"), put(BEFORE, 1), bytes(bytes_of, len), put((uint32_t)plan_len, 2);
+    put((uint32_t)n, 2), end();
+    bytes_of[12 + n] ^= 1;
+    begin(PLANNER_OUT, name, "-19"), put(BEFORE, 1), bytes(bytes_of, len), put((uint32_t)plan_len, 2);
+    put((uint32_t)n, 2), end();
+}
+
 int main(int argc, char **argv) {
     must(argc == 2);
     folder = argv[1];
@@ -264,6 +294,8 @@ int main(int argc, char **argv) {
     refused_starts();
     merges(&sample, &comb), merges(&comb, &sample);
     agreements(&sample, &comb), agreements(&comb, &sample);
+    planner_files("one", (const uint8_t[]){7}, (const uint8_t[]){0}, 1);
+    planner_files("nine", (const uint8_t[]){5, 6, 8, 7, 0, 62, 1, 1, 9}, (const uint8_t[]){3, 1, 0, 0, 2, 1, 1, 0, 0}, 9);
     on_tables(&comb), on_records(&comb, &far), panel(&comb, &far), question(&comb, &far, "");
     for (size_t i = 0; i < QUESTIONS; i++) {
         char which[] = {'-', (char)('1' + i), 0};

@@ -36,6 +36,8 @@ static const struct {
     [PANEL] = {"a list of calls", try_panel, FROM(0, 15) | FROM(17, 18)},
     [MERGE] = {"whatif_merge", try_merge, 1u | FROM(6, 9) | FROM(11, 11) | FROM(23, 24)},
     [AGREE] = {"whatif_agree", try_agree, 1u | FROM(6, 9) | FROM(11, 11) | FROM(23, 23)},
+    [PLANNER_OUT] = {"whatif_plan_of_planner", try_plan_of_planner, 1u | FROM(19, 21)},
+    [PLANNER_HOME] = {"whatif_planner_of_plan", try_planner_of_plan, 1u | FROM(19, 19) | FROM(21, 21)},
 };
 
 #define MOST 27 /* the greatest number of a refusal */

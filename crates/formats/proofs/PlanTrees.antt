@@ -1,4 +1,5 @@
 -- From a plan to its tree and back, from a tree to its plan and back.
+--     five-runs           a plan, or another file of this layout, in its five runs
 --     plan-tree           planBytes (planTree p) is p again, where p passes 2 to 5
 --     planBytes-passes    the plan of a tree of at most 65,535 nodes passes
 --     tree-plan           planTree (planBytes t) is t again
@@ -9,7 +10,7 @@ use mathlib.Core.Path.{_≡_, refl, sym, ap, ap₂, _∙_}
 use mathlib.Core.Bool.{true}
 use mathlib.Core.List.{List, _++_}
 use native.Mathlib.Omega.{arith}
-use lib.ListN.{length, getD, take, drop, length-append, length-drop, take-append-drop}
+use lib.ListN.{length, getD, take, drop, length-append, length-drop}
 use lib.Seq.{take-all, take-at, drop-at, drop-drop}
 use Rattle.trees.specs.Tree.{Tree, size, kindsOf, labelsOf}
 use Rattle.trees.specs.Postorder.{isPostorder, treeOf}
@@ -21,36 +22,30 @@ use Rattle.formats.specs.Plan.{nodeCount, planLength, labelsIn, kindsIn,
 use Rattle.formats.specs.Checks.{firstNo, planChecks}
 use Rattle.formats.proofs.ByteLaws.{bytes-number, read-bytes}
 use Rattle.list_laws.proofs.TestLaws.{allBelow-all}
+use Rattle.list_laws.proofs.SliceLaws.{rest-cut, append-both}
 use Rattle.formats.proofs.PlanLaws.{PlanPasses, plan-passes, passes-plan, kinds-planTree, labels-planTree, size-planTree}
 
 -- ---- from a plan to its tree and back
 
-cut : (l : List ℕ) (a n b : ℕ) → b ≡ a + n → drop a l ≡ take n (drop a l) ++ drop b l
-cut l a n b e =
-    sym (take-append-drop n (drop a l)) ∙ ap (λ (t : List ℕ). take n (drop a l) ++ t) (drop-drop n a l ∙ ap (λ (i : ℕ). drop i l) (sym e))
-
 -- a plan in its five runs
-runs : (p : List ℕ) (n : ℕ) → length p ≡ 12 + 2 * n
+pub five-runs : (p : List ℕ) (n : ℕ) → length p ≡ 12 + 2 * n
     → p ≡ take 4 p ++ (take 4 (drop 4 p) ++ (take 4 (drop 8 p) ++ (take n (drop 12 p) ++ take n (drop (12 + n) p))))
-runs p n h =
-    cut p 0 4 4 refl
+five-runs p n h =
+    rest-cut p 0 4 4 refl
     ∙ ap (λ (t : List ℕ). take 4 p ++ t)
-    (cut p 4 4 8 refl
+    (rest-cut p 4 4 8 refl
     ∙ ap (λ (t : List ℕ). take 4 (drop 4 p) ++ t)
-    (cut p 8 4 12 refl
+    (rest-cut p 8 4 12 refl
     ∙ ap (λ (t : List ℕ). take 4 (drop 8 p) ++ t)
-    (cut p 12 n (12 + n) refl
+    (rest-cut p 12 n (12 + n) refl
     ∙ ap (λ (t : List ℕ). take n (drop 12 p) ++ t) (sym (take-all n (drop (12 + n) p) (simp length-drop (omega arith)))))))
-
-join : {a b c d : List ℕ} → a ≡ c → b ≡ d → a ++ b ≡ c ++ d
-join e f = ap₂ (λ (x y : List ℕ). x ++ y) e f
 
 -- the plan of a tree from its five runs
 module _ (a b c d e : List ℕ) (t : Tree) where
   plan-runs : le32Bytes (size t) ≡ a → le32Bytes 12 ≡ b → le32Bytes (12 + size t) ≡ c → labelsOf t ≡ d → kindsOf t ≡ e
       → planBytes t ≡ a ++ (b ++ (c ++ (d ++ e)))
   unfolding planBytes
-  plan-runs p q r s u = join p (join q (join r (join s u)))
+  plan-runs p q r s u = append-both p (append-both q (append-both r (append-both s u)))
 
 -- where 2 to 5 pass, the bytes are the plan of the tree that is read
 module _ (p : List ℕ) (bytes : allBelow 256 p ≡ true) where
@@ -67,7 +62,7 @@ module _ (p : List ℕ) (bytes : allBelow 256 p ≡ true) where
       (ap (λ (i : ℕ). le32Bytes (12 + i)) n ∙ ap le32Bytes (sym (h .kinds-at)) ∙ read-bytes p below 8 (omega (arith, h .long)))
       (labels-planTree p h)
       (kinds-planTree p h)
-      ∙ sym (runs p (nodeCount p) (h .exact))
+      ∙ sym (five-runs p (nodeCount p) (h .exact))
 
 -- ---- from a tree to its plan and back
 

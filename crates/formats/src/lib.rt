@@ -14,5 +14,5 @@ pub mod bytes;
 pub mod inputs;
 pub mod limits;
 pub mod lists;
-mod plan;
+pub mod plan;
 pub mod rules;

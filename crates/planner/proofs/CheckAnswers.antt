@@ -16,7 +16,8 @@ use Rattle.formats.specs.Plan.{planLength, planTree}
 use Rattle.formats.specs.Checks.{Check, check, firstNo, planChecks}
 use Rattle.formats.proofs.CheckLaws.{firstNo-yes, firstNo-no, firstNo-head, firstNo-tail, firstNo-none}
 use Rattle.planner.specs.Siblings.{emptyLabel, count, unimage}
-use Rattle.planner.specs.File.{fileCount, fileLength, labelRun, wellFormed, outRoom, outChecks, comesFromFile, homeChecks}
+use Rattle.planner.specs.File.{fileCount, fileLength, labelRun, wellFormed, outRoom, outChecks, comesFromFile}
+use Rattle.planner.specs.File.{homeChecks}
 use Rattle.planner.proofs.FileTrees.{WellFormed, well-formed}
 
 -- ---- out
@@ -54,13 +55,15 @@ module _ (b : List ℕ) (m k : ℕ) where
   unfolding outChecks outRoom
   out-passes e =
       let r = firstNo-tail 19 (wellFormed b) _ (omega arith) e in
-      let room = firstNo-head 21 (outRoom (fileCount b) m k) _ (omega arith) (firstNo-tail 20 (allBelow emptyLabel (labelRun b)) _ (omega arith) r) in
+      let room = firstNo-head 21 (outRoom (fileCount b) m k) _ (omega arith)
+      (firstNo-tail 20 (allBelow emptyLabel (labelRun b)) _ (omega arith) r) in
       let rest = and-right (leb (fileCount b) 32767) _ room in
       record {
         file = well-formed b (firstNo-head 19 (wellFormed b) _ (omega arith) e);
         labels = firstNo-head 20 (allBelow emptyLabel (labelRun b)) _ (omega arith) r;
         nodes = leb-true (fileCount b) 32767 (and-left (leb (fileCount b) 32767) _ room);
-        plan-room = leb-true (planLength (2 * fileCount b + 1)) m (and-left (leb (planLength (2 * fileCount b + 1)) m) _ rest);
+        plan-room = leb-true (planLength (2 * fileCount b + 1)) m
+            (and-left (leb (planLength (2 * fileCount b + 1)) m) _ rest);
         places-room = leb-true (fileCount b) k (and-right (leb (planLength (2 * fileCount b + 1)) m) _ rest);
       }
 
@@ -71,19 +74,25 @@ module _ (p : List ℕ) (m : ℕ) where
   unfolding homeChecks
   home-19 e = firstNo-no 19 (comesFromFile p) _ e
 
-  pub home-21 : comesFromFile p ≡ true → leb (fileLength (count (unimage (planTree p)))) m ≡ false → firstNo (homeChecks p m) ≡ 21
+  pub home-21 : comesFromFile p ≡ true → leb (fileLength (count (unimage (planTree p)))) m ≡ false
+      → firstNo (homeChecks p m) ≡ 21
   unfolding homeChecks
-  home-21 e f = firstNo-yes 19 (comesFromFile p) _ e ∙ firstNo-no 21 (leb (fileLength (count (unimage (planTree p)))) m) [] f
+  home-21 e f = firstNo-yes 19 (comesFromFile p) _ e
+      ∙ firstNo-no 21 (leb (fileLength (count (unimage (planTree p)))) m) [] f
 
-  pub home-good : comesFromFile p ≡ true → leb (fileLength (count (unimage (planTree p)))) m ≡ true → firstNo (homeChecks p m) ≡ 0
+  pub home-good : comesFromFile p ≡ true → leb (fileLength (count (unimage (planTree p)))) m ≡ true
+      → firstNo (homeChecks p m) ≡ 0
   unfolding homeChecks
   home-good e f =
-      firstNo-yes 19 (comesFromFile p) _ e ∙ firstNo-yes 21 (leb (fileLength (count (unimage (planTree p)))) m) [] f ∙ firstNo-none
+      firstNo-yes 19 (comesFromFile p) _ e ∙ firstNo-yes 21 (leb (fileLength (count (unimage (planTree p)))) m) [] f
+      ∙ firstNo-none
 
-  pub home-passes : firstNo (homeChecks p m) ≡ 0 → (comesFromFile p ≡ true) × (fileLength (count (unimage (planTree p))) ≤ m)
+  pub home-passes : firstNo (homeChecks p m) ≡ 0 → (comesFromFile p ≡ true)
+      × (fileLength (count (unimage (planTree p))) ≤ m)
   unfolding homeChecks
   home-passes e = (
     firstNo-head 19 (comesFromFile p) _ (omega arith) e,
     leb-true (fileLength (count (unimage (planTree p)))) m
-        (firstNo-head 21 (leb (fileLength (count (unimage (planTree p)))) m) _ (omega arith) (firstNo-tail 19 (comesFromFile p) _ (omega arith) e)),
+        (firstNo-head 21 (leb (fileLength (count (unimage (planTree p)))) m) _ (omega arith)
+        (firstNo-tail 19 (comesFromFile p) _ (omega arith) e)),
   )

@@ -21,7 +21,8 @@ use Rattle.list_laws.proofs.BoolLaws.{and-both, and-left, and-right}
 use Rattle.list_laws.proofs.TestLaws.{allBelow-all, at-allBelow}
 use Rattle.formats.proofs.PlanLaws.{PlanPasses, plan-passes, size-planTree}
 use Rattle.formats.proofs.PlanTrees.{plan-tree, tree-passes, tree-plan}
-use Rattle.planner.specs.Siblings.{Siblings, empty, sibling, count, width, preLabels, preCounts, image, unimage, emptyLabel}
+use Rattle.planner.specs.Siblings.{Siblings, empty, sibling, count, width, preLabels, preCounts, image, unimage}
+use Rattle.planner.specs.Siblings.{emptyLabel}
 use Rattle.planner.specs.File.{fileCount, labelRun, countRun, fileTree, fileBytes, imageLabels, isImage}
 use Rattle.planner.specs.Conversion.{planOf, fileOf, Acceptable, GoesHome}
 use Rattle.planner.proofs.PreorderLaws.{allBelow-append}
@@ -36,7 +37,8 @@ image-labelled (sibling a c r) e =
     let h = both (ltb a emptyLabel) (allBelow emptyLabel (preLabels c ++ preLabels r)) e in
     let i = both (allBelow emptyLabel (preLabels c)) (allBelow emptyLabel (preLabels r))
     (sym (allBelow-append emptyLabel (preLabels c) (preLabels r)) ∙ h .1) in
-    and-both (imageLabels (image c)) _ (image-labelled c (i .0)) (and-both (ltb a emptyLabel) _ (h .0) (image-labelled r (i .1)))
+    and-both (imageLabels (image c)) _ (image-labelled c (i .0))
+    (and-both (ltb a emptyLabel) _ (h .0) (image-labelled r (i .1)))
 
 labelled-image : (t : Tree) → imageLabels t ≡ true → allBelow emptyLabel (preLabels (unimage t)) ≡ true
 unfolding allBelow
@@ -53,7 +55,8 @@ image-small f A = omega (arith, size-image f, A .nodes)
 
 -- an acceptable tree's plan comes home as its file
 pub image-home : (f : Siblings) → Acceptable f → fileOf (planBytes (image f)) ≡ fileBytes f
-image-home f A = ap (λ (t : Tree). fileBytes (unimage t)) (tree-plan (image f) (image-small f A)) ∙ ap fileBytes (unimage-image f)
+image-home f A = ap (λ (t : Tree). fileBytes (unimage t)) (tree-plan (image f) (image-small f A))
+    ∙ ap fileBytes (unimage-image f)
 
 pub goes-home : (p : List ℕ) → GoesHome p → (firstNo (planChecks p) ≡ 0) × (isImage (planTree p) ≡ true)
 unfolding isImage
@@ -64,7 +67,8 @@ goes-home p (f, A, e) =
           (rw (unimage-image f) (and-both (eqb (width f) 1) _ (eq-eqb (width f) 1 (A .one-tree)) (A .counts)))),
     )
 
-pub home-goes : (p : List ℕ) → allBelow 256 p ≡ true → firstNo (planChecks p) ≡ 0 → isImage (planTree p) ≡ true → GoesHome p
+pub home-goes : (p : List ℕ) → allBelow 256 p ≡ true → firstNo (planChecks p) ≡ 0 → isImage (planTree p) ≡ true
+    → GoesHome p
 unfolding isImage
 home-goes p bytes e i =
     let t : Tree = planTree p in
@@ -84,7 +88,8 @@ home-goes p bytes e i =
     )
 
 -- "only plans that come from such a file may go home"
-pub home-exactly : (p : List ℕ) → allBelow 256 p ≡ true → ((firstNo (planChecks p) ≡ 0) × (isImage (planTree p) ≡ true)) ↔ GoesHome p
+pub home-exactly : (p : List ℕ) → allBelow 256 p ≡ true
+    → ((firstNo (planChecks p) ≡ 0) × (isImage (planTree p) ≡ true)) ↔ GoesHome p
 home-exactly p bytes = (λ h. home-goes p bytes (h .0) (h .1), goes-home p)
 
 -- "Going out and home must restore the planner's file"
@@ -92,9 +97,11 @@ part-below : (b : List ℕ) (m n : ℕ) → allBelow 256 b ≡ true → allBelow
 part-below b m n e =
     at-allBelow 256 (take n (drop m b)) (λ j h.
     let l : j < n = omega (arith, length-take n (drop m b)) in
-    subst (λ (x : ℕ). x < 256) (sym (getD-take n (drop m b) j 0 l ∙ getD-drop m b j 0)) (allBelow-all 256 b e (omega arith) (m + j)))
+    subst (λ (x : ℕ). x < 256) (sym (getD-take n (drop m b) j 0 l ∙ getD-drop m b j 0))
+    (allBelow-all 256 b e (omega arith) (m + j)))
 
-module _ (b : List ℕ) (bytes : allBelow 256 b ≡ true) (W : WellFormed b) (labels : allBelow emptyLabel (labelRun b) ≡ true)
+module _ (b : List ℕ) (bytes : allBelow 256 b ≡ true) (W : WellFormed b)
+    (labels : allBelow emptyLabel (labelRun b) ≡ true)
     (nodes : fileCount b ≤ 32767) where
   decoded : Decoded b
   decoded = file-tree b W bytes

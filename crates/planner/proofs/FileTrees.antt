@@ -10,7 +10,7 @@ use mathlib.Core.List.{List, [], _∷_, _++_, append-nil}
 use mathlib.Core.Option.{Option, none, some}
 use native.Mathlib.Omega.{arith}
 use lib.Dec.{eqb, leb}
-use lib.ListN.{length, getD, take, drop, length-append, length-drop, take-append-drop}
+use lib.ListN.{length, getD, take, drop, length-append}
 use lib.Seq.{take-all, take-at, drop-at, drop-drop}
 use borrow.Author.Tests.{eqb-true, eq-eqb, leb-true, le-leb}
 use Rattle.formats.specs.Bytes.{le32, le32Bytes}
@@ -18,11 +18,14 @@ use Rattle.list_laws.specs.Tests.{allBelow}
 use Rattle.formats.proofs.ByteLaws.{bytes-number, read-bytes}
 use Rattle.list_laws.proofs.BoolLaws.{and-both, and-left, and-right}
 use Rattle.list_laws.proofs.TestLaws.{allBelow-all}
-use Rattle.list_laws.proofs.SliceLaws.{length-part}
+use Rattle.list_laws.proofs.SliceLaws.{length-part, append-both}
+use Rattle.formats.proofs.PlanTrees.{five-runs}
 use Rattle.planner.specs.Siblings.{Siblings, empty, sibling, count, width, preLabels, preCounts}
-use Rattle.planner.specs.File.{fileCount, fileLength, labelRun, countRun, fileBytes, pending, noneLeft, isPreorder, siblingsOf, fileTree, wellFormed}
+use Rattle.planner.specs.File.{fileCount, fileLength, labelRun, countRun, fileBytes, pending, noneLeft}
+use Rattle.planner.specs.File.{isPreorder, siblingsOf, fileTree, wellFormed}
 use Rattle.planner.specs.Conversion.{Acceptable}
-use Rattle.planner.proofs.PreorderLaws.{length-preLabels, length-preCounts, pending-siblings, Read, siblings-of, siblings-unique}
+use Rattle.planner.proofs.PreorderLaws.{length-preLabels, length-preCounts, pending-siblings, Read, siblings-of}
+use Rattle.planner.proofs.PreorderLaws.{siblings-unique}
 
 pub record WellFormed (b : List ℕ) : Type 0 where
   pub long : 12 ≤ length b
@@ -44,7 +47,8 @@ well-formed b e =
       some-nodes = leb-true 1 (fileCount b) (and-left (leb 1 (fileCount b)) _ e1);
       labels-at = eqb-true (le32 b 4) 12 (and-left (eqb (le32 b 4) 12) _ e2);
       counts-at = eqb-true (le32 b 8) (12 + fileCount b) (and-left (eqb (le32 b 8) (12 + fileCount b)) _ e3);
-      exact = eqb-true (length b) (fileLength (fileCount b)) (and-left (eqb (length b) (fileLength (fileCount b))) _ e4);
+      exact = eqb-true (length b) (fileLength (fileCount b))
+          (and-left (eqb (length b) (fileLength (fileCount b))) _ e4);
       preorder = and-right (eqb (length b) (fileLength (fileCount b))) _ e4;
     }
 
@@ -55,33 +59,14 @@ formed-well b W =
     (and-both (leb 1 (fileCount b)) _ (le-leb 1 (fileCount b) (W .some-nodes))
     (and-both (eqb (le32 b 4) 12) _ (eq-eqb (le32 b 4) 12 (W .labels-at))
     (and-both (eqb (le32 b 8) (12 + fileCount b)) _ (eq-eqb (le32 b 8) (12 + fileCount b) (W .counts-at))
-    (and-both (eqb (length b) (fileLength (fileCount b))) _ (eq-eqb (length b) (fileLength (fileCount b)) (W .exact)) (W .preorder)))))
+    (and-both (eqb (length b) (fileLength (fileCount b))) _ (eq-eqb (length b) (fileLength (fileCount b)) (W .exact))
+    (W .preorder)))))
 
 none-left : (o : Option ℕ) → noneLeft o ≡ true → o ≡ some 0
 none-left none e = let z : _≡_ {A = ℕ} 0 1 = cc in absurd (omega arith)
 none-left (some w) e = ap some (eqb-true w 0 e)
 
 -- ---- from a file to its tree
-
-cut : (l : List ℕ) (a n b : ℕ) → b ≡ a + n → drop a l ≡ take n (drop a l) ++ drop b l
-cut l a n b e =
-    sym (take-append-drop n (drop a l)) ∙ ap (λ (t : List ℕ). take n (drop a l) ++ t) (drop-drop n a l ∙ ap (λ (i : ℕ). drop i l) (sym e))
-
--- a file in its five runs
-runs : (p : List ℕ) (n : ℕ) → length p ≡ 12 + 2 * n
-    → p ≡ take 4 p ++ (take 4 (drop 4 p) ++ (take 4 (drop 8 p) ++ (take n (drop 12 p) ++ take n (drop (12 + n) p))))
-runs p n h =
-    cut p 0 4 4 refl
-    ∙ ap (λ (t : List ℕ). take 4 p ++ t)
-    (cut p 4 4 8 refl
-    ∙ ap (λ (t : List ℕ). take 4 (drop 4 p) ++ t)
-    (cut p 8 4 12 refl
-    ∙ ap (λ (t : List ℕ). take 4 (drop 8 p) ++ t)
-    (cut p 12 n (12 + n) refl
-    ∙ ap (λ (t : List ℕ). take n (drop 12 p) ++ t) (sym (take-all n (drop (12 + n) p) (simp length-drop (omega arith)))))))
-
-join : {a b c d : List ℕ} → a ≡ c → b ≡ d → a ++ b ≡ c ++ d
-join e f = ap₂ (λ (x y : List ℕ). x ++ y) e f
 
 pub record Decoded (b : List ℕ) : Type 0 where
   pub bytes : fileBytes (fileTree b) ≡ b
@@ -99,7 +84,8 @@ module _ (b : List ℕ) (W : WellFormed b) where
 
   pub read-file : Read (countRun b) (labelRun b) 1
   unfolding isPreorder
-  read-file = siblings-of (countRun b) (labelRun b) 1 (labels-length ∙ sym counts-length) (none-left (pending (countRun b) 1) (W .preorder))
+  read-file = siblings-of (countRun b) (labelRun b) 1 (labels-length ∙ sym counts-length)
+      (none-left (pending (countRun b) 1) (W .preorder))
 
   pub file-tree : allBelow 256 b ≡ true → Decoded b
   unfolding fileTree fileBytes
@@ -109,11 +95,12 @@ module _ (b : List ℕ) (W : WellFormed b) where
       sym (length-preLabels (siblingsOf (countRun b) (labelRun b))) ∙ ap length (read-file .labels) ∙ labels-length in
       record {
         bytes =
-            join (ap le32Bytes n ∙ read-bytes b below 0 (omega (arith, W .long)))
-            (join (ap le32Bytes (sym (W .labels-at)) ∙ read-bytes b below 4 (omega (arith, W .long)))
-            (join (ap (λ (i : ℕ). le32Bytes (12 + i)) n ∙ ap le32Bytes (sym (W .counts-at)) ∙ read-bytes b below 8 (omega (arith, W .long)))
-            (join (read-file .labels) (read-file .counts))))
-            ∙ sym (runs b (fileCount b) (W .exact));
+            append-both (ap le32Bytes n ∙ read-bytes b below 0 (omega (arith, W .long)))
+            (append-both (ap le32Bytes (sym (W .labels-at)) ∙ read-bytes b below 4 (omega (arith, W .long)))
+            (append-both (ap (λ (i : ℕ). le32Bytes (12 + i)) n ∙ ap le32Bytes (sym (W .counts-at))
+            ∙ read-bytes b below 8 (omega (arith, W .long)))
+            (append-both (read-file .labels) (read-file .counts))))
+            ∙ sym (five-runs b (fileCount b) (W .exact));
         one-tree = read-file .wide;
         nodes = n;
         labels = read-file .labels;
@@ -145,7 +132,8 @@ module _ (f : Siblings) (A : Acceptable f) where
 
   labels-file : labelRun (fileBytes f) ≡ preLabels f
   labels-file =
-      ap₂ (λ (i : ℕ) (l : List ℕ). take i l) count-file behind ∙ take-at (preLabels f) (preCounts f) (count f) (length-preLabels f)
+      ap₂ (λ (i : ℕ) (l : List ℕ). take i l) count-file behind
+      ∙ take-at (preLabels f) (preCounts f) (count f) (length-preLabels f)
 
   counts-run : countRun (fileBytes f) ≡ preCounts f
   counts-run =
@@ -158,7 +146,8 @@ module _ (f : Siblings) (A : Acceptable f) where
   unfolding isPreorder
   one-preorder =
       let e : pending (preCounts f) 1 ≡ some 0 =
-      ap₂ pending (sym (append-nil (preCounts f))) (let q : 1 ≡ width f + 0 = omega (arith, A .one-tree) in q) ∙ pending-siblings f [] 0 in
+      ap₂ pending (sym (append-nil (preCounts f))) (let q : 1 ≡ width f + 0 = omega (arith, A .one-tree) in q)
+      ∙ pending-siblings f [] 0 in
       ap noneLeft e
 
   some-nodes : (g : Siblings) → width g ≡ 1 → 1 ≤ count g

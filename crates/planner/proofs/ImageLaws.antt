@@ -1,7 +1,8 @@
 -- The image: its size, its way back, and its places.
 --     size-image         n nodes become 2n+1
 --     unimage-image      going out and home gives the tree again
---     image-unimage      a tree with label 63 at its leaves is the image of its siblings: what goes home comes from there
+--     image-unimage      a tree with label 63 at its leaves is the image of its siblings: what goes home comes from
+--       there
 --     length-items       as many items as nodes
 --     place-item         the place given for planner node v is where it stands; item-place: and back
 -- Assumes nothing.
@@ -18,7 +19,8 @@ use lib.Seq.{getD-append-add, getD-append-seam}
 use borrow.Author.Tests.{eqb-true}
 use Rattle.trees.specs.Tree.{Tree, leaf, node, size}
 use Rattle.trees.proofs.MoveLaws.{both}
-use Rattle.planner.specs.Siblings.{Siblings, empty, sibling, count, width, image, unimage, items, places, emptyLabel}
+use Rattle.planner.specs.Siblings.{Siblings, empty, sibling, count, width, image, unimage, items, places}
+use Rattle.planner.specs.Siblings.{emptyLabel}
 use Rattle.planner.specs.File.{imageLabels}
 
 pub size-image : (f : Siblings) → size (image f) ≡ 2 * count f + 1
@@ -38,11 +40,13 @@ image-unimage (node l a r) e =
 
 pub length-items : (f : Siblings) (v : ℕ) → length (items f v) ≡ size (image f)
 length-items empty v = refl
-length-items (sibling a c r) v = simp (length-append, length-items c (v + 1), length-items r (v + 1 + count c)) (omega arith)
+length-items (sibling a c r) v =
+    simp (length-append, length-items c (v + 1), length-items r (v + 1 + count c)) (omega arith)
 
 pub length-places : (f : Siblings) (lo : ℕ) → length (places f lo) ≡ count f
 length-places empty lo = refl
-length-places (sibling a c r) lo = simp (length-append, length-places c lo, length-places r (lo + size (image c))) (omega arith)
+length-places (sibling a c r) lo =
+    simp (length-append, length-places c lo, length-places r (lo + size (image c))) (omega arith)
 
 -- what a list has at a place in the middle of three
 module _ {X : Type 0} (d : X) (xs ys zs : List X) where
@@ -71,7 +75,8 @@ place-item (sibling a c r) v lo zero h =
     record {
       low = omega arith;
       high = omega arith;
-      item = at-right none (items c (v + 1)) (items r (v + 1 + count c)) (some v ∷ []) _ 0 (omega arith) ∙ (let e : v ≡ v + 0 = omega arith in ap some e);
+      item = at-right none (items c (v + 1)) (items r (v + 1 + count c)) (some v ∷ []) _ 0 (omega arith)
+          ∙ (let e : v ≡ v + 0 = omega arith in ap some e);
     }
 place-item (sibling a c r) v lo (suc i) h = elim (decLt i (count c)) [
   | yes l ↦ (let S : PlaceOf c (v + 1) lo i = place-item c (v + 1) lo i l in
@@ -81,11 +86,13 @@ place-item (sibling a c r) v lo (suc i) h = elim (decLt i (count c)) [
         low = rw p (S .low);
         high = rw p (omega (arith, S .high));
         item = rw p
-            (at-left none (items c (v + 1)) (items r (v + 1 + count c)) (some v ∷ []) _ (omega (arith, S .low, S .high, length-items c (v + 1)))
+            (at-left none (items c (v + 1)) (items r (v + 1 + count c)) (some v ∷ []) _
+            (omega (arith, S .low, S .high, length-items c (v + 1)))
             ∙ S .item ∙ (let e : v + 1 + i ≡ v + suc i = omega arith in ap some e));
       })
   | no l ↦ (let j : ℕ = i - count c in
-      let S : PlaceOf r (v + 1 + count c) (lo + size (image c)) j = place-item r (v + 1 + count c) (lo + size (image c)) j (omega arith) in
+      let S : PlaceOf r (v + 1 + count c) (lo + size (image c)) j =
+      place-item r (v + 1 + count c) (lo + size (image c)) j (omega arith) in
       let q : i ≡ length (places c lo) + j = omega (arith, length-places c lo) in
       let p : getD (places c lo ++ places r (lo + size (image c))) i 0 ≡ getD (places r (lo + size (image c))) j 0 =
       ap (λ (x : ℕ). getD (places c lo ++ places r (lo + size (image c))) x 0) q
@@ -94,8 +101,10 @@ place-item (sibling a c r) v lo (suc i) h = elim (decLt i (count c)) [
         low = rw p (omega (arith, S .low));
         high = rw p (omega (arith, S .high));
         item = rw p
-            (at-middle none (items c (v + 1)) (items r (v + 1 + count c)) (some v ∷ []) _ (getD (places r (lo + size (image c))) j 0 - (lo + size (image c)))
-            (omega (arith, S .low, length-items c (v + 1))) (omega (arith, S .low, S .high, length-items r (v + 1 + count c)))
+            (at-middle none (items c (v + 1)) (items r (v + 1 + count c)) (some v ∷ []) _
+            (getD (places r (lo + size (image c))) j 0 - (lo + size (image c)))
+            (omega (arith, S .low, length-items c (v + 1)))
+            (omega (arith, S .low, S .high, length-items r (v + 1 + count c)))
             ∙ S .item ∙ (let e : v + 1 + count c + j ≡ v + suc i = omega arith in ap some e));
       })
 ]
@@ -111,21 +120,25 @@ item-place empty v lo zero u e = let z : _≡_ {A = ℕ} 0 1 = cc in absurd (ome
 item-place empty v lo (suc x) u e = let z : _≡_ {A = ℕ} 0 1 = cc in absurd (omega arith)
 item-place (sibling a c r) v lo x u e = elim (decLt x (length (items c (v + 1)))) [
   | yes h ↦ (let P : NodeAt c (v + 1) lo x u =
-      item-place c (v + 1) lo x u (sym (at-left none (items c (v + 1)) (items r (v + 1 + count c)) (some v ∷ []) x h) ∙ e) in
+      item-place c (v + 1) lo x u
+      (sym (at-left none (items c (v + 1)) (items r (v + 1 + count c)) (some v ∷ []) x h) ∙ e) in
       let i : u - v ≡ suc (u - (v + 1)) = omega (arith, P .from) in
       record {
         from = omega (arith, P .from);
         before = omega (arith, P .before);
         is = ap (λ (n : ℕ). getD (places (sibling a c r) lo) n 0) i
-            ∙ List·getD-append (places c lo) (places r (lo + size (image c))) 0 (u - (v + 1)) (omega (arith, length-places c lo, P .from, P .before))
+            ∙ List·getD-append (places c lo) (places r (lo + size (image c))) 0 (u - (v + 1))
+            (omega (arith, length-places c lo, P .from, P .before))
             ∙ P .is;
       })
   | no h ↦ elim (decLt x (length (items c (v + 1)) + length (items r (v + 1 + count c)))) [
     | yes l ↦ (let j : ℕ = x - length (items c (v + 1)) in
         let P : NodeAt r (v + 1 + count c) (lo + size (image c)) j u =
         item-place r (v + 1 + count c) (lo + size (image c)) j u
-        (sym (at-middle none (items c (v + 1)) (items r (v + 1 + count c)) (some v ∷ []) x j (omega arith) (omega arith)) ∙ e) in
-        let i : u - v ≡ suc (length (places c lo) + (u - (v + 1 + count c))) = omega (arith, P .from, length-places c lo) in
+        (sym (at-middle none (items c (v + 1)) (items r (v + 1 + count c)) (some v ∷ []) x j (omega arith)
+        (omega arith)) ∙ e) in
+        let i : u - v ≡ suc (length (places c lo) + (u - (v + 1 + count c))) =
+        omega (arith, P .from, length-places c lo) in
         record {
           from = omega (arith, P .from);
           before = omega (arith, P .before);
@@ -135,7 +148,8 @@ item-place (sibling a c r) v lo x u e = elim (decLt x (length (items c (v + 1)))
               ∙ omega (arith, length-items c (v + 1));
         })
     | no l ↦ last (x - (length (items c (v + 1)) + length (items r (v + 1 + count c)))) refl (omega arith)
-        (sym (at-right none (items c (v + 1)) (items r (v + 1 + count c)) (some v ∷ []) x (x - (length (items c (v + 1)) + length (items r (v + 1 + count c)))) (omega arith)) ∙ e)
+        (sym (at-right none (items c (v + 1)) (items r (v + 1 + count c)) (some v ∷ []) x
+        (x - (length (items c (v + 1)) + length (items r (v + 1 + count c)))) (omega arith)) ∙ e)
   ]
 ]
   where

@@ -1,6 +1,7 @@
 -- Labels and kinds of an image, by its items, and read from the right.
 --     label-item, kind-item   node j's label and kind are those of item j
---     readBack-siblings       the nodes of an image, read from the right, are what the loop going home expects (fromRight)
+--     readBack-siblings       the nodes of an image, read from the right, are what the loop going home expects
+--       (fromRight)
 -- Assumes nothing.
 use Prim.Native.Nat.{ℕ, zero, suc, _+_, _-_, _≤_, _<_}
 use mathlib.Core.Path.{_≡_, refl, sym, ap, ap₂, _∙_, subst}
@@ -41,12 +42,14 @@ module _ (g : ℕ → ℕ) (a : ℕ) (c r : Siblings) (v : ℕ) (H : Labelled g 
   labelled-children : Labelled g c (v + 1)
   labelled-children i h =
       let e : v + 1 + i ≡ v + suc i = omega arith in
-      ap g e ∙ H (suc i) (omega arith) ∙ List·getD-append (preLabels c) (preLabels r) 0 i (omega (arith, length-preLabels c))
+      ap g e ∙ H (suc i) (omega arith)
+      ∙ List·getD-append (preLabels c) (preLabels r) 0 i (omega (arith, length-preLabels c))
 
   labelled-rest : Labelled g r (v + 1 + count c)
   labelled-rest i h =
       let e : v + 1 + count c + i ≡ v + suc (length (preLabels c) + i) = omega (arith, length-preLabels c) in
-      ap g e ∙ H (suc (length (preLabels c) + i)) (omega (arith, length-preLabels c)) ∙ getD-append-add (preLabels c) (preLabels r) i 0
+      ap g e ∙ H (suc (length (preLabels c) + i)) (omega (arith, length-preLabels c))
+      ∙ getD-append-add (preLabels c) (preLabels r) i 0
 
 pub label-item : (f : Siblings) (v : ℕ) (g : ℕ → ℕ) → Labelled g f v → (j : ℕ) → j < size (image f)
     → getD (labelsOf (image f)) j 0 ≡ itemLabel g (getD (items f v) j none)
@@ -58,23 +61,33 @@ label-item (sibling a c r) v g H j h =
   where
     go : (j : ℕ) → Where (size (image c)) (size (image r)) j
         → ((i : ℕ) → i < size (image c) → getD (labelsOf (image c)) i 0 ≡ itemLabel g (getD (items c (v + 1)) i none))
-        → ((i : ℕ) → i < size (image r) → getD (labelsOf (image r)) i 0 ≡ itemLabel g (getD (items r (v + 1 + count c)) i none))
+        → ((i : ℕ) → i < size (image r)
+        → getD (labelsOf (image r)) i 0 ≡ itemLabel g (getD (items r (v + 1 + count c)) i none))
         → getD (labelsOf (image (sibling a c r))) j 0 ≡ itemLabel g (getD (items (sibling a c r) v) j none)
     go j (inLeft l) Ic Ir =
         at-left 0 (labelsOf (image c)) (labelsOf (image r)) (a ∷ []) j (omega (arith, length-labels (image c)))
         ∙ Ic j l
-        ∙ ap (itemLabel g) (sym (at-left none (items c (v + 1)) (items r (v + 1 + count c)) (some v ∷ []) j (omega (arith, length-items c (v + 1)))))
+        ∙ ap (itemLabel g) (sym
+        (at-left none (items c (v + 1)) (items r (v + 1 + count c)) (some v ∷ []) j
+        (omega (arith, length-items c (v + 1)))))
     go i (inRight j e l) Ic Ir =
-        at-middle 0 (labelsOf (image c)) (labelsOf (image r)) (a ∷ []) i j (omega (arith, length-labels (image c))) (omega (arith, length-labels (image r)))
+        at-middle 0 (labelsOf (image c)) (labelsOf (image r)) (a ∷ []) i j (omega (arith, length-labels (image c)))
+        (omega (arith, length-labels (image r)))
         ∙ Ir j l
-        ∙ ap (itemLabel g) (sym (at-middle none (items c (v + 1)) (items r (v + 1 + count c)) (some v ∷ []) i j (omega (arith, length-items c (v + 1))) (omega (arith, length-items r (v + 1 + count c)))))
+        ∙ ap (itemLabel g) (sym
+        (at-middle none (items c (v + 1)) (items r (v + 1 + count c)) (some v ∷ []) i j
+        (omega (arith, length-items c (v + 1))) (omega (arith, length-items r (v + 1 + count c)))))
     go i (atTop e) Ic Ir =
         let z : v + 0 ≡ v = omega arith in
-        at-right 0 (labelsOf (image c)) (labelsOf (image r)) (a ∷ []) i 0 (omega (arith, length-labels (image c), length-labels (image r)))
+        at-right 0 (labelsOf (image c)) (labelsOf (image r)) (a ∷ []) i 0
+        (omega (arith, length-labels (image c), length-labels (image r)))
         ∙ sym (ap g (sym z) ∙ H 0 (omega arith))
-        ∙ ap (itemLabel g) (sym (at-right none (items c (v + 1)) (items r (v + 1 + count c)) (some v ∷ []) i 0 (omega (arith, length-items c (v + 1), length-items r (v + 1 + count c)))))
+        ∙ ap (itemLabel g) (sym
+        (at-right none (items c (v + 1)) (items r (v + 1 + count c)) (some v ∷ []) i 0
+        (omega (arith, length-items c (v + 1), length-items r (v + 1 + count c)))))
 
-pub kind-item : (f : Siblings) (v j : ℕ) → j < size (image f) → getD (kindsOf (image f)) j 0 ≡ itemKind (getD (items f v) j none)
+pub kind-item : (f : Siblings) (v j : ℕ) → j < size (image f)
+    → getD (kindsOf (image f)) j 0 ≡ itemKind (getD (items f v) j none)
 kind-item empty v zero h = refl
 kind-item empty v (suc j) h = absurd (omega arith)
 kind-item (sibling a c r) v j h =
@@ -82,19 +95,25 @@ kind-item (sibling a c r) v j h =
   where
     go : (j : ℕ) → Where (size (image c)) (size (image r)) j
         → ((i : ℕ) → i < size (image c) → getD (kindsOf (image c)) i 0 ≡ itemKind (getD (items c (v + 1)) i none))
-        → ((i : ℕ) → i < size (image r) → getD (kindsOf (image r)) i 0 ≡ itemKind (getD (items r (v + 1 + count c)) i none))
+        → ((i : ℕ) → i < size (image r)
+        → getD (kindsOf (image r)) i 0 ≡ itemKind (getD (items r (v + 1 + count c)) i none))
         → getD (kindsOf (image (sibling a c r))) j 0 ≡ itemKind (getD (items (sibling a c r) v) j none)
     go j (inLeft l) Ic Ir =
         at-left 0 (kindsOf (image c)) (kindsOf (image r)) (1 ∷ []) j (omega (arith, length-kinds (image c)))
         ∙ Ic j l
-        ∙ ap itemKind (sym (at-left none (items c (v + 1)) (items r (v + 1 + count c)) (some v ∷ []) j (omega (arith, length-items c (v + 1)))))
+        ∙ ap itemKind (sym (at-left none (items c (v + 1)) (items r (v + 1 + count c)) (some v ∷ []) j
+        (omega (arith, length-items c (v + 1)))))
     go i (inRight j e l) Ic Ir =
-        at-middle 0 (kindsOf (image c)) (kindsOf (image r)) (1 ∷ []) i j (omega (arith, length-kinds (image c))) (omega (arith, length-kinds (image r)))
+        at-middle 0 (kindsOf (image c)) (kindsOf (image r)) (1 ∷ []) i j (omega (arith, length-kinds (image c)))
+        (omega (arith, length-kinds (image r)))
         ∙ Ir j l
-        ∙ ap itemKind (sym (at-middle none (items c (v + 1)) (items r (v + 1 + count c)) (some v ∷ []) i j (omega (arith, length-items c (v + 1))) (omega (arith, length-items r (v + 1 + count c)))))
+        ∙ ap itemKind (sym (at-middle none (items c (v + 1)) (items r (v + 1 + count c)) (some v ∷ []) i j
+        (omega (arith, length-items c (v + 1))) (omega (arith, length-items r (v + 1 + count c)))))
     go i (atTop e) Ic Ir =
-        at-right 0 (kindsOf (image c)) (kindsOf (image r)) (1 ∷ []) i 0 (omega (arith, length-kinds (image c), length-kinds (image r)))
-        ∙ ap itemKind (sym (at-right none (items c (v + 1)) (items r (v + 1 + count c)) (some v ∷ []) i 0 (omega (arith, length-items c (v + 1), length-items r (v + 1 + count c)))))
+        at-right 0 (kindsOf (image c)) (kindsOf (image r)) (1 ∷ []) i 0
+        (omega (arith, length-kinds (image c), length-kinds (image r)))
+        ∙ ap itemKind (sym (at-right none (items c (v + 1)) (items r (v + 1 + count c)) (some v ∷ []) i 0
+        (omega (arith, length-items c (v + 1), length-items r (v + 1 + count c)))))
 
 -- ---- from the right
 
@@ -116,21 +135,26 @@ module _ (a : ℕ) (c r : Siblings) (ls ks : List ℕ) (lo : ℕ) (H : ImageAt (
   image-rest = record {
     labels = λ j h. (let e : lo + size (image c) + j ≡ lo + (size (image c) + j) = omega arith in
         ap (λ (i : ℕ). getD ls i 0) e ∙ H .labels (size (image c) + j) (omega arith)
-        ∙ at-middle 0 (labelsOf (image c)) (labelsOf (image r)) (a ∷ []) (size (image c) + j) j (omega (arith, length-labels (image c))) (omega (arith, length-labels (image r))));
+        ∙ at-middle 0 (labelsOf (image c)) (labelsOf (image r)) (a ∷ []) (size (image c) + j) j
+        (omega (arith, length-labels (image c))) (omega (arith, length-labels (image r))));
     kinds = λ j h. (let e : lo + size (image c) + j ≡ lo + (size (image c) + j) = omega arith in
         ap (λ (i : ℕ). getD ks i 0) e ∙ H .kinds (size (image c) + j) (omega arith)
-        ∙ at-middle 0 (kindsOf (image c)) (kindsOf (image r)) (1 ∷ []) (size (image c) + j) j (omega (arith, length-kinds (image c))) (omega (arith, length-kinds (image r))));
+        ∙ at-middle 0 (kindsOf (image c)) (kindsOf (image r)) (1 ∷ []) (size (image c) + j) j
+        (omega (arith, length-kinds (image c))) (omega (arith, length-kinds (image r))));
   }
 
-  image-top : nodeItem (getD ls (lo + size (image c) + size (image r)) 0) (getD ks (lo + size (image c) + size (image r)) 0) ≡ some a
+  image-top : nodeItem (getD ls (lo + size (image c) + size (image r)) 0)
+      (getD ks (lo + size (image c) + size (image r)) 0) ≡ some a
   image-top =
       let e : lo + size (image c) + size (image r) ≡ lo + (size (image c) + size (image r)) = omega arith in
       let l : getD ls (lo + size (image c) + size (image r)) 0 ≡ a =
       ap (λ (i : ℕ). getD ls i 0) e ∙ H .labels (size (image c) + size (image r)) (omega arith)
-      ∙ at-right 0 (labelsOf (image c)) (labelsOf (image r)) (a ∷ []) (size (image c) + size (image r)) 0 (omega (arith, length-labels (image c), length-labels (image r))) in
+      ∙ at-right 0 (labelsOf (image c)) (labelsOf (image r)) (a ∷ []) (size (image c) + size (image r)) 0
+      (omega (arith, length-labels (image c), length-labels (image r))) in
       let k : getD ks (lo + size (image c) + size (image r)) 0 ≡ 1 =
       ap (λ (i : ℕ). getD ks i 0) e ∙ H .kinds (size (image c) + size (image r)) (omega arith)
-      ∙ at-right 0 (kindsOf (image c)) (kindsOf (image r)) (1 ∷ []) (size (image c) + size (image r)) 0 (omega (arith, length-kinds (image c), length-kinds (image r))) in
+      ∙ at-right 0 (kindsOf (image c)) (kindsOf (image r)) (1 ∷ []) (size (image c) + size (image r)) 0
+      (omega (arith, length-kinds (image c), length-kinds (image r))) in
       ap₂ nodeItem l k
 
 pub readBack-siblings : (f : Siblings) (ls ks : List ℕ) (lo : ℕ) → ImageAt f ls ks lo

@@ -56,11 +56,13 @@ outward-siblings (sibling a c r) cs v b st h =
     let i : v + 1 + count c + count r ≡ v + (count c + count r + 1) = omega arith in
     ap (λ (l : List ℕ). outward (width c ∷ l) v (suc (width r)) b st) (append-assoc (preCounts c) (preCounts r) cs)
     ∙ children-written c (outward-siblings c) (preCounts r ++ cs) v (suc (width r)) b st
-    ∙ ap (λ (n : ℕ). items c (v + 1) ++ closed (resumed (preCounts r ++ cs) (v + 1 + count c)) (entry v n b ∷ st) false) e
+    ∙ ap (λ (n : ℕ). items c (v + 1) ++ closed (resumed (preCounts r ++ cs) (v + 1 + count c))
+    (entry v n b ∷ st) false) e
     ∙ ap (λ (l : List (Option ℕ)). items c (v + 1) ++ l)
     (rest-written r (outward-siblings r) cs v (v + 1 + count c) b st
     ∙ ap (λ (x : ℕ). items r (v + 1 + count c) ++ (some v ∷ closed (resumed cs x) st (not b))) i
-    ∙ sym (append-assoc (items r (v + 1 + count c)) (some v ∷ []) (closed (resumed cs (v + (count c + count r + 1))) st (not b))))
+    ∙ sym (append-assoc (items r (v + 1 + count c)) (some v ∷ [])
+    (closed (resumed cs (v + (count c + count r + 1))) st (not b))))
     ∙ sym (append-assoc (items c (v + 1)) (items r (v + 1 + count c) ++ (some v ∷ []))
     (closed (resumed cs (v + (count c + count r + 1))) st (not b)))
 
@@ -89,15 +91,18 @@ abbrev PlacesOf : Siblings → Type 0
 PlacesOf f = (v i : ℕ) (pre old post : List ℕ) (xs : List (Option ℕ)) → length pre ≡ v → length old ≡ count f
     → placed (items f v ++ xs) i (pre ++ (old ++ post)) ≡ placed xs (i + size (image f)) (pre ++ (places f i ++ post))
 
-module _ (a : ℕ) (c r : Siblings) (Ic : PlacesOf c) (Ir : PlacesOf r) (v i : ℕ) (pre : List ℕ) (o : ℕ) (oc or post : List ℕ)
+module _ (a : ℕ) (c r : Siblings) (Ic : PlacesOf c) (Ir : PlacesOf r) (v i : ℕ) (pre : List ℕ) (o : ℕ)
+    (oc or post : List ℕ)
     (xs : List (Option ℕ)) (hp : length pre ≡ v) (hc : length oc ≡ count c) (hr : length or ≡ count r) where
   -- the children's places, then those of the rest, then the node's own
-  node-placed : placed (items c (v + 1) ++ (items r (v + 1 + count c) ++ (some v ∷ xs))) i (pre ++ (o ∷ (oc ++ or ++ post)))
+  node-placed : placed (items c (v + 1) ++ (items r (v + 1 + count c) ++ (some v ∷ xs))) i
+      (pre ++ (o ∷ (oc ++ or ++ post)))
       ≡ placed xs (i + size (image c) + size (image r) + 1)
       (pre ++ ((i + size (image c) + size (image r)) ∷ (places c i ++ places r (i + size (image c)) ++ post)))
   node-placed =
       let ys : List (Option ℕ) = items r (v + 1 + count c) ++ (some v ∷ xs) in
-      ap (placed (items c (v + 1) ++ ys) i) (sym (regroup pre o oc or post) ∙ append-assoc (pre ++ (o ∷ [])) oc (or ++ post))
+      ap (placed (items c (v + 1) ++ ys) i)
+      (sym (regroup pre o oc or post) ∙ append-assoc (pre ++ (o ∷ [])) oc (or ++ post))
       ∙ Ic (v + 1) i (pre ++ (o ∷ [])) oc (or ++ post) ys (length-append pre (o ∷ []) ∙ omega arith) hc
       ∙ ap (placed ys (i + size (image c))) (sym (append-assoc (pre ++ (o ∷ [])) (places c i) (or ++ post)))
       ∙ Ir (v + 1 + count c) (i + size (image c)) (pre ++ (o ∷ []) ++ places c i) or post (some v ∷ xs)
@@ -121,12 +126,14 @@ placed-siblings (sibling a c r) v i pre (o ∷ old) post xs hp ho =
     (sym (take-append-drop (count c) old))
     ∙ node-placed a c r (placed-siblings c) (placed-siblings r) v i pre o oc or post xs hp
     (length-take-le (count c) old (omega arith)) (length-drop (count c) old ∙ omega arith)
-    ∙ ap (λ (n : ℕ). placed xs n (pre ++ ((i + size (image c) + size (image r)) ∷ (places c i ++ places r (i + size (image c)) ++ post)))) e
+    ∙ ap (λ (n : ℕ). placed xs n
+    (pre ++ ((i + size (image c) + size (image r)) ∷ (places c i ++ places r (i + size (image c)) ++ post)))) e
 
 -- a whole tree's places, and what stands behind them
 pub placed-tree : (f : Siblings) (ps : List ℕ) → count f ≤ length ps
     → placed (items f 0) 0 ps .places ≡ places f 0 ++ drop (count f) ps
 placed-tree f ps h =
-    ap₂ (λ (l : List (Option ℕ)) (m : List ℕ). placed l 0 m .places) (sym (append-nil (items f 0))) (sym (take-append-drop (count f) ps))
+    ap₂ (λ (l : List (Option ℕ)) (m : List ℕ). placed l 0 m .places) (sym (append-nil (items f 0)))
+    (sym (take-append-drop (count f) ps))
     ∙ ap (λ (w : Written). w .places)
     (placed-siblings f 0 0 [] (take (count f) ps) (drop (count f) ps) [] refl (length-take-le (count f) ps h))

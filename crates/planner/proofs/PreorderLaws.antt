@@ -47,13 +47,17 @@ front-rest-counts : (n : ℕ) (f : Siblings) → preCounts (front n f) ++ preCou
 front-rest-counts zero f = refl
 front-rest-counts (suc n) empty = refl
 front-rest-counts (suc n) (sibling a c r) =
-    ap (λ (l : List ℕ). width c ∷ l) (append-assoc (preCounts c) (preCounts (front n r)) (preCounts (rest n r)) ∙ ap (λ (l : List ℕ). preCounts c ++ l) (front-rest-counts n r))
+    ap (λ (l : List ℕ). width c ∷ l)
+    (append-assoc (preCounts c) (preCounts (front n r)) (preCounts (rest n r))
+    ∙ ap (λ (l : List ℕ). preCounts c ++ l) (front-rest-counts n r))
 
 front-rest-labels : (n : ℕ) (f : Siblings) → preLabels (front n f) ++ preLabels (rest n f) ≡ preLabels f
 front-rest-labels zero f = refl
 front-rest-labels (suc n) empty = refl
 front-rest-labels (suc n) (sibling a c r) =
-    ap (λ (l : List ℕ). a ∷ l) (append-assoc (preLabels c) (preLabels (front n r)) (preLabels (rest n r)) ∙ ap (λ (l : List ℕ). preLabels c ++ l) (front-rest-labels n r))
+    ap (λ (l : List ℕ). a ∷ l)
+    (append-assoc (preLabels c) (preLabels (front n r)) (preLabels (rest n r))
+    ∙ ap (λ (l : List ℕ). preLabels c ++ l) (front-rest-labels n r))
 
 width-front : (n : ℕ) (f : Siblings) → n ≤ width f → width (front n f) ≡ n
 width-front zero f h = refl
@@ -81,7 +85,8 @@ siblings-of (c ∷ cs) (a ∷ ls) (suc w) h e =
     let R : Read cs ls (c + w) = siblings-of cs ls (c + w) (omega arith) e in
     let l : c ≤ width (siblingsOf cs ls) = omega (arith, R .wide) in
     record {
-      counts = ap₂ (λ (n : ℕ) (l : List ℕ). n ∷ l) (width-front c (siblingsOf cs ls) l) (front-rest-counts c (siblingsOf cs ls) ∙ R .counts);
+      counts = ap₂ (λ (n : ℕ) (l : List ℕ). n ∷ l) (width-front c (siblingsOf cs ls) l)
+          (front-rest-counts c (siblingsOf cs ls) ∙ R .counts);
       labels = ap (λ (l : List ℕ). a ∷ l) (front-rest-labels c (siblingsOf cs ls) ∙ R .labels);
       wide = omega (arith, width-rest c (siblingsOf cs ls) l, R .wide);
     }
@@ -99,10 +104,12 @@ rest-joined : (f g : Siblings) → rest (width f) (joined f g) ≡ g
 rest-joined empty g = refl
 rest-joined (sibling a c r) g = rest-joined r g
 
-siblings-append : (f : Siblings) (cs ls : List ℕ) → siblingsOf (preCounts f ++ cs) (preLabels f ++ ls) ≡ joined f (siblingsOf cs ls)
+siblings-append : (f : Siblings) (cs ls : List ℕ)
+    → siblingsOf (preCounts f ++ cs) (preLabels f ++ ls) ≡ joined f (siblingsOf cs ls)
 siblings-append empty cs ls = refl
 siblings-append (sibling a c r) cs ls =
-    let e : siblingsOf ((preCounts c ++ preCounts r) ++ cs) ((preLabels c ++ preLabels r) ++ ls) ≡ joined c (joined r (siblingsOf cs ls)) =
+    let e : siblingsOf ((preCounts c ++ preCounts r) ++ cs) ((preLabels c ++ preLabels r) ++ ls)
+    ≡ joined c (joined r (siblingsOf cs ls)) =
     ap₂ siblingsOf (append-assoc (preCounts c) (preCounts r) cs) (append-assoc (preLabels c) (preLabels r) ls)
     ∙ siblings-append c (preCounts r ++ cs) (preLabels r ++ ls)
     ∙ ap (joined c) (siblings-append r cs ls) in
@@ -115,4 +122,5 @@ joined-empty (sibling a c r) = ap (sibling a c) (joined-empty r)
 
 pub siblings-unique : (f : Siblings) → siblingsOf (preCounts f) (preLabels f) ≡ f
 siblings-unique f =
-    ap₂ siblingsOf (sym (append-nil (preCounts f))) (sym (append-nil (preLabels f))) ∙ siblings-append f [] [] ∙ joined-empty f
+    ap₂ siblingsOf (sym (append-nil (preCounts f))) (sym (append-nil (preLabels f))) ∙ siblings-append f [] []
+    ∙ joined-empty f

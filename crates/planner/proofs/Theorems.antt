@@ -72,14 +72,16 @@ module _ (b : List ℕ) (m k : ℕ) (bytes : allBelow 256 b ≡ true) (passes : 
         label-item f 0 g (λ i l. (let q : 0 + i ≡ i = omega arith in ap g q)) j (omega (arith, S .high))
             ∙ ap (itemLabel g) (ap (λ (i : ℕ). getD (items f 0) i none) (sym z) ∙ S .item)
             ∙ ap g w ∙ ap (λ (l : List ℕ). getD l v 0) (decoded .labels),
-        kind-item f 0 j (omega (arith, S .high)) ∙ ap itemKind (ap (λ (i : ℕ). getD (items f 0) i none) (sym z) ∙ S .item),
+        kind-item f 0 j (omega (arith, S .high))
+            ∙ ap itemKind (ap (λ (i : ℕ). getD (items f 0) i none) (sym z) ∙ S .item),
       )
 
 -- "only plans that come from such a file may go home"
 pub home-exactly : (p : List ℕ) → allBelow 256 p ≡ true → (comesFromFile p ≡ true) ↔ GoesHome p
 unfolding comesFromFile
 home-exactly p bytes = (
-  λ e. laws.home-goes p bytes (eqb-true (firstNo (planChecks p)) 0 (and-left _ (isImage (planTree p)) e)) (and-right (eqb (firstNo (planChecks p)) 0) _ e),
+  λ e. laws.home-goes p bytes (eqb-true (firstNo (planChecks p)) 0 (and-left _ (isImage (planTree p)) e))
+      (and-right (eqb (firstNo (planChecks p)) 0) _ e),
   λ g. and-both _ _ (eq-eqb (firstNo (planChecks p)) 0 (laws.goes-home p g .0)) (laws.goes-home p g .1),
 )
 
@@ -97,5 +99,6 @@ unfolding passesTests
 tests-are-image t =
     same-answer (passesTests (labelsOf t) (kindsOf t)) (isImage t)
     (λ e. (let h = and-right (labelsFit (labelsOf t) (kindsOf t)) _ e in
-    tests-image t (and-left (labelsFit (labelsOf t) (kindsOf t)) _ e) (and-right (oneTop (kindsOf t)) _ h) (and-left (oneTop (kindsOf t)) _ h)))
+    tests-image t (and-left (labelsFit (labelsOf t) (kindsOf t)) _ e) (and-right (oneTop (kindsOf t)) _ h)
+    (and-left (oneTop (kindsOf t)) _ h)))
     (λ e. (let h = image-tests t e in and-both _ _ (h .0) (and-both _ _ (h .2) (h .1))))

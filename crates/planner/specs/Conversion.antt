@@ -2,7 +2,8 @@
 --
 -- planOf b == our plan of a planner's file; placesOf b == the places of its nodes, in pre-order
 -- fileOf p == the planner's file of our plan
--- Acceptable f == f is a tree that a planner's file can hold and that goes out: one tree, counts that are bytes, labels below 63, at most
+-- Acceptable f == f is a tree that a planner's file can hold and that goes out: one tree, counts that are bytes, labels
+--   below 63, at most
 --   32,767 nodes
 -- GoesHome p == the bytes p are our plan of such a file's tree
 --
@@ -14,7 +15,8 @@ use mathlib.Core.Bool.{true}
 use mathlib.Core.List.{List}
 use Rattle.list_laws.specs.Tests.{allBelow}
 use Rattle.formats.specs.Plan.{planTree, planBytes}
-use Rattle.planner.specs.Siblings.{Siblings, count, width, preLabels, preCounts, image, unimage, places, emptyLabel}
+use Rattle.planner.specs.Siblings.{Siblings, count, width, preLabels, preCounts, image, unimage, places}
+use Rattle.planner.specs.Siblings.{emptyLabel}
 use Rattle.planner.specs.File.{fileTree, fileBytes}
 
 abbrev pub planOf : List ℕ → List ℕ

@@ -2,7 +2,8 @@
 --
 -- fileCount b == n of the header; labelRun b, countRun b == the two runs
 -- fileBytes f == the file of a list of siblings
--- pending cs w == how many nodes are still to come after the counts cs, where w were to come before; none where a node comes that
+-- pending cs w == how many nodes are still to come after the counts cs, where w were to come before; none where a node
+--   comes that
 --   nobody waits for
 -- isPreorder cs == whether cs are the child counts of one tree in pre-order
 -- front c f, rest c f == the first c siblings, and those after them
@@ -10,7 +11,8 @@
 -- fileTree b == that of the file
 -- outRoom n plan places == whether n is in its limit and both outputs, of these lengths, are long enough
 -- outChecks b plan places == 19, 20, 21 going out; plan and places are the lengths of the two outputs
--- isImage t == whether t is the image of a tree that a file can hold; comesFromFile p == whether p is the plan of such a tree
+-- isImage t == whether t is the image of a tree that a file can hold; comesFromFile p == whether p is the plan of such
+--   a tree
 -- homeChecks p file == 19, 21 going home; file is the length of the output
 --
 -- Assumes nothing.
@@ -25,7 +27,8 @@ use Rattle.formats.specs.Bytes.{le32, le32Bytes}
 use Rattle.list_laws.specs.Tests.{allBelow}
 use Rattle.formats.specs.Plan.{planLength, planTree}
 use Rattle.formats.specs.Checks.{Check, check, firstNo, planChecks}
-use Rattle.planner.specs.Siblings.{Siblings, empty, sibling, count, width, preLabels, preCounts, unimage, emptyLabel}
+use Rattle.planner.specs.Siblings.{Siblings, empty, sibling, count, width, preLabels, preCounts, unimage}
+use Rattle.planner.specs.Siblings.{emptyLabel}
 
 abbrev pub fileCount : List ℕ → ℕ
 fileCount b = le32 b 0
@@ -39,7 +42,8 @@ labelRun b = take (fileCount b) (drop 12 b)
 abbrev pub countRun : List ℕ → List ℕ
 countRun b = take (fileCount b) (drop (12 + fileCount b) b)
 
--- "a header of count n, offset of labels (12) and offset of child counts (12+n), each 32-bit, then n labels and n counts in pre-order of
+-- "a header of count n, offset of labels (12) and offset of child counts (12+n), each 32-bit, then n labels and n
+-- counts in pre-order of
 -- one tree"
 unfoldable pub fileBytes : Siblings → List ℕ
 fileBytes f = le32Bytes (count f) ++ (le32Bytes 12 ++ (le32Bytes (12 + count f) ++ (preLabels f ++ preCounts f)))

@@ -1,15 +1,18 @@
 -- The planner's trees, as lists of siblings, and their image among our trees (document 02, S-2).
 --
--- Siblings == a list of siblings: empty, or the first one's label, its children's list and the rest. A planner's tree is a list of one
+-- Siblings == a list of siblings: empty, or the first one's label, its children's list and the rest. A planner's tree
+--   is a list of one
 -- count f == how many nodes; width f == how many siblings
 -- preLabels f, preCounts f == the labels and the child counts of the nodes, top first (pre-order)
 -- image f == our tree
 -- unimage t == the list of siblings whose image t would be, its leaves' labels aside
--- items f v == our tree's nodes in post-order: none for a leaf, some u for planner node u, where f's nodes are numbered from v
+-- items f v == our tree's nodes in post-order: none for a leaf, some u for planner node u, where f's nodes are numbered
+--   from v
 -- itemLabel g x, itemKind x == label and kind of such an item, where g gives the labels of planner nodes
 -- places f lo == for each planner node in pre-order its place in our plan, where the image begins at place lo
 --
--- "A list of siblings becomes an inner node with the first one's label, its children's list at the left and the rest at the right; an
+-- "A list of siblings becomes an inner node with the first one's label, its children's list at the left and the rest at
+-- the right; an
 -- empty list becomes a leaf with label 63. So n nodes become 2n+1."
 -- Assumes nothing.
 use Prim.Native.Nat.{ℕ, zero, suc, _+_, _-_}

@@ -50,14 +50,17 @@ from l i h = rw add-one (drop-cons l i 0 h)
 
 module _ (ls ks : List ℕ) (i : ℕ) (z : length ls ≡ length ks) where
   labels-next : i < length ls
-      → labelsFit (drop i ls) (drop i ks) ≡ (labelFits (getD ls i 0) (getD ks i 0) && labelsFit (drop (i + 1) ls) (drop (i + 1) ks))
+      → labelsFit (drop i ls) (drop i ks)
+      ≡ (labelFits (getD ls i 0) (getD ks i 0) && labelsFit (drop (i + 1) ls) (drop (i + 1) ks))
   labels-next h = ap₂ labelsFit (from ls i h) (from ks i (omega arith))
 
-  pub labels-no : labelsFit (drop i ls) (drop i ks) ≡ labelsFit ls ks → i < length ls → labelFits (getD ls i 0) (getD ks i 0) ≡ false
+  pub labels-no : labelsFit (drop i ls) (drop i ks) ≡ labelsFit ls ks → i < length ls
+      → labelFits (getD ls i 0) (getD ks i 0) ≡ false
       → labelsFit ls ks ≡ false
   labels-no e h f = sym e ∙ labels-next h ∙ and-no-left _ _ f
 
-  pub labels-iteration : labelsFit (drop i ls) (drop i ks) ≡ labelsFit ls ks → i < length ls → labelFits (getD ls i 0) (getD ks i 0) ≡ true
+  pub labels-iteration : labelsFit (drop i ls) (drop i ks) ≡ labelsFit ls ks → i < length ls
+      → labelFits (getD ls i 0) (getD ks i 0) ≡ true
       → labelsFit (drop (i + 1) ls) (drop (i + 1) ks) ≡ labelsFit ls ks
   labels-iteration e h f = sym (and-next _ _ f) ∙ sym (labels-next h) ∙ e
 
@@ -66,19 +69,24 @@ module _ (ls ks : List ℕ) (i : ℕ) (z : length ls ≡ length ks) where
 
 -- ---- runs
 
-runs-cons : (m k : ℕ) (ks : List ℕ) (w : ℕ) → 0 < m → runsFit m (k ∷ ks) w ≡ (ltb (runAfter k w) m && runsFit m ks (runAfter k w))
+runs-cons : (m k : ℕ) (ks : List ℕ) (w : ℕ) → 0 < m
+    → runsFit m (k ∷ ks) w ≡ (ltb (runAfter k w) m && runsFit m ks (runAfter k w))
 runs-cons m zero ks w h = sym (and-next _ _ (lt-ltb 0 m h))
 runs-cons m (suc k) ks w h = ap (λ (n : ℕ). ltb n m && runsFit m ks n) (sym (add-one w))
 
 module _ (ks : List ℕ) (w i : ℕ) (e : runsFit 256 (drop i ks) w ≡ runsFit 256 ks 0) where
-  runs-next : i < length ks → (ltb (runAfter (getD ks i 0) w) 256 && runsFit 256 (drop (i + 1) ks) (runAfter (getD ks i 0) w)) ≡ runsFit 256 ks 0
+  runs-next : i < length ks
+      → (ltb (runAfter (getD ks i 0) w) 256 && runsFit 256 (drop (i + 1) ks) (runAfter (getD ks i 0) w))
+      ≡ runsFit 256 ks 0
   runs-next h =
-      sym (ap (λ (l : List ℕ). runsFit 256 l w) (from ks i h) ∙ runs-cons 256 (getD ks i 0) (drop (i + 1) ks) w (omega arith)) ∙ e
+      sym (ap (λ (l : List ℕ). runsFit 256 l w) (from ks i h)
+      ∙ runs-cons 256 (getD ks i 0) (drop (i + 1) ks) w (omega arith)) ∙ e
 
   pub runs-no : i < length ks → (r : ℕ) → r ≡ runAfter (getD ks i 0) w → 255 < r → runsFit 256 ks 0 ≡ false
   runs-no h r q l = sym (runs-next h) ∙ and-no-left _ _ (le-ltb (runAfter (getD ks i 0) w) 256 (omega arith))
 
-  pub runs-iteration : i < length ks → (r : ℕ) → r ≡ runAfter (getD ks i 0) w → r ≤ 255 → runsFit 256 (drop (i + 1) ks) r ≡ runsFit 256 ks 0
+  pub runs-iteration : i < length ks → (r : ℕ) → r ≡ runAfter (getD ks i 0) w → r ≤ 255
+      → runsFit 256 (drop (i + 1) ks) r ≡ runsFit 256 ks 0
   runs-iteration h r q l =
       ap (runsFit 256 (drop (i + 1) ks)) q
       ∙ sym (and-next _ _ (lt-ltb (runAfter (getD ks i 0) w) 256 (omega arith))) ∙ runs-next h
@@ -108,7 +116,8 @@ module _ (p : List ℕ) where
   comes-no-plan h = and-no-left _ _ (ne-eqb (firstNo (planChecks p)) 0 h)
 
   module _ (e : firstNo (planChecks p) ≡ 0) where
-    pub comes-tests : comesFromFile p ≡ (labelsFit (labelsIn p) (kindsIn p) && (oneTop (kindsIn p) && runsFit 256 (kindsIn p) 0))
+    pub comes-tests : comesFromFile p
+        ≡ (labelsFit (labelsIn p) (kindsIn p) && (oneTop (kindsIn p) && runsFit 256 (kindsIn p) 0))
     unfolding comesFromFile passesTests
     comes-tests =
         let P : PlanPasses p = plan-passes p e in
@@ -125,7 +134,8 @@ module _ (p : List ℕ) where
         ∙ and-no-right (labelsFit (labelsIn p) (kindsIn p)) (oneTop (kindsIn p) && runsFit 256 (kindsIn p) 0)
         (and-no-left (oneTop (kindsIn p)) (runsFit 256 (kindsIn p) 0) f)
 
-    pub comes-runs : labelsFit (labelsIn p) (kindsIn p) ≡ true → oneTop (kindsIn p) ≡ true → comesFromFile p ≡ runsFit 256 (kindsIn p) 0
+    pub comes-runs : labelsFit (labelsIn p) (kindsIn p) ≡ true → oneTop (kindsIn p) ≡ true
+        → comesFromFile p ≡ runsFit 256 (kindsIn p) 0
     comes-runs f g = comes-tests ∙ and-next _ _ f ∙ and-next _ _ g
 
 -- ---- the two parts of a plan of r nodes
@@ -133,7 +143,8 @@ module _ (p : List ℕ) where
 pub labels-cut : (p : List ℕ) (r : ℕ) → r ≡ nodeCount p → take (12 + r - 12) (drop 12 p) ≡ labelsIn p
 labels-cut p r e = run-part p 12 r ∙ ap (λ (i : ℕ). take i (drop 12 p)) e
 
-pub kinds-cut : (p : List ℕ) (r : ℕ) → r ≡ nodeCount p → length p ≡ 12 + 2 * r → take (length p - (12 + r)) (drop (12 + r) p) ≡ kindsIn p
+pub kinds-cut : (p : List ℕ) (r : ℕ) → r ≡ nodeCount p → length p ≡ 12 + 2 * r
+    → take (length p - (12 + r)) (drop (12 + r) p) ≡ kindsIn p
 kinds-cut p r e h = end-part p (12 + r) r (omega arith) ∙ ap (λ (i : ℕ). take i (drop (12 + i) p)) e
 
 pub parts-same : (p : List ℕ) (r : ℕ) → length p ≡ 12 + 2 * r

@@ -14,7 +14,7 @@ use lib.ListN.{length, getD, take, drop}
 use lib.Seq.{sets, length-sets}
 use borrow.Author.Tests.{eqb-true}
 use Rattle.list_laws.proofs.BoolLaws.{and-left, and-right}
-use Rattle.list_laws.proofs.SliceLaws.{run-part, end-part}
+use Rattle.list_laws.proofs.SliceLaws.{run-part, end-part, rest-cut}
 use Rattle.trees.specs.Tree.{Tree, size, labelsOf, kindsOf}
 use Rattle.formats.specs.Plan.{nodeCount, labelsIn, kindsIn, planTree}
 use Rattle.formats.specs.Checks.{firstNo, planChecks}
@@ -27,7 +27,7 @@ use Rattle.planner.proofs.ImageLaws.{image-unimage}
 use Rattle.planner.proofs.ImageTestLaws.{image-tests}
 use Rattle.planner.proofs.CheckAnswers.{home-passes}
 use Rattle.planner_out.specs.inner.Laid.{planHeader}
-use Rattle.planner_out.proofs.PlanLaws.{cut, rest-is, headed}
+use Rattle.planner_out.proofs.PlanLaws.{rest-is, headed}
 use Rattle.planner_home.specs.inner.Cells.{cellsFrom, Kept, Fits, ReadArgs, ReadDone}
 use Rattle.planner_home.specs.Home.{HomeArgs, HomeWritten, HomeDone}
 use Rattle.planner_home.proofs.CheckLoop.{size-unimage}
@@ -44,7 +44,9 @@ pub home-plan : (p : List ℕ) → comesFromFile p ≡ true → HomePlan p
 unfolding comesFromFile isImage
 home-plan p e =
     let t : Tree = planTree p in
-    let P : PlanPasses p = plan-passes p (eqb-true (firstNo (planChecks p)) 0 (and-left (eqb (firstNo (planChecks p)) 0) (isImage (planTree p)) e)) in
+    let P : PlanPasses p =
+    plan-passes p (eqb-true (firstNo (planChecks p)) 0
+    (and-left (eqb (firstNo (planChecks p)) 0) (isImage (planTree p)) e)) in
     let i : isImage (planTree p) ≡ true = and-right (eqb (firstNo (planChecks p)) 0) (isImage (planTree p)) e in
     let T = image-tests (planTree p) i in
     record {
@@ -66,7 +68,8 @@ home-half p m e = omega (arith, home-plan p (home-passes p m e .0) .size-is)
 file-header : (f : Siblings) (rest : List ℕ)
     → planHeader (count f) ++ (preLabels f ++ (preCounts f ++ rest)) ≡ fileBytes f ++ rest
 unfolding fileBytes
-file-header f rest = ap (λ (l : List ℕ). planHeader (count f) ++ l) (sym (append-assoc (preLabels f) (preCounts f) rest))
+file-header f rest =
+    ap (λ (l : List ℕ). planHeader (count f) ++ l) (sym (append-assoc (preLabels f) (preCounts f) rest))
 
 module _ (p : List ℕ) (n : ℕ) (b : List ℕ) (A : HomeArgs p n b) where
   H : HomePlan p
@@ -107,18 +110,20 @@ module _ (p : List ℕ) (n : ℕ) (b : List ℕ) (A : HomeArgs p n b) where
       let labels : take n (drop 12 q) ≡ preLabels f = ap (λ (i : ℕ). take i (drop 12 q)) (sym z) ∙ R .labels in
       let counts : take n (drop (12 + n) q) ≡ preCounts f =
       ap₂ (λ (i j : ℕ). take i (drop j q)) (sym z) (sym y) ∙ R .counts in
-      let rest : drop (12 + 2 * n) q ≡ drop (12 + 2 * n) b = rest-is q b (12 + 2 * n) (R .kept .same) (R .kept .excess) in
+      let rest : drop (12 + 2 * n) q ≡ drop (12 + 2 * n) b =
+      rest-is q b (12 + 2 * n) (R .kept .same) (R .kept .excess) in
       e ∙ headed q n (omega (arith, R .kept .same, home-size .3))
       ∙ ap (λ (l : List ℕ). planHeader n ++ l)
-      (cut q 12 n (12 + n) refl
+      (rest-cut q 12 n (12 + n) refl
       ∙ ap₂ (λ (x y : List ℕ). x ++ y) labels
-      (cut q (12 + n) n (12 + 2 * n) (omega arith) ∙ ap₂ (λ (x y : List ℕ). x ++ y) counts rest))
+      (rest-cut q (12 + n) n (12 + 2 * n) (omega arith) ∙ ap₂ (λ (x y : List ℕ). x ++ y) counts rest))
       ∙ ap (λ (i : ℕ). planHeader i ++ (preLabels f ++ (preCounts f ++ drop (12 + 2 * i) b))) (A .count-is)
       ∙ file-header f (drop (12 + 2 * count f) b)
 
 -- ---- the answers
 
-pub home-done : (p b : List ℕ) (r : ℕ) (c : List ℕ) → r ≡ 0 → firstNo (homeChecks p (length b)) ≡ 0 → HomeWritten p b c → HomeDone p b r c
+pub home-done : (p b : List ℕ) (r : ℕ) (c : List ℕ) → r ≡ 0 → firstNo (homeChecks p (length b)) ≡ 0 → HomeWritten p b c
+    → HomeDone p b r c
 home-done p b r c z e W = record { number = z ∙ sym e; written = λ h. W; kept = λ h. absurd (h z) }
 
 pub home-refused : (p b : List ℕ) (r : ℕ) → (r ≡ 0 → ⊥) → r ≡ firstNo (homeChecks p (length b)) → HomeDone p b r b

@@ -21,7 +21,9 @@ use Rattle.planner.specs.inner.HomeMachine.{Held, HomeState, homeState, homewar
 use Rattle.planner.specs.inner.ImageTests.{labelFits, labelsFit, runsFit}
 use Rattle.planner.proofs.HomeMachine.{fromRight, homeward-tree}
 use Rattle.planner.proofs.ItemLaws.{readBack-image}
-use Rattle.planner_home.specs.inner.Cells.{stackOf, cellsFrom, homeNow, Kept, Fits, PushArgs, CountArgs, ReleaseArgs, PushDone, CountDone, ReleaseDone, NodeArgs, NodeDone, ReadArgs, ReadDone}
+use Rattle.planner_home.specs.inner.Cells.{stackOf, cellsFrom, homeNow, Kept, Fits, PushArgs, CountArgs}
+use Rattle.planner_home.specs.inner.Cells.{ReleaseArgs, PushDone, CountDone, ReleaseDone, NodeArgs, NodeDone}
+use Rattle.planner_home.specs.inner.Cells.{ReadArgs, ReadDone}
 use Rattle.planner_home.proofs.CellLaws.{cells-end}
 
 -- ---- one node
@@ -66,7 +68,8 @@ module _ (p : List ℕ) (n a k d left run : ℕ) (A : NodeArgs p n a k d left ru
     kept = C .kept;
   }
 
-  pub node-release : (d₁ : ℕ) (q : List ℕ) → k ≡ 0 → run ≡ 0 → ReleaseDone n d left p d₁ q → NodeDone n a k d left run p d₁ left 0 q
+  pub node-release : (d₁ : ℕ) (q : List ℕ) → k ≡ 0 → run ≡ 0 → ReleaseDone n d left p d₁ q
+      → NodeDone n a k d left run p d₁ left 0 q
   node-release d₁ q e z R = record {
     rest = λ xs. R .rest xs
         ∙ ap₂ (λ (x : Option ℕ) (r : ℕ). homeNow (x ∷ xs) r p n d left) (sym (leaf-item a k e)) (sym z);
@@ -83,7 +86,8 @@ labels-at : (ls ks : List ℕ) (v : ℕ) → labelsFit ls ks ≡ true → v < le
 labels-at [] ks v e h z = absurd (omega arith)
 labels-at (a ∷ ls) [] v e h z = absurd (omega arith)
 labels-at (a ∷ ls) (k ∷ ks) zero e h z = and-left (labelFits a k) (labelsFit ls ks) e
-labels-at (a ∷ ls) (k ∷ ks) (suc v) e h z = labels-at ls ks v (and-right (labelFits a k) (labelsFit ls ks) e) (omega arith) (omega arith)
+labels-at (a ∷ ls) (k ∷ ks) (suc v) e h z =
+    labels-at ls ks v (and-right (labelFits a k) (labelsFit ls ks) e) (omega arith) (omega arith)
 
 label-small : (a k : ℕ) → labelFits a k ≡ true → (k ≡ 0 → ⊥) → a < 64
 label-small a zero e h = absurd (h refl)
@@ -97,20 +101,24 @@ run-first m [] w (suc r) e h l f = absurd (omega arith)
 run-first m (zero ∷ ks) w (suc r) e h l f = absurd (f 0 (omega arith) refl)
 run-first m (suc k ∷ ks) w (suc r) e h l f =
     let i : suc w + r < m =
-    run-first m ks (suc w) r (and-right (ltb (suc w) m) _ e) (ltb-true (suc w) m (and-left (ltb (suc w) m) _ e)) (omega arith)
+    run-first m ks (suc w) r (and-right (ltb (suc w) m) _ e) (ltb-true (suc w) m (and-left (ltb (suc w) m) _ e))
+    (omega arith)
     (λ j q. f (suc j) (omega arith)) in
     omega arith
 
 run-short : (m : ℕ) (ks : List ℕ) (w v r : ℕ) → runsFit m ks w ≡ true → w < m → 0 < m → v + r ≤ length ks
     → ((j : ℕ) → j < r → getD ks (v + j) 0 ≡ 0 → ⊥) → r < m
 run-short m ks w zero r e h z l f =
-    let i : w + r < m = run-first m ks w r e h (omega arith) (λ j q g. f j q (let c : 0 + j ≡ j = omega arith in ap (λ (i : ℕ). getD ks i 0) c ∙ g)) in
+    let i : w + r < m = run-first m ks w r e h (omega arith)
+    (λ j q g. f j q (let c : 0 + j ≡ j = omega arith in ap (λ (i : ℕ). getD ks i 0) c ∙ g)) in
     omega arith
 run-short m [] w (suc v) r e h z l f = absurd (omega arith)
 run-short m (zero ∷ ks) w (suc v) r e h z l f =
-    run-short m ks 0 v r e z z (omega arith) (λ j q g. f j q (let c : suc v + j ≡ suc (v + j) = omega arith in ap (λ (i : ℕ). getD (zero ∷ ks) i 0) c ∙ g))
+    run-short m ks 0 v r e z z (omega arith)
+    (λ j q g. f j q (let c : suc v + j ≡ suc (v + j) = omega arith in ap (λ (i : ℕ). getD (zero ∷ ks) i 0) c ∙ g))
 run-short m (suc k ∷ ks) w (suc v) r e h z l f =
-    run-short m ks (suc w) v r (and-right (ltb (suc w) m) _ e) (ltb-true (suc w) m (and-left (ltb (suc w) m) _ e)) z (omega arith)
+    run-short m ks (suc w) v r (and-right (ltb (suc w) m) _ e) (ltb-true (suc w) m (and-left (ltb (suc w) m) _ e)) z
+    (omega arith)
     (λ j q g. f j q (let c : suc v + j ≡ suc (v + j) = omega arith in ap (λ (i : ℕ). getD (suc k ∷ ks) i 0) c ∙ g))
 
 -- ---- how many inner nodes are still to be read
@@ -191,7 +199,12 @@ module _ (f : Siblings) (ls ks p : List ℕ) (n : ℕ) (A : ReadArgs f ls ks p n
       reading-args w = record {
         fits = record { room = omega (arith, R .kept .same, A .fits .room); few = A .fits .few };
         inside = R .inside;
-        some-left = λ i. omega (arith, R .left-is, ap somes next-item, somes-inner (getD ls (v - 1) 0) (getD ks (v - 1) 0) (readBack ls ks (v - 1)) i);
+        some-left = λ i. omega (
+          arith,
+          R .left-is,
+          ap somes next-item,
+          somes-inner (getD ls (v - 1) 0) (getD ks (v - 1) 0) (readBack ls ks (v - 1)) i,
+        );
         small = λ i. label-small (getD ls (v - 1) 0) (getD ks (v - 1) 0)
             (labels-at ls ks (v - 1) (A .labels-fit) (omega arith) lengths) i;
         short = run-short 256 ks 0 v run (A .runs-fit) (omega arith) (omega arith) (R .run-in) (R .run-inner);
@@ -201,10 +214,23 @@ module _ (f : Siblings) (ls ks p : List ℕ) (n : ℕ) (A : ReadArgs f ls ks p n
           → NodeDone n (getD ls (v - 1) 0) (getD ks (v - 1) 0) d left run q d₁ left₁ run₁ q₁
           → Reading f ls ks n p (v - 1) d₁ left₁ run₁ q₁
       reading-iteration d₁ left₁ run₁ q₁ N = record {
-        rest = N .rest (readBack ls ks (v - 1)) ∙ ap (λ (xs : List (Option ℕ)). homeNow xs run q n d left) (sym next-item) ∙ R .rest;
+        rest = N .rest (readBack ls ks (v - 1))
+            ∙ ap (λ (xs : List (Option ℕ)). homeNow xs run q n d left) (sym next-item) ∙ R .rest;
         left-is = elim (ℕ-discrete (getD ks (v - 1) 0) 0) [
-          | yes e ↦ omega (arith, N .leaf e .0, R .left-is, ap somes next-item, somes-leaf (getD ls (v - 1) 0) (getD ks (v - 1) 0) (readBack ls ks (v - 1)) e)
-          | no e ↦ omega (arith, N .inner e .0, R .left-is, ap somes next-item, somes-inner (getD ls (v - 1) 0) (getD ks (v - 1) 0) (readBack ls ks (v - 1)) e)
+          | yes e ↦ omega (
+            arith,
+            N .leaf e .0,
+            R .left-is,
+            ap somes next-item,
+            somes-leaf (getD ls (v - 1) 0) (getD ks (v - 1) 0) (readBack ls ks (v - 1)) e,
+          )
+          | no e ↦ omega (
+            arith,
+            N .inner e .0,
+            R .left-is,
+            ap somes next-item,
+            somes-inner (getD ls (v - 1) 0) (getD ks (v - 1) 0) (readBack ls ks (v - 1)) e,
+          )
         ];
         inside = N .inside;
         run-inner = elim (ℕ-discrete (getD ks (v - 1) 0) 0) [
@@ -223,7 +249,9 @@ module _ (f : Siblings) (ls ks p : List ℕ) (n : ℕ) (A : ReadArgs f ls ks p n
         where
           inner-run : (j : ℕ) → (getD ks (v - 1) 0 ≡ 0 → ⊥) → j < run + 1 → getD ks (v - 1 + j) 0 ≡ 0 → ⊥
           inner-run zero e l g = e ((let c : v - 1 ≡ v - 1 + 0 = omega arith in ap (λ (i : ℕ). getD ks i 0) c) ∙ g)
-          inner-run (suc j) e l g = R .run-inner j (omega arith) ((let c : v + j ≡ v - 1 + suc j = omega arith in ap (λ (i : ℕ). getD ks i 0) c) ∙ g)
+          inner-run (suc j) e l g =
+              R .run-inner j (omega arith)
+              ((let c : v + j ≡ v - 1 + suc j = omega arith in ap (λ (i : ℕ). getD ks i 0) c) ∙ g)
 
     pub reading-end : v ≡ 0 → ReadDone f n p q
     reading-end z =

@@ -14,7 +14,8 @@ use lib.Seq.{getD-set-same, getD-set-other}
 use borrow.Author.Tests.{lt-ltb}
 use Rattle.list_laws.proofs.BoolLaws.{true-false}
 use Rattle.planner.specs.inner.HomeMachine.{Held, held, HomeState, homeState, released, homeward}
-use Rattle.planner_home.specs.inner.Cells.{heldAt, stackOf, cellsFrom, homeNow, Kept, Fits, ReleaseArgs, ReleaseDone}
+use Rattle.planner_home.specs.inner.Cells.{heldAt, stackOf, cellsFrom, homeNow, Kept, Fits, ReleaseArgs}
+use Rattle.planner_home.specs.inner.Cells.{ReleaseDone}
 use Rattle.planner_home.proofs.CellLaws.{stack-same, cells-same, cells-cons}
 
 -- whether what is on top is still to be written
@@ -22,7 +23,8 @@ abbrev resume : Bool → List Held → List ℕ → List ℕ → HomeState
 resume true st ls cs = released st ls cs
 resume false st ls cs = homeState st ls cs
 
-resume-cond : (b : Bool) (st : List Held) (ls cs : List ℕ) → cond b (released st ls cs) (homeState st ls cs) ≡ resume b st ls cs
+resume-cond : (b : Bool) (st : List Held) (ls cs : List ℕ)
+    → cond b (released st ls cs) (homeState st ls cs) ≡ resume b st ls cs
 resume-cond true st ls cs = refl
 resume-cond false st ls cs = refl
 
@@ -33,25 +35,30 @@ pub record Releasing (n d left : ℕ) (p : List ℕ) (top : ℕ) (more : Bool) (
   pub kept : Kept n p q
 
 pub releasing-start : (n d left : ℕ) (p : List ℕ) → Releasing n d left p d true p
-releasing-start n d left p = record { rest = refl; lower = omega arith; kept = record { same = refl; excess = λ j h. refl } }
+releasing-start n d left p =
+    record { rest = refl; lower = omega arith; kept = record { same = refl; excess = λ j h. refl } }
 
 -- entry i is written
 abbrev pub written : ℕ → ℕ → List ℕ → ℕ → List ℕ
 written n left q i = set (set q (12 + i + left) (getD q (12 + i) 0 % 64)) (12 + n + i + left) (getD q (12 + n + i) 0)
 
-module _ (n d left : ℕ) (p : List ℕ) (A : ReleaseArgs p n d left) (i : ℕ) (q : List ℕ) (h : i < d) (K : Kept n p q) where
+module _ (n d left : ℕ) (p : List ℕ) (A : ReleaseArgs p n d left) (i : ℕ) (q : List ℕ) (h : i < d)
+    (K : Kept n p q) where
   other : (j : ℕ) → (j ≡ 12 + i + left → ⊥) → (j ≡ 12 + n + i + left → ⊥) → getD (written n left q i) j 0 ≡ getD q j 0
   other j a b =
-      getD-set-other (set q (12 + i + left) (getD q (12 + i) 0 % 64)) (12 + n + i + left) j (getD q (12 + n + i) 0) 0 b ∙ getD-set-other q (12 + i + left) j (getD q (12 + i) 0 % 64) 0 a
+      getD-set-other (set q (12 + i + left) (getD q (12 + i) 0 % 64)) (12 + n + i + left) j (getD q (12 + n + i) 0) 0 b
+      ∙ getD-set-other q (12 + i + left) j (getD q (12 + i) 0 % 64) 0 a
 
   same : length (written n left q i) ≡ length q
-  same = length-set (set q (12 + i + left) (getD q (12 + i) 0 % 64)) (12 + n + i + left) (getD q (12 + n + i) 0) ∙ length-set q (12 + i + left) (getD q (12 + i) 0 % 64)
+  same = length-set (set q (12 + i + left) (getD q (12 + i) 0 % 64)) (12 + n + i + left) (getD q (12 + n + i) 0)
+      ∙ length-set q (12 + i + left) (getD q (12 + i) 0 % 64)
 
   label-cell : getD (written n left q i) (12 + (i + left)) 0 ≡ getD q (12 + i) 0 % 64
   label-cell =
       let e : 12 + (i + left) ≡ 12 + i + left = omega arith in
       ap (λ (j : ℕ). getD (written n left q i) j 0) e
-      ∙ getD-set-other (set q (12 + i + left) (getD q (12 + i) 0 % 64)) (12 + n + i + left) (12 + i + left) (getD q (12 + n + i) 0) 0 (λ e. omega (arith, A .inside))
+      ∙ getD-set-other (set q (12 + i + left) (getD q (12 + i) 0 % 64)) (12 + n + i + left) (12 + i + left)
+      (getD q (12 + n + i) 0) 0 (λ e. omega (arith, A .inside))
       ∙ getD-set-same q (12 + i + left) (getD q (12 + i) 0 % 64) 0 (omega (arith, A .inside, A .fits .room, K .same))
 
   count-cell : getD (written n left q i) (12 + n + (i + left)) 0 ≡ getD q (12 + n + i) 0
@@ -61,20 +68,26 @@ module _ (n d left : ℕ) (p : List ℕ) (A : ReleaseArgs p n d left) (i : ℕ) 
       ∙ getD-set-same (set q (12 + i + left) (getD q (12 + i) 0 % 64)) (12 + n + i + left) (getD q (12 + n + i) 0) 0
       (simp length-set (omega (arith, A .inside, A .fits .room, K .same)))
 
-  labels-more : cellsFrom (written n left q i) 12 n (i + left) ≡ getD q (12 + i) 0 % 64 ∷ cellsFrom q 12 n (i + 1 + left)
+  labels-more : cellsFrom (written n left q i) 12 n (i + left)
+      ≡ getD q (12 + i) 0 % 64 ∷ cellsFrom q 12 n (i + 1 + left)
   labels-more =
       let e : i + left + 1 ≡ i + 1 + left = omega arith in
-      cells-cons (written n left q i) 12 n (i + left) (omega (arith, A .inside)) (omega (arith, same, K .same, A .fits .room))
+      cells-cons (written n left q i) 12 n (i + left) (omega (arith, A .inside))
+      (omega (arith, same, K .same, A .fits .room))
       ∙ ap₂ (λ (a : ℕ) (l : List ℕ). a ∷ l) label-cell
-      (cells-same q (written n left q i) 12 n (i + left + 1) same (λ j l m. other (12 + j) (λ e. omega arith) (λ e. omega (arith, A .inside)))
+      (cells-same q (written n left q i) 12 n (i + left + 1) same
+      (λ j l m. other (12 + j) (λ e. omega arith) (λ e. omega (arith, A .inside)))
       ∙ ap (cellsFrom q 12 n) e)
 
-  counts-more : cellsFrom (written n left q i) (12 + n) n (i + left) ≡ getD q (12 + n + i) 0 ∷ cellsFrom q (12 + n) n (i + 1 + left)
+  counts-more : cellsFrom (written n left q i) (12 + n) n (i + left)
+      ≡ getD q (12 + n + i) 0 ∷ cellsFrom q (12 + n) n (i + 1 + left)
   counts-more =
       let e : i + left + 1 ≡ i + 1 + left = omega arith in
-      cells-cons (written n left q i) (12 + n) n (i + left) (omega (arith, A .inside)) (omega (arith, same, K .same, A .fits .room))
+      cells-cons (written n left q i) (12 + n) n (i + left) (omega (arith, A .inside))
+      (omega (arith, same, K .same, A .fits .room))
       ∙ ap₂ (λ (a : ℕ) (l : List ℕ). a ∷ l) count-cell
-      (cells-same q (written n left q i) (12 + n) n (i + left + 1) same (λ j l m. other (12 + n + j) (λ e. omega (arith, A .inside)) (λ e. omega arith))
+      (cells-same q (written n left q i) (12 + n) n (i + left + 1) same
+      (λ j l m. other (12 + n + j) (λ e. omega (arith, A .inside)) (λ e. omega arith))
       ∙ ap (cellsFrom q (12 + n) n) e)
 
   stack-rest : stackOf (written n left q i) n i ≡ stackOf q n i
@@ -82,13 +95,18 @@ module _ (n d left : ℕ) (p : List ℕ) (A : ReleaseArgs p n d left) (i : ℕ) 
       stack-same q (written n left q i) n i (λ j l. other (12 + j) (λ e. omega arith) (λ e. omega (arith, A .inside)))
       (λ j l. other (12 + n + j) (λ e. omega (arith, A .inside)) (λ e. omega arith))
 
-  released-is : resume (leb 64 (getD q (12 + i) 0)) (stackOf (written n left q i) n i) (cellsFrom (written n left q i) 12 n (i + left)) (cellsFrom (written n left q i) (12 + n) n (i + left))
+  released-is : resume (leb 64 (getD q (12 + i) 0)) (stackOf (written n left q i) n i)
+      (cellsFrom (written n left q i) 12 n (i + left)) (cellsFrom (written n left q i) (12 + n) n (i + left))
       ≡ released (stackOf q n (suc i)) (cellsFrom q 12 n (i + 1 + left)) (cellsFrom q (12 + n) n (i + 1 + left))
   unfolding stackOf
   released-is =
-      ap₂ (λ (st : List Held) (l : List ℕ). resume (leb 64 (getD q (12 + i) 0)) st l (cellsFrom (written n left q i) (12 + n) n (i + left))) stack-rest labels-more
-      ∙ ap (resume (leb 64 (getD q (12 + i) 0)) (stackOf q n i) (getD q (12 + i) 0 % 64 ∷ cellsFrom q 12 n (i + 1 + left))) counts-more
-      ∙ sym (resume-cond (leb 64 (getD q (12 + i) 0)) (stackOf q n i) (getD q (12 + i) 0 % 64 ∷ cellsFrom q 12 n (i + 1 + left)) (getD q (12 + n + i) 0 ∷ cellsFrom q (12 + n) n (i + 1 + left)))
+      ap₂ (λ (st : List Held) (l : List ℕ). resume (leb 64 (getD q (12 + i) 0)) st l
+      (cellsFrom (written n left q i) (12 + n) n (i + left))) stack-rest labels-more
+      ∙ ap (resume (leb 64 (getD q (12 + i) 0)) (stackOf q n i)
+      (getD q (12 + i) 0 % 64 ∷ cellsFrom q 12 n (i + 1 + left))) counts-more
+      ∙ sym (resume-cond (leb 64 (getD q (12 + i) 0)) (stackOf q n i)
+      (getD q (12 + i) 0 % 64 ∷ cellsFrom q 12 n (i + 1 + left))
+      (getD q (12 + n + i) 0 ∷ cellsFrom q (12 + n) n (i + 1 + left)))
 
   written-kept : Kept n p (written n left q i)
   written-kept = record {
@@ -112,7 +130,8 @@ module _ (n d left : ℕ) (p : List ℕ) (A : ReleaseArgs p n d left) (top : ℕ
       let t : top - 1 + 1 ≡ top = omega arith in
       record {
         rest = released-is n d left p A (top - 1) q l (R .kept)
-            ∙ ap₂ (λ (j k : ℕ). released (stackOf q n j) (cellsFrom q 12 n (k + left)) (cellsFrom q (12 + n) n (k + left))) s t
+            ∙ ap₂ (λ (j k : ℕ). released (stackOf q n j) (cellsFrom q 12 n (k + left))
+            (cellsFrom q (12 + n) n (k + left))) s t
             ∙ R .rest;
         lower = omega (arith, R .lower);
         kept = written-kept n d left p A (top - 1) q l (R .kept);
@@ -124,7 +143,8 @@ module _ (n d left : ℕ) (p : List ℕ) (A : ReleaseArgs p n d left) (top : ℕ
   ended false R e = R .rest
   ended true R e = empty-stack q n top (cellsFrom q 12 n (top + left)) (cellsFrom q (12 + n) n (top + left)) e ∙ R .rest
 
-  pub releasing-end : (more : Bool) → Releasing n d left p top more q → (more && ltb 0 top) ≡ false → ReleaseDone n d left p top q
+  pub releasing-end : (more : Bool) → Releasing n d left p top more q → (more && ltb 0 top) ≡ false
+      → ReleaseDone n d left p top q
   releasing-end more R e = record {
     rest = λ xs. ap (λ (T : HomeState). homeward xs 0 (T .stack) (T .labels) (T .counts)) (ended more R e);
     lower = R .lower;

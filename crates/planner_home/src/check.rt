@@ -1,6 +1,6 @@
 // The checks 19 and 21 of a plan that goes home.
-use crate::plan::check_plan;
 use formats::bytes::read32;
+use formats::plan::check_plan;
 ghost use mathlib.Core.Path.{_≡_};
 ghost use Prim.Native.Nat.{_<_};
 ghost use lib.ListN.{length};

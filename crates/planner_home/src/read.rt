@@ -1,12 +1,15 @@
-// The nodes of a plan, read from the right, with a stack. The stack stands at the low end of the file's label run and count run, what is
+// The nodes of a plan, read from the right, with a stack. The stack stands at the low end of the file's label run and
+// count run, what is
 // written at their high end; bit 6 of a label on the stack says that the node is the first of its list.
 ghost use mathlib.Core.Path.{_≡_};
 ghost use Prim.Native.Nat.{ℕ, _+_, _*_, _<_, _≤_};
 ghost use lib.ListN.{length};
 ghost use Rattle.planner.specs.Siblings.{Siblings};
-ghost use Rattle.planner_home.specs.inner.Cells.{marked, PushArgs, CountArgs, ReleaseArgs, NodeArgs, PushDone, CountDone, ReleaseDone, NodeDone, ReadArgs, ReadDone};
+ghost use Rattle.planner_home.specs.inner.Cells.{marked, PushArgs, CountArgs, ReleaseArgs, NodeArgs, PushDone};
+ghost use Rattle.planner_home.specs.inner.Cells.{CountDone, ReleaseDone, NodeDone, ReadArgs, ReadDone};
 
-// How many entries the stack has, how many inner nodes are still to be read, and how many of the list that is being read are read.
+// How many entries the stack has, how many inner nodes are still to be read, and how many of the list that is being
+// read are read.
 pub struct Walk {
     pub depth: usize,
     pub left: usize,
@@ -65,7 +68,8 @@ fn release(file: &mut [u8], n: usize, depth: usize, left: usize) -> usize
 fn read_node(file: &mut [u8], n: usize, label: u8, kind: u8, w: Walk) -> Walk
     requires { ⌜ NodeArgs (now file) n label kind (w .depth) (w .left) (w .run) ⌝ }
     ensures { λ r. ⌜
-        NodeDone n label kind (w .depth) (w .left) (w .run) (now (file .entry)) (r .depth) (r .left) (r .run) (now (file .exit)) ⌝ }
+        NodeDone n label kind (w .depth) (w .left) (w .run) (now (file .entry)) (r .depth) (r .left) (r .run)
+        (now (file .exit)) ⌝ }
 {
     if kind != 0 {
         push(file, n, label, w);

@@ -53,11 +53,13 @@ module _ (cs : List ℕ) (w i : ℕ) (W : Waiting cs w i) where
   pub waiting-many : length cs - i < w → isPreorder cs ≡ false
   waiting-many h = sym (W .answer) ∙ pending-many (drop i cs) w (simp length-drop (omega arith))
 
-  pub waiting-iteration : i < length cs → 1 ≤ w → w ≤ length cs - i → getD cs i 0 < 256 → Waiting cs (w - 1 + getD cs i 0) (i + 1)
+  pub waiting-iteration : i < length cs → 1 ≤ w → w ≤ length cs - i → getD cs i 0 < 256
+      → Waiting cs (w - 1 + getD cs i 0) (i + 1)
   waiting-iteration h l m s =
       let e : drop i cs ≡ getD cs i 0 ∷ drop (i + 1) cs = rw (add-one i) (drop-cons cs i 0 h) in
       record {
-        answer = sym (ap (λ (x : List ℕ). noneLeft (pending x w)) e ∙ ap noneLeft (pending-next (getD cs i 0) (drop (i + 1) cs) w l)) ∙ W .answer;
+        answer = sym (ap (λ (x : List ℕ). noneLeft (pending x w)) e
+            ∙ ap noneLeft (pending-next (getD cs i 0) (drop (i + 1) cs) w l)) ∙ W .answer;
         within = omega arith;
         few = omega arith;
       }
@@ -83,7 +85,8 @@ file-counts b long least labels-at counts-at exact =
     ∙ and-next _ _ (eq-eqb (le32 b 4) 12 labels-at) ∙ and-next _ _ (eq-eqb (le32 b 8) (12 + fileCount b) counts-at)
     ∙ and-next _ _ (eq-eqb (length b) (12 + 2 * fileCount b) exact)
 
-pub count-part : (b : List ℕ) (n : ℕ) → n ≡ fileCount b → length b ≡ 12 + 2 * n → take (length b - (12 + n)) (drop (12 + n) b) ≡ countRun b
+pub count-part : (b : List ℕ) (n : ℕ) → n ≡ fileCount b → length b ≡ 12 + 2 * n
+    → take (length b - (12 + n)) (drop (12 + n) b) ≡ countRun b
 count-part b n e h = end-part b (12 + n) n (omega arith) ∙ ap (λ (i : ℕ). take i (drop (12 + i) b)) e
 
 -- ---- the outputs

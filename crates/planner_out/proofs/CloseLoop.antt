@@ -15,7 +15,8 @@ use Rattle.planner.proofs.OutMachine.{placed-items}
 use Rattle.planner_out.specs.inner.Stack.{nodeOnTop, isLater, stackOf, goesOn, afterLeaf, CloseArgs, ListsClosed}
 use Rattle.planner_out.proofs.StackLaws.{close-iteration, close-end, top-some}
 
-pub record Closing (p : List ℕ) (depth next : ℕ) (ps : List ℕ) (top at : ℕ) (closing : Bool) (qs : List ℕ) : Type 0 where
+pub record Closing (p : List ℕ) (depth next : ℕ) (ps : List ℕ) (top at : ℕ) (closing : Bool)
+    (qs : List ℕ) : Type 0 where
   pub rest : (k : List Entry → List (Option ℕ))
       → placed (closed k (stackOf p top) closing) at qs ≡ placed (closed k (stackOf p depth) false) next ps
   pub lower : top ≤ depth
@@ -24,7 +25,8 @@ pub record Closing (p : List ℕ) (depth next : ℕ) (ps : List ℕ) (top at : �
 pub closing-start : (p : List ℕ) (depth next : ℕ) (ps : List ℕ) → Closing p depth next ps depth next false ps
 closing-start p depth next ps = record { rest = λ k. refl; lower = omega arith; same = refl }
 
-module _ (p : List ℕ) (depth next : ℕ) (ps : List ℕ) (top at : ℕ) (closing : Bool) (qs : List ℕ) (C : Closing p depth next ps top at closing qs) where
+module _ (p : List ℕ) (depth next : ℕ) (ps : List ℕ) (top at : ℕ) (closing : Bool) (qs : List ℕ)
+    (C : Closing p depth next ps top at closing qs) where
   -- the stack has one entry less
   iterated : goesOn p top closing ≡ true → (k : List Entry → List (Option ℕ))
       → placed (closed k (stackOf p (top - 1)) (isLater p (top - 1))) (afterLeaf closing at + 1)
@@ -37,8 +39,15 @@ module _ (p : List ℕ) (depth next : ℕ) (ps : List ℕ) (top at : ℕ) (closi
       ∙ C .rest k
 
   pub closing-iteration : goesOn p top closing ≡ true
-      → Closing p depth next ps (top - 1) (afterLeaf closing at + 1) (isLater p (top - 1)) (set qs (nodeOnTop p (top - 1)) (afterLeaf closing at))
-  closing-iteration g = record { rest = iterated g; lower = omega (arith, C .lower); same = length-set qs (nodeOnTop p (top - 1)) (afterLeaf closing at) ∙ C .same }
+      → Closing p depth next ps (top - 1) (afterLeaf closing at + 1) (isLater p (top - 1))
+      (set qs (nodeOnTop p (top - 1)) (afterLeaf closing at))
+  closing-iteration g =
+      record {
+        rest = iterated g;
+        lower = omega (arith, C .lower);
+        same =
+            length-set qs (nodeOnTop p (top - 1)) (afterLeaf closing at) ∙ C .same;
+      }
 
   pub closing-end : goesOn p top closing ≡ false → ListsClosed p depth next ps top at qs
   closing-end g = record {
@@ -49,7 +58,8 @@ module _ (p : List ℕ) (depth next : ℕ) (ps : List ℕ) (top at : ℕ) (closi
 
   pub closing-fits : CloseArgs p ps depth next → at ≤ 65535
   closing-fits A =
-      let e : placed (closed (A .then) (stackOf p top) closing) at qs .items ≡ placed (closed (A .then) (stackOf p depth) false) next ps .items =
+      let e : placed (closed (A .then) (stackOf p top) closing) at qs .items
+      ≡ placed (closed (A .then) (stackOf p depth) false) next ps .items =
       ap (λ (w : Written). w .items) (C .rest (A .then)) in
       omega (arith, e, placed-items (closed (A .then) (stackOf p top) closing) at qs, A .fits)
 

@@ -87,7 +87,8 @@ below-next u v h = elim (decLt u v) [
   | no l ↦ le-ltb u v (omega arith) ∙ sym (le-ltb u (v + 1) (omega arith))
 ]
 
-label-other : (ls : List ℕ) (v : ℕ) (x : Option ℕ) → (x ≡ some v → ⊥) → itemLabel (labelBelow v ls) x ≡ itemLabel (labelBelow (v + 1) ls) x
+label-other : (ls : List ℕ) (v : ℕ) (x : Option ℕ) → (x ≡ some v → ⊥)
+    → itemLabel (labelBelow v ls) x ≡ itemLabel (labelBelow (v + 1) ls) x
 label-other ls v none h = refl
 label-other ls v (some u) h = ap (λ (b : Bool). cond b (getD ls u 0) emptyLabel) (below-next u v (λ e. h (ap some e)))
 
@@ -95,7 +96,8 @@ kind-other : (v : ℕ) (x : Option ℕ) → (x ≡ some v → ⊥) → kindBelow
 kind-other v none h = refl
 kind-other v (some u) h = ap (λ (b : Bool). cond b 1 0) (below-next u v (λ e. h (ap some e)))
 
-label-all : (ls : List ℕ) (n : ℕ) (x : Option ℕ) → ((u : ℕ) → x ≡ some u → u < n) → itemLabel (labelBelow n ls) x ≡ itemLabel (λ (u : ℕ). getD ls u 0) x
+label-all : (ls : List ℕ) (n : ℕ) (x : Option ℕ) → ((u : ℕ) → x ≡ some u → u < n)
+    → itemLabel (labelBelow n ls) x ≡ itemLabel (λ (u : ℕ). getD ls u 0) x
 label-all ls n none h = refl
 label-all ls n (some u) h = rw (lt-ltb u n (h u refl))
 
@@ -160,7 +162,8 @@ module _ (f : Siblings) (ls ps p : List ℕ) (n : ℕ) (A : LayArgs f ls ps p n)
 
       label-there : getD two (12 + getD ps v 0) 0 ≡ getD ls v 0
       label-there =
-          getD-set-other (set q (12 + getD ps v 0) (getD ls v 0)) (12 + n + getD ps v 0) (12 + getD ps v 0) 1 0 (λ e. omega (arith, place-inside))
+          getD-set-other (set q (12 + getD ps v 0) (getD ls v 0)) (12 + n + getD ps v 0) (12 + getD ps v 0) 1 0
+          (λ e. omega (arith, place-inside))
           ∙ getD-set-same q (12 + getD ps v 0) (getD ls v 0) 0 (omega (arith, place-inside, L .same, A .room))
 
       kind-there : getD two (12 + n + getD ps v 0) 0 ≡ 1

@@ -72,7 +72,8 @@ module _ (b : List ℕ) (n : ℕ) (p ps : List ℕ) (A : OutArgs b n p ps) where
       room = omega (arith, length-counts, P .plan-room);
       fits =
           let e : placed (outward cs 0 1 true []) 0 ps .items ≡ size (image (fileTree b)) =
-          placed-items (outward cs 0 1 true []) 0 ps ∙ omega (arith, ap length items-are, length-items (fileTree b) 0) in
+          placed-items (outward cs 0 1 true []) 0 ps
+          ∙ omega (arith, ap length items-are, length-items (fileTree b) 0) in
           omega (arith, e, size-image (fileTree b), tree-count, P .nodes);
     }
 
@@ -90,8 +91,14 @@ module _ (b : List ℕ) (n : ℕ) (p ps : List ℕ) (A : OutArgs b n p ps) where
           nodes = record {
             labels = sym el;
             places-are = λ v h. ap (λ (l : List ℕ). getD l v 0) places-written
-                ∙ List·getD-append (placesOf b) (drop (fileCount b) ps) 0 v (omega (arith, length-places (fileTree b) 0));
-            longer = omega (arith, ap length places-written, length-append (placesOf b) (drop (fileCount b) ps), length-places (fileTree b) 0);
+                ∙ List·getD-append (placesOf b) (drop (fileCount b) ps) 0 v
+                (omega (arith, length-places (fileTree b) 0));
+            longer = omega (
+              arith,
+              ap length places-written,
+              length-append (placesOf b) (drop (fileCount b) ps),
+              length-places (fileTree b) 0,
+            );
             few = omega (arith, tree-count, P .nodes);
           };
           room = omega (arith, N .same, P .plan-room, tree-count);
@@ -117,7 +124,8 @@ out-done b p ps r q qs z e W = record {
   places-kept = λ h. absurd (h z);
 }
 
-pub out-refused : (b p ps : List ℕ) (r : ℕ) → (r ≡ 0 → ⊥) → r ≡ firstNo (outChecks b (length p) (length ps)) → OutDone b p ps r p ps
+pub out-refused : (b p ps : List ℕ) (r : ℕ) → (r ≡ 0 → ⊥) → r ≡ firstNo (outChecks b (length p) (length ps))
+    → OutDone b p ps r p ps
 out-refused b p ps r z e = record {
   number = e;
   written = λ h. absurd (z h);

@@ -16,7 +16,8 @@ use lib.ListN.{length, getD, drop, drop-of-length-le}
 use lib.Seq.{drop-cons}
 use Rattle.planner.specs.inner.OutMachine.{Entry, entry, toCome, closed, outward, Written, placed}
 use Rattle.planner.proofs.OutMachine.{placed-items}
-use Rattle.planner_out.specs.inner.Stack.{stackOf, afterTop, Pushed, CloseArgs, ListsClosed, NodeArgs, NodeRead, PlaceArgs, NodesPlaced}
+use Rattle.planner_out.specs.inner.Stack.{stackOf, afterTop, Pushed, CloseArgs, ListsClosed, NodeArgs, NodeRead}
+use Rattle.planner_out.specs.inner.Stack.{PlaceArgs, NodesPlaced}
 use Rattle.planner_out.proofs.StackLaws.{afterTop-toCome}
 
 -- what the loop gives after lists were closed
@@ -47,10 +48,12 @@ module _ (v depth next left first s : ℕ) (p ps q : List ℕ) (e : s ≡ left -
       ≡ placed (outward (0 ∷ cs) v left (eqb first 1) (stackOf p depth)) next ps
   leaf-rest cs = ap (λ (st : List Entry). placed (closed (resumed cs (v + 1)) st false) (next + 1) ps) pushed-is
 
-  pub node-leaf : (c depth₁ next₁ left₁ : ℕ) (qs : List ℕ) → c ≡ 0 → ListsClosed q (depth + 1) (next + 1) ps depth₁ next₁ qs
+  pub node-leaf : (c depth₁ next₁ left₁ : ℕ) (qs : List ℕ) → c ≡ 0
+      → ListsClosed q (depth + 1) (next + 1) ps depth₁ next₁ qs
       → left₁ ≡ afterTop q depth₁ → NodeRead v c depth next left first p ps depth₁ next₁ left₁ 0 q qs
   node-leaf c depth₁ next₁ left₁ qs h L f = record {
-    rest = λ cs. ap (λ (n : ℕ). placed (outward cs (v + 1) n false (stackOf q depth₁)) next₁ qs) (f ∙ afterTop-toCome q depth₁)
+    rest = λ cs. ap (λ (n : ℕ). placed (outward cs (v + 1) n false (stackOf q depth₁)) next₁ qs)
+        (f ∙ afterTop-toCome q depth₁)
         ∙ L .rest (resumed cs (v + 1)) ∙ leaf-rest cs
         ∙ ap (λ (n : ℕ). placed (outward (n ∷ cs) v left (eqb first 1) (stackOf p depth)) next ps) (sym h);
     deeper = L .lower;
@@ -78,7 +81,8 @@ next-fits p ps v c depth next left first A =
 -- ---- all nodes
 
 pub record Placing (cs p ps q qs : List ℕ) (depth next left first v : ℕ) : Type 0 where
-  pub rest : placed (outward (drop v cs) v left (eqb first 1) (stackOf q depth)) next qs ≡ placed (outward cs 0 1 true []) 0 ps
+  pub rest : placed (outward (drop v cs) v left (eqb first 1) (stackOf q depth)) next qs
+      ≡ placed (outward cs 0 1 true []) 0 ps
   pub shallow : depth ≤ v
   pub within : v ≤ length cs
   pub same : length q ≡ length p
@@ -96,7 +100,8 @@ placing-start cs p ps = record {
   kept = λ j h. refl;
 }
 
-module _ (cs p ps q qs : List ℕ) (depth next left first v : ℕ) (A : PlaceArgs cs p ps) (C : Placing cs p ps q qs depth next left first v) where
+module _ (cs p ps q qs : List ℕ) (depth next left first v : ℕ) (A : PlaceArgs cs p ps)
+    (C : Placing cs p ps q qs depth next left first v) where
   module _ (h : v < length cs) where
     next-read : placed (outward (getD cs v 0 ∷ drop (v + 1) cs) v left (eqb first 1) (stackOf q depth)) next qs
         ≡ placed (outward cs 0 1 true []) 0 ps
@@ -129,8 +134,10 @@ module _ (cs p ps q qs : List ℕ) (depth next left first v : ℕ) (A : PlaceArg
 
   pub placing-end : length cs ≤ v → NodesPlaced cs p ps q qs
   placing-end h =
-      let e : placed (outward [] v left (eqb first 1) (stackOf q depth)) next qs ≡ placed (outward cs 0 1 true []) 0 ps =
-      ap (λ (l : List ℕ). placed (outward l v left (eqb first 1) (stackOf q depth)) next qs) (sym (drop-of-length-le cs h)) ∙ C .rest in
+      let e : placed (outward [] v left (eqb first 1) (stackOf q depth)) next qs
+      ≡ placed (outward cs 0 1 true []) 0 ps =
+      ap (λ (l : List ℕ). placed (outward l v left (eqb first 1) (stackOf q depth)) next qs)
+      (sym (drop-of-length-le cs h)) ∙ C .rest in
       record {
         places = ap (λ (w : Written). w .places) e;
         same = C .same;

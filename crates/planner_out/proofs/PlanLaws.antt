@@ -3,14 +3,14 @@
 --     plan-written    the four steps together
 -- Assumes nothing.
 use Prim.Native.Nat.{ℕ, zero, suc, _+_, _-_, _*_, _≤_, _<_}
-use mathlib.Core.Path.{_≡_, refl, sym, ap, ap₂, _∙_, subst}
+use mathlib.Core.Path.{_≡_, refl, sym, ap, _∙_, subst}
 use mathlib.Core.List.{List, [], _∷_, _++_, append-assoc}
 use native.Mathlib.Omega.{arith}
-use lib.ListN.{length, getD, take, drop, length-drop, take-append-drop, List·getD-append, length-take}
-use lib.Seq.{sets, length-sets, sets-eq, ext-getD, getD-take, getD-drop, drop-drop, getD-append-add, length-take-le}
+use lib.ListN.{length, getD, take, drop, length-drop, List·getD-append, length-take}
+use lib.Seq.{sets, length-sets, sets-eq, ext-getD, getD-take, getD-drop, getD-append-add, length-take-le}
 use Rattle.trees.specs.Tree.{Tree, size, labelsOf, kindsOf}
 use Rattle.trees.proofs.NodeLaws.{length-labels, length-kinds}
-use Rattle.list_laws.proofs.SliceLaws.{length-part}
+use Rattle.list_laws.proofs.SliceLaws.{length-part, rest-cut, append-both}
 use Rattle.formats.specs.Bytes.{le32Bytes}
 use Rattle.formats.specs.Plan.{planLength, planBytes}
 use Rattle.planner.specs.Siblings.{Siblings, count, image, emptyLabel}
@@ -20,28 +20,27 @@ use Rattle.planner_out.specs.inner.Laid.{planHeader, Filled, Nodes, LayA
 
 -- ---- a list in its runs
 
-pub run-is : (l : List ℕ) (a n : ℕ) (m : List ℕ) → length m ≡ n → a + n ≤ length l → ((j : ℕ) → j < n → getD l (a + j) 0 ≡ getD m j 0)
+pub run-is : (l : List ℕ) (a n : ℕ) (m : List ℕ) → length m ≡ n → a + n ≤ length l
+    → ((j : ℕ) → j < n → getD l (a + j) 0 ≡ getD m j 0)
     → take n (drop a l) ≡ m
 run-is l a n m e room same =
     ext-getD 0 (take n (drop a l)) m (length-part l a n room ∙ sym e) (λ j h. (
     let k : j < n = omega (arith, length-part l a n room) in
     getD-take n (drop a l) j 0 k ∙ getD-drop a l j 0 ∙ same j k))
 
-pub rest-is : (l m : List ℕ) (a : ℕ) → length l ≡ length m → ((j : ℕ) → a ≤ j → getD l j 0 ≡ getD m j 0) → drop a l ≡ drop a m
+pub rest-is : (l m : List ℕ) (a : ℕ) → length l ≡ length m → ((j : ℕ) → a ≤ j → getD l j 0 ≡ getD m j 0)
+    → drop a l ≡ drop a m
 rest-is l m a e same =
     ext-getD 0 (drop a l) (drop a m) (length-drop a l ∙ ap (λ (n : ℕ). n - a) e ∙ sym (length-drop a m)) (λ j h. (
     getD-drop a l j 0 ∙ same (a + j) (omega arith) ∙ sym (getD-drop a m j 0)))
 
-pub cut : (l : List ℕ) (a n b : ℕ) → b ≡ a + n → drop a l ≡ take n (drop a l) ++ drop b l
-cut l a n b e =
-    sym (take-append-drop n (drop a l)) ∙ ap (λ (t : List ℕ). take n (drop a l) ++ t) (drop-drop n a l ∙ ap (λ (i : ℕ). drop i l) (sym e))
-
-pub in-runs : (l : List ℕ) (n : ℕ) → l ≡ take 12 l ++ (take n (drop 12 l) ++ (take n (drop (12 + n) l) ++ drop (12 + 2 * n) l))
+pub in-runs : (l : List ℕ) (n : ℕ)
+    → l ≡ take 12 l ++ (take n (drop 12 l) ++ (take n (drop (12 + n) l) ++ drop (12 + 2 * n) l))
 in-runs l n =
-    cut l 0 12 12 refl
+    rest-cut l 0 12 12 refl
     ∙ ap (λ (t : List ℕ). take 12 l ++ t)
-    (cut l 12 n (12 + n) refl
-    ∙ ap (λ (t : List ℕ). take n (drop 12 l) ++ t) (cut l (12 + n) n (12 + 2 * n) (omega arith)))
+    (rest-cut l 12 n (12 + n) refl
+    ∙ ap (λ (t : List ℕ). take n (drop 12 l) ++ t) (rest-cut l (12 + n) n (12 + 2 * n) (omega arith)))
 
 -- ---- a plan and what stands behind it
 
@@ -79,8 +78,10 @@ write-room f ls ps p A = record {
   room = omega (arith, A .room, length-labels-is f ls ps (A .nodes));
 }
 
-module _ (f : Siblings) (ls ps p : List ℕ) (A : WriteArgs f ls ps p) (n : ℕ) (en : n ≡ 2 * length ls + 1) (p₁ p₂ p₃ : List ℕ)
-    (H : p₁ ≡ sets p 0 (planHeader n)) (F : Filled 12 (12 + n) emptyLabel p₁ p₂) (G : Filled (12 + n) (12 + 2 * n) 0 p₂ p₃) where
+module _ (f : Siblings) (ls ps p : List ℕ) (A : WriteArgs f ls ps p) (n : ℕ) (en : n ≡ 2 * length ls + 1)
+    (p₁ p₂ p₃ : List ℕ)
+    (H : p₁ ≡ sets p 0 (planHeader n)) (F : Filled 12 (12 + n) emptyLabel p₁ p₂)
+    (G : Filled (12 + n) (12 + 2 * n) 0 p₂ p₃) where
   e : n ≡ 2 * count f + 1
   e = omega (arith, length-labels-is f ls ps (A .nodes))
 
@@ -109,13 +110,15 @@ module _ (f : Siblings) (ls ps p : List ℕ) (A : WriteArgs f ls ps p) (n : ℕ)
       let head : take 12 q ≡ planHeader (size t) =
       run-is q 0 12 (planHeader (size t)) refl (omega arith) (λ j h. (let w : 0 + j ≡ j = omega arith in
       ap (λ (i : ℕ). getD q i 0) w ∙ L .head j h ∙ G .before j (omega arith) ∙ F .before j h
-      ∙ ap (λ (l : List ℕ). getD l j 0) H ∙ headed-at p n long j h ∙ ap (λ (i : ℕ). getD (planHeader i) j 0) size-is)) in
-      let labels : take n (drop 12 q) ≡ labelsOf t = run-is q 12 n (labelsOf t) (length-labels t ∙ sym size-is) (omega (arith, A .room, e)) (L .labels) in
-      let kinds : take n (drop (12 + n) q) ≡ kindsOf t = run-is q (12 + n) n (kindsOf t) (length-kinds t ∙ sym size-is) (omega (arith, A .room, e)) (L .kinds) in
+      ∙ ap (λ (l : List ℕ). getD l j 0) H ∙ headed-at p n long j h
+      ∙ ap (λ (i : ℕ). getD (planHeader i) j 0) size-is)) in
+      let labels : take n (drop 12 q) ≡ labelsOf t =
+      run-is q 12 n (labelsOf t) (length-labels t ∙ sym size-is) (omega (arith, A .room, e)) (L .labels) in
+      let kinds : take n (drop (12 + n) q) ≡ kindsOf t =
+      run-is q (12 + n) n (kindsOf t) (length-kinds t ∙ sym size-is) (omega (arith, A .room, e)) (L .kinds) in
       let rest : drop (12 + 2 * n) q ≡ drop (12 + 2 * n) p =
       rest-is q p (12 + 2 * n) z (λ j h. L .excess j h ∙ G .after j h ∙ F .after j (omega arith)
       ∙ ap (λ (l : List ℕ). getD l j 0) H ∙ headed-behind p n long j (omega arith)) in
       in-runs q n
-      ∙ ap₂ (λ (a b : List ℕ). a ++ b) head
-      (ap₂ (λ (a b : List ℕ). a ++ b) labels (ap₂ (λ (a b : List ℕ). a ++ b) kinds (rest ∙ ap (λ (i : ℕ). drop (12 + 2 * i) p) e)))
+      ∙ append-both head (append-both labels (append-both kinds (rest ∙ ap (λ (i : ℕ). drop (12 + 2 * i) p) e)))
       ∙ plan-header t (drop (12 + 2 * (2 * count f + 1)) p)

@@ -17,7 +17,8 @@ use borrow.Author.Tests.{eq-eqb, ne-eqb}
 use Rattle.list_laws.proofs.BoolLaws.{true-false}
 use Rattle.planner.specs.inner.OutMachine.{Entry, entry, toCome, closed, outward, Written, placed}
 use Rattle.planner.proofs.OutMachine.{placed-items}
-use Rattle.planner_out.specs.inner.Stack.{nodeOnTop, isLater, entryAt, stackOf, afterTop, goesOn, afterLeaf, Pushed}
+use Rattle.planner_out.specs.inner.Stack.{nodeOnTop, isLater, entryAt, stackOf, afterTop, goesOn, afterLeaf}
+use Rattle.planner_out.specs.inner.Stack.{Pushed}
 
 pub stack-same : (p q : List ℕ) (d : ℕ) → ((j : ℕ) → j < d * 4 → getD q j 0 ≡ getD p j 0) → stackOf q d ≡ stackOf p d
 unfolding stackOf
@@ -47,24 +48,28 @@ module _ (p : List ℕ) (d a b c e : ℕ) (room : d * 4 + 4 ≤ length p) where
 
   pushed-0 : getD pushed (d * 4) 0 ≡ a
   pushed-0 =
-      getD-set-other (set (set (set p (d * 4) a) (d * 4 + 1) b) (d * 4 + 2) c) (d * 4 + 3) (d * 4) e 0 (λ q. omega arith)
+      getD-set-other (set (set (set p (d * 4) a) (d * 4 + 1) b) (d * 4 + 2) c) (d * 4 + 3) (d * 4) e 0
+      (λ q. omega arith)
       ∙ getD-set-other (set (set p (d * 4) a) (d * 4 + 1) b) (d * 4 + 2) (d * 4) c 0 (λ q. omega arith)
       ∙ getD-set-other (set p (d * 4) a) (d * 4 + 1) (d * 4) b 0 (λ q. omega arith)
       ∙ getD-set-same p (d * 4) a 0 (omega arith)
 
   pushed-1 : getD pushed (d * 4 + 1) 0 ≡ b
   pushed-1 =
-      getD-set-other (set (set (set p (d * 4) a) (d * 4 + 1) b) (d * 4 + 2) c) (d * 4 + 3) (d * 4 + 1) e 0 (λ q. omega arith)
+      getD-set-other (set (set (set p (d * 4) a) (d * 4 + 1) b) (d * 4 + 2) c) (d * 4 + 3) (d * 4 + 1) e 0
+      (λ q. omega arith)
       ∙ getD-set-other (set (set p (d * 4) a) (d * 4 + 1) b) (d * 4 + 2) (d * 4 + 1) c 0 (λ q. omega arith)
       ∙ getD-set-same (set p (d * 4) a) (d * 4 + 1) b 0 (simp length-set (omega arith))
 
   pushed-2 : getD pushed (d * 4 + 2) 0 ≡ c
   pushed-2 =
-      getD-set-other (set (set (set p (d * 4) a) (d * 4 + 1) b) (d * 4 + 2) c) (d * 4 + 3) (d * 4 + 2) e 0 (λ q. omega arith)
+      getD-set-other (set (set (set p (d * 4) a) (d * 4 + 1) b) (d * 4 + 2) c) (d * 4 + 3) (d * 4 + 2) e 0
+      (λ q. omega arith)
       ∙ getD-set-same (set (set p (d * 4) a) (d * 4 + 1) b) (d * 4 + 2) c 0 (simp length-set (omega arith))
 
   pushed-3 : getD pushed (d * 4 + 3) 0 ≡ e
-  pushed-3 = getD-set-same (set (set (set p (d * 4) a) (d * 4 + 1) b) (d * 4 + 2) c) (d * 4 + 3) e 0 (simp length-set (omega arith))
+  pushed-3 = getD-set-same (set (set (set p (d * 4) a) (d * 4 + 1) b) (d * 4 + 2) c) (d * 4 + 3) e 0
+      (simp length-set (omega arith))
 
   pub stack-pushed : (v : ℕ) → a + 256 * b ≡ v → Pushed d v c e p pushed
   unfolding stackOf
@@ -82,12 +87,14 @@ module _ (k : List Entry → List (Option ℕ)) (p : List ℕ) where
   -- the top is written
   pub close-iteration : (d : ℕ) (closing : Bool) (next : ℕ) (ps : List ℕ) → goesOn p (suc d) closing ≡ true
       → placed (closed k (stackOf p (suc d)) closing) next ps
-      ≡ placed (closed k (stackOf p d) (isLater p d)) (afterLeaf closing next + 1) (set ps (nodeOnTop p d) (afterLeaf closing next))
+      ≡ placed (closed k (stackOf p d) (isLater p d)) (afterLeaf closing next + 1)
+      (set ps (nodeOnTop p d) (afterLeaf closing next))
   unfolding stackOf
   close-iteration d true next ps e = refl
   close-iteration d false next ps e = rw e
 
-  pub close-end : (d : ℕ) (closing : Bool) → goesOn p d closing ≡ false → closed k (stackOf p d) closing ≡ k (stackOf p d)
+  pub close-end : (d : ℕ) (closing : Bool) → goesOn p d closing ≡ false
+      → closed k (stackOf p d) closing ≡ k (stackOf p d)
   unfolding stackOf
   close-end zero closing e = refl
   close-end (suc d) true e = absurd (true-false e)

@@ -5,7 +5,8 @@ ghost use mathlib.Core.Path.{_≡_};
 ghost use Rattle.formats.specs.Checks.{firstNo};
 ghost use Rattle.planner.specs.File.{isPreorder, wellFormed, outRoom, outChecks};
 
-// Whether these are the child counts of one tree in pre-order. As many nodes may wait as there are still counts to read, at most.
+// Whether these are the child counts of one tree in pre-order. As many nodes may wait as there are still counts to
+// read, at most.
 fn is_preorder(counts: &[u8]) -> bool
     ensures { λ r. ⌜ r ≡ isPreorder (now (counts .entry)) ⌝ }
 {

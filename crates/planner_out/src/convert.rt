@@ -9,7 +9,8 @@ ghost use Rattle.planner_out.specs.Out.{OutArgs, OutWritten, OutDone};
 fn write_out(file: &[u8], n: usize, plan: &mut [u8], places: &mut [u16])
     requires { ⌜ OutArgs (now file) n (now plan) (now places) ⌝ }
     ensures { λ _. ⌜
-        OutWritten (now (file .entry)) (now (plan .entry)) (now (places .entry)) (now (plan .exit)) (now (places .exit)) ⌝ }
+        OutWritten (now (file .entry)) (now (plan .entry)) (now (places .entry)) (now (plan .exit))
+        (now (places .exit)) ⌝ }
 {
     place_nodes(&file[12 + n..], plan, places);
     write_plan(&file[12..12 + n], places, plan);
@@ -19,7 +20,8 @@ fn write_out(file: &[u8], n: usize, plan: &mut [u8], places: &mut [u16])
 // The excess of longer buffers is untouched.
 pub fn plan_of_planner(file: &[u8], plan: &mut [u8], places: &mut [u16]) -> u8
     ensures { λ r. ⌜
-        OutDone (now (file .entry)) (now (plan .entry)) (now (places .entry)) r (now (plan .exit)) (now (places .exit)) ⌝ }
+        OutDone (now (file .entry)) (now (plan .entry)) (now (places .entry)) r (now (plan .exit))
+        (now (places .exit)) ⌝ }
 {
     let refused = check_out(file, plan.len(), places.len());
     if refused != 0 {

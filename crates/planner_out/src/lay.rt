@@ -1,4 +1,5 @@
-// The plan of a planner's file, from its labels and the places of its nodes: the header, a leaf everywhere, and then the nodes.
+// The plan of a planner's file, from its labels and the places of its nodes: the header, a leaf everywhere, and then
+// the nodes.
 ghost use mathlib.Core.Path.{_≡_};
 ghost use Prim.Native.Nat.{ℕ, _+_, _*_, _<_, _≤_};
 ghost use lib.ListN.{length};

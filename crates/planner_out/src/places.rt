@@ -1,11 +1,15 @@
-// The places of a planner's nodes in our plan, from the child counts: one pass with a stack. The stack stands in the plan's buffer, which
-// is written afterwards, four bytes an entry: the node's number, how many siblings come after it, and 1 for the first of its list.
+// The places of a planner's nodes in our plan, from the child counts: one pass with a stack. The stack stands in the
+// plan's buffer, which
+// is written afterwards, four bytes an entry: the node's number, how many siblings come after it, and 1 for the first
+// of its list.
 ghost use mathlib.Core.Path.{_≡_};
 ghost use mathlib.Core.List.{_∷_};
 ghost use Prim.Native.Nat.{ℕ, _+_, _-_, _*_, _<_, _≤_};
 ghost use lib.Dec.{eqb};
 ghost use lib.ListN.{length, getD, set};
-ghost use Rattle.planner_out.specs.inner.Stack.{goesOn, afterLeaf, afterTop, nodeOnTop, isLater, PushArgs, Pushed, CloseArgs, ListsClosed, NodeArgs, NodeRead, PlaceArgs, NodesPlaced};
+ghost use Rattle.planner_out.specs.inner.Stack.{goesOn, afterLeaf, afterTop, nodeOnTop, isLater, PushArgs};
+ghost use Rattle.planner_out.specs.inner.Stack.{Pushed, CloseArgs, ListsClosed, NodeArgs, NodeRead, PlaceArgs};
+ghost use Rattle.planner_out.specs.inner.Stack.{NodesPlaced};
 
 // How far the stack goes, and the next place.
 pub struct Cursor {
@@ -13,7 +17,8 @@ pub struct Cursor {
     pub next: usize,
 }
 
-// The cursor, how many nodes of the list that is being read are still to come, and 1 where the next node is the first of its list.
+// The cursor, how many nodes of the list that is being read are still to come, and 1 where the next node is the first
+// of its list.
 pub struct Walk {
     pub depth: usize,
     pub next: usize,
@@ -106,7 +111,8 @@ fn is_later(plan: &[u8], at: usize) -> bool
 // Closes every list that is at its end: writes the places of its nodes, from the last to the first.
 fn close_lists(plan: &[u8], places: &mut [u16], depth: usize, next: usize) -> Cursor
     requires { ⌜ CloseArgs (now plan) (now places) depth next ⌝ }
-    ensures { λ r. ⌜ ListsClosed (now (plan .entry)) depth next (now (places .entry)) (r .depth) (r .next) (now (places .exit)) ⌝ }
+    ensures { λ r. ⌜ ListsClosed (now (plan .entry)) depth next (now (places .entry)) (r .depth) (r .next)
+        (now (places .exit)) ⌝ }
 {
     let mut top = depth;
     let mut at = next;
@@ -153,7 +159,8 @@ fn read_node(plan: &mut [u8], places: &mut [u16], v: usize, count: u8, w: Walk) 
 pub fn place_nodes(counts: &[u8], plan: &mut [u8], places: &mut [u16])
     requires { ⌜ PlaceArgs (now counts) (now plan) (now places) ⌝ }
     ensures { λ _. ⌜
-        NodesPlaced (now (counts .entry)) (now (plan .entry)) (now (places .entry)) (now (plan .exit)) (now (places .exit)) ⌝ }
+        NodesPlaced (now (counts .entry)) (now (plan .entry)) (now (places .entry)) (now (plan .exit))
+        (now (places .exit)) ⌝ }
 {
     let mut w = Walk {
         depth: 0,

@@ -1,9 +1,9 @@
 //! Twenty calls of each kind by both sides, and nothing else: for bench/instructions.
 
 use crate::cases::{list, List, SHAPES};
-use crate::rule_tables;
 use crate::sessions::One;
 use crate::tables::pair;
+use crate::{planner, rule_tables};
 use compare::inputs::Case;
 use compare::random::Random;
 use reference::tree::Tree;
@@ -26,6 +26,7 @@ pub fn make(shape: &str, [n, s, m]: [usize; 3]) {
     }
     branch_questions(one.case, random);
     rule_tables::calls(random);
+    planner::calls(random);
 }
 
 /// Loads, branch builds and their full checks, into buffers of each side.

@@ -13,6 +13,7 @@ mod in_place;
 mod measure;
 #[cfg(feature = "probes")]
 mod places;
+mod planner;
 mod plot;
 #[cfg(feature = "probes")]
 mod probes;
@@ -75,10 +76,11 @@ fn rows(wanted: &str, mut measured: impl FnMut(&Row)) -> Vec<Row> {
     table::in_order(rows)
 }
 
-/// What is measured without a plan.
+/// What is measured without a question: on rule tables alone, and on planner's files.
 fn singles(wanted: &str) -> Vec<Single> {
     let mut singles = Vec::new();
     rule_tables::singles(wanted, &mut |single| singles.push(single));
+    planner::singles(wanted, &mut |single| singles.push(single));
     singles
 }
 

@@ -188,6 +188,57 @@ pub fn agree(first: &[u8], second: &[u8], len: usize, random: &mut Random) -> Re
     Ok(least.map(|_| shown))
 }
 
+/// Out: a planner's file into a plan and places of these lengths that hold random numbers, compared whole; plain Rust too.
+/// The plan and the places alone.
+pub fn planner_out(file: &[u8], lens: (usize, usize), random: &mut Random) -> Result<(Vec<u8>, Vec<u16>), u32> {
+    let expected = reference::planner::out(file, lens.0, lens.1);
+    let before = (random.bytes(lens.0 + 2 * MARGIN), random.numbers(lens.1 + 2 * MARGIN));
+    let mut want = before.clone();
+    if let Ok(out) = &expected {
+        want.0[MARGIN..MARGIN + out.plan.len()].copy_from_slice(&out.plan);
+        want.1[MARGIN..MARGIN + out.places.len()].copy_from_slice(&out.places);
+    }
+    let file_was = file.to_vec();
+    let by_yardstick = |file: &[u8], plan: &mut [u8], places: &mut [u16]| {
+        yardstick::plan_of_planner(file, plan, places).err().unwrap_or(0)
+    };
+    let sides: [(&str, PlannerOut); 2] = [("the library", slices::plan_of_planner), ("plain Rust", by_yardstick)];
+    for (name, side) in sides {
+        let (mut plan, mut places) = before.clone();
+        let number = side(file, &mut plan[MARGIN..MARGIN + lens.0], &mut places[MARGIN..MARGIN + lens.1]);
+        assert_eq!(number, expected.as_ref().err().copied().unwrap_or(0), "{}: the answer going out", name);
+        same("plan of a planner's file", &plan, &want.0);
+        same("places", &places, &want.1);
+    }
+    same("planner's file", file, &file_was);
+    expected.map(|out| (out.plan, out.places))
+}
+
+type PlannerOut = fn(&[u8], &mut [u8], &mut [u16]) -> u32;
+
+/// Home: a plan into a file of this length that holds random bytes, compared whole; plain Rust too. The file alone.
+pub fn planner_home(plan: &[u8], len: usize, random: &mut Random) -> Result<Vec<u8>, u32> {
+    let expected = reference::planner::home(plan, len);
+    let before = random.bytes(len + 2 * MARGIN);
+    let mut want = before.clone();
+    if let Ok(file) = &expected {
+        want[MARGIN..MARGIN + file.len()].copy_from_slice(file);
+    }
+    let plan_was = plan.to_vec();
+    let by_yardstick = |plan: &[u8], file: &mut [u8]| yardstick::planner_of_plan(plan, file).err().unwrap_or(0);
+    let sides: [(&str, PlannerHome); 2] = [("the library", slices::planner_of_plan), ("plain Rust", by_yardstick)];
+    for (name, side) in sides {
+        let mut file = before.clone();
+        let number = side(plan, &mut file[MARGIN..MARGIN + len]);
+        assert_eq!(number, expected.as_ref().err().copied().unwrap_or(0), "{}: the answer going home", name);
+        same("planner's file", &file, &want);
+    }
+    same("plan that goes home", plan, &plan_was);
+    expected
+}
+
+type PlannerHome = fn(&[u8], &mut [u8]) -> u32;
+
 /// What is lent for a branch question.
 #[derive(Clone, Copy)]
 pub struct Lent<'a> {

@@ -10,7 +10,7 @@ use reference::mistakes::{making, Mistake};
 const SEEDS: std::ops::Range<u64> = 1..201;
 
 /// A mistake, and the rounds that must notice it.
-const NOTICED: [(Mistake, &[&str]); 28] = [
+const NOTICED: [(Mistake, &[&str]); 33] = [
     (Mistake::ChildrenExchanged, &["builds", "fresh runs", "questions", "other bytes", "call lists"]),
     (Mistake::SiblingFromOldRun, &["questions", "other bytes", "damaged lends", "call lists"]),
     (Mistake::ClimbToTheRoot, &["questions", "other bytes", "damaged lends", "call lists"]),
@@ -25,7 +25,10 @@ const NOTICED: [(Mistake, &[&str]); 28] = [
     (Mistake::CleanForEver, &["other bytes", "call lists"]),
     (Mistake::FinishedEarly, &["questions", "call lists"]),
     (Mistake::LinksKept, &["questions", "call lists"]),
-    (Mistake::NumbersCut, &["refusals", "branch questions", "session refusals", "call lists", "merges"]),
+    (
+        Mistake::NumbersCut,
+        &["refusals", "branch questions", "session refusals", "call lists", "merges", "planner files"],
+    ),
     (Mistake::NodesCut, &["branch questions"]),
     (Mistake::LabelsBeforeNodes, &["refusals", "session refusals"]),
     (Mistake::ExcessCompared, &["full checks"]),
@@ -39,6 +42,11 @@ const NOTICED: [(Mistake, &[&str]); 28] = [
     (Mistake::ProductBeforeLabels, &["merges"]),
     (Mistake::LeavesAlone, &["agreements"]),
     (Mistake::NewestOnTheLeft, &["agreements"]),
+    (Mistake::ListsExchanged, &["planner files"]),
+    (Mistake::EmptyLabel, &["planner files"]),
+    (Mistake::PlacesEarly, &["planner files"]),
+    (Mistake::RoomBeforeLabels, &["planner files"]),
+    (Mistake::TwoTrees, &["planner files"]),
 ];
 
 /// The first difference in the rounds of a kind, and its seed.

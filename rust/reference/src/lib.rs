@@ -3,7 +3,7 @@
 //! Order: `write` (plans and tables made into bytes), `sample` (document 01's sample clearance);
 //! `formats` (bytes and checks 2 to 10), `tree` (parents, depths, sizes, jumps), `tables` (run, maps, both table
 //! buffers), `climb` (moves), `branch` (branch questions), `fresh` (fresh run), `merge` and `agree` (two rule
-//! tables); `ready` (the ready set), `parts` (the
+//! tables), `planner` (the bridge planner's files); `ready` (the ready set), `parts` (the
 //! rule for a part, on a tree), `lent` (the same on lent tables, whatever they hold); `panel` (the session's calls and
 //! answers), `record` (its record as bytes), `session` (the five calls), `causes` (what 18 is given for), `book` (the
 //! panel book).
@@ -22,6 +22,7 @@ pub mod merge;
 pub mod mistakes;
 pub mod panel;
 pub mod parts;
+pub mod planner;
 pub mod ready;
 pub mod record;
 pub mod sample;

@@ -61,6 +61,16 @@ pub enum Mistake {
     LeavesAlone,
     /// Of two children the one that was found last is always the left one.
     NewestOnTheLeft,
+    /// The image has a list's rest at the left and its children's list at the right.
+    ListsExchanged,
+    /// An empty list becomes a leaf with label 0.
+    EmptyLabel,
+    /// A planner's node is told one place too early.
+    PlacesEarly,
+    /// 21 is put before 20.
+    RoomBeforeLabels,
+    /// A plan with two trees at the top goes home.
+    TwoTrees,
 }
 
 thread_local! {

@@ -32,6 +32,7 @@ pub mod agree;
 pub mod dot;
 pub mod lines;
 pub mod plan;
+pub mod planner;
 pub mod questions;
 pub mod rules;
 

@@ -1,6 +1,6 @@
 //! `whatif-text write` makes the bytes that the program `whatif` reads from text, `whatif-text show` makes text from such
 //! bytes, `whatif-text dot` draws a plan with the parts of one of its questions, counted from 1; from standard input to
-//! standard output. `whatif-text merge` takes the rules of two files and makes the text of one table that clears exactly
+//! standard output. `whatif-text planner` takes a planner's tree to our plan and home, or draws both. `whatif-text merge` takes the rules of two files and makes the text of one table that clears exactly
 //! the plans that both clear; `whatif-text agree` says whether they judge every plan alike, or else shows a plan that one of
 //! them clears and the other does not: as lines and as a plan to paste or, with `dot`, as a picture. The form of the text
 //! stands in lib.rs. The status is 0, 1 where the input is wrong or the output can't be written whole, 2 for other words
@@ -16,6 +16,9 @@ const USAGE: &str = "usage: whatif-text write < TEXT > BYTES
        whatif-text merge TEXT-FILE TEXT-FILE > TEXT
        whatif-text agree TEXT-FILE TEXT-FILE > TEXT
        whatif-text agree TEXT-FILE TEXT-FILE dot > GRAPHVIZ
+       whatif-text planner import < PLANNER-TEXT > TEXT
+       whatif-text planner export < TEXT > PLANNER-TEXT
+       whatif-text planner dot < PLANNER-TEXT > GRAPHVIZ
        whatif-text --help | --version";
 
 const NOT_WHOLE: &str = "the input is shorter or longer than its three lengths say";
@@ -53,6 +56,7 @@ fn one_text(words: &[&str]) -> Result<Vec<u8>, String> {
         ["show"] => read().and_then(|input| text::show(&input).ok_or_else(|| NOT_WHOLE.into())).map(String::into_bytes),
         ["dot", question] => read_text().and_then(|text| draw(&text, question)).map(String::into_bytes),
         ["merge", first, second] => two_rules(first, second).and_then(|two| merged(&two)).map(String::into_bytes),
+        ["planner", words @ ..] if text::planner::verb(words).is_some() => planner(words).map(String::into_bytes),
         ["--help"] => Ok(format!("{}\n", USAGE).into_bytes()),
         ["--version"] => Ok(format!("whatif-text {}\n", env!("CARGO_PKG_VERSION")).into_bytes()),
         _ => {
@@ -60,6 +64,12 @@ fn one_text(words: &[&str]) -> Result<Vec<u8>, String> {
             exit(2);
         }
     }
+}
+
+/// Planner's text in or out; planner.rs has its form.
+fn planner(words: &[&str]) -> Result<String, String> {
+    let verb = text::planner::verb(words).expect("asked before");
+    read_text().and_then(|text| verb(&text).map_err(|failed| failed.to_string()))
 }
 
 /// Whether the rules of two files agree; else the lines that are needed of a separating plan, as `shown` has them.

@@ -113,6 +113,21 @@ extern "C" {
 }
 
 extern "C" {
+    /// Out: from a planner's file to our plan, with the place of each of its nodes.
+    pub fn whatif_plan_of_planner(
+        file: *const u8,
+        file_len: usize,
+        plan: *mut u8,
+        plan_len: usize,
+        places: *mut u16,
+        places_len: usize,
+    ) -> u32;
+
+    /// Home: from our plan back to the planner's file.
+    pub fn whatif_planner_of_plan(plan: *const u8, plan_len: usize, file: *mut u8, file_len: usize) -> u32;
+}
+
+extern "C" {
     /// Load: begins with a plan, and writes its tables.
     pub fn whatif_load(
         record: *mut u8,

@@ -5,7 +5,7 @@
 //! never allocates; the caller lends the tables. A refused call has changed nothing.
 //!
 //! Order: `sizes` (limits and lengths), `Refusal`, the calls on tables, those on two rule tables (`merge`, `agree`),
-//! `Session`, the panel session, with `Lent`.
+//! those on the planner's files (`plan_of_planner`, `planner_of_plan`), `Session`, the panel session, with `Lent`.
 //! The crate `whatif-sys` has the library's own functions. Without the feature `std` this crate needs `core` alone.
 //!
 //! The sample of document 01: plan A of seven nodes, and table A, under which label 0 takes the greater state of two
@@ -45,6 +45,7 @@
 extern crate std;
 
 mod agree;
+mod planner;
 mod refusal;
 mod session;
 pub mod sizes;
@@ -52,6 +53,7 @@ pub mod sizes;
 pub mod slices;
 
 pub use agree::{agree, Line, SeparatingPlan};
+pub use planner::{plan_of_planner, planner_of_plan};
 pub use refusal::Refusal;
 pub use session::{Answer, Lent, Progress, Session, State};
 

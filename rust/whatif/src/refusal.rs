@@ -71,6 +71,9 @@ refusals! {
     NotBelow = 16, "The lower node is not at or below the upper node.";
     LentLength = 17, "What is lent does not have the length that the counts of nodes, states and labels need.";
     LentValue = 18, "A value read leads outside the plan, the states or the labels, or a climb does not rise.";
+    PlannerFile = 19, "The planner's file is malformed, or the plan is not that of a planner's file.";
+    PlannerLabel = 20, "The planner's file has a label of 63 or more.";
+    PlannerRoom = 21, "The planner's file has more than 32,767 nodes, or an output buffer is too short for it.";
     LabelCounts = 23, "The two rule tables do not have the same count of labels.";
     StateProduct = 24, "The product of the two rule tables' counts of states is above 16.";
 }

@@ -14,6 +14,8 @@ pub const MAX_PARTS: usize = 254;
 pub const MAX_LINES: usize = 256;
 /// The greatest depth of a node, root 0. It follows from the limit on nodes.
 pub const MAX_DEPTH: usize = 32_767;
+/// The most nodes of a planner's file: its plan has twice as many and one.
+pub const MAX_PLANNER_NODES: usize = 32_767;
 
 /// Bytes of a session's record.
 pub const RECORD_BYTES: usize = 967;
@@ -43,4 +45,14 @@ pub const fn node_table_len(n: usize) -> usize {
 /// Bytes of the state table for `n` nodes and `s` states.
 pub const fn state_table_len(n: usize, s: usize) -> usize {
     (s + 1) * n
+}
+
+/// Bytes of a planner's file of `n` nodes.
+pub const fn planner_bytes(n: usize) -> usize {
+    12 + 2 * n
+}
+
+/// Bytes of the plan of a planner's file of `n` nodes: it has 2n+1.
+pub const fn planner_plan_bytes(n: usize) -> usize {
+    14 + 4 * n
 }

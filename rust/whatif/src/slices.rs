@@ -134,6 +134,25 @@ pub fn agree(first: &[u8], second: &[u8], lines: &mut [u16], told: &mut [u32; 2]
     }
 }
 
+pub fn plan_of_planner(file: &[u8], plan: &mut [u8], places: &mut [u16]) -> u32 {
+    // SAFETY: as in `build_by`
+    unsafe {
+        raw::whatif_plan_of_planner(
+            file.as_ptr(),
+            file.len(),
+            plan.as_mut_ptr(),
+            plan.len(),
+            places.as_mut_ptr(),
+            places.len(),
+        )
+    }
+}
+
+pub fn planner_of_plan(plan: &[u8], file: &mut [u8]) -> u32 {
+    // SAFETY: as in `build_by`
+    unsafe { raw::whatif_planner_of_plan(plan.as_ptr(), plan.len(), file.as_mut_ptr(), file.len()) }
+}
+
 pub use session::*;
 
 mod session {

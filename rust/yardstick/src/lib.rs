@@ -1,7 +1,7 @@
 //! The what-if checker as one would write it in plain fast Rust: the yardstick of the bench.
 //!
 //! Order: `checks` (2 to 11 and the parts of the lent bytes), `node_tables` (parents, jumps, depths, sizes), `rules` and `branch` (the
-//! bytes, full checks, branch questions), `fresh`, `merge` and `agree` (two rule tables);
+//! bytes, full checks, branch questions), `fresh`, `merge` and `agree` (two rule tables), `planner` (the planner's files);
 //! `record` (the session's bytes), `question` (roots and parts),
 //! `layers` (both alone), `session` (the five calls on bytes), `place` (the session as a struct). Each call gives the
 //! same answers as the library's; the comparison tests hold it to the reference implementation as well.
@@ -15,6 +15,7 @@ pub mod layers;
 mod merge;
 mod node_tables;
 pub mod place;
+mod planner;
 mod question;
 mod record;
 mod rules;
@@ -24,4 +25,5 @@ pub use agree::agree;
 pub use branch::{ask, branch_build, branch_check, Told};
 pub use fresh::fresh_run;
 pub use merge::merge;
+pub use planner::{plan_of_planner, planner_of_plan};
 pub use rules::{build, check};

@@ -5,7 +5,8 @@
 -- passesTests ls ks == the three tests
 -- oneTop ks == the last node is inner and the one before it is a leaf: one tree at the top
 --
--- In the post-order of an image a run of inner nodes is a list of siblings, from the last to the first: a leaf stands before the next.
+-- In the post-order of an image a run of inner nodes is a list of siblings, from the last to the first: a leaf stands
+-- before the next.
 -- Assumes nothing.
 use Prim.Native.Nat.{ℕ, zero, suc, _-_}
 use mathlib.Core.Bool.{Bool, true, false, _&&_}

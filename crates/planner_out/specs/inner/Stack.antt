@@ -5,7 +5,8 @@
 -- goesOn p d closing == whether the top is to be written; afterTop p d == how many siblings come after the top
 -- nodeOnTop p i, isLater p i == the node of entry i; whether it is not the first of its list
 -- afterLeaf closing next == the place behind the leaf that ends a list
--- CloseArgs, ListsClosed; NodeArgs, NodeRead; PlaceArgs, NodesPlaced == what a function needs, and what it has done, by the definition
+-- CloseArgs, ListsClosed; NodeArgs, NodeRead; PlaceArgs, NodesPlaced == what a function needs, and what it has done, by
+--   the definition
 --   of the loop: the same items are still to be written, to the same places
 --
 -- Assumes nothing.
@@ -71,7 +72,8 @@ pub record NodeArgs (p ps : List ℕ) (v c depth next left first : ℕ) : Type 0
   pub counts : List ℕ
   pub fits : placed (outward (c ∷ counts) v left (eqb first 1) (stackOf p depth)) next ps .items ≤ 65535
 
-pub record NodeRead (v c depth next left first : ℕ) (p ps : List ℕ) (depth₁ next₁ left₁ first₁ : ℕ) (q qs : List ℕ) : Type 0 where
+pub record NodeRead (v c depth next left first : ℕ) (p ps : List ℕ) (depth₁ next₁ left₁ first₁ : ℕ)
+    (q qs : List ℕ) : Type 0 where
   pub rest : (cs : List ℕ)
       → placed (outward cs (v + 1) left₁ (eqb first₁ 1) (stackOf q depth₁)) next₁ qs
       ≡ placed (outward (c ∷ cs) v left (eqb first 1) (stackOf p depth)) next ps

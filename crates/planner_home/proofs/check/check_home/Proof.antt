@@ -1,3 +1,4 @@
+-- `planner_home::check::check_home` meets its contract, by the laws of HomeLaws and CheckAnswers. Assumes nothing.
 use mathlib.Core.Path.{_≡_, sym, _∙_}
 use mathlib.Core.Bool.{true}
 use denote.Ref.{now}
@@ -37,14 +38,16 @@ returns-2 c =
     let a = c .before .before .before .before .before .args in
     let k = came (c .before .before) in
     sym (home-21 (now (a .plan)) (a .file) k
-    (lt-leb (fileLength (count (unimage (planTree (now (a .plan)))))) (a .file) (omega (arith, home-room (now (a .plan)) k, c .before .read32 .ensures))))
+    (lt-leb (fileLength (count (unimage (planTree (now (a .plan)))))) (a .file)
+    (omega (arith, home-room (now (a .plan)) k, c .before .read32 .ensures))))
 
 returns-3 : tie.Need-returns-3
 returns-3 c =
     let a = c .before .before .before .before .before .args in
     let k = came (c .before .before) in
     sym (home-good (now (a .plan)) (a .file) k
-    (le-leb (fileLength (count (unimage (planTree (now (a .plan)))))) (a .file) (omega (arith, home-room (now (a .plan)) k, c .before .read32 .ensures))))
+    (le-leb (fileLength (count (unimage (planTree (now (a .plan)))))) (a .file)
+    (omega (arith, home-room (now (a .plan)) k, c .before .read32 .ensures))))
 
 pub check-home-spec : {M : Type 1} → statement M
 check-home-spec =

@@ -1,3 +1,4 @@
+-- `planner_home::check::label_fits` meets its contract, by the laws of CheckLoop. Assumes nothing.
 use Rattle.planner_home.proofs.CheckLoop.{fits-leaf, fits-inner}
 use native.Mathlib.Omega.{arith}
 use borrow.Author.Needs.{needs}

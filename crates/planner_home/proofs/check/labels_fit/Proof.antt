@@ -1,3 +1,5 @@
+-- `planner_home::check::labels_fit` meets its contract: the invariant, its start, its step and its end are those of
+-- CheckLoop. Assumes nothing.
 use Prim.Native.Nat.{_-_, _≤_}
 use mathlib.Core.Path.{_≡_, refl, sym, _∙_}
 use lib.ListN.{length, drop}
@@ -33,7 +35,8 @@ label-fits-requires c κs = search needs
 returns : tie.Need-returns Inv-loop μ-loop
 returns c =
     let l = c .before .before .before .before .before .loop in
-    sym (labels-no _ _ (l .i) (c .before .before .before .before .before .before .before .before .pre) (l .inv .1) (omega arith) (sym (c .before .label-fits .ensures) ∙ not-true _ (c .if1 .taken)))
+    sym (labels-no _ _ (l .i) (c .before .before .before .before .before .before .before .before .pre) (l .inv .1)
+    (omega arith) (sym (c .before .label-fits .ensures) ∙ not-true _ (c .if1 .taken)))
 
 add-i : tie.Need-add-i Inv-loop μ-loop
 add-i c = search needs
@@ -45,11 +48,13 @@ loop-again : tie.Need-loop-again Inv-loop μ-loop
 loop-again c =
     let l = c .before .before .before .before .before .loop in (
       omega arith,
-      labels-iteration _ _ (l .i) (c .before .before .before .before .before .before .before .before .pre) (l .inv .1) (omega arith) (sym (c .before .label-fits .ensures) ∙ not-false _ (c .if1 .left)),
+      labels-iteration _ _ (l .i) (c .before .before .before .before .before .before .before .before .pre) (l .inv .1)
+          (omega arith) (sym (c .before .label-fits .ensures) ∙ not-false _ (c .if1 .left)),
     )
 
 returns-2 : tie.Need-returns-2 Inv-loop μ-loop
-returns-2 c = let l = c .before .loop in labels-end _ _ (l .i) (c .before .before .before .before .pre) (l .inv .1) (omega arith)
+returns-2 c = let l = c .before .loop in
+    labels-end _ _ (l .i) (c .before .before .before .before .pre) (l .inv .1) (omega arith)
 
 pub labels-fit-spec : {M : Type 1} → statement M
 labels-fit-spec =

@@ -1,3 +1,4 @@
+-- `planner_home::check::one_top` meets its contract, by the laws of CheckLoop. Assumes nothing.
 use mathlib.Core.Path.{sym}
 use Rattle.planner_home.proofs.CheckLoop.{top-short, top-kind}
 use native.Mathlib.Omega.{arith}

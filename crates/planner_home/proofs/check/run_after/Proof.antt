@@ -1,3 +1,4 @@
+-- `planner_home::check::run_after` meets its contract, by the laws of CheckLoop. Assumes nothing.
 use Rattle.planner_home.proofs.CheckLoop.{after-leaf, after-inner}
 use native.Mathlib.Omega.{arith}
 use borrow.Author.Needs.{needs}

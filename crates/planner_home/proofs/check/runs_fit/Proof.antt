@@ -1,3 +1,5 @@
+-- `planner_home::check::runs_fit` meets its contract: the invariant, its start, its step and its end are those of
+-- CheckLoop. Assumes nothing.
 use Prim.Native.Nat.{_-_, _≤_}
 use mathlib.Core.Path.{_≡_, refl, sym, _∙_}
 use lib.ListN.{length, drop}
@@ -27,7 +29,9 @@ run-after-requires : tie.Need-run-after-requires Inv-loop μ-loop
 run-after-requires c κs = search needs
 
 returns : tie.Need-returns Inv-loop μ-loop
-returns c = let l = c .before .before .before .before .loop in sym (runs-no _ (l .run) (l .i) (l .inv .2) (omega arith) (c .before .run-after .result) (c .before .run-after .ensures) (omega arith))
+returns c = let l = c .before .before .before .before .loop in
+    sym (runs-no _ (l .run) (l .i) (l .inv .2) (omega arith) (c .before .run-after .result)
+    (c .before .run-after .ensures) (omega arith))
 
 add-i : tie.Need-add-i Inv-loop μ-loop
 add-i c = search needs
@@ -40,7 +44,8 @@ loop-again c =
     let l = c .before .before .before .before .loop in (
       omega arith,
       omega arith,
-      runs-iteration _ (l .run) (l .i) (l .inv .2) (omega arith) (c .before .run-after .result) (c .before .run-after .ensures) (omega arith),
+      runs-iteration _ (l .run) (l .i) (l .inv .2) (omega arith) (c .before .run-after .result)
+          (c .before .run-after .ensures) (omega arith),
     )
 
 returns-2 : tie.Need-returns-2 Inv-loop μ-loop

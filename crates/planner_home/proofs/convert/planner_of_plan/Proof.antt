@@ -1,3 +1,5 @@
+-- `planner_home::convert::planner_of_plan` meets its contract, by the laws of HomeLaws and CheckAnswers. Assumes
+-- nothing.
 use Prim.Native.Nat.{ℕ, _/_}
 use mathlib.Core.Path.{_≡_, refl, sym, ap, _∙_}
 use denote.Ref.{now}
@@ -17,7 +19,9 @@ use Rattle.planner_home.proofs.check.check_home.Reads as check-home-rea
 use Rattle.planner_home.proofs.convert.write_home.Reads as write-home-reads
 
 -- nothing fails
-passes : (c : tie.Else1) → firstNo (homeChecks (now (c .before .before .before .before .args .plan)) (length (now (c .before .before .before .before .args .file)))) ≡ 0
+passes : (c : tie.Else1)
+    → firstNo (homeChecks (now (c .before .before .before .before .args .plan))
+    (length (now (c .before .before .before .before .args .file)))) ≡ 0
 passes c = sym (c .before .check-home .ensures) ∙ omega arith
 
 check-home-requires : tie.Need-check-home-requires
@@ -39,7 +43,8 @@ same-length : tie.Need-same-length
 same-length c = search needs
 
 returns-2 : tie.Need-returns-2
-returns-2 c = home-done _ _ _ _ refl (passes (c .before .before .before .before .before)) (c .before .before .write-home .ensures)
+returns-2 c = home-done _ _ _ _ refl (passes (c .before .before .before .before .before))
+    (c .before .before .write-home .ensures)
 
 pub planner-of-plan-spec : {M : Type 1} → statement M
 planner-of-plan-spec =

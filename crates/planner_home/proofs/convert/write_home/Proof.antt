@@ -1,3 +1,4 @@
+-- `planner_home::convert::write_home` meets its contract, by the laws of HomeLaws. Assumes nothing.
 use Rattle.formats.specs.Plan.{planTree}
 use Rattle.planner.specs.Siblings.{unimage}
 use Rattle.planner_home.proofs.HomeLaws.{home-size, labels-part, kinds-part, home-read-args, home-is}
@@ -61,7 +62,8 @@ same-length c = search needs
 returns : tie.Need-returns
 returns c =
     let s = c .before .before .before .before .before .before .before .before .before .before .before .before in
-    let R = c .before .before .before .before .before .before .read-nodes .ensures (unimage (planTree (s .args .plan .now)))
+    let R = c .before .before .before .before .before .before .read-nodes .ensures
+    (unimage (planTree (s .args .plan .now)))
     (home-read-args _ _ _ (s .pre) _ _ (labels-part _ _ _ (s .pre)) (kinds-part _ _ _ (s .pre))) in
     home-is _ _ _ (s .pre) _ _ R (c .before .before .write-header .ensures)
 

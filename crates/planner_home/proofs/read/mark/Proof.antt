@@ -1,3 +1,4 @@
+-- `planner_home::read::mark` meets its contract, by the laws of CellLaws. Assumes nothing.
 use Rattle.planner_home.proofs.CellLaws.{marked-first, marked-later}
 use native.Mathlib.Omega.{arith}
 use borrow.Author.Needs.{needs}

@@ -1,3 +1,4 @@
+-- `planner_home::read::push` meets its contract, by the laws of CellLaws. Assumes nothing.
 use lib.ListN.{length-set}
 use Rattle.planner_home.proofs.CellLaws.{push-done}
 use native.Mathlib.Omega.{arith}
@@ -24,7 +25,8 @@ add-file-3 : tie.Need-add-file-3
 add-file-3 c = search needs
 
 slice-write-file-2 : tie.Need-slice-write-file-2
-slice-write-file-2 c = let P = c .before .before .before .before .pre in simp length-set (omega (arith, P .inside, P .some-left, P .fits .room))
+slice-write-file-2 c = let P = c .before .before .before .before .pre in
+    simp length-set (omega (arith, P .inside, P .some-left, P .fits .room))
 
 same-length : tie.Need-same-length
 same-length c = search needs

@@ -1,3 +1,4 @@
+-- `planner_home::read::put_count` meets its contract, by the laws of CellLaws. Assumes nothing.
 use Rattle.planner_home.proofs.CellLaws.{count-some, count-none}
 use native.Mathlib.Omega.{arith}
 use borrow.Author.Needs.{needs}

@@ -1,4 +1,6 @@
-use Rattle.planner_home.proofs.ReadLoop.{push-args, count-args, release-args, node-push, node-count, node-release}
+-- `planner_home::read::read_node` meets its contract, by the laws of ReadLoop. Assumes nothing.
+use Rattle.planner_home.proofs.ReadLoop.{push-args, count-args, release-args, node-push, node-count}
+use Rattle.planner_home.proofs.ReadLoop.{node-release}
 use native.Mathlib.Omega.{arith}
 use borrow.Author.Needs.{needs}
 use Rattle.planner_home.proofs.read.read_node.Statement.{statement}
@@ -10,13 +12,15 @@ use Rattle.planner_home.proofs.read.put_count.Reads as put-count-reads
 use Rattle.planner_home.proofs.read.release.Reads as release-reads
 
 push-requires : tie.Need-push-requires
-push-requires c κs = let s = c .before .before .before in push-args _ _ _ (s .args .kind) _ _ (s .args .w .run) (s .pre) (λ e. omega arith)
+push-requires c κs = let s = c .before .before .before in
+    push-args _ _ _ (s .args .kind) _ _ (s .args .w .run) (s .pre) (λ e. omega arith)
 
 add-t11 : tie.Need-add-t11
 add-t11 c = search needs
 
 sub-t12 : tie.Need-sub-t12
-sub-t12 c = let s = c .before .before .before .before .before .before .before .before in s .pre .some-left (λ e. omega arith)
+sub-t12 c = let s = c .before .before .before .before .before .before .before .before in
+    s .pre .some-left (λ e. omega arith)
 
 add-t13 : tie.Need-add-t13
 add-t13 c = search needs
@@ -25,25 +29,30 @@ same-length : tie.Need-same-length
 same-length c = search needs
 
 returns : tie.Need-returns
-returns c = let s = c .before .before .before .before .before .before .before .before .before in node-push _ _ _ _ _ _ _ (s .pre) _ (λ e. omega arith) (c .before .before .before .before .before .push .ensures)
+returns c = let s = c .before .before .before .before .before .before .before .before .before in
+    node-push _ _ _ _ _ _ _ (s .pre) _ (λ e. omega arith) (c .before .before .before .before .before .push .ensures)
 
 put-count-requires : tie.Need-put-count-requires
-put-count-requires c κs = let s = c .before .before .before .before .before in count-args _ _ (s .args .label) (s .args .kind) _ _ _ (s .pre) (λ e. omega arith)
+put-count-requires c κs = let s = c .before .before .before .before .before in
+    count-args _ _ (s .args .label) (s .args .kind) _ _ _ (s .pre) (λ e. omega arith)
 
 same-length-2 : tie.Need-same-length-2
 same-length-2 c = search needs
 
 returns-2 : tie.Need-returns-2
-returns-2 c = let s = c .before .before .before .before .before .before .before .before in node-count _ _ _ _ _ _ _ (s .pre) _ (omega arith) (c .before .before .put-count .ensures)
+returns-2 c = let s = c .before .before .before .before .before .before .before .before in
+    node-count _ _ _ _ _ _ _ (s .pre) _ (omega arith) (c .before .before .put-count .ensures)
 
 release-requires : tie.Need-release-requires
-release-requires c κs = let s = c .before .before .before .before .before in release-args _ _ (s .args .label) (s .args .kind) _ _ (s .args .w .run) (s .pre)
+release-requires c κs = let s = c .before .before .before .before .before in
+    release-args _ _ (s .args .label) (s .args .kind) _ _ (s .args .w .run) (s .pre)
 
 same-length-3 : tie.Need-same-length-3
 same-length-3 c = search needs
 
 returns-3 : tie.Need-returns-3
-returns-3 c = let s = c .before .before .before .before .before .before .before .before in node-release _ _ _ _ _ _ _ (s .pre) _ _ (omega arith) (omega arith) (c .before .before .release .ensures)
+returns-3 c = let s = c .before .before .before .before .before .before .before .before in
+    node-release _ _ _ _ _ _ _ (s .pre) _ _ (omega arith) (omega arith) (c .before .before .release .ensures)
 
 pub read-node-spec : {M : Type 1} → statement M
 read-node-spec =

@@ -1,9 +1,12 @@
+-- `planner_home::read::read_nodes` meets its contract: the invariant, its start, its step and its end are those of
+-- ReadLoop. Assumes nothing.
 use Prim.Native.Nat.{_≤_}
 use mathlib.Core.Path.{_≡_, refl, _∙_}
 use lib.ListN.{length}
 use Rattle.planner.specs.Siblings.{Siblings}
 use Rattle.planner_home.specs.inner.Cells.{ReadArgs}
-use Rattle.planner_home.proofs.ReadLoop.{lengths, Reading, reading-start, reading-args, reading-iteration, reading-end}
+use Rattle.planner_home.proofs.ReadLoop.{lengths, Reading, reading-start, reading-args, reading-iteration}
+use Rattle.planner_home.proofs.ReadLoop.{reading-end}
 use native.Mathlib.Omega.{arith}
 use borrow.Author.Needs.{needs}
 use Rattle.planner_home.proofs.read.read_nodes.Statement.{statement}
@@ -15,7 +18,8 @@ use Rattle.planner_home.proofs.read.read_node.Reads as read-node-reads
 abbrev Inv-loop : tie.InvT-loop
 Inv-loop labels kinds file₀ n w₀ v₀ file w v =
     (v ≤ length labels) × (length file ≡ length file₀)
-    × ((f : Siblings) → ReadArgs f labels kinds file₀ n → Reading f labels kinds n file₀ v (w .depth) (w .left) (w .run) file)
+    × ((f : Siblings) → ReadArgs f labels kinds file₀ n
+    → Reading f labels kinds n file₀ v (w .depth) (w .left) (w .run) file)
 
 abbrev μ-loop : tie.MeasureT-loop
 μ-loop labels kinds file₀ n w₀ v₀ file w v = v
@@ -38,7 +42,8 @@ read-node-requires : tie.Need-read-node-requires Inv-loop μ-loop
 read-node-requires c κs =
     let s = c .before .before .before .before .before .before .before .before in
     let l = c .before .before .before .before .loop in
-    reading-args (s .pre .0) _ _ _ _ (s .pre .1) (l .v) _ _ _ _ (l .inv .2 (s .pre .0) (s .pre .1)) (omega arith) (l .inv .0)
+    reading-args (s .pre .0) _ _ _ _ (s .pre .1) (l .v) _ _ _ _ (l .inv .2 (s .pre .0) (s .pre .1)) (omega arith)
+    (l .inv .0)
 
 loop-less : tie.Need-loop-less Inv-loop μ-loop
 loop-less c = search needs

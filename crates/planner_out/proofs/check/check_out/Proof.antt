@@ -1,3 +1,4 @@
+-- `planner_out::check::check_out` meets its contract, by the laws of FileTrees and CheckAnswers. Assumes nothing.
 use Prim.Native.Nat.{ℕ}
 use mathlib.Core.Path.{_≡_, sym, ap, _∙_}
 use mathlib.Core.Bool.{true}
@@ -29,7 +30,8 @@ formed : (c : tie.Else1) → WellFormed (now (c .before .before .before .args .f
 formed c = well-formed _ (is-formed c)
 
 labels-answer : (c : tie.After-all-below)
-    → c .all-below .result ≡ allBelow emptyLabel (labelRun (now (c .before .before .before .before .before .before .args .file)))
+    → c .all-below .result
+    ≡ allBelow emptyLabel (labelRun (now (c .before .before .before .before .before .before .args .file)))
 labels-answer c =
     let b = now (c .before .before .before .before .before .before .args .file) in
     c .all-below .ensures ∙ ap (allBelow emptyLabel) (run-part b 12 (c .before .before .read32 .result)
@@ -42,7 +44,8 @@ room-answer : (c : tie.After-room-fits)
     (c .before .before .before .before .before .before .before .before .args .places)
 room-answer c =
     let a = c .before .before .before .before .before .before .before .before .args in
-    c .room-fits .ensures ∙ ap (λ (n : ℕ). outRoom n (a .plan) (a .places)) (c .before .before .before .before .read32 .ensures)
+    c .room-fits .ensures
+    ∙ ap (λ (n : ℕ). outRoom n (a .plan) (a .places)) (c .before .before .before .before .read32 .ensures)
 
 well-formed-requires : tie.Need-well-formed-requires
 well-formed-requires c κs = search needs
@@ -69,7 +72,8 @@ all-below-requires : tie.Need-all-below-requires
 all-below-requires c κs = search needs
 
 returns-2 : tie.Need-returns-2
-returns-2 c = sym (out-20 _ _ _ (is-formed (c .before .before .before .before)) (sym (labels-answer (c .before)) ∙ not-true _ (c .if2 .taken)))
+returns-2 c = sym (out-20 _ _ _ (is-formed (c .before .before .before .before))
+    (sym (labels-answer (c .before)) ∙ not-true _ (c .if2 .taken)))
 
 room-fits-requires : tie.Need-room-fits-requires
 room-fits-requires c κs = search needs

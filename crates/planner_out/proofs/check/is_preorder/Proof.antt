@@ -1,7 +1,10 @@
+-- `planner_out::check::is_preorder` meets its contract: the invariant, its start, its step and its end are those of
+-- CheckLoop. Assumes nothing.
 use mathlib.Core.Path.{sym}
 use Prim.Native.Nat.{_-_}
 use lib.ListN.{length}
-use Rattle.planner_out.proofs.CheckLoop.{Waiting, waiting-start, waiting-none, waiting-many, waiting-iteration, waiting-end}
+use Rattle.planner_out.proofs.CheckLoop.{Waiting, waiting-start, waiting-none, waiting-many, waiting-iteration}
+use Rattle.planner_out.proofs.CheckLoop.{waiting-end}
 use native.Mathlib.Omega.{arith}
 use borrow.Author.Needs.{needs}
 use Rattle.planner_out.proofs.check.is_preorder.Statement.{statement}
@@ -19,7 +22,8 @@ loop-holds : tie.Need-loop-holds Inv-loop μ-loop
 loop-holds c = waiting-start _
 
 returns : tie.Need-returns Inv-loop μ-loop
-returns c = let l = c .before .before .loop in sym (waiting-none _ (l .wait) (l .i) (l .inv) (omega arith) (omega arith))
+returns c = let l = c .before .before .loop in
+    sym (waiting-none _ (l .wait) (l .i) (l .inv) (omega arith) (omega arith))
 
 sub-if2 : tie.Need-sub-if2 Inv-loop μ-loop
 sub-if2 c = search needs
@@ -47,7 +51,8 @@ loop-less c = search needs
 loop-again : tie.Need-loop-again Inv-loop μ-loop
 loop-again c =
     let l = c .before .before .before .before .loop in
-    waiting-iteration _ (l .wait) (l .i) (l .inv) (omega arith) (omega arith) (omega arith) (omega (arith, c .shared-slice-known .given (l .i)))
+    waiting-iteration _ (l .wait) (l .i) (l .inv) (omega arith) (omega arith) (omega arith)
+    (omega (arith, c .shared-slice-known .given (l .i)))
 
 returns-3 : tie.Need-returns-3 Inv-loop μ-loop
 returns-3 c = let l = c .before .loop in waiting-end _ (l .wait) (l .i) (l .inv) (omega arith)

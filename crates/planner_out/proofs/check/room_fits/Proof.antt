@@ -1,3 +1,4 @@
+-- `planner_out::check::room_fits` meets its contract, by the laws of CheckLoop. Assumes nothing.
 use mathlib.Core.Path.{sym}
 use Rattle.planner_out.proofs.CheckLoop.{room-many, room-plan, room-rest}
 use native.Mathlib.Omega.{arith}

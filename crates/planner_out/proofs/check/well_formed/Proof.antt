@@ -1,3 +1,4 @@
+-- `planner_out::check::well_formed` meets its contract, by the laws of CheckLoop. Assumes nothing.
 use mathlib.Core.Path.{sym, ap, _∙_}
 use Rattle.planner.specs.File.{isPreorder}
 use Rattle.planner_out.proofs.CheckLoop.{file-not, file-counts, count-part}
@@ -66,7 +67,8 @@ is-preorder-requires c κs = search needs
 
 returns-7 : tie.Need-returns-7
 returns-7 c =
-    let b = c .before .before .before .before .before .before .before .before .before .before .before .before .args .file .now in
+    let s = c .before .before .before .before .before .before .before .before .before .before .before .before in
+    let b = s .args .file .now in
     c .is-preorder .ensures ∙ ap isPreorder (count-part b _ (omega arith) (omega arith))
     ∙ sym (file-counts b (omega arith) (omega arith) (omega arith) (omega arith) (omega arith))
 

@@ -1,3 +1,4 @@
+-- `planner_out::convert::plan_of_planner` meets its contract, by the laws of OutLaws and CheckAnswers. Assumes nothing.
 use mathlib.Core.Path.{_≡_, refl, sym, _∙_}
 use denote.Ref.{now}
 use lib.ListN.{length}
@@ -17,7 +18,9 @@ use Rattle.planner_out.proofs.convert.write_out.Reads as write-out-read
 
 -- nothing fails
 passes : (c : tie.Else1)
-    → firstNo (outChecks (now (c .before .before .before .before .before .args .file)) (length (now (c .before .before .before .before .before .args .plan))) (length (now (c .before .before .before .before .before .args .places)))) ≡ 0
+    → firstNo (outChecks (now (c .before .before .before .before .before .args .file))
+    (length (now (c .before .before .before .before .before .args .plan)))
+    (length (now (c .before .before .before .before .before .args .places)))) ≡ 0
 passes c = sym (c .before .check-out .ensures) ∙ omega arith
 
 check-out-requires : tie.Need-check-out-requires
@@ -30,7 +33,8 @@ read32-requires : tie.Need-read32-requires
 read32-requires c κs = omega (arith, out-passes _ _ _ (passes c) .file .long)
 
 write-out-requires : tie.Need-write-out-requires
-write-out-requires c κs = record { passes = passes (c .before .before .before); count = c .before .before .read32 .ensures }
+write-out-requires c κs =
+    record { passes = passes (c .before .before .before); count = c .before .before .read32 .ensures }
 
 same-length : tie.Need-same-length
 same-length c = search needs
@@ -40,7 +44,8 @@ same-length-2 c = search needs
 
 returns-2 : tie.Need-returns-2
 returns-2 c =
-    out-done _ _ _ _ _ _ refl (passes (c .before .before .before .before .before .before .before .before)) (c .before .before .before .before .write-out .ensures)
+    out-done _ _ _ _ _ _ refl (passes (c .before .before .before .before .before .before .before .before))
+    (c .before .before .before .before .write-out .ensures)
 
 pub plan-of-planner-spec : {M : Type 1} → statement M
 plan-of-planner-spec =

@@ -1,3 +1,4 @@
+-- `planner_out::convert::write_out` meets its contract, by the laws of OutLaws. Assumes nothing.
 use Prim.Native.Nat.{_+_, _*_, _≤_}
 use mathlib.Core.Path.{_≡_}
 use lib.ListN.{length}
@@ -34,7 +35,8 @@ place-nodes-requires c κs =
     place-args _ _ _ _ (s .pre) _ (counts-are _ _ _ _ (s .pre))
 
 add-write-plan : tie.Need-add-write-plan
-add-write-plan c = let z = sized (c .before .before .before .before .before .before .before .before .before .before .before) in omega arith
+add-write-plan c = let z =
+    sized (c .before .before .before .before .before .before .before .before .before .before .before) in omega arith
 
 sub-write-plan : tie.Need-sub-write-plan
 sub-write-plan c = search needs
@@ -43,13 +45,17 @@ part-write-plan-start : tie.Need-part-write-plan-start
 part-write-plan-start c = search needs
 
 part-write-plan-end : tie.Need-part-write-plan-end
-part-write-plan-end c = let z = sized (c .before .before .before .before .before .before .before .before .before .before .before) in omega arith
+part-write-plan-end c = let z =
+    sized (c .before .before .before .before .before .before .before .before .before .before .before) in omega arith
 
 write-plan-requires : tie.Need-write-plan-requires
 write-plan-requires c κs =
-    let s = c .before .before .before .before .before .before .before .before .before .before .before .before .before .before in (
+    let d = c .before .before .before .before .before .before .before in
+    let s = d .before .before .before .before .before .before .before in (
       fileTree (s .args .file .now),
-      write-args _ _ _ _ (s .pre) _ (counts-are _ _ _ _ (s .pre)) _ _ (c .before .before .before .before .before .before .before .place-nodes .ensures) _ (labels-are _ _ _ _ (s .pre)),
+      write-args _ _ _ _ (s .pre) _ (counts-are _ _ _ _ (s .pre)) _ _
+          (d .place-nodes .ensures) _
+          (labels-are _ _ _ _ (s .pre)),
     )
 
 same-length : tie.Need-same-length
@@ -60,10 +66,11 @@ same-length-2 c = search needs
 
 returns : tie.Need-returns
 returns c =
-    let s = c .before .before .before .before .before .before .before .before .before .before .before .before .before .before .before .before .before in
+    let d = c .before .before .before .before .before .before .before .before .before .before in
+    let s = d .before .before .before .before .before .before .before in
     let k = counts-are _ _ _ _ (s .pre) in
     let l = labels-are _ _ _ _ (s .pre) in
-    let N = c .before .before .before .before .before .before .before .before .before .before .place-nodes .ensures in
+    let N = d .place-nodes .ensures in
     plan-is _ _ _ _ (s .pre) _ k _ _ N _ l _
     (c .before .before .write-plan .ensures (fileTree (s .args .file .now)) (write-args _ _ _ _ (s .pre) _ k _ _ N _ l))
 

@@ -1,3 +1,5 @@
+-- `planner_out::lay::fill` meets its contract: the invariant, its start, its step and its end are those of LayLoop.
+-- Assumes nothing.
 use Prim.Native.Nat.{_-_}
 use Rattle.planner_out.proofs.LayLoop.{Filling, filling-start, filling-iteration, filling-end}
 use native.Mathlib.Omega.{arith}
@@ -26,7 +28,8 @@ loop-less : tie.Need-loop-less Inv-loop μ-loop
 loop-less c = search needs
 
 loop-again : tie.Need-loop-again Inv-loop μ-loop
-loop-again c = let l = c .before .loop in filling-iteration _ _ _ _ _ (l .i) (l .inv) (omega arith) (c .before .before .pre .1)
+loop-again c = let l = c .before .loop in
+    filling-iteration _ _ _ _ _ (l .i) (l .inv) (omega arith) (c .before .before .pre .1)
 
 same-length : tie.Need-same-length Inv-loop μ-loop
 same-length c = search needs

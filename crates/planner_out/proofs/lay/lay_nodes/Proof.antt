@@ -1,9 +1,12 @@
+-- `planner_out::lay::lay_nodes` meets its contract: the invariant, its start, its step and its end are those of
+-- LayLoop. Assumes nothing.
 use Prim.Native.Nat.{_-_, _≤_, _<_}
 use mathlib.Core.Path.{_≡_, refl}
 use lib.ListN.{length, getD, length-set}
 use Rattle.planner.specs.Siblings.{Siblings}
 use Rattle.planner_out.specs.inner.Laid.{LayArgs}
-use Rattle.planner_out.proofs.LayLoop.{Laying, laying-start, size-fits, place-inside, laying-iteration, laying-end, length-labels-is}
+use Rattle.planner_out.proofs.LayLoop.{Laying, laying-start, size-fits, place-inside, laying-iteration}
+use Rattle.planner_out.proofs.LayLoop.{laying-end, length-labels-is}
 use native.Mathlib.Omega.{arith}
 use borrow.Author.Needs.{needs}
 use Rattle.planner_out.proofs.lay.lay_nodes.Statement.{statement}
@@ -21,7 +24,8 @@ abbrev μ-loop : tie.MeasureT-loop
 
 -- node v's place is inside the plan
 inside : (c : tie.After-shared-slice-known2 Inv-loop μ-loop)
-    → getD (c .before .before .before .before .args .places .now) (c .before .before .before .loop .v) 0 < c .before .before .before .before .args .size
+    → getD (c .before .before .before .before .args .places .now)
+    (c .before .before .before .loop .v) 0 < c .before .before .before .before .args .size
 inside c =
     let s = c .before .before .before .before in
     place-inside (s .pre .0) _ _ _ _ (s .pre .1) (c .before .before .before .loop .v) (omega arith)
@@ -50,7 +54,8 @@ add-plan : tie.Need-add-plan Inv-loop μ-loop
 add-plan c = omega (arith, inside c, small c)
 
 slice-write-plan : tie.Need-slice-write-plan Inv-loop μ-loop
-slice-write-plan c = omega (arith, inside c, c .before .before .before .before .pre .1 .room, c .before .before .before .loop .inv .1)
+slice-write-plan c =
+    omega (arith, inside c, c .before .before .before .before .pre .1 .room, c .before .before .before .loop .inv .1)
 
 add-plan-2 : tie.Need-add-plan-2 Inv-loop μ-loop
 add-plan-2 c = omega (arith, small c)
@@ -59,7 +64,9 @@ add-plan-3 : tie.Need-add-plan-3 Inv-loop μ-loop
 add-plan-3 c = omega (arith, inside c, small c)
 
 slice-write-plan-2 : tie.Need-slice-write-plan-2 Inv-loop μ-loop
-slice-write-plan-2 c = simp length-set (omega (arith, inside c, c .before .before .before .before .pre .1 .room, c .before .before .before .loop .inv .1))
+slice-write-plan-2 c =
+    simp length-set (omega
+    (arith, inside c, c .before .before .before .before .pre .1 .room, c .before .before .before .loop .inv .1))
 
 add-v : tie.Need-add-v Inv-loop μ-loop
 add-v c = search needs
@@ -79,7 +86,8 @@ same-length : tie.Need-same-length Inv-loop μ-loop
 same-length c = search needs
 
 returns : tie.Need-returns Inv-loop μ-loop
-returns c = λ f A. (let l = c .before .loop in laying-end f _ _ _ _ A (l .v) _ (l .inv .2 f A) (omega (arith, l .inv .0)))
+returns c = λ f A. (let l = c .before .loop in
+    laying-end f _ _ _ _ A (l .v) _ (l .inv .2 f A) (omega (arith, l .inv .0)))
 
 pub lay-nodes-spec : {M : Type 1} → statement M
 lay-nodes-spec =

@@ -1,3 +1,4 @@
+-- `planner_out::lay::write_header` meets its contract. Assumes nothing.
 use mathlib.Core.Path.{refl}
 use lib.ListN.{length-set}
 use native.Mathlib.Omega.{arith}

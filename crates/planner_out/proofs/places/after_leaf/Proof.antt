@@ -1,3 +1,4 @@
+-- `planner_out::places::after_leaf` meets its contract. Assumes nothing.
 use mathlib.Core.Path.{sym, ap, _∙_}
 use mathlib.Core.Bool.{Bool}
 use Rattle.planner_out.specs.inner.Stack.{afterLeaf}

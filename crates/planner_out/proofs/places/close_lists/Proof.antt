@@ -1,4 +1,7 @@
-use Rattle.planner_out.proofs.CloseLoop.{Closing, closing-start, closing-iteration, closing-end, closing-fits, closing-fits-next}
+-- `planner_out::places::close_lists` meets its contract: the invariant, its start, its step and its end are those of
+-- CloseLoop and StackLaws. Assumes nothing.
+use Rattle.planner_out.proofs.CloseLoop.{Closing, closing-start, closing-iteration, closing-end, closing-fits}
+use Rattle.planner_out.proofs.CloseLoop.{closing-fits-next}
 use mathlib.Core.Path.{_≡_, sym, ap, _∙_}
 use mathlib.Core.Bool.{true}
 use Prim.Native.Nat.{_+_, _≤_, _<_}
@@ -17,19 +20,22 @@ use Rattle.planner_out.proofs.places.node_on_top.Reads as node-on-top-r
 use Rattle.planner_out.proofs.places.put.Reads as put-reads
 
 abbrev Inv-loop : tie.InvT-loop
-Inv-loop plan places₀ depth next top₀ at₀ closing₀ places top at closing = Closing plan depth next places₀ top at closing places
+Inv-loop plan places₀ depth next top₀ at₀ closing₀ places top at closing =
+    Closing plan depth next places₀ top at closing places
 
 abbrev μ-loop : tie.MeasureT-loop
 μ-loop plan places₀ depth next top₀ at₀ closing₀ places top at closing = top
 
 -- the test says that the top is to be written
 going : (c : tie.Then1 Inv-loop μ-loop)
-    → goesOn (c .before .before .before .before .before .args .plan .now) (c .before .before .loop .top) (c .before .before .loop .closing) ≡ true
+    → goesOn (c .before .before .before .before .before .args .plan .now) (c .before .before .loop .top)
+    (c .before .before .loop .closing) ≡ true
 going c = sym (c .before .goes-on .ensures) ∙ c .if1 .taken
 
 next-fits : (c : tie.Then1 Inv-loop μ-loop)
     → afterLeaf (c .before .before .loop .closing) (c .before .before .loop .at) + 1 ≤ 65535
-next-fits c = closing-fits-next _ _ _ _ _ _ _ _ (c .before .before .loop .inv) (c .before .before .before .before .before .pre) (going c)
+next-fits c = closing-fits-next _ _ _ _ _ _ _ _ (c .before .before .loop .inv)
+    (c .before .before .before .before .before .pre) (going c)
 
 some-left : (c : tie.Then1 Inv-loop μ-loop) → 0 < c .before .before .loop .top
 some-left c = top-some _ _ _ (going c)
@@ -44,7 +50,8 @@ sub-top : tie.Need-sub-top Inv-loop μ-loop
 sub-top c = some-left c
 
 after-leaf-requires : tie.Need-after-leaf-requires Inv-loop μ-loop
-after-leaf-requires c κs = closing-fits _ _ _ _ _ _ _ _ (c .before .before .loop .inv) (c .before .before .before .before .before .pre)
+after-leaf-requires c κs =
+    closing-fits _ _ _ _ _ _ _ _ (c .before .before .loop .inv) (c .before .before .before .before .before .pre)
 
 node-on-top-requires : tie.Need-node-on-top-requires Inv-loop μ-loop
 node-on-top-requires c κs =
@@ -58,12 +65,21 @@ put-requires : tie.Need-put-requires Inv-loop μ-loop
 put-requires c κs = search needs
 
 add-at : tie.Need-add-at Inv-loop μ-loop
-add-at c = omega (arith, c .before .before .before .before .before .after-leaf .ensures, next-fits (c .before .before .before .before .before .before))
+add-at c = omega (
+  arith,
+  c .before .before .before .before .before .after-leaf .ensures,
+  next-fits (c .before .before .before .before .before .before),
+)
 
 is-later-requires : tie.Need-is-later-requires Inv-loop μ-loop
 is-later-requires c κs =
     let b = c .before .before .before .before .before .before .before .before in
-    omega (arith, some-left (c .before .before .before .before .before .before), b .loop .inv .lower, b .before .before .before .pre .room)
+    omega (
+      arith,
+      some-left (c .before .before .before .before .before .before),
+      b .loop .inv .lower,
+      b .before .before .before .pre .room,
+    )
 
 loop-less : tie.Need-loop-less Inv-loop μ-loop
 loop-less c = omega (arith, some-left (c .before .before .before .before .before .before .before))
@@ -77,7 +93,8 @@ loop-again c =
       c .before .before .before .before .node-on-top .ensures,
       c .before .before .before .before .before .before .after-leaf .ensures,
     )
-    (closing-iteration _ _ _ _ _ _ _ _ (b .loop .inv) (going (c .before .before .before .before .before .before .before)))
+    (closing-iteration _ _ _ _ _ _ _ _ (b .loop .inv)
+    (going (c .before .before .before .before .before .before .before)))
 
 same-length : tie.Need-same-length Inv-loop μ-loop
 same-length c = c .before .before .loop .inv .same

@@ -1,3 +1,4 @@
+-- `planner_out::places::goes_on` meets its contract, by the laws of StackLaws. Assumes nothing.
 use mathlib.Core.Path.{sym, ap, _∙_}
 use mathlib.Core.Bool.{Bool}
 use denote.Ref.{now}
@@ -16,7 +17,8 @@ returns c = search needs
 returns-2 : tie.Need-returns-2
 returns-2 c =
     let a = c .before .before .args in
-    sym (ap (λ (b : Bool). goesOn (now (a .plan)) (a .depth) b) (c .if2 .taken) ∙ goesOn-closing (now (a .plan)) (a .depth) (omega arith))
+    sym (ap (λ (b : Bool). goesOn (now (a .plan)) (a .depth) b) (c .if2 .taken)
+    ∙ goesOn-closing (now (a .plan)) (a .depth) (omega arith))
 
 sub-result : tie.Need-sub-result
 sub-result c = search needs
@@ -33,7 +35,8 @@ shared-slice-read-result c = search needs
 returns-3 : tie.Need-returns-3
 returns-3 c =
     let a = c .before .before .before .args in
-    sym (ap (λ (b : Bool). goesOn (now (a .plan)) (a .depth) b) (c .before .if2 .left) ∙ goesOn-open (now (a .plan)) (a .depth) (omega arith))
+    sym (ap (λ (b : Bool). goesOn (now (a .plan)) (a .depth) b) (c .before .if2 .left)
+    ∙ goesOn-open (now (a .plan)) (a .depth) (omega arith))
 
 pub goes-on-spec : {M : Type 1} → statement M
 goes-on-spec =

@@ -1,3 +1,4 @@
+-- `planner_out::places::node_on_top` meets its contract. Assumes nothing.
 use Prim.Native.Nat.{_+_, _*_}
 use native.Mathlib.Omega.{arith}
 use borrow.Author.Needs.{needs}

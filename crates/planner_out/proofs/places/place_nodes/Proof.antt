@@ -1,3 +1,5 @@
+-- `planner_out::places::place_nodes` meets its contract: the invariant, its start, its step and its end are those of
+-- PlaceLoop. Assumes nothing.
 use Prim.Native.Nat.{_-_}
 use lib.ListN.{length}
 use Rattle.planner_out.proofs.PlaceLoop.{Placing, placing-start, placing-args, placing-iteration, placing-end}
@@ -25,7 +27,8 @@ shared-slice-read-read-node c = search needs
 read-node-requires : tie.Need-read-node-requires Inv-loop μ-loop
 read-node-requires c κs =
     let l = c .before .before .before .before .loop in
-    placing-args _ _ _ _ _ (l .w .depth) (l .w .next) (l .w .left) (l .w .first) (l .v) (c .before .before .before .before .before .before .before .before .pre) (l .inv) (omega arith)
+    placing-args _ _ _ _ _ (l .w .depth) (l .w .next) (l .w .left) (l .w .first) (l .v)
+    (c .before .before .before .before .before .before .before .before .pre) (l .inv) (omega arith)
 
 add-v : tie.Need-add-v Inv-loop μ-loop
 add-v c = search needs
@@ -37,7 +40,8 @@ loop-again : tie.Need-loop-again Inv-loop μ-loop
 loop-again c =
     let b = c .before .before .before .before .before .before .before .before .before in
     let r = c .before .before .before .before .read-node in
-    placing-iteration _ _ _ _ _ _ _ _ _ (b .loop .v) (b .before .before .before .before .pre) (b .loop .inv) (omega arith) _ _ _ _ _ _ (r .ensures)
+    placing-iteration _ _ _ _ _ _ _ _ _ (b .loop .v) (b .before .before .before .before .pre) (b .loop .inv)
+    (omega arith) _ _ _ _ _ _ (r .ensures)
 
 same-length : tie.Need-same-length Inv-loop μ-loop
 same-length c = search needs

@@ -1,3 +1,4 @@
+-- `planner_out::places::push` meets its contract, by the laws of StackLaws. Assumes nothing.
 use lib.ListN.{length-set}
 use Prim.Native.Nat.{_/_, _%_}
 use Rattle.planner_out.proofs.StackLaws.{stack-pushed}
@@ -53,7 +54,8 @@ same-length c = search needs
 returns : tie.Need-returns
 returns c =
     let a = c .args in
-    stack-pushed (a .plan .now) (a .depth) (a .v % 256) (a .v / 256) (a .after) (a .first) (c .pre .room) (a .v) (omega arith)
+    stack-pushed (a .plan .now) (a .depth) (a .v % 256) (a .v / 256) (a .after) (a .first) (c .pre .room) (a .v)
+    (omega arith)
 
 pub push-spec : {M : Type 1} → statement M
 push-spec =

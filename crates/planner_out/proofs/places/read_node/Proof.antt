@@ -1,3 +1,4 @@
+-- `planner_out::places::read_node` meets its contract, by the laws of PlaceLoop. Assumes nothing.
 use denote.Ref.{now}
 use Rattle.planner_out.proofs.PlaceLoop.{node-inner, node-leaf, leaf-args, next-fits}
 use native.Mathlib.Omega.{arith}
@@ -27,7 +28,8 @@ returns : tie.Need-returns
 returns c =
     let a = c .before .before .before .before .before .before .before .before .before .args in
     node-inner (a .v) (a .w .depth) (a .w .next) (a .w .left) (a .w .first) _ (now (a .plan)) (now (a .places)) _
-    (c .before .before .before .before .before .less-one .ensures) (c .before .before .before .before .push .ensures) (a .count) (λ e. omega arith)
+    (c .before .before .before .before .before .less-one .ensures) (c .before .before .before .before .push .ensures)
+    (a .count) (λ e. omega arith)
 
 add-close-lists : tie.Need-add-close-lists
 add-close-lists c = search needs

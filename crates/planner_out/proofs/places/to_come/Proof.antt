@@ -1,3 +1,4 @@
+-- `planner_out::places::to_come` meets its contract, by the laws of StackLaws. Assumes nothing.
 use mathlib.Core.Path.{sym}
 use Rattle.planner_out.proofs.StackLaws.{afterTop-top}
 use denote.Ref.{now}

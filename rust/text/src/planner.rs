@@ -1,0 +1,300 @@
+//! The bridge planner's files as text: out to our plans, home again, and a picture of both. By the proved library.
+//!
+//! ```text
+//! planner           # a node a line, top first: its label; its children stand further to the right
+//! 5                 # node 0
+//!   6               # node 1
+//!     8             # node 2
+//!   7               # node 3
+//! rules             # as in any other text; they have 64 labels, since label 63 is at every leaf
+//! questions         # pNODE->LABEL names a planner's node, NODE->LABEL a node of our plan
+//! p1->4 p2->0
+//! ```
+//!
+//! A file that has no such form is written with lines of the word `bytes`.
+
+use crate::lines::{self, all_raw, raw_text, Line, Wrong};
+use crate::{plan, questions, rules};
+use reference::formats::read_plan;
+use reference::tree::Tree;
+use reference::write;
+use std::fmt;
+use whatif::sizes::{planner_bytes, planner_plan_bytes, MAX_PLANNER_NODES};
+use whatif::Refusal;
+
+/// Why nothing is written: the text is wrong, or the library refuses what it says.
+#[derive(Debug, PartialEq, Eq)]
+pub enum Failed {
+    Wrong(Wrong),
+    Refused(Refusal),
+}
+
+impl fmt::Display for Failed {
+    fn fmt(&self, f: &mut fmt::Formatter<'_>) -> fmt::Result {
+        match self {
+            Failed::Wrong(wrong) => wrong.fmt(f),
+            Failed::Refused(refusal) => refusal.fmt(f),
+        }
+    }
+}
+
+impl From<Wrong> for Failed {
+    fn from(wrong: Wrong) -> Failed {
+        Failed::Wrong(wrong)
+    }
+}
+
+impl From<Refusal> for Failed {
+    fn from(refusal: Refusal) -> Failed {
+        Failed::Refused(refusal)
+    }
+}
+
+/// From text to text.
+pub type Verb = fn(&str) -> Result<String, Failed>;
+
+/// The verb that these words, which follow `planner`, name.
+pub fn verb(words: &[&str]) -> Option<Verb> {
+    match words {
+        ["import"] => Some(import),
+        ["export"] => Some(export),
+        ["dot"] => Some(picture),
+        _ => None,
+    }
+}
+
+/// A text whose first section is named `planner`, or `plan`.
+#[derive(Default)]
+struct Text<'a> {
+    nodes: Vec<Line<'a>>,
+    /// Of each of these lines.
+    indents: Vec<usize>,
+    /// The lines between `rules` and `questions` as they stand.
+    rules: Vec<&'a str>,
+    questions: Vec<Line<'a>>,
+}
+
+impl<'a> Text<'a> {
+    /// Rules that are wrong are told, and otherwise left as they stand.
+    fn of(text: &'a str, first: &'static str) -> Result<Text<'a>, Wrong> {
+        let names = [first, "rules", "questions"];
+        let (mut found, mut at, mut of_rules) = (Text::default(), None, Vec::new());
+        for (i, raw) in text.lines().enumerate() {
+            if at == Some(1) {
+                found.rules.push(raw);
+            }
+            let line = match lines::of(raw).next() {
+                Some(line) => Line { number: i + 1, ..line },
+                None => continue,
+            };
+            match (names.iter().position(|name| line.words == [*name]), at) {
+                (Some(next), now) if now.map_or(true, |now| next > now) => at = Some(next),
+                (Some(next), _) => return Err(line.wrong(format!("'{}' stands too late, or again", names[next]))),
+                (None, Some(0)) => {
+                    found.indents.push(raw.len() - raw.trim_start_matches(' ').len());
+                    found.nodes.push(line);
+                }
+                (None, Some(1)) => of_rules.push(line),
+                (None, Some(_)) => found.questions.push(line),
+                (None, None) => return Err(line.wrong(format!("this is in no section: '{}' comes first", first))),
+            }
+        }
+        if at == Some(2) {
+            found.rules.pop(); // the word 'questions'
+        }
+        rules::to_bytes(&of_rules)?;
+        Ok(found)
+    }
+
+    /// The sections after the first; each question as `said` has it.
+    fn rest(&self, said: impl Fn(&Line) -> Result<String, Wrong>) -> Result<String, Wrong> {
+        let (rules, mut text) = (self.rules.join("\n"), String::new());
+        if !rules.trim().is_empty() {
+            text += &format!("\nrules\n{}\n", rules.trim_end());
+        }
+        if !self.questions.is_empty() {
+            text += "\nquestions\n";
+        }
+        for line in &self.questions {
+            text += &(said(line)? + "\n");
+        }
+        Ok(text)
+    }
+
+    /// The planner's file that the first section says. Whether its nodes are those of one tree is not asked.
+    fn file(&self) -> Result<Vec<u8>, Wrong> {
+        if let Some(bytes) = all_raw(&self.nodes)? {
+            return Ok(bytes);
+        }
+        let (mut labels, mut counts) = (Vec::new(), Vec::new());
+        // the nodes above the next one, with their indents
+        let mut above: Vec<(usize, usize)> = Vec::new();
+        for (v, (line, &indent)) in self.nodes.iter().zip(&self.indents).enumerate() {
+            match line.words[..] {
+                [label] => labels.push(line.byte(label)?),
+                _ => return Err(line.wrong("a line of the planner's tree is LABEL or 'bytes ..'")),
+            }
+            counts.push(0);
+            let mut beside = indent;
+            while let Some(&(at, _)) = above.last().filter(|&&(at, _)| at >= indent) {
+                beside = at;
+                above.pop();
+            }
+            if beside != indent {
+                return Err(line.wrong("this stands neither below the line before it nor beside one above it"));
+            }
+            if let Some(&(_, parent)) = above.last() {
+                let more: Option<u8> = u8::checked_add(counts[parent], 1);
+                counts[parent] = more.ok_or_else(|| line.wrong("a node has at most 255 children"))?;
+            }
+            above.push((indent, v));
+        }
+        Ok(write::plan(&labels, &counts))
+    }
+}
+
+/// A planner's file, its plan, and the place of each of its nodes.
+struct Planned {
+    file: Vec<u8>,
+    plan: Vec<u8>,
+    places: Vec<u16>,
+}
+
+impl Planned {
+    fn out(file: Vec<u8>) -> Result<Planned, Refusal> {
+        let most = (file.len().saturating_sub(planner_bytes(0)) / 2).min(MAX_PLANNER_NODES);
+        let (mut plan, mut places) = (vec![0; planner_plan_bytes(most)], vec![0; most]);
+        whatif::plan_of_planner(&file, &mut plan, &mut places)?;
+        Ok(Planned { file, plan, places })
+    }
+
+    fn home(plan: &[u8]) -> Result<Planned, Refusal> {
+        let mut file = vec![0; planner_bytes(MAX_PLANNER_NODES)];
+        let n = whatif::planner_of_plan(plan, &mut file)?;
+        file.truncate(planner_bytes(n));
+        Planned::out(file)
+    }
+
+    fn nodes(&self) -> usize {
+        self.places.len()
+    }
+
+    fn label(&self, v: usize) -> u8 {
+        self.file[12 + v]
+    }
+
+    fn children(&self, v: usize) -> u8 {
+        self.file[12 + self.nodes() + v]
+    }
+
+    /// For each node of the plan its planner's node; none for a leaf.
+    fn of_plan(&self) -> Vec<Option<usize>> {
+        let mut of_plan = vec![None; 2 * self.nodes() + 1];
+        self.places.iter().enumerate().for_each(|(v, &place)| of_plan[place as usize] = Some(v));
+        of_plan
+    }
+
+    /// The node above each planner's node, and its depth.
+    fn above(&self) -> Vec<(Option<usize>, usize)> {
+        let (mut above, mut open) = (Vec::new(), Vec::new());
+        for v in 0..self.nodes() {
+            while open.last().map_or(false, |&(_, left)| left == 0) {
+                open.pop();
+            }
+            above.push((open.last().map(|&(w, _)| w), open.len()));
+            if let Some((_, left)) = open.last_mut() {
+                *left -= 1;
+            }
+            open.push((v, self.children(v)));
+        }
+        above
+    }
+}
+
+/// Our plan of a planner's text, with its rules, and its questions by our nodes.
+fn import(text: &str) -> Result<String, Failed> {
+    let text = Text::of(text, "planner")?;
+    let planned = Planned::out(text.file()?)?;
+    let of_plan = planned.of_plan();
+    let mut made =
+        "plan    # of a planner's file: label 63 is at every leaf, so its rules have 64 labels\n".to_string();
+    for (line, node) in plan::to_text(&planned.plan).lines().zip(of_plan) {
+        made += &node.map_or(format!("{}\n", line), |v| format!("{}, planner's node {}\n", line, v));
+    }
+    Ok(made + &text.rest(|line| by_places(line, &planned.places))?)
+}
+
+/// A question with `pNODE->LABEL` as our node.
+fn by_places(line: &Line, places: &[u16]) -> Result<String, Wrong> {
+    let said = |word: &&str| match word.strip_prefix('p').and_then(|word| word.split_once("->")) {
+        None => Ok(word.to_string()),
+        Some((node, label)) => Ok(format!("{}->{}", places[line.number(node, places.len() - 1)?], label)),
+    };
+    let words = line.words.iter().map(said).collect::<Result<Vec<String>, Wrong>>()?;
+    let said = Line { number: line.number, words: words.iter().map(String::as_str).collect() };
+    questions::to_bytes(&[said])?;
+    Ok(words.join(" "))
+}
+
+/// Deeper trees would be mostly spaces.
+const MAX_DEPTH: usize = 200;
+
+/// The planner's text of our plan, with its rules, and its questions by planner's nodes.
+fn export(text: &str) -> Result<String, Failed> {
+    let text = Text::of(text, "plan")?;
+    let planned = Planned::home(&plan::to_bytes(&text.nodes)?)?;
+    let (of_plan, above) = (planned.of_plan(), planned.above());
+    let mut made = "planner\n".to_string();
+    if above.iter().any(|&(_, depth)| depth > MAX_DEPTH) {
+        made += &raw_text(&planned.file);
+    } else {
+        for (v, &(_, depth)) in above.iter().enumerate() {
+            let node = format!("{}{}", "  ".repeat(depth), planned.label(v));
+            made += &format!("{:<19}# node {}, {} in the plan\n", node, v, planned.places[v]);
+        }
+    }
+    Ok(made + &text.rest(|line| by_planner(line, &of_plan))?)
+}
+
+/// A question with those of our nodes that are a planner's as `pNODE->LABEL`.
+fn by_planner(line: &Line, of_plan: &[Option<usize>]) -> Result<String, Wrong> {
+    if line.words == ["none"] || line.words[0] == "bytes" {
+        return Ok(line.words.join(" "));
+    }
+    let said = |&(node, label): &questions::Change| match of_plan.get(node as usize) {
+        Some(Some(v)) => format!("p{}->{}", v, label),
+        _ => format!("{}->{}", node, label),
+    };
+    Ok(questions::changes(line)?.iter().map(said).collect::<Vec<_>>().join(" "))
+}
+
+const HEAD: &str = "\
+// Left the planner's tree, pNODE: LABEL; right our plan, NODE: LABEL and its planner's node. In our plan a solid line leads to
+// the list of a node's children, a dashed one to the rest of its own list; a dot is the end of a list, a leaf of label 63.
+digraph planner {
+    graph [ordering=out];
+    node [shape=circle];
+    edge [dir=none];
+";
+
+/// A planner's text as Graphviz text: its tree and, beside it, our plan.
+fn picture(text: &str) -> Result<String, Failed> {
+    let planned = Planned::out(Text::of(text, "planner")?.file()?)?;
+    let mut made = HEAD.to_string() + "    subgraph cluster_planner {\n        label=\"planner\";\n";
+    for (v, (above, _)) in planned.above().into_iter().enumerate() {
+        made += &format!("        p{} [label=\"p{}: {}\"];\n", v, v, planned.label(v));
+        made += &above.map_or(String::new(), |w| format!("        p{} -> p{};\n", w, v));
+    }
+    made += "    }\n    subgraph cluster_plan {\n        label=\"plan\";\n";
+    let tree = Tree::of(&read_plan(&planned.plan).expect("a plan, as is proved"));
+    for (v, node) in planned.of_plan().into_iter().enumerate() {
+        made += &match node {
+            Some(u) => format!("        {} [label=\"{}: {}\\np{}\"];\n", v, v, planned.label(u), u),
+            None => format!("        {} [shape=point];\n", v),
+        };
+        if let Some((left, right)) = tree.children[v] {
+            made += &format!("        {} -> {};\n        {} -> {} [style=dashed];\n", v, left, v, right);
+        }
+    }
+    Ok(made + "    }\n}\n")
+}
