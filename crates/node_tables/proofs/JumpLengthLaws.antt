@@ -3,6 +3,7 @@
 --     entry-is-jump      each entry is the length of the jump of the definition that the node tables go by
 --     length-choice      so a length of 1 is the parent's, and any other that of the parent's jump
 --     by-table, past-table   what child_jump tells below the table's end and past it
+--     sums-equal, sums-differ   the two distances by sums: d - e is e - f where d + f is e + e
 -- Assumes nothing.
 use Prim.Native.Nat.{ℕ, zero, suc, _+_, _-_, _≤_, _<_}
 use mathlib.Core.Path.{_≡_, refl, sym, ap, ap₂, _∙_, subst}
@@ -116,3 +117,12 @@ module _ (b : List ℕ) (p r : ℕ) where
   past-table h e =
       let q : 1024 ≤ depthCell b p + 1 = omega arith in
       e ∙ sym (rw (le-ltb (depthCell b p + 1) 1024 q))
+
+-- ---- the two distances, compared without a subtraction
+
+module _ (d e f : ℕ) (falls : e ≤ d) (falls-again : f ≤ e) where
+  pub sums-equal : (far near : ℕ) → d + f ≡ e + e → far ≡ twoDistances d e f far near
+  sums-equal far near s = rw (eq-eqb (d - e) (e - f) (omega arith))
+
+  pub sums-differ : (far near : ℕ) → (d + f ≡ e + e → ⊥) → near ≡ twoDistances d e f far near
+  sums-differ far near s = rw (ne-eqb (d - e) (e - f) (λ (q : d - e ≡ e - f). s (omega arith)))

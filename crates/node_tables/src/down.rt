@@ -15,7 +15,7 @@ fn by_length(length: u16, near: u16, far: u16) -> u16
     if length == 1 { near } else { far }
 }
 
-// The jump of a child of node p, by the two distances.
+// The jump of a child of node p, by the two distances: d - e is e - f where d + f is 2 e.
 fn by_distances(node_table: &[u16], p: usize) -> u16
     requires { ⌜ JumpArgs (now «node_table») p ⌝ }
     ensures { λ r. ⌜ r ≡ byDistances (now («node_table» .entry)) p ⌝ }
@@ -23,10 +23,10 @@ fn by_distances(node_table: &[u16], p: usize) -> u16
     let j = node_table[p * 4 + 1] as usize;
     let jj = node_table[j * 4 + 1];
     let far = jj as usize;
-    let d = node_table[p * 4 + 2];
-    let e = node_table[j * 4 + 2];
-    let f = node_table[far * 4 + 2];
-    if d - e == e - f { jj } else { p as u16 }
+    let d = node_table[p * 4 + 2] as usize;
+    let e = node_table[j * 4 + 2] as usize;
+    let f = node_table[far * 4 + 2] as usize;
+    if d + f == e + e { jj } else { p as u16 }
 }
 
 // The jump of a child of node p: its length by the table where the child's depth is below 1,024, else by the two distances.

@@ -21,8 +21,7 @@ write-down-requires c κs =
       postorder = s .pre .postorder;
       most = s .pre .most;
       room = omega (arith, l .write-up .kept .1 .0, s .pre .room);
-    } in
-    (
+    } in (
       down-args (s .args .kinds .now) (l .write-up .last .1 .0) args (λ t e. l .write-up .ensures t e .cells),
       c .before .before .jump-lengths .ensures,
     )

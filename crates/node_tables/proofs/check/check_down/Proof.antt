@@ -85,8 +85,7 @@ sub-v c = search needs
 down-matches-requires : tie.Need-down-matches-requires Inv-loop μ-loop
 down-matches-requires c κs =
     let a = c .before in
-    let s = entry a in
-    (
+    let s = entry a in (
       downs-args (s .args .n) (a .loop .v - 1) (s .args .node-table .now)
           (omega (arith, a .loop .inv .0, c .loop-test .taken)) (s .pre .0)
           (below a (c .loop-test .taken)),

@@ -74,8 +74,7 @@ write-node-requires : tie.Need-write-node-requires Inv-loop μ-loop
 write-node-requires c κs =
     let a = c .before .before in
     let s = a .before .before in
-    let e : a .loop .v ≡ a .loop .v - 1 + 1 = omega (arith, c .before .loop-test .taken) in
-    (
+    let e : a .loop .v ≡ a .loop .v - 1 + 1 = omega (arith, c .before .loop-test .taken) in (
       node-args (s .args .n) (a .loop .v - 1) (s .args .node-table .now) (a .loop .node-table)
           (subst (λ (i : ℕ). DownsWritten (s .args .n) i (s .args .node-table .now) (a .loop .node-table)) e (down a))
           (omega (arith, a .loop .inv .0, c .before .loop-test .taken)) (room a) (s .pre .0),
