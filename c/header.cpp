@@ -15,6 +15,9 @@ static int without_a_session() {
             return 1;
     if (whatif_branch(NULL, 0, NULL, 0, NULL, 0, NULL, 0, 0, 0, &state, &yes, &links) != WHATIF_REFUSED_LENT_LENGTH)
         return 2;
+    if (whatif_branch_with_upper(NULL, 0, NULL, 0, NULL, 0, NULL, 0, 0, 0, &state, &yes, &links) !=
+        WHATIF_REFUSED_LENT_LENGTH)
+        return 10;
     if (whatif_merge(NULL, 0, NULL, 0, NULL, 0) != WHATIF_REFUSED_TABLE_SHORT)
         return 8;
     if (whatif_agree(NULL, 0, NULL, 0, NULL, 0, &yes, &links) != WHATIF_REFUSED_TABLE_SHORT)

@@ -42,6 +42,9 @@ static void fresh_run(void) { answer = whatif_fresh_run(RULES, LIST, out, out + 
 static void branch_build(void) { answer = whatif_branch_build(BRANCH, TABLES); }
 static void branch_check(void) { answer = whatif_branch_check(BRANCH, TABLES, out); }
 static void ask(void) { answer = whatif_branch(BRANCH, TABLES, N - 1, 1, out, out + 1, out + 2); }
+static void ask_with_upper(void) {
+    answer = whatif_branch_with_upper(BRANCH, TABLES, N - 1, 1, out, out + 1, out + 2);
+}
 static void merge(void) { answer = whatif_merge(FOUR, FOUR, merged, sizeof merged); }
 static void agree(void) { answer = whatif_agree(SIXTEEN, SIXTEEN, lines, 4 * WHATIF_MAX_LINES, out, out + 1); }
 static void planner_out(void) {
@@ -76,6 +79,7 @@ static const struct call {
     {"branch build", branch_build, 3072},
     {"branch check", branch_check, 3072},
     {"branch question", ask, 1024},
+    {"branch question with upper", ask_with_upper, 1024},
     {"merge", merge, 1024},
     {"agreement", agree, 12 * 1024},
     {"planner out", planner_out, 1024},

@@ -62,14 +62,21 @@ static void fresh_run(const struct question *q) {
         printf("refused %u%s\n", answer, state == 9 && yes == 9 ? "" : ", and TOLD");
 }
 
-static void ask(uint32_t upper, uint32_t lower) {
-    uint32_t state = 9, yes = 9, links = 9;
-    uint32_t answer = whatif_branch(BRANCH_LENT, upper, lower, &state, &yes, &links);
-    printf("from %u to %u: ", upper, lower);
+static void print_answer(const char *from, uint32_t upper, uint32_t lower, uint32_t answer, const uint32_t *out) {
+    printf("from %s%u to %u: ", from, upper, lower);
     if (answer == WHATIF_ACCEPTED)
-        printf("%u %s %u\n", state, word(yes), links);
+        printf("%u %s %u\n", out[0], word(out[1]), out[2]);
     else
-        printf("refused %u%s\n", answer, state == 9 && yes == 9 && links == 9 ? "" : ", and TOLD");
+        printf("refused %u%s\n", answer, out[0] == 9 && out[1] == 9 && out[2] == 9 ? "" : ", and TOLD");
+}
+
+/* The word with the upper node's label, and the word from below it. */
+static void ask(uint32_t upper, uint32_t lower) {
+    uint32_t with[3] = {9, 9, 9}, below[3] = {9, 9, 9};
+    uint32_t answer = whatif_branch_with_upper(BRANCH_LENT, upper, lower, &with[0], &with[1], &with[2]);
+    print_answer("", upper, lower, answer, with);
+    answer = whatif_branch(BRANCH_LENT, upper, lower, &below[0], &below[1], &below[2]);
+    print_answer("below ", upper, lower, answer, below);
 }
 
 static void branch_tables(void) {
@@ -83,6 +90,7 @@ static void branch_tables(void) {
     ask(6, 0);
     ask(5, 3);
     ask(3, 3);
+    ask(6, 6);
     ask(5, 0);
     ask(6, 65536 + 3);
     node_table[4 * 3 + 1] = 7;

@@ -37,8 +37,8 @@ extern "C" {
 
 /* This header's version, as text and as major * 10000 + minor * 100 + patch. whatif_version() is the archive's: before
  * 1.0 a program is to use both of one minor version. */
-#define WHATIF_VERSION "0.2.0"
-#define WHATIF_VERSION_NUMBER 200u
+#define WHATIF_VERSION "0.3.0"
+#define WHATIF_VERSION_NUMBER 300u
 
 /* Limits: nodes of a plan (1 to), states and labels of a table (1 to), changes in a list (0 to). */
 #define WHATIF_MAX_NODES 65535u
@@ -185,8 +185,8 @@ uint32_t whatif_branch_check(const uint8_t *plan, size_t plan_len, const uint8_t
                              size_t state_table_len, uint32_t *yes);
 
 /*
- * Branch question: the branch table reads the labels from node `upper` down to node `lower`, both included, from
- * state 0 on. The same node twice is a word of one letter.
+ * Branch question: the branch table reads the labels from below node `upper` down to node `lower`, from state 0 on: the
+ * label of `upper` is not read. The same node twice is the empty word: state 0, and its mark decides.
  * Lent:    the plan, the branch table and the tables of whatif_branch_build, read. N, S and K are those of the
  *          headers of the plan and the branch table.
  * Written: *state, the state after the last label; *yes, 1 where its mark is 1, else 0; *links, the moves of the
@@ -200,6 +200,19 @@ uint32_t whatif_branch(const uint8_t *plan, size_t plan_len, const uint8_t *bran
                        const uint16_t *node_table, size_t node_table_len, const uint8_t *state_table,
                        size_t state_table_len, uint32_t upper, uint32_t lower, uint32_t *state, uint32_t *yes,
                        uint32_t *links);
+
+/*
+ * Branch question with the upper node's label: the branch table reads the labels from node `upper` down to node `lower`,
+ * both included, from state 0 on. The same node twice is a word of one letter.
+ * Lent:    as for whatif_branch.
+ * Written: as by whatif_branch; *links is the same number.
+ * Answers: WHATIF_ACCEPTED, or the first of 17, 13, 16, 18, as for whatif_branch; on tables not as built the label of
+ *          `upper` may lead outside too.
+ */
+uint32_t whatif_branch_with_upper(const uint8_t *plan, size_t plan_len, const uint8_t *branch, size_t branch_len,
+                                  const uint16_t *node_table, size_t node_table_len, const uint8_t *state_table,
+                                  size_t state_table_len, uint32_t upper, uint32_t lower, uint32_t *state,
+                                  uint32_t *yes, uint32_t *links);
 
 /*
  * Merge: writes one rule table that clears exactly the plans that both clear. State p of the first table and q of the

@@ -1,4 +1,4 @@
-/* The six calls on tables, on whatever an input lends. */
+/* The seven calls on tables, on whatever an input lends. */
 #include "calls.h"
 #include "whatif.h"
 
@@ -6,7 +6,11 @@ typedef uint32_t build_call(const uint8_t *, size_t, const uint8_t *, size_t, ui
 typedef uint32_t check_call(const uint8_t *, size_t, const uint8_t *, size_t, const uint16_t *, size_t, const uint8_t *,
                             size_t, uint32_t *);
 
-/* What the six have in common: plan and table, and the two tables of the nodes. */
+/* The branch question, in either reading. */
+typedef uint32_t branch_call(const uint8_t *, size_t, const uint8_t *, size_t, const uint16_t *, size_t, const uint8_t *,
+                             size_t, uint32_t, uint32_t, uint32_t *, uint32_t *, uint32_t *);
+
+/* What the seven have in common: plan and table, and the two tables of the nodes. */
 struct tables {
     struct lent plan, table, nodes, states;
 };
@@ -92,14 +96,27 @@ uint32_t try_fresh_run(struct input *in) {
     return answer;
 }
 
-uint32_t try_branch(struct input *in) {
-    uint32_t upper = take(in, 4), lower = take(in, 4), out[3] = {UNSET, UNSET, UNSET};
-    struct tables t = lend_tables(in);
-    uint32_t answer = whatif_branch(LENT(t.plan), LENT(t.table), LENT(t.nodes), LENT(t.states), upper, lower, &out[0],
-                                    &out[1], &out[2]);
-    all_held(&t);
+static uint32_t ask(branch_call *call, const struct tables *t, uint32_t upper, uint32_t lower, uint32_t *out) {
+    uint32_t answer = call(LENT(t->plan), LENT(t->table), LENT(t->nodes), LENT(t->states), upper, lower, &out[0],
+                           &out[1], &out[2]);
+    all_held(t);
     told(answer, out, 3);
-    int fits = out[0] < named(&t.table, 0) && out[1] <= 1 && out[2] < named(&t.plan, 0);
+    int fits = out[0] < named(&t->table, 0) && out[1] <= 1 && out[2] < named(&t->plan, 0);
     sure(answer != WHATIF_ACCEPTED || fits, "a branch question tells a state, and fewer links than nodes");
+    return answer;
+}
+
+/* In both readings: the same refusal or the same links, unless the upper node's label leads outside. */
+uint32_t try_branch(struct input *in) {
+    uint32_t upper = take(in, 4), lower = take(in, 4), out[3] = {UNSET, UNSET, UNSET}, below[3] = {UNSET, UNSET, UNSET};
+    struct tables t = lend_tables(in);
+    uint32_t answer = ask(whatif_branch_with_upper, &t, upper, lower, out);
+    uint32_t answer_below = ask(whatif_branch, &t, upper, lower, below);
+    if (answer_below != answer)
+        sure(answer == WHATIF_REFUSED_LENT_VALUE && answer_below == WHATIF_ACCEPTED, "both readings are refused alike");
+    else
+        sure(below[2] == out[2], "both readings tell the same links");
+    if (answer_below == WHATIF_ACCEPTED && upper == lower)
+        sure(below[0] == 0 && below[2] == 0, "the empty word ends in state 0");
     return answer;
 }

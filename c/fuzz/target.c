@@ -26,7 +26,7 @@ static const struct {
     [FRESH_RUN] = {"whatif_fresh_run", try_fresh_run, 1u | FROM(2, 10) | FROM(12, 15)},
     [BRANCH_BUILD] = {"whatif_branch_build", try_branch_build, 1u | FROM(2, 11)},
     [BRANCH_CHECK] = {"whatif_branch_check", try_branch_check, 1u | FROM(2, 11)},
-    [BRANCH] = {"whatif_branch", try_branch, 1u | FROM(13, 13) | FROM(16, 18)},
+    [BRANCH] = {"whatif_branch, both readings", try_branch, 1u | FROM(13, 13) | FROM(16, 18)},
     [LOAD] = {"whatif_load", try_load, FROM(0, 11)},
     [START] = {"whatif_start", try_start, FROM(0, 1) | FROM(12, 15) | FROM(17, 18)},
     [ADVANCE] = {"whatif_advance", try_advance, FROM(0, 1) | FROM(17, 18)},

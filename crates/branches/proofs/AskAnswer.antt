@@ -21,6 +21,7 @@ use Rattle.tables.specs.declared.branch_climb.Composed.{Composed}
 use Rattle.tables.specs.Compose.{mapAt, Counted, composition, ComposeArgs, ComposedTo}
 use Rattle.tables.proofs.FollowLaws.{MapOf, identity-map}
 use Rattle.tables.proofs.MapHalves.{getD-mapAt, identity, identity-map as identity-at}
+use Rattle.branches.specs.declared.answers.Reading.{Reading}
 use Rattle.branches.specs.declared.answers.Branching.{Branching}
 use Rattle.branches.specs.declared.answers.Branching.the-variants.{Refused}
 use Rattle.branches.specs.Question.{branchOn, branchAnswer}
@@ -28,8 +29,8 @@ use Rattle.branches.specs.inner.Finish.{finish, FinishArgs, AnswerArgs}
 use Rattle.branches.proofs.AskParts.{Handed, composition-map, composition-is, finish-is}
 use Rattle.branches.proofs.AskParts.{branch-on-parts, branchFinish}
 
-module _ (p r nodeTable stateTable : List ℕ) (u l n s k to : ℕ) (ls st mk : List ℕ) (A : AnswerArgs p r nodeTable stateTable u l)
-    (H : Handed p r nodeTable u n s k to ls st mk) where
+module _ (reading : Reading) (p r nodeTable stateTable : List ℕ) (u l n s k to : ℕ) (ls st mk : List ℕ)
+    (A : AnswerArgs p r nodeTable stateTable u l) (H : Handed p r nodeTable u n s k to ls st mk) where
   fit : Headed branchTables p r (length nodeTable) (length stateTable)
   fit = headed-are branchTables p r (length nodeTable) (length stateTable) (A .fits)
 
@@ -82,27 +83,29 @@ module _ (p r nodeTable stateTable : List ℕ) (u l n s k to : ℕ) (ls st mk : 
         let M : MapOf s (found .map) =
         composition-map s k ls st stateTable n nodeTable l to (tabulate s (λ q. q)) found (identity-map s) (composed-as true h) in
         record {
-          least = omega (arith, fit .headers .in-limits .states, H .states);
-          upper = omega (arith, labels-long, A .upper, H .nodes);
-          steps-room = omega (arith, steps-long, steps-product);
+          first = record {
+            least = omega (arith, fit .headers .in-limits .states, H .states);
+            upper = omega (arith, labels-long, A .upper, H .nodes);
+            steps-room = omega (arith, steps-long, steps-product);
+          };
           marks-room = omega (arith, marks-long);
           maps-room = omega (arith, C .long, C .within, few);
           below = λ q i. rw (getD-mapAt s after (x .at) q i) at (M .below q i);
         }
 
-    pub answer-none : x .ok ≡ false → Refused 18 ≡ branchAnswer 0 (branchOn p r nodeTable stateTable u l)
+    pub answer-none : x .ok ≡ false → Refused 18 ≡ branchAnswer 0 (branchOn reading p r nodeTable stateTable u l)
     unfolding branchAnswer
     answer-none h =
         ap (λ (o : Option Counted).
-        branchAnswer 0 (andThen o (λ (y : Counted). branchFinish p r nodeTable stateTable u l (y .map) (y .links))))
-        (sym (composed-as false h) ∙ composition-is p r nodeTable stateTable u l n s k to ls st mk H)
-        ∙ ap (branchAnswer 0) (sym (branch-on-parts p r nodeTable stateTable u l))
+        branchAnswer 0 (andThen o (λ (y : Counted). branchFinish reading p r nodeTable stateTable u l (y .map) (y .links))))
+        (sym (composed-as false h) ∙ composition-is reading p r nodeTable stateTable u l n s k to ls st mk H)
+        ∙ ap (branchAnswer 0) (sym (branch-on-parts reading p r nodeTable stateTable u l))
 
     pub answer-some : (y : Branching) → x .ok ≡ true
-        → y ≡ branchAnswer 0 (finish s k ls st mk u (mapAt s after (x .at)) (x .links))
-        → y ≡ branchAnswer 0 (branchOn p r nodeTable stateTable u l)
+        → y ≡ branchAnswer 0 (finish reading s k ls st mk u (mapAt s after (x .at)) (x .links))
+        → y ≡ branchAnswer 0 (branchOn reading p r nodeTable stateTable u l)
     answer-some y h q =
-        q ∙ ap (branchAnswer 0) (finish-is p r nodeTable stateTable u l n s k to ls st mk H (found .map) (found .links)
-        ∙ ap (λ (o : Option Counted). andThen o (λ (y : Counted). branchFinish p r nodeTable stateTable u l (y .map) (y .links)))
-        (sym (composed-as true h) ∙ composition-is p r nodeTable stateTable u l n s k to ls st mk H)
-        ∙ sym (branch-on-parts p r nodeTable stateTable u l))
+        q ∙ ap (branchAnswer 0) (finish-is reading p r nodeTable stateTable u l n s k to ls st mk H (found .map) (found .links)
+        ∙ ap (λ (o : Option Counted). andThen o (λ (y : Counted). branchFinish reading p r nodeTable stateTable u l (y .map) (y .links)))
+        (sym (composed-as true h) ∙ composition-is reading p r nodeTable stateTable u l n s k to ls st mk H)
+        ∙ sym (branch-on-parts reading p r nodeTable stateTable u l))

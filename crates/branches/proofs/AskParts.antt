@@ -1,11 +1,11 @@
 -- The answer of a branch question by its composition.
 --     move-map-run       moveMap is runMove on the runs of plan and branch table
---     composition-map    a composed map has s entries, all below s
+--     composition-map    a composed map has s entries, all below s; moves-map: so has what moves make of one
 --     branch-on-parts    branchOn is the composition on the runs of plan and branch table, finished
 --     on-none, on-some   what is told where there is none, and where there is one
 -- Assumes nothing.
 use Prim.Native.Nat.{ℕ, _+_, _-_, _*_}
-use mathlib.Core.Path.{_≡_, refl, ap, subst}
+use mathlib.Core.Path.{_≡_, refl, sym, ap, _∙_, subst}
 use mathlib.Core.List.{List, [], _∷_}
 use mathlib.Core.Option.{Option, none, some, Option·some-injective}
 use lib.ListN.{length, getD, take, drop}
@@ -20,6 +20,8 @@ use Rattle.node_tables.specs.Cells.{depthCell, cellForest}
 use Rattle.tables.specs.Compose.{runMove, Counted, composition, labelMove}
 use Rattle.tables.proofs.FollowLaws.{MapOf}
 use Rattle.tables.proofs.MoveMaps.{run-move-map}
+use Rattle.branches.specs.declared.answers.Reading.{Reading}
+use Rattle.branches.specs.declared.answers.Reading.the-variants.{WithUpper, BelowUpper}
 use Rattle.branches.specs.Question.{moveMap, firstState, Branched, branched, branchOn}
 use Rattle.branches.specs.inner.Finish.{firstOf, finish}
 
@@ -75,14 +77,22 @@ carry-same f g e (i ∷ ms) m = rw (e i m) (go (g i m) (λ x. carry-same f g e m
     go none h = refl
     go (some x) h = h x
 
-module _ (p r nodeTable stateTable : List ℕ) (u l : ℕ) where
+-- what moves make of a map of s states is such a map
+pub moves-map : (p r stateTable : List ℕ) (ms : List Move) (m m′ : List ℕ) → MapOf (stateCount r) m
+    → carry (moveMap p r stateTable) ms m ≡ some m′ → MapOf (stateCount r) m′
+moves-map p r stateTable ms m m′ M e =
+    carry-map (stateCount r) (labelCount r) (labelsIn p) (branchSteps r) stateTable ms m m′ M
+    (sym (carry-same (moveMap p r stateTable) (runMove (stateCount r) (labelCount r) (labelsIn p) (branchSteps r) stateTable)
+    (move-map-run p r stateTable) ms m) ∙ e)
+
+module _ (reading : Reading) (p r nodeTable stateTable : List ℕ) (u l : ℕ) where
   abbrev pub branchComposition : Option Counted
   branchComposition =
       composition (nodeCount p) (stateCount r) (labelCount r) (labelsIn p) (branchSteps r) nodeTable stateTable l
       (depthCell nodeTable u) (tabulate (stateCount r) (λ q. q))
 
   abbrev pub branchFinish : List ℕ → ℕ → Option Branched
-  branchFinish m c = finish (stateCount r) (labelCount r) (labelsIn p) (branchSteps r) (branchMarks r) u m c
+  branchFinish m c = finish reading (stateCount r) (labelCount r) (labelsIn p) (branchSteps r) (branchMarks r) u m c
 
   abbrev branchMove : Move → List ℕ → Option (List ℕ)
   branchMove = runMove (stateCount r) (labelCount r) (labelsIn p) (branchSteps r) stateTable
@@ -92,16 +102,26 @@ module _ (p r nodeTable stateTable : List ℕ) (u l : ℕ) where
 
   -- as branchOn has it: what is told of the map m of the moves ms
   abbrev result : List Move → List ℕ → Option Branched
-  result ms m = andThen (firstState p r u) (λ q. some (branched (branchAutomaton r) (getD m q 0) (length ms)))
+  result ms m = andThen (firstState reading p r u) (λ q. some (branched (branchAutomaton r) (getD m q 0) (length ms)))
 
-  pub branch-on-parts : branchOn p r nodeTable stateTable u l ≡ andThen branchComposition (λ x. branchFinish (x .map) (x .links))
-  unfolding branchOn composition finish firstOf firstState
+  -- the first state is read from the runs of labels and steps
+  first-runs : firstState reading p r u ≡ firstOf reading (stateCount r) (labelCount r) (labelsIn p) (branchSteps r) u
+  unfolding firstState firstOf
+  first-runs = go reading
+    where
+      go : (w : Reading) → firstState w p r u ≡ firstOf w (stateCount r) (labelCount r) (labelsIn p) (branchSteps r) u
+      go WithUpper = refl
+      go BelowUpper = refl
+
+  pub branch-on-parts : branchOn reading p r nodeTable stateTable u l ≡ andThen branchComposition (λ x. branchFinish (x .map) (x .links))
+  unfolding branchOn composition finish
   branch-on-parts = climbed (climb (cellForest (nodeCount p) nodeTable) l (depthCell nodeTable u))
     where
       carried : (ms : List Move) (o : Option (List ℕ))
           → andThen o (result ms) ≡ andThen (andThen o (count ms)) (λ (x : Counted). branchFinish (x .map) (x .links))
       carried ms none = refl
-      carried ms (some m) = refl
+      carried ms (some m) =
+          ap (λ (o : Option ℕ). andThen o (λ q. some (branched (branchAutomaton r) (getD m q 0) (length ms)))) first-runs
 
       climbed : (o : Option (List Move))
           → andThen o (λ ms. andThen (carry (moveMap p r stateTable) ms (tabulate (stateCount r) (λ q. q))) (result ms))
@@ -138,11 +158,11 @@ handed p r nodeTable u n s k to a b c d e = record {
   mark-run = branch-marks-part-exact r s k e b c;
 }
 
-module _ (p r nodeTable stateTable : List ℕ) (u l n s k to : ℕ) (ls st mk : List ℕ)
+module _ (reading : Reading) (p r nodeTable stateTable : List ℕ) (u l n s k to : ℕ) (ls st mk : List ℕ)
     (H : Handed p r nodeTable u n s k to ls st mk) where
   pub composition-is : composition n s k ls st nodeTable stateTable l to (tabulate s (λ q. q))
-      ≡ branchComposition p r nodeTable stateTable u l
+      ≡ branchComposition reading p r nodeTable stateTable u l
   composition-is = rw (H .nodes, H .states, H .labels, H .depth, H .label-run, H .step-run)
 
-  pub finish-is : (m : List ℕ) (c : ℕ) → finish s k ls st mk u m c ≡ branchFinish p r nodeTable stateTable u l m c
+  pub finish-is : (m : List ℕ) (c : ℕ) → finish reading s k ls st mk u m c ≡ branchFinish reading p r nodeTable stateTable u l m c
   finish-is m c = rw (H .states, H .labels, H .label-run, H .step-run, H .mark-run)

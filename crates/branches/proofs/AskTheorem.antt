@@ -3,58 +3,70 @@
 --     ask-apart    16 where it is not, so 18 never
 --     ask-few      few links
 --     ask-done     the whole promise, for whatever answers as askAnswer does
+--     empty-word   the same node twice, from below it: state 0, its mark and no links
 -- Assumes nothing.
 use Prim.Native.Nat.{ℕ, _+_, _-_, _*_, _≤_, _<_}
-use mathlib.Core.Path.{_≡_, refl, sym, ap, ap₂, _∙_}
+use mathlib.Core.Path.{_≡_, refl, sym, ap, ap₂, _∙_, subst}
 use mathlib.Core.Bool.{Bool, true, false}
-use mathlib.Core.List.{List, _++_}
+use mathlib.Core.List.{List, []}
 use mathlib.Core.Option.{Option, some}
 use native.Mathlib.Omega.{arith}
 use lib.ListN.{length, getD}
 use borrow.Author.Tests.{lt-ltb}
 use Rattle.trees.specs.Tree.{Tree, size, height, labelAt}
 use Rattle.trees.specs.Automaton.{WordAutomaton, wordRun}
-use Rattle.trees.specs.Numbering.{sub, depth, ancestor, labelsDown, word, AtOrBelow}
+use Rattle.trees.specs.Numbering.{sub, depth, ancestor, labelsDown, wordBelow, AtOrBelow}
 use Rattle.trees.specs.Climb.{Move, andThen, climb, carry, walk, moveCount, digits}
 use Rattle.list_laws.specs.Rows.{tabulate}
-use Rattle.trees.proofs.BranchMapLaws.{labelsDown-one, labelsDown-add}
+use Rattle.trees.proofs.WordLaws.{word-below}
 use Rattle.trees.proofs.HeightLaws.{depth-height}
 use Rattle.trees.proofs.IntervalLaws.{ancestor-interval, interval-ancestor, above-at}
 use Rattle.trees.proofs.MoveCount.{moveCount-done, moveCount-bound}
 use Rattle.list_laws.proofs.Choice.{le-or}
+use Rattle.list_laws.proofs.RowLaws.{getD-tabulate}
+use Rattle.trees.proofs.ClimbLaws.{climb-done}
 use Rattle.trees.proofs.TreeClimbs.{Climbed, climb-tree}
 use Rattle.formats.specs.Plan.{nodeCount, labelsIn, planTree}
 use Rattle.formats.specs.Rules.{stateCount, labelCount, branchAutomaton}
 use Rattle.formats.specs.Built.{BranchBuilt}
+use Rattle.formats.specs.Buffers.{headedBuffersFit, branchTables}
+use Rattle.formats.proofs.BufferLaws.{headed-are}
 use Rattle.node_tables.specs.Cells.{depthCell, cellForest}
 use Rattle.node_tables.specs.Cells.{isInSubtreeOn}
+use Rattle.branches.specs.declared.answers.Reading.{Reading}
+use Rattle.branches.specs.declared.answers.Reading.the-variants.{WithUpper, BelowUpper}
 use Rattle.branches.specs.declared.answers.Branching.{Branching}
-use Rattle.branches.specs.declared.answers.Branching.the-variants.{Refused}
+use Rattle.branches.specs.declared.answers.Branching.the-variants.{Answered, Refused}
 use Rattle.branches.specs.Question.{moveMap, firstState, Branched, branched, branchOn}
-use Rattle.branches.specs.Question.{branchAnswer, askAnswer, branchNumber}
-use Rattle.branches.specs.Promise.{wordAnswer, AskDone}
+use Rattle.branches.specs.Question.{branchAnswer, askNumber, askAnswer, branchNumber}
+use Rattle.branches.specs.OutOfRange.{BranchOutOfRange}
+use Rattle.branches.specs.Promise.{wordOf, wordAnswer, AnswerKept, linksTold, AskDone}
 use Rattle.branches.proofs.FinishLaws.{in-subtree-is, is-in-subtree}
 use Rattle.branches.proofs.WordWalks.{labelStep, walk-identity}
 use Rattle.branches.proofs.AskBuilt.{size-is, fits-built, built-links, built-climb, built-label}
-use Rattle.branches.proofs.AskBuilt.{label-below, built-step}
-use Rattle.branches.proofs.AskChecks.{ask-number, ask-16, ask-on}
+use Rattle.branches.proofs.AskBuilt.{table-passes, label-below, built-step}
+use Rattle.branches.proofs.AskChecks.{ask-number, ask-13-upper, ask-13-lower, ask-16, ask-on, ask-not-below}
 use Rattle.branches.proofs.AskClimb.{carry-built}
-use Rattle.branches.proofs.AskRange.{ask-out-of-range}
+use Rattle.branches.proofs.AskRange.{ask-out-of-range, usable-in-range}
+use Rattle.branches.proofs.AskKept.{ask-kept}
 
 -- a value that is there is handed on
 on-some : {X Y : Type 0} (o : Option X) (x : X) (f : X → Option Y) → o ≡ some x → andThen o f ≡ f x
 on-some o x f e = ap (λ (y : Option _). andThen y f) e
 
--- the word from u down to v is u's label and then the labels below it
-word-down : (B : WordAutomaton) (t : Tree) (u v : ℕ) → ancestor t v (depth t v - depth t u) ≡ u
-    → wordRun B 0 (word t u v) ≡ wordRun B (B .step 0 (labelAt t u)) (labelsDown t v (depth t v - depth t u))
-unfolding word
-word-down B t u v e =
-    let n : ℕ = depth t v - depth t u in
-    ap (wordRun B 0) (labelsDown-add t v n 1 ∙ ap (λ (x : ℕ). labelsDown t x 1 ++ labelsDown t v n) e
-    ∙ ap (λ (w : List ℕ). w ++ labelsDown t v n) (labelsDown-one t u))
+-- the state that the word below u starts in
+abbrev firstOn : Reading → WordAutomaton → Tree → ℕ → ℕ
+firstOn WithUpper B t u = B .step 0 (labelAt t u)
+firstOn BelowUpper B t u = 0
 
-module _ (p r nodeTable stateTable : List ℕ) (D : BranchBuilt p r nodeTable stateTable) (u l : ℕ)
+-- from there on both readings go through the labels below u
+word-down : (reading : Reading) (B : WordAutomaton) (t : Tree) (u v : ℕ) → v < size t → AtOrBelow t u v
+    → wordRun B 0 (wordOf reading t u v) ≡ wordRun B (firstOn reading B t u) (labelsDown t v (depth t v - depth t u))
+unfolding wordBelow
+word-down WithUpper B t u v h a = ap (wordRun B 0) (word-below t u v h a)
+word-down BelowUpper B t u v h a = refl
+
+module _ (reading : Reading) (p r nodeTable stateTable : List ℕ) (D : BranchBuilt p r nodeTable stateTable) (u l : ℕ)
     (hu : u < nodeCount p) (hl : l < nodeCount p) where
   abbrev t : Tree
   t = planTree p
@@ -70,14 +82,28 @@ module _ (p r nodeTable stateTable : List ℕ) (D : BranchBuilt p r nodeTable st
 
   -- ---- the answer
 
-  first-built : firstState p r u ≡ some (B .step 0 (labelAt t u))
+  abbrev first : ℕ
+  first = firstOn reading B t u
+
+  first-built : firstState reading p r u ≡ some first
   unfolding firstState
-  first-built =
-      rw (
-        lt-ltb (getD (labelsIn p) u 0) (labelCount r) (label-below p r nodeTable stateTable D u),
-        built-label p r nodeTable stateTable D u,
-        lt-ltb (B .step 0 (labelAt t u)) (stateCount r) (built-step p r nodeTable stateTable D 0 (labelAt t u)),
-      )
+  first-built = go reading
+    where
+      go : (w : Reading) → firstState w p r u ≡ some (firstOn w B t u)
+      go WithUpper =
+          rw (
+            lt-ltb (getD (labelsIn p) u 0) (labelCount r) (label-below p r nodeTable stateTable D u),
+            built-label p r nodeTable stateTable D u,
+            lt-ltb (B .step 0 (labelAt t u)) (stateCount r) (built-step p r nodeTable stateTable D 0 (labelAt t u)),
+          )
+      go BelowUpper = refl
+
+  first-below : first < stateCount r
+  first-below = go reading
+    where
+      go : (w : Reading) → firstOn w B t u < stateCount r
+      go WithUpper = built-step p r nodeTable stateTable D 0 (labelAt t u)
+      go BelowUpper = omega (arith, table-passes p r nodeTable stateTable D .states-least)
 
   module _ (A : AtOrBelow (planTree p) u l) where
     above : AtOrBelow t u l
@@ -102,28 +128,26 @@ module _ (p r nodeTable stateTable : List ℕ) (D : BranchBuilt p r nodeTable st
         ≡ some walked
     carried = carry-built p r nodeTable stateTable D l (depth t u) (climbed .moves) lower-in (above-is .0) (climbed .found)
 
-    state-built : getD walked (B .step 0 (labelAt t u)) 0
-        ≡ wordRun B 0 (word t u l)
+    state-built : getD walked first 0 ≡ wordRun B 0 (wordOf reading t u l)
     state-built =
-        walk-identity B t (built-step p r nodeTable stateTable D) l (depth t l - depth t u) (B .step 0 (labelAt t u))
-        (built-step p r nodeTable stateTable D 0 (labelAt t u))
-        ∙ sym (word-down B t u l (above-is .1))
+        walk-identity B t (built-step p r nodeTable stateTable D) l (depth t l - depth t u) first first-below
+        ∙ sym (word-down reading B t u l lower-in above)
 
     abbrev result : List Move → List ℕ → ℕ → Option Branched
     result ms m q = some (branched B (getD m q 0) (length ms))
 
-    branch-on-built : branchOn p r nodeTable stateTable u l
-        ≡ some (branched B (wordRun B 0 (word t u l)) (moveCount (depth t l) (depth t u)))
+    branch-on-built : branchOn reading p r nodeTable stateTable u l
+        ≡ some (branched B (wordRun B 0 (wordOf reading t u l)) (moveCount (depth t l) (depth t u)))
     unfolding branchOn
     branch-on-built =
         on-some (climb (cellForest (nodeCount p) nodeTable) l (depthCell nodeTable u)) (climbed .moves)
         (λ ms. andThen (carry (moveMap p r stateTable) ms (tabulate (stateCount r) (λ q. q)))
-        (λ m. andThen (firstState p r u) (result ms m)))
+        (λ m. andThen (firstState reading p r u) (result ms m)))
         climb-built
         ∙ on-some (carry (moveMap p r stateTable) (climbed .moves) (tabulate (stateCount r) (λ q. q)))
         walked
-        (λ m. andThen (firstState p r u) (result (climbed .moves) m)) carried
-        ∙ on-some (firstState p r u) (B .step 0 (labelAt t u))
+        (λ m. andThen (firstState reading p r u) (result (climbed .moves) m)) carried
+        ∙ on-some (firstState reading p r u) first
         (result (climbed .moves) walked) first-built
         ∙ ap₂ (λ (q n : ℕ). some (branched B q n)) state-built (climbed .count)
 
@@ -132,38 +156,94 @@ module _ (p r nodeTable stateTable : List ℕ) (D : BranchBuilt p r nodeTable st
         let w = ancestor-interval t u l (above .0) lower-in (above .1) (above .2) in
         is-in-subtree nodeTable u l (w .0) (rw (built-links p r nodeTable stateTable D .sizes u upper-in) (w .1))
 
-    pub ask-built : askAnswer p r nodeTable stateTable u l ≡ wordAnswer p r u l
+    pub ask-built : askAnswer reading p r nodeTable stateTable u l ≡ wordAnswer reading p r u l
     unfolding wordAnswer branchAnswer
     ask-built =
-        ask-on p r nodeTable stateTable u l (fits-built p r nodeTable stateTable D) hu hl below-built ∙ ap (branchAnswer 0) branch-on-built
+        ask-on reading p r nodeTable stateTable u l (fits-built p r nodeTable stateTable D) hu hl below-built ∙ ap (branchAnswer 0) branch-on-built
 
   -- ---- 16
 
-  pub ask-apart : (AtOrBelow (planTree p) u l → ⊥) → askAnswer p r nodeTable stateTable u l ≡ Refused 16
-  ask-apart never = sym (ask-16 p r nodeTable stateTable u l (fits-built p r nodeTable stateTable D) hu hl (go (isInSubtreeOn nodeTable u l) refl))
+  -- what the lent size says is so
+  subtree-above : isInSubtreeOn nodeTable u l ≡ true → AtOrBelow (planTree p) u l
+  subtree-above e =
+      let w = in-subtree-is nodeTable u l e in
+      let i : u < l + size (sub t u) = rw (← built-links p r nodeTable stateTable D .sizes u upper-in) (w .1) in
+      interval-ancestor t u l upper-in lower-in (w .0, i)
+
+  pub ask-apart : (AtOrBelow (planTree p) u l → ⊥) → askAnswer reading p r nodeTable stateTable u l ≡ Refused 16
+  ask-apart never = sym (ask-16 reading p r nodeTable stateTable u l (fits-built p r nodeTable stateTable D) hu hl (go (isInSubtreeOn nodeTable u l) refl))
     where
       go : (b : Bool) → isInSubtreeOn nodeTable u l ≡ b → b ≡ false
-      go true e =
-          let w = in-subtree-is nodeTable u l e in
-          let i : u < l + size (sub t u) = rw (← built-links p r nodeTable stateTable D .sizes u upper-in) (w .1) in
-          absurd (never (interval-ancestor t u l upper-in lower-in (w .0, i)))
+      go true e = absurd (never (subtree-above e))
       go false e = refl
 
   -- ---- few links
 
-  pub ask-few : moveCount (depth (planTree p) l) (depth (planTree p) u) ≤ 3 * digits (height (planTree p))
-  ask-few =
+  moves-few : moveCount (depth (planTree p) l) (depth (planTree p) u) ≤ 3 * digits (height (planTree p))
+  moves-few =
       le-or (depth t l) (depth t u)
       (λ h. omega (arith, moveCount-done (depth t l) (depth t u) h))
       (λ h. moveCount-bound (depth t l) (depth t u) (height t) (omega arith) (depth-height t l lower-in))
 
-pub ask-done : (p r nodeTable stateTable : List ℕ) (u l : ℕ) (answer : Branching) → answer ≡ askAnswer p r nodeTable stateTable u l
-    → AskDone p r nodeTable stateTable u l answer
-ask-done p r nodeTable stateTable u l answer e = record {
-  result = e;
-  number = ap branchNumber e ∙ ask-number p r nodeTable stateTable u l;
-  out-of-range = λ i. ask-out-of-range p r nodeTable stateTable u l (sym (ask-number p r nodeTable stateTable u l) ∙ sym (ap branchNumber e) ∙ i);
-  built = λ D hu hl A. e ∙ ask-built p r nodeTable stateTable D u l hu hl A;
-  apart = λ D hu hl never. e ∙ ask-apart p r nodeTable stateTable D u l hu hl never;
-  few = λ D hu hl. ask-few p r nodeTable stateTable D u l hu hl;
-}
+  below-few : (b : Bool) → isInSubtreeOn nodeTable u l ≡ b
+      → linksTold (askAnswer reading p r nodeTable stateTable u l) ≤ 3 * digits (height (planTree p))
+  unfolding wordAnswer
+  below-few true e = rw (ask-built (subtree-above e)) moves-few
+  below-few false e = rw (← ask-16 reading p r nodeTable stateTable u l (fits-built p r nodeTable stateTable D) hu hl e) (omega arith)
+
+module _ (reading : Reading) (p r nodeTable stateTable : List ℕ) (u l : ℕ) where
+  -- the links told: none where it is refused
+  pub ask-few : BranchBuilt p r nodeTable stateTable
+      → linksTold (askAnswer reading p r nodeTable stateTable u l) ≤ 3 * digits (height (planTree p))
+  ask-few D =
+      let f = fits-built p r nodeTable stateTable D in
+      le-or (nodeCount p) u
+      (λ h. rw (← ask-13-upper reading p r nodeTable stateTable u l f h) (omega arith))
+      (λ hu. le-or (nodeCount p) l
+      (λ h. rw (← ask-13-lower reading p r nodeTable stateTable u l f h) (omega arith))
+      (λ hl. below-few reading p r nodeTable stateTable D u l hu hl (isInSubtreeOn nodeTable u l) refl))
+
+  pub ask-done : (answer : Branching) → answer ≡ askAnswer reading p r nodeTable stateTable u l
+      → AskDone reading p r nodeTable stateTable u l answer
+  ask-done answer e =
+      let number : branchNumber answer ≡ askNumber reading p r nodeTable stateTable u l =
+      ap branchNumber e ∙ ask-number reading p r nodeTable stateTable u l in
+      let cause : branchNumber answer ≡ 18 → BranchOutOfRange p r nodeTable stateTable =
+      λ i. ask-out-of-range p r nodeTable stateTable reading u l (sym number ∙ i) in
+      record {
+        result = e;
+        number = number;
+        properties = subst (AnswerKept p r nodeTable u l) (sym e) (ask-kept reading p r nodeTable stateTable u l);
+        not-below = λ f hu hl. rw e (ask-not-below reading p r nodeTable stateTable u l f hu hl);
+        out-of-range = cause;
+        usable = λ U i. usable-in-range p r nodeTable stateTable U (cause i);
+        built = λ D hu hl A. e ∙ ask-built reading p r nodeTable stateTable D u l hu hl A;
+        apart = λ D hu hl never. e ∙ ask-apart reading p r nodeTable stateTable D u l hu hl never;
+        few = λ D. subst (λ (a : Branching). linksTold a ≤ 3 * digits (height (planTree p))) (sym e) (ask-few D);
+      }
+
+-- ---- the empty word
+
+-- "the same node twice is the empty word, and the mark of state 0 decides", on whatever tables: where 17, 13 and 16 pass
+pub empty-word-lent : (p r nodeTable stateTable : List ℕ) (u : ℕ)
+    → headedBuffersFit branchTables p r (length nodeTable) (length stateTable) ≡ true → u < nodeCount p
+    → isInSubtreeOn nodeTable u u ≡ true
+    → askAnswer BelowUpper p r nodeTable stateTable u u ≡ Answered 0 (branchAutomaton r .accepting 0) 0
+unfolding branchOn firstState branchAnswer
+empty-word-lent p r nodeTable stateTable u f h i =
+    let z : 0 < stateCount r =
+    omega (arith, headed-are branchTables p r (length nodeTable) (length stateTable) f .headers .in-limits .states) in
+    ask-on BelowUpper p r nodeTable stateTable u u f h h i
+    ∙ ap (branchAnswer 0)
+    (on-some (climb (cellForest (nodeCount p) nodeTable) u (depthCell nodeTable u)) []
+    (λ ms. andThen (carry (moveMap p r stateTable) ms (tabulate (stateCount r) (λ q. q)))
+    (λ m. some (branched (branchAutomaton r) (getD m 0 0) (length ms))))
+    (climb-done (cellForest (nodeCount p) nodeTable) u (depthCell nodeTable u) (omega arith))
+    ∙ ap (λ (q : ℕ). some (branched (branchAutomaton r) q 0)) (getD-tabulate (stateCount r) (λ q. q) 0 z))
+
+pub empty-word : (p r nodeTable stateTable : List ℕ) → BranchBuilt p r nodeTable stateTable → (u : ℕ) → u < nodeCount p
+    → askAnswer BelowUpper p r nodeTable stateTable u u ≡ Answered 0 (branchAutomaton r .accepting 0) 0
+unfolding ancestor
+empty-word p r nodeTable stateTable D u h =
+    empty-word-lent p r nodeTable stateTable u (fits-built p r nodeTable stateTable D) h
+    (below-built BelowUpper p r nodeTable stateTable D u u h h (0, omega arith, refl))

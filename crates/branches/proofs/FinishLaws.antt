@@ -1,13 +1,12 @@
 -- Check 16, and the end of a branch question.
 --     in-subtree-is, is-in-subtree                       what it says, and back
---     first-is                                         the state after the upper node's label
---     finish-no-label, finish-no-state, finish-result    what is told of a composed map
+--     first-no-label, first-label, first-start           the first state, in each reading
+--     finish-none, finish-result                         what is told of a composed map
 -- Assumes nothing.
 use Prim.Native.Nat.{ℕ, _+_, _-_, _*_, _≤_, _<_}
 use mathlib.Core.Path.{_≡_, sym, ap, _∙_}
 use mathlib.Core.Bool.{true, false}
 use mathlib.Core.List.{List}
-use mathlib.Core.Option.{none, some}
 use native.Mathlib.Omega.{arith}
 use lib.Dec.{leb, ltb, eqb}
 use lib.ListN.{getD}
@@ -19,9 +18,11 @@ use Rattle.node_tables.specs.Cells.{sizeCell}
 use Rattle.node_tables.specs.Cells.{isInSubtreeOn}
 use Rattle.tables.specs.Compose.{mapAt}
 use Rattle.tables.proofs.MapHalves.{getD-mapAt}
+use Rattle.branches.specs.declared.answers.Reading.{Reading}
+use Rattle.branches.specs.declared.answers.Reading.the-variants.{WithUpper, BelowUpper}
 use Rattle.branches.specs.declared.answers.Branching.the-variants.{Answered, Refused}
 use Rattle.branches.specs.Question.{branchAnswer}
-use Rattle.branches.specs.inner.Finish.{firstOf, finish}
+use Rattle.branches.specs.inner.Finish.{firstOf, numbered, finish}
 
 -- ---- check 16
 
@@ -37,7 +38,7 @@ module _ (nodeTable : List ℕ) (u l : ℕ) where
   unfolding isInSubtree
   is-in-subtree h i = and-both (leb l u) (ltb u (l + sizeCell nodeTable u)) (le-leb l u h) (lt-ltb u (l + sizeCell nodeTable u) i)
 
--- ---- the state after the upper node's label
+-- ---- the first state
 
 module _ (s k : ℕ) (ls st : List ℕ) (u : ℕ) where
   abbrev label : ℕ
@@ -47,34 +48,27 @@ module _ (s k : ℕ) (ls st : List ℕ) (u : ℕ) where
   at-start : getD st (0 * k + label) 0 ≡ getD st label 0
   at-start = let e : 0 * k + label ≡ label = omega arith in ap (λ (i : ℕ). getD st i 0) e
 
-  first-no-label : k ≤ label → firstOf s k ls st u ≡ none
+  pub first-no-label : k ≤ label → firstOf WithUpper s k ls st u ≡ numbered s s
   unfolding firstOf
-  first-no-label h = rw (le-ltb label k h)
+  first-no-label h = rw (le-ltb label k h, le-ltb s s (omega arith))
 
-  first-no-state : s ≤ getD st label 0 → firstOf s k ls st u ≡ none
+  pub first-label : label < k → firstOf WithUpper s k ls st u ≡ numbered s (getD st label 0)
   unfolding firstOf
-  first-no-state h =
-      rw (and-no-right (ltb label k) (ltb (getD st (0 * k + label) 0) s)
-      (le-ltb (getD st (0 * k + label) 0) s (rw at-start h)))
+  first-label h = rw (at-start, lt-ltb label k h)
 
-  pub first-is : label < k → getD st label 0 < s → firstOf s k ls st u ≡ some (getD st label 0)
+  pub first-start : 0 < s → firstOf BelowUpper s k ls st u ≡ numbered s 0
   unfolding firstOf
-  first-is h i = rw (at-start, lt-ltb label k h, lt-ltb (getD st label 0) s i)
+  first-start h = rw (lt-ltb 0 s h)
 
   -- ---- what is told
 
-  module _ (mk m : List ℕ) (c : ℕ) where
-    pub finish-no-label : k ≤ label → Refused 18 ≡ branchAnswer 0 (finish s k ls st mk u m c)
+  module _ (reading : Reading) (q : ℕ) (first : firstOf reading s k ls st u ≡ numbered s q) where
+    pub finish-none : (mk m : List ℕ) (c : ℕ) → s ≤ q → Refused 18 ≡ branchAnswer 0 (finish reading s k ls st mk u m c)
     unfolding finish branchAnswer
-    finish-no-label h = rw (first-no-label h)
+    finish-none mk m c h = rw (first, le-ltb q s h)
 
-    pub finish-no-state : s ≤ getD st label 0 → Refused 18 ≡ branchAnswer 0 (finish s k ls st mk u m c)
+    pub finish-result : (mk maps : List ℕ) (at c : ℕ) → q < s
+        → Answered (getD maps (at + q) 0) (eqb (getD mk (getD maps (at + q) 0) 0) 1) c
+        ≡ branchAnswer 0 (finish reading s k ls st mk u (mapAt s maps at) c)
     unfolding finish branchAnswer
-    finish-no-state h = rw (first-no-state h)
-
-  module _ (mk maps : List ℕ) (at c : ℕ) where
-    pub finish-result : label < k → getD st label 0 < s
-        → Answered (getD maps (at + getD st label 0) 0) (eqb (getD mk (getD maps (at + getD st label 0) 0) 0) 1) c
-        ≡ branchAnswer 0 (finish s k ls st mk u (mapAt s maps at) c)
-    unfolding finish branchAnswer
-    finish-result h i = rw (first-is h i, getD-mapAt s maps at (getD st label 0) i)
+    finish-result mk maps at c h = rw (first, lt-ltb q s h, getD-mapAt s maps at q h)

@@ -6,6 +6,7 @@ pub mod WordWalks
 pub mod AskBuilt
 pub mod AskClimb
 pub mod AskRange
+pub mod AskKept
 pub mod AskTheorem
 pub mod StepLoop
 pub mod StepRowLoop

@@ -1,16 +1,17 @@
 -- The branch question, on whatever is lent.
 --
+-- Reading (src/answers) == which word is read: WithUpper, with the upper node's label; BelowUpper, from below the upper node
 -- check 17 goes by the headers: headedBuffersFit branchTables (crate formats, Buffers)
--- check 16 goes by the lent size of the upper node u: isInSubtreeOn nodeTable u l (crate links, Cells)
+-- check 16 goes by the lent size of the upper node u: isInSubtreeOn nodeTable u l (crate node_tables, Cells)
 -- moveMap .. == what one move of the climb makes of the map from the node reached so far down to the lower node
--- firstState .. == the state after the upper node's label
+-- firstState reading .. == the state that the word below the upper node starts in: after its label, or 0, for which nothing is read
 -- branchOn .. == the answer on these tables: none where a value read leads outside the plan, the states or the labels, or a climb
 --   does not rise (check 18)
 -- askChecks .. == 17, 13, 16 and 18, in this order; askNumber .. == the first that fails, 0 where none does
 -- askAnswer .. == the answer
 --
 -- "It tells state, yes or no, and the links of the climb from the lower node to the upper's depth". The word runs downward while the
--- climb goes up, so each move puts its own map before the map carried so far.
+-- climb goes up, so each move puts its own map before the map carried so far. Both readings ask the same checks and make the same climb.
 -- Assumes nothing.
 use Prim.Native.Nat.{ℕ, zero, suc}
 use mathlib.Core.Bool.{Bool, true, false, cond, _&&_}
@@ -28,6 +29,8 @@ use Rattle.formats.specs.Buffers.{headedBuffersFit, branchTables}
 use Rattle.node_tables.specs.Cells.{depthCell, cellForest, isInSubtreeOn}
 use Rattle.tables.specs.Compose.{follow}
 use Rattle.tables.specs.StateCells.{mapCell}
+use Rattle.branches.specs.declared.answers.Reading.{Reading}
+use Rattle.branches.specs.declared.answers.Reading.the-variants.{WithUpper, BelowUpper}
 use Rattle.branches.specs.declared.answers.Branching.{Branching}
 use Rattle.branches.specs.declared.answers.Branching.the-variants.{Answered, Refused}
 
@@ -39,11 +42,12 @@ moveMap p r stateTable (toParent v) m =
     (follow (stateCount r) m (λ q. branchAutomaton r .step q (getD (labelsIn p) v 0)))
     none
 
-unfoldable pub firstState : List ℕ → List ℕ → ℕ → Option ℕ
-firstState p r u =
+unfoldable pub firstState : Reading → List ℕ → List ℕ → ℕ → Option ℕ
+firstState WithUpper p r u =
     cond (ltb (getD (labelsIn p) u 0) (labelCount r) && ltb (branchAutomaton r .step 0 (getD (labelsIn p) u 0)) (stateCount r))
     (some (branchAutomaton r .step 0 (getD (labelsIn p) u 0)))
     none
+firstState BelowUpper p r u = some 0
 
 pub record Branched : Type 0 where
   pub state : ℕ
@@ -53,27 +57,27 @@ pub record Branched : Type 0 where
 abbrev pub branched : WordAutomaton → ℕ → ℕ → Branched
 branched B q n = record { state = q; marked = B .accepting q; links = n }
 
-unfoldable pub branchOn : List ℕ → List ℕ → List ℕ → List ℕ → ℕ → ℕ → Option Branched
-branchOn p r nodeTable stateTable u l =
+unfoldable pub branchOn : Reading → List ℕ → List ℕ → List ℕ → List ℕ → ℕ → ℕ → Option Branched
+branchOn reading p r nodeTable stateTable u l =
     andThen (climb (cellForest (nodeCount p) nodeTable) l (depthCell nodeTable u)) (λ ms.
     andThen (carry (moveMap p r stateTable) ms (tabulate (stateCount r) (λ q. q))) (λ m.
-    andThen (firstState p r u) (λ q. some (branched (branchAutomaton r) (getD m q 0) (length ms)))))
+    andThen (firstState reading p r u) (λ q. some (branched (branchAutomaton r) (getD m q 0) (length ms)))))
 
 abbrev pub isSome : {X : Type 0} → Option X → Bool
 isSome none = false
 isSome (some x) = true
 
-unfoldable pub askChecks : List ℕ → List ℕ → List ℕ → List ℕ → ℕ → ℕ → List Check
-askChecks p r nodeTable stateTable u l =
+unfoldable pub askChecks : Reading → List ℕ → List ℕ → List ℕ → List ℕ → ℕ → ℕ → List Check
+askChecks reading p r nodeTable stateTable u l =
     check 17 (headedBuffersFit branchTables p r (length nodeTable) (length stateTable))
     ∷ check 13 (ltb u (nodeCount p) && ltb l (nodeCount p))
     -- "lower node at or below upper? 16"
     ∷ check 16 (isInSubtreeOn nodeTable u l)
-    ∷ check 18 (isSome (branchOn p r nodeTable stateTable u l))
+    ∷ check 18 (isSome (branchOn reading p r nodeTable stateTable u l))
     ∷ []
 
-unfoldable pub askNumber : List ℕ → List ℕ → List ℕ → List ℕ → ℕ → ℕ → ℕ
-askNumber p r nodeTable stateTable u l = firstNo (askChecks p r nodeTable stateTable u l)
+unfoldable pub askNumber : Reading → List ℕ → List ℕ → List ℕ → List ℕ → ℕ → ℕ → ℕ
+askNumber reading p r nodeTable stateTable u l = firstNo (askChecks reading p r nodeTable stateTable u l)
 
 -- document 01's number of an answer: 0 accepted, else the refusal's
 unfoldable pub branchNumber : Branching → ℕ
@@ -85,5 +89,6 @@ branchAnswer zero none = Refused 18
 branchAnswer zero (some b) = Answered (b .state) (b .marked) (b .links)
 branchAnswer (suc n) b = Refused (suc n)
 
-unfoldable pub askAnswer : List ℕ → List ℕ → List ℕ → List ℕ → ℕ → ℕ → Branching
-askAnswer p r nodeTable stateTable u l = branchAnswer (askNumber p r nodeTable stateTable u l) (branchOn p r nodeTable stateTable u l)
+unfoldable pub askAnswer : Reading → List ℕ → List ℕ → List ℕ → List ℕ → ℕ → ℕ → Branching
+askAnswer reading p r nodeTable stateTable u l =
+    branchAnswer (askNumber reading p r nodeTable stateTable u l) (branchOn reading p r nodeTable stateTable u l)

@@ -1,6 +1,6 @@
-// The branch question: the state after the word from the upper node down to the lower, whether it is marked, and the
-// links of the climb.
+// The branch question: the state after the word down to the lower node, whether it is marked, and the links of the climb.
 use crate::answers::Branching;
+use crate::answers::Reading;
 use formats::buffers::branch_buffers_fit;
 use formats::bytes::read32;
 use node_tables::moves::depth_at;
@@ -12,12 +12,37 @@ ghost use Prim.Native.Nat.{_+_, _*_, _≤_};
 ghost use lib.ListN.{length};
 ghost use Rattle.node_tables.specs.Cells.{isInSubtreeOn};
 ghost use Rattle.tables.specs.Compose.{mapAt};
+ghost use Rattle.branches.specs.declared.answers.Reading.the-variants.{WithUpper, BelowUpper};
 ghost use Rattle.branches.specs.Question.{branchOn, branchAnswer};
 ghost use Rattle.branches.specs.Promise.{AskDone};
-ghost use Rattle.branches.specs.inner.Finish.{finish, FinishArgs, AnswerArgs};
+ghost use Rattle.branches.specs.inner.Finish.{firstOf, numbered, finish, FirstArgs, FinishArgs, AnswerArgs};
 
-// What is told of the map of a climb: the state after the upper node's label goes through it.
+// The state after the upper node's label, from state 0; S or above where the label or that state is outside.
+fn after_upper(labels: &[u8], steps: &[u8], s: usize, k: usize, u: usize) -> usize
+    requires { ⌜ FirstArgs s k (now labels) (now steps) u ⌝ }
+    ensures { λ r. ⌜ firstOf WithUpper s k (now (labels .entry)) (now (steps .entry)) u ≡ numbered s r ⌝ }
+{
+    let a = labels[u] as usize;
+    if k <= a {
+        return s;
+    }
+    steps[a] as usize
+}
+
+// The state that the word below the upper node starts in; S or above where there is none.
+fn first_state(reading: Reading, labels: &[u8], steps: &[u8], s: usize, k: usize, u: usize) -> usize
+    requires { ⌜ FirstArgs s k (now labels) (now steps) u ⌝ }
+    ensures { λ r. ⌜ firstOf reading s k (now (labels .entry)) (now (steps .entry)) u ≡ numbered s r ⌝ }
+{
+    match reading {
+        Reading::WithUpper => after_upper(labels, steps, s, k, u),
+        Reading::BelowUpper => 0,
+    }
+}
+
+// What is told of the map of a climb: the first state goes through it.
 fn finish_answer(
+    reading: Reading,
     labels: &[u8],
     steps: &[u8],
     marks: &[u8],
@@ -29,14 +54,10 @@ fn finish_answer(
     links: u32,
 ) -> Branching
     requires { ⌜ FinishArgs s k (now labels) (now steps) (now marks) u (now maps) at ⌝ }
-    ensures { λ r. ⌜ r ≡ branchAnswer 0 (finish s k (now (labels .entry)) (now (steps .entry)) (now (marks .entry)) u
+    ensures { λ r. ⌜ r ≡ branchAnswer 0 (finish reading s k (now (labels .entry)) (now (steps .entry)) (now (marks .entry)) u
         (mapAt s (now (maps .entry)) at) links) ⌝ }
 {
-    let a = labels[u] as usize;
-    if k <= a {
-        return Branching::Refused(18);
-    }
-    let q = steps[a] as usize;
+    let q = first_state(reading, labels, steps, s, k, u);
     if s <= q {
         return Branching::Refused(18);
     }
@@ -47,6 +68,7 @@ fn finish_answer(
 
 // The answer where 17, 13 and 16 pass.
 fn answer_branch(
+    reading: Reading,
     plan: &[u8],
     branch: &[u8],
     node_table: &[u16],
@@ -55,7 +77,7 @@ fn answer_branch(
     l: usize,
 ) -> Branching
     requires { ⌜ AnswerArgs (now plan) (now branch) (now «node_table») (now «state_table») u l ⌝ }
-    ensures { λ r. ⌜ r ≡ branchAnswer 0 (branchOn (now (plan .entry)) (now (branch .entry)) (now («node_table» .entry))
+    ensures { λ r. ⌜ r ≡ branchAnswer 0 (branchOn reading (now (plan .entry)) (now (branch .entry)) (now («node_table» .entry))
         (now («state_table» .entry)) u l) ⌝ }
 {
     let n = read32(plan, 0);
@@ -81,6 +103,7 @@ fn answer_branch(
         return Branching::Refused(18);
     }
     finish_answer(
+        reading,
         labels,
         steps,
         &branch[16 + s * k..],
@@ -93,9 +116,9 @@ fn answer_branch(
     )
 }
 
-// A branch question: the word from the upper node down to the lower, both included. It takes N, S and K from the lent
-// headers and asks 17, 13, 16 and 18 in this order.
-pub fn ask_branch(
+// A branch question in either reading. It takes N, S and K from the lent headers and asks 17, 13, 16 and 18 in this order.
+fn ask(
+    reading: Reading,
     plan: &[u8],
     branch: &[u8],
     node_table: &[u16],
@@ -103,8 +126,8 @@ pub fn ask_branch(
     upper: u32,
     lower: u32,
 ) -> Branching
-    ensures { λ r. ⌜ AskDone (now (plan .entry)) (now (branch .entry)) (now («node_table» .entry)) (now («state_table» .entry)) upper
-        lower r ⌝ }
+    ensures { λ r. ⌜ AskDone reading (now (plan .entry)) (now (branch .entry)) (now («node_table» .entry)) (now («state_table» .entry))
+        upper lower r ⌝ }
 {
     if !branch_buffers_fit(plan, branch, node_table, state_table) {
         return Branching::Refused(17);
@@ -121,5 +144,52 @@ pub fn ask_branch(
     if !is_below(node_table, u, l) {
         return Branching::Refused(16);
     }
-    answer_branch(plan, branch, node_table, state_table, u, l)
+    answer_branch(reading, plan, branch, node_table, state_table, u, l)
+}
+
+// A branch question: the word from below the upper node down to the lower. The same node twice is the empty word, and the
+// mark of state 0 decides.
+pub fn ask_branch(
+    plan: &[u8],
+    branch: &[u8],
+    node_table: &[u16],
+    state_table: &[u8],
+    upper: u32,
+    lower: u32,
+) -> Branching
+    ensures { λ r. ⌜ AskDone BelowUpper (now (plan .entry)) (now (branch .entry)) (now («node_table» .entry)) (now («state_table» .entry))
+        upper lower r ⌝ }
+{
+    ask(
+        Reading::BelowUpper,
+        plan,
+        branch,
+        node_table,
+        state_table,
+        upper,
+        lower,
+    )
+}
+
+// The same with the upper node's label: the word from the upper node down to the lower, both included.
+pub fn ask_branch_with_upper(
+    plan: &[u8],
+    branch: &[u8],
+    node_table: &[u16],
+    state_table: &[u8],
+    upper: u32,
+    lower: u32,
+) -> Branching
+    ensures { λ r. ⌜ AskDone WithUpper (now (plan .entry)) (now (branch .entry)) (now («node_table» .entry)) (now («state_table» .entry))
+        upper lower r ⌝ }
+{
+    ask(
+        Reading::WithUpper,
+        plan,
+        branch,
+        node_table,
+        state_table,
+        upper,
+        lower,
+    )
 }

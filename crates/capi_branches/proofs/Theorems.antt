@@ -3,7 +3,8 @@
 --     builds             what an accepted build wrote is "as built", in longer buffers with any excess too
 --     full-checks        yes exactly when the lent tables are what the build writes: local equations leave one table only
 --     climbs             where a climb ends, how many moves it makes, and that it carries what the walk by parents does, for any value
---     branch-answers     on tables as built a branch answer is the word automaton's
+--     branch-answers     on tables as built a branch answer is the word automaton's, in each reading on its own word
+--     two-words, empty-word   the two words differ by the upper node's label; the same node twice, from below it: state 0, its mark, no links
 --     branch-in-range   18 only where a value leads outside the plan, the states or the labels, or a link does not rise
 --     each-state         each node's state in source document 002's run is that of its subtree; the fresh run tells the root's (its contract)
 --     jump-samples, climb-samples         jumps of depths 1 to 7; climbs from depth 6 to 1 and to 0
@@ -18,16 +19,18 @@ use mathlib.Core.Option.{Option, some}
 use lib.ListN.{length}
 use Rattle.trees.specs.Tree.{Tree, leaf, size, height, labelAt}
 use Rattle.trees.specs.Automaton.{Automaton, run, state}
-use Rattle.trees.specs.Numbering.{sub, depth, ancestor, AtOrBelow}
+use Rattle.trees.specs.Numbering.{sub, depth, ancestor, word, wordBelow, AtOrBelow}
 use Rattle.trees.specs.Jumps.{jump, jumpDepth}
 use Rattle.trees.specs.Climb.{Move, byJump, toParent, forestOf, climb, climbEnd, carry, walk, moveCount, digits}
 use Rattle.trees.proofs.RunLaws.{run-at}
 use Rattle.trees.proofs.TreeClimbs.{climb-ends, climb-bound}
 use Rattle.trees.proofs.CarryLaws.{carry-walk}
+use Rattle.trees.proofs.WordLaws.{word-below}
 use Rattle.trees.proofs.Samples as samples
 use Rattle.formats.specs.Bytes.{le32}
 use Rattle.list_laws.specs.Tests.{allBelow}
 use Rattle.formats.specs.Plan.{nodeCount, planTree, planBytes}
+use Rattle.formats.specs.Rules.{branchAutomaton}
 use Rattle.formats.specs.Checks.{firstNo, planChecks, buildChecks, branchBuildChecks, ruleTableChecks, branchTableChecks}
 use Rattle.formats.specs.Built.{builtNodeTable, builtStateTable, builtBranchTable, AsBuilt, BranchBuilt}
 use Rattle.formats.proofs.PlanTheorems as plan-theorems
@@ -36,11 +39,15 @@ use Rattle.tables.specs.declared.answers.Checking.the-variants.{Yes}
 use Rattle.tables.specs.Answers.{CheckDone}
 use Rattle.tables.proofs.BuildLaws.{written-as-built}
 use Rattle.tables.proofs.CheckTheorems.{check-yes, yes-check, buildNumber}
+use Rattle.branches.specs.declared.answers.Reading.{Reading}
+use Rattle.branches.specs.declared.answers.Reading.the-variants.{BelowUpper}
+use Rattle.branches.specs.declared.answers.Branching.the-variants.{Answered}
 use Rattle.branches.specs.Question.{askNumber, askAnswer}
 use Rattle.branches.specs.OutOfRange.{BranchOutOfRange}
 use Rattle.branches.specs.Promise.{wordAnswer}
 use Rattle.branches.proofs.BranchTheorems as branch-theorems
 use Rattle.branches.proofs.BranchTheorems.{written-branch-built}
+use Rattle.branches.proofs.AskTheorem as ask-theorem
 use Rattle.branches.proofs.AskTheorem.{ask-built}
 use Rattle.branches.proofs.AskRange.{ask-out-of-range}
 
@@ -86,11 +93,22 @@ climbs : {X : Type 0} (P : X → Type 0) (step : ℕ → X → X) (act : Move �
     → carry act ms x ≡ some (walk step t w (depth t w - to) x)
 climbs = carry-walk
 
-branch-answers : (p r nodeTable stateTable : List ℕ) → BranchBuilt p r nodeTable stateTable → (u l : ℕ) → u < nodeCount p → l < nodeCount p
-    → AtOrBelow (planTree p) u l → askAnswer p r nodeTable stateTable u l ≡ wordAnswer p r u l
+-- "Demand 2 holds for each on its own word."
+branch-answers : (reading : Reading) (p r nodeTable stateTable : List ℕ) → BranchBuilt p r nodeTable stateTable
+    → (u l : ℕ) → u < nodeCount p → l < nodeCount p → AtOrBelow (planTree p) u l
+    → askAnswer reading p r nodeTable stateTable u l ≡ wordAnswer reading p r u l
 branch-answers = ask-built
 
-branch-in-range : (p r nodeTable stateTable : List ℕ) (u l : ℕ) → askNumber p r nodeTable stateTable u l ≡ 18 → BranchOutOfRange p r nodeTable stateTable
+two-words : (t : Tree) (u v : ℕ) → v < size t → AtOrBelow t u v → word t u v ≡ labelAt t u ∷ wordBelow t u v
+two-words = word-below
+
+-- "the same node twice is the empty word, and the mark of state 0 decides"
+empty-word : (p r nodeTable stateTable : List ℕ) → BranchBuilt p r nodeTable stateTable → (u : ℕ) → u < nodeCount p
+    → askAnswer BelowUpper p r nodeTable stateTable u u ≡ Answered 0 (branchAutomaton r .accepting 0) 0
+empty-word = ask-theorem.empty-word
+
+branch-in-range : (p r nodeTable stateTable : List ℕ) (reading : Reading) (u l : ℕ)
+    → askNumber reading p r nodeTable stateTable u l ≡ 18 → BranchOutOfRange p r nodeTable stateTable
 branch-in-range = ask-out-of-range
 
 each-state : (A : Automaton) (t : Tree) (v : ℕ) → v < size t → labelAt (run A t) v ≡ state A (sub t v)

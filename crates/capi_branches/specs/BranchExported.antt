@@ -2,12 +2,13 @@
 --
 -- endOf a old, acceptedOf a old, linksOf a old == what a place holds afterwards: the answer's value, or what it held where it is refused
 -- AskNumber == an answer told as a number and values
--- AskExported == the promise of the exported function
+-- AskExported reading .. == the promise of the exported function of that reading
 --
 -- Assumes nothing.
 use Prim.Native.Nat.{ℕ}
 use mathlib.Core.Path.{_≡_}
 use mathlib.Core.List.{List}
+use Rattle.branches.specs.declared.answers.Reading.{Reading}
 use Rattle.branches.specs.declared.answers.Branching.{Branching}
 use Rattle.branches.specs.declared.answers.Branching.the-variants.{Answered, Refused as NotAnswered}
 use Rattle.branches.specs.Question.{branchNumber}
@@ -32,7 +33,7 @@ pub record AskNumber (a : Branching) (state₀ yes₀ links₀ r state₁ yes₁
   pub yes-answer : yes₁ ≡ acceptedOf a yes₀
   pub links-answer : links₁ ≡ linksOf a links₀
 
-pub record AskExported (p r nodeTable stateTable : List ℕ) (u l n state₀ yes₀ links₀ state₁ yes₁ links₁ : ℕ) : Type 0 where
+pub record AskExported (reading : Reading) (p r nodeTable stateTable : List ℕ) (u l n state₀ yes₀ links₀ state₁ yes₁ links₁ : ℕ) : Type 0 where
   pub answer : Branching
-  pub done : AskDone p r nodeTable stateTable u l answer
+  pub done : AskDone reading p r nodeTable stateTable u l answer
   pub number : AskNumber answer state₀ yes₀ links₀ n state₁ yes₁ links₁

@@ -1,6 +1,7 @@
-// The branches' calls: build, full check and the question.
+// The branches' calls: build, full check and the question in its two readings.
 use branches::answers::Branching;
 use branches::ask::ask_branch;
+use branches::ask::ask_branch_with_upper;
 use branches::build::build_branch_tables;
 use branches::check::check_branch_tables;
 use capi_numbers::numbers::bit;
@@ -9,6 +10,7 @@ use capi_numbers::numbers::check_number;
 ghost use lib.ListN.{length};
 ghost use Rattle.formats.specs.Checks.{firstNo, branchBuildChecks};
 ghost use Rattle.formats.specs.Built.{builtNodeTable, builtBranchTable};
+ghost use Rattle.branches.specs.declared.answers.Reading.the-variants.{WithUpper, BelowUpper};
 ghost use Rattle.capi_numbers.specs.Numbers.{BuildExported, CheckExported};
 ghost use Rattle.capi_branches.specs.BranchExported.{AskNumber, AskExported};
 
@@ -66,7 +68,7 @@ fn ask_number(answer: Branching, state: &mut u32, yes: &mut u32, links: &mut u32
     }
 }
 
-// The branch question: the word from node `upper` down to node `lower`.
+// The branch question: the word from below node `upper` down to node `lower`.
 #[no_mangle]
 pub extern "C" fn whatif_branch(
     plan: &[u8],
@@ -80,9 +82,30 @@ pub extern "C" fn whatif_branch(
     links: &mut u32,
 ) -> u32
     ensures { λ r. ⌜
-        AskExported (now (plan .entry)) (now (branch .entry)) (now («node_table» .entry)) (now («state_table» .entry)) upper lower
+        AskExported BelowUpper (now (plan .entry)) (now (branch .entry)) (now («node_table» .entry)) (now («state_table» .entry)) upper lower
         r (now (state .entry)) (now (yes .entry)) (now (links .entry)) (now (state .exit)) (now (yes .exit)) (now (links .exit)) ⌝ }
 {
     let answer = ask_branch(plan, branch, node_table, state_table, upper, lower);
+    ask_number(answer, state, yes, links)
+}
+
+// The branch question with the upper node's label: the word from node `upper` down to node `lower`, both included.
+#[no_mangle]
+pub extern "C" fn whatif_branch_with_upper(
+    plan: &[u8],
+    branch: &[u8],
+    node_table: &[u16],
+    state_table: &[u8],
+    upper: u32,
+    lower: u32,
+    state: &mut u32,
+    yes: &mut u32,
+    links: &mut u32,
+) -> u32
+    ensures { λ r. ⌜
+        AskExported WithUpper (now (plan .entry)) (now (branch .entry)) (now («node_table» .entry)) (now («state_table» .entry)) upper lower
+        r (now (state .entry)) (now (yes .entry)) (now (links .entry)) (now (state .exit)) (now (yes .exit)) (now (links .exit)) ⌝ }
+{
+    let answer = ask_branch_with_upper(plan, branch, node_table, state_table, upper, lower);
     ask_number(answer, state, yes, links)
 }

@@ -1,6 +1,6 @@
 -- What is claimed of the what-if checker: its three demands and the sample, each proved by citing what is below.
 --     refusals, builds-refuse                       demand 1
---     finished-answers, run-at-each-node, branch-answers   demand 2
+--     finished-answers, run-at-each-node, branch-answers, empty-word   demand 2
 --     by-value, in-place, on-record-bytes           demand 3, in its three forms; undisturbed-.. its further statements, order its last
 --     sample                                        the sample clearance
 -- Where each word of a statement is defined: README, *Reading order*; docs/NAMES.md.
@@ -17,12 +17,17 @@ use Rattle.trees.specs.Automaton.{Automaton, run, state}
 use Rattle.trees.specs.Numbering.{sub, AtOrBelow}
 use Rattle.trees.proofs.RunLaws.{run-at}
 use Rattle.formats.specs.Plan.{nodeCount, planTree}
+use Rattle.formats.specs.Rules.{branchAutomaton}
 use Rattle.formats.specs.Built.{BranchBuilt}
 use Rattle.formats.specs.Inputs.{Inputs}
 use Rattle.tables.specs.declared.answers.Building.{Building}
 use Rattle.tables.specs.Answers.{buildingNumber, BuildDone}
+use Rattle.branches.specs.declared.answers.Reading.{Reading}
+use Rattle.branches.specs.declared.answers.Reading.the-variants.{BelowUpper}
+use Rattle.branches.specs.declared.answers.Branching.the-variants.{Answered}
 use Rattle.branches.specs.Question.{askAnswer}
 use Rattle.branches.specs.Promise.{wordAnswer}
+use Rattle.branches.proofs.AskTheorem as ask-theorem
 use Rattle.branches.proofs.AskTheorem.{ask-built}
 use Rattle.model.specs.Calls.{Call, Answer, refused, outcomeAnswer}
 use Rattle.reference.specs.Demand3.{Demand3}
@@ -62,9 +67,16 @@ finished-answers = exported-questions
 run-at-each-node : (A : Automaton) (t : Tree) (v : ℕ) → v < size t → labelAt (run A t) v ≡ state A (sub t v)
 run-at-each-node = run-at
 
-branch-answers : (p r nodeTable stateTable : List ℕ) → BranchBuilt p r nodeTable stateTable → (u l : ℕ) → u < nodeCount p → l < nodeCount p
-    → AtOrBelow (planTree p) u l → askAnswer p r nodeTable stateTable u l ≡ wordAnswer p r u l
+-- document 02, S-9: "Demand 2 holds for each on its own word": with the upper node's label, and from below the upper node
+branch-answers : (reading : Reading) (p r nodeTable stateTable : List ℕ) → BranchBuilt p r nodeTable stateTable
+    → (u l : ℕ) → u < nodeCount p → l < nodeCount p → AtOrBelow (planTree p) u l
+    → askAnswer reading p r nodeTable stateTable u l ≡ wordAnswer reading p r u l
 branch-answers = ask-built
+
+-- "the same node twice is the empty word, and the mark of state 0 decides"
+empty-word : (p r nodeTable stateTable : List ℕ) → BranchBuilt p r nodeTable stateTable → (u : ℕ) → u < nodeCount p
+    → askAnswer BelowUpper p r nodeTable stateTable u u ≡ Answered 0 (branchAutomaton r .accepting 0) 0
+empty-word = ask-theorem.empty-word
 
 -- ---- demand 3. "For every list of the five calls, refused ones included, whatever is lent, the answers are those of the panel book."
 

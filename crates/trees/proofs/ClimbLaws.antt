@@ -2,10 +2,11 @@
 --     climb-done, climb-move, climb-stuck   the equations without a count
 --     climb-nil, climb-cons                 what a climb of no moves is, and one of m and more: inductions go by these
 --     climb-short, climb-low                at most depth-many moves; the end is not below the target depth
+--     climb-most                            at most as many moves as the depths are apart
 --     Agree, same-next, same-climb-of       forests that agree on their nodes climb alike
 --     same-climb, same-end                  so does a table that says what a tree says
 -- Assumes nothing.
-use Prim.Native.Nat.{ℕ, zero, suc, _+_, _≤_, _<_}
+use Prim.Native.Nat.{ℕ, zero, suc, _+_, _-_, _≤_, _<_}
 use mathlib.Core.Path.{_≡_, refl, sym, ap, _∙_}
 use mathlib.Core.List.{List, [], _∷_}
 use mathlib.Core.Logic.{_⊎_, inl, inr}
@@ -126,6 +127,12 @@ module _ (F : Forest) where
   climb-short w t (m ∷ ms) e =
       let s = climb-cons w t m ms e in
       omega (arith, climb-short (target F m) t ms (s .more), next-rises F w t m (s .next))
+
+  pub climb-most : (w t : ℕ) (ms : List Move) → climb F w t ≡ some ms → length ms ≤ F .depth w - t
+  climb-most w t [] e = omega arith
+  climb-most w t (m ∷ ms) e =
+      let s = climb-cons w t m ms e in
+      omega (arith, climb-most (target F m) t ms (s .more), next-rises F w t m (s .next), s .deeper)
 
   pub climb-low : (w t : ℕ) (ms : List Move) → climb F w t ≡ some ms → F .depth (climbEnd F w ms) ≤ t
   climb-low w t [] e = climb-nil w t e

@@ -16,4 +16,5 @@ pub mod TableRows
 pub mod RunLaws
 pub mod MapLaws
 pub mod BranchMapLaws
+pub mod WordLaws
 pub mod LinkRangeLaws

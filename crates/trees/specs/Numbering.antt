@@ -6,6 +6,7 @@
 -- ancestor t v n == the node n parents above v
 -- labelsDown t v n == the labels of the n nodes that end at v, from above down to v
 -- word t u v == the labels from u down to v, both included, where u is v or above it
+-- wordBelow t u v == the same without u's: the labels from below u down to v (document 02, S-9)
 -- InSubtree t c v == node v stands in the subtree rooted at node c, c included; isInSubtree c z v == the same as a test, for a node c
 --   whose subtree has z nodes: in post-order they are the run of z numbers that ends at c
 -- AtOrBelow t u l == node l is u or stands below it: some number of parents above l is u
@@ -51,6 +52,10 @@ labelsDown t v (suc n) = labelsDown t (parent t v) n ++ (labelAt t v ∷ [])
 -- "The word runs from the upper node to the lower, both included; the same node twice is a word of one letter."
 unfoldable pub word : Tree → ℕ → ℕ → List ℕ
 word t u v = labelsDown t v (depth t v - depth t u + 1)
+
+-- "The plain call now reads the word from below the upper node; the same node twice is the empty word"
+unfoldable pub wordBelow : Tree → ℕ → ℕ → List ℕ
+wordBelow t u v = labelsDown t v (depth t v - depth t u)
 
 -- "Below a child means in the subtree it roots, the child included."
 abbrev pub InSubtree : Tree → ℕ → ℕ → Type 0

@@ -2,7 +2,7 @@
 
 use crate::cases::{list, List, SHAPES};
 use crate::sessions::One;
-use crate::tables::pair;
+use crate::tables::{pair, Mine, Other};
 use crate::{planner, rule_tables};
 use compare::inputs::Case;
 use compare::random::Random;
@@ -52,14 +52,19 @@ fn fresh_run(one: &One, list: &List) {
     assert_eq!(one.fresh_run(list), u32::from(told.0), "both tell the same");
 }
 
+/// In both readings.
 fn branch_questions(case: Case, random: &mut Random) {
     let (mut node_table, mut state_table) = (vec![0; case.node_table_len()], vec![0; case.state_table_len()]);
     whatif::branch_build(&case.plan, &case.branch, &mut node_table, &mut state_table).expect("accepted");
     let tree = Tree::of(&reference::formats::read_plan(&case.plan).expect("accepted"));
     for _ in 0..20 {
         let (upper, lower) = pair(&tree, random);
-        let told = whatif::branch(&case.plan, &case.branch, &node_table, &state_table, upper, lower).expect("accepted");
-        let want = yardstick::ask(&case.plan, &case.branch, &node_table, &state_table, upper, lower).expect("accepted");
-        assert_eq!((told.state, told.links), (want.state, want.links), "both tell the same");
+        for (mine, other) in
+            [(whatif::branch as Mine, yardstick::ask as Other), (whatif::branch_with_upper, yardstick::ask_with_upper)]
+        {
+            let told = mine(&case.plan, &case.branch, &node_table, &state_table, upper, lower).expect("accepted");
+            let want = other(&case.plan, &case.branch, &node_table, &state_table, upper, lower).expect("accepted");
+            assert_eq!((told.state, told.links), (want.state, want.links), "both tell the same");
+        }
     }
 }

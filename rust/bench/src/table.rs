@@ -29,7 +29,7 @@ const fn work(name: &'static str, goal: Option<f64>, of: For) -> Work {
 }
 
 /// What is measured, in the order of the table. All but one are compared with plain Rust.
-const WORKS: [Work; 15] = [
+const WORKS: [Work; 16] = [
     work("Load", Some(1.5), For::All),
     work("full check", None, For::All),
     work("fresh run", Some(1.1), For::All),
@@ -45,6 +45,7 @@ const WORKS: [Work; 15] = [
     work("branch build", Some(2.0), For::All),
     work("branch check", None, For::All),
     work("branch question", Some(1.3), For::All),
+    work("branch question with upper", Some(1.3), For::All),
 ];
 
 /// A question of the library in ratio to a fresh run of the library.

@@ -15,6 +15,10 @@ const QUESTIONS: usize = 2_000;
 
 type Buffers = (Vec<u16>, Vec<u8>);
 
+/// A branch question, in one of the two readings, by the library and by plain Rust.
+pub type Mine = fn(&[u8], &[u8], &[u16], &[u8], u32, u32) -> Result<whatif::BranchVerdict, whatif::Refusal>;
+pub type Other = fn(&[u8], &[u8], &[u16], &[u8], u32, u32) -> Result<yardstick::Told, u32>;
+
 /// A case, and buffers for both sides.
 struct One {
     case: Case,
@@ -135,20 +139,27 @@ impl Set {
         )
     }
 
-    /// After `branch_build`.
+    /// After `branch_build`: the word from below the upper node.
     fn branch_question(&self) -> Pair {
+        self.asked(whatif::branch, yardstick::ask)
+    }
+
+    /// The word with the upper node's label.
+    fn branch_question_with_upper(&self) -> Pair {
+        self.asked(whatif::branch_with_upper, yardstick::ask_with_upper)
+    }
+
+    fn asked(&self, mine: Mine, other: Other) -> Pair {
         self.told(
             self.0.iter().map(|one| one.pairs.len()).sum(),
             |One { case, library: (node_table, state_table), pairs, .. }| {
-                let ask = |&(upper, lower)| {
-                    whatif::branch(&case.plan, &case.branch, node_table, state_table, upper, lower).unwrap()
-                };
+                let ask =
+                    |&(upper, lower)| mine(&case.plan, &case.branch, node_table, state_table, upper, lower).unwrap();
                 pairs.iter().map(ask).map(|told| u32::from(told.state) + 16 * told.links).sum()
             },
             |One { case, library: (node_table, state_table), pairs, .. }| {
-                let ask = |&(upper, lower)| {
-                    yardstick::ask(&case.plan, &case.branch, node_table, state_table, upper, lower).unwrap()
-                };
+                let ask =
+                    |&(upper, lower)| other(&case.plan, &case.branch, node_table, state_table, upper, lower).unwrap();
                 pairs.iter().map(ask).map(|told| u32::from(told.state) + 16 * told.links).sum()
             },
         )
@@ -176,4 +187,5 @@ pub fn rows(wanted: &str, keep: &mut dyn FnMut(Row)) {
     measure("branch build", None, &mut Set::branch_build);
     measure("branch check", None, &mut |set| set.branch_check());
     measure("branch question", None, &mut |set| set.branch_question());
+    measure("branch question with upper", None, &mut |set| set.branch_question_with_upper());
 }

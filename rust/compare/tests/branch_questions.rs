@@ -8,6 +8,7 @@ use compare::inputs::Case;
 use compare::random::Random;
 use compare::rounds::branch_questions::{ask, refusals, WRONG_LENGTHS};
 use compare::shapes::{self, Shape, SHAPES};
+use reference::branch::READINGS;
 
 #[test]
 fn every_pair_of_nodes_of_small_trees() {
@@ -63,15 +64,18 @@ fn the_largest_plans() {
 }
 
 #[test]
-fn the_same_node_twice_is_one_letter() {
+fn the_same_node_twice_is_one_letter_and_none_from_below() {
     let random = &mut Random::new(604);
     for _ in 0..200 {
         let built = Built::with_excess(Kind::Branch, Case::random(30, random), random);
         let v = random.below(built.case.n);
-        let answer = calls::library_branch(built.lent(), v as u32, v as u32, random).expect("accepted");
+        let [answer, empty] =
+            READINGS.map(|reading| calls::library_branch(reading, built.lent(), v as u32, v as u32, random));
         let state = built.case.branch[16 + built.case.labels()[v] as usize];
         let yes = built.case.branch[16 + built.case.s * built.case.k + state as usize];
-        assert_eq!(answer, [state as u32, yes as u32, 0]);
+        assert_eq!(answer, Ok([state as u32, yes as u32, 0]));
+        let yes = built.case.branch[16 + built.case.s * built.case.k];
+        assert_eq!(empty, Ok([0, yes as u32, 0]));
     }
 }
 
@@ -93,12 +97,12 @@ fn offsets_and_kinds_are_not_looked_at() {
         let mut built = Built::with_excess(Kind::Branch, Case::random(30, random), random);
         let tree = built.tree();
         let (lower, upper) = built.pair(&tree, random);
-        let before = calls::library_branch(built.lent(), upper, lower, random);
+        let before = READINGS.map(|reading| calls::library_branch(reading, built.lent(), upper, lower, random));
         let n = built.case.n;
         let (offsets, more_offsets, kinds) = (random.bytes(8), random.bytes(8), random.bytes(n));
         built.case.plan[4..12].copy_from_slice(&offsets);
         built.case.plan[12 + n..].copy_from_slice(&kinds);
         built.case.branch[8..16].copy_from_slice(&more_offsets);
-        assert_eq!(calls::branch(built.lent(), upper, lower, random), before);
+        assert_eq!(calls::branches(built.lent(), upper, lower, random), before);
     }
 }

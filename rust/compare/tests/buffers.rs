@@ -93,11 +93,12 @@ fn branch_questions() {
     for _ in 0..300 {
         let built = Built::new(Kind::Branch, Case::random(40, random), random);
         let (lower, upper) = built.pair(&built.tree(), random);
-        let told = calls::branch(built.lent(), upper, lower, random).expect("accepted");
-        for (by, wanted) in SHORT.map(|by| (by, Err(17))).into_iter().chain(ENOUGH.map(|by| (by, Ok(told)))) {
+        let told = calls::branches(built.lent(), upper, lower, random);
+        assert!(told.iter().all(Result::is_ok));
+        for (by, wanted) in SHORT.map(|by| (by, [Err(17); 2])).into_iter().chain(ENOUGH.map(|by| (by, told))) {
             let (node_table, state_table) = both_resized(&built.node_table, &built.state_table, by, random);
             let lent = calls::Lent { node_table: &node_table, state_table: &state_table, ..built.lent() };
-            assert_eq!(calls::branch(lent, upper, lower, random), wanted);
+            assert_eq!(calls::branches(lent, upper, lower, random), wanted);
         }
     }
 }

@@ -8,6 +8,7 @@ use compare::inputs::Case;
 use compare::random::Random;
 use compare::rounds::damaged_tables::ask;
 use compare::shapes::Shape;
+use reference::branch::READINGS;
 
 #[test]
 fn the_rule_on_any_bytes() {
@@ -27,10 +28,10 @@ fn state_bytes_are_not_read() {
     for _ in 0..500 {
         let mut built = Built::new(Kind::Branch, Case::random(30, random), random);
         let (lower, upper) = built.pair(&built.tree(), random);
-        let before = calls::library_branch(built.lent(), upper, lower, random);
+        let before = READINGS.map(|reading| calls::library_branch(reading, built.lent(), upper, lower, random));
         let row = built.case.s + 1;
         built.state_table.iter_mut().step_by(row).for_each(|state| *state = 255);
-        assert_eq!(calls::library_branch(built.lent(), upper, lower, random), before);
+        assert_eq!(calls::branches(built.lent(), upper, lower, random), before);
     }
 }
 
@@ -41,8 +42,9 @@ fn marks_above_1() {
     for mark in [0, 1, 2, 3, 128, 255] {
         let mut built = Built::new(Kind::Branch, Case::new(Shape::Zigzag, 20, 3, 3, random), random);
         built.case.branch[16 + 9..].fill(mark);
-        let answer = calls::branch(built.lent(), 38, 0, random).expect("accepted");
-        assert_eq!(answer[1], u32::from(mark == 1));
+        for answer in calls::branches(built.lent(), 38, 0, random) {
+            assert_eq!(answer.expect("accepted")[1], u32::from(mark == 1));
+        }
     }
 }
 
@@ -55,9 +57,22 @@ fn the_longest_climb() {
         let next = v as u16 + 1;
         built.node_table[4 * v..4 * v + 4].copy_from_slice(&[next, next, 65_534 - v as u16, u16::MAX]);
     }
-    let answer = calls::branch(built.lent(), 65_534, 0, random).expect("accepted");
+    let answer = calls::branch_with_upper(built.lent(), 65_534, 0, random).expect("accepted");
     assert_eq!(answer[2], 65_534);
     // a move to the same depth does not rise
     built.node_table[4 * 30_000 + 2] = built.node_table[4 * 30_001 + 2];
-    assert_eq!(calls::branch(built.lent(), 65_534, 0, random), Err(18));
+    assert_eq!(calls::branches(built.lent(), 65_534, 0, random), [Err(18); 2]);
+}
+
+/// A label of the upper node that the branch table doesn't have: 18 with it, and nothing to the word from below it.
+#[test]
+fn the_upper_nodes_label_outside() {
+    let random = &mut Random::new(805);
+    for _ in 0..300 {
+        let mut built = Built::new(Kind::Branch, Case::random(30, random), random);
+        let (lower, upper) = built.pair(&built.tree(), random);
+        let before = calls::branches(built.lent(), upper, lower, random)[1];
+        built.case.plan[12 + upper as usize] = built.case.k as u8;
+        assert_eq!(calls::branches(built.lent(), upper, lower, random), [Err(18), before]);
+    }
 }

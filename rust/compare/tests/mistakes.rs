@@ -10,7 +10,7 @@ use reference::mistakes::{making, Mistake};
 const SEEDS: std::ops::Range<u64> = 1..201;
 
 /// A mistake, and the rounds that must notice it.
-const NOTICED: [(Mistake, &[&str]); 33] = [
+const NOTICED: [(Mistake, &[&str]); 35] = [
     (Mistake::ChildrenExchanged, &["builds", "fresh runs", "questions", "other bytes", "call lists"]),
     (Mistake::SiblingFromOldRun, &["questions", "other bytes", "damaged lends", "call lists"]),
     (Mistake::ClimbToTheRoot, &["questions", "other bytes", "damaged lends", "call lists"]),
@@ -19,6 +19,8 @@ const NOTICED: [(Mistake, &[&str]); 33] = [
     (Mistake::ChildrenLeftOut, &["questions", "other bytes", "damaged lends", "call lists"]),
     (Mistake::MapsFromTheWrongEnd, &["branch questions", "damaged tables"]),
     (Mistake::WordsUpward, &["builds", "full checks", "branch questions"]),
+    (Mistake::ReadingsExchanged, &["branch questions", "damaged tables"]),
+    (Mistake::UpperRead, &["damaged tables"]),
     (Mistake::JumpRule, &["builds", "full checks", "branch questions", "questions", "call lists"]),
     (Mistake::ClimbRule, &["branch questions", "questions", "call lists"]),
     (Mistake::ParentBeforeJump, &["damaged tables", "other bytes", "damaged lends", "call lists"]),

@@ -55,7 +55,7 @@ fn every_call(plan: &[u8], rules: &[u8], branch: &[u8], random: &mut Random) -> 
         refusal(sides::call(&[0; 967], &Call::Load(lent.lends()), random).answer),
         built.as_ref().err().copied(),
         calls::check(Kind::Branch, plan, branch, &node_table, &state_table, random).err(),
-        calls::branch(question, n as u32 - 1, 0, random).err(),
+        calls::branch_with_upper(question, n as u32 - 1, 0, random).err(),
     ]
     .map(|number| number.unwrap_or(0))
 }

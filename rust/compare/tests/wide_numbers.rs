@@ -60,8 +60,9 @@ fn every_call(kind: Kind, good: &Case, case: &Case, wanted: u32, random: &mut Ra
     let lent =
         calls::Lent { plan: &case.plan, branch: &case.branch, node_table: &node_table, state_table: &state_table };
     let counts = case.plan[..4] != good.plan[..4] || case.branch[..8] != good.branch[..8];
-    let told = calls::branch(lent, case.n as u32 - 1, 0, random).err();
-    assert_eq!(told, if counts { Some(17) } else { None });
+    for told in calls::branches(lent, case.n as u32 - 1, 0, random) {
+        assert_eq!(told.err(), if counts { Some(17) } else { None });
+    }
 }
 
 /// N 65,536 + 7 in the header of plan A's 26 bytes.
@@ -89,12 +90,12 @@ fn node_65_543_of_a_branch_question() {
     let built = Built::new(Kind::Branch, Case::new(Shape::LeftComb, 10, 3, 3, random), random);
     let (root, lent) = (18, built.lent());
     for node in 0..19 {
-        assert!(calls::branch(lent, root, node, random).is_ok());
+        assert!(calls::branch_with_upper(lent, root, node, random).is_ok());
         for added in ADDED {
             for (upper, lower) in [(root, node + added), (root + added, node), (node + added, node + added)] {
-                assert_eq!(calls::branch(lent, upper, lower, random), Err(13), "{} and {}", upper, lower);
+                assert_eq!(calls::branches(lent, upper, lower, random), [Err(13); 2], "{} and {}", upper, lower);
             }
         }
     }
-    assert_eq!(calls::branch(lent, root, 65_543, random), Err(13));
+    assert_eq!(calls::branches(lent, root, 65_543, random), [Err(13); 2]);
 }

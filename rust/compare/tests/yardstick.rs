@@ -5,12 +5,14 @@ use compare::faults::{Input, BUILD_CHECKS, FRESH_CHECKS};
 use compare::inputs::Case;
 use compare::random::Random;
 use compare::shapes::SHAPES;
+use reference::branch::{on_tables, Reading};
 use yardstick::layers;
 use yardstick::place::{Lends, Session};
 use yardstick::session;
 
 type Build = fn(&[u8], &[u8], &mut [u16], &mut [u8]) -> Result<(), u32>;
 type Check = fn(&[u8], &[u8], &[u16], &[u8]) -> Result<bool, u32>;
+type Ask = fn(&[u8], &[u8], &[u16], &[u8], u32, u32) -> Result<yardstick::Told, u32>;
 
 fn compare(case: &Case, random: &mut Random) {
     let built = reference::build(&case.plan, &case.rules, case.node_table_len(), case.state_table_len()).unwrap();
@@ -37,9 +39,13 @@ fn compare(case: &Case, random: &mut Random) {
         for _ in 0..20 {
             // rule tables are odd branch tables: any bytes will do for a question
             let (upper, lower) = (random.below(case.n) as u32, random.below(case.n) as u32);
-            let told = yardstick::ask(&case.plan, &case.branch, &node_table, &state_table, upper, lower);
-            let want = reference::branch::on_tables(&case.plan, &case.branch, &node_table, &state_table, upper, lower);
-            assert_eq!(told.map(|t| (t.state, t.yes, t.links as usize)), want.map(|t| (t.state, t.yes, t.links)));
+            for (reading, ask) in
+                [(Reading::WithUpper, yardstick::ask_with_upper as Ask), (Reading::BelowUpper, yardstick::ask)]
+            {
+                let told = ask(&case.plan, &case.branch, &node_table, &state_table, upper, lower);
+                let want = on_tables(reading, &case.plan, &case.branch, &node_table, &state_table, upper, lower);
+                assert_eq!(told.map(|t| (t.state, t.yes, t.links as usize)), want.map(|t| (t.state, t.yes, t.links)));
+            }
         }
     }
 }

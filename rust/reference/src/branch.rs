@@ -3,9 +3,18 @@
 
 use crate::climb::{climb, Lent, Links, Move};
 use crate::formats::{number, Branch, Plan, MAX_LABELS, MAX_NODES, MAX_STATES};
-use crate::mistakes::{unless, Mistake};
+use crate::mistakes::{made, unless, Mistake};
 use crate::tables::labels_down;
 use crate::tree::Tree;
+
+/// Which word is read (document 02, S-9): with the upper node's label, or from below the upper node.
+#[derive(Clone, Copy, Debug, PartialEq, Eq)]
+pub enum Reading {
+    WithUpper,
+    BelowUpper,
+}
+
+pub const READINGS: [Reading; 2] = [Reading::WithUpper, Reading::BelowUpper];
 
 #[derive(Clone, Copy, Debug, PartialEq, Eq)]
 pub struct Answer {
@@ -14,9 +23,16 @@ pub struct Answer {
     pub links: usize,
 }
 
-/// "The word runs from the upper node to the lower, both included". 13, 16 or the answer.
-/// The tree is the plan's; plan and branch table passed 2 to 10.
-pub fn by_word(tree: &Tree, plan: &Plan, branch: &Branch, upper: u32, lower: u32) -> Result<Answer, u32> {
+/// "The word runs from the upper node to the lower, both included"; or "from below the upper node; the same node twice is
+/// the empty word". 13, 16 or the answer. The tree is the plan's; plan and branch table passed 2 to 10.
+pub fn by_word(
+    reading: Reading,
+    tree: &Tree,
+    plan: &Plan,
+    branch: &Branch,
+    upper: u32,
+    lower: u32,
+) -> Result<Answer, u32> {
     let (upper, lower) = (upper as usize, lower as usize);
     if upper >= plan.nodes() || lower >= plan.nodes() {
         return Err(13);
@@ -24,7 +40,10 @@ pub fn by_word(tree: &Tree, plan: &Plan, branch: &Branch, upper: u32, lower: u32
     if !tree.at_or_below(lower, upper) {
         return Err(16);
     }
-    let first = branch.step(0, plan.labels[upper]);
+    let first = match reading {
+        Reading::WithUpper => branch.step(0, plan.labels[upper]),
+        Reading::BelowUpper => 0,
+    };
     let rest = labels_down(tree, plan.labels, upper, lower);
     let state = rest.iter().fold(first, |s, &a| branch.step(s, a));
     let links = climb(tree, lower, tree.depth[upper])?.len();
@@ -63,6 +82,7 @@ fn lent<'a>(plan: &'a [u8], branch: &'a [u8], node_table: &'a [u16], state_table
 
 /// 17, 13, 16, 18 or the answer.
 pub fn on_tables(
+    reading: Reading,
     plan: &[u8],
     branch: &[u8],
     node_table: &[u16],
@@ -80,13 +100,13 @@ pub fn on_tables(
         return Err(16);
     }
     let moves = climb(&lent.tree, lower, lent.tree.depth(upper))?;
-    lent.answer(upper, &moves)
+    lent.answer(reading, upper, &moves)
 }
 
 impl Question<'_> {
     /// The climb carries a map, from the state after the label of the node reached down to the state after the lower
     /// node's. It is whole, so a move is read for every state, also for those that the answer doesn't need.
-    fn answer(&self, upper: usize, moves: &[Move]) -> Result<Answer, u32> {
+    fn answer(&self, reading: Reading, upper: usize, moves: &[Move]) -> Result<Answer, u32> {
         let mut carried: Vec<usize> = (0..self.s).collect();
         for &one in moves {
             let entered = (0..self.s).map(|q| self.through(one, q)).collect::<Result<Vec<usize>, u32>>()?;
@@ -94,9 +114,22 @@ impl Question<'_> {
             let wrong = after(&carried, &entered);
             carried = unless(Mistake::MapsFromTheWrongEnd, after(&entered, &carried), wrong);
         }
-        let state = carried[self.step(0, upper)?];
+        let state = carried[self.first(reading, upper)?];
         let yes = unless(Mistake::AnyMarkIsYes, self.marks[state] == 1, self.marks[state] != 0);
         Ok(Answer { state: state as u8, yes, links: moves.len() })
+    }
+
+    /// The state that the word below the upper node starts in; from below it the upper node's label is not read, and so can't
+    /// lead outside.
+    fn first(&self, reading: Reading, upper: usize) -> Result<usize, u32> {
+        let with_upper = (reading == Reading::WithUpper) != made(Mistake::ReadingsExchanged);
+        if with_upper {
+            self.step(0, upper)
+        } else if made(Mistake::UpperRead) {
+            self.step(0, upper).map(|_| 0)
+        } else {
+            Ok(0)
+        }
     }
 
     /// The state at the lower end of a move, from the state at its upper end.

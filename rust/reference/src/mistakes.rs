@@ -21,6 +21,10 @@ pub enum Mistake {
     MapsFromTheWrongEnd,
     /// Words are read from the lower node up.
     WordsUpward,
+    /// The word from below the upper node has its label, and the other word has not.
+    ReadingsExchanged,
+    /// The upper node's label is looked at where the word runs from below it.
+    UpperRead,
     /// The jump of the jump is taken where the first distance is greater than the second, not equal.
     JumpRule,
     /// In a climb the jump is taken if its depth is greater than t, not at least t.

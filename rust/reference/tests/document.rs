@@ -1,6 +1,6 @@
 //! The reference implementation against the numbers that document 01 itself gives.
 
-use reference::branch::{by_word, Answer};
+use reference::branch::{by_word, Answer, Reading};
 use reference::climb::climb;
 use reference::formats::{read_branch, read_plan, read_rules};
 use reference::fresh::fresh_run;
@@ -97,12 +97,19 @@ fn branch_words_run_downward() {
     let plan = plan_a();
     let (plan, branch) = (read_plan(&plan).unwrap(), read_branch(&table).unwrap());
     let tree = Tree::of(&plan);
-    let ask = |upper, lower| by_word(&tree, &plan, &branch, upper, lower);
+    let ask = |upper, lower| by_word(Reading::WithUpper, &tree, &plan, &branch, upper, lower);
+    let below = |upper, lower| by_word(Reading::BelowUpper, &tree, &plan, &branch, upper, lower);
     // labels 1 0 0 from the root by node 5 to node 3, label 0 alone at node 3, labels 0 0 from node 5
     assert_eq!(ask(6, 3), Ok(Answer { state: 2, yes: true, links: 2 }));
     assert_eq!(ask(3, 3), Ok(Answer { state: 0, yes: false, links: 0 }));
     assert_eq!(ask(5, 3), Ok(Answer { state: 0, yes: false, links: 1 }));
-    assert_eq!(ask(5, 0), Err(16));
-    assert_eq!(ask(3, 5), Err(16));
-    assert_eq!(ask(7, 0), Err(13));
+    // from below: labels 0 0, no label, label 0
+    assert_eq!(below(6, 3), Ok(Answer { state: 0, yes: false, links: 2 }));
+    assert_eq!(below(3, 3), Ok(Answer { state: 0, yes: false, links: 0 }));
+    assert_eq!(below(5, 3), Ok(Answer { state: 0, yes: false, links: 1 }));
+    for ask in [&ask as &dyn Fn(u32, u32) -> _, &below] {
+        assert_eq!(ask(5, 0), Err(16));
+        assert_eq!(ask(3, 5), Err(16));
+        assert_eq!(ask(7, 0), Err(13));
+    }
 }

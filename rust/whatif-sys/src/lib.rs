@@ -72,8 +72,25 @@ extern "C" {
         yes: *mut u32,
     ) -> u32;
 
-    /// The branch question from `upper` down to `lower`.
+    /// The branch question: the word from below `upper` down to `lower`.
     pub fn whatif_branch(
+        plan: *const u8,
+        plan_len: usize,
+        branch: *const u8,
+        branch_len: usize,
+        node_table: *const u16,
+        node_table_len: usize,
+        state_table: *const u8,
+        state_table_len: usize,
+        upper: u32,
+        lower: u32,
+        state: *mut u32,
+        yes: *mut u32,
+        links: *mut u32,
+    ) -> u32;
+
+    /// The branch question with the upper node's label: the word from `upper` down to `lower`, both included.
+    pub fn whatif_branch_with_upper(
         plan: *const u8,
         plan_len: usize,
         branch: *const u8,

@@ -61,7 +61,7 @@ pub use session::{Answer, Lent, Progress, Session, State};
 pub const VERSION: &str = env!("CARGO_PKG_VERSION");
 
 /// This crate's version, as major * 10000 + minor * 100 + patch: that of the archive it is made for.
-pub const VERSION_NUMBER: u32 = 200;
+pub const VERSION_NUMBER: u32 = 300;
 
 /// The version of the archive that is linked.
 ///
@@ -136,23 +136,27 @@ pub fn branch_check(plan: &[u8], branch: &[u8], node_table: &[u16], state_table:
     Ok(yes == 1)
 }
 
-/// What the branch table makes of the labels from node `upper` down to node `lower`, both included, from state 0 on.
-/// Refused with 17, 13, 16, 18 (in this order); never 18 on tables as `branch_build` wrote them for what is lent.
+/// What the branch table makes of the labels from below node `upper` down to node `lower`, from state 0 on. The same node
+/// twice is the empty word: state 0. Refused with 17, 13, 16, 18 (in this order); never 18 on tables as `branch_build` wrote
+/// them for what is lent.
 ///
 /// ```
 /// # fn main() -> Result<(), whatif::Refusal> {
-/// // one node with label 1; two states, of which label 1 leads to the marked one
-/// let plan: Vec<u8> = [1u32, 12, 13].iter().flat_map(|n| n.to_le_bytes()).chain([1, 0]).collect();
+/// // a root with label 0 over two leaves with label 1; two states, of which label 1 leads to the marked one
+/// let plan: Vec<u8> = [3u32, 12, 15].iter().flat_map(|n| n.to_le_bytes()).chain([1, 1, 0, 0, 0, 1]).collect();
 /// let branch: Vec<u8> = [2u32, 2, 16, 20].iter().flat_map(|n| n.to_le_bytes())
 ///     .chain([0, 1, 1, 1]) // steps by state and label
 ///     .chain([0, 1]) // marks
 ///     .collect();
-/// let (mut node_table, mut state_table) = ([0u16; 4], [0u8; 3]);
+/// let (mut node_table, mut state_table) = ([0u16; 12], [0u8; 9]);
 /// whatif::branch_build(&plan, &branch, &mut node_table, &mut state_table)?;
 /// assert!(whatif::branch_check(&plan, &branch, &node_table, &state_table)?);
 ///
+/// // from below the root 2 down to leaf 0 the word is 1; from below leaf 0 down to leaf 0 it is empty
+/// let told = whatif::branch(&plan, &branch, &node_table, &state_table, 2, 0)?;
+/// assert_eq!((told.state, told.yes, told.links), (1, true, 1));
 /// let told = whatif::branch(&plan, &branch, &node_table, &state_table, 0, 0)?;
-/// assert_eq!((told.state, told.yes, told.links), (1, true, 0));
+/// assert_eq!((told.state, told.yes, told.links), (0, false, 0));
 /// let refused = whatif::branch(&plan, &branch, &node_table, &state_table, 0, 65_536);
 /// assert_eq!(refused, Err(whatif::Refusal::Node));
 /// # Ok(())
@@ -167,9 +171,44 @@ pub fn branch(
     lower: u32,
 ) -> Result<BranchVerdict, Refusal> {
     let mut told = [0; 3];
-    accepted(slices::branch(plan, branch, node_table, state_table, upper, lower, &mut told))?;
-    let [state, yes, links] = told;
-    Ok(BranchVerdict { state: state as u8, yes: yes == 1, links })
+    accepted(slices::branch(plan, branch, node_table, state_table, [upper, lower], &mut told))?;
+    Ok(branch_verdict(told))
+}
+
+/// The same with the upper node's label: the labels from node `upper` down to node `lower`, both included. The same node
+/// twice is a word of one letter. Refused as `branch` is, and the links are the same.
+///
+/// ```
+/// # fn main() -> Result<(), whatif::Refusal> {
+/// // one node with label 1; two states, of which label 1 leads to the marked one
+/// let plan: Vec<u8> = [1u32, 12, 13].iter().flat_map(|n| n.to_le_bytes()).chain([1, 0]).collect();
+/// let branch: Vec<u8> = [2u32, 2, 16, 20].iter().flat_map(|n| n.to_le_bytes())
+///     .chain([0, 1, 1, 1]) // steps by state and label
+///     .chain([0, 1]) // marks
+///     .collect();
+/// let (mut node_table, mut state_table) = ([0u16; 4], [0u8; 3]);
+/// whatif::branch_build(&plan, &branch, &mut node_table, &mut state_table)?;
+///
+/// let told = whatif::branch_with_upper(&plan, &branch, &node_table, &state_table, 0, 0)?;
+/// assert_eq!((told.state, told.yes, told.links), (1, true, 0));
+/// # Ok(())
+/// # }
+/// ```
+pub fn branch_with_upper(
+    plan: &[u8],
+    branch: &[u8],
+    node_table: &[u16],
+    state_table: &[u8],
+    upper: u32,
+    lower: u32,
+) -> Result<BranchVerdict, Refusal> {
+    let mut told = [0; 3];
+    accepted(slices::branch_with_upper(plan, branch, node_table, state_table, [upper, lower], &mut told))?;
+    Ok(branch_verdict(told))
+}
+
+fn branch_verdict([state, yes, links]: [u32; 3]) -> BranchVerdict {
+    BranchVerdict { state: state as u8, yes: yes == 1, links }
 }
 
 /// Writes one rule table that clears exactly the plans that both clear, and tells how many bytes of `merged` it has; the

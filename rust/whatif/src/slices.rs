@@ -9,6 +9,22 @@ type Build = unsafe extern "C" fn(*const u8, usize, *const u8, usize, *mut u16, 
 type Check =
     unsafe extern "C" fn(*const u8, usize, *const u8, usize, *const u16, usize, *const u8, usize, *mut u32) -> u32;
 
+type Branch = unsafe extern "C" fn(
+    *const u8,
+    usize,
+    *const u8,
+    usize,
+    *const u16,
+    usize,
+    *const u8,
+    usize,
+    u32,
+    u32,
+    *mut u32,
+    *mut u32,
+    *mut u32,
+) -> u32;
+
 pub fn build(plan: &[u8], rules: &[u8], node_table: &mut [u16], state_table: &mut [u8]) -> u32 {
     build_by(raw::whatif_build, plan, rules, node_table, state_table)
 }
@@ -84,14 +100,37 @@ pub fn branch(
     branch: &[u8],
     node_table: &[u16],
     state_table: &[u8],
-    upper: u32,
-    lower: u32,
+    [upper, lower]: [u32; 2],
+    told: &mut [u32; 3],
+) -> u32 {
+    branch_by(raw::whatif_branch, plan, branch, node_table, state_table, [upper, lower], told)
+}
+
+/// The same with the upper node's label.
+pub fn branch_with_upper(
+    plan: &[u8],
+    branch: &[u8],
+    node_table: &[u16],
+    state_table: &[u8],
+    [upper, lower]: [u32; 2],
+    told: &mut [u32; 3],
+) -> u32 {
+    branch_by(raw::whatif_branch_with_upper, plan, branch, node_table, state_table, [upper, lower], told)
+}
+
+fn branch_by(
+    ask: Branch,
+    plan: &[u8],
+    branch: &[u8],
+    node_table: &[u16],
+    state_table: &[u8],
+    [upper, lower]: [u32; 2],
     told: &mut [u32; 3],
 ) -> u32 {
     let [state, yes, links] = told;
     // SAFETY: as in `build_by`
     unsafe {
-        raw::whatif_branch(
+        ask(
             plan.as_ptr(),
             plan.len(),
             branch.as_ptr(),

@@ -147,8 +147,35 @@ fn lent<'a>(plan: &'a [u8], branch: &'a [u8], node_table: usize, state_table: us
     Some((&plan[12..12 + n], Branch { s, k, steps, marks }))
 }
 
-/// The branch question. The map carried goes from the node climbed to down to `lower`; each move is put before it.
+/// The branch question: the word from below the upper node.
+#[inline(never)]
 pub fn ask(
+    plan: &[u8],
+    branch: &[u8],
+    node_table: &[u16],
+    state_table: &[u8],
+    upper: u32,
+    lower: u32,
+) -> Result<Told, u32> {
+    ask_by::<false>(plan, branch, node_table, state_table, upper, lower)
+}
+
+/// The same with the upper node's label.
+#[inline(never)]
+pub fn ask_with_upper(
+    plan: &[u8],
+    branch: &[u8],
+    node_table: &[u16],
+    state_table: &[u8],
+    upper: u32,
+    lower: u32,
+) -> Result<Told, u32> {
+    ask_by::<true>(plan, branch, node_table, state_table, upper, lower)
+}
+
+/// The map carried goes from the node climbed to down to `lower`; each move is put before it.
+#[inline(always)]
+fn ask_by<const WITH_UPPER: bool>(
     plan: &[u8],
     branch: &[u8],
     node_table: &[u16],
@@ -196,10 +223,14 @@ pub fn ask(
         v = next;
         links += 1;
     }
-    let a = labels[upper] as usize;
-    if a >= k {
-        return Err(18);
+    let mut first = 0;
+    if WITH_UPPER {
+        let a = labels[upper] as usize;
+        if a >= k {
+            return Err(18);
+        }
+        first = branch.steps[a] as usize;
     }
-    let state = *carried[..s].get(branch.steps[a] as usize).ok_or(18u32)?;
+    let state = *carried[..s].get(first).ok_or(18u32)?;
     Ok(Told { state, yes: branch.marks[state as usize] == 1, links })
 }

@@ -22,7 +22,7 @@ mod rules;
 pub mod session;
 
 pub use agree::agree;
-pub use branch::{ask, branch_build, branch_check, Told};
+pub use branch::{ask, ask_with_upper, branch_build, branch_check, Told};
 pub use fresh::fresh_run;
 pub use merge::merge;
 pub use planner::{plan_of_planner, planner_of_plan};

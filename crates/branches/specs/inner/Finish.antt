@@ -1,7 +1,9 @@
 -- The end of a branch question: what is told of a composed map, on the runs of labels, steps and marks.
 --
--- firstOf s k ls st u == firstState on runs: the state after the upper node's label
--- finish s k ls st mk u x == the answer of a composition x
+-- firstOf reading s k ls st u == firstState on runs
+-- numbered s r == the state that the number r names, none where it is no state of s
+-- finish reading s k ls st mk u x == the answer of a composition x
+-- FirstArgs .. == what the first state reads is inside its runs
 -- FinishArgs .. == what the last function reads is inside its runs, the map of s states in maps from `at` on included
 -- AnswerArgs p r nodeTable bytes u l == what the lent headers and lengths say where 17 and 13 pass
 --
@@ -17,20 +19,29 @@ use Rattle.trees.specs.Climb.{andThen}
 use Rattle.formats.specs.Plan.{nodeCount}
 use Rattle.formats.specs.Rules.{wordAutomaton}
 use Rattle.formats.specs.Buffers.{headedBuffersFit, branchTables}
+use Rattle.branches.specs.declared.answers.Reading.{Reading}
+use Rattle.branches.specs.declared.answers.Reading.the-variants.{WithUpper, BelowUpper}
 use Rattle.branches.specs.Question.{Branched, branched}
 
-unfoldable pub firstOf : ℕ → ℕ → List ℕ → List ℕ → ℕ → Option ℕ
-firstOf s k ls st u =
+unfoldable pub firstOf : Reading → ℕ → ℕ → List ℕ → List ℕ → ℕ → Option ℕ
+firstOf WithUpper s k ls st u =
     cond (ltb (getD ls u 0) k && ltb (getD st (0 * k + getD ls u 0) 0) s) (some (getD st (0 * k + getD ls u 0) 0)) none
+firstOf BelowUpper s k ls st u = some 0
 
-unfoldable pub finish : ℕ → ℕ → List ℕ → List ℕ → List ℕ → ℕ → List ℕ → ℕ → Option Branched
-finish s k ls st mk u m c =
-    andThen (firstOf s k ls st u) (λ q. some (branched (wordAutomaton s k st mk) (getD m q 0) c))
+abbrev pub numbered : ℕ → ℕ → Option ℕ
+numbered s r = cond (ltb r s) (some r) none
 
-pub record FinishArgs (s k : ℕ) (ls st mk : List ℕ) (u : ℕ) (maps : List ℕ) (at : ℕ) : Type 0 where
+unfoldable pub finish : Reading → ℕ → ℕ → List ℕ → List ℕ → List ℕ → ℕ → List ℕ → ℕ → Option Branched
+finish reading s k ls st mk u m c =
+    andThen (firstOf reading s k ls st u) (λ q. some (branched (wordAutomaton s k st mk) (getD m q 0) c))
+
+pub record FirstArgs (s k : ℕ) (ls st : List ℕ) (u : ℕ) : Type 0 where
   pub least : 1 ≤ s
   pub upper : u < length ls
   pub steps-room : s * k ≤ length st
+
+pub record FinishArgs (s k : ℕ) (ls st mk : List ℕ) (u : ℕ) (maps : List ℕ) (at : ℕ) : Type 0 where
+  pub first : FirstArgs s k ls st u
   pub marks-room : s ≤ length mk
   pub maps-room : at + s ≤ length maps
   pub below : (q : ℕ) → q < s → getD maps (at + q) 0 < s

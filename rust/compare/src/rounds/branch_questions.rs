@@ -8,7 +8,7 @@ use crate::faults::shorter;
 use crate::inputs::Case;
 use crate::random::Random;
 use crate::shapes::SHAPES;
-use reference::branch::by_word;
+use reference::branch::{by_word, READINGS};
 use reference::formats::{read_branch, read_plan};
 use reference::tree::Tree;
 
@@ -21,6 +21,7 @@ pub fn round(random: &mut Random, counts: &mut Counts) {
         counts.add(format!("answered, moves: {}", ["none", "1", "2", "3 or more"][moves.min(3) as usize]));
         let any = random.below(built.case.n) as u32;
         let _ = ask(&built, &tree, any, lower, random);
+        ask(&built, &tree, lower, lower, random).expect("accepted");
     }
     let way = random.below(WRONG_LENGTHS);
     let (shape, leaves) = (*random.pick(&SHAPES), random.between(2, 40));
@@ -28,13 +29,16 @@ pub fn round(random: &mut Random, counts: &mut Counts) {
     refusals(Case::new(shape, leaves, s, k, random), way, random, counts);
 }
 
-/// A question whose answer is the word automaton's.
+/// A question in each reading, whose answer is the word automaton's on its own word; the answer with the upper node's label.
 pub fn ask(built: &Built, tree: &Tree, upper: u32, lower: u32, random: &mut Random) -> Result<[u32; 3], u32> {
     let (plan, branch) = (read_plan(&built.case.plan).unwrap(), read_branch(&built.case.branch).unwrap());
-    let word = by_word(tree, &plan, &branch, upper, lower);
-    let answer = calls::branch(built.lent(), upper, lower, random);
-    assert_eq!(answer, word.map(|told| [told.state as u32, told.yes as u32, told.links as u32]), "the word automaton");
-    answer
+    let answers = calls::branches(built.lent(), upper, lower, random);
+    for (reading, answer) in READINGS.into_iter().zip(answers) {
+        let word = by_word(reading, tree, &plan, &branch, upper, lower);
+        let want = word.map(|told| [told.state as u32, told.yes as u32, told.links as u32]);
+        assert_eq!(answer, want, "the word automaton, {:?}", reading);
+    }
+    answers[0]
 }
 
 /// In how many ways something lent can be cut short, be too long or name a number outside its limits.
@@ -95,8 +99,9 @@ pub fn refusals(case: Case, way: usize, random: &mut Random, counts: &mut Counts
         (&short, v, root, 17, "with 16"),
         (&both, root, v, 17, "with 18"),
     ] {
-        let answer = calls::branch(built.lent(), upper, lower, random);
-        assert_eq!(answer.err().unwrap_or(0), wanted, "{}, in way {}", what, way);
+        for answer in calls::branches(built.lent(), upper, lower, random) {
+            assert_eq!(answer.err().unwrap_or(0), wanted, "{}, in way {}", what, way);
+        }
         counts.add(format!("answer {}: {}", wanted, what));
     }
 }

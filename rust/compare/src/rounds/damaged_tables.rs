@@ -7,6 +7,7 @@ use crate::calls::{self, Kind};
 use crate::counts::Counts;
 use crate::inputs::Case;
 use crate::random::Random;
+use reference::branch::READINGS;
 
 pub fn round(random: &mut Random, counts: &mut Counts) {
     for _ in 0..8 {
@@ -44,11 +45,13 @@ pub fn ask(case: Case, random: &mut Random, counts: &mut Counts) {
     for _ in 0..4 {
         let lower = random.below(n) as u32;
         let upper = random.between(lower as usize, n - 1) as u32;
-        let answer = calls::branch(built.lent(), upper, lower, random);
-        assert_eq!(answer, calls::library_branch(built.lent(), upper, lower, random), "the same again");
-        match answer {
-            Ok(_) => counts.add("answered"),
-            Err(number) => {
+        let answers = calls::branches(built.lent(), upper, lower, random);
+        let again = READINGS.map(|reading| calls::library_branch(reading, built.lent(), upper, lower, random));
+        assert_eq!(answers, again, "the same again");
+        match answers {
+            [Ok(_), _] => counts.add("answered"),
+            [Err(number), Ok(_)] => counts.add(format!("refused {}, answered from below the upper node", number)),
+            [Err(number), Err(_)] => {
                 assert!(number == 16 || number == 18, "refused {}", number);
                 counts.add(format!("refused {}", number));
             }

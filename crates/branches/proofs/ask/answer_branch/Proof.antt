@@ -107,13 +107,13 @@ depth-at-requires c κs =
 compose-climb-requires : tie.Need-compose-climb-requires
 compose-climb-requires c κs =
     let d = c .before in
-    compose-args _ _ _ _ _ _ _ _ _ _ _ _ (mark-run d) (begun d .pre) (on d)
+    compose-args (begun d .args .reading) _ _ _ _ _ _ _ _ _ _ _ _ (mark-run d) (begun d .pre) (on d)
 
 returns : tie.Need-returns
 returns c =
     let x = c .before .before .before in
     let d = x .before .before in
-    answer-none _ _ _ _ _ _ _ _ _ _ _ _ (mark-run d) (begun d .pre) (on d) (x .compose-climb .result) _
+    answer-none (begun d .args .reading) _ _ _ _ _ _ _ _ _ _ _ _ (mark-run d) (begun d .pre) (on d) (x .compose-climb .result) _
     (x .compose-climb .ensures) (not-true _ (c .if1 .taken))
 
 mul-finish-answer : tie.Need-mul-finish-answer
@@ -132,14 +132,14 @@ finish-answer-requires : tie.Need-finish-answer-requires
 finish-answer-requires c κs =
     let x = c .before .before .before .before .before in
     let d = x .before .before in
-    finish-args _ _ _ _ _ _ _ _ _ _ _ _ (mark-run d) (begun d .pre) (on d) (x .compose-climb .result) _
+    finish-args (begun d .args .reading) _ _ _ _ _ _ _ _ _ _ _ _ (mark-run d) (begun d .pre) (on d) (x .compose-climb .result) _
     (x .compose-climb .ensures) (not-false _ (c .before .before .if1 .left))
 
 returns-2 : tie.Need-returns-2
 returns-2 c =
     let x = c .before .before .before .before .before .before in
     let d = x .before .before in
-    answer-some _ _ _ _ _ _ _ _ _ _ _ _ (mark-run d) (begun d .pre) (on d) (x .compose-climb .result) _
+    answer-some (begun d .args .reading) _ _ _ _ _ _ _ _ _ _ _ _ (mark-run d) (begun d .pre) (on d) (x .compose-climb .result) _
     (x .compose-climb .ensures) (c .finish-answer .result) (not-false _ (c .before .before .before .if1 .left))
     (c .finish-answer .ensures)
 

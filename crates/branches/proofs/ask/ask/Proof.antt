@@ -11,10 +11,10 @@ use Rattle.branches.proofs.AskChecks.{ask-17, ask-13-upper, ask-13-lowe
 use Rattle.branches.proofs.AskTheorem.{ask-done}
 use borrow.Author.Needs.{needs}
 use Rattle.formats.proofs.bytes.read32.Reads as read32-reads
-use Rattle.branches.proofs.ask.ask_branch.Statement.{statement}
-use Rattle.branches.proofs.ask.ask_branch.Tie as tie
-use Rattle.branches.proofs.ask.ask_branch.Reads as reads
-use Rattle.branches.proofs.ask.ask_branch.Lts as lts
+use Rattle.branches.proofs.ask.ask.Statement.{statement}
+use Rattle.branches.proofs.ask.ask.Tie as tie
+use Rattle.branches.proofs.ask.ask.Reads as reads
+use Rattle.branches.proofs.ask.ask.Lts as lts
 use Rattle.branches.proofs.ask.answer_branch.Reads as answer-branch-reads
 
 -- 17 passes
@@ -35,20 +35,20 @@ branch-buffers-fit-requires : tie.Need-branch-buffers-fit-requires
 branch-buffers-fit-requires c κs = search needs
 
 returns : tie.Need-returns
-returns c = ask-done _ _ _ _ _ _ _
-    (ask-17 _ _ _ _ _ _ (sym (c .before .branch-buffers-fit .ensures) ∙ not-true _ (c .if1 .taken)))
+returns c = ask-done _ _ _ _ _ _ _ _
+    (ask-17 _ _ _ _ _ _ _ (sym (c .before .branch-buffers-fit .ensures) ∙ not-true _ (c .if1 .taken)))
 
 read32-requires : tie.Need-read32-requires
 read32-requires c κs = omega (arith, headed-are _ _ _ _ _ (fits c) .headers .plan-long)
 
 returns-2 : tie.Need-returns-2
-returns-2 c = ask-done _ _ _ _ _ _ _
-    (ask-13-upper _ _ _ _ _ _ (fits (c .before .before)) (omega (arith, c .if2 .taken, c .before .read32 .ensures)))
+returns-2 c = ask-done _ _ _ _ _ _ _ _
+    (ask-13-upper _ _ _ _ _ _ _ (fits (c .before .before)) (omega (arith, c .if2 .taken, c .before .read32 .ensures)))
 
 returns-3 : tie.Need-returns-3
 returns-3 c =
-    ask-done _ _ _ _ _ _ _
-    (ask-13-lower _ _ _ _ _ _ (fits (c .before .before .before))
+    ask-done _ _ _ _ _ _ _ _
+    (ask-13-lower _ _ _ _ _ _ _ (fits (c .before .before .before))
     (omega (arith, c .if3 .taken, c .before .before .read32 .ensures)))
 
 is-below-requires : tie.Need-is-below-requires
@@ -58,8 +58,8 @@ is-below-requires c κs =
 returns-4 : tie.Need-returns-4
 returns-4 c =
     let e = c .before .before in
-    ask-done _ _ _ _ _ _ _
-    (ask-16 _ _ _ _ _ _ (fits (e .before .before .before)) (upper-in (e .before)) (lower-in e)
+    ask-done _ _ _ _ _ _ _ _
+    (ask-16 _ _ _ _ _ _ _ (fits (e .before .before .before)) (upper-in (e .before)) (lower-in e)
     (sym (c .before .is-below .ensures) ∙ not-true _ (c .if4 .taken)))
 
 answer-branch-requires : tie.Need-answer-branch-requires
@@ -70,13 +70,13 @@ answer-branch-requires c κs =
 returns-5 : tie.Need-returns-5
 returns-5 c =
     let e = c .before .before .before in
-    ask-done _ _ _ _ _ _ (c .answer-branch .result)
+    ask-done _ _ _ _ _ _ _ (c .answer-branch .result)
     (c .answer-branch .ensures
-    ∙ sym (ask-on _ _ _ _ _ _ (fits (e .before .before .before)) (upper-in (e .before)) (lower-in e)
+    ∙ sym (ask-on _ _ _ _ _ _ _ (fits (e .before .before .before)) (upper-in (e .before)) (lower-in e)
     (sym (c .before .before .is-below .ensures) ∙ not-false _ (c .before .if4 .left))))
 
-pub ask-branch-spec : {M : Type 1} → statement M
-ask-branch-spec =
+pub ask-spec : {M : Type 1} → statement M
+ask-spec =
     tie.close
     (tie.spec
     branch-buffers-fit-requires
