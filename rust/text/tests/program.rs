@@ -19,7 +19,7 @@ fn status(words: &[&str], input: &str) -> Option<i32> {
 #[test]
 fn a_full_disk() {
     let full = || Stdio::from(File::options().write(true).open("/dev/full").expect("/dev/full"));
-    for words in [&["write"][..], &["dot", "1"], &["--help"], &["--version"]] {
+    for words in [&["write"][..], &["answer"], &["why", "1"], &["suggest"], &["outline", "1"], &["dot", "1"], &["--help"], &["--version"]] {
         let done = program(words, SAMPLE, full());
         assert_eq!(done.status.code(), Some(1), "{:?}", words);
         assert!(String::from_utf8_lossy(&done.stderr).starts_with("whatif-text: "), "{:?}", words);
@@ -32,11 +32,15 @@ fn statuses() {
     assert_eq!(status(&["show"], SAMPLE), Some(1));
     assert_eq!(status(&["dot", "99"], SAMPLE), Some(1));
     assert_eq!(status(&["draw"], SAMPLE), Some(2));
+    assert_eq!(status(&["random", "--nodes"], SAMPLE), Some(2));
+    assert_eq!(status(&["random", "--nodes", "7", "--form", "arch"], SAMPLE), Some(2));
+    assert_eq!(status(&["random", "--nodes", "7"], SAMPLE), Some(2));
 }
 
 #[test]
 fn help_and_version() {
     let said = |words| String::from_utf8(program(words, "/dev/null", Stdio::piped()).stdout).expect("text");
-    assert!(said(&["--help"]).starts_with("usage: whatif-text write"));
+    assert!(said(&["--help"]).starts_with("usage: whatif-text VERB"));
+    assert_eq!(said(&["outline", "--help"]), said(&["--help"]));
     assert_eq!(said(&["--version"]), concat!("whatif-text ", env!("CARGO_PKG_VERSION"), "\n"));
 }
