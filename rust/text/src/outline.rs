@@ -62,9 +62,8 @@ fn picture(loaded: &Loaded, asked: &Asked, question: usize, changes: &[Change]) 
         text += &format!("    {} [label=\"{}\"{}];\n", v, words, look(loaded, asked, v, after, to.is_some()));
     }
     for edge in edges(loaded, &asked.roots) {
-        let climbed = |(up, links)| {
-            format!(" [style=dashed, label=\" {} up in {} \"]", count(up, "node"), count(links, "link"))
-        };
+        let climbed =
+            |(up, links)| format!(" [style=dashed, label=\" {} up in {} \"]", count(up, "node"), count(links, "link"));
         text += &format!("    {} -> {}{};\n", edge.above, edge.root, edge.climb.map_or(String::new(), climbed));
     }
     text + "}\n"

@@ -83,7 +83,7 @@ impl Wanted {
         let kinds = self.kinds(&mut random)?;
         let plan = write::plan(&random.bytes_below(self.nodes, self.labels), &kinds);
         let rules = self.rules(&mut random)?;
-        let questions: Vec<u8> = (0..self.questions).flat_map(|_| self.question(&mut random)).collect();
+        let questions: Vec<u8> = (0..self.questions).flat_map(|_| self.question(&plan[12..], &mut random)).collect();
         let bytes = write::with_header(&[plan.len(), rules.len(), questions.len()], &[&plan, &rules, &questions]);
         Ok(show(&bytes).expect("as long as its lengths say"))
     }
@@ -117,7 +117,8 @@ impl Wanted {
         }
     }
 
-    fn question(&self, random: &mut Random) -> Vec<u8> {
+    /// Different nodes, each with another label than its own, where there is one.
+    fn question(&self, labels: &[u8], random: &mut Random) -> Vec<u8> {
         let mut nodes: Vec<u16> = Vec::new();
         while nodes.len() < self.changes.min(self.nodes) {
             let v = random.below(self.nodes) as u16;
@@ -125,7 +126,11 @@ impl Wanted {
                 nodes.push(v);
             }
         }
-        let change = |v: u16| [v.to_le_bytes()[0], v.to_le_bytes()[1], random.below(self.labels) as u8];
+        let change = |v: u16| {
+            let other = random.between(1, self.labels.max(2) - 1);
+            let label = (labels[v as usize] as usize + other) % self.labels;
+            [v.to_le_bytes()[0], v.to_le_bytes()[1], label as u8]
+        };
         let listed = nodes.into_iter().flat_map(change);
         (self.changes.min(self.nodes) as u16).to_le_bytes().into_iter().chain(listed).collect()
     }

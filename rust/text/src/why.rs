@@ -4,15 +4,16 @@ use crate::input::Input;
 use crate::loaded::Loaded;
 use crate::outcome::Failure;
 use crate::questions::Change;
-use crate::sentences;
+use crate::sentences::{self, count};
 use reference::climb::Links;
 use reference::fresh::changed;
 use reference::tables::run;
 use std::collections::BTreeSet;
 
-/// Of a longer path the first and the last steps are told.
-const FIRST: usize = 12;
-const LAST: usize = 3;
+/// Of more steps than these between two listed nodes the first and the last are told.
+const STEPS: usize = 8;
+const FIRST: usize = 4;
+const LAST: usize = 2;
 
 /// Of one of the questions, counted from 1; every step where `whole`.
 pub fn of_question(input: &Input, question: usize, whole: bool) -> Result<String, Failure> {
@@ -62,46 +63,60 @@ impl Paths<'_> {
 
     /// From a listed node up.
     fn from(&mut self, v: usize) -> String {
-        let mut lines = vec![self.line(v, "")];
-        let root = self.loaded.nodes() - 1;
-        let (mut at, mut open) = (v, None);
-        while self.differs(at) && at != root && self.told.insert(at) {
+        if self.told.contains(&v) {
+            return self.line(v, "; its path is told above");
+        }
+        let mut text = self.line(v, "");
+        let mut at = v;
+        while self.differs(at) && at + 1 < self.loaded.nodes() {
+            self.told.insert(at);
+            let (steps, next) = self.steps(self.loaded.tree().parent(at));
+            text += &self.shortened(&steps);
+            if self.told.contains(&next) {
+                return text + &format!("  node {}: from here as above\n", next);
+            }
+            let rejoins = if self.differs(next) { "" } else { ": it rejoins the old run" };
+            text += &format!("  {}", self.line(next, rejoins));
+            at = next;
+        }
+        self.told.insert(at);
+        text
+    }
+
+    /// The steps from a node up to the next one that has a line of its own, and that one: a node that is listed, told before,
+    /// as before, or the root.
+    fn steps(&mut self, first: usize) -> (Vec<Step>, usize) {
+        let (mut steps, mut at): (Vec<Step>, usize) = (Vec::new(), first);
+        while self.differs(at) && at + 1 < self.loaded.nodes() && self.takes(at).is_none() && self.told.insert(at) {
+            match steps.last_mut() {
+                Some(step) if self.states(step.to) == self.states(at) => {
+                    step.to = at;
+                    step.nodes += 1;
+                }
+                _ => steps.push(Step { from: at, to: at, nodes: 1 }),
+            }
             at = self.loaded.tree().parent(at);
-            if self.told.contains(&at) {
-                self.close(&mut open, &mut lines);
-                lines.push(format!("  node {}: told above\n", at));
-            } else if !self.differs(at) || at == root || self.takes(at).is_some() {
-                self.close(&mut open, &mut lines);
-                lines.push("  ".to_string() + &self.line(at, if self.differs(at) { "" } else { ": rejoined" }));
-            } else {
-                self.lengthen(&mut open, &mut lines, at);
-            }
         }
-        self.told.insert(v);
-        self.shortened(&lines)
+        (steps, at)
     }
 
-    fn lengthen(&self, open: &mut Option<Step>, lines: &mut Vec<String>, at: usize) {
-        match open {
-            Some(step) if self.states(step.to) == self.states(at) => {
-                step.to = at;
-                step.nodes += 1;
-            }
-            _ => {
-                self.close(open, lines);
-                *open = Some(Step { from: at, to: at, nodes: 1 });
-            }
+    fn shortened(&self, steps: &[Step]) -> String {
+        let all = |steps: &[Step]| steps.iter().map(|step| self.step(step)).collect::<String>();
+        if self.whole || steps.len() <= STEPS {
+            return all(steps);
         }
+        let (first, rest) = steps.split_at(FIRST);
+        let (between, last) = rest.split_at(rest.len() - LAST);
+        let nodes: usize = between.iter().map(|step| step.nodes).sum();
+        all(first) + &format!("  .. {} more ..\n", count(nodes, "node")) + &all(last)
     }
 
-    fn close(&self, open: &mut Option<Step>, lines: &mut Vec<String>) {
-        if let Some(step) = open.take() {
-            let (before, after) = self.states(step.from);
-            let states = sentences::state(before, after);
-            lines.push(match step.nodes {
-                1 => format!("  node {}: {}\n", step.from, states),
-                nodes => format!("  nodes {} up to {}, {} of them: {}\n", step.from, step.to, nodes, states),
-            });
+    fn step(&self, step: &Step) -> String {
+        let (before, after) = self.states(step.from);
+        let states = sentences::state(before, after);
+        match step.nodes {
+            1 => format!("  node {}: {}\n", step.from, states),
+            nodes => format!("  nodes {} up to {}, {} of them: {}\n", step.from, step.to, nodes, states),
         }
     }
 
@@ -113,14 +128,6 @@ impl Paths<'_> {
         });
         let root = if v + 1 == self.loaded.nodes() { ", the root" } else { "" };
         format!("node {}{}{}: {}{}\n", v, root, label, sentences::state(before, after), end)
-    }
-
-    fn shortened(&self, lines: &[String]) -> String {
-        if self.whole || lines.len() <= FIRST + LAST + 1 {
-            return lines.concat();
-        }
-        let left_out = format!("  .. {} lines left out ..\n", lines.len() - FIRST - LAST);
-        lines[..FIRST].concat() + &left_out + &lines[lines.len() - LAST..].concat()
     }
 
     /// The label that a listed node is to take.

@@ -19,7 +19,16 @@ fn status(words: &[&str], input: &str) -> Option<i32> {
 #[test]
 fn a_full_disk() {
     let full = || Stdio::from(File::options().write(true).open("/dev/full").expect("/dev/full"));
-    for words in [&["write"][..], &["answer"], &["why", "1"], &["suggest"], &["outline", "1"], &["dot", "1"], &["--help"], &["--version"]] {
+    for words in [
+        &["write"][..],
+        &["answer"],
+        &["why", "1"],
+        &["suggest"],
+        &["outline", "1"],
+        &["dot", "1"],
+        &["--help"],
+        &["--version"],
+    ] {
         let done = program(words, SAMPLE, full());
         assert_eq!(done.status.code(), Some(1), "{:?}", words);
         assert!(String::from_utf8_lossy(&done.stderr).starts_with("whatif-text: "), "{:?}", words);

@@ -55,7 +55,7 @@ fn outlines() {
         let words: Vec<&str> = words.split(' ').collect();
         Input::of_text(&text::random::text(&words).unwrap().unwrap()).unwrap()
     };
-    let arch = of("--nodes 61471 --shape arch --seed 7 --questions 4");
+    let arch = of("--nodes 61471 --shape arch --seed 6 --questions 4");
     let most = of("--nodes 65535 --shape random --changes 64 --questions 1 --states 16 --labels 64");
     for (input, question) in [(&arch, 1), (&arch, 2), (&arch, 3), (&arch, 4), (&most, 1)] {
         let graphviz = text::draw(input, question).unwrap();

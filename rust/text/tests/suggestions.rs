@@ -55,7 +55,8 @@ fn climbs_of_outlines() {
         let loaded = Loaded::new(&input.plan, &input.rules).unwrap();
         for question in &input.questions {
             let asked = loaded.ask(question).unwrap();
-            let links: usize = edges(&loaded, &asked.roots).iter().filter_map(|edge| edge.climb).map(|climb| climb.1).sum();
+            let links: usize =
+                edges(&loaded, &asked.roots).iter().filter_map(|edge| edge.climb).map(|climb| climb.1).sum();
             assert_eq!(links, asked.answer.links as usize);
         }
     }
