@@ -12,8 +12,8 @@ pub struct Input {
 }
 
 impl Input {
-    /// Bytes are those that are as long as their three lengths say: no text is. A last question that is cut short is dropped,
-    /// as the program `whatif` drops it.
+    /// Bytes are those that are as long as their three lengths say: no text is. A last question that is cut short is
+    /// dropped, as the program `whatif` drops it.
     pub fn of(bytes: &[u8]) -> Result<Input, Failure> {
         match parts_of(bytes) {
             Some(parts) => Ok(Input::of_parts(parts)),

@@ -18,16 +18,18 @@
 //! 0->0 2->0
 //! ```
 //!
-//! `#` begins a comment. Bytes that have no such form, or that are to be refused, are written as they are, with lines of
-//! the word `bytes` and two digits for each byte. Labels and states need not be those of the table: a program is to
-//! refuse them.
+//! `#` begins a comment. Bytes that have no such form, or that are to be refused, are written as they are, with lines
+//! of the word `bytes` and two digits for each byte. Labels and states need not be those of the table: a program is
+//! to refuse them.
 //!
-//! Two texts of rules can be merged into one, or compared on every plan; plan and questions beside the rules are left aside.
+//! Two texts of rules can be merged into one, or compared on every plan; plan and questions beside the rules are left
+//! aside.
 //!
-//! Order: `lines` (words and numbers), `plan`, `rules`, `questions` (each from text to bytes and back), `input` (text or bytes),
-//! `outcome` (what a verb writes, its status), `sentences`, `loaded` (the library's session on an input), `progress`; then a file a
-//! verb: `answer`, `outline`, `why`, `suggest`, `script` (session), `stored` (build and check), `random`, `dot` (a small plan whole),
-//! `agree` (a separating plan). Writing, showing, merging and choosing a picture are in this file.
+//! Order: `lines` (words and numbers), `plan`, `rules`, `questions` (each from text to bytes and back), `input` (text
+//! or bytes), `outcome` (what a verb writes, its status), `sentences`, `loaded` (the library's session on an input),
+//! `progress`; then a file a verb: `answer`, `outline`, `why`, `suggest`, `script` (session), `stored` (build and
+//! check), `random`, `dot` (a small plan whole), `agree` (a separating plan). Writing, showing, merging and choosing
+//! a picture are in this file.
 
 pub mod agree;
 pub mod answer;

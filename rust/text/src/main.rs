@@ -1,5 +1,5 @@
-//! Plans, rules and questions as text or as bytes, and what the library says of them: USAGE has the verbs, docs/whatif-text.md
-//! explains them, the form of the text stands in lib.rs.
+//! Plans, rules and questions as text or as bytes, and what the library says of them: USAGE has the verbs,
+//! docs/whatif-text.md explains them, the form of the text stands in lib.rs.
 
 use std::io::{self, Read, Write};
 use std::process::exit;
@@ -9,7 +9,7 @@ use whatif::Line;
 
 const USAGE: &str = "usage: whatif-text VERB .. < INPUT
 
-INPUT is text or the bytes that the program whatif reads, a plan of up to 65,535 nodes. QUESTION is a number, counted from 1.
+INPUT is text or the bytes that the program whatif reads, a plan of up to 65,535 nodes. QUESTION is a number, from 1.
 
   answer                    a sentence for each question
   why QUESTION [all]        the states from each changed node up, until they rejoin the old run; all: every step
@@ -31,8 +31,9 @@ Without INPUT:
                                     a plan to try, with rules and questions, as text
   --help, --version
 
-The status is 0 where all is answered, 1 where the input is wrong (with its line) or the output can't be written, 2 for other
-words than these, 3 where something is refused (by number, as docs/REFUSALS.md has them), 4 where check or agree say no.";
+The status is 0 where all is answered, 1 where the input is wrong (with its line) or the output can't be written, 2 for
+other words than these, 3 where something is refused (by number, as docs/REFUSALS.md has them), 4 where check or agree
+say no.";
 
 const NOT_WHOLE: &str = "the input is shorter or longer than its three lengths say";
 

@@ -11,7 +11,8 @@ const HEAD: &str = "\
 // The roots of the parts alone. A box is a listed node, with the label it is to take.
 // A full line leads to a child, a dashed one is a climb: so many nodes up, in so many links.
 digraph outline {
-    graph [ordering=out, labelloc=t, fontname=\"sans-serif\", fontsize=20, size=\"7.5,10.5\", nodesep=0.15, ranksep=0.35];
+    graph [ordering=out, labelloc=t, fontname=\"sans-serif\", fontsize=20];
+    graph [size=\"7.5,10.5\", nodesep=0.15, ranksep=0.35];
     node [shape=ellipse, style=filled, fontname=\"sans-serif\", margin=\"0.05,0.03\"];
     edge [dir=none, fontname=\"sans-serif\"];
 ";

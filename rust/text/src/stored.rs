@@ -1,5 +1,5 @@
-//! `whatif-text build` and `whatif-text check`: the tables as files, as a panel would keep them: the node table's 16-bit numbers
-//! with the lower byte first, and the state table's bytes.
+//! `whatif-text build` and `whatif-text check`: the tables as files, as a panel would keep them: the node table's
+//! 16-bit numbers with the lower byte first, and the state table's bytes.
 
 use crate::input::Input;
 use crate::loaded::Loaded;

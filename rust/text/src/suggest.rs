@@ -1,9 +1,9 @@
 //! `whatif-text suggest`: every single change that turns the verdict, as questions to paste.
 //!
-//! From the root down, by the run states that the library's Load wrote: the set of states of a node with which the plan is
-//! cleared, all else as it is. Then a change needs one application of the rules and one look at the set of its node, so all
-//! changes of the largest plan take a moment. Up to a thousand of those that are told, evenly spread, are put to the library's
-//! fresh run.
+//! From the root down, by the run states that the library's Load wrote: the set of states of a node with which the
+//! plan is cleared, all else as it is. Then a change needs one application of the rules and one look at the set of
+//! its node, so all changes of the largest plan take a moment. Up to a thousand of those that are told, evenly
+//! spread, are put to the library's fresh run.
 
 use crate::input::Input;
 use crate::loaded::Loaded;

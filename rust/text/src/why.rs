@@ -83,8 +83,8 @@ impl Paths<'_> {
         text
     }
 
-    /// The steps from a node up to the next one that has a line of its own, and that one: a node that is listed, told before,
-    /// as before, or the root.
+    /// The steps from a node up to the next one that has a line of its own, and that one: a node that is listed, told
+    /// before, as before, or the root.
     fn steps(&mut self, first: usize) -> (Vec<Step>, usize) {
         let (mut steps, mut at): (Vec<Step>, usize) = (Vec::new(), first);
         while self.differs(at) && at + 1 < self.loaded.nodes() && self.takes(at).is_none() && self.told.insert(at) {

@@ -53,3 +53,21 @@ fn help_and_version() {
     assert_eq!(said(&["outline", "--help"]), said(&["--help"]));
     assert_eq!(said(&["--version"]), concat!("whatif-text ", env!("CARGO_PKG_VERSION"), "\n"));
 }
+
+/// docs/whatif-text.md has the verbs of the help, and shows what is written.
+#[test]
+fn the_page() {
+    let page = include_str!("../../../docs/whatif-text.md");
+    let help = String::from_utf8(program(&["--help"], "/dev/null", Stdio::piped()).stdout).expect("text");
+    let verbs: Vec<&str> =
+        help.lines().filter_map(|line| line.strip_prefix("  ")).filter(|l| !l.starts_with(' ')).collect();
+    assert_eq!(verbs.len(), 14, "{}", help);
+    for verb in verbs {
+        let verb = verb.split([' ', ',']).next().unwrap();
+        assert!(page.contains(&format!("`{}", verb)), "{}", verb);
+    }
+    let answers = include_str!("stored/answer");
+    let shown: Vec<&str> = page.lines().filter_map(|line| line.strip_prefix("    question ")).collect();
+    assert_eq!(shown.len(), 3);
+    assert!(shown.iter().all(|line| answers.contains(&format!("question {}\n", line))), "{:?}", shown);
+}

@@ -1,4 +1,5 @@
-//! Every single change, suggested or not, against the library's session: the verdict is turned exactly by those suggested.
+//! Every single change, suggested or not, against the library's session: the verdict is turned exactly by those
+//! suggested.
 
 use text::input::Input;
 use text::loaded::Loaded;

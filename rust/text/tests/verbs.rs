@@ -1,5 +1,6 @@
-//! Every verb on stored inputs, held to stored outputs: what is written, then what stands on standard error, then the status.
-//! With WHATIF_TEXT_STORE=1 in the environment the outputs are stored anew; look at what `git diff` shows then.
+//! Every verb on stored inputs, held to stored outputs: what is written, then what stands on standard error, then the
+//! status. With WHATIF_TEXT_STORE=1 in the environment the outputs are stored anew; look at what `git diff` shows
+//! then.
 
 use std::env;
 use std::fs;
