@@ -24,8 +24,8 @@ INPUT is text or the bytes that the program whatif reads, a plan of up to 65,535
 
 Without INPUT:
 
-  merge TEXT-FILE TEXT-FILE         the rules that clear what both clear, as text
-  agree TEXT-FILE TEXT-FILE [dot]   do two rules judge every plan alike? else a plan that they judge differently
+  merge FILE FILE                   the rules that clear what both clear, as text
+  agree FILE FILE [dot]             do two rules judge every plan alike? else a plan that they judge differently
   random --nodes N --shape arch|comb|balanced|random [--states S] [--labels K] [--questions Q] [--changes M]
          [--rules lasting|random] [--seed X]
                                     a plan to try, with rules and questions, as text
@@ -134,10 +134,14 @@ fn a_number(word: &str, what: &str) -> Result<usize, Failure> {
     word.parse().map_err(|_| Failure::wrong(format!("'{}' is not {}", word, what)))
 }
 
-/// The rules of two files, as bytes.
+/// The rules of two files, of text or of bytes.
 fn two_rules(first: &str, second: &str) -> Result<[Vec<u8>; 2], Failure> {
     let rules = |path: &str| {
-        let text = as_text(file(path)?).map_err(|what| of_file(path, what))?;
+        let bytes = file(path)?;
+        if let Some([_, rules, _]) = text::parts_of(&bytes) {
+            return Ok(rules.to_vec());
+        }
+        let text = as_text(bytes).map_err(|what| of_file(path, what))?;
         text::rules_of(&text).map_err(|wrong| of_file(path, wrong.to_string()))
     };
     Ok([rules(first)?, rules(second)?])
