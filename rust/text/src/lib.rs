@@ -18,28 +18,46 @@
 //! 0->0 2->0
 //! ```
 //!
-//! `#` begins a comment. Bytes that have no such form, or that are to be refused, are written as they are, with lines of
-//! the word `bytes` and two digits for each byte. Labels and states need not be those of the table: a program is to
-//! refuse them.
+//! `#` begins a comment. Bytes that have no such form, or that are to be refused, are written as they are, with lines
+//! of the word `bytes` and two digits for each byte. Labels and states need not be those of the table: a program is
+//! to refuse them.
 //!
-//! Two texts of rules can be merged into one, or compared on every plan; plan and questions beside the rules are left aside.
+//! Two texts of rules can be merged into one, or compared on every plan; plan and questions beside the rules are left
+//! aside.
 //!
-//! Order: `lines` (words and numbers), `plan`, `rules`, `questions` (each from text to bytes and back), `dot` (a picture), `agree`
-//! (a separating plan);
-//! the whole input is in this file.
+//! Order: `lines` (words and numbers), `plan`, `rules`, `questions` (each from text to bytes and back), `input` (text
+//! or bytes), `outcome` (what a verb writes, its status), `sentences`, `loaded` (the library's session on an input),
+//! `progress`; then a file a verb: `answer`, `outline`, `why`, `suggest`, `script` (session), `stored` (build and
+//! check), `random`, `dot` (a small plan whole), `agree` (a separating plan). Writing, showing, merging and choosing
+//! a picture are in this file.
 
 pub mod agree;
+pub mod answer;
 pub mod dot;
+pub mod input;
 pub mod lines;
+pub mod loaded;
+pub mod outcome;
+pub mod outline;
 pub mod plan;
 pub mod planner;
+pub mod progress;
 pub mod questions;
+pub mod random;
 pub mod rules;
+pub mod script;
+pub mod sentences;
+pub mod stored;
+pub mod suggest;
+pub mod why;
 
+use input::Input;
 use lines::{Line, Wrong};
+use outcome::Failure;
 use reference::formats::number;
 use reference::write::with_header;
-use whatif::sizes::{rules_bytes, MAX_LABELS, MAX_STATES};
+use whatif::sizes::{self, rules_bytes, MAX_LABELS, MAX_STATES};
+use whatif::Refusal;
 
 /// The lines of each section.
 #[derive(Default)]
@@ -78,8 +96,8 @@ pub fn write(text: &str) -> Result<Vec<u8>, Wrong> {
     Ok(with_header(&[plan.len(), rules.len(), questions.len()], &[&plan, &rules, &questions]))
 }
 
-/// Text from which `write` makes these bytes; none where they are fewer or more than their lengths say.
-pub fn show(input: &[u8]) -> Option<String> {
+/// Plan, rules and questions of such bytes; none where they are fewer or more than their lengths say.
+pub fn parts_of(input: &[u8]) -> Option<[&[u8]; 3]> {
     if input.len() < 12 {
         return None;
     }
@@ -90,6 +108,12 @@ pub fn show(input: &[u8]) -> Option<String> {
     }
     let (plan, rest) = bytes.split_at(plan);
     let (rules, questions) = rest.split_at(rules);
+    Some([plan, rules, questions])
+}
+
+/// Text from which `write` makes these bytes; none where they are fewer or more than their lengths say.
+pub fn show(input: &[u8]) -> Option<String> {
+    let [plan, rules, questions] = parts_of(input)?;
     let shown = [plan::to_text(plan), rules::to_text(rules), questions::to_text(questions)];
     Some(NAMES.iter().zip(shown).map(|(name, text)| format!("{}\n{}", name, text)).collect::<Vec<_>>().join("\n"))
 }
@@ -100,18 +124,21 @@ pub fn rules_of(text: &str) -> Result<Vec<u8>, Wrong> {
 }
 
 /// The rules that clear exactly the plans that both rules clear, as a section of text; or the merge's refusal.
-pub fn merge(first: &[u8], second: &[u8]) -> Result<String, whatif::Refusal> {
+pub fn merge(first: &[u8], second: &[u8]) -> Result<String, Refusal> {
     let mut merged = [0; rules_bytes(MAX_STATES, MAX_LABELS)];
     let len = whatif::merge(first, second, &mut merged)?;
     Ok(format!("{}\n{}", NAMES[1], rules::to_text(&merged[..len])))
 }
 
-/// The plan with the parts of one of the questions, counted from 1, as Graphviz text; or what is wrong.
-pub fn draw(text: &str, question: usize) -> Result<String, String> {
-    let sections = sections(text).map_err(|wrong| wrong.to_string())?;
-    let plan = plan::to_bytes(&sections.plan).map_err(|wrong| wrong.to_string())?;
-    let line = question.checked_sub(1).and_then(|i| sections.questions.get(i));
-    let line = line.ok_or_else(|| format!("there is no question {}", question))?;
-    let changes = questions::changes(line).map_err(|wrong| wrong.to_string())?;
-    dot::picture(&plan, &changes).map_err(|number| format!("refused {}", number))
+/// More nodes than these are drawn as an outline.
+pub const DRAWN_WHOLE: usize = 100;
+
+/// The plan with the parts of one of the questions, counted from 1, as Graphviz text: whole, or its outline.
+pub fn draw(input: &Input, question: usize) -> Result<String, Failure> {
+    let changes = input.question(question)?;
+    if input.plan.len() > sizes::plan_bytes(DRAWN_WHOLE) {
+        return outline::of_question(input, question);
+    }
+    let refused = |number| Failure::Refused(Refusal::from_number(number).expect("not 0").to_string());
+    dot::picture(&input.plan, changes).map_err(refused)
 }

@@ -1,88 +1,125 @@
-//! `whatif-text write` makes the bytes that the program `whatif` reads from text, `whatif-text show` makes text from such
-//! bytes, `whatif-text dot` draws a plan with the parts of one of its questions, counted from 1; from standard input to
-//! standard output. `whatif-text planner` takes a planner's tree to our plan and home, or draws both. `whatif-text merge` takes the rules of two files and makes the text of one table that clears exactly
-//! the plans that both clear; `whatif-text agree` says whether they judge every plan alike, or else shows a plan that one of
-//! them clears and the other does not: as lines and as a plan to paste or, with `dot`, as a picture. The form of the text
-//! stands in lib.rs. The status is 0, 1 where the input is wrong or the output can't be written whole, 2 for other words
-//! than these, 3 where `agree` shows a plan.
+//! Plans, rules and questions as text or as bytes, and what the library says of them: USAGE has the verbs,
+//! docs/whatif-text.md explains them, the form of the text stands in lib.rs.
 
 use std::io::{self, Read, Write};
 use std::process::exit;
+use text::input::Input;
+use text::outcome::{self, Failure, Made};
 use whatif::Line;
 
-const USAGE: &str = "usage: whatif-text write < TEXT > BYTES
-       whatif-text show < BYTES > TEXT
-       whatif-text dot QUESTION < TEXT > GRAPHVIZ
-       whatif-text merge TEXT-FILE TEXT-FILE > TEXT
-       whatif-text agree TEXT-FILE TEXT-FILE > TEXT
-       whatif-text agree TEXT-FILE TEXT-FILE dot > GRAPHVIZ
-       whatif-text planner import < PLANNER-TEXT > TEXT
-       whatif-text planner export < TEXT > PLANNER-TEXT
-       whatif-text planner dot < PLANNER-TEXT > GRAPHVIZ
-       whatif-text --help | --version";
+const USAGE: &str = "usage: whatif-text VERB .. < INPUT
+
+INPUT is text or the bytes that the program whatif reads, a plan of up to 65,535 nodes. QUESTION is a number, from 1.
+
+  answer                    a sentence for each question
+  why QUESTION [all]        the states from each changed node up, until they rejoin the old run; all: every step
+  suggest [NODE ..]         each single change that turns the verdict, of the whole plan or of these nodes, as questions
+  outline QUESTION          the roots of the parts as a picture, with their states and the climbs between (Graphviz)
+  dot QUESTION              the whole plan with the parts; above 100 nodes the outline (Graphviz)
+  session SCRIPT-FILE       a script of the lines load, start NODE->LABEL .., advance [TIMES|all], cancel, read
+  build FILE FILE           writes node table and state table into two files
+  check FILE FILE           are these the tables that build writes? else the first wrong node
+  planner import|export|dot a planner's tree as text to our plan, home again, or both as a picture (Graphviz)
+  write                     text to bytes
+  show                      bytes to text
+
+Without INPUT:
+
+  merge FILE FILE                   the rules that clear what both clear, as text
+  agree FILE FILE [dot]             do two rules judge every plan alike? else a plan that they judge differently
+  random --nodes N --shape arch|comb|balanced|random [--states S] [--labels K] [--questions Q] [--changes M]
+         [--rules lasting|random] [--seed X]
+                                    a plan to try, with rules and questions, as text
+  --help, --version
+
+The status is 0 where all is answered, 1 where the input is wrong (with its line) or the output can't be written, 2 for
+other words than these, 3 where something is refused (by number, as docs/REFUSALS.md has them), 4 where check or agree
+say no.";
 
 const NOT_WHOLE: &str = "the input is shorter or longer than its three lengths say";
-
-/// What is written, and the status where that goes well.
-type Made = Result<(Vec<u8>, i32), String>;
-
-/// Of `agree`, where it shows a plan.
-const SEPARATED: i32 = 3;
 
 fn main() {
     let words: Vec<String> = std::env::args().skip(1).collect();
     let words: Vec<&str> = words.iter().map(String::as_str).collect();
-    let made: Made = match &words[..] {
-        ["agree", first, second] => agree(first, second, separating_text),
-        ["agree", first, second, "dot"] => agree(first, second, |_, lines| text::agree::picture(lines)),
-        words => one_text(words).map(|bytes| (bytes, 0)),
-    };
-    let written = made.and_then(|(bytes, status)| {
-        write_out(&bytes).map_err(|error| error.to_string())?;
-        Ok(status)
+    let written = made(&words).and_then(|made| {
+        write_out(&made.bytes).map_err(|error| Failure::Wrong(error.to_string()))?;
+        Ok(made.status)
     });
     match written {
         Ok(status) => exit(status),
-        Err(what) => {
-            eprintln!("whatif-text: {}", what);
-            exit(1)
+        Err(failure) => {
+            eprintln!("whatif-text: {}", failure.what());
+            exit(failure.status())
         }
     }
 }
 
-fn one_text(words: &[&str]) -> Result<Vec<u8>, String> {
+fn made(words: &[&str]) -> Result<Made, Failure> {
     match words {
-        ["write"] => read_text().and_then(|text| text::write(&text).map_err(|wrong| wrong.to_string())),
-        ["show"] => read().and_then(|input| text::show(&input).ok_or_else(|| NOT_WHOLE.into())).map(String::into_bytes),
-        ["dot", question] => read_text().and_then(|text| draw(&text, question)).map(String::into_bytes),
-        ["merge", first, second] => two_rules(first, second).and_then(|two| merged(&two)).map(String::into_bytes),
-        ["planner", words @ ..] if text::planner::verb(words).is_some() => planner(words).map(String::into_bytes),
-        ["--help"] => Ok(format!("{}\n", USAGE).into_bytes()),
-        ["--version"] => Ok(format!("whatif-text {}\n", env!("CARGO_PKG_VERSION")).into_bytes()),
-        _ => {
-            eprintln!("{}", USAGE);
-            exit(2);
+        ["--help"] | [_, "--help"] => Ok(Made::answered(format!("{}\n", USAGE))),
+        ["--version"] => Ok(Made::answered(format!("whatif-text {}\n", env!("CARGO_PKG_VERSION")))),
+        ["write"] => Ok(Made::answered(text::write(&read_text()?)?)),
+        ["show"] => text::show(&read()?).map(Made::answered).ok_or_else(|| Failure::wrong(NOT_WHOLE)),
+        ["planner", words @ ..] if text::planner::verb(words).is_some() => planner(words),
+        ["answer"] => text::answer::all(&input()?),
+        ["why", question] => text::why::of_question(&input()?, a_question(question)?, false).map(Made::answered),
+        ["why", question, "all"] => text::why::of_question(&input()?, a_question(question)?, true).map(Made::answered),
+        ["suggest", nodes @ ..] => {
+            let nodes = nodes.iter().map(|word| a_number(word, "a node")).collect::<Result<Vec<_>, _>>()?;
+            text::suggest::of_nodes(&input()?, &nodes).map(Made::answered)
         }
+        ["outline", question] => text::outline::of_question(&input()?, a_question(question)?).map(Made::answered),
+        ["dot", question] => text::draw(&input()?, a_question(question)?).map(Made::answered),
+        ["session", script] => {
+            let script = as_text(file(script)?).map_err(|what| of_file(script, what))?;
+            text::script::run(&input()?, &script)
+        }
+        ["build", nodes, states] => build(nodes, states),
+        ["check", nodes, states] => text::stored::check(&input()?, &file(nodes)?, &file(states)?),
+        ["merge", first, second] => merge(&two_rules(first, second)?),
+        ["agree", first, second] => agree(&two_rules(first, second)?, separating_text),
+        ["agree", first, second, "dot"] => agree(&two_rules(first, second)?, |_, lines| text::agree::picture(lines)),
+        ["random", options @ ..] => text::random::text(options).unwrap_or_else(|| usage()).map(Made::answered),
+        _ => usage(),
     }
+}
+
+fn usage() -> ! {
+    eprintln!("{}", USAGE);
+    exit(outcome::USAGE)
+}
+
+/// Both tables into files; how long they are is told.
+fn build(nodes: &str, states: &str) -> Result<Made, Failure> {
+    let tables = text::stored::build(&input()?)?;
+    let mut told = String::new();
+    for (name, table) in [nodes, states].into_iter().zip(&tables) {
+        std::fs::write(name, table).map_err(|error| of_file(name, error.to_string()))?;
+        told += &format!("{}: {} bytes\n", name, table.len());
+    }
+    Ok(Made::answered(told))
+}
+
+fn merge([first, second]: &[Vec<u8>; 2]) -> Result<Made, Failure> {
+    text::merge(first, second).map(Made::answered).map_err(|refusal| Failure::Refused(refusal.to_string()))
 }
 
 /// Planner's text in or out; planner.rs has its form.
-fn planner(words: &[&str]) -> Result<String, String> {
+fn planner(words: &[&str]) -> Result<Made, Failure> {
     let verb = text::planner::verb(words).expect("asked before");
-    read_text().and_then(|text| verb(&text).map_err(|failed| failed.to_string()))
+    Ok(Made::answered(verb(&read_text()?)?))
 }
 
-/// Whether the rules of two files agree; else the lines that are needed of a separating plan, as `shown` has them.
-fn agree(first: &str, second: &str, shown: fn([bool; 2], &[Line]) -> String) -> Made {
-    let two = two_rules(first, second)?;
-    let plan = whatif::agree(&two[0], &two[1]).map_err(|refusal| refusal.to_string())?;
+/// Whether two rules agree; else the lines that are needed of a separating plan, as `shown` has them.
+fn agree(two: &[Vec<u8>; 2], shown: fn([bool; 2], &[Line]) -> String) -> Result<Made, Failure> {
+    let plan = whatif::agree(&two[0], &two[1]).map_err(|refusal| Failure::Refused(refusal.to_string()))?;
     let plan = match plan {
-        None => return Ok((b"# the two agree on every plan\n".to_vec(), 0)),
+        None => return Ok(Made::answered("# the two agree on every plan\n")),
         Some(plan) => plan,
     };
     let lines = text::agree::needed(&plan.lines().collect::<Vec<_>>());
     let yes = [0, 1].map(|which| text::agree::clears(&two[which], &lines));
-    Ok((shown(yes, &lines).into_bytes(), SEPARATED))
+    Ok(Made { bytes: shown(yes, &lines).into_bytes(), status: outcome::NO })
 }
 
 fn separating_text(yes: [bool; 2], lines: &[Line]) -> String {
@@ -97,30 +134,49 @@ fn write_out(bytes: &[u8]) -> io::Result<()> {
     out.flush()
 }
 
-fn draw(text: &str, question: &str) -> Result<String, String> {
-    let question = question.parse().map_err(|_| format!("'{}' is not the number of a question", question))?;
-    text::draw(text, question)
+fn a_question(word: &str) -> Result<usize, Failure> {
+    a_number(word, "the number of a question")
 }
 
-/// The rules of two files, as bytes.
-fn two_rules(first: &str, second: &str) -> Result<[Vec<u8>; 2], String> {
+fn a_number(word: &str, what: &str) -> Result<usize, Failure> {
+    word.parse().map_err(|_| Failure::wrong(format!("'{}' is not {}", word, what)))
+}
+
+/// The rules of two files, of text or of bytes.
+fn two_rules(first: &str, second: &str) -> Result<[Vec<u8>; 2], Failure> {
     let rules = |path: &str| {
-        let text = std::fs::read_to_string(path).map_err(|error| format!("{}: {}", path, error))?;
-        text::rules_of(&text).map_err(|wrong| format!("{}: {}", path, wrong))
+        let bytes = file(path)?;
+        if let Some([_, rules, _]) = text::parts_of(&bytes) {
+            return Ok(rules.to_vec());
+        }
+        let text = as_text(bytes).map_err(|what| of_file(path, what))?;
+        text::rules_of(&text).map_err(|wrong| of_file(path, wrong.to_string()))
     };
     Ok([rules(first)?, rules(second)?])
 }
 
-fn merged([first, second]: &[Vec<u8>; 2]) -> Result<String, String> {
-    text::merge(first, second).map_err(|refusal| refusal.to_string())
+fn file(path: &str) -> Result<Vec<u8>, Failure> {
+    std::fs::read(path).map_err(|error| of_file(path, error.to_string()))
 }
 
-fn read() -> Result<Vec<u8>, String> {
+fn of_file(path: &str, what: String) -> Failure {
+    Failure::Wrong(format!("{}: {}", path, what))
+}
+
+fn input() -> Result<Input, Failure> {
+    Input::of(&read()?)
+}
+
+fn read() -> Result<Vec<u8>, Failure> {
     let mut bytes = Vec::new();
-    io::stdin().read_to_end(&mut bytes).map_err(|error| error.to_string())?;
+    io::stdin().read_to_end(&mut bytes).map_err(|error| Failure::Wrong(error.to_string()))?;
     Ok(bytes)
 }
 
-fn read_text() -> Result<String, String> {
-    String::from_utf8(read()?).map_err(|_| "this is no text".into())
+fn read_text() -> Result<String, Failure> {
+    as_text(read()?).map_err(Failure::Wrong)
+}
+
+fn as_text(bytes: Vec<u8>) -> Result<String, String> {
+    String::from_utf8(bytes).map_err(|_| "this is no text".into())
 }

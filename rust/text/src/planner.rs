@@ -14,6 +14,7 @@
 //! A file that has no such form is written with lines of the word `bytes`.
 
 use crate::lines::{self, all_raw, raw_text, Line, Wrong};
+use crate::outcome::Failure;
 use crate::{plan, questions, rules};
 use reference::formats::read_plan;
 use reference::tree::Tree;
@@ -34,6 +35,15 @@ impl fmt::Display for Failed {
         match self {
             Failed::Wrong(wrong) => wrong.fmt(f),
             Failed::Refused(refusal) => refusal.fmt(f),
+        }
+    }
+}
+
+impl From<Failed> for Failure {
+    fn from(failed: Failed) -> Failure {
+        match failed {
+            Failed::Wrong(wrong) => wrong.into(),
+            Failed::Refused(refusal) => Failure::Refused(refusal.to_string()),
         }
     }
 }

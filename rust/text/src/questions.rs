@@ -1,6 +1,7 @@
 //! Questions: "a question is a 16-bit m and m times a 16-bit node and an 8-bit label". A line each.
 
 use crate::lines::{raw_text, Line, Wrong};
+use crate::sentences;
 
 /// A node and the label it is to take.
 pub type Change = (u16, u8);
@@ -44,20 +45,30 @@ fn question(changes: &[Change]) -> Vec<u8> {
 }
 
 pub fn to_text(bytes: &[u8]) -> String {
-    let (mut text, mut rest) = (String::new(), bytes);
-    while let Some((line, after)) = first(rest) {
-        text += &line;
-        rest = after;
-    }
-    text + &raw_text(rest)
+    let (whole, rest) = split(bytes);
+    let lines: String = whole.iter().map(|changes| sentences::changes(changes) + "\n").collect();
+    lines + &raw_text(rest)
 }
 
-/// The line of the first question and what stands after it; none where it is cut short.
-fn first(bytes: &[u8]) -> Option<(String, &[u8])> {
+/// The questions; a last one that is cut short is dropped.
+pub fn of_bytes(bytes: &[u8]) -> Vec<Vec<Change>> {
+    split(bytes).0
+}
+
+/// The whole questions, and what stands after them.
+fn split(bytes: &[u8]) -> (Vec<Vec<Change>>, &[u8]) {
+    let (mut whole, mut rest) = (Vec::new(), bytes);
+    while let Some((changes, after)) = first(rest) {
+        whole.push(changes);
+        rest = after;
+    }
+    (whole, rest)
+}
+
+/// The first question and what stands after it; none where it is cut short.
+fn first(bytes: &[u8]) -> Option<(Vec<Change>, &[u8])> {
     let m = u16::from_le_bytes(bytes.get(..2)?.try_into().ok()?) as usize;
     let listed = bytes.get(2..2 + 3 * m)?;
-    let said = |entry: &[u8]| format!("{}->{}", u16::from_le_bytes([entry[0], entry[1]]), entry[2]);
-    let words: Vec<String> = listed.chunks(3).map(said).collect();
-    let line = if m == 0 { "none".to_string() } else { words.join(" ") };
-    Some((line + "\n", &bytes[2 + 3 * m..]))
+    let change = |entry: &[u8]| (u16::from_le_bytes([entry[0], entry[1]]), entry[2]);
+    Some((listed.chunks(3).map(change).collect(), &bytes[2 + 3 * m..]))
 }

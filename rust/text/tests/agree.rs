@@ -74,10 +74,10 @@ fn the_program() {
     assert_eq!(said(&["agree", &sample, &sample]), (Some(0), "# the two agree on every plan\n".to_string()));
     let (status, text) = said(&["agree", &four, &none]);
     let head = "# yes by the first, no by the second\n# line 0: leaf 0\nplan\nleaf 0 ";
-    assert!(status == Some(3) && text.starts_with(head), "{}", text);
+    assert!(status == Some(4) && text.starts_with(head), "{}", text);
     let (status, text) = said(&["agree", &four, &none, "dot"]);
-    assert!(status == Some(3) && text.starts_with("// LINE: LABEL."), "{}", text);
-    assert_eq!(said(&["agree", &sample, &four]), (Some(1), String::new()), "23");
+    assert!(status == Some(4) && text.starts_with("// LINE: LABEL."), "{}", text);
+    assert_eq!(said(&["agree", &sample, &four]), (Some(3), String::new()), "23");
     assert_eq!(said(&["agree", &sample]), (Some(2), String::new()));
     [sample, four, none].iter().for_each(|path| fs::remove_file(path).unwrap());
 }

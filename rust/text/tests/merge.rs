@@ -56,11 +56,19 @@ fn the_program() {
     assert_eq!(done.status.code(), Some(0));
     let wanted = merge(&rules_of(SAMPLE).unwrap(), &rules_of(SOME_LEAF).unwrap()).unwrap();
     assert_eq!(String::from_utf8(done.stdout).unwrap(), wanted);
+    // rules in bytes, as the program whatif reads them
+    let bytes = file("e", "");
+    fs::write(&bytes, write(SOME_LEAF).unwrap()).unwrap();
+    assert_eq!(String::from_utf8(program(&["merge", &first, &bytes]).stdout).unwrap(), wanted);
     let done = program(&["merge", &first, &wrong]);
     let said = String::from_utf8(done.stderr).unwrap();
     assert_eq!((done.status.code(), done.stdout.len()), (Some(1), 0));
     assert!(said.starts_with(&format!("whatif-text: {}: line 2: ", wrong)), "{}", said);
     assert_eq!(program(&["merge", &first, "no such file"]).status.code(), Some(1));
+    let other = file("d", "rules\nstates 1\nlabels 1\nleaf 0 -> 0\ninner 0 0 0 -> 0\n");
+    let done = program(&["merge", &first, &other]);
+    let said = String::from_utf8(done.stderr).unwrap();
+    assert!(done.status.code() == Some(3) && said.starts_with("whatif-text: refused 23: "), "{}", said);
     assert_eq!(program(&["merge", &first]).status.code(), Some(2));
-    [first, second, wrong].iter().for_each(|path| fs::remove_file(path).unwrap());
+    [first, second, wrong, other, bytes].iter().for_each(|path| fs::remove_file(path).unwrap());
 }

@@ -1,12 +1,14 @@
 //! Plan A with the parts of its sample questions, as Graphviz text.
 
 use text::dot::picture;
+use text::input::Input;
+use text::outcome::Failure;
 
 const SAMPLE: &str = include_str!("../../../examples/sample.txt");
 
 /// What `whatif-text dot` prints for a question of the sample, its head left out.
-fn drawn(question: usize) -> Result<String, String> {
-    let shown = text::draw(SAMPLE, question)?;
+fn drawn(question: usize) -> Result<String, Failure> {
+    let shown = text::draw(&Input::of_text(SAMPLE)?, question)?;
     Ok(shown.split_once("edge [dir=none];\n").expect("the head").1.to_string())
 }
 
@@ -53,10 +55,13 @@ fn two_changes_have_five_parts() {
 
 #[test]
 fn what_cannot_be_drawn_is_said() {
-    assert_eq!(drawn(7), Err("refused 13".into()));
-    assert_eq!(drawn(9), Err("refused 15".into()));
-    assert_eq!(drawn(0), Err("there is no question 0".into()));
-    assert_eq!(drawn(10), Err("there is no question 10".into()));
+    let refused = |what: &str| Err(Failure::Refused(what.into()));
+    let wrong = |what: &str| Err(Failure::wrong(what));
+    assert_eq!(drawn(7), refused("refused 13: A node given is not one of the plan."));
+    assert_eq!(drawn(9), refused("refused 15: The list has a node twice."));
+    assert_eq!(drawn(0), wrong("there is no question 0: the input has 9"));
+    assert_eq!(drawn(10), wrong("there is no question 10: the input has 9"));
     assert_eq!(picture(&[], &[]), Err(2));
-    assert_eq!(text::draw("plan\nleaf x\nquestions\nnone", 1), Err("line 2: 'x' is not a number from 0 to 255".into()));
+    let line = Input::of_text("plan\nleaf x\nquestions\nnone").err().expect("no number");
+    assert_eq!(line, Failure::wrong("line 2: 'x' is not a number from 0 to 255"));
 }

@@ -19,7 +19,16 @@ fn status(words: &[&str], input: &str) -> Option<i32> {
 #[test]
 fn a_full_disk() {
     let full = || Stdio::from(File::options().write(true).open("/dev/full").expect("/dev/full"));
-    for words in [&["write"][..], &["dot", "1"], &["--help"], &["--version"]] {
+    for words in [
+        &["write"][..],
+        &["answer"],
+        &["why", "1"],
+        &["suggest"],
+        &["outline", "1"],
+        &["dot", "1"],
+        &["--help"],
+        &["--version"],
+    ] {
         let done = program(words, SAMPLE, full());
         assert_eq!(done.status.code(), Some(1), "{:?}", words);
         assert!(String::from_utf8_lossy(&done.stderr).starts_with("whatif-text: "), "{:?}", words);
@@ -32,11 +41,33 @@ fn statuses() {
     assert_eq!(status(&["show"], SAMPLE), Some(1));
     assert_eq!(status(&["dot", "99"], SAMPLE), Some(1));
     assert_eq!(status(&["draw"], SAMPLE), Some(2));
+    assert_eq!(status(&["random", "--nodes"], SAMPLE), Some(2));
+    assert_eq!(status(&["random", "--nodes", "7", "--form", "arch"], SAMPLE), Some(2));
+    assert_eq!(status(&["random", "--nodes", "7"], SAMPLE), Some(2));
 }
 
 #[test]
 fn help_and_version() {
     let said = |words| String::from_utf8(program(words, "/dev/null", Stdio::piped()).stdout).expect("text");
-    assert!(said(&["--help"]).starts_with("usage: whatif-text write"));
+    assert!(said(&["--help"]).starts_with("usage: whatif-text VERB"));
+    assert_eq!(said(&["outline", "--help"]), said(&["--help"]));
     assert_eq!(said(&["--version"]), concat!("whatif-text ", env!("CARGO_PKG_VERSION"), "\n"));
+}
+
+/// docs/whatif-text.md has the verbs of the help, and shows what is written.
+#[test]
+fn the_page() {
+    let page = include_str!("../../../docs/whatif-text.md");
+    let help = String::from_utf8(program(&["--help"], "/dev/null", Stdio::piped()).stdout).expect("text");
+    let verbs: Vec<&str> =
+        help.lines().filter_map(|line| line.strip_prefix("  ")).filter(|l| !l.starts_with(' ')).collect();
+    assert_eq!(verbs.len(), 15, "{}", help);
+    for verb in verbs {
+        let verb = verb.split([' ', ',']).next().unwrap();
+        assert!(page.contains(&format!("`{}", verb)), "{}", verb);
+    }
+    let answers = include_str!("stored/answer");
+    let shown: Vec<&str> = page.lines().filter_map(|line| line.strip_prefix("    question ")).collect();
+    assert_eq!(shown.len(), 3);
+    assert!(shown.iter().all(|line| answers.contains(&format!("question {}\n", line))), "{:?}", shown);
 }

@@ -1,0 +1,112 @@
+//! The words in which answers and refusals are told.
+
+use crate::outcome::Failure;
+use crate::questions::Change;
+use reference::formats::{number, read_rules};
+use whatif::{Answer, Refusal};
+
+/// `1 part`, `2 parts`.
+pub fn count(number: usize, what: &str) -> String {
+    format!("{} {}{}", number, what, if number == 1 { "" } else { "s" })
+}
+
+pub fn verdict(yes: bool) -> &'static str {
+    if yes {
+        "cleared"
+    } else {
+        "not cleared"
+    }
+}
+
+pub fn answer(answer: &Answer) -> String {
+    let (parts, links) = (count(answer.parts as usize, "part"), count(answer.links as usize, "link"));
+    format!("{}, state {}, {}, {}", verdict(answer.yes), answer.state, parts, links)
+}
+
+/// A question as the text has it.
+pub fn changes(changes: &[Change]) -> String {
+    let said: Vec<String> = changes.iter().map(|(node, label)| format!("{}->{}", node, label)).collect();
+    if said.is_empty() {
+        "none".to_string()
+    } else {
+        said.join(" ")
+    }
+}
+
+/// The same where it stands in a sentence: of a long one the first changes.
+pub fn question(number: usize, list: &[Change]) -> String {
+    const SHOWN: usize = 8;
+    let more = list.len().saturating_sub(SHOWN);
+    let rest = if more == 0 { String::new() } else { format!(" and {} more", more) };
+    format!("question {}, {}{}", number, changes(&list[..list.len() - more]), rest)
+}
+
+/// `before to after`, or that it is as before.
+pub fn state(before: u8, after: u8) -> String {
+    if before == after {
+        format!("state {}, as before", after)
+    } else {
+        format!("state {} to {}", before, after)
+    }
+}
+
+/// A refusal, and which entry it is about where that is found.
+fn refused(refusal: Refusal, about: Option<String>) -> Failure {
+    Failure::Refused(match about {
+        Some(about) => format!("{} ({})", refusal, about),
+        None => refusal.to_string(),
+    })
+}
+
+/// Of a plan and rules.
+pub fn load_refused(refusal: Refusal, plan: &[u8], rules: &[u8]) -> Failure {
+    let about = match refusal {
+        Refusal::PlanShort if plan.is_empty() => Some("there is no plan".to_string()),
+        Refusal::TableShort if rules.is_empty() => Some("there are no rules".to_string()),
+        Refusal::PlanTree => Some(where_no_tree(&plan[12 + number(plan, 0) as usize..])),
+        Refusal::PlanLabel => label_too_great(plan, rules),
+        _ => None,
+    };
+    refused(refusal, about)
+}
+
+/// Of kinds that are not those of one tree.
+fn where_no_tree(kinds: &[u8]) -> String {
+    let mut waiting = 0;
+    for (v, kind) in kinds.iter().enumerate() {
+        match kind {
+            0 => waiting += 1,
+            1 if waiting >= 2 => waiting -= 1,
+            1 => return format!("node {} is an inner node, and fewer than two trees stand before it", v),
+            _ => return format!("node {} has kind {}, and 0 and 1 are all there are", v, kind),
+        }
+    }
+    format!("{} are left at the end, and one is to be", count(waiting, "tree"))
+}
+
+fn label_too_great(plan: &[u8], rules: &[u8]) -> Option<String> {
+    let k = read_rules(rules).ok()?.labels;
+    let labels = plan.get(12..12 + number(plan, 0) as usize)?;
+    let v = labels.iter().position(|&label| label as usize >= k)?;
+    Some(format!("node {} has label {}, and the rules have labels 0 to {}", v, labels[v], k - 1))
+}
+
+/// Of a list of changes, on a plan of n nodes and rules of k labels.
+pub fn list_refused(refusal: Refusal, list: &[Change], n: usize, k: usize) -> Failure {
+    let about = match refusal {
+        Refusal::ListLength => Some(format!("{} changes", list.len())),
+        Refusal::Node => list
+            .iter()
+            .find(|change| change.0 as usize >= n)
+            .map(|change| format!("node {}; the plan's are 0 to {}", change.0, n - 1)),
+        Refusal::Label => list
+            .iter()
+            .find(|change| change.1 as usize >= k)
+            .map(|change| format!("label {} for node {}; the table's are 0 to {}", change.1, change.0, k - 1)),
+        Refusal::NodeTwice => (1..list.len())
+            .find(|&i| list[..i].iter().any(|change| change.0 == list[i].0))
+            .map(|i| format!("node {}", list[i].0)),
+        _ => None,
+    };
+    refused(refusal, about)
+}

@@ -1,0 +1,126 @@
+//! `whatif-text suggest`: every single change that turns the verdict, as questions to paste.
+//!
+//! From the root down, by the run states that the library's Load wrote: the set of states of a node with which the
+//! plan is cleared, all else as it is. Then a change needs one application of the rules and one look at the set of
+//! its node, so all changes of the largest plan take a moment. Up to a thousand of those that are told, evenly
+//! spread, are put to the library's fresh run.
+
+use crate::input::Input;
+use crate::loaded::Loaded;
+use crate::outcome::Failure;
+use crate::progress::Progress;
+use crate::sentences::{count, verdict};
+use reference::climb::Links;
+use reference::formats::Rules;
+
+/// A change, and the root's verdict with it.
+#[derive(Clone, Copy, Debug, PartialEq, Eq)]
+pub struct Turn {
+    pub node: u16,
+    pub label: u8,
+}
+
+const HELD: usize = 1_000;
+
+/// Of the given nodes; of all where none is given.
+pub fn of_nodes(input: &Input, nodes: &[usize]) -> Result<String, Failure> {
+    let loaded = Loaded::new(&input.plan, &input.rules)?;
+    let n = loaded.nodes();
+    if let Some(v) = nodes.iter().find(|&&v| v >= n) {
+        return Err(Failure::wrong(format!("there is no node {}: the plan's are 0 to {}", v, n - 1)));
+    }
+    let all: Vec<usize> = (0..n).collect();
+    let nodes = if nodes.is_empty() { &all[..] } else { nodes };
+    let turns = turns(&loaded, nodes);
+    held_to_the_library(&loaded, &turns)?;
+    Ok(text(&loaded, nodes, &turns))
+}
+
+/// The changes to another label that turn the verdict, in the order of the nodes.
+pub fn turns(loaded: &Loaded, nodes: &[usize]) -> Vec<Turn> {
+    let (rules, labels) = (loaded.as_rules(), loaded.as_plan().labels);
+    let clearing = clearing(loaded, &rules);
+    let is_cleared = |v: usize, state: u8| clearing[v] >> state & 1 == 1;
+    let now = as_it_is(loaded);
+    let mut progress = Progress::of(nodes.len(), "nodes");
+    let mut turns = Vec::new();
+    for (i, &v) in nodes.iter().enumerate() {
+        progress.done(i);
+        for label in (0..rules.labels as u8).filter(|&label| label != labels[v]) {
+            if is_cleared(v, state_with(loaded, &rules, v, label)) != now {
+                turns.push(Turn { node: v as u16, label });
+            }
+        }
+    }
+    turns
+}
+
+/// Is the plan cleared as it is?
+fn as_it_is(loaded: &Loaded) -> bool {
+    loaded.as_rules().accepts(loaded.before(loaded.nodes() - 1))
+}
+
+/// For each node the states, as bits, with which the plan is cleared, all else as it is.
+fn clearing(loaded: &Loaded, rules: &Rules) -> Vec<u16> {
+    let (tree, labels) = (loaded.tree(), loaded.as_plan().labels);
+    let root = loaded.nodes() - 1;
+    let states = 0..rules.states as u8;
+    let bits = |clears: &dyn Fn(u8) -> bool| states.clone().filter(|&q| clears(q)).fold(0u16, |set, q| set | 1 << q);
+    let mut clearing = vec![0; root + 1];
+    clearing[root] = bits(&|q| rules.accepts(q));
+    for v in (0..root).rev() {
+        let p = tree.parent(v);
+        let (above, a) = (clearing[p], labels[p]);
+        let follows = |q: u8| match p == v + 1 {
+            // the right child stands right before its parent, the left one before the right one's nodes
+            true => rules.inner(loaded.before(v - tree.size(v)), a, q),
+            false => rules.inner(q, a, loaded.before(p - 1)),
+        };
+        clearing[v] = bits(&|q| above >> follows(q) & 1 == 1);
+    }
+    clearing
+}
+
+/// The state of a node with another label.
+fn state_with(loaded: &Loaded, rules: &Rules, v: usize, label: u8) -> u8 {
+    let tree = loaded.tree();
+    match tree.size(v) {
+        1 => rules.leaf(label),
+        _ => rules.inner(loaded.before(v - 1 - tree.size(v - 1)), label, loaded.before(v - 1)),
+    }
+}
+
+fn held_to_the_library(loaded: &Loaded, turns: &[Turn]) -> Result<(), Failure> {
+    let now = as_it_is(loaded);
+    let apart = (turns.len() + HELD - 1) / HELD;
+    let some: Vec<&Turn> = turns.iter().step_by(apart.max(1)).collect();
+    let mut progress = Progress::of(some.len(), "changes put to the library");
+    for (i, turn) in some.iter().enumerate() {
+        progress.done(i);
+        let told = whatif::fresh_run(loaded.plan, loaded.rules, &[turn.node], &[turn.label]);
+        if told.map_or(true, |told| told.yes == now) {
+            let change = format!("{}->{}", turn.node, turn.label);
+            return Err(Failure::wrong(format!("a fault of whatif-text: {} turns nothing by the library", change)));
+        }
+    }
+    Ok(())
+}
+
+fn text(loaded: &Loaded, nodes: &[usize], turns: &[Turn]) -> String {
+    let (now, k) = (as_it_is(loaded), loaded.as_rules().labels);
+    let tried = nodes.len() * (k - 1);
+    let root = loaded.before(loaded.nodes() - 1);
+    let head = format!("# as it is: {}, state {}\n", verdict(now), root);
+    let told = match turns.len() {
+        0 => format!("# none of {} at {} turns that\n", count(tried, "change"), count(nodes.len(), "node")),
+        some => format!(
+            "# {} of {} at {} turn that: with each alone the plan is {}\n",
+            some,
+            count(tried, "change"),
+            count(nodes.len(), "node"),
+            verdict(!now)
+        ),
+    };
+    let line = |turn: &Turn| format!("{}->{}\n", turn.node, turn.label);
+    head + &told + "questions\n" + &turns.iter().map(line).collect::<String>()
+}

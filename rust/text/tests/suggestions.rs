@@ -1,0 +1,64 @@
+//! Every single change, suggested or not, against the library's session: the verdict is turned exactly by those
+//! suggested.
+
+use text::input::Input;
+use text::loaded::Loaded;
+use text::outline::edges;
+use text::suggest::turns;
+
+fn input(words: &str) -> Input {
+    let words: Vec<&str> = words.split(' ').collect();
+    Input::of_text(&text::random::text(&words).unwrap().unwrap()).unwrap()
+}
+
+#[test]
+fn exactly_those_that_turn() {
+    let (mut turned, mut tried) = (0, 0);
+    for shape in ["arch", "comb", "balanced", "random"] {
+        for (rules, states) in [("lasting", 2), ("lasting", 5), ("random", 3), ("random", 16)] {
+            let words = format!("--nodes 61 --shape {} --rules {} --states {} --labels 5", shape, rules, states);
+            let input = input(&words);
+            let loaded = Loaded::new(&input.plan, &input.rules).unwrap();
+            let now = loaded.ask(&[]).unwrap().answer.yes;
+            let mut expected = Vec::new();
+            for v in 0..61u16 {
+                for label in (0..5).filter(|&label| label != loaded.as_plan().labels[v as usize]) {
+                    if loaded.ask(&[(v, label)]).unwrap().answer.yes != now {
+                        expected.push((v, label));
+                    }
+                    tried += 1;
+                }
+            }
+            let all: Vec<usize> = (0..61).collect();
+            let found: Vec<(u16, u8)> = turns(&loaded, &all).iter().map(|turn| (turn.node, turn.label)).collect();
+            assert_eq!(found, expected, "{}", words);
+            turned += found.len();
+        }
+    }
+    assert!(turned > 100 && tried - turned > 100, "{} of {}", turned, tried);
+}
+
+/// The largest plan, all labels: some four million changes.
+#[test]
+fn the_largest_plan() {
+    let input = input("--nodes 65535 --shape comb --labels 64 --states 16");
+    let begun = std::time::Instant::now();
+    let text = text::suggest::of_nodes(&input, &[]).unwrap();
+    assert!(text.contains("of 4128705 changes at 65535 nodes turn that"), "{}", &text[..200]);
+    println!("{} changes in {:?}", 65_535 * 63, begun.elapsed());
+}
+
+/// The links of the climbs that an outline shows are those that the library counts.
+#[test]
+fn climbs_of_outlines() {
+    for shape in ["arch", "comb", "balanced", "random"] {
+        let input = input(&format!("--nodes 3001 --shape {} --questions 40", shape));
+        let loaded = Loaded::new(&input.plan, &input.rules).unwrap();
+        for question in &input.questions {
+            let asked = loaded.ask(question).unwrap();
+            let links: usize =
+                edges(&loaded, &asked.roots).iter().filter_map(|edge| edge.climb).map(|climb| climb.1).sum();
+            assert_eq!(links, asked.answer.links as usize);
+        }
+    }
+}

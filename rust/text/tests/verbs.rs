@@ -1,0 +1,172 @@
+//! Every verb on stored inputs, held to stored outputs: what is written, then what stands on standard error, then the
+//! status. With WHATIF_TEXT_STORE=1 in the environment the outputs are stored anew; look at what `git diff` shows
+//! then.
+
+use std::env;
+use std::fs;
+use std::io::Write;
+use std::path::{Path, PathBuf};
+use std::process::{Command, Output, Stdio};
+
+const SAMPLE: &str = include_str!("../../../examples/sample.txt");
+const SCRIPT: &str = concat!(env!("CARGO_MANIFEST_DIR"), "/../../examples/session.txt");
+
+/// With the sample of 01, as text and as bytes, with random plans, and with what is wrong or refused.
+#[test]
+fn on_the_sample() {
+    holds("answer", &["answer"], SAMPLE);
+    holds("why-2", &["why", "2"], SAMPLE);
+    holds("why-3", &["why", "3"], SAMPLE);
+    holds("why-4", &["why", "4"], SAMPLE);
+    holds("suggest", &["suggest"], SAMPLE);
+    holds("suggest-nodes", &["suggest", "2", "5"], SAMPLE);
+    holds("outline-4", &["outline", "4"], SAMPLE);
+    holds("session", &["session", SCRIPT], SAMPLE);
+}
+
+#[test]
+fn bytes_are_taken_like_text() {
+    let bytes = text::write(SAMPLE).unwrap();
+    for words in [&["answer"][..], &["why", "4"], &["suggest"], &["outline", "4"], &["dot", "4"], &["session", SCRIPT]]
+    {
+        assert_eq!(told(&run(words, &bytes)), told(&run(words, SAMPLE.as_bytes())), "{:?}", words);
+    }
+}
+
+/// 61,471 nodes, as in examples/threads.c.
+const ARCH: [&str; 6] = ["--nodes", "61471", "--shape", "arch", "--seed", "6"];
+
+#[test]
+fn on_a_full_arch() {
+    let arch = random(&ARCH);
+    holds("arch-answer", &["answer"], &arch);
+    holds("arch-outline", &["outline", "1"], &arch);
+    holds("arch-outline", &["dot", "1"], &arch);
+    holds("arch-why", &["why", "1"], &arch);
+    holds("arch-suggest", &["suggest", "61470", "30735"], &arch);
+}
+
+#[test]
+fn on_small_plans_of_each_shape() {
+    for shape in ["arch", "comb", "balanced", "random"] {
+        let words = ["random", "--nodes", "15", "--shape", shape, "--states", "3", "--labels", "2", "--changes", "2"];
+        holds(&format!("random-{}", shape), &words, "");
+    }
+    let forgetful =
+        random(&["--nodes", "301", "--shape", "random", "--rules", "random", "--changes", "3", "--seed", "4"]);
+    holds("forgetful-answer", &["answer"], &forgetful);
+    holds("forgetful-why", &["why", "1", "all"], &forgetful);
+    holds("forgetful-dot", &["dot", "2"], &forgetful);
+}
+
+#[test]
+fn wrong_input_is_told_by_its_line() {
+    holds("wrong-line", &["answer"], "plan\nleaf 1\ntwig 1\n");
+    holds("wrong-question", &["why", "10"], SAMPLE);
+    holds("wrong-number", &["outline", "first"], SAMPLE);
+    holds("wrong-node", &["suggest", "7"], SAMPLE);
+    let path = script("load\nadvance none\n");
+    holds("wrong-script", &["session", path.to_str().unwrap()], SAMPLE);
+    fs::write(&path, "load\n\nundo\n").unwrap();
+    holds("wrong-call", &["session", path.to_str().unwrap()], SAMPLE);
+    fs::remove_file(&path).unwrap();
+    holds("wrong-shape", &["random", "--nodes", "7", "--shape", "bush"], "");
+    holds("wrong-even", &["random", "--nodes", "8", "--shape", "arch"], "");
+    holds("wrong-nodes", &["random", "--nodes", "65537", "--shape", "arch"], "");
+    let neither = run(&["answer"], &[0; 11]);
+    assert_eq!(neither.status.code(), Some(1));
+    assert!(told(&neither).contains("neither text nor bytes"));
+}
+
+#[test]
+fn refusals_are_sentences() {
+    let rules = &SAMPLE[SAMPLE.find("rules").unwrap()..];
+    holds("refused-empty", &["answer"], "");
+    holds("refused-no-rules", &["suggest"], "plan\nleaf 0\n");
+    holds("refused-inner", &["answer"], &format!("plan\nleaf 1\ninner 1\n{}", rules));
+    holds("refused-two-trees", &["why", "1"], &format!("plan\nleaf 1\nleaf 1\n{}", rules));
+    holds("refused-label", &["outline", "1"], &format!("plan\nleaf 1\nleaf 3\ninner 0\n{}", rules));
+    holds("refused-question", &["outline", "7"], SAMPLE);
+    let many: String = (0..65).map(|v| format!(" {}->0", v)).collect();
+    holds("refused-65", &["answer"], &SAMPLE.replace("none\n", &format!("{}\n", many.trim())));
+}
+
+/// Built, checked, and each of a few places altered.
+#[test]
+fn stored_tables() {
+    let file = |name: &str| env::temp_dir().join(format!("whatif-text-stored-{}-{}", std::process::id(), name));
+    let (nodes, states) = (file("nodes"), file("states"));
+    let words = |verb| [verb, nodes.to_str().unwrap(), states.to_str().unwrap()];
+    let check = || told(&run(&words("check"), SAMPLE.as_bytes()));
+    let built = run(&words("build"), SAMPLE.as_bytes());
+    assert_eq!(built.status.code(), Some(0));
+    assert!(String::from_utf8_lossy(&built.stdout).ends_with("states: 21 bytes\n"));
+    assert_eq!(check(), "the tables are what the build writes, 7 nodes\nstatus 0\n");
+    let (right_nodes, right_states) = (fs::read(&nodes).unwrap(), fs::read(&states).unwrap());
+    let wrong = "the tables are not what the build writes; the first wrong node is ";
+    for (at, said) in
+        [(2 * 4 * 3, "3: its parent is 9, and should be 5"), (2 * (4 * 3 + 1), "3: its jump is 9, and should be 5")]
+    {
+        let mut bytes = right_nodes.clone();
+        bytes[at] = 9;
+        fs::write(&nodes, &bytes).unwrap();
+        assert_eq!(check(), format!("{}{}\nstatus 4\n", wrong, said));
+    }
+    fs::write(&nodes, &right_nodes).unwrap();
+    for (at, said) in
+        [(3 * 2, "2: its state is 9, and should be 1"), (3 * 2 + 2, "2: its map of state 1 is 9, and should be 1")]
+    {
+        let mut bytes = right_states.clone();
+        bytes[at] = 9;
+        fs::write(&states, &bytes).unwrap();
+        assert_eq!(check(), format!("{}{}\nstatus 4\n", wrong, said));
+    }
+    fs::write(&states, &right_states[..20]).unwrap();
+    assert!(check().starts_with("whatif-text: refused 11: "), "{}", check());
+    fs::write(&nodes, &right_nodes[..55]).unwrap();
+    assert!(check().ends_with("an odd number of bytes, and its numbers have two each\nstatus 1\n"), "{}", check());
+    [nodes, states].iter().for_each(|path| fs::remove_file(path).unwrap());
+}
+
+/// What `random` writes.
+fn random(words: &[&str]) -> String {
+    text::random::text(words).expect("options").expect("a plan")
+}
+
+fn script(text: &str) -> PathBuf {
+    let path = env::temp_dir().join(format!("whatif-text-script-{}", std::process::id()));
+    fs::write(&path, text).unwrap();
+    path
+}
+
+fn run(words: &[&str], input: &[u8]) -> Output {
+    let mut program = Command::new(env!("CARGO_BIN_EXE_whatif-text"));
+    let program = program.args(words).stdin(Stdio::piped()).stdout(Stdio::piped()).stderr(Stdio::piped());
+    let mut running = program.spawn().expect("it starts");
+    // the program may end before it has read everything
+    let mut stdin = running.stdin.take().unwrap();
+    let input = input.to_vec();
+    let writer = std::thread::spawn(move || drop(stdin.write_all(&input)));
+    let done = running.wait_with_output().unwrap();
+    writer.join().unwrap();
+    done
+}
+
+/// Lines of progress come where the machine is slow: they are left out.
+fn told(done: &Output) -> String {
+    let (out, err) = (String::from_utf8_lossy(&done.stdout), String::from_utf8_lossy(&done.stderr));
+    let is_progress = |line: &&str| line.trim_start_matches("whatif-text: ").starts_with(|c: char| c.is_ascii_digit());
+    let err: String = err.lines().filter(|line| !is_progress(line)).map(|line| line.to_string() + "\n").collect();
+    format!("{}{}status {}\n", out, err, done.status.code().expect("no signal"))
+}
+
+fn holds(name: &str, words: &[&str], input: &str) {
+    let path = Path::new(env!("CARGO_MANIFEST_DIR")).join("tests/stored").join(name);
+    let now = told(&run(words, input.as_bytes()));
+    if env::var_os("WHATIF_TEXT_STORE").is_some() {
+        fs::write(&path, now).unwrap();
+        return;
+    }
+    let stored = fs::read_to_string(&path).unwrap_or_default();
+    assert_eq!(now, stored, "{}: {:?}", name, words);
+}
