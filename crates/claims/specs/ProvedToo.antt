@@ -34,7 +34,7 @@ ClimbTakes t w to n = (ms : List Move) × (climb (forestOf t) w to ≡ some ms) 
 pub record RootsReady (t : Tree) (vs l : List ℕ) : Type 0 where
   pub members : (v : ℕ) → List·Memᴰ v l ↔ Ready (λ x. holds x vs) t v
   pub rising : Rising 0 l
-  pub last : (l₀ : List ℕ) × (l ≡ l₀ ++ (size t - 1 ∷ []))
+  pub last : (l₀ : List ℕ) × (l ≡ l₀ ++ ((size t - 1) ∷ []))
 
 pub record PartOf (w : ℕ → Bool) (t : Tree) (x : ℕ) : Type 0 where
   pub member : ℕ
