@@ -2,7 +2,7 @@
 --     plans              plans decode to exactly one tree exactly when 2 to 5 pass; N 1 is accepted with 14 bytes, N 2 gets 5
 --     builds             what an accepted build wrote is "as built", in longer buffers with any excess too
 --     full-checks        yes exactly when the lent tables are what the build writes: local equations leave one table only
---     climbs             where a climb ends, how many moves it makes, and that it carries what the walk by parents does, for any value
+--     climbs             a climb carries what the walk by parents does, for any value (where it ends, its moves: claims/proofs/ProvedToo)
 --     branch-answers     on tables as built a branch answer is the word automaton's, in each reading on its own word
 --     two-words, empty-word   the two words differ by the upper node's label; the same node twice, from below it: state 0, its mark, no links
 --     branch-in-range   18 only where a value leads outside the plan, the states or the labels, or a link does not rise
@@ -10,20 +10,19 @@
 --     jump-samples, climb-samples         jumps of depths 1 to 7; climbs from depth 6 to 1 and to 0
 -- The promises of the calls themselves, on every input, are the contracts in src/ (this crate's and those below).
 -- Assumes nothing.
-use Prim.Native.Nat.{ℕ, _+_, _-_, _*_, _≤_, _<_}
+use Prim.Native.Nat.{ℕ, _+_, _-_, _≤_, _<_}
 use mathlib.Core.Path.{_≡_}
 use mathlib.Core.Bool.{true}
 use mathlib.Core.List.{List, [], _∷_, _++_}
 use mathlib.Core.Logic.{_↔_}
 use mathlib.Core.Option.{Option, some}
 use lib.ListN.{length}
-use Rattle.trees.specs.Tree.{Tree, leaf, size, height, labelAt}
+use Rattle.trees.specs.Tree.{Tree, leaf, size, labelAt}
 use Rattle.trees.specs.Automaton.{Automaton, run, state}
-use Rattle.trees.specs.Numbering.{sub, depth, ancestor, word, wordBelow, AtOrBelow}
+use Rattle.trees.specs.Numbering.{sub, depth, word, wordBelow, AtOrBelow}
 use Rattle.trees.specs.Jumps.{jump, jumpDepth}
-use Rattle.trees.specs.Climb.{Move, byJump, toParent, forestOf, climb, climbEnd, carry, walk, moveCount, digits}
+use Rattle.trees.specs.Climb.{Move, byJump, toParent, forestOf, climb, carry, walk, moveCount}
 use Rattle.trees.proofs.RunLaws.{run-at}
-use Rattle.trees.proofs.TreeClimbs.{climb-ends, climb-bound}
 use Rattle.trees.proofs.CarryLaws.{carry-walk}
 use Rattle.trees.proofs.WordLaws.{word-below}
 use Rattle.trees.proofs.Samples as samples
@@ -80,10 +79,6 @@ branch-full-checks : (p r nodeTable stateTable : List ℕ) (a : Checking)
     → (a ≡ Yes) ↔ BranchBuilt p r nodeTable stateTable
 branch-full-checks p r nodeTable stateTable a D =
     (branch-theorems.check-yes p r nodeTable stateTable a D, branch-theorems.yes-check p r nodeTable stateTable a D)
-
-climb-to : (t : Tree) (w to : ℕ) (ms : List Move) → w < size t → to ≤ depth t w → climb (forestOf t) w to ≡ some ms
-    → (climbEnd (forestOf t) w ms ≡ ancestor t w (depth t w - to)) × (length ms ≤ 3 * digits (height t))
-climb-to t w to ms h l e = (climb-ends t w to ms h l e, climb-bound t w to ms h l e)
 
 climbs : {X : Type 0} (P : X → Type 0) (step : ℕ → X → X) (act : Move → X → Option X) (t : Tree)
     → ((v : ℕ) (x : X) → v + 1 < size t → P x → act (toParent v) x ≡ some (step v x))

@@ -2,3 +2,4 @@ pub mod DecodedAnswersLaws
 pub mod SessionExportedLaws
 pub mod ExportedRefines
 pub mod ExportedTheorem
+pub mod Ties

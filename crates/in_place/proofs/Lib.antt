@@ -1,3 +1,4 @@
 pub mod InPlace
 pub mod InPlaceTheorem
 pub mod Lendings
+pub mod Promised

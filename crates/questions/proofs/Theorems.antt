@@ -1,6 +1,6 @@
 -- The questions layer's main theorems by name, each cited from where it is proved.
 --     ready-is-least      the ready set is the least set with document 01's three rules
---     roots-are-ready     on numbers as built the computed roots are exactly the ready set: rising, each once, ending at the root
+--     roots-as-built     on numbers as built the computed roots are exactly the ready set: rising, each once, ending at the root
 --     roots-few           at most 4m - 2 roots for m listed nodes, one for none: on any numbers
 --     highest-is-one      all members below a child are under the greatest of them: the highest is unique
 --     part-is-the-rule    on numbers as built and any bytes below S a part is what the rule gives on those bytes, never 18
@@ -47,9 +47,9 @@ ready-is-closed = closed-form.ready-closed
 ready-is-least : (w : ℕ → Bool) (t : Tree) (C : ℕ → Type 0) → Closed w t C → {v : ℕ} → Ready w t v → C v
 ready-is-least = closed-form.ready-least
 
-roots-are-ready : (t : Tree) (nodeTable : List ℕ) → NodeCells t nodeTable → (vs : List ℕ) → ((v : ℕ) → List·Memᴰ v vs → v < size t)
+roots-as-built : (t : Tree) (nodeTable : List ℕ) → NodeCells t nodeTable → (vs : List ℕ) → ((v : ℕ) → List·Memᴰ v vs → v < size t)
     → rootsOn (size t) nodeTable vs ≡ some (roots t vs)
-roots-are-ready = built.roots-built
+roots-as-built = built.roots-built
 
 roots-few : (n : ℕ) (nodeTable vs l : List ℕ) → 0 < n → allBelow n vs ≡ true → rootsOn n nodeTable vs ≡ some l → RootsAre n (length vs) l
 roots-few = rootsOn-are

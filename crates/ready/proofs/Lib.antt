@@ -6,3 +6,4 @@ pub mod ChangedRun
 pub mod ClosedForm
 pub mod PartsRun
 pub mod ListLaws
+pub mod PartitionLaws

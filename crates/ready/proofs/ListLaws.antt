@@ -175,6 +175,13 @@ module _ (w : ℕ → Bool) (t : Tree) where
   pub ready-list : {v : ℕ} → Ready w t v → List·Memᴰ v (readyList w t)
   ready-list r = member-list (ready-member w t r)
 
+  pub ready-dec : (v : ℕ) → v < size t → Ready w t v ⊎ (Ready w t v → ⊥)
+  ready-dec v h = go (isMember w t v) refl
+    where
+      go : (b : Bool) → isMember w t v ≡ b → Ready w t v ⊎ (Ready w t v → ⊥)
+      go true e = inl (member-ready w t (is-member w t v h e))
+      go false e = inr (λ r. true-false (isMember w t v) (member-is w t (ready-member w t r)) e)
+
   pub list-rising : Rising 0 (readyList w t)
   unfolding readyList
   list-rising = rises (isMember w t) (size t)

@@ -1,3 +1,4 @@
 pub mod Ready
 pub mod Members
 pub mod Parts
+pub mod Partition

@@ -14,3 +14,4 @@ pub mod ShapeLaws
 pub mod StartLaws
 pub mod StepLaws
 pub mod ValidLaws
+pub mod Ties

@@ -58,17 +58,13 @@ use Rattle.session.proofs.state.Session.advance.Met as step-thm
 use Rattle.in_place.proofs.Lendings.{Lending, shared, kinds, Fitting}
 use Rattle.in_place.proofs.InPlace.{vals, passed, Post, exits, met, spelled}
 use Rattle.in_place.proofs.advance.Key.{name as #this}
+use Rattle.in_place.proofs.Promised.{advancePromised as Promised}
 use Rattle.in_place.proofs.advance as this
 use Rattle.in_place.proofs.advance.Statement as stated
 use Rattle.in_place.proofs.advance.Code as code
 
 abbrev lends : List (Lending 5)
 lends = shared 1 tt u8 ∷ shared 2 tt u8 ∷ shared 3 tt u16 ∷ shared 4 tt u8 ∷ []
-
-abbrev Promised : (κs : Lfts 5) (a : Args this.signature κs) → AdvanceAnswer → AtExit this.ended κs → Type 0
-Promised κs a r e =
-    CallDone (now (a .0)) (calls.advance (inputsOf (now (a .1 .0)) (now (a .1 .1 .0)) (now (a .1 .1 .1 .0)) (now (a .1 .1 .1 .1 .0))))
-    (advanceAnswer r) (now (e .0))
 
 result-is : (r : Advanced) (v : Val) → Is O.the-row r (v ∷ []) → Is E.the-row (r .answer) (EL.vals E.the-type E′.the-laws (r .answer))
 result-is r v is = LL.owed O.the-type O′.the-laws r (v ∷ []) is .0

@@ -56,17 +56,13 @@ use Rattle.session.proofs.state.Session.cancel.Met as step-thm
 use Rattle.in_place.proofs.Lendings.{Lending, kinds, Fitting}
 use Rattle.in_place.proofs.InPlace.{vals, passed, Post, exits, met, spelled}
 use Rattle.in_place.proofs.cancel.Key.{name as #this}
+use Rattle.in_place.proofs.Promised.{cancelPromised as Promised}
 use Rattle.in_place.proofs.cancel as this
 use Rattle.in_place.proofs.cancel.Statement as stated
 use Rattle.in_place.proofs.cancel.Code as code
 
 abbrev lends : List (Lending 1)
 lends = []
-
-abbrev Promised : (κs : Lfts 1) (a : Args this.signature κs) → CallAnswer → AtExit this.ended κs → Type 0
-Promised κs a r e =
-    CallDone (now (a .0)) calls.cancel
-    (callAnswer r) (now (e .0))
 
 result-is : (r : Called) (v : Val) → Is O.the-row r (v ∷ []) → Is E.the-row (r .answer) (EL.vals E.the-type E′.the-laws (r .answer))
 result-is r v is = LL.owed O.the-type O′.the-laws r (v ∷ []) is .0

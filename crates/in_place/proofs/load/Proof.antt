@@ -57,17 +57,13 @@ use Rattle.session.proofs.state.Session.load.Met as step-thm
 use Rattle.in_place.proofs.Lendings.{Lending, shared, written, kinds, Fitting}
 use Rattle.in_place.proofs.InPlace.{vals, passed, Post, exits, met, spelled}
 use Rattle.in_place.proofs.load.Key.{name as #this}
+use Rattle.in_place.proofs.Promised.{loadPromised as Promised}
 use Rattle.in_place.proofs.load as this
 use Rattle.in_place.proofs.load.Statement as stated
 use Rattle.in_place.proofs.load.Code as code
 
 abbrev lends : List (Lending 5)
 lends = shared 1 tt u8 ∷ shared 2 tt u8 ∷ written 3 tt u16 ∷ written 4 tt u8 ∷ []
-
-abbrev Promised : (κs : Lfts 5) (a : Args this.signature κs) → CallAnswer → AtExit this.ended κs → Type 0
-Promised κs a r e =
-    LoadDone (now (a .0)) (inputsOf (now (a .1 .0)) (now (a .1 .1 .0)) (now (a .1 .1 .1 .0)) (now (a .1 .1 .1 .1 .0)))
-    (callAnswer r) (now (e .0)) (now (e .1 .1 .1 .0)) (now (e .1 .1 .1 .1 .0))
 
 result-is : (r : Called) (v : Val) → Is O.the-row r (v ∷ []) → Is E.the-row (r .answer) (EL.vals E.the-type E′.the-laws (r .answer))
 result-is r v is = LL.owed O.the-type O′.the-laws r (v ∷ []) is .0

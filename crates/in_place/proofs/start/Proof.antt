@@ -58,18 +58,13 @@ use Rattle.session.proofs.state.Session.start.Met as step-thm
 use Rattle.in_place.proofs.Lendings.{Lending, shared, kinds, Fitting}
 use Rattle.in_place.proofs.InPlace.{vals, passed, Post, exits, met, spelled}
 use Rattle.in_place.proofs.start.Key.{name as #this}
+use Rattle.in_place.proofs.Promised.{startPromised as Promised}
 use Rattle.in_place.proofs.start as this
 use Rattle.in_place.proofs.start.Statement as stated
 use Rattle.in_place.proofs.start.Code as code
 
 abbrev lends : List (Lending 7)
 lends = shared 1 tt u8 ∷ shared 2 tt u8 ∷ shared 3 tt u16 ∷ shared 4 tt u8 ∷ shared 5 tt u16 ∷ shared 6 tt u8 ∷ []
-
-abbrev Promised : (κs : Lfts 7) (a : Args this.signature κs) → StartAnswer → AtExit this.ended κs → Type 0
-Promised κs a r e =
-    CallDone (now (a .0)) (calls.start (inputsOf (now (a .1 .0)) (now (a .1 .1 .0)) (now (a .1 .1 .1 .0)) (now (a .1 .1 .1 .1 .0)))
-    (now (a .1 .1 .1 .1 .1 .0)) (now (a .1 .1 .1 .1 .1 .1 .0)))
-    (startAnswer r) (now (e .0))
 
 result-is : (r : Started) (v : Val) → Is O.the-row r (v ∷ []) → Is E.the-row (r .answer) (EL.vals E.the-type E′.the-laws (r .answer))
 result-is r v is = LL.owed O.the-type O′.the-laws r (v ∷ []) is .0

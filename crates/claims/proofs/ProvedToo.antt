@@ -1,0 +1,106 @@
+-- What document 01 wants proved beside its demands, of every tree and of the calls, and source document 002's partition.
+--     climb-to                              where a climb ends, how many moves it makes, and its ceiling
+--     climb-six-to-one, climb-six-to-zero   "a climb from depth 6 to 1 takes 3 links, to 0 takes 2"
+--     one-node-accepted, two-nodes-refused  "N=1 is accepted with 14 bytes; N=2 gets 5", of the build with any rule table
+--     roots-are-ready                       the roots that are computed are the ready set
+--     parts-partition                       each node is in exactly one part; what each part looks like: ready/proofs/PartitionLaws
+-- Assumes nothing.
+use Prim.Native.Nat.{ℕ, _+_, _-_, _≤_, _<_}
+use mathlib.Core.Path.{_≡_, refl, ap, _∙_}
+use mathlib.Core.Bool.{Bool, true}
+use mathlib.Core.List.{List, [], _∷_, List·Memᴰ}
+use mathlib.Core.Option.{some}
+use native.Mathlib.Omega.{arith}
+use lib.Dec.{ltb}
+use lib.ListN.{length}
+use borrow.Author.Tests.{lt-ltb}
+use Rattle.list_laws.specs.Tests.{holds, allBelow}
+use Rattle.list_laws.proofs.BoolLaws.{and-both}
+use Rattle.trees.specs.Tree.{Tree, leaf, size}
+use Rattle.trees.specs.Numbering.{depth}
+use Rattle.trees.specs.Climb.{moveCount}
+use Rattle.trees.proofs.NodeLaws.{size-pos}
+use Rattle.trees.proofs.TreeClimbs.{climb-tree, climb-bound}
+use Rattle.trees.proofs.Samples.{moveCount-samples}
+use Rattle.formats.specs.Bytes.{le32}
+use Rattle.formats.specs.Plan.{nodeCount, planBytes}
+use Rattle.formats.specs.Rules.{stateCount, labelCount}
+use Rattle.formats.specs.Checks.{firstNo, planChecks, ruleChecks, ruleTableChecks, roomCheck, buildChecks}
+use Rattle.formats.proofs.CheckLaws.{firstNo-append-suc}
+use Rattle.formats.proofs.RuleLaws.{rules-pass}
+use Rattle.formats.proofs.InputLaws.{passes-rule-table, passes-build}
+use Rattle.formats.proofs.PlanTrees.{planBytes-passes, labelsIn-planBytes, count-planBytes}
+use Rattle.formats.proofs.PlanTheorems.{two-nodes}
+use Rattle.node_tables.specs.NodeCells.{NodeCells}
+use Rattle.ready.specs.Members.{roots}
+use Rattle.ready.proofs.ListLaws.{list-ready, ready-list, list-rising, list-last}
+use Rattle.ready.proofs.PartitionLaws.{part-unique, part-exists}
+use Rattle.questions.specs.Roots.{rootsOn}
+use Rattle.questions.proofs.RootsBuilt.{roots-built}
+use Rattle.claims.specs.ProvedToo.{ClimbTo, ClimbTakes, RootsReady, PartOf}
+
+-- ---- climbs, in every tree
+
+climb-to : (t : Tree) (w to : ℕ) → w < size t → to ≤ depth t w → ClimbTo t w to
+climb-to t w to h l =
+    let c = climb-tree t w to h l in
+    record {
+      moves = c .moves;
+      found = c .found;
+      ends = c .ends;
+      count = c .count;
+      few = climb-bound t w to (c .moves) h l (c .found);
+    }
+
+climb-six-to-one : (t : Tree) (w : ℕ) → w < size t → depth t w ≡ 6 → ClimbTakes t w 1 3
+climb-six-to-one t w h e =
+    let c = climb-tree t w 1 h (omega arith) in
+    (c .moves, c .found, c .count ∙ ap (λ (d : ℕ). moveCount d 1) e ∙ moveCount-samples .0)
+
+climb-six-to-zero : (t : Tree) (w : ℕ) → w < size t → depth t w ≡ 6 → ClimbTakes t w 0 2
+climb-six-to-zero t w h e =
+    let c = climb-tree t w 0 h (omega arith) in
+    (c .moves, c .found, c .count ∙ ap (λ (d : ℕ). moveCount d 0) e ∙ moveCount-samples .1)
+
+-- ---- plans of one and of two nodes, by the build's checks
+
+one-node-accepted : (a : ℕ) (r : List ℕ) → firstNo (ruleChecks r) ≡ 0 → a < labelCount r → (nodeTable stateTable : ℕ)
+    → 4 ≤ nodeTable → stateCount r + 1 ≤ stateTable → firstNo (buildChecks (planBytes (leaf a)) r nodeTable stateTable) ≡ 0
+one-node-accepted a r e h nodeTable stateTable n b =
+    let c : nodeCount (planBytes (leaf a)) ≡ 1 = count-planBytes (leaf a) (omega arith) in
+    passes-build (planBytes (leaf a)) r nodeTable stateTable
+    (passes-rule-table (planBytes (leaf a)) r (planBytes-passes (leaf a) (omega arith)) (rules-pass r e)
+    (rw (labelsIn-planBytes (leaf a) (omega arith)) (unfold allBelow in and-both (ltb a (labelCount r)) true (lt-ltb a (labelCount r) h) refl)))
+    (rw c n) (rw c (omega arith))
+
+two-nodes-refused : (p r : List ℕ) (nodeTable stateTable : ℕ) → length p ≡ 16 → nodeCount p ≡ 2 → le32 p 4 ≡ 12 → le32 p 8 ≡ 14
+    → firstNo (buildChecks p r nodeTable stateTable) ≡ 5
+unfolding buildChecks ruleTableChecks
+two-nodes-refused p r nodeTable stateTable h n a b =
+    firstNo-append-suc _ (roomCheck (nodeCount p) (stateCount r) nodeTable stateTable ∷ []) 4
+    (firstNo-append-suc (planChecks p) _ 4 (two-nodes p h n a b))
+
+-- ---- "Let W be the listed nodes and the root. The ready set is the least set that ..": on numbers as built the roots are that set
+
+roots-are-ready : (t : Tree) (nodeTable : List ℕ) → NodeCells t nodeTable → (vs : List ℕ) → ((v : ℕ) → List·Memᴰ v vs → v < size t)
+    → (l : List ℕ) × (rootsOn (size t) nodeTable vs ≡ some l) × RootsReady t vs l
+roots-are-ready t nodeTable c vs h = (
+  roots t vs,
+  roots-built t nodeTable c vs h,
+  unfold roots in record {
+    members = λ v. (list-ready (λ x. holds x vs) t, ready-list (λ x. holds x vs) t);
+    rising = list-rising (λ x. holds x vs) t;
+    last = list-last (λ x. holds x vs) t (size t - 1) (omega (arith, size-pos t));
+  },
+)
+
+-- ---- "The partition will assign each vertex of T to a unique part"
+
+parts-partition : (w : ℕ → Bool) (t : Tree) (x : ℕ) → x < size t → PartOf w t x
+parts-partition w t x h =
+    let p = part-exists w t x h in
+    record {
+      member = p .0;
+      has = p .1;
+      only = λ u q. part-unique w t u (p .0) x q (p .1);
+    }
