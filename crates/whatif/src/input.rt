@@ -104,6 +104,7 @@ pub fn read_some(most: usize, chunk: &mut [u8]) -> usize
 
 // As many reads as it takes for `most` bytes; fewer come where the input ends.
 pub fn read_whole(most: usize, space: &mut [u8]) -> usize
+    ensures { λ r. ⌜ r ≤ most ⌝ }
     ensures { λ r. ⌜ Counts r (now (space .exit)) ⌝ }
 {
     let n = least(most, space.len());

@@ -1,5 +1,7 @@
+use native.Mathlib.Omega.{arith}
 use borrow.Author.Needs.{needs}
 use mathlib.Core.Path.{sym}
+use lib.ListN.{length-take}
 use lib.Seq.{length-take-le}
 use Rattle.whatif.proofs.InputLaws.{counted-front}
 use Rattle.whatif.proofs.input.read_whole.Statement.{statement}
@@ -14,8 +16,11 @@ slice-aggregate-read-full c = sym (length-take-le _ _ (c .before .least .ensures
 
 returns : tie.Need-returns
 returns c =
-    let r = c .before .before .read-full in
-    counted-front (r .result) (r .last .1 .0) _ (r .ensures .0)
+    let r = c .before .before in
+    let l = r .before .before in
+    let a = l .before .before .args in
+    counted-front (a .most) (r .read-full .result) (r .read-full .last .1 .0) _
+    (omega (arith, r .read-full .kept .1 .0, length-take (l .least .result) (a .space .now), l .least .ensures .0)) (r .read-full .ensures .0)
 
 pub read-whole-spec : {M : Type 1} → statement M
 read-whole-spec =

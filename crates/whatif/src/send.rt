@@ -1,0 +1,42 @@
+// The three places where the program writes to standard output. No contract can name what the system is handed, so each of them asks of its
+// callers that the text is what the definition says.
+use libc::STDOUT_FILENO;
+ghost use mathlib.Core.Path.{_≡_};
+ghost use mathlib.Core.List.{List};
+ghost use Prim.Native.Nat.{ℕ};
+ghost use lib.ListN.{length, take};
+ghost use Rattle.whatif.specs.Said.{saidOn, said};
+ghost use Rattle.whatif.specs.Stream.{questionLine};
+ghost use Rattle.whatif.specs.Turns.{Lines};
+
+// All that is said to an input that is too large, "however many bytes come". Tells the text's length.
+pub fn send_too_large(head: &[u8], text: &[u8]) -> usize
+    requires { ⌜ ((w : List ℕ) → take 12 w ≡ now head → said w ≡ now text) ⌝ }
+    ensures { λ r. ⌜ r ≡ length (now (text .entry)) ⌝ }
+{
+    io::write_all(STDOUT_FILENO, text);
+    text.len()
+}
+
+// All that is said where Load refuses, whatever questions come: "that refusal only". Tells the text's length.
+pub fn send_refusal(plan: &[u8], rules: &[u8], text: &[u8]) -> usize
+    requires { ⌜ ((qs : List ℕ) → saidOn (now plan) (now rules) qs ≡ now text) ⌝ }
+    ensures { λ r. ⌜ r ≡ length (now (text .entry)) ⌝ }
+{
+    io::write_all(STDOUT_FILENO, text);
+    text.len()
+}
+
+// The lines that a chunk of the questions completes; `asked` holds the question that is not yet whole then. Tells whether all were written.
+pub fn send_lines(
+    plan: &[u8],
+    rules: &[u8],
+    chunk: &[u8],
+    asked: &[u8],
+    have: usize,
+    text: &[u8],
+) -> bool
+    requires { ⌜ Lines (questionLine (now plan) (now rules)) (now chunk) (now asked) have (now text) ⌝ }
+{
+    io::write_all(STDOUT_FILENO, text)
+}
