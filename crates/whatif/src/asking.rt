@@ -64,14 +64,14 @@ fn some_questions(
         out,
     );
     let end = taken.end;
-    let is_written = send_lines(plan, rules, &chunk[..n], asked, taken.have, &out[..end]);
+    let sent = send_lines(plan, rules, &chunk[..n], asked, taken.have, &out[..end]);
     Turn {
         came: n,
         end,
         have: taken.have,
         left: last.left - n,
-        sent: last.sent + end,
-        is_written,
+        sent: last.sent + sent.bytes,
+        is_written: sent.is_written,
     }
 }
 

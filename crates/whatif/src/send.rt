@@ -9,6 +9,12 @@ ghost use Rattle.whatif.specs.Said.{saidOn, said};
 ghost use Rattle.whatif.specs.Stream.{questionLine};
 ghost use Rattle.whatif.specs.Turns.{Lines};
 
+// How many bytes were handed to the system, and whether it took them all.
+pub struct Sent {
+    pub bytes: usize,
+    pub is_written: bool,
+}
+
 // All that is said to an input that is too large, "however many bytes come". Tells the text's length.
 pub fn send_too_large(head: &[u8], text: &[u8]) -> usize
     requires { ⌜ ((w : List ℕ) → take 12 w ≡ now head → said w ≡ now text) ⌝ }
@@ -27,7 +33,7 @@ pub fn send_refusal(plan: &[u8], rules: &[u8], text: &[u8]) -> usize
     text.len()
 }
 
-// The lines that a chunk of the questions completes; `asked` holds the question that is not yet whole then. Tells whether all were written.
+// The lines that a chunk of the questions completes; `asked` holds the question that is not yet whole then.
 pub fn send_lines(
     plan: &[u8],
     rules: &[u8],
@@ -35,8 +41,13 @@ pub fn send_lines(
     asked: &[u8],
     have: usize,
     text: &[u8],
-) -> bool
+) -> Sent
     requires { ⌜ Lines (questionLine (now plan) (now rules)) (now chunk) (now asked) have (now text) ⌝ }
+    ensures { λ r. ⌜ r .bytes ≡ length (now (text .entry)) ⌝ }
 {
-    io::write_all(STDOUT_FILENO, text)
+    let is_written = io::write_all(STDOUT_FILENO, text);
+    Sent {
+        bytes: text.len(),
+        is_written,
+    }
 }

@@ -1,7 +1,7 @@
 use native.Mathlib.Omega.{arith}
 use borrow.Author.Needs.{needs}
 use Prim.Native.Nat.{_≤_}
-use mathlib.Core.Path.{refl, sym}
+use mathlib.Core.Path.{_≡_, sym, _∙_}
 use lib.ListN.{length}
 use lib.Seq.{length-take-le}
 use Rattle.whatif.proofs.TurnLaws.{lines-sent}
@@ -43,16 +43,20 @@ send-lines-requires c κs =
     let p = entered (read t) .pre in
     lines-sent (p .0 .0) (p .0 .1) (t .take-in .ensures .0)
 
+-- as many bytes are sent as the text has
+bytes-sent : (c : tie.After-send-lines) → c .send-lines .result .bytes ≡ c .before .before .before .before .before .before .before .before .take-in .result .end
+bytes-sent c = c .send-lines .ensures ∙ length-take-le _ _ (fits (c .before .before .before .before .before .before .before .before))
+
 add-t29 : tie.Need-add-t29
 add-t29 c =
-    let t = c .before .before .before .before .before .before .before .before .before .before in
+    let t = c .before .before .before .before .before .before .before .before .before .before .before in
     let p = entered (read t) .pre in
     let e = read t .read-some .ensures in
-    omega (arith, t .take-in .ensures .1 .0, e .0, e .1 .1 .1, p .1 .1 .0)
+    omega (arith, bytes-sent (c .before .before .before), t .take-in .ensures .1 .0, e .0, e .1 .1 .1, p .1 .1 .0)
 
 returns : tie.Need-returns
 returns c =
-    let t = c .before .before .before .before .before .before .before .before .before .before in
+    let t = c .before .before .before .before .before .before .before .before .before .before .before in
     let r = read t in
     let e = r .read-some .ensures in
     let a = t .take-in .ensures in (
@@ -60,7 +64,7 @@ returns c =
       (
         (e .1 .1 .0, r .read-some .kept .1 .0),
         (
-          (omega (arith, e .0), refl),
+          (omega (arith, e .0), omega (arith, bytes-sent (c .before .before .before))),
           (omega (arith, a .1 .1, e .1 .1 .1), omega (arith, a .1 .0, e .1 .1 .1)),
         ),
       ),
