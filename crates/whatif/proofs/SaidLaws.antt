@@ -3,6 +3,7 @@
 --     said-too-large     what is said to an input that is too large, by its lengths alone
 --     too-large-said, in-limits-said      what is said to the parts of one
 --     said-parts         what is said to an input, by the parts of it that came
+--     parts-of-whole     the parts of an input that comes whole
 --     room-enough        the program's tables are long enough for all that it takes: Load's refusal is one of 2 to 10
 --     loaded-said, refused-said      what is said where Load accepts, and where it refuses
 --     lines-over         the lines of one chunk after another are those of all at once
@@ -12,8 +13,8 @@ use mathlib.Core.Path.{_≡_, refl, ap, sym, _∙_, subst}
 use mathlib.Core.Bool.{Bool, true, false, cond}
 use mathlib.Core.List.{List, [], _∷_, _++_}
 use native.Mathlib.Omega.{arith}
-use lib.ListN.{length, getD, take}
-use lib.Seq.{getD-take}
+use lib.ListN.{length, getD, take, drop}
+use lib.Seq.{getD-take, take-at, drop-at, drop-drop, take-all}
 use Rattle.formats.specs.Bytes.{le32}
 use Rattle.formats.specs.Plan.{nodeCount}
 use Rattle.formats.specs.Rules.{stateCount}
@@ -81,6 +82,31 @@ said-parts w h p r qs C q =
     ap (λ (b : Bool). cond b tooLargeLine (saidOn (planOf w) (rulesOf w) (questionsOf w))) (too-large-head w h (C .head))
     ∙ (ap (λ (l : List ℕ). saidTo h l (rulesOf w) (questionsOf w)) (C .plan)
     ∙ (ap (λ (l : List ℕ). saidTo h p l (questionsOf w)) (C .rules) ∙ ap (saidTo h p r) q))
+
+module _ (h p r qs : List ℕ) (l : length h ≡ 12) (m : length p ≡ le32 h 0) (n : length r ≡ le32 h 4) (k : length qs ≤ le32 h 8) where
+  stated-in : (at : ℕ) → at ≤ 8 → le32 (h ++ (p ++ (r ++ qs))) at ≡ le32 h at
+  stated-in at i = le32-head (h ++ (p ++ (r ++ qs))) h at (take-at h (p ++ (r ++ qs)) 12 l) i
+
+  after-plan : drop (12 + le32 (h ++ (p ++ (r ++ qs))) 0) (h ++ (p ++ (r ++ qs))) ≡ r ++ qs
+  after-plan =
+      sym (drop-drop (le32 (h ++ (p ++ (r ++ qs))) 0) 12 (h ++ (p ++ (r ++ qs))))
+      ∙ (ap (drop (le32 (h ++ (p ++ (r ++ qs))) 0)) (drop-at h (p ++ (r ++ qs)) 12 l)
+      ∙ drop-at p (r ++ qs) (le32 (h ++ (p ++ (r ++ qs))) 0) (m ∙ sym (stated-in 0 (omega arith))))
+
+  pub parts-of-whole : Came (h ++ (p ++ (r ++ qs))) h p r × (questionsOf (h ++ (p ++ (r ++ qs))) ≡ qs)
+  parts-of-whole =
+      let w = h ++ (p ++ (r ++ qs)) in (
+        record {
+          head = take-at h (p ++ (r ++ qs)) 12 l;
+          plan = ap (take (le32 w 0)) (drop-at h (p ++ (r ++ qs)) 12 l)
+              ∙ take-at p (r ++ qs) (le32 w 0) (m ∙ sym (stated-in 0 (omega arith)));
+          rules = ap (take (le32 w 4)) after-plan ∙ take-at r qs (le32 w 4) (n ∙ sym (stated-in 4 (omega arith)));
+        },
+        ap (take (le32 w 8))
+        (sym (drop-drop (le32 w 4) (12 + le32 w 0) w)
+        ∙ (ap (drop (le32 w 4)) after-plan ∙ drop-at r qs (le32 w 4) (n ∙ sym (stated-in 4 (omega arith)))))
+        ∙ take-all (le32 w 8) qs (omega (arith, stated-in 8 (omega arith), k)),
+      )
 
 -- ---- Load
 

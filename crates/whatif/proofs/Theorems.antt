@@ -2,12 +2,13 @@
 --     calls-tell      the calls that the program makes for a question tell the definition's answer, on what an accepted Load left
 --     chunks-alike    the lines do not depend on how the input is cut into chunks
 --     said-of-parts   what the program says to an input is what it says to the parts that came of it
+--     said-of-whole   which, where all of it came, are what it is made of
 --     said-in-chunks  and that is the lines of one chunk after another, however the questions are cut
 --     said-refused    or Load's refusal
 --     sample-lines    document 01's nine questions, as bytes, give the nine lines, as text
 --     sample-said     and so do the sample's 121 bytes
 -- Assumes nothing.
-use Prim.Native.Nat.{ℕ, suc}
+use Prim.Native.Nat.{ℕ, suc, _≤_}
 use mathlib.Core.Path.{_≡_, refl, ap, sym, _∙_}
 use mathlib.Core.Bool.{false}
 use mathlib.Core.List.{List, [], _∷_, _++_}
@@ -23,10 +24,10 @@ use Rattle.whatif.specs.Text.{placesIn, decimal}
 use Rattle.whatif.specs.Input.{tooLarge}
 use Rattle.whatif.specs.Line.{yesOrNo, refusedWord, refusedLine, lineOf}
 use Rattle.whatif.specs.Stream.{questionLine, openAfter, openBy, lineAfter, linesBy}
-use Rattle.whatif.specs.Said.{statedPlan, statedRules, questionsOf, saidBy, saidTo, said}
+use Rattle.whatif.specs.Said.{statedPlan, statedRules, statedQuestions, questionsOf, saidBy, saidTo, said}
 use Rattle.whatif.specs.Turns.{Came, joined, linesOver}
 use Rattle.whatif.proofs.ClearedLaws.{cleared-answer}
-use Rattle.whatif.proofs.SaidLaws.{said-parts, in-limits-said, lines-over}
+use Rattle.whatif.proofs.SaidLaws.{said-parts, parts-of-whole, in-limits-said, lines-over}
 use Rattle.whatif.proofs.StreamLaws.{lines-chunks}
 
 pub calls-tell : (s : Session) (x : Inputs) (vs bs : List ℕ) → Cleared s x → askedOn s x vs bs ≡ answerTo (x .plan) (x .rules) vs bs
@@ -38,6 +39,13 @@ chunks-alike = lines-chunks
 -- h, p, r are the lengths, plan and rules that came of the input w, and qs what came of its questions
 pub said-of-parts : (w h p r qs : List ℕ) → Came w h p r → questionsOf w ≡ qs → said w ≡ saidTo h p r qs
 said-of-parts = said-parts
+
+-- an input that comes whole has those parts
+pub said-of-whole : (h p r qs : List ℕ) → length h ≡ 12 → length p ≡ statedPlan h → length r ≡ statedRules h
+    → length qs ≤ statedQuestions h → said (h ++ (p ++ (r ++ qs))) ≡ saidTo h p r qs
+said-of-whole h p r qs l m n k =
+    let c = parts-of-whole h p r qs l m n k in
+    said-parts (h ++ (p ++ (r ++ qs))) h p r qs (c .0) (c .1)
 
 -- cs are chunks of any length
 pub said-in-chunks : (h p r : List ℕ) (cs : List (List ℕ)) → tooLarge (statedPlan h) (statedRules h) ≡ false
