@@ -2,19 +2,23 @@
 --     le32-head          the stated lengths stand in the first twelve bytes
 --     said-too-large     what is said to an input that is too large, by its lengths alone
 --     too-large-said, in-limits-said      what is said to the parts of one
+--     asked-none, asked-stated      how many bytes of the plan and the rules are asked for
 --     said-parts         what is said to an input, by the parts of it that came
 --     parts-of-whole     the parts of an input that comes whole
 --     room-enough        the program's tables are long enough for all that it takes: Load's refusal is one of 2 to 10
 --     loaded-said, refused-said      what is said where Load accepts, and where it refuses
 --     lines-over         the lines of one chunk after another are those of all at once
 -- Assumes nothing.
-use Prim.Native.Nat.{ℕ, zero, suc, _+_, _*_, _≤_, _<_}
+use Prim.Native.Nat.{ℕ, zero, suc, _+_, _*_, _≤_, _<_, min}
 use mathlib.Core.Path.{_≡_, refl, ap, sym, _∙_, subst}
-use mathlib.Core.Bool.{Bool, true, false, cond}
+use mathlib.Core.Bool.{Bool, true, false, cond, _||_}
 use mathlib.Core.List.{List, [], _∷_, _++_}
 use native.Mathlib.Omega.{arith}
+use lib.Dec.{ltb}
 use lib.ListN.{length, getD, take, drop}
 use lib.Seq.{getD-take, take-at, drop-at, drop-drop, take-all}
+use borrow.Author.Tests.{ltb-false}
+use Rattle.list_laws.proofs.BoolLaws.{true-false}
 use Rattle.formats.specs.Bytes.{le32}
 use Rattle.formats.specs.Plan.{nodeCount}
 use Rattle.formats.specs.Rules.{stateCount}
@@ -36,7 +40,7 @@ use Rattle.whatif.specs.Input.{tooLarge}
 use Rattle.whatif.specs.Line.{refusedLine}
 use Rattle.whatif.specs.Stream.{questionLine, openBy, linesBy}
 use Rattle.whatif.specs.Said.{statedPlan, statedRules, planOf, rulesOf, questionsOf, tooLargeLine, saidBy, saidOn, saidTo, said}
-use Rattle.whatif.specs.Turns.{Came, joined, linesOver}
+use Rattle.whatif.specs.Turns.{Came, AskedFor, joined, linesOver}
 use Rattle.whatif.proofs.ClearedLaws.{load-passed, load-number}
 use Rattle.whatif.proofs.StreamLaws.{lines-chunks}
 
@@ -76,6 +80,33 @@ pub in-limits-said : (h p r qs : List ℕ) → tooLarge (le32 h 0) (le32 h 4) �
 unfolding saidTo
 in-limits-said h p r qs t = ap (λ (b : Bool). cond b tooLargeLine (saidOn p r qs)) t
 
+pub asked-none : (h : List ℕ) → tooLarge (le32 h 0) (le32 h 4) ≡ true → AskedFor h 0 0
+asked-none h t = record {
+  plan = sym (ap (λ (b : Bool). cond b 0 (le32 h 0)) t);
+  rules = sym (ap (λ (b : Bool). cond b 0 (le32 h 4)) t);
+}
+
+-- what is asked for where there is room for the most that is taken
+pub asked-stated : (h : List ℕ) (n a l m b k : ℕ) → tooLarge (le32 h 0) (le32 h 4) ≡ false → n ≡ min a l → a ≡ le32 h 0 → l ≡ 2014
+    → m ≡ min b k → b ≡ le32 h 4 → k ≡ 16484 → AskedFor h n m
+asked-stated h n a l m b k t e f g i j o =
+    let c : le32 h 0 ≤ 2014 = ltb-false 2014 (le32 h 0) (neither-left (ltb 2014 (le32 h 0)) (ltb 16484 (le32 h 4)) t) in
+    let d : le32 h 4 ≤ 16484 = ltb-false 16484 (le32 h 4) (neither-right (ltb 2014 (le32 h 0)) (ltb 16484 (le32 h 4)) t) in
+    let x : n ≡ le32 h 0 = omega arith in
+    let y : m ≡ le32 h 4 = omega arith in
+    record {
+      plan = x ∙ sym (ap (λ (b : Bool). cond b 0 (le32 h 0)) t);
+      rules = y ∙ sym (ap (λ (b : Bool). cond b 0 (le32 h 4)) t);
+    }
+  where
+    neither-left : (u v : Bool) → u || v ≡ false → u ≡ false
+    neither-left true v e = e
+    neither-left false v e = refl
+
+    neither-right : (u v : Bool) → u || v ≡ false → v ≡ false
+    neither-right true v e = absurd (true-false e)
+    neither-right false v e = e
+
 pub said-parts : (w h p r qs : List ℕ) → Came w h p r → questionsOf w ≡ qs → said w ≡ saidTo h p r qs
 unfolding saidTo
 said-parts w h p r qs C q =
@@ -103,9 +134,9 @@ module _ (h p r qs : List ℕ) (l : length h ≡ 12) (m : length p ≡ le32 h 0)
           rules = ap (take (le32 w 4)) after-plan ∙ take-at r qs (le32 w 4) (n ∙ sym (stated-in 4 (omega arith)));
         },
         ap (take (le32 w 8))
-        (sym (drop-drop (le32 w 4) (12 + le32 w 0) w)
-        ∙ (ap (drop (le32 w 4)) after-plan ∙ drop-at r qs (le32 w 4) (n ∙ sym (stated-in 4 (omega arith)))))
-        ∙ take-all (le32 w 8) qs (omega (arith, stated-in 8 (omega arith), k)),
+            (sym (drop-drop (le32 w 4) (12 + le32 w 0) w)
+            ∙ (ap (drop (le32 w 4)) after-plan ∙ drop-at r qs (le32 w 4) (n ∙ sym (stated-in 4 (omega arith)))))
+            ∙ take-all (le32 w 8) qs (omega (arith, stated-in 8 (omega arith), k)),
       )
 
 -- ---- Load

@@ -3,6 +3,7 @@
 -- Came w h p r == of the input w these bytes came: h the lengths, p the plan, r the rules
 -- Answered h p r came sent == `sent` bytes were handed to the system, as many as are said to these parts of an input (h the lengths, p the plan,
 --   r the rules) and `came` bytes of questions; no more came of any than is stated
+-- AskedFor h n m == n bytes of the plan and m of the rules were asked for: as many as the lengths h state, none where they are too large
 -- AnsweredOn p r came sent == the same after the lengths
 -- Progress f came have sent == `came` bytes of the questions came, `have` of which are of the one that is not yet whole, and the lines of the
 --   others, f the line of a question, are `sent` bytes
@@ -15,8 +16,10 @@
 -- Assumes nothing.
 use Prim.Native.Nat.{ℕ, _≤_}
 use mathlib.Core.Path.{_≡_}
+use mathlib.Core.Bool.{cond}
 use mathlib.Core.List.{List, [], _∷_, _++_}
 use lib.ListN.{length, take}
+use Rattle.whatif.specs.Input.{tooLarge}
 use Rattle.whatif.specs.Stream.{openBy, linesBy, Held}
 use Rattle.whatif.specs.Said.{statedPlan, statedRules, statedQuestions, planOf, rulesOf, saidOn, saidTo}
 
@@ -32,6 +35,10 @@ pub record Answered (h p r : List ℕ) (came sent : ℕ) : Type 0 where
   pub plan-most : length p ≤ statedPlan h
   pub rules-most : length r ≤ statedRules h
   pub came-most : came ≤ statedQuestions h
+
+pub record AskedFor (h : List ℕ) (n m : ℕ) : Type 0 where
+  pub plan : n ≡ cond (tooLarge (statedPlan h) (statedRules h)) 0 (statedPlan h)
+  pub rules : m ≡ cond (tooLarge (statedPlan h) (statedRules h)) 0 (statedRules h)
 
 pub record AnsweredOn (p r : List ℕ) (came sent : ℕ) : Type 0 where
   pub questions : List ℕ

@@ -18,6 +18,7 @@ mod send;
 mod text;
 
 use asking::put_questions;
+use input::Got;
 use input::is_too_large;
 use input::length_at;
 use input::node_table_space;
@@ -36,7 +37,7 @@ ghost use Prim.Native.Nat.{ℕ, _≤_};
 ghost use lib.ListN.{length, take};
 ghost use Rattle.whatif.specs.Line.{refusedLine};
 ghost use Rattle.whatif.specs.Said.{saidOn};
-ghost use Rattle.whatif.specs.Turns.{Answered, AnsweredOn};
+ghost use Rattle.whatif.specs.Turns.{Answered, AnsweredOn, AskedFor};
 
 // How many bytes came of the questions, and how many were handed to the system.
 struct Heard {
@@ -44,10 +45,10 @@ struct Heard {
     sent: usize,
 }
 
-// How many bytes came of the plan, the rules and the questions, and how many were handed to the system.
+// What came of the plan and the rules, how many bytes of the questions, and how many were handed to the system.
 struct Ran {
-    plan: usize,
-    rules: usize,
+    plan: Got,
+    rules: Got,
     came: usize,
     sent: usize,
 }
@@ -92,27 +93,30 @@ fn clear(plan: &[u8], rules: &[u8], stated: usize) -> Heard
 
 // Reads the plan and the rules, the bytes that come, and clears them. None are read where a stated length is too large.
 fn answer(head: &[u8], plan: &mut [u8], rules: &mut [u8]) -> Ran
-    requires { ⌜ length (now plan) ≤ 2014 ⌝ }
+    requires { ⌜ (length (now plan) ≡ 2014) × (length (now rules) ≡ 16484) ⌝ }
     ensures { λ r. ⌜
-        Answered (now (head .entry)) (take (r .plan) (now (plan .exit))) (take (r .rules) (now (rules .exit))) (r .came) (r .sent) ⌝ }
+        Answered (now (head .entry)) (take (r .plan .count) (now (plan .exit))) (take (r .rules .count) (now (rules .exit))) (r .came) (r .sent) ⌝ }
+    ensures { λ r. ⌜ AskedFor (now (head .entry)) (r .plan .asked) (r .rules .asked) ⌝ }
 {
     let plan_length = length_at(head, 0);
     let rules_length = length_at(head, 4);
     if is_too_large(plan_length, rules_length) {
         let sent = send_too_large(head, b"too large\n");
         return Ran {
-            plan: 0,
-            rules: 0,
+            plan: Got { asked: 0, count: 0 },
+            rules: Got { asked: 0, count: 0 },
             came: 0,
             sent,
         };
     }
-    let p = read_whole(plan_length, plan);
-    let r = read_whole(rules_length, rules);
+    let plan_got = read_whole(plan_length, plan);
+    let rules_got = read_whole(rules_length, rules);
+    let p = plan_got.count;
+    let r = rules_got.count;
     let heard = clear(&plan[..p], &rules[..r], length_at(head, 8));
     Ran {
-        plan: p,
-        rules: r,
+        plan: plan_got,
+        rules: rules_got,
         came: heard.came,
         sent: heard.sent,
     }
@@ -120,7 +124,8 @@ fn answer(head: &[u8], plan: &mut [u8], rules: &mut [u8]) -> Ran
 
 fn main() {
     let mut head = [0u8; 12];
-    let n = read_whole(12, &mut head);
+    let got = read_whole(12, &mut head);
+    let n = got.count;
     let mut plan = plan_space();
     let mut rules = rules_space();
     answer(&head[..n], &mut plan, &mut rules);

@@ -4,7 +4,7 @@ use mathlib.Core.Path.{_≡_, refl, ap, sym, _∙_}
 use mathlib.Core.Bool.{true, false}
 use mathlib.Core.List.{[]}
 use lib.ListN.{length}
-use Rattle.whatif.proofs.SaidLaws.{too-large-by, said-too-large, too-large-said, in-limits-said}
+use Rattle.whatif.proofs.SaidLaws.{too-large-by, said-too-large, too-large-said, in-limits-said, asked-none, asked-stated}
 use Rattle.whatif.proofs.answer.Statement.{statement}
 use Rattle.whatif.proofs.answer.Tie as tie
 use Rattle.whatif.proofs.answer.Reads as reads
@@ -31,15 +31,17 @@ returns c =
     let h = entered i .args .head .now in
     let t =
     too-large-by h _ _ _ true (i .before .before .length-at .ensures .0) (i .before .length-at2 .ensures .0) (i .is-too-large .ensures)
-    (c .before .before .if1 .taken) in
-    record {
-      questions = [];
-      count = refl;
-      all = c .send-too-large .ensures ∙ sym (ap length (too-large-said h _ _ [] t));
-      plan-most = omega arith;
-      rules-most = omega arith;
-      came-most = omega arith;
-    }
+    (c .before .before .if1 .taken) in (
+      record {
+        questions = [];
+        count = refl;
+        all = c .send-too-large .ensures ∙ sym (ap length (too-large-said h _ _ [] t));
+        plan-most = omega arith;
+        rules-most = omega arith;
+        came-most = omega arith;
+      },
+      asked-none h t,
+    )
 
 returns-2 : tie.Need-returns-2
 returns-2 c =
@@ -51,14 +53,18 @@ returns-2 c =
     let m = i .before .length-at2 .ensures .0 in
     let t = too-large-by h _ _ _ false n m (i .is-too-large .ensures) (p .before .before .if1 .left) in
     let A = c .clear .ensures .0 in
-    record {
-      questions = A .questions;
-      count = A .count;
-      all = A .all ∙ sym (ap length (in-limits-said h _ _ (A .questions) t));
-      plan-most = omega (arith, p .read-whole .ensures .0, p .read-whole .ensures .1 .1, n);
-      rules-most = omega (arith, r .read-whole2 .ensures .0, r .read-whole2 .ensures .1 .1, m);
-      came-most = omega (arith, c .clear .ensures .1, c .before .length-at3 .ensures .0);
-    }
+    let P = p .read-whole .ensures in
+    let R = r .read-whole2 .ensures in (
+      record {
+        questions = A .questions;
+        count = A .count;
+        all = A .all ∙ sym (ap length (in-limits-said h _ _ (A .questions) t));
+        plan-most = omega (arith, P .0, P .1 .0, P .1 .1 .1, n);
+        rules-most = omega (arith, R .0, R .1 .0, R .1 .1 .1, m);
+        came-most = omega (arith, c .clear .ensures .1, c .before .length-at3 .ensures .0);
+      },
+      asked-stated h _ _ _ _ _ _ t (P .0) n (entered i .pre .0) (R .0) m (entered i .pre .1),
+    )
 
 pub answer-spec : {M : Type 1} → statement M
 answer-spec =
