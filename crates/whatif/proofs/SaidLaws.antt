@@ -39,7 +39,8 @@ use Rattle.session.specs.Promises.{LoadDone, answerOn}
 use Rattle.whatif.specs.Input.{tooLarge}
 use Rattle.whatif.specs.Line.{refusedLine}
 use Rattle.whatif.specs.Stream.{questionLine, openBy, linesBy}
-use Rattle.whatif.specs.Said.{statedPlan, statedRules, planOf, rulesOf, questionsOf, tooLargeLine, saidBy, saidOn, saidTo, said}
+use Rattle.whatif.specs.Said.{statedPlan, statedRules, planOf, rulesOf, questionsOf}
+use Rattle.whatif.specs.Said.{tooLargeLine, saidBy, saidOn, saidTo, said}
 use Rattle.whatif.specs.Turns.{Came, AskedFor, joined, linesOver}
 use Rattle.whatif.proofs.ClearedLaws.{load-passed, load-number}
 use Rattle.whatif.proofs.StreamLaws.{lines-chunks}
@@ -56,7 +57,8 @@ le32-head w h at e l =
       getD-take 12 w (at + 3) 0 (omega arith),
     ) refl
 
-too-large-head : (w h : List ℕ) → take 12 w ≡ h → tooLarge (statedPlan w) (statedRules w) ≡ tooLarge (le32 h 0) (le32 h 4)
+too-large-head : (w h : List ℕ) → take 12 w ≡ h
+    → tooLarge (statedPlan w) (statedRules w) ≡ tooLarge (le32 h 0) (le32 h 4)
 too-large-head w h e =
     ap (λ (n : ℕ). tooLarge n (statedRules w)) (le32-head w h 0 e (omega arith))
     ∙ ap (λ (n : ℕ). tooLarge (le32 h 0) n) (le32-head w h 4 e (omega arith))
@@ -67,7 +69,8 @@ pub too-large-by : (h : List ℕ) (p r : ℕ) (b t : Bool) → p ≡ le32 h 0 �
 too-large-by h p r b t e f g i =
     ap (λ (n : ℕ). tooLarge n (le32 h 4)) (sym e) ∙ (ap (λ (n : ℕ). tooLarge p n) (sym f) ∙ (sym g ∙ i))
 
-pub said-too-large : (h : List ℕ) → tooLarge (le32 h 0) (le32 h 4) ≡ true → (w : List ℕ) → take 12 w ≡ h → said w ≡ tooLargeLine
+pub said-too-large : (h : List ℕ) → tooLarge (le32 h 0) (le32 h 4) ≡ true → (w : List ℕ) → take 12 w ≡ h
+    → said w ≡ tooLargeLine
 unfolding saidTo
 said-too-large h t w e =
     ap (λ (b : Bool). cond b tooLargeLine (saidOn (planOf w) (rulesOf w) (questionsOf w))) (too-large-head w h e ∙ t)
@@ -87,11 +90,13 @@ asked-none h t = record {
 }
 
 -- what is asked for where there is room for the most that is taken
-pub asked-stated : (h : List ℕ) (n a l m b k : ℕ) → tooLarge (le32 h 0) (le32 h 4) ≡ false → n ≡ min a l → a ≡ le32 h 0 → l ≡ 2014
-    → m ≡ min b k → b ≡ le32 h 4 → k ≡ 16484 → AskedFor h n m
+pub asked-stated : (h : List ℕ) (n a l m b k : ℕ) → tooLarge (le32 h 0) (le32 h 4) ≡ false → n ≡ min a l
+    → a ≡ le32 h 0 → l ≡ 2014 → m ≡ min b k → b ≡ le32 h 4 → k ≡ 16484 → AskedFor h n m
 asked-stated h n a l m b k t e f g i j o =
-    let c : le32 h 0 ≤ 2014 = ltb-false 2014 (le32 h 0) (neither-left (ltb 2014 (le32 h 0)) (ltb 16484 (le32 h 4)) t) in
-    let d : le32 h 4 ≤ 16484 = ltb-false 16484 (le32 h 4) (neither-right (ltb 2014 (le32 h 0)) (ltb 16484 (le32 h 4)) t) in
+    let u = ltb 2014 (le32 h 0) in
+    let v = ltb 16484 (le32 h 4) in
+    let c : le32 h 0 ≤ 2014 = ltb-false 2014 (le32 h 0) (neither-left u v t) in
+    let d : le32 h 4 ≤ 16484 = ltb-false 16484 (le32 h 4) (neither-right u v t) in
     let x : n ≡ le32 h 0 = omega arith in
     let y : m ≡ le32 h 4 = omega arith in
     record {
@@ -110,11 +115,13 @@ asked-stated h n a l m b k t e f g i j o =
 pub said-parts : (w h p r qs : List ℕ) → Came w h p r → questionsOf w ≡ qs → said w ≡ saidTo h p r qs
 unfolding saidTo
 said-parts w h p r qs C q =
-    ap (λ (b : Bool). cond b tooLargeLine (saidOn (planOf w) (rulesOf w) (questionsOf w))) (too-large-head w h (C .head))
+    ap (λ (b : Bool). cond b tooLargeLine (saidOn (planOf w) (rulesOf w) (questionsOf w)))
+    (too-large-head w h (C .head))
     ∙ (ap (λ (l : List ℕ). saidTo h l (rulesOf w) (questionsOf w)) (C .plan)
     ∙ (ap (λ (l : List ℕ). saidTo h p l (questionsOf w)) (C .rules) ∙ ap (saidTo h p r) q))
 
-module _ (h p r qs : List ℕ) (l : length h ≡ 12) (m : length p ≡ le32 h 0) (n : length r ≡ le32 h 4) (k : length qs ≤ le32 h 8) where
+module _ (h p r qs : List ℕ) (l : length h ≡ 12) (m : length p ≡ le32 h 0) (n : length r ≡ le32 h 4)
+    (k : length qs ≤ le32 h 8) where
   stated-in : (at : ℕ) → at ≤ 8 → le32 (h ++ (p ++ (r ++ qs))) at ≡ le32 h at
   stated-in at i = le32-head (h ++ (p ++ (r ++ qs))) h at (take-at h (p ++ (r ++ qs)) 12 l) i
 
@@ -141,18 +148,21 @@ module _ (h p r qs : List ℕ) (l : length h ≡ 12) (m : length p ≡ le32 h 0)
 
 -- ---- Load
 
-pub room-enough : (p r : List ℕ) → length p ≤ 2014 → firstNo (buildChecks p r 4004 17017) ≡ firstNo (ruleTableChecks p r)
+pub room-enough : (p r : List ℕ) → length p ≤ 2014
+    → firstNo (buildChecks p r 4004 17017) ≡ firstNo (ruleTableChecks p r)
 unfolding buildChecks
 room-enough p r h = go (firstNo (ruleTableChecks p r)) refl
   where
-    go : (n : ℕ) → firstNo (ruleTableChecks p r) ≡ n → firstNo (buildChecks p r 4004 17017) ≡ firstNo (ruleTableChecks p r)
+    go : (n : ℕ) → firstNo (ruleTableChecks p r) ≡ n
+        → firstNo (buildChecks p r 4004 17017) ≡ firstNo (ruleTableChecks p r)
     go zero e =
         let t = rule-table-passes p r e in
         let n : nodeCount p ≤ 1001 = omega (arith, t .0 .exact) in
         let s : stateCount r + 1 ≤ 17 = omega (arith, t .1 .states-most) in
         passes-build p r 4004 17017 e (omega arith) (product-most (nodeCount p) (stateCount r + 1) 1001 17 n s) ∙ sym e
     go (suc n) e =
-        firstNo-append-no (ruleTableChecks p r) (roomCheck (nodeCount p) (stateCount r) 4004 17017 ∷ []) (λ z. omega (arith, e, z))
+        firstNo-append-no (ruleTableChecks p r) (roomCheck (nodeCount p) (stateCount r) 4004 17017 ∷ [])
+        (λ z. omega (arith, e, z))
 
 module _ (p r n b : List ℕ) where
   load-refusal : refusal (stage (phase (newReference .state)) (newReference .sizes)) (load (inputsOf p r n b))
@@ -190,4 +200,6 @@ module _ (p r n b : List ℕ) where
 pub lines-over : (f : List ℕ → List ℕ) (q : List ℕ) (cs : List (List ℕ)) → linesOver f q cs ≡ linesBy f q (joined cs)
 unfolding linesOver linesBy joined
 lines-over f q [] = refl
-lines-over f q (c ∷ cs) = ap (λ (t : List ℕ). linesBy f q c ++ t) (lines-over f (openBy q c) cs) ∙ sym (lines-chunks f q c (joined cs))
+lines-over f q (c ∷ cs) =
+    ap (λ (t : List ℕ). linesBy f q c ++ t) (lines-over f (openBy q c) cs)
+    ∙ sym (lines-chunks f q c (joined cs))

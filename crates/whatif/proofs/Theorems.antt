@@ -110,6 +110,6 @@ sample-length = refl
 
 -- "it prints:"
 sample-said : said sampleA ≡ linesA
-unfolding computing planA tableA questionsA sampleA linesA linesBy lineAfter openAfter questionLine nodesIn labelsIn answerBy lineOf decimal
-    placesIn outcomeText refusedText saidBy saidTo
+unfolding computing planA tableA questionsA sampleA linesA linesBy lineAfter openAfter questionLine nodesIn labelsIn
+    answerBy lineOf decimal placesIn outcomeText refusedText saidBy saidTo
 sample-said = refl

@@ -1,6 +1,6 @@
 -- The questions from turn to turn.
---     Going f stated kept have left sent      where they stand: some bytes of them came, the buffer holds what is not yet whole, and their
---                                             lines were handed over
+--     Going f stated kept have left sent      where they stand: some bytes of them came, the buffer holds what is not yet
+--                                             whole, and their lines were handed over
 --     going-start, going-on, going-progress   at the start, after one more chunk, and what is told of it
 --     lines-sent                              what is handed over for a chunk
 -- Assumes nothing.
@@ -33,9 +33,9 @@ going-start f stated kept e h = record {
   sent-most = omega arith;
 }
 
-pub going-on : {f : List ℕ → List ℕ} {stated : ℕ} {c kept kept′ out out′ : List ℕ} {have left sent have′ left′ sent′ end : ℕ} (came : ℕ)
-    → Going f stated kept have left sent → Advances f c kept have kept′ have′ out 0 out′ end → came ≡ length c → left′ + came ≡ left
-    → sent′ ≡ sent + end → have′ ≤ have + came → end ≤ 37 * came → Going f stated kept′ have′ left′ sent′
+pub going-on : {f : List ℕ → List ℕ} {stated : ℕ} {c kept kept′ out out′ : List ℕ}
+    {have left sent have′ left′ sent′ end : ℕ} (came : ℕ) → Going f stated kept have left sent
+    → Advances f c kept have kept′ have′ out 0 out′ end → came ≡ length c → left′ + came ≡ left → sent′ ≡ sent + end → have′ ≤ have + came → end ≤ 37 * came → Going f stated kept′ have′ left′ sent′
 going-on {f = f} {c = c} came G A n l s h e =
     let q = G .questions in
     let t = A .text (openBy [] q) (G .held) in
@@ -51,13 +51,13 @@ going-on {f = f} {c = c} came G A n l s h e =
       sent-most = omega (arith, G .sent-most);
     }
 
-pub going-progress : {f : List ℕ → List ℕ} {stated : ℕ} {kept : List ℕ} {have left sent : ℕ} → Going f stated kept have left sent
-    → (left ≤ stated) × Progress f (stated - left) have sent
+pub going-progress : {f : List ℕ → List ℕ} {stated : ℕ} {kept : List ℕ} {have left sent : ℕ}
+    → Going f stated kept have left sent → (left ≤ stated) × Progress f (stated - left) have sent
 going-progress G = (
   omega (arith, G .count),
   record { questions = G .questions; count = omega (arith, G .count); part = G .held .counted; lines = G .lines },
 )
 
-pub lines-sent : {f : List ℕ → List ℕ} {c kept kept′ out out′ : List ℕ} {have have′ end : ℕ} (q : List ℕ) → Held q kept have
-    → Advances f c kept have kept′ have′ out 0 out′ end → Lines f c kept′ have′ (take end out′)
+pub lines-sent : {f : List ℕ → List ℕ} {c kept kept′ out out′ : List ℕ} {have have′ end : ℕ} (q : List ℕ)
+    → Held q kept have → Advances f c kept have kept′ have′ out 0 out′ end → Lines f c kept′ have′ (take end out′)
 lines-sent q h A = record { before = q; held = A .held q h; text = A .text q h .text }

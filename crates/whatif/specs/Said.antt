@@ -1,9 +1,10 @@
 -- All that the program says: document 01's paragraph on it, as one definition.
 --
 -- said w == the bytes that go to standard output where the bytes w come from standard input
--- statedPlan w, statedRules w, statedQuestions w == the three stated lengths; planOf w, rulesOf w, questionsOf w == what came of those bytes
+-- statedPlan w, statedRules w, statedQuestions w == the three stated lengths
+-- planOf w, rulesOf w, questionsOf w == what came of those bytes
 -- saidOn p r qs == what is said to the plan p and the rules r, and then to the bytes qs of the questions
--- saidTo h p r qs == what is said to an input by its parts: its lengths, as they start h, its plan, its rules, its questions
+-- saidTo h p r qs == what is said to an input by its parts: its lengths, with which h starts, its plan, rules and questions
 --
 -- What is said to a question is questionLine (Stream), and its line lineOf (Line).
 -- Assumes nothing.
@@ -17,7 +18,8 @@ use Rattle.whatif.specs.Input.{tooLarge}
 use Rattle.whatif.specs.Line.{refusedLine}
 use Rattle.whatif.specs.Stream.{questionLine, linesBy}
 
--- "reads from standard input three 32-bit lengths (plan, rules, questions)"; "Where input ends early, missing length bytes count as 0"
+-- "reads from standard input three 32-bit lengths (plan, rules, questions)"; "Where input ends early, missing length bytes
+-- count as 0"
 abbrev pub statedPlan : List ℕ → ℕ
 statedPlan w = le32 w 0
 
@@ -47,11 +49,13 @@ unfoldable pub saidBy : ℕ → List ℕ → List ℕ → List ℕ → List ℕ
 saidBy zero p r qs = linesBy (questionLine p r) [] qs
 saidBy (suc n) p r qs = refusedLine (suc n)
 
--- Load's checks, 2 to 10. The program's tables are long enough for all that it takes: 11 does not occur (SaidLaws, room-enough)
+-- Load's checks, 2 to 10. The program's tables are long enough for all that it takes: 11 does not occur (room-enough in
+-- proofs/SaidLaws)
 abbrev pub saidOn : List ℕ → List ℕ → List ℕ → List ℕ
 saidOn p r qs = saidBy (firstNo (ruleTableChecks p r)) p r qs
 
--- "With a stated plan length above 2,014 or a stated rules length above 16,484 it prints `too large` only, however many bytes come"
+-- "With a stated plan length above 2,014 or a stated rules length above 16,484 it prints `too large` only, however many
+-- bytes come"
 unfoldable pub saidTo : List ℕ → List ℕ → List ℕ → List ℕ → List ℕ
 saidTo h p r qs = cond (tooLarge (statedPlan h) (statedRules h)) tooLargeLine (saidOn p r qs)
 

@@ -14,9 +14,9 @@ ghost use Rattle.whatif.specs.Cleared.{Cleared};
 ghost use Rattle.whatif.specs.Stream.{questionLine, Keeps, Advances};
 ghost use Rattle.whatif.specs.Turns.{Progress};
 
-// Where the questions stand after a read: how many bytes came with it, how many the lines that they completed have, how many bytes came of
-// the question that is not yet whole, how many are still to come, how many were handed to the system in all, and whether the last were
-// written.
+// Where the questions stand after a read: how many bytes came with it, how many the lines that they completed have, how many
+// came of the question that is not yet whole, how many are still to come, how many were handed to the system in all, and
+// whether the last were written.
 pub struct Turn {
     pub came: usize,
     pub end: usize,
@@ -47,7 +47,8 @@ fn some_questions(
         Advances (questionLine (now (plan .entry)) (now (rules .entry)))
         (take (r .came) (now (chunk .exit))) (now (asked .entry)) (last .have) (now (asked .exit)) (r .have)
         (now (out .entry)) 0 (now (out .exit)) (r .end) ⌝ }
-    ensures { λ r. ⌜ (r .came ≤ length (now (chunk .exit))) × (length (now (chunk .exit)) ≡ length (now (chunk .entry))) ⌝ }
+    ensures { λ r. ⌜
+        (r .came ≤ length (now (chunk .exit))) × (length (now (chunk .exit)) ≡ length (now (chunk .entry))) ⌝ }
     ensures { λ r. ⌜ (r .left + r .came ≡ last .left) × (r .sent ≡ last .sent + r .end) ⌝ }
     ensures { λ r. ⌜ (r .have ≤ last .have + r .came) × (r .end ≤ 37 * r .came) ⌝ }
 {

@@ -1,5 +1,5 @@
-// The program `whatif`: reads a plan, rules and questions from standard input, and writes one line a question. All that it writes is `said`
-// of what it reads (specs/Said.antt).
+// The program `whatif`: reads a plan, rules and questions from standard input, and writes one line a question. All that it
+// writes is `said` of what it reads (specs/Said.antt).
 //     input      the three lengths, and the space for what they announce
 //     question   the bytes of a question, and its list of changes
 //     ask        a question put to the session
@@ -95,7 +95,8 @@ fn clear(plan: &[u8], rules: &[u8], stated: usize) -> Heard
 fn answer(head: &[u8], plan: &mut [u8], rules: &mut [u8]) -> Ran
     requires { ⌜ (length (now plan) ≡ 2014) × (length (now rules) ≡ 16484) ⌝ }
     ensures { λ r. ⌜
-        Answered (now (head .entry)) (take (r .plan .count) (now (plan .exit))) (take (r .rules .count) (now (rules .exit))) (r .came) (r .sent) ⌝ }
+        Answered (now (head .entry)) (take (r .plan .count) (now (plan .exit)))
+        (take (r .rules .count) (now (rules .exit))) (r .came) (r .sent) ⌝ }
     ensures { λ r. ⌜ AskedFor (now (head .entry)) (r .plan .asked) (r .rules .asked) ⌝ }
 {
     let plan_length = length_at(head, 0);

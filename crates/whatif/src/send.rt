@@ -1,5 +1,5 @@
-// The three places where the program writes to standard output. No contract can name what the system is handed, so each of them asks of its
-// callers that the text is what the definition says.
+// The three places where the program writes to standard output. No contract can name what the system is handed, so each of
+// them asks of its callers that the text is what the definition says.
 use libc::STDOUT_FILENO;
 ghost use mathlib.Core.Path.{_≡_};
 ghost use mathlib.Core.List.{List};
