@@ -4,7 +4,8 @@ use mathlib.Core.Path.{_≡_, refl, ap, sym, _∙_}
 use mathlib.Core.Bool.{true, false}
 use mathlib.Core.List.{[]}
 use lib.ListN.{length}
-use Rattle.whatif.proofs.SaidLaws.{too-large-by, said-too-large, too-large-said, in-limits-said, asked-none, asked-stated}
+use Rattle.whatif.proofs.SaidLaws.{too-large-by, said-too-large, too-large-said, in-limits-said}
+use Rattle.whatif.proofs.SaidLaws.{asked-none, asked-stated}
 use Rattle.whatif.proofs.answer.Statement.{statement}
 use Rattle.whatif.proofs.answer.Tie as tie
 use Rattle.whatif.proofs.answer.Reads as reads
@@ -18,20 +19,24 @@ use Rattle.whatif.proofs.send.send_too_large.Reads as send-too-large-re
 abbrev entered : tie.After-is-too-large → tie.Start
 entered i = i .before .before .before .before .before .before
 
+abbrev first : tie.After-is-too-large → tie.After-length-at
+first i = i .before .before
+
 send-too-large-requires : tie.Need-send-too-large-requires
 send-too-large-requires c κs =
     let i = c .before .before in
     let h = entered i .args .head .now in
-    said-too-large h (too-large-by h _ _ _ true (i .before .before .length-at .ensures .0) (i .before .length-at2 .ensures .0)
-    (i .is-too-large .ensures) (c .before .if1 .taken))
+    let n = first i .length-at .ensures .0 in
+    let m = i .before .length-at2 .ensures .0 in
+    said-too-large h (too-large-by h _ _ _ true n m (i .is-too-large .ensures) (c .before .if1 .taken))
 
 returns : tie.Need-returns
 returns c =
     let i = c .before .before .before in
     let h = entered i .args .head .now in
-    let t =
-    too-large-by h _ _ _ true (i .before .before .length-at .ensures .0) (i .before .length-at2 .ensures .0) (i .is-too-large .ensures)
-    (c .before .before .if1 .taken) in (
+    let n = first i .length-at .ensures .0 in
+    let m = i .before .length-at2 .ensures .0 in
+    let t = too-large-by h _ _ _ true n m (i .is-too-large .ensures) (c .before .before .if1 .taken) in (
       record {
         questions = [];
         count = refl;
@@ -49,7 +54,7 @@ returns-2 c =
     let p = r .before .before .before .before in
     let i = p .before .before .before in
     let h = entered i .args .head .now in
-    let n = i .before .before .length-at .ensures .0 in
+    let n = first i .length-at .ensures .0 in
     let m = i .before .length-at2 .ensures .0 in
     let t = too-large-by h _ _ _ false n m (i .is-too-large .ensures) (p .before .before .if1 .left) in
     let A = c .clear .ensures .0 in

@@ -25,49 +25,65 @@ freshly d = d .before .before .before
 abbrev entered : tie.After-load → tie.Start
 entered d = freshly d .before .before .before .before .before
 
+abbrev nodes : tie.After-load → tie.After-node-table-space
+nodes d = freshly d .before .before
+
+abbrev states : tie.After-load → tie.After-state-table-space
+states d = freshly d .before
+
 put-questions-requires : tie.Need-put-questions-requires
 put-questions-requires c κs =
     let m = c .before .before .before in
     let d = m .before .before .before .before in
-    let f = freshly d in
-    let a = entered d .args in (
+    let f = freshly d .fresh in
+    let a = entered d .args in
+    let n = nodes d .node-table-space .result in
+    let b = states d .state-table-space .result in
+    let l = d .load .result in (
       entered d .pre .1,
-      load-cleared (f .fresh .result) (d .load .result .session) (a .plan .now) (a .rules .now) (f .before .before .node-table-space .result)
-          (f .before .state-table-space .result) _ _ (d .load .result .answer) (f .fresh .ensures .0) (m .enum-told .given .1) (d .load .ensures),
+      load-cleared (f .result) (l .session) (a .plan .now) (a .rules .now) n b _ _ (l .answer) (f .ensures .0)
+          (m .enum-told .given .1) (d .load .ensures),
     )
 
 returns : tie.Need-returns
 returns c =
     let m = c .before .before .before .before .before in
     let d = m .before .before .before .before in
-    let f = freshly d in
+    let f = freshly d .fresh in
     let a = entered d .args in
+    let n = nodes d .node-table-space .result in
+    let b = states d .state-table-space .result in
+    let l = d .load .result in
     let G = c .before .put-questions .ensures .1 .0 in
-    let l =
-    loaded-said (a .plan .now) (a .rules .now) (f .before .before .node-table-space .result) (f .before .state-table-space .result)
-    (f .fresh .result) (d .load .result .session) _ _ (d .load .result .answer) (f .fresh .ensures .0) (d .load .ensures)
+    let s =
+    loaded-said (a .plan .now) (a .rules .now) n b (f .result) (l .session) _ _ (l .answer) (f .ensures .0) (d .load .ensures)
     (m .enum-told .given .1) (G .questions) in
-    (record { questions = G .questions; count = G .count; all = G .lines ∙ sym (ap length l) }, omega arith)
+    (record { questions = G .questions; count = G .count; all = G .lines ∙ sym (ap length s) }, omega arith)
+
+abbrev done : tie.After-known-told → tie.After-load
+done c = c .before .before .before .before .before
 
 -- where Load refuses, that is all
 refusal : (c : tie.After-known-told) (qs : List ℕ)
-    → saidOn (c .before .before .before .before .before .before .before .before .before .before .before .before .before .args .plan .now) (c .before .before .before .before .before .before .before .before .before .before .before .before .before .args .rules .now) qs ≡ refusedLine (c .before .answer .given .0 .0)
+    → saidOn (entered (done c) .args .plan .now) (entered (done c) .args .rules .now) qs
+    ≡ refusedLine (c .before .answer .given .0 .0)
 refusal c =
-    let d = c .before .before .before .before .before in
-    let f = freshly d in
-    let n = f .before .before .node-table-space in
-    let b = f .before .state-table-space in
+    let d = done c in
+    let f = freshly d .fresh in
+    let n = nodes d .node-table-space in
+    let b = states d .state-table-space in
     let s = entered d in
-    refused-said (s .args .plan .now) (s .args .rules .now) (n .result) (b .result) (f .fresh .result) (d .load .result .session) _ _
-    (d .load .result .answer) (f .fresh .ensures .0) (d .load .ensures) _ (c .before .answer .given .1) (s .pre .0) (n .ensures)
-    (b .ensures)
+    let l = d .load .result in
+    refused-said (s .args .plan .now) (s .args .rules .now) (n .result) (b .result) (f .result) (l .session) _ _ (l .answer)
+    (f .ensures .0) (d .load .ensures) _ (c .before .answer .given .1) (s .pre .0) (n .ensures) (b .ensures)
 
 say-refused-requires : tie.Need-say-refused-requires
 say-refused-requires c κs = refusal c
 
 returns-2 : tie.Need-returns-2
 returns-2 c =
-    (record { questions = []; count = refl; all = c .say-refused .ensures ∙ sym (ap length (refusal (c .before) [])) }, omega arith)
+    let e = c .say-refused .ensures ∙ sym (ap length (refusal (c .before) [])) in
+    (record { questions = []; count = refl; all = e }, omega arith)
 
 pub clear-spec : {M : Type 1} → statement M
 clear-spec =

@@ -29,23 +29,31 @@ abbrev μ-loop : tie.MeasureT-loop
 loop-holds : tie.Need-loop-holds Inv-loop μ-loop
 loop-holds c =
     let s = c .before .before .before .before .before .before .before in
-    (going-start _ _ _ (c .before .before .asked-space .ensures) (s .pre .0), (c .before .chunk-space .ensures, sym (c .large-buffer .ensures)))
+    let a = c .before .before .asked-space .ensures in
+    (going-start _ _ _ a (s .pre .0), (c .before .chunk-space .ensures, sym (c .large-buffer .ensures)))
+
+abbrev entered : tie.At-loop Inv-loop μ-loop → tie.Start Inv-loop μ-loop
+entered l = l .before .before .before .before .before .before .before .before
+
+abbrev here : tie.After-some-questions Inv-loop μ-loop → tie.At-loop Inv-loop μ-loop
+here c = c .before .before .before .before .before .before
 
 some-questions-requires : tie.Need-some-questions-requires Inv-loop μ-loop
 some-questions-requires c κs =
-    let l = c .before .before .before .before .before .loop .inv in
-    let s = c .before .before .before .before .before .before .before .before .before .before .before .before .before in
-    let G = l .0 in
-    ((openBy [] (G .questions), G .held), (G .have-most, (G .sent-most, (omega (arith, l .1 .0, l .1 .1), s .pre .1))))
+    let l = c .before .before .before .before .before in
+    let G = l .loop .inv .0 in
+    let n = l .loop .inv .1 in
+    ((openBy [] (G .questions), G .held), (G .have-most, (G .sent-most, (omega (arith, n .0, n .1), entered l .pre .1))))
 
 -- one more chunk
 turned : (c : tie.After-some-questions Inv-loop μ-loop)
-    → Going (questionLine (c .before .before .before .before .before .before .before .before .before .before .before .before .before .before .args .plan .now) (c .before .before .before .before .before .before .before .before .before .before .before .before .before .before .args .rules .now)) (c .before .before .before .before .before .before .before .before .before .before .before .before .before .before .args .stated)
-    (c .some-questions .last .1 .1 .1 .1 .1 .0) (c .some-questions .result .have) (c .some-questions .result .left) (c .some-questions .result .sent)
+    → Going (questionLine (entered (here c) .args .plan .now) (entered (here c) .args .rules .now))
+    (entered (here c) .args .stated) (c .some-questions .last .1 .1 .1 .1 .1 .0) (c .some-questions .result .have)
+    (c .some-questions .result .left) (c .some-questions .result .sent)
 turned c =
     let q = c .some-questions .ensures in
-    let r = c .some-questions .result in
-    going-on (r .came) (c .before .before .before .before .before .before .loop .inv .0) (q .0) (sym (length-take-le _ _ (q .1 .0 .0))) (q .1 .1 .0 .0) (q .1 .1 .0 .1)
+    let n = sym (length-take-le _ _ (q .1 .0 .0)) in
+    going-on (c .some-questions .result .came) (here c .loop .inv .0) (q .0) n (q .1 .1 .0 .0) (q .1 .1 .0 .1)
     (q .1 .1 .1 .0) (q .1 .1 .1 .1)
 
 returns : tie.Need-returns Inv-loop μ-loop

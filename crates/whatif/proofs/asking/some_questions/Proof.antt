@@ -24,7 +24,8 @@ take-in-requires c κs =
     let r = c .before .before .before .before .before in
     let p = entered r .pre in
     let e = r .read-some .ensures in
-    (p .0, (omega (arith, e .0, e .1 .1 .1, p .1 .0), (omega (arith, e .1 .0, e .1 .1 .1, p .1 .1 .1 .0), p .1 .1 .1 .1)))
+    let n = e .1 .1 .1 in
+    (p .0, (omega (arith, e .0, n, p .1 .0), (omega (arith, e .1 .0, n, p .1 .1 .1 .0), p .1 .1 .1 .1)))
 
 -- the text ends inside the buffer
 fits : (t : tie.After-take-in) → t .take-in .result .end ≤ length (t .take-in .last .1 .1 .1 .1 .1 .1 .1 .1 .0)
@@ -34,18 +35,21 @@ fits t =
     let a = t .take-in .ensures in
     omega (arith, a .1 .0, a .0 .text (p .0 .0) (p .0 .1) .as-long, e .1 .0, e .1 .1 .1, p .1 .1 .1 .0)
 
+abbrev taken : tie.After-send-lines-arg3 → tie.After-take-in
+taken c = c .before .before .before .before .before .before .before
+
 slice-aggregate-send-lines-2 : tie.Need-slice-aggregate-send-lines-2
-slice-aggregate-send-lines-2 c = sym (length-take-le _ _ (fits (c .before .before .before .before .before .before .before)))
+slice-aggregate-send-lines-2 c = sym (length-take-le _ _ (fits (taken c)))
 
 send-lines-requires : tie.Need-send-lines-requires
 send-lines-requires c κs =
-    let t = c .before .before .before .before .before .before .before in
+    let t = taken c in
     let p = entered (read t) .pre in
     lines-sent (p .0 .0) (p .0 .1) (t .take-in .ensures .0)
 
 -- as many bytes are sent as the text has
-bytes-sent : (c : tie.After-send-lines) → c .send-lines .result .bytes ≡ c .before .before .before .before .before .before .before .before .take-in .result .end
-bytes-sent c = c .send-lines .ensures ∙ length-take-le _ _ (fits (c .before .before .before .before .before .before .before .before))
+bytes-sent : (c : tie.After-send-lines) → c .send-lines .result .bytes ≡ taken (c .before) .take-in .result .end
+bytes-sent c = c .send-lines .ensures ∙ length-take-le _ _ (fits (taken (c .before)))
 
 add-t29 : tie.Need-add-t29
 add-t29 c =
