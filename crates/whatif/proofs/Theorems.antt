@@ -7,12 +7,13 @@
 --     said-refused    or Load's refusal
 --     sample-lines    document 01's nine questions, as bytes, give the nine lines, as text
 --     sample-said     and so do the sample's 121 bytes
+--     said-of-nothing, said-too-large, said-cut-short     inputs that end early, or state too much
 -- Assumes nothing.
 use Prim.Native.Nat.{ℕ, suc, _≤_}
 use mathlib.Core.Path.{_≡_, refl, ap, sym, _∙_}
-use mathlib.Core.Bool.{false}
+use mathlib.Core.Bool.{true, false}
 use mathlib.Core.List.{List, [], _∷_, _++_}
-use lib.ListN.{length}
+use lib.ListN.{length, take}
 use Rattle.formats.specs.Checks.{firstNo, ruleTableChecks}
 use Rattle.formats.specs.Inputs.{Inputs}
 use Rattle.reference.proofs.Sample.{computing, planA, tableA}
@@ -24,7 +25,7 @@ use Rattle.whatif.specs.Text.{placesIn, decimal}
 use Rattle.whatif.specs.Input.{tooLarge}
 use Rattle.whatif.specs.Line.{yesOrNo, refusedWord, refusedLine, lineOf}
 use Rattle.whatif.specs.Stream.{questionLine, openAfter, openBy, lineAfter, linesBy}
-use Rattle.whatif.specs.Said.{statedPlan, statedRules, statedQuestions, questionsOf, saidBy, saidTo, said}
+use Rattle.whatif.specs.Said.{statedPlan, statedRules, statedQuestions, questionsOf, tooLargeLine, saidBy, saidTo, said}
 use Rattle.whatif.specs.Turns.{Came, joined, linesOver}
 use Rattle.whatif.proofs.ClearedLaws.{cleared-answer}
 use Rattle.whatif.proofs.SaidLaws.{said-parts, parts-of-whole, in-limits-said, lines-over}
@@ -82,6 +83,9 @@ outcomeText q y p l = (q ∷ y) ++ (p ∷ 32 ∷ l ∷ 10 ∷ [])
 refusedText : ℕ → List ℕ
 refusedText d = refusedWord ++ (49 ∷ d ∷ 10 ∷ [])
 
+refusedText1 : ℕ → List ℕ
+refusedText1 d = refusedWord ++ (d ∷ 10 ∷ [])
+
 -- "1 yes 1 0", "0 no 2 1", "1 yes 3 0", "0 no 5 0", "0 no 2 1", "1 yes 1 0", "refused 13", "refused 14", "refused 15"
 linesA : List ℕ
 unfolding outcomeText refusedText
@@ -113,3 +117,19 @@ sample-said : said sampleA ≡ linesA
 unfolding computing planA tableA questionsA sampleA linesA linesBy lineAfter openAfter questionLine nodesIn labelsIn
     answerBy lineOf decimal placesIn outcomeText refusedText saidBy saidTo
 sample-said = refl
+
+-- no byte at all: "missing length bytes count as 0", and a plan of no bytes gets 2
+said-of-nothing : said [] ≡ refusedText1 50
+unfolding computing saidBy saidTo decimal placesIn refusedText1
+said-of-nothing = refl
+
+-- a stated plan length of 2,015, and no other length byte
+said-too-large : said (223 ∷ 7 ∷ []) ≡ tooLargeLine
+unfolding saidTo
+said-too-large = refl
+
+-- 76 bytes of the sample: its first question, and all but the last byte of its second, which is dropped
+said-cut-short : said (take 76 sampleA) ≡ outcomeText 49 (yesOrNo true) 49 48
+unfolding computing planA tableA questionsA sampleA linesBy lineAfter openAfter questionLine nodesIn labelsIn answerBy
+    lineOf decimal placesIn outcomeText saidBy saidTo
+said-cut-short = refl
