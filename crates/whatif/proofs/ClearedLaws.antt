@@ -1,5 +1,6 @@
 -- The program's calls tell the definition's answer.
 --     load-cleared        a fresh session that accepted a Load is cleared
+--     load-number         a refusal of its Load is that of the first check that fails
 --     cleared-answer      on the session and the tables that an accepted Load left, what is told of a question is answerTo
 -- From the theorem over every list of calls: each call is answered as the reference model says, and that of a clean question says this.
 -- Assumes nothing.
@@ -22,7 +23,7 @@ use Rattle.ready.specs.Parts.{Part}
 use Rattle.formats.specs.Inputs.{Inputs, Sizes, sizesIn, fits, usedNodeTable, usedStateTable, sameNodeInputs}
 use Rattle.formats.specs.Inputs.{sameInputs, nodeTableBuilt, stateTableBuilt, sound, inputsOf}
 use Rattle.model.specs.Calls.{Call, load, start, advance, read, Answer, refused, accepted, more, finished, Phase}
-use Rattle.model.specs.Calls.{isRunning, isAnswered, mayStart, isRefused}
+use Rattle.model.specs.Calls.{isRunning, isAnswered, mayStart, isRefused, onRefused}
 use Rattle.model.specs.Refusals.{refusal, stage}
 use Rattle.model.specs.Model.{stageOf, Record, idle, freshRecord, act}
 use Rattle.reference.specs.Reference.{Question, State, Reference, settled, phase, newReference, inState, step, decided}
@@ -199,7 +200,7 @@ module _ (y : Inputs) (passed : refusal (stage (phase (newReference .state)) (ne
 -- ---- the theorem
 
 -- an accepted Load passed its checks, and leaves the session and the reference model loaded
-load-passed : (y : Inputs) → answerOn freshSession (load y) ≡ accepted → refusal (stage (phase (newReference .state)) (newReference .sizes)) (load y) ≡ 0
+pub load-passed : (y : Inputs) → answerOn freshSession (load y) ≡ accepted → refusal (stage (phase (newReference .state)) (newReference .sizes)) (load y) ≡ 0
 unfolding step decided
 load-passed y e =
     go (refusal (stage (phase (newReference .state)) (newReference .sizes)) (load y))
@@ -208,6 +209,18 @@ load-passed y e =
     go : (n : ℕ) → Conforms (decided n newReference (load y)) accepted → n ≡ 0
     go zero h = refl
     go (suc n) h = absurd (true-false (sym (ap isRefused h)))
+
+-- a refused one failed the check of that number
+pub load-number : (y : Inputs) (n : ℕ) → answerOn freshSession (load y) ≡ refused n
+    → (n ≡ refusal (stage (phase (newReference .state)) (newReference .sizes)) (load y)) × (n ≡ 0 → ⊥)
+unfolding step decided proceed
+load-number y n e =
+    go (refusal (stage (phase (newReference .state)) (newReference .sizes)) (load y))
+    (subst (λ (a : Answer). Conforms (step newReference (load y)) a) e (conforms freshSession newReference fresh-follows (load y)))
+  where
+    go : (k : ℕ) → Conforms (decided k newReference (load y)) (refused n) → (n ≡ k) × (n ≡ 0 → ⊥)
+    go zero h = absurd (true-false (ap isRefused h))
+    go (suc k) h = let i : n ≡ suc k = ap (onRefused (λ (m : ℕ). m) 0) h in (i, λ z. omega arith)
 
 load-follows : (y : Inputs) → refusal (stage (phase (newReference .state)) (newReference .sizes)) (load y) ≡ 0
     → Follows (recordOn freshSession (load y)) (referenceOf State.loaded (sizesIn y))

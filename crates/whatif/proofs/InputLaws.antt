@@ -1,6 +1,6 @@
 -- Reads.
 --     counted      what is within the first n bytes is within what bounds n, and within all
---     counted-front      what is within the front of a list is within all of it
+--     counted-front      what is within the front of a list is within all of it, and within what bounds the front
 -- Assumes nothing.
 use Prim.Native.Nat.{ℕ, _≤_}
 use mathlib.Core.Path.{_≡_, sym}
@@ -15,7 +15,8 @@ counted most n r xs ys h g k =
     let l : r ≤ length xs = omega (arith, length-take n xs) in
     (omega (arith, length-take n xs), (omega (arith, length-take n xs), (l, sym (length-take-le r xs l))))
 
-pub counted-front : (r : ℕ) (xs ys : List ℕ) → r ≤ length xs → (r ≤ length (xs ++ ys)) × (r ≡ length (take r (xs ++ ys)))
-counted-front r xs ys h =
+pub counted-front : (most r : ℕ) (xs ys : List ℕ) → length xs ≤ most → r ≤ length xs
+    → (r ≤ most) × ((r ≤ length (xs ++ ys)) × (r ≡ length (take r (xs ++ ys))))
+counted-front most r xs ys m h =
     let l : r ≤ length (xs ++ ys) = omega (arith, length-append xs ys) in
-    (l, sym (length-take-le r (xs ++ ys) l))
+    (omega arith, (l, sym (length-take-le r (xs ++ ys) l)))

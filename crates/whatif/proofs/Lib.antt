@@ -1,7 +1,9 @@
 pub mod AskLaws
 pub mod ClearedLaws
 pub mod InputLaws
+pub mod SaidLaws
 pub mod StreamLaws
 pub mod TextLaws
 pub mod Theorems
 pub mod TripleLaws
+pub mod TurnLaws

@@ -5,3 +5,5 @@ pub mod Cleared
 pub mod Text
 pub mod Line
 pub mod Stream
+pub mod Said
+pub mod Turns

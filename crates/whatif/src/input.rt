@@ -1,7 +1,7 @@
 // The three lengths at the start of the input, the space for what they announce, and a read.
 use libc::STDIN_FILENO;
 ghost use mathlib.Core.Path.{_≡_};
-ghost use Prim.Native.Nat.{_≤_, _<_};
+ghost use Prim.Native.Nat.{_≤_, _<_, min};
 ghost use lib.ListN.{length, getD};
 ghost use Rattle.formats.specs.Bytes.{le32};
 ghost use Rattle.io.specs.Counts.{Counts};
@@ -87,6 +87,7 @@ pub fn asked_space() -> [u8; 197]
 
 fn least(a: usize, b: usize) -> usize
     ensures { λ r. ⌜ (r ≤ a) × (r ≤ b) ⌝ }
+    ensures { λ r. ⌜ r ≡ min a b ⌝ }
 {
     if a < b { a } else { b }
 }
@@ -102,10 +103,19 @@ pub fn read_some(most: usize, chunk: &mut [u8]) -> usize
     io::count(got, &chunk[..n])
 }
 
+// How many bytes were asked for, and how many came.
+pub struct Got {
+    pub asked: usize,
+    pub count: usize,
+}
+
 // As many reads as it takes for `most` bytes; fewer come where the input ends.
-pub fn read_whole(most: usize, space: &mut [u8]) -> usize
-    ensures { λ r. ⌜ Counts r (now (space .exit)) ⌝ }
+pub fn read_whole(most: usize, space: &mut [u8]) -> Got
+    ensures { λ r. ⌜ r .asked ≡ min most (length (now (space .entry))) ⌝ }
+    ensures { λ r. ⌜ r .count ≤ r .asked ⌝ }
+    ensures { λ r. ⌜ Counts (r .count) (now (space .exit)) ⌝ }
 {
     let n = least(most, space.len());
-    io::read_full(STDIN_FILENO, &mut space[..n])
+    let count = io::read_full(STDIN_FILENO, &mut space[..n]);
+    Got { asked: n, count }
 }

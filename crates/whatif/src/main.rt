@@ -1,132 +1,74 @@
-// The program `whatif`: reads a plan, rules and questions from standard input, and writes one line a question.
+// The program `whatif`: reads a plan, rules and questions from standard input, and writes one line a question. All that it
+// writes is `said` of what it reads (specs/Said.antt).
 //     input      the three lengths, and the space for what they announce
 //     question   the bytes of a question, and its list of changes
 //     ask        a question put to the session
 //     text       words and numbers appended to a buffer
 //     line       the line of an answer
 //     chunk      the lines of the questions that a chunk of the input completes
+//     send       what is written
+//     asking     the questions, chunk by chunk
 mod ask;
+mod asking;
 mod chunk;
 mod input;
 mod line;
 mod question;
+mod send;
 mod text;
 
-use chunk::take_in;
-use input::asked_space;
-use input::chunk_space;
+use asking::put_questions;
+use input::Got;
 use input::is_too_large;
 use input::length_at;
 use input::node_table_space;
 use input::plan_space;
-use input::read_some;
 use input::read_whole;
 use input::rules_space;
 use input::state_table_space;
-use libc::STDIN_FILENO;
-use libc::STDOUT_FILENO;
 use line::put_refused;
+use send::send_refusal;
+use send::send_too_large;
 use session::answers::CallAnswer;
 use session::state::Session;
-ghost use Prim.Native.Nat.{_+_, _≤_};
-ghost use Rattle.formats.specs.Inputs.{inputsOf};
-ghost use Rattle.whatif.specs.Cleared.{Cleared};
-ghost use Rattle.whatif.specs.Stream.{Keeps};
+ghost use mathlib.Core.Path.{_≡_};
+ghost use mathlib.Core.List.{List};
+ghost use Prim.Native.Nat.{ℕ, _≤_};
+ghost use lib.ListN.{length, take};
+ghost use Rattle.whatif.specs.Line.{refusedLine};
+ghost use Rattle.whatif.specs.Said.{saidOn};
+ghost use Rattle.whatif.specs.Turns.{Answered, AnsweredOn, AskedFor};
 
-// A read of the questions: how many bytes came, how many of the question that is not yet whole there are then, and whether the lines of
-// the others could be written.
-struct Turn {
+// How many bytes came of the questions, and how many were handed to the system.
+struct Heard {
     came: usize,
-    have: usize,
-    is_written: bool,
+    sent: usize,
 }
 
-// Reads once, and writes the lines of the questions that became whole. No byte comes where the input ended.
-fn some_questions(
-    loaded: Session,
-    plan: &[u8],
-    rules: &[u8],
-    node_table: &[u16],
-    state_table: &[u8],
-    asked: &mut [u8],
-    have: usize,
-    left: usize,
-) -> Turn
-    requires { ⌜ Keeps (now asked) have ⌝ }
-    requires { ⌜ have + left ≤ 4294967295 ⌝ }
-    requires { ⌜ Cleared loaded (inputsOf (now plan) (now rules) (now «node_table») (now «state_table»)) ⌝ }
-    ensures { λ r. ⌜ Keeps (now (asked .exit)) (r .have) ⌝ }
-    ensures { λ r. ⌜ (r .came ≤ left) × (r .have ≤ have + r .came) ⌝ }
+// What came of the plan and the rules, how many bytes of the questions, and how many were handed to the system.
+struct Ran {
+    plan: Got,
+    rules: Got,
+    came: usize,
+    sent: usize,
+}
+
+// Tells Load's refusal.
+fn say_refused(plan: &[u8], rules: &[u8], n: u8) -> usize
+    requires { ⌜ ((qs : List ℕ) → saidOn (now plan) (now rules) qs ≡ refusedLine n) ⌝ }
+    ensures { λ r. ⌜ r ≡ length (refusedLine n) ⌝ }
 {
-    let mut space = chunk_space();
-    let n = read_some(left, &mut space);
-    let mut out = io::large_buffer();
-    let taken = take_in(
-        loaded,
-        plan,
-        rules,
-        node_table,
-        state_table,
-        &space[..n],
-        asked,
-        have,
-        &mut out,
-    );
-    let end = taken.end;
-    let is_written = io::write_all(STDOUT_FILENO, &out[..end]);
-    Turn {
-        came: n,
-        have: taken.have,
-        is_written,
-    }
-}
-
-// The questions, as many bytes as are stated or come.
-fn put_questions(
-    loaded: Session,
-    plan: &[u8],
-    rules: &[u8],
-    node_table: &[u16],
-    state_table: &[u8],
-    stated: usize,
-)
-    requires { ⌜ stated ≤ 4294967295 ⌝ }
-    requires { ⌜ Cleared loaded (inputsOf (now plan) (now rules) (now «node_table») (now «state_table»)) ⌝ }
-{
-    let mut asked = asked_space();
-    let mut have = 0;
-    let mut left = stated;
-    while left > 0 {
-        let turn = some_questions(
-            loaded,
-            plan,
-            rules,
-            node_table,
-            state_table,
-            &mut asked,
-            have,
-            left,
-        );
-        if turn.came == 0 {
-            return;
-        }
-        if !turn.is_written {
-            return;
-        }
-        have = turn.have;
-        left -= turn.came;
-    }
-}
-
-fn say_refused(n: u8) {
     let mut out = io::buffer();
     let end = put_refused(&mut out, 0, n);
-    io::write_all(STDOUT_FILENO, &out[..end]);
+    send_refusal(plan, rules, &out[..end])
 }
 
 // Loads the plan and the rules that came, and puts the questions.
-fn clear(plan: &[u8], rules: &[u8], stated: usize)
+fn clear(plan: &[u8], rules: &[u8], stated: usize) -> Heard
+    requires { ⌜ length (now plan) ≤ 2014 ⌝ }
     requires { ⌜ stated ≤ 4294967295 ⌝ }
+    ensures { λ r. ⌜ AnsweredOn (now (plan .entry)) (now (rules .entry)) (r .came) (r .sent) ⌝ }
+    ensures { λ r. ⌜ r .came ≤ stated ⌝ }
 {
     let mut node_table = node_table_space();
     let mut state_table = state_table_space();
@@ -136,34 +78,56 @@ fn clear(plan: &[u8], rules: &[u8], stated: usize)
     match answer {
         CallAnswer::Accepted => {
             let loaded = done.session;
-            put_questions(loaded, plan, rules, &node_table, &state_table, stated);
+            let turn = put_questions(loaded, plan, rules, &node_table, &state_table, stated);
+            return Heard {
+                came: stated - turn.left,
+                sent: turn.sent,
+            };
         }
         CallAnswer::Refused(n) => {
-            say_refused(n);
+            let sent = say_refused(plan, rules, n);
+            return Heard { came: 0, sent };
         }
     }
 }
 
-// Reads the plan and the rules: the bytes that come.
-fn read_both(plan_length: usize, rules_length: usize, stated: usize)
-    requires { ⌜ stated ≤ 4294967295 ⌝ }
+// Reads the plan and the rules, the bytes that come, and clears them. None are read where a stated length is too large.
+fn answer(head: &[u8], plan: &mut [u8], rules: &mut [u8]) -> Ran
+    requires { ⌜ (length (now plan) ≡ 2014) × (length (now rules) ≡ 16484) ⌝ }
+    ensures { λ r. ⌜
+        Answered (now (head .entry)) (take (r .plan .count) (now (plan .exit)))
+        (take (r .rules .count) (now (rules .exit))) (r .came) (r .sent) ⌝ }
+    ensures { λ r. ⌜ AskedFor (now (head .entry)) (r .plan .asked) (r .rules .asked) ⌝ }
 {
-    let mut plan = plan_space();
-    let mut rules = rules_space();
-    let p = read_whole(plan_length, &mut plan);
-    let r = read_whole(rules_length, &mut rules);
-    clear(&plan[..p], &rules[..r], stated);
+    let plan_length = length_at(head, 0);
+    let rules_length = length_at(head, 4);
+    if is_too_large(plan_length, rules_length) {
+        let sent = send_too_large(head, b"too large\n");
+        return Ran {
+            plan: Got { asked: 0, count: 0 },
+            rules: Got { asked: 0, count: 0 },
+            came: 0,
+            sent,
+        };
+    }
+    let plan_got = read_whole(plan_length, plan);
+    let rules_got = read_whole(rules_length, rules);
+    let p = plan_got.count;
+    let r = rules_got.count;
+    let heard = clear(&plan[..p], &rules[..r], length_at(head, 8));
+    Ran {
+        plan: plan_got,
+        rules: rules_got,
+        came: heard.came,
+        sent: heard.sent,
+    }
 }
 
 fn main() {
     let mut head = [0u8; 12];
-    let n = io::read_full(STDIN_FILENO, &mut head);
-    let plan = length_at(&head[..n], 0);
-    let rules = length_at(&head[..n], 4);
-    let stated = length_at(&head[..n], 8);
-    if is_too_large(plan, rules) {
-        io::write_all(STDOUT_FILENO, b"too large\n");
-        return;
-    }
-    read_both(plan, rules, stated);
+    let got = read_whole(12, &mut head);
+    let n = got.count;
+    let mut plan = plan_space();
+    let mut rules = rules_space();
+    answer(&head[..n], &mut plan, &mut rules);
 }

@@ -13,7 +13,7 @@ use Rattle.libc.proofs.read.Reads as read-reads
 use Rattle.whatif.proofs.input.least.Reads as least-reads
 
 slice-aggregate-read : tie.Need-slice-aggregate-read
-slice-aggregate-read c = sym (length-take-le _ _ (c .before .least .ensures .1))
+slice-aggregate-read c = sym (length-take-le _ _ (c .before .least .ensures .0 .1))
 
 slice-aggregate-count : tie.Need-slice-aggregate-count
 slice-aggregate-count c = sym (length-take-le _ _ (search needs))
@@ -24,8 +24,8 @@ returns c =
     let l = r .before .before in
     let a = l .before .before .args in
     let n = l .least .result in
-    counted (a .most) n (c .count .result) (r .read .last .1 .0 ++ drop n (a .chunk .now)) (a .chunk .now) (l .least .ensures .0)
-    (l .least .ensures .1) (c .count .ensures .0 .0)
+    counted (a .most) n (c .count .result) (r .read .last .1 .0 ++ drop n (a .chunk .now)) (a .chunk .now) (l .least .ensures .0 .0)
+    (l .least .ensures .0 .1) (c .count .ensures .0 .0)
 
 pub read-some-spec : {M : Type 1} → statement M
 read-some-spec =

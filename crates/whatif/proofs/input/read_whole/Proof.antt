@@ -1,5 +1,7 @@
+use native.Mathlib.Omega.{arith}
 use borrow.Author.Needs.{needs}
 use mathlib.Core.Path.{sym}
+use lib.ListN.{length-take}
 use lib.Seq.{length-take-le}
 use Rattle.whatif.proofs.InputLaws.{counted-front}
 use Rattle.whatif.proofs.input.read_whole.Statement.{statement}
@@ -10,12 +12,18 @@ use Rattle.io.proofs.read_full.Reads as read-full-reads
 use Rattle.whatif.proofs.input.least.Reads as least-reads
 
 slice-aggregate-read-full : tie.Need-slice-aggregate-read-full
-slice-aggregate-read-full c = sym (length-take-le _ _ (c .before .least .ensures .1))
+slice-aggregate-read-full c = sym (length-take-le _ _ (c .before .least .ensures .0 .1))
 
 returns : tie.Need-returns
 returns c =
-    let r = c .before .before .read-full in
-    counted-front (r .result) (r .last .1 .0) _ (r .ensures .0)
+    let r = c .before .before in
+    let l = r .before .before in
+    let n = l .least .result in
+    let a = l .before .before .args in (
+      l .least .ensures .1,
+      counted-front n (r .read-full .result) (r .read-full .last .1 .0) _
+          (omega (arith, r .read-full .kept .1 .0, length-take n (a .space .now))) (r .read-full .ensures .0),
+    )
 
 pub read-whole-spec : {M : Type 1} → statement M
 read-whole-spec =

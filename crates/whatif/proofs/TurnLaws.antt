@@ -1,0 +1,63 @@
+-- The questions from turn to turn.
+--     Going f stated kept have left sent      where they stand: some bytes of them came, the buffer holds what is not yet
+--                                             whole, and their lines were handed over
+--     going-start, going-on, going-progress   at the start, after one more chunk, and what is told of it
+--     lines-sent                              what is handed over for a chunk
+-- Assumes nothing.
+use Prim.Native.Nat.{ℕ, _+_, _-_, _*_, _≤_}
+use mathlib.Core.Path.{_≡_, refl, sym, ap, _∙_}
+use mathlib.Core.List.{List, [], _++_}
+use native.Mathlib.Omega.{arith}
+use lib.ListN.{length, take, length-append}
+use Rattle.whatif.specs.Stream.{openBy, linesBy, Held, Advances}
+use Rattle.whatif.specs.Turns.{Progress, Lines}
+use Rattle.whatif.proofs.StreamLaws.{held-empty, open-chunks, lines-chunks}
+
+pub record Going (f : List ℕ → List ℕ) (stated : ℕ) (kept : List ℕ) (have left sent : ℕ) : Type 0 where
+  pub questions : List ℕ
+  pub count : length questions + left ≡ stated
+  pub held : Held (openBy [] questions) kept have
+  pub lines : sent ≡ length (linesBy f [] questions)
+  pub have-most : have + left ≤ 4294967295
+  pub sent-most : sent + 37 * left ≤ 158913789915
+
+pub going-start : (f : List ℕ → List ℕ) (stated : ℕ) (kept : List ℕ) → length kept ≡ 197 → stated ≤ 4294967295
+    → Going f stated kept 0 stated 0
+unfolding openBy linesBy
+going-start f stated kept e h = record {
+  questions = [];
+  count = omega arith;
+  held = held-empty kept e;
+  lines = refl;
+  have-most = omega arith;
+  sent-most = omega arith;
+}
+
+pub going-on : {f : List ℕ → List ℕ} {stated : ℕ} {c kept kept′ out out′ : List ℕ}
+    {have left sent have′ left′ sent′ end : ℕ} (came : ℕ) → Going f stated kept have left sent
+    → Advances f c kept have kept′ have′ out 0 out′ end → came ≡ length c → left′ + came ≡ left → sent′ ≡ sent + end → have′ ≤ have + came → end ≤ 37 * came → Going f stated kept′ have′ left′ sent′
+going-on {f = f} {c = c} came G A n l s h e =
+    let q = G .questions in
+    let t = A .text (openBy [] q) (G .held) in
+    record {
+      questions = q ++ c;
+      count = omega (arith, length-append q c, G .count);
+      held = rw (open-chunks [] q c) (A .held (openBy [] q) (G .held));
+      lines =
+          let m : length (linesBy f [] (q ++ c)) ≡ length (linesBy f [] q) + length (linesBy f (openBy [] q) c) =
+          ap length (lines-chunks f [] q c) ∙ length-append (linesBy f [] q) (linesBy f (openBy [] q) c) in
+          omega (arith, m, G .lines, t .end);
+      have-most = omega (arith, G .have-most);
+      sent-most = omega (arith, G .sent-most);
+    }
+
+pub going-progress : {f : List ℕ → List ℕ} {stated : ℕ} {kept : List ℕ} {have left sent : ℕ}
+    → Going f stated kept have left sent → (left ≤ stated) × Progress f (stated - left) have sent
+going-progress G = (
+  omega (arith, G .count),
+  record { questions = G .questions; count = omega (arith, G .count); part = G .held .counted; lines = G .lines },
+)
+
+pub lines-sent : {f : List ℕ → List ℕ} {c kept kept′ out out′ : List ℕ} {have have′ end : ℕ} (q : List ℕ)
+    → Held q kept have → Advances f c kept have kept′ have′ out 0 out′ end → Lines f c kept′ have′ (take end out′)
+lines-sent q h A = record { before = q; held = A .held q h; text = A .text q h .text }
