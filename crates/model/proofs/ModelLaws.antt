@@ -41,7 +41,7 @@ module _ (t : Stage) (x : Inputs) (vs bs : List ℕ) where
 
   pub start-before : refusal t (start x vs bs) ≡ 0 → firstNo (checksBefore18 t x vs bs) ≡ 0
   unfolding refusal
-  start-before e = firstNo-append-left (checksBefore18 t x vs bs) (check 18 (sound (t .sizes) x) ∷ []) before-numbered e
+  start-before e = firstNo-append-left (checksBefore18 t x vs bs) _ before-numbered e
 
   pub start-list : refusal t (start x vs bs) ≡ 0 → firstNo (listChecks (t .sizes .n) (t .sizes .k) vs bs) ≡ 0
   start-list e =

@@ -1,5 +1,5 @@
 -- Start's 18.
---     sound-yes, yes-sound, sound-is    the test says what the statement says
+--     sound-yes, yes-sound, not-sound, sound-is    the test says what the statement says
 --     start-18                          Start answers 18 exactly where no check before it fails and the inputs are not sound
 -- Assumes nothing.
 use Prim.Native.Nat.{ℕ, zero, suc}
@@ -54,6 +54,13 @@ module _ (z : Sizes) (x : Inputs) where
       }))
       (sameList-is (usedStateTable z x) (builtStateTable (x .plan) (x .rules))
       (ap₂ (λ (n s : ℕ). take (stateTableLength n s) (x .stateTable)) (sym (S .n-is)) (sym (S .s-is)) ∙ S .as-built .states))
+
+  pub not-sound : (Sound z x → ⊥) → sound z x ≡ false
+  not-sound n = go (sound z x) refl
+    where
+      go : (b : Bool) → sound z x ≡ b → b ≡ false
+      go true e = absurd (n (sound-yes e))
+      go false e = refl
 
   pub sound-is : (sound z x ≡ true) ↔ Sound z x
   sound-is = (sound-yes, yes-sound)
@@ -118,9 +125,5 @@ module _ (r : Record) (x : Inputs) (vs bs : List ℕ) where
     λ e.
         let i = refusal-by (firstNo (checksBefore18 (stageOf r) x vs bs)) refl (sound (r .sizes) x) refl (refused-by e) in
         (i .0, λ S. true-false (sym (yes-sound (r .sizes) x S) ∙ i .1)),
-    λ h. unsound-refused (h .0) (not-sound (sound (r .sizes) x) refl (h .1)),
+    λ h. unsound-refused (h .0) (not-sound (r .sizes) x (h .1)),
   )
-    where
-      not-sound : (b : Bool) → sound (r .sizes) x ≡ b → (Sound (r .sizes) x → ⊥) → b ≡ false
-      not-sound true e n = absurd (n (sound-yes (r .sizes) x e))
-      not-sound false e n = refl
