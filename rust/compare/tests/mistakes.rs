@@ -33,7 +33,7 @@ const NOTICED: [(Mistake, &[&str]); 30] = [
     (Mistake::AnyMarkIsYes, &["damaged tables", "damaged lends"]),
     (Mistake::FirstEntryHolds, &["damaged records"]),
     (Mistake::TailsFree, &["damaged records", "call lists"]),
-    (Mistake::NodeTableIsNoCause, &["call lists"]),
+    (Mistake::NodeTableIsNoCause, &["damaged lends"]),
     (Mistake::NamesNotAsked, &["call lists"]),
     (Mistake::BytesNotAsked, &["other bytes", "damaged lends", "call lists"]),
     (Mistake::PairsExchanged, &["merges"]),
