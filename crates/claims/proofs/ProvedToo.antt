@@ -2,6 +2,7 @@
 --     climb-to                              where a climb ends, how many moves it makes, and its ceiling
 --     climb-six-to-one, climb-six-to-zero   "a climb from depth 6 to 1 takes 3 links, to 0 takes 2"
 --     one-node-accepted, two-nodes-refused  "N=1 is accepted with 14 bytes; N=2 gets 5", of the build with any rule table
+--     empty-word                            document 02, S-9: a branch question from below the upper node, the same node twice
 --     roots-are-ready                       the roots that are computed are the ready set
 --     parts-partition                       each node is in exactly one part; what each part looks like: ready/proofs/PartitionLaws
 -- Assumes nothing.
@@ -24,7 +25,8 @@ use Rattle.trees.proofs.TreeClimbs.{climb-tree, climb-bound}
 use Rattle.trees.proofs.Samples.{moveCount-samples}
 use Rattle.formats.specs.Bytes.{le32}
 use Rattle.formats.specs.Plan.{nodeCount, planBytes}
-use Rattle.formats.specs.Rules.{stateCount, labelCount}
+use Rattle.formats.specs.Rules.{stateCount, labelCount, branchAutomaton}
+use Rattle.formats.specs.Built.{BranchBuilt}
 use Rattle.formats.specs.Checks.{firstNo, planChecks, ruleChecks, ruleTableChecks, roomCheck, buildChecks}
 use Rattle.formats.proofs.CheckLaws.{firstNo-append-suc}
 use Rattle.formats.proofs.RuleLaws.{rules-pass}
@@ -32,6 +34,10 @@ use Rattle.formats.proofs.InputLaws.{passes-rule-table, passes-build}
 use Rattle.formats.proofs.PlanTrees.{planBytes-passes, labelsIn-planBytes, count-planBytes}
 use Rattle.formats.proofs.PlanTheorems.{two-nodes}
 use Rattle.node_tables.specs.NodeCells.{NodeCells}
+use Rattle.branches.specs.declared.answers.Reading.the-variants.{BelowUpper}
+use Rattle.branches.specs.declared.answers.Branching.the-variants.{Answered}
+use Rattle.branches.specs.Question.{askAnswer}
+use Rattle.branches.proofs.AskTheorem as ask-theorem
 use Rattle.ready.specs.Members.{roots}
 use Rattle.ready.proofs.ListLaws.{list-ready, ready-list, list-rising, list-last}
 use Rattle.ready.proofs.PartitionLaws.{part-unique, part-exists}
@@ -79,6 +85,13 @@ unfolding buildChecks ruleTableChecks
 two-nodes-refused p r nodeTable stateTable h n a b =
     firstNo-append-suc _ (roomCheck (nodeCount p) (stateCount r) nodeTable stateTable ∷ []) 4
     (firstNo-append-suc (planChecks p) _ 4 (two-nodes p h n a b))
+
+-- ---- branch questions from below the upper node
+
+-- "the same node twice is the empty word, and the mark of state 0 decides"
+empty-word : (p r nodeTable stateTable : List ℕ) → BranchBuilt p r nodeTable stateTable → (u : ℕ) → u < nodeCount p
+    → askAnswer BelowUpper p r nodeTable stateTable u u ≡ Answered 0 (branchAutomaton r .accepting 0) 0
+empty-word = ask-theorem.empty-word
 
 -- ---- "Let W be the listed nodes and the root. The ready set is the least set that ..": on numbers as built the roots are that set
 

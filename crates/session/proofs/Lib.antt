@@ -13,5 +13,6 @@ pub mod SessionTheorem
 pub mod ShapeLaws
 pub mod StartLaws
 pub mod StepLaws
+pub mod TablesSoundLaws
 pub mod ValidLaws
 pub mod Ties

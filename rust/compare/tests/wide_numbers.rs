@@ -74,13 +74,15 @@ fn seven_nodes_and_65_536() {
     add(&mut case.plan, 0, 65_536);
     assert_eq!((case.plan.len(), &case.plan[..4]), (26, &[7, 0, 1, 0][..]));
     KINDS.iter().for_each(|&kind| every_call(kind, &good, &case, 3, random));
-    // Start and advance go by the record's N, and no header is read: what they tell is left to the program
+    // Start asks whether the headers name the record's N; an advance goes by the record's and reads no header: what it
+    // tells is left to the program
     let lent = Lent::built(&good, random);
     let other = Lent { plan: case.plan, ..lent.clone() };
     let mut panel = Panel::loaded(&lent, random);
-    assert!(matches!(panel.start(&other, &[0], &[0], random), Answer::Parts(_)));
+    assert_eq!(panel.start(&other, &[0], &[0], random), Answer::Refused(18));
+    assert!(matches!(panel.start(&lent, &[0], &[0], random), Answer::Parts(_)));
     panel.finish(&other, random);
-    assert!(panel.left > 0, "not sound: the plan does not name N");
+    assert!(panel.left > 0, "not the same: the plan does not name N");
 }
 
 /// Node 65,543 is not node 7.
