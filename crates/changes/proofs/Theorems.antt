@@ -102,8 +102,7 @@ module _ (avs abs bvs bbs cvs cbs : List ℕ) where
         ap (λ (l : List Entry). length (laidOver (entries avs abs) l)) (entries-listed upperTwo),
         laid-upper (entries avs abs) upperTwo,
         ap length (rising-superseded upperTwo (laid-rises (entries bvs bbs) (entries cvs cbs))),
-      ) in
-      (
+      ) in (
         zero-lay bvs bbs cvs cbs (record { lower-fits = A .upper-fits; upper-fits = B .upper-fits; remain = few }),
         zero-lay avs abs (nodesListed upperTwo) (labelsListed upperTwo) (record {
           lower-fits = A .lower-fits;
@@ -124,8 +123,7 @@ module _ (avs abs bvs bbs cvs cbs : List ℕ) where
         ap (λ (l : List Entry). length (laidOver l (entries cvs cbs))) (entries-listed lowerTwo),
         laid-lower lowerTwo (entries cvs cbs),
         ap length (rising-superseded lowerTwo (laid-rises (entries avs abs) (entries bvs bbs))),
-      ) in
-      (
+      ) in (
         zero-lay avs abs bvs bbs (record { lower-fits = A .lower-fits; upper-fits = B .lower-fits; remain = few }),
         zero-lay (nodesListed lowerTwo) (labelsListed lowerTwo) cvs cbs (record {
           lower-fits = handed-fits lowerTwo few;
@@ -155,8 +153,7 @@ module _ (vs bs : List ℕ) (fits : listsFit vs bs ≡ true) where
   unfolding entries
   lay-empty =
       let u : laid [] [] vs bs ≡ superseded (entries vs bs) = over-empty (entries vs bs) .0 in
-      let l : laid vs bs [] [] ≡ superseded (entries vs bs) = over-empty (entries vs bs) .1 in
-      (
+      let l : laid vs bs [] [] ≡ superseded (entries vs bs) = over-empty (entries vs bs) .1 in (
         zero-lay [] [] vs bs (record {
           lower-fits = none-fits;
           upper-fits = fits;
@@ -174,8 +171,7 @@ module _ (vs bs : List ℕ) (fits : listsFit vs bs ≡ true) where
   -- "and so does a list over itself"
   pub lay-self : (layNumber vs bs vs bs ≡ 0) × (laid vs bs vs bs ≡ superseded (entries vs bs))
   lay-self =
-      let u : laid vs bs vs bs ≡ superseded (entries vs bs) = over-self (entries vs bs) in
-      (
+      let u : laid vs bs vs bs ≡ superseded (entries vs bs) = over-self (entries vs bs) in (
         zero-lay vs bs vs bs (record {
           lower-fits = fits;
           upper-fits = fits;
@@ -198,9 +194,8 @@ pub lay-swap : (lvs lbs uvs ubs : List ℕ) → Apart (entries lvs lbs) (entries
     → (layNumber lvs lbs uvs ubs ≡ layNumber uvs ubs lvs lbs) × (laid lvs lbs uvs ubs ≡ laid uvs ubs lvs lbs)
 unfolding layChecks
 lay-swap lvs lbs uvs ubs d =
-    let e : laid lvs lbs uvs ubs ≡ laid uvs ubs lvs lbs = over-swap (entries lvs lbs) (entries uvs ubs) d in
-    (
+    let e : laid lvs lbs uvs ubs ≡ laid uvs ubs lvs lbs = over-swap (entries lvs lbs) (entries uvs ubs) d in (
       ap (λ (l : List Entry). firstNo (check 12 (listsFit lvs lbs) ∷ check 12 (listsFit uvs ubs) ∷ check 22 (leb (length l) 64) ∷ [])) e
-      ∙ two-twelves (listsFit lvs lbs) (listsFit uvs ubs) (leb (length (laid uvs ubs lvs lbs)) 64),
+          ∙ two-twelves (listsFit lvs lbs) (listsFit uvs ubs) (leb (length (laid uvs ubs lvs lbs)) 64),
       e,
     )
