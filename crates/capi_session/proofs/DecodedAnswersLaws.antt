@@ -16,7 +16,7 @@ use Rattle.model.specs.Calls.{Phase}
 use Rattle.model.specs.Refusals.{refusal}
 use Rattle.model.specs.Model.{stageOf}
 use Rattle.model.specs.Model.{Record, Acted, acted, stepped, marksBy, lastOf, proceeds, unless, act}
-use Rattle.model.specs.Model.{startWith, advanceWith}
+use Rattle.model.specs.Model.{advanceWith}
 use Rattle.capi_session.specs.SessionExported.{answerNumber, partsOf, finishedOf, Places, answeredPlaces}
 use Rattle.capi_session.specs.DecodedAnswers.{decodedDone, decodedStart, decodedAdvance, decodedRead}
 
@@ -49,17 +49,12 @@ module _ (r : Record) where
       go zero = refl
       go (suc n) = refl
 
-  started : (p : ℕ) (vs bs : List ℕ) (o : Option (List ℕ)) → StartDecoded p (startWith r vs bs o .answer)
-  unfolding startWith decodedStart answerNumber partsOf
-  started p vs bs none = refl
-  started p vs bs (some rs) = refl
-
   pub decoded-start : (p : ℕ) (x : Inputs) (vs bs : List ℕ) → StartDecoded p (act r (start x vs bs) .answer)
   unfolding act unless proceeds decodedStart answerNumber partsOf
   decoded-start p x vs bs = go (refusal (stageOf r) (start x vs bs))
     where
       go : (n : ℕ) → StartDecoded p (unless n r (start x vs bs) .answer)
-      go zero = started p vs bs _
+      go zero = refl
       go (suc n) = refl
 
   either : (f : ℕ) (b : Bool) (u v : Acted) → AdvanceDecoded f (u .answer) → AdvanceDecoded f (v .answer)

@@ -20,7 +20,7 @@ use Rattle.model.specs.Calls.{Call, load, start, advance, cancel, read, Answer,
 use Rattle.model.specs.Refusals.{refusal}
 use Rattle.model.specs.Model.{stageOf}
 use Rattle.model.specs.Model.{Record, Acted, acted, stepped, marksBy, freshRecord, proceeds, unless, act}
-use Rattle.model.specs.Model.{startWith, advanceWith, Does}
+use Rattle.model.specs.Model.{advanceWith, Does}
 use Rattle.model.proofs.Refinement.{Refines}
 use Rattle.session.specs.declared.state.Session.{Session}
 use Rattle.session.specs.Records.{recordOf, sessionOf, valid, freshSession}
@@ -60,11 +60,6 @@ module _ (r : Record) where
   on-cond true x y e f = e
   on-cond false x y e f = f
 
-  on-start : (vs bs : List ℕ) (o : Option (List ℕ)) → Settled r (startWith r vs bs o)
-  unfolding startWith unlessRefused
-  on-start vs bs none = refl
-  on-start vs bs (some rs) = refl
-
   on-advance : (x : Inputs) (o : Option Reached) → Settled r (advanceWith r x o)
   unfolding advanceWith unlessRefused
   on-advance x none = refl
@@ -76,7 +71,7 @@ module _ (r : Record) where
   on-call : (c : Call) → Settled r (proceeds r c)
   unfolding proceeds unlessRefused
   on-call (load x) = refl
-  on-call (start x vs bs) = on-start vs bs _
+  on-call (start x vs bs) = refl
   on-call (advance x) = on-advance x _
   on-call cancel = refl
   on-call read = refl

@@ -1,7 +1,7 @@
 -- Demand 3 for the session calls on record bytes: every list of calls, from 967 zeros, whatever is lent, is answered as the
 -- panel book says.
 --     exported-demand-3    the theorem, over the very promises of the five exported functions, decoded from numbers and values
---     exported-questions   a question on sound tables left alone: parts, advances, what Reads tell, ceilings (CleanlyTold, crate book)
+--     exported-questions   a question: an accepted Start had sound inputs; undisturbed: parts, advances, what Reads tell, ceilings
 -- Assumes nothing.
 use lib.ListN.{replicate}
 use Rattle.reference.specs.Demand3.{Demand3}
@@ -15,6 +15,6 @@ use Rattle.capi_session.proofs.ExportedRefines.{Held, exported-refines,
 pub exported-demand-3 : Demand3 (replicate 967 0) Exports
 exported-demand-3 = demand-3-of Exports Does Held exported-refines (replicate 967 0) freshRecord fresh-held (demand-3 layers)
 
--- a question on sound tables left alone
+-- a question that Start accepted
 pub exported-questions : QuestionsAnswered (replicate 967 0) Exports
 exported-questions = questions-of Exports Does Held exported-refines (replicate 967 0) freshRecord fresh-held (question-answered layers)

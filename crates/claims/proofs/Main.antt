@@ -1,7 +1,8 @@
 -- What is claimed of the what-if checker: its three demands and the sample, each proved by citing what is below.
---     refusals, builds-refuse                       demand 1
+--     refusals, start-18, builds-refuse             demand 1
 --     finished-answers, run-at-each-node, branch-answers   demand 2
---     by-value, in-place, on-record-bytes           demand 3, in its three forms; undisturbed-.. its further statements, order its last
+--     by-value, in-place, on-record-bytes           demand 3, in its three forms; start-is-settled: nothing of Start is left to the program;
+--                                                   undisturbed-.. its further statements, order its last
 --     sample                                        the sample clearance
 -- Where each word of a statement is defined: README, *Reading order*; docs/NAMES.md.
 -- Assumes nothing.
@@ -9,6 +10,7 @@ use Prim.Native.Nat.{ℕ, suc, _<_}
 use mathlib.Core.Path.{_≡_}
 use mathlib.Core.Bool.{true, false}
 use mathlib.Core.List.{List, [], _∷_, zip, List·Permᴰ}
+use mathlib.Core.Logic.{_↔_}
 use mathlib.Core.Option.{some}
 use lib.ListN.{length, replicate}
 use Rattle.list_laws.specs.Tests.{distinct}
@@ -17,6 +19,7 @@ use Rattle.trees.specs.Automaton.{Automaton, run, state}
 use Rattle.trees.specs.Numbering.{sub, AtOrBelow}
 use Rattle.trees.proofs.RunLaws.{run-at}
 use Rattle.formats.specs.Plan.{nodeCount, planTree}
+use Rattle.formats.specs.Checks.{firstNo}
 use Rattle.formats.specs.Built.{BranchBuilt}
 use Rattle.formats.specs.Inputs.{Inputs}
 use Rattle.tables.specs.declared.answers.Building.{Building}
@@ -24,12 +27,17 @@ use Rattle.tables.specs.Answers.{buildingNumber, BuildDone}
 use Rattle.branches.specs.Question.{askAnswer}
 use Rattle.branches.specs.Promise.{wordAnswer}
 use Rattle.branches.proofs.AskTheorem.{ask-built}
-use Rattle.model.specs.Calls.{Call, Answer, refused, outcomeAnswer}
+use Rattle.model.specs.Calls.{Call, start, Answer, refused, outcomeAnswer}
+use Rattle.model.specs.Refusals.{checksBefore18}
+use Rattle.model.specs.Sound.{Sound}
+use Rattle.model.specs.Model.{stageOf}
+use Rattle.reference.specs.Reference.{Reference, settled, step}
 use Rattle.reference.specs.Demand3.{Demand3}
 use Rattle.reference.proofs.QuestionTheorem.{CleanOutcomes, QuestionsAnswered, outcome-order}
+use Rattle.reference.proofs.Theorems.{start-settled}
 use Rattle.reference.proofs.Sample.{row, startRow, sample-rows}
 use Rattle.session.specs.declared.state.Session.{Session}
-use Rattle.session.specs.Records.{freshSession}
+use Rattle.session.specs.Records.{recordOf, valid, freshSession}
 use Rattle.session.specs.CallsByValue.{CallByValue}
 use Rattle.session.proofs.SessionTheorem.{by-value-demand-3, by-value-questions}
 use Rattle.in_place.specs.CallsInPlace.{CallInPlace}
@@ -37,7 +45,7 @@ use Rattle.in_place.proofs.InPlaceTheorem.{in-place-demand-3, in-place-question
 use Rattle.capi_session.specs.DecodedAnswers.{Exports}
 use Rattle.capi_session.proofs.ExportedTheorem.{exported-demand-3, exported-questions}
 use Rattle.claims.specs.Refusals.{RefusedInOrder}
-use Rattle.claims.proofs.RefusalLaws.{refused-in-order, build-refused}
+use Rattle.claims.proofs.RefusalLaws.{refused-in-order, start-refused-18, build-refused}
 
 -- ---- demand 1. "Malformed input, short buffers, table values that lead outside and calls that the session's state forbids are refused
 -- first, by number, in a fixed order; a refusal alters nothing; everything else is accepted; every call ends." That every call ends, and
@@ -46,6 +54,12 @@ use Rattle.claims.proofs.RefusalLaws.{refused-in-order, build-refused}
 refusals : (s : Session) (c : Call) (a : Answer) (s′ : Session) → CallByValue s c a s′ → RefusedInOrder s c a s′
 refusals = refused-in-order
 
+-- "give 18 at its old place exactly when the tables aren't what the build writes from that plan and those rules, or when these no longer
+-- pass 2 to 10 or name another N, S or K than the record"
+start-18 : (s : Session) (x : Inputs) (vs bs : List ℕ) (a : Answer) (s′ : Session) → CallByValue s (start x vs bs) a s′ → valid s ≡ true
+    → (a ≡ refused 18) ↔ ((firstNo (checksBefore18 (stageOf (recordOf s)) x vs bs) ≡ 0) × (Sound (recordOf s .sizes) x → ⊥))
+start-18 = start-refused-18
+
 builds-refuse : (n : ℕ) (nodes states x y : List ℕ) (a : Building) (x′ y′ : List ℕ) → BuildDone n nodes states x y a x′ y′
     → (buildingNumber a ≡ n) × ((m : ℕ) → n ≡ suc m → (x′ ≡ x) × (y′ ≡ y))
 builds-refuse = build-refused
@@ -53,8 +67,8 @@ builds-refuse = build-refused
 -- ---- demand 2. "On tables as built, a finished answer is the automaton's run on the changed plan (source document 002); a branch answer
 -- is the word automaton's."
 
--- of a question that Start accepted on sound tables, undisturbed: Read's outcome is the fresh run's, on exactly as many advances as parts,
--- with parts and links within their ceilings (CleanOutcomes)
+-- of a question that Start accepted: what it was given is sound; undisturbed, Read's outcome is the fresh run's, on exactly as many advances
+-- as parts, with parts and links within their ceilings (QuestionAnswered, CleanOutcomes)
 finished-answers : QuestionsAnswered (replicate 967 0) Exports
 finished-answers = exported-questions
 
@@ -76,6 +90,10 @@ in-place = in-place-demand-3
 
 on-record-bytes : Demand3 (replicate 967 0) Exports
 on-record-bytes = exported-demand-3
+
+-- "Nothing about Start is left to the program then"
+start-is-settled : (b : Reference) (x : Inputs) (vs bs : List ℕ) → (a : Answer) × (b′ : Reference) × (step b (start x vs bs) ≡ settled a b′)
+start-is-settled = start-settled
 
 -- its further statements, for the other two forms
 undisturbed-by-value : QuestionsAnswered freshSession CallByValue

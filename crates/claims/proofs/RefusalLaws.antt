@@ -1,30 +1,35 @@
 -- Demand 1, call by call.
 --     refused-in-order    each of the five calls by value refuses by its first failing check, and a refusal alters nothing
+--     start-refused-18    Start's 18, exactly where its other checks pass and the inputs are not sound
 --     build-refused       a build's number is its first failing check's, and where one fails both buffers stay
 -- Assumes nothing.
 use Prim.Native.Nat.{ℕ, zero, suc}
 use mathlib.Core.Path.{_≡_, refl, sym, ap, _∙_, subst}
 use mathlib.Core.Bool.{Bool, true, false, cond}
 use mathlib.Core.List.{List}
+use mathlib.Core.Logic.{_↔_}
 use mathlib.Core.Option.{Option, none, some}
 use native.Mathlib.Omega.{arith}
 use lib.Dec.{eqb}
 use lib.ListN.{length, getD}
 use Rattle.list_laws.proofs.BoolLaws.{true-false}
+use Rattle.formats.specs.Checks.{firstNo}
 use Rattle.formats.specs.Inputs.{Inputs}
 use Rattle.tables.specs.declared.answers.Building.{Building}
 use Rattle.tables.specs.Answers.{written, buildingNumber, BuildDone}
 use Rattle.tables.specs.declared.answers.Reached.{Reached}
 use Rattle.model.specs.Calls.{Call, load, start, advance, cancel, read, Answer, refused, more, finished, isRefused, Phase}
-use Rattle.model.specs.Refusals.{refusal}
-use Rattle.model.specs.Model.{Record, Acted, acted, stageOf, marksBy, stepped, startWith, advanceWith, proceeds, unless, act}
+use Rattle.model.specs.Refusals.{checksBefore18, refusal}
+use Rattle.model.specs.Sound.{Sound}
+use Rattle.model.proofs.SoundLaws.{start-18}
+use Rattle.model.specs.Model.{Record, Acted, acted, stageOf, marksBy, stepped, advanceWith, proceeds, unless, act}
 use Rattle.session.specs.declared.state.Session.{Session}
 use Rattle.session.specs.Records.{recordOf, valid}
 use Rattle.session.specs.Promises.{answerOn, refusalOn, CallDone, LoadDone}
 use Rattle.session.specs.CallsByValue.{CallByValue, loads, starts, advances, cancels, reads}
 use Rattle.claims.specs.Refusals.{RefusedInOrder}
 
--- ---- a call of the model whose checks pass is refused with 18 alone
+-- ---- a call of the model whose checks pass is refused with 18 alone, and is an advance
 
 abbrev Only18 : Acted → Type 0
 Only18 x = isRefused (x .answer) ≡ true → x .answer ≡ refused 18
@@ -32,11 +37,6 @@ Only18 x = isRefused (x .answer) ≡ true → x .answer ≡ refused 18
 on-choice : (b : Bool) (x y : Acted) → Only18 x → Only18 y → Only18 (cond b x y)
 on-choice true x y f g = f
 on-choice false x y f g = g
-
-on-start : (r : Record) (vs bs : List ℕ) (o : Option (List ℕ)) → Only18 (startWith r vs bs o)
-unfolding startWith
-on-start r vs bs none e = refl
-on-start r vs bs (some rs) e = absurd (true-false (sym e))
 
 on-advance : (r : Record) (x : Inputs) (o : Option Reached) → Only18 (advanceWith r x o)
 unfolding advanceWith
@@ -46,11 +46,15 @@ on-advance r x (some y) e =
     (acted finished (stepped r Phase.answered y (eqb (getD (marksBy (r .sizes) x) (y .state) 0) 1)))
     (acted more (stepped r Phase.running y false)) (λ f. absurd (true-false (sym f))) (λ f. absurd (true-false (sym f))) e
 
-on-call : (r : Record) (c : Call) → Only18 (proceeds r c)
+-- call c is an advance, and its answer a is 18
+abbrev Advance18 : Call → Answer → Type 0
+Advance18 c a = (x : Inputs) × (c ≡ advance x) × (a ≡ refused 18)
+
+on-call : (r : Record) (c : Call) → isRefused (proceeds r c .answer) ≡ true → Advance18 c (proceeds r c .answer)
 unfolding proceeds
 on-call r (load x) e = absurd (true-false (sym e))
-on-call r (start x vs bs) e = on-start r vs bs _ e
-on-call r (advance x) e = on-advance r x _ e
+on-call r (start x vs bs) e = absurd (true-false (sym e))
+on-call r (advance x) e = (x, refl, on-advance r x _ e)
 on-call r cancel e = absurd (true-false (sym e))
 on-call r read e = absurd (true-false (sym e))
 
@@ -64,7 +68,7 @@ module _ (r : Record) (c : Call) where
   numbered false m n e = ap refused e
 
   eighteen : (b : Bool) (m : ℕ) → cond b m 1 ≡ 0 → isRefused (cond b (unless m r c .answer) (refused 1)) ≡ true
-      → cond b (unless m r c .answer) (refused 1) ≡ refused 18
+      → Advance18 c (cond b (unless m r c .answer) (refused 1))
   unfolding unless
   eighteen true zero e f = on-call r c f
   eighteen true (suc m) e f = absurd (omega arith)
@@ -76,7 +80,9 @@ module _ (s : Session) (c : Call) (a : Answer) (s′ : Session) where
   by-answer e u = record {
     by-number = λ n h. e ∙ numbered (recordOf s) c (valid s) (refusal (stageOf (recordOf s)) c) n h;
     unaltered = u;
-    else-accepted = λ h f. e ∙ eighteen (recordOf s) c (valid s) (refusal (stageOf (recordOf s)) c) h (sym (ap isRefused e) ∙ f);
+    else-accepted = λ h f.
+        let i = eighteen (recordOf s) c (valid s) (refusal (stageOf (recordOf s)) c) h (sym (ap isRefused e) ∙ f) in
+        (i .0, i .1, e ∙ i .2);
   }
 
   by-done : CallDone s c a s′ → RefusedInOrder s c a s′
@@ -88,6 +94,25 @@ refused-in-order s c a s′ (starts o d) = by-done s c a s′ d
 refused-in-order s c a s′ (advances o d) = by-done s c a s′ d
 refused-in-order s c a s′ (cancels o d) = by-done s c a s′ d
 refused-in-order s c a s′ (reads o d) = by-answer s c a s′ d (λ n e. refl)
+
+-- ---- Start's 18
+
+told : (s : Session) (c : Call) (a : Answer) (s′ : Session) → CallByValue s c a s′ → a ≡ answerOn s c
+told s c a s′ (loads o x y d) = d .call .tells
+told s c a s′ (starts o d) = d .tells
+told s c a s′ (advances o d) = d .tells
+told s c a s′ (cancels o d) = d .tells
+told s c a s′ (reads o d) = d
+
+pub start-refused-18 : (s : Session) (x : Inputs) (vs bs : List ℕ) (a : Answer) (s′ : Session) → CallByValue s (start x vs bs) a s′
+    → valid s ≡ true
+    → (a ≡ refused 18) ↔ ((firstNo (checksBefore18 (stageOf (recordOf s)) x vs bs) ≡ 0) × (Sound (recordOf s .sizes) x → ⊥))
+unfolding answerOn
+start-refused-18 s x vs bs a s′ c v =
+    let e : a ≡ act (recordOf s) (start x vs bs) .answer =
+    told s (start x vs bs) a s′ c ∙ ap (λ (b : Bool). cond b (act (recordOf s) (start x vs bs) .answer) (refused 1)) v in
+    let E = start-18 (recordOf s) x vs bs in
+    (λ f. E .0 (sym e ∙ f), λ h. e ∙ E .1 h)
 
 -- ---- the builds
 

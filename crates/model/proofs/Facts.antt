@@ -1,10 +1,10 @@
--- What the model takes from the questions layer: two facts about calls on a node table as built.
+-- What the model takes from the questions layer: two facts about a node table as built.
 --     SettledInputs z y vs bs x    what an advance is given: plan, rules and node table as built and as at Start (y), states below S
 --     Handled s rs ps              parts of the first of the roots rs, with any states below s
 --     nextRoot rs ps               the root of the part after ps
 --     reachedBy p                  what an advance finds for part p
 --     Layers                       the facts
--- They are stated with what the questions layer defines (rootsOn, partOn) and what document 01 means (roots, partOf), and ask no more
+-- They are stated with what the questions layer defines (partOn) and what document 01 means (roots, partOf), and ask no more
 -- than the calls' checks and the reference model give: the states before may be any below S, those of the state table too.
 -- Assumes nothing.
 use Prim.Native.Nat.{ℕ, _<_}
@@ -14,16 +14,14 @@ use mathlib.Core.List.{List}
 use mathlib.Core.Option.{some}
 use lib.ListN.{length, getD, take}
 use Rattle.list_laws.specs.Tests.{allBelow}
-use Rattle.formats.specs.Plan.{planTree}
 use Rattle.formats.specs.Checks.{firstNo, listChecks}
-use Rattle.formats.specs.Inputs.{Inputs, Sizes, fits, usedNodeTable, sameNodeInputs, nodeTableBuilt, statesBelow}
-use Rattle.ready.specs.Members.{roots}
+use Rattle.formats.specs.Inputs.{Inputs, Sizes, fits, sameNodeInputs, nodeTableBuilt, statesBelow}
 use Rattle.ready.specs.Parts.{Part, nodesOf, statesOf, partOf}
 use Rattle.tables.specs.declared.answers.Reached.{Reached}
 use Rattle.tables.specs.Climbs.{reached}
-use Rattle.questions.specs.Roots.{rootsOn}
 use Rattle.questions.specs.Part.{partOn}
-use Rattle.model.specs.Model.{viewBy}
+use Rattle.questions.specs.Promises.{RootsAre}
+use Rattle.model.specs.Model.{rootsIn, viewBy}
 use Rattle.model.specs.PartInputs.{givenOf}
 
 abbrev pub reachedBy : Part → Reached
@@ -45,14 +43,10 @@ pub record Handled (s : ℕ) (rs : List ℕ) (ps : List Part) : Type 0 where
 abbrev pub nextRoot : List ℕ → List Part → ℕ
 nextRoot rs ps = getD rs (length ps) 0
 
--- the roots of the parts of the list vs, on the plan of the inputs y, rising
-abbrev pub rootsIn : Inputs → List ℕ → List ℕ
-rootsIn y vs = roots (planTree (y .plan)) vs
-
 pub record Layers : Type 0 where
-  -- a Start on a node table as built finds the ready set
-  pub roots-built : (z : Sizes) (x : Inputs) (vs : List ℕ) → nodeTableBuilt z x ≡ true → allBelow (z .n) vs ≡ true
-      → rootsOn (z .n) (usedNodeTable z x) vs ≡ some (rootsIn x vs)
+  -- the roots of a list rise to the plan's root and are few
+  pub roots-are : (z : Sizes) (x : Inputs) (vs : List ℕ) → nodeTableBuilt z x ≡ true → allBelow (z .n) vs ≡ true
+      → RootsAre (z .n) (length vs) (rootsIn x vs)
   -- "an advance goes on as always and stores and counts what this rule gives on those bytes"
   pub part-built : (z : Sizes) (y : Inputs) (vs bs : List ℕ) (x : Inputs) (ps : List Part) → SettledInputs z y vs bs x
       → Handled (z .s) (rootsIn y vs) ps → length ps < length (rootsIn y vs)

@@ -1,5 +1,6 @@
--- The facts that the model takes from the questions layer hold: proved from that layer's theorems roots-built and part-built.
---     layers    all of them
+-- The facts that the model takes from the questions layer hold: proved from that layer's theorems roots-built, rootsOn-are, part-built.
+--     tree-size, cells    on inputs as built the tree has N nodes, and the node table's cells are the tree's
+--     layers              the facts
 -- Assumes nothing.
 use Prim.Native.Nat.{ℕ, zero, suc, _+_, _*_, _≤_, _<_}
 use mathlib.Core.Path.{_≡_, refl, sym, ap, ap₂, _∙_, subst}
@@ -35,37 +36,41 @@ use Rattle.ready.proofs.PartsRun.{Members}
 use Rattle.ready.proofs.ListLaws.{list-members}
 use Rattle.questions.specs.Roots.{rootsOn}
 use Rattle.questions.specs.Part.{partOn}
-use Rattle.questions.specs.Promises.{Reads}
+use Rattle.questions.specs.Promises.{Reads, RootsAre}
 use Rattle.questions.proofs.Promised.{all-small}
+use Rattle.questions.proofs.RootsLaws.{rootsOn-are}
 use Rattle.questions.proofs.RootsBuilt as roots-theorem
 use Rattle.questions.proofs.PartBuilt as part-theorem
 use Rattle.formats.specs.Inputs.{Inputs, Sizes, usedNodeTable, usedStateTable, nodeTableBuilt, statesBelow}
-use Rattle.model.specs.Model.{viewBy}
+use Rattle.model.specs.Model.{rootsIn, viewBy}
 use Rattle.model.specs.PartInputs.{givenOf}
-use Rattle.model.proofs.Facts.{SettledInputs, Handled, nextRoot, rootsIn, reachedBy, Layers}
+use Rattle.model.proofs.Facts.{SettledInputs, Handled, nextRoot, reachedBy, Layers}
 use Rattle.formats.proofs.InputsLaws.{Built, node-table-built, plan-of, rules-of, labels-of, Same, same-node-inputs}
 
--- ---- Start
+-- ---- the node table
 
 module _ (z : Sizes) (x : Inputs) (B : Built z x) where
-  tree-size : z .n ≡ size (planTree (x .plan))
+  pub tree-size : z .n ≡ size (planTree (x .plan))
   tree-size = sym (size-planTree (x .plan) (plan-of z x B) ∙ B .n-is)
 
   -- the node table in use is that of the definition, so their cells are the tree's
-  cells : NodeCells (planTree (x .plan)) (usedNodeTable z x)
+  pub cells : NodeCells (planTree (x .plan)) (usedNodeTable z x)
   cells =
       link-cells (planTree (x .plan)) (size (planTree (x .plan))) (usedNodeTable z x) refl
       (take-all (nodeTableLength (size (planTree (x .plan)))) (usedNodeTable z x)
       (let e : length (usedNodeTable z x) ≡ size (planTree (x .plan)) * 4 = ap length (B .nodeTable) ∙ length-nodeTableOf (planTree (x .plan)) in omega arith)
       ∙ B .nodeTable)
 
-start-fact : (z : Sizes) (x : Inputs) (vs : List ℕ) → nodeTableBuilt z x ≡ true → allBelow (z .n) vs ≡ true
-    → rootsOn (z .n) (usedNodeTable z x) vs ≡ some (roots (planTree (x .plan)) vs)
-start-fact z x vs l a =
+-- ---- Start
+
+roots-fact : (z : Sizes) (x : Inputs) (vs : List ℕ) → nodeTableBuilt z x ≡ true → allBelow (z .n) vs ≡ true
+    → RootsAre (z .n) (length vs) (rootsIn x vs)
+roots-fact z x vs l a =
     let B : Built z x = node-table-built z x l in
-    ap (λ (n : ℕ). rootsOn n (usedNodeTable z x) vs) (tree-size z x B)
+    rootsOn-are (z .n) (usedNodeTable z x) vs (rootsIn x vs) (omega (arith, B .n-is, plan-of z x B .least)) a
+    (ap (λ (n : ℕ). rootsOn n (usedNodeTable z x) vs) (tree-size z x B)
     ∙ roots-theorem.roots-built (planTree (x .plan)) (usedNodeTable z x) (cells z x B) vs
-    (λ v m. omega (arith, tree-size z x B, all-small (z .n) vs a v m))
+    (λ v m. omega (arith, tree-size z x B, all-small (z .n) vs a v m)))
 
 -- ---- advance
 
@@ -189,6 +194,6 @@ module _ (z : Sizes) (y : Inputs) (vs bs : List ℕ) (x : Inputs) (F : SettledIn
 
 pub layers : Layers
 layers = record {
-  roots-built = start-fact;
+  roots-are = roots-fact;
   part-built = λ z y vs bs x ps F H l. advance-fact z y vs bs x F ps H l;
 }

@@ -1,56 +1,44 @@
 -- What is left to the program has its properties.
 --     refused-unchanged    a refusal, 18 too, leaves the record as it is
---     start-numbers, advance-numbers    18 is no check's number: it is left to the program
---     start-properties     Start
+--     start-usable         positive control: what an advance asks of usable tables holds after an accepted Start
+--     advance-numbers      18 is no number of an advance's checks: it is left to the program
 --     advance-properties   advance
---     start-usable         positive control: what an advance asks of usable tables holds after a Start on tables as built
 -- Assumes nothing.
 use Prim.Native.Nat.{ℕ, zero, suc, _+_, _≤_, _<_}
 use mathlib.Core.Path.{_≡_, refl, sym, ap, ap₂, _∙_, subst}
 use mathlib.Core.Bool.{Bool, true, false, cond}
 use mathlib.Core.List.{List, [], _∷_, _++_}
-use mathlib.Core.Option.{Option, none, some, Option·some-injective}
+use mathlib.Core.Option.{Option, none, some}
 use native.Mathlib.Omega.{arith}
 use lib.Dec.{eqb}
 use lib.ListN.{length, getD, take}
 use Rattle.trees.proofs.MoveLaws.{none-some}
 use Rattle.list_laws.specs.Tests.{allBelow, sameList}
-use Rattle.formats.specs.Plan.{planTree}
-use Rattle.formats.specs.Checks.{check, firstNo, listChecks}
+use Rattle.formats.specs.Checks.{check, firstNo}
 use Rattle.list_laws.proofs.BoolLaws.{and-both, true-false}
-use Rattle.formats.proofs.InputLaws.{ListPasses, list-passes}
 use Rattle.list_laws.proofs.TestLaws.{sameList-refl}
 use Rattle.tables.specs.declared.answers.Reached.{Reached}
-use Rattle.ready.specs.Members.{roots}
 use Rattle.ready.specs.Parts.{Part, nodesOf, statesOf, partOf}
-use Rattle.questions.specs.Roots.{rootsOn}
 use Rattle.questions.specs.Part.{partOn}
-use Rattle.questions.specs.Promises.{RootsAre}
-use Rattle.questions.proofs.RootsLaws.{rootsOn-are}
 use Rattle.questions.proofs.PartBounds.{part-bounded}
-use Rattle.questions.proofs.RootsRange.{roots-out-of-range}
 use Rattle.questions.proofs.PartRange.{part-out-of-range}
-use Rattle.formats.specs.Inputs.{Inputs, sameNodeInputs, usedNodeTable, nodeTableBuilt, statesBelow}
-use Rattle.model.specs.Calls.{Call, load, start, advance, cancel, read, refused, parts, more, finished, Phase}
+use Rattle.formats.specs.Inputs.{Inputs, inputsOf, sameNodeInputs, usedNodeTable, namesSizes, nodeTableBuilt, statesBelow}
+use Rattle.model.specs.Calls.{Call, load, start, advance, cancel, read, refused, more, finished, Phase}
 use Rattle.model.specs.Refusals.{refusal}
-use Rattle.model.specs.Model.{Record, stageOf, acted, startWith, started, stepped, advanceWith, partNext, marksBy}
+use Rattle.model.specs.Model.{Record, stageOf, acted, rootsIn, started, stepped, advanceWith, partNext, marksBy}
 use Rattle.model.specs.Model.{viewBy, proceeds, unless, act}
 use Rattle.model.specs.PartInputs.{givenOf}
-use Rattle.model.specs.LeftOpen.{StartProperties, Usable, ruleGives, AdvanceProperties}
-use Rattle.model.proofs.Facts.{SettledInputs, Handled, rootsIn}
+use Rattle.model.specs.LeftOpen.{Usable, ruleGives, AdvanceProperties}
+use Rattle.model.proofs.Facts.{SettledInputs, Handled}
 use Rattle.model.proofs.LayersHold.{layers}
-use Rattle.model.proofs.ModelLaws.{some-root, start-list, advance-fits}
+use Rattle.model.proofs.ModelLaws.{some-root, start-list, start-built, advance-fits}
 use Rattle.model.proofs.ResultLaws.{length-states}
 
 -- "a refusal alters nothing"
 pub refused-unchanged : (r : Record) (c : Call) (n : ℕ) → act r c .answer ≡ refused n → act r c .record′ ≡ r
-unfolding act unless proceeds startWith advanceWith
+unfolding act unless proceeds advanceWith
 refused-unchanged r c n = go (refusal (stageOf r) c) c
   where
-    started-keeps : (vs bs : List ℕ) (o : Option (List ℕ)) → startWith r vs bs o .answer ≡ refused n → startWith r vs bs o .record′ ≡ r
-    started-keeps vs bs none e = refl
-    started-keeps vs bs (some l) e = absurd (let z : _≡_ {A = ℕ} 0 1 = cc in omega arith)
-
     either : (b : Bool) (f g : Record) → cond b (acted finished f) (acted more g) .answer
         ≡ refused n → cond b (acted finished f) (acted more g) .record′ ≡ r
     either true f g e = absurd (let z : _≡_ {A = ℕ} 0 1 = cc in omega arith)
@@ -65,83 +53,22 @@ refused-unchanged r c n = go (refusal (stageOf r) c) c
     go : (k : ℕ) (c : Call) → unless k r c .answer ≡ refused n → unless k r c .record′ ≡ r
     go (suc k) c e = refl
     go zero (load x) e = absurd (let z : _≡_ {A = ℕ} 0 1 = cc in omega arith)
-    go zero (start x vs bs) e = started-keeps vs bs (rootsOn (r .sizes .n) (usedNodeTable (r .sizes) x) vs) e
+    go zero (start x vs bs) e = absurd (let z : _≡_ {A = ℕ} 0 1 = cc in omega arith)
     go zero (advance x) e = advanced-keeps x (partNext r x) e
     go zero cancel e = absurd (let z : _≡_ {A = ℕ} 0 1 = cc in omega arith)
     go zero read e = refl
 
--- 18 is none of the numbers of the checks
-start-numbers : (a b c d e f : Bool)
-    → firstNo (check 1 a ∷ check 17 b ∷ check 12 c ∷ check 13 d ∷ check 14 e ∷ check 15 f ∷ []) ≡ 18 → ⊥
-unfolding firstNo
-start-numbers false b c d e f i = omega (arith, i)
-start-numbers true false c d e f i = omega (arith, i)
-start-numbers true true false d e f i = omega (arith, i)
-start-numbers true true true false e f i = omega (arith, i)
-start-numbers true true true true false f i = omega (arith, i)
-start-numbers true true true true true false i = omega (arith, i)
-start-numbers true true true true true true i = omega (arith, i)
-
-advance-numbers : (a b : Bool) → firstNo (check 1 a ∷ check 17 b ∷ []) ≡ 18 → ⊥
-unfolding firstNo
-advance-numbers false b i = omega (arith, i)
-advance-numbers true false i = omega (arith, i)
-advance-numbers true true i = omega (arith, i)
-
 -- ---- Start
 
-module _ (r : Record) (x : Inputs) (vs bs : List ℕ) where
-  abbrev R : Option (List ℕ)
-  R = rootsOn (r .sizes .n) (usedNodeTable (r .sizes) x) vs
-
-  listed : refusal (stageOf r) (start x vs bs) ≡ 0 → ListPasses (r .sizes .n) (r .sizes .k) vs bs
-  listed e = list-passes (r .sizes .n) (r .sizes .k) vs bs (start-list (stageOf r) x vs bs e)
-
-  -- the roots that were found, o, are those of the definition
-  found : refusal (stageOf r) (start x vs bs) ≡ 0 → 0 < r .sizes .n → (o : Option (List ℕ)) → R ≡ o
-      → StartProperties r x vs bs (startWith r vs bs o .answer) (startWith r vs bs o .record′)
-  unfolding startWith started
-  found e h none q = record {
-    few = λ p w. absurd (let z : _≡_ {A = ℕ} 0 1 = cc in omega arith);
-    out-of-range = λ w. roots-out-of-range (r .sizes .n) (usedNodeTable (r .sizes) x) vs h (listed e .nodes-below) q;
-    built = λ f l. absurd (none-some (sym q ∙ layers .roots-built (r .sizes) x vs l (listed e .nodes-below)));
-  }
-  found e h (some l) q = record {
-    few = λ p w. (let i : length l ≡ p = cc in i, rootsOn-are (r .sizes .n) (usedNodeTable (r .sizes) x) vs l h (listed e .nodes-below) q);
-    out-of-range = λ w. absurd (let z : _≡_ {A = ℕ} 0 1 = cc in omega arith);
-    built = λ f b.
-        let i : l ≡ roots (planTree (x .plan)) vs =
-        Option·some-injective l (roots (planTree (x .plan)) vs) (sym q ∙ layers .roots-built (r .sizes) x vs b (listed e .nodes-below)) in
-        (ap (λ (m : List ℕ). parts (length m)) i, i);
-  }
-
-  start-not-18 : refusal (stageOf r) (start x vs bs) ≡ 18 → ⊥
-  unfolding refusal listChecks
-  start-not-18 i = start-numbers _ _ _ _ _ _ i
-
-  pub start-properties : (refusal (stageOf r) (start x vs bs) ≡ 0 → 0 < r .sizes .n)
-      → StartProperties r x vs bs (act r (start x vs bs) .answer) (act r (start x vs bs) .record′)
-  unfolding act unless proceeds
-  start-properties h = go (refusal (stageOf r) (start x vs bs)) refl
-    where
-      go : (n : ℕ) → refusal (stageOf r) (start x vs bs) ≡ n
-          → StartProperties r x vs bs (unless n r (start x vs bs) .answer) (unless n r (start x vs bs) .record′)
-      go zero e = found e (h e) R refl
-      go (suc n) e = record {
-        few = λ p w. absurd (let z : _≡_ {A = ℕ} 0 1 = cc in omega arith);
-        out-of-range = λ w. absurd (start-not-18 (e ∙ (let z : suc n ≡ 18 = cc in z)));
-        built = λ f l. absurd (omega (arith, f, e));
-      }
-
--- after a Start on a node table as built, tables with any bytes below S are usable: the premise of `rule` can be met
-pub start-usable : (r : Record) (x : Inputs) (vs bs : List ℕ) → refusal (stageOf r) (start x vs bs) ≡ 0
-    → nodeTableBuilt (r .sizes) x ≡ true → statesBelow (r .sizes) x ≡ true → Usable (act r (start x vs bs) .record′) x []
-unfolding act unless proceeds startWith started allBelow
-start-usable r x vs bs e l b =
-    let found = layers .roots-built (r .sizes) x vs l (listed r x vs bs e .nodes-below) in
-    rw (e, found)
+-- after an accepted Start, the same plan, rules and node table with any bytes below S are usable: the premise of `rule` can be met
+pub start-usable : (r : Record) (x : Inputs) (vs bs other : List ℕ) → refusal (stageOf r) (start x vs bs) ≡ 0
+    → statesBelow (r .sizes) (inputsOf (x .plan) (x .rules) (x .nodeTable) other) ≡ true
+    → Usable (act r (start x vs bs) .record′) (inputsOf (x .plan) (x .rules) (x .nodeTable) other) []
+unfolding act unless proceeds started allBelow nodeTableBuilt namesSizes
+start-usable r x vs bs other e b =
+    rw e
     (record {
-      nodeTable = l;
+      nodeTable = start-built (stageOf r) x vs bs e;
       stateTable = b;
       listed = start-list (stageOf r) x vs bs e;
       ready = refl;
@@ -152,6 +79,13 @@ start-usable r x vs bs e l b =
     })
 
 -- ---- advance
+
+-- 18 is none of the numbers of the checks
+advance-numbers : (a b : Bool) → firstNo (check 1 a ∷ check 17 b ∷ []) ≡ 18 → ⊥
+unfolding firstNo
+advance-numbers false b i = omega (arith, i)
+advance-numbers true false i = omega (arith, i)
+advance-numbers true true i = omega (arith, i)
 
 module _ (r : Record) (x : Inputs) where
   -- on usable tables the part that comes next is the rule's

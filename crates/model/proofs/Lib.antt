@@ -2,5 +2,6 @@ pub mod ModelLaws
 pub mod ResultLaws
 pub mod Facts
 pub mod LayersHold
+pub mod SoundLaws
 pub mod LeftOpenLaws
 pub mod Refinement

@@ -1,6 +1,7 @@
 -- What a call that no check refuses has, and what the calls read of the inputs.
 --     load-running     Load is refused with 1 while a question runs
---     start-list       a Start that no check refuses has a list that passes 12 to 15
+--     before-numbered, start-before    Start's checks before 18
+--     start-list, start-sound, start-built    a Start that no check refuses has a list that passes 12 to 15, and sound inputs
 --     advance-fits     an advance that no check refuses has room: check 17
 --     some-root        there is always a part: the plan's root
 --     marks-built      the accept marks by the record's S and K are the rule table's
@@ -17,15 +18,16 @@ use Rattle.list_laws.specs.Tests.{holds}
 use Rattle.formats.specs.Plan.{planTree}
 use Rattle.formats.specs.Rules.{ruleMarks}
 use Rattle.formats.specs.Checks.{check, firstNo, listChecks}
-use Rattle.formats.specs.Inputs.{Inputs, Sizes, fits}
-use Rattle.formats.proofs.CheckLaws.{firstNo-head, firstNo-tail}
+use Rattle.formats.specs.Inputs.{Inputs, Sizes, fits, nodeTableBuilt, stateTableBuilt, sound}
+use Rattle.list_laws.proofs.BoolLaws.{and-left}
+use Rattle.formats.proofs.CheckLaws.{Numbered, firstNo-head, firstNo-tail, firstNo-append-left, firstNo-append-right}
+use Rattle.formats.proofs.InputLaws.{list-numbered}
 use Rattle.formats.proofs.InputsLaws.{Built}
 use Rattle.ready.specs.Members.{roots}
 use Rattle.ready.proofs.ListLaws.{list-last}
 use Rattle.model.specs.Calls.{load, start, advance, Phase, mayLoad, mayStart, isRunning}
-use Rattle.model.specs.Refusals.{Stage, stage, refusal}
-use Rattle.model.specs.Model.{marksBy}
-use Rattle.model.proofs.Facts.{rootsIn}
+use Rattle.model.specs.Refusals.{Stage, stage, checksBefore18, refusal}
+use Rattle.model.specs.Model.{rootsIn, marksBy}
 use Rattle.model.proofs.ResultLaws.{length-more}
 
 -- "Load is allowed unless running"
@@ -33,13 +35,29 @@ pub load-running : (z : Sizes) (x : Inputs) → refusal (stage Phase.running z) 
 unfolding refusal firstNo mayLoad
 load-running z x = refl
 
-pub start-list : (t : Stage) (x : Inputs) (vs bs : List ℕ) → refusal t (start x vs bs) ≡ 0
-    → firstNo (listChecks (t .sizes .n) (t .sizes .k) vs bs) ≡ 0
-unfolding refusal
-start-list t x vs bs e =
-    let list = listChecks (t .sizes .n) (t .sizes .k) vs bs in
-    firstNo-tail 17 (fits (t .sizes) x) list (omega arith)
-    (firstNo-tail 1 (mayStart (t .phase)) (check 17 (fits (t .sizes) x) ∷ list) (omega arith) e)
+module _ (t : Stage) (x : Inputs) (vs bs : List ℕ) where
+  pub before-numbered : Numbered (checksBefore18 t x vs bs)
+  before-numbered = (omega arith, (omega arith, list-numbered (t .sizes .n) (t .sizes .k) vs bs))
+
+  pub start-before : refusal t (start x vs bs) ≡ 0 → firstNo (checksBefore18 t x vs bs) ≡ 0
+  unfolding refusal
+  start-before e = firstNo-append-left (checksBefore18 t x vs bs) _ before-numbered e
+
+  pub start-list : refusal t (start x vs bs) ≡ 0 → firstNo (listChecks (t .sizes .n) (t .sizes .k) vs bs) ≡ 0
+  start-list e =
+      let list = listChecks (t .sizes .n) (t .sizes .k) vs bs in
+      firstNo-tail 17 (fits (t .sizes) x) list (omega arith)
+      (firstNo-tail 1 (mayStart (t .phase)) (check 17 (fits (t .sizes) x) ∷ list) (omega arith) (start-before e))
+
+  pub start-sound : refusal t (start x vs bs) ≡ 0 → sound (t .sizes) x ≡ true
+  unfolding refusal
+  start-sound e =
+      firstNo-head 18 (sound (t .sizes) x) [] (omega arith)
+      (firstNo-append-right (checksBefore18 t x vs bs) (check 18 (sound (t .sizes) x) ∷ []) before-numbered e)
+
+  pub start-built : refusal t (start x vs bs) ≡ 0 → nodeTableBuilt (t .sizes) x ≡ true
+  unfolding sound
+  start-built e = and-left (nodeTableBuilt (t .sizes) x) (stateTableBuilt (t .sizes) x) (start-sound e)
 
 pub advance-fits : (t : Stage) (x : Inputs) → refusal t (advance x) ≡ 0 → fits (t .sizes) x ≡ true
 unfolding refusal

@@ -1,14 +1,11 @@
--- What holds of a Start and an advance whatever their inputs: the properties of what document 01 leaves to the program.
+-- What holds of an advance whatever its inputs: the properties of what document 01 leaves to the program.
 --
--- StartProperties r x vs bs a r′ == of Start's answer a and record r′: roots that rise to the plan's root and are few; 18 only where a
---   value of the node table leads out of range (01: leads outside the plan, or does not rise); on a node table as built the ready set,
---   never 18
 -- Usable r x ps == "plan and rules name the record's N, S and K and, like the 16-bit numbers, are .. as built, but run states and maps
 --   are any bytes below S"; the record's roots are the plan's, and ps the parts handled so far
 -- ruleGives r x ps == the state and links that the rule of document 01 gives for the next part
 -- AdvanceProperties r x a r′ == of an advance's: one state more, below S, and the links of one climb; 18 only where a value leads out of
 --   range; on usable tables the rule's, never 18
--- LeftOpen r c a r′ == of a call's; Load, Cancel and Read leave nothing to the program
+-- LeftOpen r c a r′ == of a call's; the others leave nothing to the program
 --
 -- Assumes nothing.
 use Prim.Native.Nat.{ℕ, _+_, _≤_, _<_}
@@ -20,30 +17,21 @@ use lib.ListN.{length, getD, take}
 use Rattle.list_laws.specs.Tests.{allBelow}
 use Rattle.formats.specs.Plan.{planTree}
 use Rattle.formats.specs.Checks.{firstNo, listChecks}
-use Rattle.node_tables.specs.OutOfRange.{NodeTableOutOfRange}
-use Rattle.ready.specs.Members.{roots}
 use Rattle.ready.specs.Parts.{Part, nodesOf, statesOf, partState, partLinks}
 use Rattle.tables.specs.declared.answers.Reached.{Reached}
 use Rattle.tables.specs.Climbs.{reached}
 use Rattle.questions.specs.OutOfRange.{PartOutOfRange}
-use Rattle.questions.specs.Promises.{RootsAre}
-use Rattle.formats.specs.Inputs.{Inputs, usedNodeTable, nodeTableBuilt, statesBelow}
-use Rattle.model.specs.Calls.{Call, load, start, advance, cancel, read, Answer, refused, parts, isRefused}
+use Rattle.formats.specs.Inputs.{Inputs, nodeTableBuilt, statesBelow}
+use Rattle.model.specs.Calls.{Call, load, start, advance, cancel, read, Answer, refused, isRefused}
 use Rattle.model.specs.Refusals.{refusal}
-use Rattle.model.specs.Model.{Record, stageOf, advanceWith, viewBy}
+use Rattle.model.specs.Model.{Record, stageOf, rootsIn, advanceWith, viewBy}
 use Rattle.model.specs.PartInputs.{givenOf}
-
-pub record StartProperties (r : Record) (x : Inputs) (vs bs : List ℕ) (a : Answer) (r′ : Record) : Type 0 where
-  pub few : (p : ℕ) → a ≡ parts p → (length (r′ .roots) ≡ p) × RootsAre (r .sizes .n) (length vs) (r′ .roots)
-  pub out-of-range : a ≡ refused 18 → NodeTableOutOfRange (r .sizes .n) (usedNodeTable (r .sizes) x)
-  pub built : refusal (stageOf r) (start x vs bs) ≡ 0 → nodeTableBuilt (r .sizes) x ≡ true
-      → (a ≡ parts (length (roots (planTree (x .plan)) vs))) × (r′ .roots ≡ roots (planTree (x .plan)) vs)
 
 pub record Usable (r : Record) (x : Inputs) (ps : List Part) : Type 0 where
   pub nodeTable : nodeTableBuilt (r .sizes) x ≡ true
   pub stateTable : statesBelow (r .sizes) x ≡ true
   pub listed : firstNo (listChecks (r .sizes .n) (r .sizes .k) (r .nodes) (r .labels)) ≡ 0
-  pub ready : r .roots ≡ roots (planTree (x .plan)) (r .nodes)
+  pub ready : r .roots ≡ rootsIn x (r .nodes)
   pub before : nodesOf ps ≡ take (length (r .states)) (r .roots)
   pub states : statesOf ps ≡ r .states
   pub below : allBelow (r .sizes .s) (r .states) ≡ true
@@ -64,7 +52,7 @@ pub record AdvanceProperties (r : Record) (x : Inputs) (a : Answer) (r′ : Reco
 
 abbrev pub LeftOpen : Record → Call → Answer → Record → Type 0
 LeftOpen r (load x) a r′ = Unit {0}
-LeftOpen r (start x vs bs) a r′ = StartProperties r x vs bs a r′
+LeftOpen r (start x vs bs) a r′ = Unit {0}
 LeftOpen r (advance x) a r′ = AdvanceProperties r x a r′
 LeftOpen r cancel a r′ = Unit {0}
 LeftOpen r read a r′ = Unit {0}

@@ -1,5 +1,6 @@
 pub mod Calls
 pub mod Refusals
+pub mod Sound
 pub mod Model
 pub mod PartInputs
 pub mod LeftOpen

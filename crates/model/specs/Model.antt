@@ -2,11 +2,12 @@
 --
 -- Record == document 01's session record
 -- freshRecord == that of a fresh session; loadedRecord z == that after a first Load
+-- rootsIn x vs == the roots of the parts of the list vs, on the plan of the inputs x, rising
 -- stageOf r == its stage, as the refusals ask for it
 -- act r c == a call on a record: the answer and the record then
 -- Does r c a r′ == the same as a relation
 --
--- What is left to the program goes by the definitions of the questions layer: rootsOn and partOn; 18 where they give none.
+-- What an advance leaves to the program goes by a definition of the questions layer: partOn; 18 where it gives none.
 -- Assumes nothing.
 use Prim.Native.Nat.{ℕ, zero, suc, _+_, _*_}
 use mathlib.Core.Path.{_≡_}
@@ -15,9 +16,10 @@ use mathlib.Core.List.{List, [], _∷_, _++_}
 use mathlib.Core.Option.{Option, none, some}
 use lib.Dec.{eqb}
 use lib.ListN.{length, getD, take, drop}
+use Rattle.formats.specs.Plan.{planTree}
+use Rattle.ready.specs.Members.{roots}
 use Rattle.tables.specs.declared.answers.Reached.{Reached}
 use Rattle.tables.specs.Climbs.{View, viewOf}
-use Rattle.questions.specs.Roots.{rootsOn}
 use Rattle.questions.specs.Part.{partOn}
 use Rattle.formats.specs.Inputs.{Inputs, Sizes, sizesIn, usedNodeTable, usedStateTable}
 use Rattle.model.specs.Calls.{Call, load, start, advance, cancel, read, Answer, refused, parts, more, finished}
@@ -67,13 +69,12 @@ marksBy z x = take (z .s) (drop (20 + z .k + z .s * z .k * z .s) (x .rules))
 
 -- ---- Start: "running", no part state, no link
 
+abbrev pub rootsIn : Inputs → List ℕ → List ℕ
+rootsIn x vs = roots (planTree (x .plan)) vs
+
 unfoldable pub started : Sizes → List ℕ → List ℕ → List ℕ → Record
 started z vs bs rs =
     record { phase = Phase.running; sizes = z; nodes = vs; labels = bs; roots = rs; states = []; links = 0; yes = false }
-
-unfoldable pub startWith : Record → List ℕ → List ℕ → Option (List ℕ) → Acted
-startWith r vs bs none = acted (refused 18) r
-startWith r vs bs (some rs) = acted (parts (length rs)) (started (r .sizes) vs bs rs)
 
 -- ---- advance: one more part state, and its links
 
@@ -116,7 +117,7 @@ outcomeOf r =
 
 unfoldable pub proceeds : Record → Call → Acted
 proceeds r (load x) = acted Answer.accepted (loadedRecord (sizesIn x))
-proceeds r (start x vs bs) = startWith r vs bs (rootsOn (r .sizes .n) (usedNodeTable (r .sizes) x) vs)
+proceeds r (start x vs bs) = acted (parts (length (rootsIn x vs))) (started (r .sizes) vs bs (rootsIn x vs))
 proceeds r (advance x) = advanceWith r x (partNext r x)
 proceeds r cancel = acted Answer.accepted (loadedRecord (r .sizes))
 proceeds r read = acted (outcomeOf r) r

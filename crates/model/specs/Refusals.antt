@@ -1,15 +1,16 @@
--- The refusal of each session call, 18 apart: "The first no gives its number".
+-- The refusal of each session call, an advance's 18 apart: "The first no gives its number".
 --
 -- Stage == what the checks ask of a session: which state it is in, and the N, S and K of the last accepted Load
+-- checksBefore18 t x vs bs == Start's checks but the last; startChecks t x vs bs == all of them
 -- refusal t c == the number of the first failing check of call c at stage t; 0 where none fails. It looks at the stage and the inputs
 --   alone, so the reference model and the calls share it
 --
 -- Assumes nothing.
 use Prim.Native.Nat.{ℕ}
-use mathlib.Core.List.{List, [], _∷_}
+use mathlib.Core.List.{List, [], _∷_, _++_}
 use lib.ListN.{length}
 use Rattle.formats.specs.Checks.{Check, check, firstNo, buildChecks, listChecks}
-use Rattle.formats.specs.Inputs.{Sizes, Inputs, fits}
+use Rattle.formats.specs.Inputs.{Sizes, Inputs, fits, sound}
 use Rattle.model.specs.Calls.{Call, load, start, advance, cancel, read, Phase, mayLoad, mayStart, isRunning}
 use Rattle.model.specs.Calls.{isAnswered}
 
@@ -26,9 +27,14 @@ loadChecks t x =
     check 1 (mayLoad (t .phase)) ∷ buildChecks (x .plan) (x .rules) (length (x .nodeTable)) (length (x .stateTable))
 
 -- "Start: .. 17; .. 12; .. 13; .. 14; .. 15"
-abbrev pub startChecks : Stage → Inputs → List ℕ → List ℕ → List Check
-startChecks t x vs bs =
+abbrev pub checksBefore18 : Stage → Inputs → List ℕ → List ℕ → List Check
+checksBefore18 t x vs bs =
     check 1 (mayStart (t .phase)) ∷ check 17 (fits (t .sizes) x) ∷ listChecks (t .sizes .n) (t .sizes .k) vs bs
+
+-- "Start shall make the full check of what is lent, and give 18 at its old place exactly when the tables aren't what the build writes
+-- from that plan and those rules, or when these no longer pass 2 to 10 or name another N, S or K than the record."
+abbrev pub startChecks : Stage → Inputs → List ℕ → List ℕ → List Check
+startChecks t x vs bs = checksBefore18 t x vs bs ++ (check 18 (sound (t .sizes) x) ∷ [])
 
 unfoldable pub refusal : Stage → Call → ℕ
 refusal t (load x) = firstNo (loadChecks t x)

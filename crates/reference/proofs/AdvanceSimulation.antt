@@ -2,7 +2,7 @@
 --     parted-more      one more part, whatever its state below S
 --     on-advance       what advance tells conforms, and record and reference model stay related
 -- Assumes nothing.
-use Prim.Native.Nat.{ℕ, suc, _+_, _<_}
+use Prim.Native.Nat.{ℕ, suc, _+_, _-_, _<_}
 use mathlib.Core.Path.{_≡_, refl, sym, ap, ap₂, _∙_, subst}
 use mathlib.Core.Bool.{Bool, true, false, cond, not, _&&_}
 use mathlib.Core.List.{List, [], _∷_, _++_}
@@ -18,17 +18,18 @@ use Rattle.formats.specs.Rules.{ruleAutomaton}
 use Rattle.formats.specs.Checks.{check, firstNo}
 use Rattle.list_laws.proofs.BoolLaws.{true-false, and-both, and-left, and-right}
 use Rattle.formats.proofs.CheckLaws.{firstNo-head, firstNo-tail}
-use Rattle.list_laws.proofs.TestLaws.{allBelow-at}
 use Rattle.tables.specs.declared.answers.Reached.{Reached}
 use Rattle.ready.specs.Parts.{Given, Part, part, partOf, partsFrom, statesOf}
 use Rattle.ready.proofs.PartsRun.{nodes-more}
 use Rattle.questions.specs.Part.{partOn}
 use Rattle.questions.specs.OutOfRange.{PartOutOfRange}
+use Rattle.questions.specs.Rising.{AllBelow}
+use Rattle.questions.proofs.PlaceLaws.{to-below, below-entry}
 use Rattle.questions.proofs.PartRange.{part-out-of-range}
 use Rattle.questions.proofs.PartBounds.{part-bounded}
 use Rattle.trees.proofs.MoveLaws.{none-some}
 use Rattle.ready.proofs.PartsRun.{nodes-more}
-use Rattle.formats.specs.Inputs.{Inputs, Sizes, fits, sameNodeInputs, sameInputs, nodeTableBuilt, statesBelow}
+use Rattle.formats.specs.Inputs.{Inputs, Sizes, fits, sameNodeInputs, sameInputs, statesBelow}
 use Rattle.model.specs.Calls.{advance, more, finished, Phase, isRunning}
 use Rattle.model.specs.Refusals.{stage, refusal}
 use Rattle.model.specs.PartInputs.{givenOf}
@@ -41,37 +42,29 @@ use Rattle.model.proofs.ModelLaws.{advance-fits, marks-built}
 use Rattle.model.proofs.Facts.{reachedBy, nextRoot, Layers}
 use Rattle.model.proofs.ResultLaws.{length-states, states-more, length-more, last-more, links-more, below-more}
 use Rattle.model.proofs.ResultLaws.{from-more}
-use Rattle.formats.proofs.InputsLaws.{Built, Same, node-table-built, same-node-inputs, same-inputs-nodes}
+use Rattle.formats.proofs.InputLaws.{list-passes}
+use Rattle.formats.proofs.InputsLaws.{Built, Same, plan-of, node-table-built, same-node-inputs, same-inputs-nodes}
 use Rattle.formats.proofs.InputsLaws.{same-state-table}
 use Rattle.reference.proofs.FreshLaws.{part-state, given-same, sound-below}
 use Rattle.reference.proofs.CauseLaws.{advance-cause}
 use Rattle.reference.proofs.Relation.{Parted, Counted, Cleanly, SomeParted, SettledAs, Unended, Marked, Ended}
-use Rattle.reference.proofs.Relation.{Asking, Rel}
+use Rattle.reference.proofs.Relation.{Rel}
 use Rattle.reference.proofs.Simulation.{Sim, referenceOf, Simulates, some-number, by-refusal, does}
 
 -- ---- other bytes
 
 module _ (z : Sizes) (q : Question) (x : Inputs) where
-  pub other-built : otherStates z q x ≡ true → nodeTableBuilt z (q .inputs) ≡ true
+  other-same : otherStates z q x ≡ true → sameNodeInputs z (q .inputs) x ≡ true
   unfolding otherStates
-  other-built e = and-left (nodeTableBuilt z (q .inputs)) (sameNodeInputs z (q .inputs) x && statesBelow z x) e
+  other-same e = and-left (sameNodeInputs z (q .inputs) x) (statesBelow z x) e
 
-  pub other-same : otherStates z q x ≡ true → sameNodeInputs z (q .inputs) x ≡ true
+  other-below : otherStates z q x ≡ true → statesBelow z x ≡ true
   unfolding otherStates
-  other-same e = and-left (sameNodeInputs z (q .inputs) x) (statesBelow z x)
-      (and-right (nodeTableBuilt z (q .inputs)) (sameNodeInputs z (q .inputs) x && statesBelow z x) e)
+  other-below e = and-right (sameNodeInputs z (q .inputs) x) (statesBelow z x) e
 
-  pub other-below : otherStates z q x ≡ true → statesBelow z x ≡ true
+  is-other : sameNodeInputs z (q .inputs) x ≡ true → statesBelow z x ≡ true → otherStates z q x ≡ true
   unfolding otherStates
-  other-below e = and-right (sameNodeInputs z (q .inputs) x) (statesBelow z x)
-      (and-right (nodeTableBuilt z (q .inputs)) (sameNodeInputs z (q .inputs) x && statesBelow z x) e)
-
-  pub is-other : nodeTableBuilt z (q .inputs) ≡ true → sameNodeInputs z (q .inputs) x ≡ true → statesBelow z x ≡ true
-      → otherStates z q x ≡ true
-  unfolding otherStates
-  is-other a b c =
-      and-both (nodeTableBuilt z (q .inputs)) (sameNodeInputs z (q .inputs) x && statesBelow z x) a
-      (and-both (sameNodeInputs z (q .inputs) x) (statesBelow z x) b c)
+  is-other b c = and-both (sameNodeInputs z (q .inputs) x) (statesBelow z x) b c
 
 -- ---- the next part
 
@@ -97,7 +90,7 @@ module _ (r : Record) (z : Sizes) (q : Question) (x : Inputs) (sizes : r .sizes 
       (getD (rootsOf q) n 0)) (length-states ps)
       ∙ L .part-built z (q .inputs) (q .nodes) (q .labels) x ps
       (record {
-        built = other-built z q x o;
+        built = p .built;
         same = other-same z q x o;
         below = other-below z q x o;
         room = f;
@@ -117,6 +110,7 @@ pub parted-more : (r : Record) (z : Sizes) (q : Question) (ps : List Part) → P
     → Parted (stepped r f y m) z (advanced q k tr) (ps ++ (part (nextRoot (rootsOf q) ps) (y .state) (y .links) ∷ []))
 unfolding stepped advanced
 parted-more r z q ps p l y b f m k tr = record {
+  built = p .built;
   nodes = p .nodes;
   labels = p .labels;
   roots = p .roots;
@@ -151,10 +145,9 @@ module _ (L : Layers) (r : Record) (z : Sizes) (q : Question) (x : Inputs) (i : 
       → Counted (stepped r f (reachedBy rule) m) z (onward k)
   unfolding stepped advanced longer partOf
   counted-next c l f m k = record {
-    built = c .built;
     parted =
         parted-more r z q (q .results) (c .parted) l (reachedBy rule)
-        (part-state z q (node-table-built z (q .inputs) (c .built)) x (q .results) (nextRoot (rootsOf q) (q .results)))
+        (part-state z q (node-table-built z (q .inputs) (c .parted .built)) x (q .results) (nextRoot (rootsOf q) (q .results)))
         f m k (longer z q x);
     links = ap (λ (n : ℕ). n + rule .links) (c .links) ∙ sym (links-more (q .results) rule);
     count = ap suc (c .count) ∙ sym (length-more (q .results) rule);
@@ -162,43 +155,37 @@ module _ (L : Layers) (r : Record) (z : Sizes) (q : Question) (x : Inputs) (i : 
 
   -- a part is left unless this was the last
   unended-next : (y : Reached) (f : Phase) (m : Bool) (k : Settlement) (tr : List Part)
-      → eqb (suc (length (r .states))) (length (r .roots)) ≡ false
-      → (nodeTableBuilt z (q .inputs) ≡ true → r .roots ≡ rootsOf q) → Unended (stepped r f y m) z (advanced q k tr)
+      → eqb (suc (length (r .states))) (length (r .roots)) ≡ false → r .roots ≡ rootsOf q
+      → Unended (stepped r f y m) (advanced q k tr)
   unfolding stepped advanced
-  unended-next y f m k tr e roots h =
+  unended-next y f m k tr e roots =
       let n : suc (length (r .states)) ≡ length (r .roots)
       → ⊥ = eqb-false (suc (length (r .states))) (length (r .roots)) e in
-      let d : length (r .roots) ≡ partCount q = ap length (roots h) in
-      rw (length-more (r .states) (y .state)) (let b : length (r .states) < partCount q = i .holds .1 h in
+      let d : length (r .roots) ≡ partCount q = ap length roots in
+      rw (length-more (r .states) (y .state)) (let b : length (r .states) < partCount q = i .holds .1 in
       omega (arith, n, d, b))
 
-  asked : Asking r z q
-  asked = i .asks .1
+  -- the roots of the parts are nodes
+  root-inside : (ps : List Part) → Parted r z q ps → getD (r .roots) (length (r .states)) 0 < z .n
+  root-inside ps p =
+      let B : Built z (q .inputs) = node-table-built z (q .inputs) (p .built) in
+      let least : z .n - 1 + 1 ≡ z .n = omega (arith, B .n-is, plan-of z (q .inputs) B .least) in
+      let R = L .roots-are z (q .inputs) (q .nodes) (p .built) (list-passes (z .n) (z .k) (q .nodes) (q .labels) (p .listed) .nodes-below) in
+      rw (p .roots)
+      (below-entry (z .n) (rootsOf q)
+      (subst (λ (n : ℕ). AllBelow n (rootsOf q)) least (to-below (z .n - 1) (rootsOf q) (R .to))) (length (r .states)) (i .holds .1))
 
-  asking-next : (y : Reached) → y .state < z .s → eqb (suc (length (r .states))) (length (r .roots)) ≡ false
-      → (k : Settlement) (tr : List Part) → Asking (stepped r Phase.running y false) z (advanced q k tr)
-  unfolding stepped advanced
-  asking-next y b e k tr =
-      let n : suc (length (r .states)) ≡ length (r .roots)
-      → ⊥ = eqb-false (suc (length (r .states))) (length (r .roots)) e in
-      record {
-        nodes = asked .nodes;
-        labels = asked .labels;
-        roots = asked .roots;
-        next = rw (length-more (r .states) (y .state)) (omega (arith, n, asked .next));
-        states = below-more (z .s) (r .states) (y .state) (asked .states) b;
-      }
+  states-low : (ps : List Part) → Parted r z q ps → allBelow (z .s) (r .states) ≡ true
+  states-low ps p = ap (allBelow (z .s)) (p .states) ∙ p .handled .states
 
   -- 18 has a cause
-  cause-of : partNext r x ≡ none → PartOutOfRange (viewBy z x) (r .states) (q .nodes) (q .labels)
-  cause-of e =
+  cause-of : (ps : List Part) → Parted r z q ps → partNext r x ≡ none → PartOutOfRange (viewBy z x) (r .states) (q .nodes) (q .labels)
+  cause-of ps p e =
       let v : ℕ = getD (r .roots) (length (r .states)) 0 in
-      let inside : v < r .sizes .n =
-      subst (λ (y : Sizes). v < y .n) (sym (i .sizes))
-      (allBelow-at (z .n) (r .roots) (length (r .states)) (asked .roots) (asked .next)) in
+      let inside : v < r .sizes .n = subst (λ (y : Sizes). v < y .n) (sym (i .sizes)) (root-inside ps p) in
       subst (λ (y : Sizes). PartOutOfRange (viewBy y x) (r .states) (q .nodes) (q .labels)) (i .sizes)
-      (subst (λ (l : List ℕ). PartOutOfRange (viewBy (r .sizes) x) (r .states) l (q .labels)) (asked .nodes)
-      (subst (λ (l : List ℕ). PartOutOfRange (viewBy (r .sizes) x) (r .states) (r .nodes) l) (asked .labels)
+      (subst (λ (l : List ℕ). PartOutOfRange (viewBy (r .sizes) x) (r .states) l (q .labels)) (p .nodes)
+      (subst (λ (l : List ℕ). PartOutOfRange (viewBy (r .sizes) x) (r .states) (r .nodes) l) (p .labels)
       (part-out-of-range (viewBy (r .sizes) x) (r .states) (r .nodes) (r .labels) (take (length (r .states)) (r .roots)) v inside e)))
 
   -- an advance that goes on as always, to settlement k
@@ -216,7 +203,7 @@ module _ (L : Layers) (r : Record) (z : Sizes) (q : Question) (x : Inputs) (i : 
     where
       left-over : length (q .results) < partCount q
       left-over =
-          let b : length (r .states) < partCount q = i .holds .1 (c .built) in
+          let b : length (r .states) < partCount q = i .holds .1 in
           let n : length (r .states) ≡ length (q .results) = ap length (c .parted .states) ∙ length-states (q .results) in
           omega (arith, b, n)
 
@@ -226,7 +213,7 @@ module _ (L : Layers) (r : Record) (z : Sizes) (q : Question) (x : Inputs) (i : 
       marked : Marked (stepped r Phase.answered (reachedBy rule) yes) (onward k)
       marked =
           let same : Same z (q .inputs) x = same-node-inputs z (q .inputs) x (other-same z q x o) in
-          let B : Built z (q .inputs) = node-table-built z (q .inputs) (c .built) in
+          let B : Built z (q .inputs) = node-table-built z (q .inputs) (c .parted .built) in
           ap (λ (w : List ℕ). eqb (getD w (rule .state) 0) 1)
           (ap (λ (y : Sizes). marksBy y x) (i .sizes) ∙ marks-built z (q .inputs) x B (same .rules))
           ∙ ap (ruleAutomaton (q .inputs .rules) .accepting) (sym (last-more (q .results) rule 0))
@@ -247,7 +234,6 @@ module _ (L : Layers) (r : Record) (z : Sizes) (q : Question) (x : Inputs) (i : 
             ends _ marked
                 (eqb-true (suc (q .count)) (partCount q) g),
           );
-          asks = i .asks .0;
         },
       )
       go false false e g h = (
@@ -257,12 +243,7 @@ module _ (L : Layers) (r : Record) (z : Sizes) (q : Question) (x : Inputs) (i : 
           sizes = i .sizes;
           holds = (
             stands _ (counted-next c left-over Phase.running false k),
-            unended-next (reachedBy rule) Phase.running false k (longer z q x) h (λ l. c .parted .roots),
-          );
-          asks = (
-            i .asks .0,
-            asking-next (reachedBy rule)
-                (part-state z q (node-table-built z (q .inputs) (c .built)) x (q .results) (nextRoot (rootsOf q) (q .results))) h k (longer z q x),
+            unended-next (reachedBy rule) Phase.running false k (longer z q x) h (c .parted .roots),
           );
         },
       )
@@ -272,33 +253,29 @@ module _ (L : Layers) (r : Record) (z : Sizes) (q : Question) (x : Inputs) (i : 
   -- left to the program, save that other bytes never get 18
   advance-by-program : SomeParted r z q → Sim (advancingByProgram (referenceOf (State.running q) z) x q) (advanceWith r x (partNext r x))
   unfolding advancingByProgram advanceWith mayAdvanceWith byAnswer advanced inState phase stepped
-  advance-by-program some-parted = go (partNext r x) refl
+  advance-by-program (ps, p) = go (partNext r x) refl
     where
-      unended : (ps : List Part) → Parted r z q ps → nodeTableBuilt z (q .inputs) ≡ true → length ps < partCount q
-      unended ps p h =
-          let b : length (r .states) < partCount q = i .holds .1 h in
+      unended : length ps < partCount q
+      unended =
+          let b : length (r .states) < partCount q = i .holds .1 in
           let n : length (r .states) ≡ length ps = ap length (p .states) ∙ length-states ps in
           omega (arith, b, n)
 
       not-other : partNext r x ≡ none → (b : Bool) → otherStates z q x ≡ b → not b ≡ true
-      not-other e true o =
-          let s = some-parted (other-built z q x o) in
-          absurd (none-some (sym e ∙ part-next r z q x (i .sizes) L (s .0) (s .1)
-          (unended (s .0) (s .1) (other-built z q x o)) o room))
+      not-other e true o = absurd (none-some (sym e ∙ part-next r z q x (i .sizes) L ps p unended o room))
       not-other e false o = refl
 
       parted : (y : Reached) (f : Phase) (m : Bool) → partNext r x ≡ some y
           → SomeParted (stepped r f y m) z (advanced q byProgram [])
-      parted y f m e h =
-          let s = some-parted h in (
-            s .0 ++ (part (nextRoot (rootsOf q) (s .0)) (y .state) (y .links) ∷ []),
-            parted-more r z q (s .0) (s .1) (unended (s .0) (s .1) h) y (part-low r z q x (i .sizes) y e) f m byProgram [],
-          )
+      parted y f m e = (
+        ps ++ (part (nextRoot (rootsOf q) ps) (y .state) (y .links) ∷ []),
+        parted-more r z q ps p unended y (part-low r z q x (i .sizes) y e) f m byProgram [],
+      )
 
       go : (y : Option Reached) → partNext r x ≡ y → Sim (advancingByProgram (referenceOf (State.running q) z) x q) (advanceWith r x y)
       go none e = (
-        advance-cause z x (q .nodes) (q .labels) (r .states) (otherStates z q x) (not-other e (otherStates z q x) refl) (asked .states)
-            (cause-of e),
+        advance-cause z x (q .nodes) (q .labels) (r .states) (otherStates z q x) (not-other e (otherStates z q x) refl) (states-low ps p)
+            (cause-of ps p e),
         i,
       )
       go (some y) e = then (eqb (suc (length (r .states))) (length (r .roots))) refl
@@ -307,26 +284,19 @@ module _ (L : Layers) (r : Record) (z : Sizes) (q : Question) (x : Inputs) (i : 
               → Sim (advancingByProgram (referenceOf (State.running q) z) x q)
               (cond b (acted finished (stepped r Phase.answered y (eqb (getD (marksBy (r .sizes) x) (y .state) 0) 1)))
               (acted more (stepped r Phase.running y false)))
-          then true g = (
-            refl,
-            record { phases = refl; sizes = i .sizes; holds = (parted y Phase.answered _ e, tt); asks = i .asks .0 },
-          )
+          then true g =
+              (refl, record { phases = refl; sizes = i .sizes; holds = (parted y Phase.answered _ e, tt) })
           then false g = (
             refl,
             record {
               phases = refl;
               sizes = i .sizes;
-              holds = (
-                parted y Phase.running false e,
-                unended-next y Phase.running false byProgram [] g
-                    (λ h. some-parted h .1 .roots),
-              );
-              asks = (i .asks .0, asking-next y (part-low r z q x (i .sizes) y e) g byProgram []);
+              holds = (parted y Phase.running false e, unended-next y Phase.running false byProgram [] g (p .roots));
             },
           )
 
   counted-some : Counted r z q → SomeParted r z q
-  counted-some c h = (q .results, c .parted)
+  counted-some c = (q .results, c .parted)
 
   advance-by-rule : Counted r z q → Sim (advancingByRule (referenceOf (State.running q) z) x q) (advanceWith r x (partNext r x))
   unfolding advancingByRule
@@ -364,7 +334,7 @@ module _ (L : Layers) (r : Record) (z : Sizes) (q : Question) (x : Inputs) (i : 
     where
       left-over : length (q .results) < partCount q
       left-over =
-          let b : length (r .states) < partCount q = i .holds .1 (s .0 .built) in
+          let b : length (r .states) < partCount q = i .holds .1 in
           let n : length (r .states) ≡ length (q .results) = ap length (s .0 .parted .states)
           ∙ length-states (q .results) in
           omega (arith, b, n)
@@ -375,8 +345,8 @@ module _ (L : Layers) (r : Record) (z : Sizes) (q : Question) (x : Inputs) (i : 
       go true e =
           let low : statesBelow z x ≡ true =
           ap (allBelow (z .s)) (sym (same-state-table z (q .inputs) x e))
-          ∙ sound-below z q (node-table-built z (q .inputs) (s .0 .built)) (s .1 .stateTable) in
-          goes-on clean (s .0) (is-other z q x (s .0 .built) (same-inputs-nodes z (q .inputs) x e) low)
+          ∙ sound-below z q (node-table-built z (q .inputs) (s .0 .parted .built)) (s .1 .stateTable) in
+          goes-on clean (s .0) (is-other z q x (same-inputs-nodes z (q .inputs) x e) low)
           (λ y d. (d, cleanly-next (s .0) (s .1) e left-over)) (λ y m n. (m, n))
       go false e = advance-by-rule (s .0)
   advance-as byRule s = advance-by-rule s

@@ -1,6 +1,6 @@
 -- A value that leads out of range is a cause for 18, as the reference model asks for one.
 --     links-cause, view-cause      of the node table, and of all that an advance reads
---     start-cause, advance-cause   so 18 is an answer that the reference model allows
+--     advance-cause                so 18 is an answer to an advance that the reference model allows
 -- Assumes nothing.
 use Prim.Native.Nat.{ℕ, _+_, _-_, _*_, _<_}
 use mathlib.Core.Path.{_≡_, refl, sym, ap, _∙_, subst}
@@ -23,11 +23,11 @@ use Rattle.list_laws.proofs.BoolLaws.{or-first, or-second}
 use Rattle.ready.proofs.ListLaws.{in-some}
 use Rattle.questions.specs.Part.{labelOn}
 use Rattle.questions.specs.OutOfRange.{PartOutOfRange, links, children, run, map, leaf, rule, handled, label, changed}
-use Rattle.formats.specs.Inputs.{Inputs, Sizes, usedNodeTable}
+use Rattle.formats.specs.Inputs.{Inputs, Sizes}
 use Rattle.model.specs.Calls.{refused}
 use Rattle.reference.specs.Causes.{isChildless, isFlat, strays, isApart, nodeTableCause, nodeCause, rulesCause, cause}
-use Rattle.reference.specs.Causes.{startCause, advanceCause}
-use Rattle.reference.specs.Reference.{mayStartWith, mayAdvanceWith}
+use Rattle.reference.specs.Causes.{advanceCause}
+use Rattle.reference.specs.Reference.{mayAdvanceWith}
 use Rattle.model.specs.Model.{viewBy}
 
 -- ---- the node table
@@ -166,10 +166,6 @@ module _ (X : View) (vs bs : List ℕ) where
       (or-second (noLabel v) (noChange v || noChild v) (or-first (noChange v) (noChild v) (le-leb (X .k) (labelOn X vs bs v) e))) refl
 
 -- ---- what the reference model allows
-
-pub start-cause : (z : Sizes) (x : Inputs) → NodeTableOutOfRange (z .n) (usedNodeTable z x) → mayStartWith (startCause z x) (refused 18) ≡ true
-unfolding mayStartWith startCause
-start-cause z x a = links-cause (z .n) (usedNodeTable z x) a
 
 pub advance-cause : (z : Sizes) (x : Inputs) (vs bs qs : List ℕ) (usable : Bool) → not usable ≡ true → allBelow (z .s) qs ≡ true
     → PartOutOfRange (viewBy z x) qs vs bs → mayAdvanceWith usable (advanceCause z x vs bs) (refused 18) ≡ true

@@ -17,7 +17,6 @@ use Rattle.trees.specs.Climb.{digits}
 use Rattle.trees.proofs.IntervalLaws.{interval-ancestor, above-at}
 use Rattle.trees.proofs.TreeClimbs.{climb-tree, climb-bound}
 use Rattle.list_laws.specs.Tests.{allBelow, holds}
-use Rattle.formats.specs.Plan.{planTree}
 use Rattle.ready.specs.Ready.{leftChild, rightChild}
 use Rattle.ready.specs.Members.{readyList, roots}
 use Rattle.ready.specs.Parts.{anyBelow, highestBelow, climbMoves, climbedLinks, innerLinks, partLinks, sumOf}
@@ -29,10 +28,9 @@ use Rattle.ready.proofs.BelowLaws.{some-below}
 use Rattle.ready.proofs.PartsRun.{Members}
 use Rattle.ready.proofs.ListLaws.{list-members}
 use Rattle.questions.specs.Promises.{RootsAre}
-use Rattle.questions.proofs.RootsLaws.{rootsOn-are}
-use Rattle.formats.specs.Inputs.{Inputs, Sizes, usedNodeTable, nodeTableBuilt}
+use Rattle.formats.specs.Inputs.{Inputs, Sizes, nodeTableBuilt}
+use Rattle.model.specs.Model.{rootsIn}
 use Rattle.model.proofs.Facts.{Layers}
-use Rattle.formats.proofs.InputsLaws.{Built, node-table-built, plan-of}
 
 -- ---- links
 
@@ -90,10 +88,7 @@ pub record Few (m p : ℕ) : Type 0 where
   pub few : 1 ≤ m → p ≤ 4 * m - 2
 
 pub ready-count : Layers → (z : Sizes) (x : Inputs) (vs : List ℕ) → nodeTableBuilt z x ≡ true → allBelow (z .n) vs ≡ true
-    → Few (length vs) (length (roots (planTree (x .plan)) vs))
+    → Few (length vs) (length (rootsIn x vs))
 ready-count L z x vs h b =
-    let B : Built z x = node-table-built z x h in
-    let some-node : 0 < z .n = omega (arith, B .n-is, plan-of z x B .least) in
-    let R : RootsAre (z .n) (length vs) (roots (planTree (x .plan)) vs) =
-    rootsOn-are (z .n) (usedNodeTable z x) vs (roots (planTree (x .plan)) vs) some-node b (L .roots-built z x vs h b) in
+    let R : RootsAre (z .n) (length vs) (rootsIn x vs) = L .roots-are z x vs h b in
     record { one = R .one; few = λ l. omega (arith, R .few (omega arith)) }

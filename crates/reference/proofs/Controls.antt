@@ -1,7 +1,7 @@
 -- Controls of demand 3 on plan A, computed: where the reference model must settle an answer, where it must leave it to the
 -- program, and wrong answers that it turns down. A premise that is too strong (excess compared, the plan tied to
 -- Load's) shows here: an answer that should be settled is left.
--- The answers are the model's (act): so that rootsOn and partOn are run too.
+-- The answers are the model's (act): so that partOn is run too.
 -- Assumes nothing.
 use Prim.Native.Nat.{ℕ}
 use mathlib.Core.Path.{_≡_, refl}
@@ -10,7 +10,7 @@ use mathlib.Core.List.{List, [], _∷_, _++_}
 use mathlib.Core.Option.{Option, none, some}
 use lib.ListN.{set, replicate}
 use Rattle.formats.specs.Built.{builtNodeTable, builtStateTable}
-use Rattle.formats.specs.Inputs.{Inputs}
+use Rattle.formats.specs.Inputs.{Inputs, inputsOf, sound}
 use Rattle.model.specs.Calls.{Call, load, start, advance, cancel, read, Answer, refused, parts, more, finished}
 use Rattle.model.specs.Calls.{outcomeAnswer}
 use Rattle.reference.specs.Reference.{newReference}
@@ -55,10 +55,13 @@ otherLabel = record { plan = set (inputsA .plan) 12 0; rules = inputsA .rules; n
 abbrev pub nothing : Inputs
 nothing = record { plan = []; rules = []; nodeTable = []; stateTable = [] }
 
--- a question that lists node 0: Load, Start x, advance y, advance w, Read
+-- a Start that lists node 0; a question of it: Load, Start x, advance y, advance w, Read
+unfoldable pub onNode : Inputs → Call
+onNode x = start x (0 ∷ []) (0 ∷ [])
+
 unfoldable pub onNode0 : Inputs → Inputs → Inputs → List Call
-unfolding loadA
-onNode0 x y w = load loadA ∷ start x (0 ∷ []) (0 ∷ []) ∷ advance y ∷ advance w ∷ read ∷ []
+unfolding loadA onNode
+onNode0 x y w = load loadA ∷ onNode x ∷ advance y ∷ advance w ∷ read ∷ []
 
 -- ---- settled
 
@@ -68,7 +71,7 @@ unfolding seen asking
 clean-list = refl
 
 -- "Plan, rules and tables are the panel's to alter or exchange": plan A was loaded and plan B is
--- asked, with a changing excess
+-- asked on its own tables, with a changing excess. Start's 18 is not tied to Load's plan
 pub exchanged-plan : seen (onNode0 (longerBy inputsB (5 ∷ [])) (longerBy inputsB (7 ∷ 8 ∷ 9 ∷ [])) inputsB)
     ≡ all (some Answer.accepted ∷ some (parts 2) ∷ some more ∷ some finished ∷ some (outcomeAnswer 1 true 2 2) ∷ [])
 unfolding seen onNode0 inputsA inputsB
@@ -96,14 +99,49 @@ pub other-states : seen (onNode0 inputsA inputsA (otherState 1 1))
 unfolding seen onNode0 inputsA otherState
 other-states = refl
 
--- other bytes at Start already, below S or not: what is given to the advances decides
+-- Start's 18: bytes below S and not, numbers that lead nowhere outside and that do, another label; then the tables as built
 pub other-at-start :
-    (seen (onNode0 (otherState 1 1) (otherState 1 1) inputsA)
-    ≡ all (some Answer.accepted ∷ some (parts 2) ∷ some more ∷ some finished ∷ some (outcomeAnswer 0 false 2 1) ∷ []))
-    × (seen (onNode0 (otherState 1 2) inputsA inputsA)
-    ≡ all (some Answer.accepted ∷ some (parts 2) ∷ some more ∷ some finished ∷ some (outcomeAnswer 0 false 2 1) ∷ []))
-unfolding seen onNode0 inputsA otherState
-other-at-start = (refl, refl)
+    seen (load loadA ∷ onNode (otherState 1 1) ∷ onNode (otherState 1 2) ∷ onNode (otherState 20 0) ∷ onNode (otherNumber 1 6)
+    ∷ onNode (otherNumber 1 60000) ∷ onNode otherLabel ∷ advance inputsA ∷ onNode inputsA ∷ [])
+    ≡ all (some Answer.accepted ∷ some (refused 18) ∷ some (refused 18) ∷ some (refused 18) ∷ some (refused 18)
+    ∷ some (refused 18) ∷ some (refused 18) ∷ some (refused 1) ∷ some (parts 2) ∷ [])
+unfolding seen loadA inputsA onNode otherState otherNumber otherLabel
+other-at-start = refl
+
+-- 18 is the last of Start's checks: 17 and 12 to 15 come before it
+pub eighteen-last :
+    seen (load loadA ∷ start nothing [] [] ∷ start (otherState 1 1) (0 ∷ []) [] ∷ start (otherState 1 1) (7 ∷ []) (0 ∷ [])
+    ∷ start (otherState 1 1) (0 ∷ []) (2 ∷ []) ∷ start (otherState 1 1) (0 ∷ 0 ∷ []) (0 ∷ 1 ∷ []) ∷ start (otherState 1 1) [] [] ∷ [])
+    ≡ all (some Answer.accepted ∷ some (refused 17) ∷ some (refused 12) ∷ some (refused 13) ∷ some (refused 14)
+    ∷ some (refused 15) ∷ some (refused 18) ∷ [])
+unfolding seen loadA inputsA otherState
+eighteen-last = refl
+
+-- rules of equal length, 27 bytes, that name another S and K: S 1 and K 3 for a record of S 2 and K 1. They are sound for their own
+unfoldable pub planOne : List ℕ
+planOne = 1 ∷ 0 ∷ 0 ∷ 0 ∷ 12 ∷ 0 ∷ 0 ∷ 0 ∷ 13 ∷ 0 ∷ 0 ∷ 0 ∷ 0 ∷ 0 ∷ []
+
+unfoldable pub rulesOf21 : List ℕ
+rulesOf21 =
+    2 ∷ 0 ∷ 0 ∷ 0 ∷ 1 ∷ 0 ∷ 0 ∷ 0 ∷ 20 ∷ 0 ∷ 0 ∷ 0 ∷ 21 ∷ 0 ∷ 0 ∷ 0 ∷ 25 ∷ 0 ∷ 0 ∷ 0
+    ∷ 1 ∷ 0 ∷ 1 ∷ 1 ∷ 0 ∷ 0 ∷ 1 ∷ []
+
+unfoldable pub rulesOf13 : List ℕ
+rulesOf13 =
+    1 ∷ 0 ∷ 0 ∷ 0 ∷ 3 ∷ 0 ∷ 0 ∷ 0 ∷ 20 ∷ 0 ∷ 0 ∷ 0 ∷ 23 ∷ 0 ∷ 0 ∷ 0 ∷ 26 ∷ 0 ∷ 0 ∷ 0
+    ∷ 0 ∷ 0 ∷ 0 ∷ 0 ∷ 0 ∷ 0 ∷ 1 ∷ []
+
+-- plan and tables of one node, with an excess of one byte
+unfoldable pub ofOne : List ℕ → Inputs
+unfolding planOne computing
+ofOne rules = inputsOf planOne rules (builtNodeTable planOne) (builtStateTable planOne rules ++ (0 ∷ []))
+
+pub other-counts :
+    (seen (load (ofOne rulesOf21) ∷ start (ofOne rulesOf13) [] [] ∷ start (ofOne rulesOf21) [] [] ∷ [])
+    ≡ all (some Answer.accepted ∷ some (refused 18) ∷ some (parts 1) ∷ []))
+    × (sound (record { n = 1; s = 1; k = 3 }) (ofOne rulesOf13) ≡ true)
+unfolding seen ofOne rulesOf21 rulesOf13
+other-counts = (refl, refl)
 
 -- a call in the wrong state, a Cancel, and a Start from answered
 pub wrong-state : seen (read ∷ cancel ∷ load loadA ∷ advance inputsA ∷ start inputsA [] [] ∷ load loadA
@@ -127,18 +165,12 @@ first-no = refl
 
 -- a Start refused with 18 leaves the old question, still clean. Number 13 is node 3's jump
 pub refused-start : seen (asking [] [] 1 ++ (start (otherNumber 13 60000) (0 ∷ 3 ∷ []) (0 ∷ 0 ∷ []) ∷ read ∷ []))
-    ≡ all (some Answer.accepted ∷ some (parts 1) ∷ some finished ∷ some (outcomeAnswer 1 true 1 0) ∷ none
-    ∷ some (outcomeAnswer 1 true 1 0) ∷ [])
+    ≡ all (some Answer.accepted ∷ some (parts 1) ∷ some finished ∷ some (outcomeAnswer 1 true 1 0)
+    ∷ some (refused 18) ∷ some (outcomeAnswer 1 true 1 0) ∷ [])
 unfolding seen asking otherNumber loadA inputsA
 refused-start = refl
 
 -- ---- left to the program, and agreed
-
--- Start on other numbers: its acceptance and the whole question
-pub unsettled-start : seen (onNode0 (otherNumber 1 6) inputsA inputsA)
-    ≡ all (some Answer.accepted ∷ none ∷ none ∷ none ∷ none ∷ [])
-unfolding seen onNode0 inputsA otherNumber
-unsettled-start = refl
 
 -- an accepted advance on other numbers, or on another plan: unclean from then on, its Read too
 pub unsettled-advance :
@@ -163,7 +195,7 @@ judged xs = agreed newReference (onNode0 inputsA inputsA inputsA) xs
 
 -- the answers; a state, links, parts that are not so; finished told early; 18 on sound inputs; a Load turned
 -- down; an answer missing
-pub iterated-down :
+pub turned-down :
     judged (Answer.accepted ∷ parts 2 ∷ more ∷ finished ∷ outcomeAnswer 0 false 2 1 ∷ [])
     ∷ judged (Answer.accepted ∷ parts 2 ∷ more ∷ finished ∷ outcomeAnswer 1 true 2 1 ∷ [])
     ∷ judged (Answer.accepted ∷ parts 2 ∷ more ∷ finished ∷ outcomeAnswer 0 false 2 0 ∷ [])
@@ -175,19 +207,19 @@ pub iterated-down :
     ∷ []
     ≡ true ∷ false ∷ false ∷ false ∷ false ∷ false ∷ false ∷ false ∷ []
 unfolding judged
-iterated-down = refl
+turned-down = refl
 
 -- the last advance on other bytes: what the rule gives; a fresh run's state; links reckoned and not followed; 18
 unfoldable pub judgedStates : List Answer → Bool
 unfolding computing onNode0 inputsA otherState
 judgedStates xs = agreed newReference (onNode0 inputsA inputsA (otherState 1 1)) (Answer.accepted ∷ parts 2 ∷ more ∷ xs)
 
-pub iterated-down-states :
+pub turned-down-states :
     judgedStates (finished ∷ outcomeAnswer 1 true 2 1 ∷ []) ∷ judgedStates (finished ∷ outcomeAnswer 0 false 2 1 ∷ [])
     ∷ judgedStates (finished ∷ outcomeAnswer 1 true 2 0 ∷ []) ∷ judgedStates (refused 18 ∷ refused 1 ∷ []) ∷ []
     ≡ true ∷ false ∷ false ∷ false ∷ []
 unfolding judgedStates
-iterated-down-states = refl
+turned-down-states = refl
 
 -- in a question that an accepted advance on another plan made unclean, the tables given as at Start again: more
 -- or finished, never 18
@@ -195,28 +227,34 @@ unfoldable pub judgedUnsettled : List Answer → Bool
 unfolding computing onNode0 inputsA otherLabel
 judgedUnsettled xs = agreed newReference (onNode0 inputsA otherLabel inputsA) (Answer.accepted ∷ parts 2 ∷ more ∷ xs)
 
-pub iterated-down-unsettled :
+pub turned-down-unsettled :
     judgedUnsettled (finished ∷ outcomeAnswer 1 true 9 9 ∷ []) ∷ judgedUnsettled (more ∷ refused 1 ∷ []) ∷ judgedUnsettled
     (refused 18 ∷ refused 1 ∷ [])
     ∷ judgedUnsettled (refused 17 ∷ refused 1 ∷ []) ∷ []
     ≡ true ∷ true ∷ false ∷ false ∷ []
 unfolding judgedUnsettled
-iterated-down-unsettled = refl
+turned-down-unsettled = refl
 
--- 18 without a cause. Numbers that are not as built but lead nowhere outside: node 0's jump to the root, and an advance on another label;
--- with a cause it is allowed: a jump outside the plan
+-- a Start on sound tables that is refused, and Starts on others that are accepted: a number, a byte below S, another label
 unfoldable pub judgedStart : Inputs → Answer → Bool
-unfolding computing loadA
-judgedStart x a = agreed newReference (load loadA ∷ start x (0 ∷ []) (0 ∷ []) ∷ []) (Answer.accepted ∷ a ∷ [])
+unfolding computing loadA onNode
+judgedStart x a = agreed newReference (load loadA ∷ onNode x ∷ []) (Answer.accepted ∷ a ∷ [])
 
+pub start-turned-down :
+    judgedStart inputsA (parts 2) ∷ judgedStart inputsA (refused 18) ∷ judgedStart (otherNumber 1 6) (refused 18)
+    ∷ judgedStart (otherNumber 1 6) (parts 2) ∷ judgedStart (otherState 1 1) (parts 2) ∷ judgedStart otherLabel (parts 2) ∷ []
+    ≡ true ∷ false ∷ true ∷ false ∷ false ∷ false ∷ []
+unfolding judgedStart otherNumber otherState otherLabel inputsA
+start-turned-down = refl
+
+-- an advance's 18 without a cause: on another label, which leads nowhere outside; with a cause it is allowed: a jump outside the plan
 unfoldable pub judgedAdvance : Inputs → Answer → Bool
-unfolding computing loadA inputsA
+unfolding computing loadA inputsA onNode
 judgedAdvance x a =
-    agreed newReference (load loadA ∷ start inputsA (0 ∷ []) (0 ∷ []) ∷ advance x ∷ []) (Answer.accepted ∷ parts 2 ∷ a ∷ [])
+    agreed newReference (load loadA ∷ onNode inputsA ∷ advance x ∷ []) (Answer.accepted ∷ parts 2 ∷ a ∷ [])
 
-pub iterated-down-causeless :
-    judgedStart (otherNumber 1 6) (refused 18) ∷ judgedStart (otherNumber 1 6) (parts 2) ∷ judgedStart (otherNumber 1 60000) (refused 18)
-    ∷ judgedAdvance otherLabel (refused 18) ∷ judgedAdvance otherLabel more ∷ judgedAdvance (otherNumber 1 60000) (refused 18) ∷ []
-    ≡ false ∷ true ∷ true ∷ false ∷ true ∷ true ∷ []
-unfolding judgedStart judgedAdvance otherNumber otherLabel inputsA
-iterated-down-causeless = refl
+pub turned-down-causeless :
+    judgedAdvance otherLabel (refused 18) ∷ judgedAdvance otherLabel more ∷ judgedAdvance (otherNumber 1 60000) (refused 18) ∷ []
+    ≡ false ∷ true ∷ true ∷ []
+unfolding judgedAdvance otherNumber otherLabel inputsA
+turned-down-causeless = refl

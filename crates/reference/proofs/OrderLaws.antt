@@ -4,10 +4,10 @@
 --     parts-order, fresh-order    the number of parts, and the answer of a clean question
 -- A permutation is mathlib's `List·Permᴰ`, of the list of entries (node, label).
 -- Assumes nothing.
-use Prim.Native.Nat.{ℕ}
-use mathlib.Core.Path.{_≡_, sym, ap, ap₂, _∙_, fun-ext}
+use Prim.Native.Nat.{ℕ, zero, suc}
+use mathlib.Core.Path.{_≡_, refl, sym, ap, ap₂, _∙_, fun-ext}
 use mathlib.Core.Bool.{Bool, true, cond}
-use mathlib.Core.List.{List, zip, List·Permᴰ}
+use mathlib.Core.List.{List, [], _∷_, _++_, zip, List·Permᴰ}
 use lib.ListN.{length}
 use Rattle.trees.specs.Tree.{Tree}
 use Rattle.trees.specs.Changes.{changed}
@@ -16,14 +16,24 @@ use Rattle.trees.specs.Automaton.{state, accepts}
 use Rattle.list_laws.specs.Tests.{holds, distinct}
 use Rattle.formats.specs.Plan.{planTree, labelsIn, kindsIn}
 use Rattle.formats.specs.Rules.{ruleAutomaton}
-use Rattle.formats.specs.Checks.{firstNo}
+use Rattle.formats.specs.Checks.{Check, check, firstNo, listChecks}
+use Rattle.formats.proofs.CheckLaws.{Numbered, firstNo-append-zero, firstNo-append-suc}
+use Rattle.formats.proofs.InputLaws.{list-numbered}
 use Rattle.runs.proofs.OrderLaws.{keys-zip, keys-perm, length-perm, holds-perm, changed-order, list-order}
 use Rattle.ready.specs.Members.{readyList, roots}
 use Rattle.ready.specs.Parts.{questionLinks}
-use Rattle.formats.specs.Inputs.{Inputs, fits}
+use Rattle.formats.specs.Inputs.{Inputs, fits, sound}
 use Rattle.model.specs.Calls.{outcomeAnswer, start, mayStart}
 use Rattle.model.specs.Refusals.{Stage, refusal}
 use Rattle.reference.specs.Reference.{Question, rootsOf, partCount, changedTree, freshAnswer}
+
+-- two lists of checks with one first no, and the same checks after them
+same-append : (xs ys zs : List Check) → Numbered xs → Numbered ys → firstNo xs ≡ firstNo ys → firstNo (xs ++ zs) ≡ firstNo (ys ++ zs)
+same-append xs ys zs p q e = go (firstNo ys) refl
+  where
+    go : (n : ℕ) → firstNo ys ≡ n → firstNo (xs ++ zs) ≡ firstNo (ys ++ zs)
+    go zero f = firstNo-append-zero xs zs p (e ∙ f) ∙ sym (firstNo-append-zero ys zs q f)
+    go (suc n) f = firstNo-append-suc xs zs n (e ∙ f) ∙ sym (firstNo-append-suc ys zs n f)
 
 module _ (vs bs ws cs : List ℕ) (g : length vs ≡ length bs) (h : length ws ≡ length cs)
     (d : List·Permᴰ (zip vs bs) (zip ws cs)) where
@@ -41,7 +51,9 @@ module _ (vs bs ws cs : List ℕ) (g : length vs ≡ length bs) (h : length ws �
   unfolding refusal firstNo
   start-order t x =
       ap (λ (n : ℕ). cond (mayStart (t .phase)) (cond (fits (t .sizes) x) n 17) 1)
-      (list-order vs bs ws cs g h d (t .sizes .n) (t .sizes .k))
+      (same-append (listChecks (t .sizes .n) (t .sizes .k) vs bs) (listChecks (t .sizes .n) (t .sizes .k) ws cs) (check 18 (sound (t .sizes) x) ∷ [])
+      (list-numbered (t .sizes .n) (t .sizes .k) vs bs) (list-numbered (t .sizes .n) (t .sizes .k) ws cs)
+      (list-order vs bs ws cs g h d (t .sizes .n) (t .sizes .k)))
 
   -- two questions on the same inputs
   module _ (q k : Question) (same : q .inputs ≡ k .inputs) (qv : q .nodes ≡ vs) (qb : q .labels ≡ bs) (kv : k .nodes ≡ ws)

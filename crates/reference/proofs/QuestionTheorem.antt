@@ -1,7 +1,7 @@
 -- The further statements of demand 3, about what the calls tell of one question.
---     question x vs bs    the question that a Start on sound inputs x puts
---     CleanOutcomes       of a question that Start accepted on sound inputs and that was undisturbed: the parts that
---                         Start told, after how many accepted advances finished is told, what Reads tell, ceilings
+--     CleanOutcomes       of a question that Start accepted and that was undisturbed: the parts that Start told, after how many
+--                         accepted advances finished is told, what Reads tell, ceilings
+--     QuestionAnswered    an accepted Start had sound inputs; and the question's outcomes where it is undisturbed
 --     question-answered   it holds in every history from a fresh record
 --     questions-of        and passes on to every form of the calls
 --     outcome-order       and does not depend on the order of the list
@@ -18,15 +18,14 @@ use Rattle.trees.specs.Tree.{height}
 use Rattle.trees.specs.Climb.{digits}
 use Rattle.list_laws.specs.Tests.{distinct}
 use Rattle.formats.specs.Plan.{planTree}
-use Rattle.formats.specs.Checks.{firstNo, listChecks}
-use Rattle.list_laws.proofs.BoolLaws.{true-false, and-left}
+use Rattle.list_laws.proofs.BoolLaws.{true-false}
 use Rattle.formats.proofs.InputLaws.{list-passes}
-use Rattle.formats.specs.Inputs.{Inputs, Sizes, nodeTableBuilt, stateTableBuilt, sound}
+use Rattle.formats.specs.Inputs.{Inputs, Sizes}
 use Rattle.model.specs.Calls.{Call, start, Answer, refused, parts, more, finished, outcome, onOutcome, isRefused}
 use Rattle.model.specs.Refusals.{stage, refusal}
-use Rattle.reference.specs.Reference.{Settlement, clean, Question, State, Reference, Reply, phase, inState}
-use Rattle.reference.specs.Reference.{newReference, step, decided, proceed, partCount, freshAnswer, settlementOf}
-use Rattle.reference.specs.Reference.{asked, starting}
+use Rattle.model.specs.Sound.{Sound}
+use Rattle.reference.specs.Reference.{Question, State, Reference, phase, inState}
+use Rattle.reference.specs.Reference.{newReference, step, decided, proceed, partCount, freshAnswer, asked, starting}
 use Rattle.reference.specs.Demand3.{Conforms, after, Agrees}
 use Rattle.model.specs.History.{History}
 use Rattle.model.specs.Model.{freshRecord, Does}
@@ -34,20 +33,18 @@ use Rattle.reference.specs.Undisturbed.{advances, finishedAfter, referen
 use Rattle.reference.specs.Undisturbed.{EveryOutcome, OnlyOutcome}
 use Rattle.model.proofs.Facts.{Layers}
 use Rattle.reference.proofs.StartSimulation.{some-part}
-use Rattle.model.proofs.ModelLaws.{start-list}
+use Rattle.model.proofs.ModelLaws.{start-list, start-sound, start-built}
+use Rattle.model.proofs.SoundLaws.{sound-yes}
 use Rattle.reference.proofs.Demand3Theorem.{demand-3}
 use Rattle.model.proofs.Refinement.{Refines, refines}
 use Rattle.reference.proofs.Ceilings.{Few, ready-count, question-links}
 use Rattle.reference.proofs.UndisturbedLaws.{going, UndisturbedFrom, agrees-split, undisturbed}
 use Rattle.reference.proofs.OrderLaws.{length-order, parts-order, fresh-order}
 
-abbrev pub question : Inputs → List ℕ → List ℕ → Question
-question x vs bs = record { nodes = vs; labels = bs; inputs = x; count = 0; settlement = clean; results = [] }
-
 -- n is what Start told, ys are the answers of the calls after it
 pub record CleanOutcomes (x : Inputs) (vs bs : List ℕ) (n : ℕ) (ys : List Answer) : Type 0 where
   -- Start tells the size of the ready set
-  pub parts-are : n ≡ partCount (question x vs bs)
+  pub parts-are : n ≡ partCount (asked x vs bs)
   -- at most 4 m - 2 parts for m changes, 1 for none
   pub few : Few (length vs) n
   -- finished by exactly as many accepted advances as there are parts
@@ -55,58 +52,50 @@ pub record CleanOutcomes (x : Inputs) (vs bs : List ℕ) (n : ℕ) (ys : List An
   pub unfinished : finishedAfter ys ≡ none → advances ys < n
   pub most : advances ys ≤ n
   -- Read tells the fresh run's state and yes or no, the parts, and the moves of their climbs
-  pub only : OnlyOutcome (freshAnswer (question x vs bs)) ys
+  pub only : OnlyOutcome (freshAnswer (asked x vs bs)) ys
   -- at most three links for each binary digit of the plan's height, for each part told
   pub links : EveryOutcome (λ o. o .links ≤ o .parts * (3 * digits (height (planTree (x .plan))))) ys
+
+-- a question that Start accepted for the sizes z: ds and ys are the calls and answers after it
+pub record QuestionAnswered (z : Sizes) (x : Inputs) (vs bs : List ℕ) (n : ℕ) (ds : List Call) (ys : List Answer) : Type 0 where
+  -- Start made "the full check of what is lent"
+  pub started-sound : Sound z x
+  -- "A finished answer is then right for what was lent at Start, provided it stays so until the last advance."
+  pub outcomes : Undisturbed z x ds ys → CleanOutcomes x vs bs n ys
 
 -- the same for any form of the calls: cs and xs are the calls and answers before the Start, ds and ys those after it
 abbrev pub QuestionsAnswered : {Record : Type 0} → Record → (Record → Call → Answer → Record → Type 0) → Type 0
 QuestionsAnswered fresh Step = (cs : List Call) (xs : List Answer) (x : Inputs) (vs bs : List ℕ) (n : ℕ) (ds : List Call) (ys : List Answer)
     → length cs ≡ length xs → History Step fresh (cs ++ (start x vs bs ∷ ds)) (xs ++ (parts n ∷ ys))
-    → sound (referenceAt newReference cs xs .sizes) x ≡ true → Undisturbed (referenceAt newReference cs xs .sizes) x ds ys
-    → CleanOutcomes x vs bs n ys
+    → QuestionAnswered (referenceAt newReference cs xs .sizes) x vs bs n ds ys
 
 -- ---- the Start
 
-module _ (z : Sizes) (s : State) (x : Inputs) (vs bs : List ℕ) (n : ℕ) (sounds : sound z x ≡ true) where
+module _ (z : Sizes) (s : State) (x : Inputs) (vs bs : List ℕ) (n : ℕ) where
   abbrev b : Reference
   b = record { state = s; sizes = z }
-
-  begins-clean : settlementOf z x ≡ clean
-  unfolding settlementOf
-  begins-clean = rw sounds
 
   parts-in : (m : ℕ) → parts n ≡ parts m → n ≡ m
   parts-in m e = cc
 
-  abbrev opened : Settlement → Question
-  opened k = record { nodes = vs; labels = bs; inputs = x; count = 0; settlement = k; results = [] }
-
-  -- n is the number of parts, and the question runs
-  abbrev Begins : Reply → Type 0
-  Begins r = Conforms r (parts n)
-      → (n ≡ partCount (question x vs bs)) × (after r (parts n) ≡ going z (question x vs bs) 0 [])
-
-  begins-at : Begins (starting b (opened (settlementOf z x)) (settlementOf z x))
-  unfolding starting inState
-  begins-at =
-      subst (λ (k : Settlement). Begins (starting b (opened k) k)) (sym begins-clean)
-      (λ e. (parts-in (partCount (question x vs bs)) e, refl))
-
-  begun : Begins (step b (start x vs bs))
-  unfolding step decided proceed asked
-  begun = go (refusal (stage (phase s) z) (start x vs bs))
-    where
-      go : (m : ℕ) → Begins (decided m b (start x vs bs))
-      go zero e = begins-at e
-      go (suc m) e = absurd (true-false (sym (ap isRefused e)))
-
-  listed : Conforms (step b (start x vs bs)) (parts n) → firstNo (listChecks (z .n) (z .k) vs bs) ≡ 0
+  -- no check refused it
+  passed : Conforms (step b (start x vs bs)) (parts n) → refusal (stage (phase s) z) (start x vs bs) ≡ 0
   unfolding step decided
-  listed e = start-list (stage (phase s) z) x vs bs (go (refusal (stage (phase s) z) (start x vs bs)) e)
+  passed e = go (refusal (stage (phase s) z) (start x vs bs)) e
     where
       go : (m : ℕ) → Conforms (decided m b (start x vs bs)) (parts n) → m ≡ 0
       go zero e = refl
+      go (suc m) e = absurd (true-false (sym (ap isRefused e)))
+
+  -- n is the number of parts, and the question runs
+  begun : Conforms (step b (start x vs bs)) (parts n)
+      → (n ≡ partCount (asked x vs bs)) × (after (step b (start x vs bs)) (parts n) ≡ going z (asked x vs bs) 0 [])
+  unfolding step decided proceed starting inState
+  begun = go (refusal (stage (phase s) z) (start x vs bs))
+    where
+      go : (m : ℕ) → Conforms (decided m b (start x vs bs)) (parts n)
+          → (n ≡ partCount (asked x vs bs)) × (after (decided m b (start x vs bs)) (parts n) ≡ going z (asked x vs bs) 0 [])
+      go zero e = (parts-in (partCount (asked x vs bs)) e, refl)
       go (suc m) e = absurd (true-false (sym (ap isRefused e)))
 
 -- ---- what Reads tell
@@ -145,28 +134,30 @@ module _ (L : Layers) (cs : List Call) (xs : List Answer) (x : Inputs) (vs bs : 
   sizesBefore = referenceAt newReference cs xs .sizes
 
   pub question-answered : length cs ≡ length xs
-      → History Does freshRecord (cs ++ (start x vs bs ∷ ds)) (xs ++ (parts n ∷ ys))
-      → sound sizesBefore x ≡ true → Undisturbed sizesBefore x ds ys → CleanOutcomes x vs bs n ys
-  unfolding sound
-  question-answered same h sounds alone =
+      → History Does freshRecord (cs ++ (start x vs bs ∷ ds)) (xs ++ (parts n ∷ ys)) → QuestionAnswered sizesBefore x vs bs n ds ys
+  question-answered same h =
+      let s : State = referenceAt newReference cs xs .state in
       let A = agrees-split newReference cs (start x vs bs ∷ ds) xs (parts n ∷ ys) same (demand-3 L _ _ h) in
-      let B = begun sizesBefore (referenceAt newReference cs xs .state) x vs bs n sounds (A .0) in
-      let l = listed sizesBefore (referenceAt newReference cs xs .state) x vs bs n sounds (A .0) in
-      let built : nodeTableBuilt sizesBefore x ≡ true =
-      and-left (nodeTableBuilt sizesBefore x) (stateTableBuilt sizesBefore x) sounds in
-      let K : UndisturbedFrom (question x vs bs) 0 ys =
-      undisturbed sizesBefore (question x vs bs) 0 [] (some-part (question x vs bs)) ds ys
-      (subst (λ (b : Reference). Agrees b ds ys) (B .1) (A .1)) alone in
+      let p = passed sizesBefore s x vs bs n (A .0) in
+      let B = begun sizesBefore s x vs bs n (A .0) in
+      let l = list-passes _ _ vs bs (start-list (stage (phase s) sizesBefore) x vs bs p) in
       record {
-        parts-are = B .0;
-        few = subst (Few (length vs)) (sym (B .0))
-            (ready-count L sizesBefore x vs built (list-passes _ _ vs bs l .nodes-below));
-        exact = λ m e. omega (arith, K .exact m e, B .0);
-        unfinished = λ e. omega (arith, K .unfinished e, B .0);
-        most = omega (arith, K .most, B .0);
-        only = K .only;
-        links = few-links (3 * digits (height (planTree (x .plan)))) (freshAnswer (question x vs bs))
-            (fresh-few (question x vs bs)) ys (K .only);
+        started-sound = sound-yes sizesBefore x (start-sound (stage (phase s) sizesBefore) x vs bs p);
+        outcomes = λ alone.
+            let K : UndisturbedFrom (asked x vs bs) 0 ys =
+            undisturbed sizesBefore (asked x vs bs) 0 [] (some-part (asked x vs bs)) ds ys
+            (subst (λ (b : Reference). Agrees b ds ys) (B .1) (A .1)) alone in
+            record {
+              parts-are = B .0;
+              few = subst (Few (length vs)) (sym (B .0))
+                  (ready-count L sizesBefore x vs (start-built (stage (phase s) sizesBefore) x vs bs p) (l .nodes-below));
+              exact = λ m e. omega (arith, K .exact m e, B .0);
+              unfinished = λ e. omega (arith, K .unfinished e, B .0);
+              most = omega (arith, K .most, B .0);
+              only = K .only;
+              links = few-links (3 * digits (height (planTree (x .plan)))) (freshAnswer (asked x vs bs))
+                  (fresh-few (asked x vs bs)) ys (K .only);
+            };
       }
 
 -- "whatever the order of the list": where no node is listed twice, what is told of one order is what is told of another
@@ -174,7 +165,7 @@ pub outcome-order : (x : Inputs) (vs bs ws cs : List ℕ) → length vs ≡ leng
     → List·Permᴰ (zip vs bs) (zip ws cs)
     → distinct vs ≡ true → (n : ℕ) (ys : List Answer) → CleanOutcomes x vs bs n ys → CleanOutcomes x ws cs n ys
 outcome-order x vs bs ws cs g h d u n ys T = record {
-  parts-are = T .parts-are ∙ parts-order vs bs ws cs g h d (question x vs bs) (question x ws cs) refl refl refl refl
+  parts-are = T .parts-are ∙ parts-order vs bs ws cs g h d (asked x vs bs) (asked x ws cs) refl refl refl refl
       refl;
   few = subst (λ (m : ℕ). Few m n) (length-order vs bs ws cs g h d) (T .few);
   exact = T .exact;
@@ -182,7 +173,7 @@ outcome-order x vs bs ws cs g h d u n ys T = record {
   most = T .most;
   only =
       subst (λ (a : Answer). OnlyOutcome a ys)
-      (fresh-order vs bs ws cs g h d (question x vs bs) (question x ws cs) refl refl refl refl refl u) (T .only);
+      (fresh-order vs bs ws cs g h d (asked x vs bs) (asked x ws cs) refl refl refl refl refl u) (T .only);
   links = T .links;
 }
 

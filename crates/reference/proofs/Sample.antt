@@ -27,8 +27,6 @@ use Rattle.ready.specs.Parts.{anyBelow, lastBelow, moveState, climbMoves, climb
 use Rattle.ready.specs.Parts.{partLinks, sumOf, questionLinks}
 use Rattle.ready.specs.Parts.{stateOf, climbedState, innerState, partState, partOf, partsFrom, partsOf, lastState}
 use Rattle.ready.specs.Parts.{allLinks}
-use Rattle.questions.specs.Search.{nextUnless, searchIn, search, meetOn}
-use Rattle.questions.specs.Roots.{insertRising, risingOf, wanted, withFork, withMeet, forksOn, rootsOn}
 use Rattle.questions.specs.Part.{lastFound, labelOn, climbFrom, runReached, ownReached, joinOn, innerOn, leafOn}
 use Rattle.questions.specs.Part.{forkOn, partOn}
 use Rattle.formats.specs.Inputs.{Inputs, fits, sameNodeInputs, sameInputs, namesSizes, nodeTableBuilt, stateTableBuilt}
@@ -37,13 +35,13 @@ use Rattle.model.specs.Calls.{Call, load, start, advance, read, Answer, refused
 use Rattle.model.specs.Calls.{isRunning, isAnswered}
 use Rattle.model.specs.Refusals.{refusal}
 use Rattle.model.specs.PartInputs.{givenOf}
-use Rattle.reference.specs.Reference.{phase, newReference, inState, longer, freshAnswer, ruleAnswer, settlementOf}
-use Rattle.reference.specs.Reference.{asked, mayStartWith, unlessRefused, starting, advanced, goesOn, otherStates}
+use Rattle.reference.specs.Reference.{phase, newReference, inState, longer, freshAnswer, ruleAnswer}
+use Rattle.reference.specs.Reference.{starting, advanced, goesOn, otherStates}
 use Rattle.reference.specs.Reference.{mayAdvanceWith, byAnswer, advancingByProgram, advancingByRule, advancing}
 use Rattle.reference.specs.Reference.{isOutcome, reading, proceed, decided, step}
 use Rattle.reference.specs.Causes.{isChildless, isFlat, strays, isApart, nodeTableCause, nodeCause, rulesCause, cause}
-use Rattle.reference.specs.Causes.{startCause, advanceCause}
-use Rattle.model.specs.Model.{idle, freshRecord, started, startWith, stepped, advanceWith, lastOf, proceeds, unless}
+use Rattle.reference.specs.Causes.{advanceCause}
+use Rattle.model.specs.Model.{idle, freshRecord, started, stepped, advanceWith, lastOf, proceeds, unless}
 use Rattle.model.specs.Model.{act}
 use Rattle.reference.specs.AgreementTest.{answersOf, flag, code, sameAnswer, conforms, agreed, settledIn}
 use Rattle.reference.specs.AgreementTest.{settledAnswers}
@@ -53,14 +51,13 @@ unfolding split sub parent depth isPostorder treeOf changed jumpIn jump nextMove
     rows nodeTableOf stepUp stateMap stateTableOf allBelow holds distinct sameList firstNo planChecks ruleChecks
     listChecks ruleTableChecks buildChecks someIn someBelow forksAt isMember keep readyList roots isInSubtree anyBelow
     lastBelow moveState climbMoves climbedLinks innerLinks partLinks sumOf questionLinks stateOf climbedState
-    innerState partState partOf partsFrom partsOf lastState allLinks nextUnless searchIn search meetOn
-    insertRising risingOf wanted withFork withMeet forksOn rootsOn below runOn ruleOn siblingOn parentOn moveOn
+    innerState partState partOf partsFrom partsOf lastState allLinks below runOn ruleOn siblingOn parentOn moveOn
     climbOn lastFound labelOn climbFrom runReached ownReached joinOn innerOn leafOn forkOn partOn fits sameNodeInputs
     sameInputs namesSizes nodeTableBuilt stateTableBuilt sound statesBelow mayLoad mayStart isRunning isAnswered refusal phase
-    isChildless isFlat strays isApart nodeTableCause nodeCause rulesCause cause startCause advanceCause
-    newReference inState givenOf longer freshAnswer ruleAnswer settlementOf asked mayStartWith unlessRefused starting
+    isChildless isFlat strays isApart nodeTableCause nodeCause rulesCause cause advanceCause
+    newReference inState givenOf longer freshAnswer ruleAnswer starting
     advanced goesOn otherStates mayAdvanceWith byAnswer advancingByProgram advancingByRule advancing isOutcome reading proceed decided step
-    idle freshRecord started startWith stepped advanceWith lastOf proceeds unless act answersOf flag code sameAnswer
+    idle freshRecord started stepped advanceWith lastOf proceeds unless act answersOf flag code sameAnswer
     conforms agreed settledIn settledAnswers
 computing = 0
 

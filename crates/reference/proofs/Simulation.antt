@@ -4,7 +4,7 @@
 --     on-load, on-cancel, on-read     these three
 -- Not here: Start (StartSimulation) and advance (AdvanceSimulation).
 -- Assumes nothing.
-use Prim.Native.Nat.{ℕ, zero, suc, _<_}
+use Prim.Native.Nat.{ℕ, zero, suc}
 use mathlib.Core.Path.{_≡_, refl, sym, ap, ap₂, _∙_}
 use mathlib.Core.Bool.{Bool}
 use mathlib.Core.List.{List, []}
@@ -13,14 +13,12 @@ use lib.ListN.{length}
 use lib.Seq.{take-all}
 use Rattle.trees.specs.Automaton.{state}
 use Rattle.formats.specs.Rules.{ruleAutomaton}
-use Rattle.formats.specs.Checks.{firstNo, buildChecks}
-use Rattle.formats.proofs.CheckLaws.{firstNo-tail}
-use Rattle.formats.proofs.InputLaws.{build-passes}
+use Rattle.formats.specs.Checks.{firstNo}
 use Rattle.ready.specs.Parts.{Part, partsFrom, partsOf, lastState, allLinks}
 use Rattle.formats.specs.Inputs.{Inputs, Sizes, sizesIn}
-use Rattle.model.specs.Calls.{Call, load, cancel, read, Answer, refused, outcomeAnswer, Phase, mayLoad, isRunning}
+use Rattle.model.specs.Calls.{Call, load, cancel, read, Answer, refused, outcomeAnswer, Phase, isRunning}
 use Rattle.model.specs.Calls.{isAnswered}
-use Rattle.model.specs.Refusals.{Stage, stage, refusal}
+use Rattle.model.specs.Refusals.{stage, refusal}
 use Rattle.reference.specs.Reference.{Settlement, clean, byRule, byProgram, Question, State, Reference, Reply}
 use Rattle.reference.specs.Reference.{phase, inState, stageOf, step, decided, proceed, rootsOf, partCount}
 use Rattle.reference.specs.Reference.{changedTree, givenBy, freshAnswer, ruleAnswer, reading, isOutcome}
@@ -65,22 +63,12 @@ does r r′ b c a d h = rw (d .tells, d .leaves) h
 
 -- ---- Load and Cancel
 
-load-counted : (t : Stage) (x : Inputs) → refusal t (load x) ≡ 0 → 0 < sizesIn x .n
-unfolding refusal
-load-counted t x e =
-    let P = build-passes (x .plan) (x .rules) (length (x .nodeTable)) (length (x .stateTable))
-    (firstNo-tail 1 (mayLoad (t .phase)) (buildChecks (x .plan) (x .rules) (length (x .nodeTable)) (length (x .stateTable))) (omega arith) e) in
-    omega (arith, P .0 .least)
-
 pub on-load : (x : Inputs) → Simulates (load x)
 unfolding proceed proceeds phase idle
 on-load x r r′ b a i d = does r r′ b (load x) a d (by-refusal r (b .state) (b .sizes) (load x) i ok)
   where
     ok : refusal (stageOf b) (load x) ≡ 0 → Sim (proceed b (b .state) (load x)) (proceeds r (load x))
-    ok h = (
-      refl,
-      record { phases = refl; sizes = refl; holds = tt; asks = load-counted (stageOf b) x h },
-    )
+    ok h = (refl, record { phases = refl; sizes = refl; holds = tt })
 
 cancel-at : (r : Record) (s : State) (z : Sizes) → Rel r (referenceOf s z) → refusal (stage (phase s) z) cancel ≡ 0
     → Sim (proceed (referenceOf s z) s cancel) (proceeds r cancel)
@@ -88,7 +76,7 @@ unfolding refusal phase firstNo isRunning proceed proceeds inState idle
 cancel-at r State.empty z i h = absurd (some-number h)
 cancel-at r State.loaded z i h = absurd (some-number h)
 cancel-at r (State.running q) z i h =
-    (refl, record { phases = refl; sizes = i .sizes; holds = tt; asks = i .asks .0 })
+    (refl, record { phases = refl; sizes = i .sizes; holds = tt })
 cancel-at r (State.answered q) z i h = absurd (some-number h)
 
 pub on-cancel : Simulates cancel
@@ -115,7 +103,7 @@ rule-fresh : (r : Record) (z : Sizes) (q : Question) → Counted r z q → Clean
 unfolding ruleAnswer freshAnswer partsOf
 rule-fresh r z q c k e =
     outcome-same _ _ _ _ _ _ _ _ s (ap (ruleAutomaton (q .inputs .rules) .accepting) s) refl
-    (ap allLinks whole ∙ whole-links z q (node-table-built z (q .inputs) (c .built)) (q .inputs))
+    (ap allLinks whole ∙ whole-links z q (node-table-built z (q .inputs) (c .parted .built)) (q .inputs))
   where
     whole : q .results ≡ partsOf (givenBy z q (q .inputs)) (rootsOf q)
     whole =
@@ -124,7 +112,7 @@ rule-fresh r z q c k e =
         (take-all (length (q .results)) (rootsOf q) (omega (arith, e, c .count)))
 
     s : lastState (q .results) 0 ≡ state (ruleAutomaton (q .inputs .rules)) (changedTree q)
-    s = ap (λ (l : List Part). lastState l 0) whole ∙ whole-state z q (node-table-built z (q .inputs) (c .built)) (k .stateTable)
+    s = ap (λ (l : List Part). lastState l 0) whole ∙ whole-state z q (node-table-built z (q .inputs) (c .parted .built)) (k .stateTable)
 
 read-as : (r : Record) (z : Sizes) (q : Question) (k : Settlement) → SettledAs r z q k → Ended r q k
     → Rel r (referenceOf (State.answered q) z)

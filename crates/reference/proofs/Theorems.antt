@@ -1,14 +1,20 @@
 -- The crate's theorems about the session's calls, with nothing left to assume.
 --     model-demand-3    every list of calls, from a fresh record, whatever the inputs, is answered as the reference model
 --                       (document 01's panel book) says
---     model-questions   one question on sound inputs, undisturbed: parts, advances, what Reads tell, ceilings
+--     start-settled     nothing about Start is left to the program
+--     model-questions   one question: an accepted Start had sound inputs; undisturbed: parts, advances, what Reads tell, ceilings
 --     model-agrees      so the model's own answers agree with the reference model
 -- The order of a list is outcome-order and start-order (QuestionTheorem, OrderLaws); that the premises can be met is
 -- written-sound and start-written (WrittenSound), and Controls.
 -- Assumes nothing.
+use Prim.Native.Nat.{ℕ, zero, suc}
+use mathlib.Core.Path.{_≡_, refl}
 use mathlib.Core.List.{List}
-use Rattle.model.specs.Calls.{Call}
-use Rattle.reference.specs.Reference.{newReference}
+use Rattle.formats.specs.Inputs.{Inputs}
+use Rattle.model.specs.Calls.{Call, start, Answer, refused, parts}
+use Rattle.model.specs.Refusals.{refusal}
+use Rattle.reference.specs.Reference.{Reference, State, settled, stageOf, newReference, inState, step, decided, proceed, starting}
+use Rattle.reference.specs.Reference.{partCount, asked}
 use Rattle.reference.specs.Demand3.{Agrees, Demand3}
 use Rattle.model.specs.Model.{freshRecord, Does}
 use Rattle.reference.specs.AgreementTest.{answersOf}
@@ -19,6 +25,15 @@ use Rattle.reference.proofs.AgreementTestLaws.{history-of}
 
 pub model-demand-3 : Demand3 freshRecord Does
 model-demand-3 = demand-3 layers
+
+-- "Nothing about Start is left to the program then": the reference model's reply to a Start is settled, whatever is given
+pub start-settled : (b : Reference) (x : Inputs) (vs bs : List ℕ) → (a : Answer) × (b′ : Reference) × (step b (start x vs bs) ≡ settled a b′)
+unfolding step decided proceed starting
+start-settled b x vs bs = go (refusal (stageOf b) (start x vs bs))
+  where
+    go : (n : ℕ) → (a : Answer) × (b′ : Reference) × (decided n b (start x vs bs) ≡ settled a b′)
+    go zero = (parts (partCount (asked x vs bs)), inState b (State.running (asked x vs bs)), refl)
+    go (suc n) = (refused (suc n), b, refl)
 
 pub model-questions : QuestionsAnswered freshRecord Does
 model-questions = question-answered layers

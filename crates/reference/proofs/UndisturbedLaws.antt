@@ -22,9 +22,9 @@ use Rattle.formats.specs.Inputs.{Inputs, Sizes, sameInputs}
 use Rattle.model.specs.Calls.{Call, load, start, advance, cancel, read, Answer, refused, parts, more, finished, outcome}
 use Rattle.model.specs.Calls.{Phase, mayLoad, mayStart, isRunning, isAnswered, isRefused}
 use Rattle.model.specs.Refusals.{stage, refusal}
-use Rattle.reference.specs.Reference.{Settlement, clean, byRule, byProgram, Question, State, Reference, settled}
+use Rattle.reference.specs.Reference.{clean, byRule, Question, State, Reference, settled}
 use Rattle.reference.specs.Reference.{phase, inState, step, decided, proceed, partCount, freshAnswer}
-use Rattle.reference.specs.Reference.{settlementOf, asked, starting, unlessRefused, longer, advanced, goesOn}
+use Rattle.reference.specs.Reference.{starting, longer, advanced, goesOn}
 use Rattle.reference.specs.Reference.{otherStates, byAnswer, advancingByProgram, advancingByRule, advancing}
 use Rattle.reference.specs.Reference.{reading}
 use Rattle.reference.specs.Demand3.{Conforms, after, Agrees}
@@ -133,20 +133,8 @@ module _ (z : Sizes) (q : Question) (c : ℕ) (tr : List Part) where
   abbrev Rested : Call → Answer → Type 0
   Rested k a = Conforms (step over k) a → UndisturbedBy z (q .inputs) k a → Rest a (after (step over k) a)
 
-  rest-start : (k : Question) (s : Settlement) (a : Answer) → Conforms (starting over k s) a → isRefused a ≡ true
-      → Rest a (after (starting over k s) a)
-  unfolding starting unlessRefused
-  rest-start k clean a e f = absurd (true-false (sym f ∙ ap isRefused e))
-  rest-start k byRule a e f = absurd (true-false (sym f ∙ ap isRefused e))
-  rest-start k byProgram (refused n) e f = rests n refl refl
-  rest-start k byProgram Answer.accepted e f = absurd (true-false (sym f))
-  rest-start k byProgram (parts p) e f = absurd (true-false (sym f))
-  rest-start k byProgram more e f = absurd (true-false (sym f))
-  rest-start k byProgram finished e f = absurd (true-false (sym f))
-  rest-start k byProgram (outcome o) e f = absurd (true-false (sym f))
-
   pub rest : (k : Call) (a : Answer) → Rested k a
-  unfolding step decided proceed refusal phase firstNo isRunning isAnswered reading freshAnswer
+  unfolding step decided proceed starting refusal phase firstNo isRunning isAnswered reading freshAnswer
   rest (load x) a e f = go (refusal (stage Phase.answered z) (load x)) e
     where
       go : (n : ℕ) → Conforms (decided n over (load x)) a → Rest a (after (decided n over (load x)) a)
@@ -155,7 +143,7 @@ module _ (z : Sizes) (q : Question) (c : ℕ) (tr : List Part) where
   rest (start x vs bs) a e f = go (refusal (stage Phase.answered z) (start x vs bs)) e
     where
       go : (n : ℕ) → Conforms (decided n over (start x vs bs)) a → Rest a (after (decided n over (start x vs bs)) a)
-      go zero e = rest-start (asked z x vs bs) (settlementOf z x) a e f
+      go zero e = absurd (true-false (sym f ∙ ap isRefused e))
       go (suc n) e = rests (suc n) e refl
   rest (advance x) a e f = rests 1 e refl
   rest cancel a e f = rests 1 e refl

@@ -1,13 +1,12 @@
 -- "It may lend what Load wrote": whatever Load accepts, what it leaves in the buffers is sound for that plan's N, S
--- and K, longer buffers and their excess included. So every plan and rule table can meet the premise of the reference model's
--- clean lines.
+-- and K, longer buffers and their excess included. So every plan and rule table passes Start's 18 after its Load.
 --     loaded x          the inputs after an accepted Load
 --     written-sound, written-fits     they are sound, and long enough
 --     start-written     so a Start on them is accepted with any list that passes 12 to 15
 -- Assumes nothing.
 use Prim.Native.Nat.{ℕ, _+_, _≤_}
 use mathlib.Core.Path.{_≡_, refl, ap, _∙_}
-use mathlib.Core.Bool.{Bool, true, cond, _&&_}
+use mathlib.Core.Bool.{true, _&&_}
 use mathlib.Core.List.{List, [], _∷_, _++_}
 use native.Mathlib.Omega.{arith}
 use lib.Dec.{leb, eqb}
@@ -20,7 +19,7 @@ use Rattle.formats.specs.Rules.{stateCount, labelCount, ruleLength, ruleAutomat
 use Rattle.formats.specs.Checks.{check, firstNo, ruleTableChecks, buildChecks, listChecks, nodeTableLength, stateTableLength}
 use Rattle.formats.specs.Built.{builtNodeTable, builtStateTable}
 use Rattle.list_laws.proofs.BoolLaws.{and-both}
-use Rattle.formats.proofs.CheckLaws.{firstNo-yes, firstNo-tail}
+use Rattle.formats.proofs.CheckLaws.{firstNo-none, firstNo-yes, firstNo-tail, firstNo-append-zero}
 use Rattle.list_laws.proofs.TestLaws.{sameList-is}
 use Rattle.formats.proofs.PlanLaws.{size-planTree}
 use Rattle.formats.proofs.InputLaws.{rule-table-passes, build-table}
@@ -29,13 +28,13 @@ use Rattle.node_tables.proofs.CellLaws.{length-nodeTableOf}
 use Rattle.formats.specs.Inputs.{Inputs, sizesIn, fits, usedNodeTable, usedStateTable, nodeTableBuilt, stateTableBuilt}
 use Rattle.formats.specs.Inputs.{sound}
 use Rattle.model.specs.Calls.{load, start, parts, mayLoad, mayStart}
-use Rattle.model.specs.Refusals.{Stage, refusal}
-use Rattle.reference.specs.Reference.{clean, byRule, byProgram, Question, State, settled, phase, inState, step}
-use Rattle.reference.specs.Reference.{decided, proceed, partCount, settlementOf, asked, starting}
+use Rattle.model.specs.Refusals.{Stage, stage, checksBefore18, refusal}
+use Rattle.model.proofs.ModelLaws.{before-numbered}
+use Rattle.reference.specs.Reference.{State, settled, phase, inState, step}
+use Rattle.reference.specs.Reference.{decided, proceed, partCount, asked, starting}
 use Rattle.formats.proofs.InputsLaws.{built-node-table}
 use Rattle.reference.proofs.FreshLaws.{rules-sound, length-stateTableOf}
 use Rattle.reference.proofs.Simulation.{referenceOf}
-use Rattle.reference.proofs.QuestionTheorem.{question}
 
 -- plan and rules as they were, and what Load leaves in the two buffers
 unfoldable pub loaded : Inputs → Inputs
@@ -140,24 +139,15 @@ pub start-written : (t : Stage) (x : Inputs) (s : State) (vs bs : List ℕ) → 
     → mayStart (phase s) ≡ true
     → firstNo (listChecks (sizesIn x .n) (sizesIn x .k) vs bs) ≡ 0
     → step (referenceOf s (sizesIn x)) (start (loaded x) vs bs)
-    ≡ settled (parts (partCount (question (loaded x) vs bs)))
-    (referenceOf (State.running (question (loaded x) vs bs)) (sizesIn x))
-unfolding step decided refusal proceed asked starting inState settlementOf
+    ≡ settled (parts (partCount (asked (loaded x) vs bs)))
+    (referenceOf (State.running (asked (loaded x) vs bs)) (sizesIn x))
+unfolding step decided refusal proceed starting inState
 start-written t x s vs bs e m l =
     ap (λ (n : ℕ). decided n (referenceOf s (sizesIn x)) (start (loaded x) vs bs))
+    (firstNo-append-zero (checksBefore18 (stage (phase s) (sizesIn x)) (loaded x) vs bs) (check 18 (sound (sizesIn x) (loaded x)) ∷ [])
+    (before-numbered (stage (phase s) (sizesIn x)) (loaded x) vs bs)
     (firstNo-yes 1 (mayStart (phase s))
     (check 17 (fits (sizesIn x) (loaded x)) ∷ listChecks (sizesIn x .n) (sizesIn x .k) vs bs) m
     ∙ firstNo-yes 17 (fits (sizesIn x) (loaded x)) (listChecks (sizesIn x .n) (sizesIn x .k) vs bs)
     (written-fits t x e) ∙ l)
-    ∙ ap (λ (b : Bool). starting (referenceOf s (sizesIn x)) (opened b)
-    (cond b clean (cond (nodeTableBuilt (sizesIn x) (loaded x)) byRule byProgram))) (written-sound t x e)
-  where
-    opened : Bool → Question
-    opened b = record {
-      nodes = vs;
-      labels = bs;
-      inputs = loaded x;
-      count = 0;
-      settlement = cond b clean (cond (nodeTableBuilt (sizesIn x) (loaded x)) byRule byProgram);
-      results = [];
-    }
+    ∙ firstNo-yes 18 (sound (sizesIn x) (loaded x)) [] (written-sound t x e) ∙ firstNo-none)

@@ -1,15 +1,15 @@
--- Whether the inputs give a cause for 18.
+-- Whether the inputs of an advance give a cause for 18.
 --
 -- "18 means that a value read leads outside the plan, the states or the labels, or a climb doesn't rise."
 --
 -- isChildless b x == by the node table b a child of node x would lie outside the plan
 -- strays n b v, isApart n b v == the links of node v lead outside the plan, do not rise or lead to a node without children; node v is at
 --   the top, and not above all
--- nodeTableCause n b == some value of the n nodes does so: of what a Start reads
+-- nodeTableCause n b == some value of the n nodes does so
 -- nodeCause X vs bs v == a state, a label or the kind of node v leads outside, with the labels as the list changes them
 -- rulesCause X == a rule gives no state
 -- cause X vs bs == one of these: of what an advance reads
--- startCause z x, advanceCause z x vs bs == of the inputs, excess aside
+-- advanceCause z x vs bs == of the inputs, excess aside
 --
 -- The same as data, with the value's place: NodeTableOutOfRange (crate links) and PartOutOfRange (crate questions); proofs/CauseLaws.
 -- Assumes nothing.
@@ -60,9 +60,6 @@ rulesCause X =
 
 unfoldable pub cause : View → List ℕ → List ℕ → Bool
 cause X vs bs = nodeTableCause (X .n) (X .nodeTable) || (someIn (nodeCause X vs bs) 0 (X .n) || rulesCause X)
-
-unfoldable pub startCause : Sizes → Inputs → Bool
-startCause z x = nodeTableCause (z .n) (usedNodeTable z x)
 
 unfoldable pub advanceCause : Sizes → Inputs → List ℕ → List ℕ → Bool
 advanceCause z x vs bs =

@@ -1,7 +1,8 @@
 -- The reference model: the panel book of document 01, a model of the session that is fed the calls and their inputs, never the record.
 --
--- Settlement == what settles a question's answers. clean: sound inputs, the same at every advance; byRule: plan, rules and node table as
---   built and as at Start, the state table's bytes below S, so that "Parts of a question" settles them; byProgram: neither
+-- Settlement == what settles a question's answers. Start settles its own, and begins clean: sound inputs. clean: the same at every advance;
+--   byRule: plan, rules and node table as at Start, the state table's bytes below S, so that "Parts of a question" settles them; byProgram:
+--   neither. byRule and byProgram come of advances alone
 -- Question == "its list, what its Start lent, a count, and whether it is clean"; the results of its parts, by the rule on the inputs given
 -- Reference == "the session's state, N, S and K of the last accepted Load", and the question; stageOf b == what the checks ask of it
 -- Reply == its reply to a call: settled without the program's answer, or unsettled, left to the program and fed its answer
@@ -20,12 +21,12 @@ use Rattle.formats.specs.Rules.{ruleAutomaton}
 use Rattle.runs.specs.FreshRun as fresh-run
 use Rattle.ready.specs.Members.{roots}
 use Rattle.ready.specs.Parts.{Given, Part, partOf, lastState, allLinks, questionLinks}
-use Rattle.formats.specs.Inputs.{Inputs, Sizes, sizesIn, sameNodeInputs, sameInputs, nodeTableBuilt, sound, statesBelow}
+use Rattle.formats.specs.Inputs.{Inputs, Sizes, sizesIn, sameNodeInputs, sameInputs, statesBelow}
 use Rattle.model.specs.Calls.{Call, load, start, advance, cancel, read, Answer, refused, parts, more, finished}
-use Rattle.model.specs.Calls.{outcomeAnswer, onRefused, onParts, onAdvance, onOutcome, Phase}
+use Rattle.model.specs.Calls.{outcomeAnswer, onRefused, onAdvance, onOutcome, Phase}
 use Rattle.model.specs.Refusals.{Stage, stage, refusal}
 use Rattle.model.specs.PartInputs.{givenOf}
-use Rattle.reference.specs.Causes.{startCause, advanceCause}
+use Rattle.reference.specs.Causes.{advanceCause}
 
 pub data Settlement : Type 0 where
   clean : Settlement
@@ -108,26 +109,13 @@ ruleAnswer q =
 
 -- ---- Start
 
-unfoldable pub settlementOf : Sizes → Inputs → Settlement
-settlementOf z x = cond (sound z x) clean (cond (nodeTableBuilt z x) byRule byProgram)
+-- "count 0, clean": a Start that is not refused has sound inputs
+abbrev pub asked : Inputs → List ℕ → List ℕ → Question
+asked x vs bs = record { nodes = vs; labels = bs; inputs = x; count = 0; settlement = clean; results = [] }
 
-unfoldable pub asked : Sizes → Inputs → List ℕ → List ℕ → Question
-asked z x vs bs = record { nodes = vs; labels = bs; inputs = x; count = 0; settlement = settlementOf z x; results = [] }
-
--- left to the program: any number of parts, or 18 where the node table gives a cause
-unfoldable pub mayStartWith : Bool → Answer → Bool
-mayStartWith caused a = onParts (λ p. true) (onRefused (λ n. eqb n 18 && caused) false a) a
-
--- "18 leaves the book as it is"
-unfoldable pub unlessRefused : Reference → Reference → Answer → Reference
-unlessRefused b c a = onRefused (λ n. b) c a
-
--- "Start: running, count 0, clean if sound; clean, it tells the number of parts."
-unfoldable pub starting : Reference → Question → Settlement → Reply
-starting b q clean = settled (parts (partCount q)) (inState b (State.running q))
-starting b q byRule = settled (parts (partCount q)) (inState b (State.running q))
-starting b q byProgram =
-    unsettled (mayStartWith (startCause (b .sizes) (q .inputs))) (unlessRefused b (inState b (State.running q)))
+-- "Start: running, count 0, clean if sound; clean, it tells the number of parts." What is not sound was refused with 18
+unfoldable pub starting : Reference → Question → Reply
+starting b q = settled (parts (partCount q)) (inState b (State.running q))
 
 -- ---- advance
 
@@ -142,8 +130,9 @@ goesOn b q =
 
 -- "Where plan and rules name the record's N, S and K and, like the 16-bit numbers, are as at Start and as built, but run states and
 -- maps are any bytes below S, an advance goes on as always and stores and counts what this rule gives on those bytes."
+-- What Start was given is as built
 unfoldable pub otherStates : Sizes → Question → Inputs → Bool
-otherStates z q x = nodeTableBuilt z (q .inputs) && (sameNodeInputs z (q .inputs) x && statesBelow z x)
+otherStates z q x = sameNodeInputs z (q .inputs) x && statesBelow z x
 
 -- left to the program: more or finished, or 18 where the inputs give a cause: never where the tables are as built and as at Start, or
 -- other bytes
@@ -182,10 +171,10 @@ reading b q byProgram = unsettled isOutcome (λ a. b)
 
 -- ---- the step
 
--- a call that no check refuses, 18 apart; the states in which it may not be made do not come here
+-- a call that no check refuses, an advance's 18 apart; the states in which it may not be made do not come here
 unfoldable pub proceed : Reference → State → Call → Reply
 proceed b s (load x) = settled Answer.accepted (record { state = State.loaded; sizes = sizesIn x })
-proceed b s (start x vs bs) = starting b (asked (b .sizes) x vs bs) (settlementOf (b .sizes) x)
+proceed b s (start x vs bs) = starting b (asked x vs bs)
 proceed b State.empty (advance x) = settled (refused 1) b
 proceed b State.loaded (advance x) = settled (refused 1) b
 proceed b (State.running q) (advance x) = advancing b x q (q .settlement)
@@ -196,7 +185,7 @@ proceed b State.loaded read = settled (refused 1) b
 proceed b (State.running q) read = settled (refused 1) b
 proceed b (State.answered q) read = reading b q (q .settlement)
 
--- "One of the next section's checks, 18 apart, says no: the first such number; the book stays."
+-- "One of the next section's checks, 18 apart, says no: the first such number; the book stays." Start's 18 is such a check now
 unfoldable pub decided : ℕ → Reference → Call → Reply
 decided zero b c = proceed b (b .state) c
 decided (suc n) b c = settled (refused (suc n)) b

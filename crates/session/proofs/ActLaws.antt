@@ -19,15 +19,16 @@ use Rattle.formats.proofs.InputLaws.{ListPasses, list-passes, build-passes}
 use Rattle.tables.specs.declared.answers.Reached.{Reached}
 use Rattle.tables.proofs.ClimbBounds.{Bounded}
 use Rattle.questions.specs.Rising.{RisesTo}
-use Rattle.questions.specs.Roots.{rootsOn}
+use Rattle.questions.specs.Promises.{RootsAre}
 use Rattle.questions.proofs.PartBounds.{part-bounded}
-use Rattle.questions.proofs.RootsLaws.{rootsOn-some, rootsOn-fits, rootsOn-rises-to}
-use Rattle.formats.specs.Inputs.{Inputs, Sizes, sizesIn, fits, usedNodeTable}
+use Rattle.formats.specs.Inputs.{Inputs, Sizes, sizesIn}
 use Rattle.model.specs.Calls as calls
 use Rattle.model.specs.Calls.{Call, load, start, advance, cancel, read, mayLoad, mayStart, isRunning}
 use Rattle.model.specs.Refusals.{refusal}
-use Rattle.model.specs.Model.{stageOf, Record, idle, freshRecord, loadedRecord, viewBy, marksBy, started, startWith}
+use Rattle.model.specs.Model.{stageOf, Record, idle, freshRecord, loadedRecord, viewBy, marksBy, rootsIn, started}
 use Rattle.model.specs.Model.{stepped, advanceWith, partNext, acted, proceeds, unless, act}
+use Rattle.model.proofs.ModelLaws.{some-root, start-list, start-built}
+use Rattle.model.proofs.LayersHold.{layers}
 use Rattle.model.proofs.ResultLaws.{below-more}
 use Rattle.session.specs.declared.state.Phase.the-variants.{Empty}
 use Rattle.session.specs.declared.state.Session.{Session}
@@ -141,6 +142,11 @@ nil-below : (n : ℕ) → allBelow n [] ≡ true
 unfolding allBelow
 nil-below n = refl
 
+-- at most 254 roots for a list of at most 64
+pub few-roots : (n m : ℕ) (l : List ℕ) → RootsAre n m l → m ≤ 64 → length l ≤ 254
+few-roots n zero l R h = omega (arith, R .one refl)
+few-roots n (suc m) l R h = omega (arith, R .few (omega arith))
+
 -- one state more
 pub start-sized : (p : calls.Phase) (r : Record) → mayStart p ≡ true → HoldsIn p r → Sized (r .sizes)
 unfolding mayStart
@@ -175,23 +181,17 @@ module _ (r : Record) (H : Holds r) where
 
   module _ (x : Inputs) (vs bs : List ℕ) (e : refusal (stageOf r) (start x vs bs) ≡ 0) where
     list-is : ListPasses (r .sizes .n) (r .sizes .k) vs bs
-    unfolding refusal
-    list-is =
-        list-passes (r .sizes .n) (r .sizes .k) vs bs
-        (firstNo-tail 17 (fits (r .sizes) x) _ (omega arith) (firstNo-tail 1 (mayStart (r .phase)) _ (omega arith) e))
+    list-is = list-passes (r .sizes .n) (r .sizes .k) vs bs (start-list (stageOf r) x vs bs e)
 
     sized-is : Sized (r .sizes)
     unfolding refusal
     sized-is = start-sized (r .phase) r (firstNo-head 1 (mayStart (r .phase)) _ (omega arith) e) H
 
-    start-holds : (o : Option (List ℕ)) → rootsOn (r .sizes .n) (usedNodeTable (r .sizes) x) vs ≡ o
-        → Holds (startWith r vs bs o .record′)
-    unfolding startWith started
-    start-holds none q = H
-    start-holds (some rs) q =
-        let n = r .sizes .n in
-        let u = usedNodeTable (r .sizes) x in
-        let h : 0 < n = omega (arith, sized-is .nodes-least) in
+    start-holds : Holds (started (r .sizes) vs bs (rootsIn x vs))
+    unfolding started
+    start-holds =
+        let R : RootsAre (r .sizes .n) (length vs) (rootsIn x vs) =
+        layers .roots-are (r .sizes) x vs (start-built (stageOf r) x vs bs e) (list-is .nodes-below) in
         record {
           sizes = sized-is;
           asked = record {
@@ -199,13 +199,13 @@ module _ (r : Record) (H : Holds r) where
             same = sym (list-is .lengths);
             nodes-below = list-is .nodes-below;
             labels-below = list-is .labels-below;
-            some-part = omega (arith, rootsOn-some n u vs rs h (list-is .nodes-below) q);
-            few-parts = rootsOn-fits n u vs rs h (list-is .nodes-below) q (list-is .most);
-            rises = rises-is (n - 1) rs (rootsOn-rises-to n u vs rs h (list-is .nodes-below) q);
+            some-part = omega (arith, some-root x vs);
+            few-parts = few-roots (r .sizes .n) (length vs) (rootsIn x vs) R (list-is .most);
+            rises = rises-is (r .sizes .n - 1) (rootsIn x vs) (R .to);
             states-below = nil-below (r .sizes .s);
             few-links = omega arith;
           };
-          handled = omega (arith, rootsOn-some n u vs rs h (list-is .nodes-below) q);
+          handled = omega (arith, some-root x vs);
           no-yes = refl;
         }
 
@@ -274,7 +274,7 @@ module _ (r : Record) (H : Holds r) where
   proceeds-holds : (c : Call) → refusal (stageOf r) c ≡ 0 → Holds (proceeds r c .record′)
   unfolding proceeds
   proceeds-holds (load x) e = load-holds x e
-  proceeds-holds (start x vs bs) e = start-holds x vs bs e (rootsOn (r .sizes .n) (usedNodeTable (r .sizes) x) vs) refl
+  proceeds-holds (start x vs bs) e = start-holds x vs bs e
   proceeds-holds (advance x) e = part-holds x e (partNext r x) refl
   proceeds-holds cancel e = cancel-holds e
   proceeds-holds read e = H

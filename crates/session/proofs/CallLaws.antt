@@ -12,32 +12,23 @@ use native.Mathlib.Omega.{arith}
 use lib.ListN.{length, getD}
 use borrow.Author.Tests.{not-true, not-false}
 use Rattle.list_laws.proofs.BoolLaws.{and-yes}
-use Rattle.formats.specs.Checks.{Check, check, firstNo, listChecks}
+use Rattle.formats.specs.Checks.{Check, check, firstNo}
 use Rattle.list_laws.proofs.BoolLaws.{true-false}
 use Rattle.formats.proofs.CheckLaws.{firstNo-no, firstNo-head}
 use Rattle.formats.specs.Inputs.{Inputs, fits}
 use Rattle.model.specs.Calls as calls
-use Rattle.model.specs.Calls.{Call, load, start, advance, cancel, read, Answer, refused, mayStart, isRunning}
+use Rattle.model.specs.Calls.{Call, load, start, advance, cancel, read, Answer, refused, isRunning}
 use Rattle.model.specs.Refusals.{refusal, stage}
 use Rattle.model.specs.Model.{stageOf, Acted, proceeds, unless, act}
 use Rattle.model.specs.LeftOpen.{LeftOpen}
-use Rattle.model.proofs.LeftOpenLaws.{refused-unchanged, start-properties, advance-properties}
+use Rattle.model.proofs.LeftOpenLaws.{refused-unchanged, advance-properties}
 use Rattle.session.specs.declared.state.Phase.{Phase}
 use Rattle.session.specs.declared.state.Session.{Session}
 use Rattle.session.specs.Records.{phaseOf, sizesOf, recordOf, sessionOf, valid}
 use Rattle.session.specs.Promises.{CallDone, answerOn, recordOn}
 use Rattle.session.specs.inner.Shapes.{Shaped}
 use Rattle.session.proofs.Holds.{holds-of, struct-is}
-use Rattle.session.proofs.ActLaws.{rises-below, start-sized, running-is}
-
--- a Start that no check refuses finds a plan loaded
-start-loaded : (s : Session) → Shaped s → valid s ≡ true → (x : Inputs) (vs bs : List ℕ)
-    → refusal (stageOf (recordOf s)) (start x vs bs) ≡ 0 → 0 < recordOf s .sizes .n
-unfolding refusal recordOf
-start-loaded s h v x vs bs e =
-    let m = firstNo-head 1 (mayStart (phaseOf (s .head .phase))) (check 17 (fits (sizesOf s) x) ∷ listChecks (s .head .sizes .n) (s .head .sizes .k) vs bs)
-    (omega arith) e in
-    start-sized (phaseOf (s .head .phase)) (recordOf s) m (holds-of s h v) .nodes-least
+use Rattle.session.proofs.ActLaws.{rises-below, running-is}
 
 -- an advance that no check refuses finds a root that is a node
 next-inside : (s : Session) → Shaped s → valid s ≡ true → (x : Inputs)
@@ -54,7 +45,7 @@ next-inside s h v x e =
 properties-of : (s : Session) → Shaped s → valid s ≡ true → (c : Call)
     → LeftOpen (recordOf s) c (act (recordOf s) c .answer) (act (recordOf s) c .record′)
 properties-of s h v (load x) = tt
-properties-of s h v (start x vs bs) = start-properties (recordOf s) x vs bs (start-loaded s h v x vs bs)
+properties-of s h v (start x vs bs) = tt
 properties-of s h v (advance x) = advance-properties (recordOf s) x (next-inside s h v x)
 properties-of s h v cancel = tt
 properties-of s h v read = tt

@@ -13,4 +13,5 @@ pub mod SessionTheorem
 pub mod ShapeLaws
 pub mod StartLaws
 pub mod StepLaws
+pub mod TablesSoundLaws
 pub mod ValidLaws

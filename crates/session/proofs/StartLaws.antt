@@ -1,42 +1,45 @@
 -- Start, by what the code has found: one law for each answer.
 --     start-1, start-17, start-list, start-18, start-yes
---     start-limits, start-room, start-listed, start-count     what the calls below ask
+--     start-limits, start-headers, start-room, start-listed, start-count     what the calls below ask
 -- Assumes nothing.
 use Prim.Native.Nat.{ℕ, zero, suc, _*_, _≤_}
 use mathlib.Core.Path.{_≡_, refl, sym, ap, _∙_}
 use mathlib.Core.Bool.{Bool, true, false, not, _&&_}
-use mathlib.Core.List.{List, _∷_}
-use mathlib.Core.Option.{Option, none, some}
+use mathlib.Core.List.{List, [], _∷_, _++_}
+use mathlib.Core.Option.{some}
 use native.Mathlib.Omega.{arith}
 use lib.ListN.{length, take}
 use lib.Seq.{length-take-le}
 use borrow.Author.Tests.{not-true, not-false}
-use Rattle.formats.specs.Checks.{check, firstNo, listChecks}
+use Rattle.formats.specs.Plan.{planTree}
+use Rattle.formats.specs.Checks.{Check, check, firstNo, listChecks}
 use Rattle.formats.specs.Rules.{ruleLength}
 use Rattle.formats.specs.Buffers.{buffersFit, LimitArgs}
-use Rattle.list_laws.proofs.BoolLaws.{and-left, and-right, true-false}
-use Rattle.formats.proofs.CheckLaws.{firstNo-yes, firstNo-no}
-use Rattle.formats.proofs.InputLaws.{ListPasses, list-passes}
-use Rattle.formats.proofs.BufferLaws.{lengths-are}
+use Rattle.list_laws.proofs.BoolLaws.{and-left, and-right}
+use Rattle.formats.proofs.CheckLaws.{firstNo-yes, firstNo-no, firstNo-none, firstNo-append-zero, firstNo-append-no}
+use Rattle.formats.proofs.InputLaws.{ListPasses, list-passes, list-numbered}
+use Rattle.formats.proofs.InputsLaws.{node-table-built}
+use Rattle.formats.proofs.BufferLaws.{Lengths, lengths-are}
 use Rattle.questions.specs.declared.roots.Rooted.{Rooted}
-use Rattle.questions.specs.Roots.{rootsOn}
-use Rattle.questions.specs.RootsAnswers.{rootsGiven, rootedOf}
-use Rattle.questions.proofs.FitLaws.{fit-all, given-yes}
-use Rattle.questions.proofs.RootsLaws.{rootsOn-fits}
-use Rattle.formats.specs.Inputs.{Inputs, fits}
+use Rattle.questions.specs.RootsAnswers.{rootedOf}
+use Rattle.questions.specs.Promises.{RootsDone}
+use Rattle.questions.proofs.FitLaws.{fit-all}
+use Rattle.formats.specs.Inputs.{Inputs, fits, nodeTableBuilt, sound}
 use Rattle.model.specs.Calls as calls
 use Rattle.model.specs.Calls.{Call, start, mayStart}
 use Rattle.model.specs.Refusals.{refusal, stage}
-use Rattle.model.specs.Model.{startWith, started, proceeds}
+use Rattle.model.specs.Model.{rootsIn, started, proceeds}
+use Rattle.model.proofs.ModelLaws.{start-built}
+use Rattle.model.proofs.LayersHold.{tree-size, cells, layers}
 use Rattle.session.specs.declared.state.Session.{Session}
 use Rattle.session.specs.declared.answers.StartAnswer.the-variants.{Parts, Refused as NotStarted}
 use Rattle.session.specs.Records.{phaseOf, phaseTo, sizesOf, recordOf, sessionOf, padded, valid}
 use Rattle.session.specs.Answers.{startAnswer}
 use Rattle.session.specs.Promises.{CallDone}
-use Rattle.session.specs.inner.Shapes.{Shaped}
+use Rattle.session.specs.inner.Shapes.{Shaped, HeaderArgs}
 use Rattle.session.specs.inner.Steps.{ListArgs, startedOf}
-use Rattle.session.proofs.Holds.{Sized, holds-of, struct-is}
-use Rattle.session.proofs.ActLaws.{start-sized}
+use Rattle.session.proofs.Holds.{Sized, holds-of}
+use Rattle.session.proofs.ActLaws.{few-roots, start-sized}
 use Rattle.session.proofs.CallLaws.{unless-done, refused-done, proceeds-done}
 
 module _ (s : Session) (h : Shaped s) (x : Inputs) (vs bs : List ℕ) (b : Bool)
@@ -44,10 +47,17 @@ module _ (s : Session) (h : Shaped s) (x : Inputs) (vs bs : List ℕ) (b : Bool)
   abbrev C : Call
   C = start x vs bs
 
+  -- the checks of the list, and the last one
+  abbrev list-checks : List Check
+  list-checks = listChecks (s .head .sizes .n) (s .head .sizes .k) vs bs
+
+  abbrev last : List Check
+  last = check 18 (sound (sizesOf s) x) ∷ []
+
   pub start-1 : not b ≡ true → CallDone s C (startAnswer (NotStarted 1)) s
   unfolding startAnswer refusal
   start-1 f =
-      unless-done s C h (mayStart (phaseOf (s .head .phase))) (check 17 (fits (sizesOf s) x) ∷ listChecks (s .head .sizes .n) (s .head .sizes .k) vs bs) refl
+      unless-done s C h (mayStart (phaseOf (s .head .phase))) (check 17 (fits (sizesOf s) x) ∷ (list-checks ++ last)) refl
       (sym may ∙ not-true b f)
 
   module _ (now : not b ≡ false) where
@@ -68,9 +78,9 @@ module _ (s : Session) (h : Shaped s) (x : Inputs) (vs bs : List ℕ) (b : Bool)
     start-limits = record { most = sized .nodes-most; few = sized .states-most; labels = sized .labels-most }
 
     -- past check 1
-    on : refusal (stage (phaseOf (s .head .phase)) (sizesOf s)) C ≡ firstNo (check 17 (fits (sizesOf s) x) ∷ listChecks (s .head .sizes .n) (s .head .sizes .k) vs bs)
+    on : refusal (stage (phaseOf (s .head .phase)) (sizesOf s)) C ≡ firstNo (check 17 (fits (sizesOf s) x) ∷ (list-checks ++ last))
     unfolding refusal
-    on = firstNo-yes 1 (mayStart (phaseOf (s .head .phase))) (check 17 (fits (sizesOf s) x) ∷ listChecks (s .head .sizes .n) (s .head .sizes .k) vs bs) m
+    on = firstNo-yes 1 (mayStart (phaseOf (s .head .phase))) (check 17 (fits (sizesOf s) x) ∷ (list-checks ++ last)) m
 
     module _ (f : Bool)
         (fit : f ≡ buffersFit (s .head .sizes .n) (s .head .sizes .s) (ruleLength (s .head .sizes .s) (s .head .sizes .k)) (length (x .plan)) (length (x .rules)) (length (x .nodeTable)) (length (x .stateTable))) where
@@ -82,21 +92,27 @@ module _ (s : Session) (h : Shaped s) (x : Inputs) (vs bs : List ℕ) (b : Bool)
       unfolding startAnswer
       start-17 g =
           refused-done s C h v 16
-          (on ∙ firstNo-no 17 (fits (sizesOf s) x) (listChecks (s .head .sizes .n) (s .head .sizes .k) vs bs) (fits-is ∙ not-true f g))
+          (on ∙ firstNo-no 17 (fits (sizesOf s) x) (list-checks ++ last) (fits-is ∙ not-true f g))
 
       module _ (yes : not f ≡ false) where
-        pub start-room : s .head .sizes .n * 4 ≤ length (x .nodeTable)
-        start-room =
+        lengths : Lengths (s .head .sizes .n) (s .head .sizes .s) (ruleLength (s .head .sizes .s) (s .head .sizes .k)) (length (x .plan)) (length (x .rules)) (length (x .nodeTable)) (length (x .stateTable))
+        lengths =
             lengths-are (s .head .sizes .n) (s .head .sizes .s) (ruleLength (s .head .sizes .s) (s .head .sizes .k)) (length (x .plan)) (length (x .rules)) (length (x .nodeTable)) (length (x .stateTable))
-            (sym fit ∙ not-false f yes) .node-table-room
+            (sym fit ∙ not-false f yes)
 
-        onward : refusal (stage (phaseOf (s .head .phase)) (sizesOf s)) C ≡ firstNo (listChecks (s .head .sizes .n) (s .head .sizes .k) vs bs)
-        onward = on ∙ firstNo-yes 17 (fits (sizesOf s) x) (listChecks (s .head .sizes .n) (s .head .sizes .k) vs bs) (fits-is ∙ not-false f yes)
+        pub start-room : s .head .sizes .n * 4 ≤ length (x .nodeTable)
+        start-room = lengths .node-table-room
 
-        module _ (q : ℕ) (list : q ≡ firstNo (listChecks (s .head .sizes .n) (s .head .sizes .k) vs bs)) where
+        pub start-headers : HeaderArgs (x .plan) (x .rules)
+        start-headers = record { plan-head = omega (arith, lengths .plan-is); rules-head = omega (arith, lengths .table-is) }
+
+        onward : refusal (stage (phaseOf (s .head .phase)) (sizesOf s)) C ≡ firstNo (list-checks ++ last)
+        onward = on ∙ firstNo-yes 17 (fits (sizesOf s) x) (list-checks ++ last) (fits-is ∙ not-false f yes)
+
+        module _ (q : ℕ) (list : q ≡ firstNo list-checks) where
           pub start-list : (q ≡ 0 → ⊥) → CallDone s C (startAnswer (NotStarted q)) s
           unfolding startAnswer
-          start-list g = go q (onward ∙ sym list) g
+          start-list g = go q (onward ∙ firstNo-append-no list-checks last (λ z. g (list ∙ z)) ∙ sym list) g
             where
               go : (n : ℕ) → refusal (stage (phaseOf (s .head .phase)) (sizesOf s)) C ≡ n → (n ≡ 0 → ⊥)
                   → CallDone s C (calls.Answer.refused n) s
@@ -110,70 +126,53 @@ module _ (s : Session) (h : Shaped s) (x : Inputs) (vs bs : List ℕ) (b : Bool)
             pub start-listed : ListArgs vs bs
             start-listed = record { few = list-is .most; few-labels = omega (arith, list-is .most, list-is .lengths) }
 
-            no-refusal : refusal (stage (phaseOf (s .head .phase)) (sizesOf s)) C ≡ 0
-            no-refusal = onward ∙ sym list ∙ none-fails
+            at-last : refusal (stage (phaseOf (s .head .phase)) (sizesOf s)) C ≡ firstNo last
+            at-last =
+                onward
+                ∙ firstNo-append-zero list-checks last (list-numbered (s .head .sizes .n) (s .head .sizes .k) vs bs) (sym list ∙ none-fails)
 
-            cut : length (take (s .head .sizes .n * 4) (x .nodeTable)) ≡ s .head .sizes .n * 4
-            cut = length-take-le (s .head .sizes .n * 4) (x .nodeTable) start-room
+            module _ (w : Bool) (full : w ≡ sound (sizesOf s) x) where
+              pub start-18 : not w ≡ true → CallDone s C (startAnswer (NotStarted 18)) s
+              unfolding startAnswer
+              start-18 g = refused-done s C h v 17 (at-last ∙ firstNo-no 18 (sound (sizesOf s) x) [] (sym full ∙ not-true w g))
 
-            given : rootsGiven (s .head .sizes .n) (take (s .head .sizes .n * 4) (x .nodeTable)) vs ≡ rootsOn (s .head .sizes .n) (take (s .head .sizes .n * 4) (x .nodeTable)) vs
-            given =
-                given-yes (s .head .sizes .n) (take (s .head .sizes .n * 4) (x .nodeTable)) vs
-                (sym (fit-all (s .head .sizes .n) (length (take (s .head .sizes .n * 4) (x .nodeTable))) vs (sized .nodes-least) (sized .nodes-most) (omega (arith, cut))
-                (list-is .most))
-                ∙ list-is .nodes-below)
+              module _ (checked : not w ≡ false) where
+                no-refusal : refusal (stage (phaseOf (s .head .phase)) (sizesOf s)) C ≡ 0
+                no-refusal = at-last ∙ firstNo-yes 18 (sound (sizesOf s) x) [] (sym full ∙ not-false w checked) ∙ firstNo-none
 
-            -- what Start does with the roots found, or none
-            acts : (o : Option (List ℕ)) → rootsOn (s .head .sizes .n) (take (s .head .sizes .n * 4) (x .nodeTable)) vs ≡ o
-                → (a : calls.Answer) (t : Session) → a ≡ startWith (recordOf s) vs bs o .answer
-                → t ≡ sessionOf (startWith (recordOf s) vs bs o .record′) → CallDone s C a t
-            unfolding proceeds recordOf
-            acts o e a t i j =
-                proceeds-done s C h v no-refusal a t
-                (i ∙ ap (λ (z : Option (List ℕ)). startWith (recordOf s) vs bs z .answer) (sym e))
-                (j ∙ ap (λ (z : Option (List ℕ)). sessionOf (startWith (recordOf s) vs bs z .record′)) (sym e))
+                node-table : nodeTableBuilt (sizesOf s) x ≡ true
+                node-table = start-built (stage (phaseOf (s .head .phase)) (sizesOf s)) x vs bs no-refusal
 
-            module _ (R : Rooted) (found : R ≡ rootedOf (rootsGiven (s .head .sizes .n) (take (s .head .sizes .n * 4) (x .nodeTable)) vs)) where
-              pub start-18 : not (R .ok) ≡ true → CallDone s C (startAnswer (NotStarted 18)) s
-              unfolding startAnswer startWith
-              start-18 g = go (rootsOn (s .head .sizes .n) (take (s .head .sizes .n * 4) (x .nodeTable)) vs) refl (found ∙ ap rootedOf given)
-                where
-                  go : (o : Option (List ℕ)) → rootsOn (s .head .sizes .n) (take (s .head .sizes .n * 4) (x .nodeTable)) vs ≡ o
-                      → R ≡ rootedOf (rootsOn (s .head .sizes .n) (take (s .head .sizes .n * 4) (x .nodeTable)) vs)
-                      → CallDone s C (calls.Answer.refused 18) s
-                  go none e i = acts none e (calls.Answer.refused 18) s refl (sym (struct-is s h v))
-                  go (some rs) e i =
-                      let k : R .ok ≡ true = ap (λ (z : Rooted). z .ok) (i ∙ ap rootedOf e) in
-                      absurd (true-false (sym g ∙ ap not k))
+                cut : length (take (s .head .sizes .n * 4) (x .nodeTable)) ≡ s .head .sizes .n * 4
+                cut = length-take-le (s .head .sizes .n * 4) (x .nodeTable) start-room
 
-              module _ (ok : not (R .ok) ≡ false) where
-                -- the roots
-                one : (rs : List ℕ) × (rootsOn (s .head .sizes .n) (take (s .head .sizes .n * 4) (x .nodeTable)) vs ≡ some rs) × (R ≡ rootedOf (some rs))
-                one = go (rootsOn (s .head .sizes .n) (take (s .head .sizes .n * 4) (x .nodeTable)) vs) refl
-                  where
-                    go : (o : Option (List ℕ)) → rootsOn (s .head .sizes .n) (take (s .head .sizes .n * 4) (x .nodeTable)) vs ≡ o
-                        → (rs : List ℕ) × (rootsOn (s .head .sizes .n) (take (s .head .sizes .n * 4) (x .nodeTable)) vs ≡ some rs) × (R ≡ rootedOf (some rs))
-                    go none e =
-                        let k : R .ok ≡ false = ap (λ (z : Rooted). z .ok) (found ∙ ap rootedOf (given ∙ e)) in
-                        absurd (true-false (sym (not-false (R .ok) ok) ∙ k))
-                    go (some rs) e = (rs, e, found ∙ ap rootedOf (given ∙ e))
+                module _ (R : Rooted) (D : RootsDone (s .head .sizes .n) (take (s .head .sizes .n * 4) (x .nodeTable)) vs R) where
+                  -- on a node table as built the roots are found, and are the ready set's
+                  found : R ≡ rootedOf (some (rootsIn x vs))
+                  found =
+                      let B = node-table-built (sizesOf s) x node-table in
+                      D .built (planTree (x .plan)) (cells (sizesOf s) x B) (tree-size (sizesOf s) x B)
+                      (sym (fit-all (s .head .sizes .n) (length (take (s .head .sizes .n * 4) (x .nodeTable))) vs (sized .nodes-least) (sized .nodes-most) (omega (arith, cut))
+                      (list-is .most))
+                      ∙ list-is .nodes-below)
 
-                pub start-count : R .count ≤ 254
-                start-count =
-                    let k : R .count ≡ length (one .0) = ap (λ (z : Rooted). z .count) (one .2) in
-                    omega (
-                      arith,
-                      rootsOn-fits (s .head .sizes .n) (take (s .head .sizes .n * 4) (x .nodeTable)) vs (one .0) (omega (arith, sized .nodes-least))
-                          (list-is .nodes-below)
-                          (one .1) (list-is .most),
-                    )
+                  count-is : R .count ≡ length (rootsIn x vs)
+                  count-is = ap (λ (z : Rooted). z .count) found
 
-                pub start-yes : (t : Session) → t ≡ startedOf (s .head .sizes) vs bs (R .count) (R .nodes)
-                    → CallDone s C (startAnswer (Parts (R .count))) t
-                unfolding startAnswer startWith started sessionOf phaseTo recordOf
-                start-yes t e =
-                    let k : R .count ≡ length (one .0) = ap (λ (z : Rooted). z .count) (one .2) in
-                    let l : R .nodes ≡ padded 254 (one .0) = ap (λ (z : Rooted). z .nodes) (one .2) in
-                    acts (some (one .0)) (one .1) (calls.Answer.parts (R .count)) t (ap calls.Answer.parts k)
-                    (e ∙ ap (λ (i : ℕ). startedOf (s .head .sizes) vs bs i (R .nodes)) k
-                    ∙ ap (λ (z : List ℕ). startedOf (s .head .sizes) vs bs (length (one .0)) z) l)
+                  pub start-count : R .count ≤ 254
+                  start-count =
+                      omega (
+                        arith,
+                        count-is,
+                        few-roots (s .head .sizes .n) (length vs) (rootsIn x vs)
+                            (layers .roots-are (sizesOf s) x vs node-table (list-is .nodes-below)) (list-is .most),
+                      )
+
+                  pub start-yes : (t : Session) → t ≡ startedOf (s .head .sizes) vs bs (R .count) (R .nodes)
+                      → CallDone s C (startAnswer (Parts (R .count))) t
+                  unfolding startAnswer proceeds started sessionOf phaseTo recordOf
+                  start-yes t e =
+                      let l : R .nodes ≡ padded 254 (rootsIn x vs) = ap (λ (z : Rooted). z .nodes) found in
+                      proceeds-done s C h v no-refusal (calls.Answer.parts (R .count)) t (ap calls.Answer.parts count-is)
+                      (e ∙ ap (λ (i : ℕ). startedOf (s .head .sizes) vs bs i (R .nodes)) count-is
+                      ∙ ap (λ (z : List ℕ). startedOf (s .head .sizes) vs bs (length (rootsIn x vs)) z) l)

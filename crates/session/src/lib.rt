@@ -7,6 +7,7 @@
 //     loaded   the record after a first Load
 //     fill     lists in the record's arrays
 //     load     Load
+//     soundness  whether what Start is lent is sound: its 18
 //     start    Start
 //     advance  advance
 //     cancel   Cancel
@@ -20,6 +21,7 @@ mod load;
 mod loaded;
 mod may;
 mod read;
+mod soundness;
 mod start;
 pub mod state;
 mod valid;

@@ -1,10 +1,11 @@
-// Start: checks 1, 17 and 12 to 15, then the roots of the parts; 18 where there are none.
+// Start: checks 1, 17, 12 to 15 and 18, then the roots of the parts. On sound tables they are always found.
 use crate::answers::StartAnswer;
 use crate::answers::Started;
 use crate::fill::padded_labels;
 use crate::fill::padded_nodes;
 use crate::may::allowed;
 use crate::may::may_start;
+use crate::soundness::tables_sound;
 use crate::state::Head;
 use crate::state::Phase;
 use crate::state::Session;
@@ -96,13 +97,13 @@ impl Session {
                 session: self,
             };
         }
-        let found = roots(n, &node_table[..n * 4], nodes);
-        if !found.ok {
+        if !tables_sound(n, s, k, plan, rules, node_table, state_table) {
             return Started {
                 answer: StartAnswer::Refused(18),
                 session: self,
             };
         }
+        let found = roots(n, &node_table[..n * 4], nodes);
         let parts = found.count as u8;
         let roots = found.nodes;
         let session = started(h.sizes, nodes, labels, parts, roots);

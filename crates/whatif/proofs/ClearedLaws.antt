@@ -6,16 +6,16 @@
 use Prim.Native.Nat.{ℕ, zero, suc, _+_, _≤_, _<_}
 use mathlib.Core.Path.{_≡_, refl, sym, ap, _∙_, subst}
 use mathlib.Core.Bool.{Bool, true, false, cond}
-use mathlib.Core.List.{List, [], _∷_}
+use mathlib.Core.List.{List, [], _∷_, _++_}
 use native.Mathlib.Omega.{arith}
 use lib.Dec.{eqb}
 use lib.ListN.{length}
 use borrow.Author.Tests.{eqb-false}
-use Rattle.formats.specs.Checks.{check, firstNo, listChecks}
-use Rattle.formats.proofs.CheckLaws.{firstNo-yes}
+use Rattle.formats.specs.Checks.{Check, check, firstNo, listChecks}
+use Rattle.formats.proofs.CheckLaws.{Numbered, firstNo-yes, firstNo-none, firstNo-append-zero, firstNo-append-suc}
 use Rattle.list_laws.proofs.BoolLaws.{and-both, and-left, true-false}
 use Rattle.list_laws.proofs.TestLaws.{sameList-is}
-use Rattle.formats.proofs.InputLaws.{list-passes}
+use Rattle.formats.proofs.InputLaws.{list-passes, list-numbered}
 use Rattle.formats.specs.Built.{builtNodeTable, builtStateTable}
 use Rattle.tables.specs.Answers.{written}
 use Rattle.ready.specs.Parts.{Part}
@@ -26,7 +26,7 @@ use Rattle.model.specs.Calls.{isRunning, isAnswered, mayStart, isRefused}
 use Rattle.model.specs.Refusals.{refusal, stage}
 use Rattle.model.specs.Model.{stageOf, Record, idle, freshRecord, act}
 use Rattle.reference.specs.Reference.{Question, State, Reference, settled, phase, newReference, inState, step, decided}
-use Rattle.reference.specs.Reference.{proceed, reading, partCount, freshAnswer, longer, advanced, goesOn}
+use Rattle.reference.specs.Reference.{proceed, reading, partCount, freshAnswer, asked, longer, advanced, goesOn}
 use Rattle.reference.specs.Reference.{advancingByRule, advancing}
 use Rattle.reference.specs.Demand3.{Conforms, after, Agrees}
 use Rattle.reference.specs.AgreementTest.{answersOf}
@@ -36,7 +36,6 @@ use Rattle.reference.proofs.Simulation.{referenceOf}
 use Rattle.reference.proofs.UndisturbedLaws.{at, going, over}
 use Rattle.reference.proofs.Ceilings.{Few, ready-count}
 use Rattle.reference.proofs.StartSimulation.{some-part}
-use Rattle.reference.proofs.QuestionTheorem.{question}
 use Rattle.reference.proofs.WrittenSound.{loaded, written-sound, written-fits, start-written}
 use Rattle.session.specs.declared.state.Session.{Session}
 use Rattle.session.specs.Records.{freshSession}
@@ -148,6 +147,13 @@ module _ (z : Sizes) (x : Inputs) (long : fits z x ≡ true) where
 
 -- ---- from the Load on
 
+last-passes : (xs ys : List Check) → Numbered xs → firstNo ys ≡ 0 → firstNo (xs ++ ys) ≡ firstNo xs
+last-passes xs ys p e = go (firstNo xs) refl
+  where
+    go : (n : ℕ) → firstNo xs ≡ n → firstNo (xs ++ ys) ≡ firstNo xs
+    go zero f = firstNo-append-zero xs ys p f ∙ e ∙ sym f
+    go (suc n) f = firstNo-append-suc xs ys n f ∙ sym f
+
 few-parts : (m p : ℕ) → Few m p → m ≤ 64 → p ≤ 254
 few-parts zero p h l = omega (arith, h .one refl)
 few-parts (suc m) p h l = omega (arith, h .few (omega arith))
@@ -157,9 +163,14 @@ module _ (y : Inputs) (passed : refusal (stage (phase (newReference .state)) (ne
   start-number : refusal (stage Phase.loaded (sizesIn y)) (start (loaded y) vs bs) ≡ firstNo (listChecks (sizesIn y .n) (sizesIn y .k) vs bs)
   unfolding refusal mayStart
   start-number =
-      firstNo-yes 1 true (check 17 (fits (sizesIn y) (loaded y)) ∷ listChecks (sizesIn y .n) (sizesIn y .k) vs bs) refl
-      ∙ firstNo-yes 17 (fits (sizesIn y) (loaded y)) (listChecks (sizesIn y .n) (sizesIn y .k) vs bs)
+      let list = listChecks (sizesIn y .n) (sizesIn y .k) vs bs in
+      let last = check 18 (sound (sizesIn y) (loaded y)) ∷ [] in
+      firstNo-yes 1 true (check 17 (fits (sizesIn y) (loaded y)) ∷ (list ++ last)) refl
+      ∙ firstNo-yes 17 (fits (sizesIn y) (loaded y)) (list ++ last)
       (written-fits (stage (phase (newReference .state)) (newReference .sizes)) y passed)
+      ∙ last-passes list last (list-numbered (sizesIn y .n) (sizesIn y .k) vs bs)
+      (firstNo-yes 18 (sound (sizesIn y) (loaded y)) [] (written-sound (stage (phase (newReference .state)) (newReference .sizes)) y passed)
+      ∙ firstNo-none)
 
   answer-refused : (n : ℕ) → firstNo (listChecks (sizesIn y .n) (sizesIn y .k) vs bs) ≡ suc n
       → askedOn s (loaded y) vs bs ≡ refused (suc n)
@@ -170,11 +181,11 @@ module _ (y : Inputs) (passed : refusal (stage (phase (newReference .state)) (ne
       (ap (λ (k : ℕ). decided k (referenceOf State.loaded (sizesIn y)) (start (loaded y) vs bs)) (start-number ∙ e)))
 
   answer-clean : firstNo (listChecks (sizesIn y .n) (sizesIn y .k) vs bs) ≡ 0
-      → askedOn s (loaded y) vs bs ≡ freshAnswer (question (loaded y) vs bs)
+      → askedOn s (loaded y) vs bs ≡ freshAnswer (asked (loaded y) vs bs)
   unfolding askedOn afterStart sound phase mayStart
   answer-clean e =
       let p = phase (newReference .state) in
-      let q = question (loaded y) vs bs in
+      let q = asked (loaded y) vs bs in
       let w = start-written (stage p (newReference .sizes)) y State.loaded vs bs passed refl e in
       let a = settled-answer s (referenceOf State.loaded (sizesIn y)) F (start (loaded y) vs bs) _ _ w in
       let G = settled-follows s (referenceOf State.loaded (sizesIn y)) F (start (loaded y) vs bs) _ _ w in

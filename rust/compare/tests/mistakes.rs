@@ -10,7 +10,7 @@ use reference::mistakes::{making, Mistake};
 const SEEDS: std::ops::Range<u64> = 1..201;
 
 /// A mistake, and the rounds that must notice it.
-const NOTICED: [(Mistake, &[&str]); 28] = [
+const NOTICED: [(Mistake, &[&str]); 30] = [
     (Mistake::ChildrenExchanged, &["builds", "fresh runs", "questions", "other bytes", "call lists"]),
     (Mistake::SiblingFromOldRun, &["questions", "other bytes", "damaged lends", "call lists"]),
     (Mistake::ClimbToTheRoot, &["questions", "other bytes", "damaged lends", "call lists"]),
@@ -29,11 +29,13 @@ const NOTICED: [(Mistake, &[&str]); 28] = [
     (Mistake::NodesCut, &["branch questions"]),
     (Mistake::LabelsBeforeNodes, &["refusals", "session refusals"]),
     (Mistake::ExcessCompared, &["full checks"]),
-    (Mistake::LastByteFree, &["full checks"]),
+    (Mistake::LastByteFree, &["full checks", "session refusals"]),
     (Mistake::AnyMarkIsYes, &["damaged tables", "damaged lends"]),
     (Mistake::FirstEntryHolds, &["damaged records"]),
     (Mistake::TailsFree, &["damaged records", "call lists"]),
     (Mistake::NodeTableIsNoCause, &["call lists"]),
+    (Mistake::NamesNotAsked, &["call lists"]),
+    (Mistake::BytesNotAsked, &["other bytes", "damaged lends", "call lists"]),
     (Mistake::PairsExchanged, &["merges"]),
     (Mistake::EitherMark, &["merges"]),
     (Mistake::ProductBeforeLabels, &["merges"]),

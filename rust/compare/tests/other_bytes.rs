@@ -1,5 +1,5 @@
-//! Run states and maps that are any bytes below S, under plan, rules and node table as built: "an advance goes on as
-//! always and stores and counts what this rule gives on those bytes". The book replays the rule on the tree.
+//! Run states and maps that are any bytes below S, under plan, rules and node table as built: 18 at Start; "an advance
+//! goes on as always and stores and counts what this rule gives on those bytes". The book replays the rule on the tree.
 
 use compare::counts::Counts;
 use compare::inputs::Case;
@@ -17,6 +17,7 @@ fn the_rule_on_any_bytes_below_s() {
         other_bytes::round(random, counts);
     }
     assert!(counts.of("another answer") > 200, "{}", counts);
+    assert!(counts.of("18 at Start") > 400, "{}", counts);
 }
 
 #[test]
@@ -46,7 +47,7 @@ fn which_bytes_are_read() {
         let root = 4 * 4;
         other.state_table[root..].fill(2 - state);
         other.state_table[0] = state;
-        assert_eq!(panel.start(&other, &[0], &[0], random), Answer::Parts(2));
+        assert_eq!(panel.start(&lent, &[0], &[0], random), Answer::Parts(2));
         let (_, told) = panel.finish(&other, random);
         assert_eq!(told.links, 1);
         let rule = |p: u8, a: u8, q: u8| case.rules[20 + 2 + (p as usize * 2 + a as usize) * 3 + q as usize];

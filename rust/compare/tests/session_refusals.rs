@@ -5,7 +5,7 @@ use compare::counts::Counts;
 use compare::panel::Lent;
 use compare::random::Random;
 use compare::rounds::refusals::any_set;
-use compare::rounds::session_refusals::{compare, Scene, CALLS};
+use compare::rounds::session_refusals::{compare, Scene, CALLS, DAMAGES};
 use compare::sides;
 use reference::panel::{Answer, Call};
 use reference::record::Record;
@@ -24,6 +24,22 @@ fn load_start_and_advance_in_pairs() {
             }
             let some = any_set(checks, random);
             compare(name, call, &some, random, counts);
+        }
+    }
+}
+
+/// Each kind of damage alone: 18 at Start, and the record stays.
+#[test]
+fn every_kind_of_damage_before_start() {
+    let random = &mut Random::new(1706);
+    for turn in 0..30 * DAMAGES {
+        let mut scene = Scene::new(random);
+        scene.unsound(turn % DAMAGES, random);
+        let start = Call::Start(scene.lent.lends(), &scene.nodes, &scene.labels);
+        for record in [&scene.records[1], &scene.records[3]] {
+            let done = sides::call(record, &start, random);
+            assert_eq!(done.answer, Answer::Refused(18), "kind {}", turn % DAMAGES);
+            assert!(done.record == *record, "nothing is altered");
         }
     }
 }

@@ -2,10 +2,10 @@
 //! record, never the record, and an answer only where a line below says so": a settled answer is there before the
 //! program's is known.
 //!
-//! What is left to the program, "save what Parts of a question and the closing words on 18 below settle": where plan,
-//! rules and node table are as built and as at Start, a question is `Firm` while the bytes lent with each accepted
-//! advance are below S. The rule settles it then, and never with 18. Elsewhere 18 is allowed where what is lent gives a
-//! cause for it.
+//! "Nothing about Start is left to the program": it is accepted on sound lends alone. What advances leave to it, "save
+//! what Parts of a question and the closing words on 18 below settle": where plan, rules and node table are as at Start,
+//! a question is `Firm` while the bytes lent with each accepted advance are below S. The rule settles it then, and never
+//! with 18. Elsewhere 18 is allowed where what is lent gives a cause for it.
 
 use crate::causes;
 use crate::formats::{read_plan, read_rules};
@@ -36,7 +36,8 @@ pub enum Standing {
     Loose,
 }
 
-/// What a Start gave, without excess.
+/// What a Start gave, without excess; it is sound. Of its plan the tree, the labels as changed, and the roots of the
+/// parts.
 struct Start {
     nodes: Vec<u16>,
     labels: Vec<u8>,
@@ -44,12 +45,6 @@ struct Start {
     rules: Vec<u8>,
     node_table: Vec<u16>,
     state_table: Vec<u8>,
-    built: Option<Built>,
-}
-
-/// Where plan and rules pass 2 to 10 with N, S and K, and the node table is what Load writes: the tree, the labels as
-/// changed, and the roots of the parts.
-struct Built {
     tree: Tree,
     changed: Vec<u8>,
     roots: Vec<usize>,
@@ -105,7 +100,8 @@ impl Book {
         }
     }
 
-    /// "One of the next section's checks, 18 apart, says no: the first such number; the book stays."
+    /// "One of the next section's checks, 18 apart, says no: the first such number; the book stays." Start's 18 is one
+    /// of them, and comes last: `start`.
     fn first_no(&self, call: &Call) -> Result<(), u32> {
         self.phase.allows(call)?;
         match *call {
@@ -130,21 +126,15 @@ impl Book {
         Book { phase, sizes: self.sizes, question: Some(question) }
     }
 
-    /// "Start: running, count 0, clean if sound; clean, it tells the number of parts."
+    /// "Start: running, count 0, clean if sound; clean, it tells the number of parts." 18 exactly where it is not sound.
     fn start(&self, lends: Lends, nodes: &[u16], labels: &[u8]) -> Next {
-        let (start, standing) = Start::new(self.sizes, &lends, nodes, labels);
-        let roots = start.built.as_ref().map(|built| built.roots.len());
-        let question = Question { start: Rc::new(start), count: 0, standing, parts: vec![] };
-        let running = self.with(Phase::Running, question);
-        if let Some(parts) = roots {
-            return Next::Settled(Answer::Parts(parts as u32), running);
-        }
-        let (as_is, caused) = (self.clone(), causes::in_node_table(self.sizes, &lends));
-        Next::Left(Box::new(move |answer| match answer {
-            Answer::Refused(18) if caused => Some(as_is.clone()),
-            Answer::Parts(_) => Some(running.clone()),
-            _ => None,
-        }))
+        let start = match Start::new(self.sizes, &lends, nodes, labels) {
+            Some(start) => start,
+            None => return Next::Settled(Answer::Refused(18), self.clone()),
+        };
+        let parts = start.roots.len() as u32;
+        let question = Question { start: Rc::new(start), count: 0, standing: Standing::Clean, parts: vec![] };
+        Next::Settled(Answer::Parts(parts), self.with(Phase::Running, question))
     }
 
     fn advance(&self, lends: &Lends) -> Next {
@@ -160,9 +150,9 @@ impl Book {
         let mut question = question.clone();
         question.count += 1;
         question.standing = standing;
-        let built = question.start.built.as_ref().expect("clean or firm");
-        let (v, last) = (built.roots[question.parts.len()], question.count == built.roots.len());
-        let part = question.start.on(lends.state_table, |given| given.part(&built.roots, &question.parts, v));
+        let roots = &question.start.roots;
+        let (v, last) = (roots[question.parts.len()], question.count == roots.len());
+        let part = question.start.on(lends.state_table, |given| given.part(roots, &question.parts, v));
         question.parts.push(part);
         if last {
             Next::Settled(Answer::Finished, self.with(Phase::Answered, question))
@@ -204,32 +194,23 @@ impl Book {
 }
 
 impl Start {
-    /// Lends that fit. "Sound means that plan and rules pass 2 to 10 with that N, S and K and the tables, excess aside,
-    /// are what Load writes from them." Nothing asks whether it is the plan of the Load.
-    fn new(sizes: Sizes, lends: &Lends, nodes: &[u16], labels: &[u8]) -> (Start, Standing) {
-        let mut start = Start {
-            nodes: nodes.to_vec(),
-            labels: labels.to_vec(),
-            plan: lends.plan.to_vec(),
-            rules: lends.rules.to_vec(),
-            node_table: lends.node_table[..4 * sizes.n].to_vec(),
-            state_table: lends.state_table[..(sizes.s + 1) * sizes.n].to_vec(),
-            built: None,
-        };
-        let passes = crate::build_checks(lends.plan, lends.rules, usize::MAX, usize::MAX).is_ok();
-        if !passes || named(lends) != sizes {
-            return (start, Standing::Loose);
-        }
+    /// Lends that fit; none where they are not sound. "Sound means that plan and rules pass 2 to 10 with that N, S and K
+    /// and the tables, excess aside, are what Load writes from them." Nothing asks whether it is the plan of the Load.
+    fn new(sizes: Sizes, lends: &Lends, nodes: &[u16], labels: &[u8]) -> Option<Start> {
+        let node_table = lends.node_table[..4 * sizes.n].to_vec();
+        let state_table = lends.state_table[..(sizes.s + 1) * sizes.n].to_vec();
+        crate::build_checks(lends.plan, lends.rules, usize::MAX, usize::MAX).ok()?;
         let (plan, rules) = (read_plan(lends.plan).unwrap(), read_rules(lends.rules).unwrap());
         let written = rule_tables(&plan, &rules);
-        if start.node_table != written.node_table {
-            return (start, Standing::Loose);
+        let states_same = state_table == written.state_table || made(Mistake::BytesNotAsked);
+        if named(lends) != sizes || node_table != written.node_table || !states_same {
+            return None;
         }
         let tree = Tree::of(&plan);
         let (changed, roots) = (changed(plan.labels, nodes, labels), by_marks(&tree, nodes));
-        start.built = Some(Built { tree, changed, roots });
-        let sound = start.state_table == written.state_table;
-        (start, if sound { Standing::Clean } else { Standing::Firm })
+        let (nodes, labels) = (nodes.to_vec(), labels.to_vec());
+        let (plan, rules) = (lends.plan.to_vec(), lends.rules.to_vec());
+        Some(Start { nodes, labels, plan, rules, node_table, state_table, tree, changed, roots })
     }
 
     fn same_but_states(&self, lends: &Lends) -> bool {
@@ -242,24 +223,23 @@ impl Start {
     }
 
     /// "Where plan and rules name the record's N, S and K and, like the 16-bit numbers, are as at Start and as built,
-    /// but run states and maps are any bytes below S".
+    /// but run states and maps are any bytes below S": what Start was given is as built.
     fn usable(&self, sizes: Sizes, lends: &Lends) -> bool {
         let used = &lends.state_table[..self.state_table.len()];
-        self.built.is_some() && self.same_but_states(lends) && used.iter().all(|&q| (q as usize) < sizes.s)
+        self.same_but_states(lends) && used.iter().all(|&q| (q as usize) < sizes.s)
     }
 
     /// The rule on Start's plan and rules and some bytes.
     fn on<T>(&self, state_table: &[u8], f: impl FnOnce(&Given) -> T) -> T {
         let (plan, rules) = (read_plan(&self.plan).unwrap(), read_rules(&self.rules).unwrap());
-        let built = self.built.as_ref().expect("clean or firm");
-        f(&Given { tree: &built.tree, labels: plan.labels, changed: &built.changed, rules: &rules, state_table })
+        f(&Given { tree: &self.tree, labels: plan.labels, changed: &self.changed, rules: &rules, state_table })
     }
 
     /// "the root state, and its yes or no, of a fresh run (.. on Start's plan with the listed labels changed), the
     /// parts, and as links the moves of its parts' climbs"
     fn fresh_answer(&self) -> Told {
         let fresh = fresh_run(&self.plan, &self.rules, &self.nodes, &self.labels).expect("sound");
-        let roots = &self.built.as_ref().expect("sound").roots;
+        let roots = &self.roots;
         let links: usize = self.on(&self.state_table, |given| given.parts(roots)).iter().map(|part| part.links).sum();
         Told { state: fresh.state as u32, yes: fresh.yes, parts: roots.len() as u32, links: links as u32 }
     }

@@ -1,4 +1,4 @@
-//! What 18 is given for: "a value read leads outside the plan, the states or the labels, or a climb doesn't rise". It is
+//! What an advance's 18 is given for: "a value read leads outside the plan, the states or the labels, or a climb doesn't rise". It is
 //! looked for in all that is lent, value by value, and not on the way that a call goes.
 
 use crate::fresh::changed;
@@ -50,13 +50,7 @@ impl NodeTable<'_> {
     }
 }
 
-/// A cause in the node table: of what a Start reads.
-pub fn in_node_table(sizes: Sizes, lends: &Lends) -> bool {
-    let node_table = NodeTable { n: sizes.n, node_table: lends.node_table };
-    !made(Mistake::NodeTableIsNoCause) && (0..sizes.n).any(|v| node_table.strays(v) || node_table.is_apart(v))
-}
-
-/// A cause anywhere: of what an advance reads, with the labels as the list changes them.
+/// A cause anywhere in what is lent, with the labels as the list changes them.
 pub fn anywhere(sizes: Sizes, lends: &Lends, nodes: &[u16], labels: &[u8]) -> bool {
     let Sizes { n, s, k } = sizes;
     let (plan_labels, kinds) = lends.plan[12..].split_at(n);
@@ -64,7 +58,8 @@ pub fn anywhere(sizes: Sizes, lends: &Lends, nodes: &[u16], labels: &[u8]) -> bo
     let node_table = NodeTable { n, node_table: lends.node_table };
     let no_state = |&q: &u8| q as usize >= s;
     let no_label = |&a: &u8| a as usize >= k;
-    in_node_table(sizes, lends)
+    let in_node_table = || (0..n).any(|v| node_table.strays(v) || node_table.is_apart(v));
+    !made(Mistake::NodeTableIsNoCause) && in_node_table()
         || states.iter().chain(rules).any(no_state)
         || plan_labels.iter().chain(&changed(plan_labels, nodes, labels)).any(no_label)
         || (0..n).any(|v| kinds[v] != 0 && node_table.is_childless(v))

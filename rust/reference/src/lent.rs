@@ -1,5 +1,6 @@
-//! A question on lent tables, whatever they hold: the roots of its parts and one part, or 18, where "a value read leads
-//! outside the plan, the states or the labels, or a climb doesn't rise". N, S and K are the record's; no header is read.
+//! A question on lent tables: the roots of its parts, where they are as built; and one part, whatever they hold, or 18,
+//! where "a value read leads outside the plan, the states or the labels, or a climb doesn't rise". N, S and K are the
+//! record's; no header is read.
 
 use crate::climb::{climb, Lent, Links, Move};
 use crate::mistakes::{made, unless, Mistake};
@@ -31,40 +32,33 @@ impl<'a> View<'a> {
     }
 
     /// The listed nodes and the root; for each two neighbours of these, the root apart, the lowest node at or above the
-    /// second that has the first below it and, where that is not the second, its two children.
-    pub fn roots(&self, listed: &[u16]) -> Result<Vec<usize>, u32> {
+    /// second that has the first below it and, where that is not the second, its two children. On tables as built.
+    pub fn roots(&self, listed: &[u16]) -> Vec<usize> {
         let root = self.sizes.n - 1;
         let mut wanted: BTreeSet<usize> = listed.iter().map(|&v| v as usize).collect();
         wanted.insert(root);
         let in_order: Vec<usize> = wanted.iter().copied().collect();
         for pair in in_order.windows(2).filter(|pair| pair[1] != root) {
-            let x = self.meet(pair[0], pair[1])?;
+            let x = self.meet(pair[0], pair[1]);
             if x != pair[1] {
-                let (left, right) = self.children(x)?;
+                let (left, right) = self.children(x).expect("as built");
                 wanted.insert(x);
                 if !made(Mistake::ChildrenLeftOut) {
                     wanted.extend([left, right]);
                 }
             }
         }
-        Ok(wanted.into_iter().collect())
+        wanted.into_iter().collect()
     }
 
     /// From v up, by the jump unless that has u below it, else to the parent, until a node has u below it.
-    fn meet(&self, u: usize, v: usize) -> Result<usize, u32> {
+    fn meet(&self, u: usize, v: usize) -> usize {
         let mut x = v;
         while !self.is_below(u, x) {
             let jump = self.tree.jump(x);
-            if jump >= self.sizes.n {
-                return Err(18);
-            }
-            let next = if self.is_below(u, jump) { self.tree.parent(x) } else { jump };
-            if next >= self.sizes.n || self.tree.depth(next) >= self.tree.depth(x) {
-                return Err(18);
-            }
-            x = next;
+            x = if self.is_below(u, jump) { self.tree.parent(x) } else { jump };
         }
-        Ok(x)
+        x
     }
 
     /// By the lent size of c.

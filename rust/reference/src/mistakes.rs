@@ -51,6 +51,10 @@ pub enum Mistake {
     TailsFree,
     /// A link that leads outside the plan or does not rise is no cause for 18.
     NodeTableIsNoCause,
+    /// Start does not ask whether the headers name the record's N, S and K.
+    NamesNotAsked,
+    /// Start looks at the node table alone.
+    BytesNotAsked,
     /// In a merged table p and q become q×S1+p.
     PairsExchanged,
     /// A merged state is marked where one of its two states is.

@@ -1,13 +1,13 @@
 //! The five calls of the panel session, on the record's bytes.
 
-use crate::build;
 use crate::formats::number;
 use crate::fresh::check_list;
 use crate::lent::View;
-use crate::mistakes::{unless, Mistake};
+use crate::mistakes::{made, unless, Mistake};
 use crate::panel::{Answer, Call, Lends, Phase, Sizes, Told};
 use crate::record::Record;
 use crate::tables::Tables;
+use crate::{build, check};
 
 /// What a call leaves: the answer, the record's bytes, and the tables that an accepted Load writes.
 pub struct Done {
@@ -51,11 +51,14 @@ impl Record {
         }
     }
 
-    /// 17, 12 to 15, 18. "clean, it tells the number of parts"; nothing of an earlier question stays.
+    /// 17, 12 to 15, 18. It tells the number of parts; nothing of an earlier question stays.
     fn start(self, lends: Lends, nodes: &[u16], labels: &[u8]) -> Result<After, u32> {
         self.sizes.fit(&lends)?;
         check_list(nodes, labels, self.sizes.n, self.sizes.k)?;
-        let roots = View::new(self.sizes, &lends).roots(nodes)?;
+        if !sound(self.sizes, &lends) {
+            return Err(18);
+        }
+        let roots = View::new(self.sizes, &lends).roots(nodes);
         let answer = Answer::Parts(roots.len() as u32);
         let record = Record {
             phase: Phase::Running,
@@ -90,6 +93,13 @@ impl Record {
 fn load(lends: Lends) -> Result<After, u32> {
     let tables = build(lends.plan, lends.rules, lends.node_table.len(), lends.state_table.len())?;
     Ok((Answer::Accepted, Record::loaded(named(&lends)), Some(tables)))
+}
+
+/// "Start shall make the full check of what is lent", with the record's N, S and K. Nothing asks whether it is the plan
+/// of the Load.
+fn sound(sizes: Sizes, lends: &Lends) -> bool {
+    (named(lends) == sizes || made(Mistake::NamesNotAsked))
+        && check(lends.plan, lends.rules, lends.node_table, lends.state_table) == Ok(true)
 }
 
 /// N, S and K as the headers name them.

@@ -64,6 +64,7 @@ impl Session {
         }
         let lent = self.lent(lends)?;
         list(nodes, labels, lent.n, lent.k)?;
+        lent.sound(lends.plan, lends.rules, lends.node_table, lends.state_table)?;
         let roots = lent.roots(nodes)?;
         let roots = roots.as_slice();
         *self = Session::loaded(self.n, self.s, self.k);

@@ -54,6 +54,7 @@ pub fn start(
     let head = made_in(record, &[LOADED, ANSWERED])?;
     let lent = Lent::new((head.n, head.s, head.k), plan, rules, node_table, state_table)?;
     list(nodes, labels, head.n, head.k)?;
+    lent.sound(plan, rules, node_table, state_table)?;
     let roots = lent.roots(nodes)?;
     let roots = roots.as_slice();
     record[0] = RUNNING;

@@ -4,7 +4,8 @@
 -- ListShaped vs bs, PartsShaped h rs qs == two arrays have these lengths; for parts also: the plan has a node, and no more
 --   parts are handled than there are
 -- loadedBy n s k, loadedFrom plan rules == the record after a first Load
--- Headers plan rules == both headers are whole, and N, S and K are at most their limits
+-- HeaderArgs plan rules == both headers are whole; Headers plan rules == besides N, S and K are at most their limits
+-- sizesBy n s k == these as sizes
 --
 -- Assumes nothing.
 use Prim.Native.Nat.{ℕ, _≤_}
@@ -13,7 +14,7 @@ use mathlib.Core.List.{List}
 use lib.ListN.{length}
 use Rattle.formats.specs.Plan.{nodeCount}
 use Rattle.formats.specs.Rules.{stateCount, labelCount}
-use Rattle.formats.specs.Inputs.{Inputs}
+use Rattle.formats.specs.Inputs.{Sizes}
 use Rattle.model.specs.Model.{Record, loadedRecord}
 use Rattle.session.specs.declared.state.Head.{Head}
 use Rattle.session.specs.declared.state.Session.{Session}
@@ -34,12 +35,19 @@ pub record PartsShaped (h : Head) (rs qs : List ℕ) : Type 0 where
   pub some-node : 1 ≤ h .sizes .n
   pub counted : h .handled ≤ h .parts
 
+abbrev pub sizesBy : ℕ → ℕ → ℕ → Sizes
+sizesBy n s k = record { n = n; s = s; k = k }
+
 -- the record after a first Load of N, S and K, and of a plan and rules
 abbrev pub loadedBy : ℕ → ℕ → ℕ → Record
-loadedBy n s k = loadedRecord (record { n = n; s = s; k = k })
+loadedBy n s k = loadedRecord (sizesBy n s k)
 
 abbrev pub loadedFrom : List ℕ → List ℕ → Record
 loadedFrom plan rules = loadedBy (nodeCount plan) (stateCount rules) (labelCount rules)
+
+pub record HeaderArgs (plan rules : List ℕ) : Type 0 where
+  pub plan-head : 12 ≤ length plan
+  pub rules-head : 20 ≤ length rules
 
 -- both headers are whole, and N, S and K fit the record
 pub record Headers (plan rules : List ℕ) : Type 0 where

@@ -1,5 +1,6 @@
 //! Sessions on lends that are not as built: node table, state table, labels, kinds, headers and rules with other
-//! values. Every answer and every record is the reference's, which follows the lent values and gives 18 where one leads outside.
+//! values. Start gives 18. Between Start and advance every answer and every record is the reference's, which follows the
+//! lent values and gives 18 where one leads outside.
 
 use crate::alterations::{Alteration, ALTERATIONS};
 use crate::counts::Counts;
@@ -53,17 +54,19 @@ pub fn everything(random: &mut Random, counts: &mut Counts) {
     came.iter().for_each(|what| counts.add(format!("several: {}", what)));
 }
 
-/// Start and advances on damaged lends; 18 in the middle is tried again, and then the lends are restored or the question
-/// is given up. What came, in order.
+/// Start on damaged lends and, where it gets 18, on good ones; then advances on damaged lends. 18 in the middle is tried
+/// again, and then the lends are restored or the question is given up. What came, in order.
 fn ask(panel: &mut Panel, case: &Case, good: &Lent, bad: &Lent, random: &mut Random) -> Vec<&'static str> {
     let m = random.between(0, 12);
     let (nodes, labels) = case.list(m, random);
-    let lent = if random.below(3) == 0 { good } else { bad };
-    let mut came = match panel.start(lent, &nodes, &labels, random) {
+    let mut came = match panel.start(bad, &nodes, &labels, random) {
         Answer::Parts(_) => vec!["started"],
-        Answer::Refused(18) => return vec!["18 at Start"],
+        Answer::Refused(18) => vec!["18 at Start"],
         other => panic!("{:?}", other),
     };
+    if came[0] == "18 at Start" {
+        assert!(matches!(panel.start(good, &nodes, &labels, random), Answer::Parts(_)));
+    }
     loop {
         let lent = if random.below(20) == 0 { good } else { bad };
         let before = panel.record.clone();

@@ -1,5 +1,5 @@
-//! Run states and maps that are any bytes below S, under plan, rules and node table as built: "an advance goes on as
-//! always and stores and counts what this rule gives on those bytes". The book replays the rule on the tree.
+//! Run states and maps that are any bytes below S, under plan, rules and node table as built: 18 at Start; "an advance
+//! goes on as always and stores and counts what this rule gives on those bytes". The book replays the rule on the tree.
 
 use crate::alterations::Alteration;
 use crate::counts::Counts;
@@ -29,7 +29,7 @@ fn altered(lent: &Lent, case: &Case, random: &mut Random) -> Lent {
     other
 }
 
-/// A question whose advances, and maybe its Start, are lent other bytes, the same for all or others for each. As many
+/// A question whose advances are lent other bytes, the same for all or others for each; Start refuses them. As many
 /// advances as there are parts, and as many links as on tables as built; the answer may be another.
 pub fn ask(case: &Case, lent: &Lent, m: usize, each: bool, random: &mut Random, counts: &mut Counts) {
     let mut panel = Panel::loaded(lent, random);
@@ -37,10 +37,14 @@ pub fn ask(case: &Case, lent: &Lent, m: usize, each: bool, random: &mut Random, 
     assert!(matches!(panel.start(lent, &nodes, &labels, random), Answer::Parts(_)));
     let (_, as_built) = panel.finish(lent, random);
     let mut now = altered(lent, case, random);
-    let at_start = if random.below(2) == 0 { lent } else { &now };
-    let parts = match panel.start(at_start, &nodes, &labels, random) {
+    let used = case.state_table_len();
+    if now.state_table[..used] != lent.state_table[..used] {
+        assert_eq!(panel.start(&now, &nodes, &labels, random), Answer::Refused(18));
+        counts.add("18 at Start");
+    }
+    let parts = match panel.start(lent, &nodes, &labels, random) {
         Answer::Parts(parts) => parts,
-        other => panic!("a Start on other bytes answered {:?}", other),
+        other => panic!("a Start on tables as built answered {:?}", other),
     };
     for i in 1..=parts {
         if each {

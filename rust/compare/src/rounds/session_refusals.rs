@@ -18,6 +18,9 @@ pub const LOAD_CHECKS: [u32; 11] = [1, 2, 3, 4, 5, 6, 7, 8, 9, 10, 11];
 pub const START_CHECKS: [u32; 7] = [1, 17, 12, 13, 14, 15, 18];
 pub const ADVANCE_CHECKS: [u32; 3] = [1, 17, 18];
 
+/// How many kinds of damage `unsound` knows.
+pub const DAMAGES: usize = 10;
+
 /// A call with some faults laid.
 pub type Faulty = fn(&[u32], &mut Random) -> Answer;
 
@@ -57,6 +60,9 @@ fn load(faults: &[u32], random: &mut Random) -> Answer {
 
 fn start(faults: &[u32], random: &mut Random) -> Answer {
     let mut scene = Scene::new(random);
+    if faults.contains(&18) {
+        scene.unsound(random.below(DAMAGES), random);
+    }
     scene.lay(faults, random);
     let record = scene.record(&[Phase::Loaded, Phase::Answered], faults, random);
     sides::call(&record, &Call::Start(scene.lent.lends(), &scene.nodes, &scene.labels), random).answer
@@ -64,6 +70,11 @@ fn start(faults: &[u32], random: &mut Random) -> Answer {
 
 fn advance(faults: &[u32], random: &mut Random) -> Answer {
     let mut scene = Scene::new(random);
+    if faults.contains(&18) {
+        // no jump leads inside the plan, and no result is a state
+        scene.lent.node_table.iter_mut().skip(1).step_by(4).for_each(|jump| *jump = u16::MAX);
+        scene.lent.rules[20..].fill(255);
+    }
     scene.lay(faults, random);
     let record = scene.record(&[Phase::Running], faults, random);
     sides::call(&record, &Call::Advance(scene.lent.lends()), random).answer
@@ -123,16 +134,31 @@ impl Scene {
         record
     }
 
-    /// Lays the faults of Start or advance, the last checks first.
+    /// Lays a damage that Start's full check must find, by its kind: in a table, also the last of its values, or in plan
+    /// or rules, so that they no longer pass 2 to 10 or name other sizes.
+    pub fn unsound(&mut self, kind: usize, random: &mut Random) {
+        let Case { n, s, k, .. } = self.case;
+        let Lent { plan, rules, node_table, state_table } = &mut self.lent;
+        let (root, marks) = (4 * (n - 1), rules.len() - s);
+        match kind {
+            0 => node_table[random.below(4 * n)] ^= 1,
+            1 => node_table[root + random.below(4)] ^= 1,
+            2 => state_table[random.below((s + 1) * n)] ^= 1,
+            3 => state_table[(s + 1) * n - 1] ^= 1,
+            4 => plan[12 + random.below(n)] = random.between(k, 255) as u8,
+            5 => plan[12 + n + random.below(n)] = 2,
+            6 => plan[random.below(12)] ^= 1,
+            7 => rules[random.below(20)] ^= 1,
+            8 => rules[20 + random.below(k + s * k * s)] = random.between(s, 255) as u8,
+            _ => rules[marks + random.below(s)] = 2,
+        }
+    }
+
+    /// Lays the faults of Start or advance but 18, the last checks first.
     fn lay(&mut self, faults: &[u32], random: &mut Random) {
         trace::say(format!("faults {:?}", faults));
         let Case { n, k, .. } = self.case;
         let has = |number: &u32| faults.contains(number);
-        if has(&18) {
-            // no jump leads inside the plan, and no result is a state
-            self.lent.node_table.iter_mut().skip(1).step_by(4).for_each(|jump| *jump = u16::MAX);
-            self.lent.rules[20..].fill(255);
-        }
         for check in [15, 14, 13, 12].into_iter().filter(has) {
             lay_on_list(check, &mut self.nodes, &mut self.labels, (n, k), random);
         }

@@ -11,7 +11,8 @@ use Rattle.session.specs.inner.Shapes.{Shaped}
 use Rattle.formats.specs.Inputs.{inputsOf}
 use Rattle.session.proofs.ShapeLaws.{shaped}
 use Rattle.session.proofs.CallLaws.{allowed-by}
-use Rattle.session.proofs.StartLaws.{start-1, start-limits, start-17, start-room, start-list, start-listed, start-18, start-count, start-yes}
+use Rattle.session.proofs.StartLaws.{start-1, start-limits, start-17, start-room, start-headers, start-list, start-listed, start-18}
+use Rattle.session.proofs.StartLaws.{start-count, start-yes}
 use native.Mathlib.Omega.{arith}
 use borrow.Author.Needs.{needs}
 use Rattle.session.proofs.state.Session.start.Statement.{statement}
@@ -67,9 +68,32 @@ returns-3 c =
     (may m)
     (e .if1 .left) _ (k .rule-buffers-fit .ensures) (t .if2 .left) _ (l .check-list .ensures) (c .if3 .taken)
 
+tables-sound-requires : tie.Need-tables-sound-requires
+tables-sound-requires c κs =
+    let t = c .before .before in
+    let k = t .before in
+    let e = k .before .before .before .before in
+    let m = e .before in
+    start-headers (of m .args .t1) (shape (of m)) (lent (of m)) (of m .args .nodes .now) (of m .args .labels .now) _
+    (may m) (e .if1 .left) _ (k .rule-buffers-fit .ensures) (t .if2 .left)
+
+returns-4 : tie.Need-returns-4
+returns-4 c =
+    let w = c .before in
+    let u = w .before in
+    let l = u .before in
+    let t = l .before in
+    let k = t .before in
+    let e = k .before .before .before .before in
+    let m = e .before in
+    start-18 (of m .args .t1) (shape (of m)) (lent (of m)) (of m .args .nodes .now) (of m .args .labels .now) _
+    (may m)
+    (e .if1 .left) _ (k .rule-buffers-fit .ensures) (t .if2 .left) _ (l .check-list .ensures) (u .if3 .left) _ (w .tables-sound .ensures)
+    (c .if4 .taken)
+
 mul-roots : tie.Need-mul-roots
 mul-roots c =
-    let e = c .before .before .before .before .before .before .before in
+    let e = c .before .before .before .before .before .before .before .before .before in
     let m = e .before in
     omega (
       arith,
@@ -79,7 +103,7 @@ mul-roots c =
 
 slice-aggregate-roots : tie.Need-slice-aggregate-roots
 slice-aggregate-roots c =
-    let t = c .before .before .before in
+    let t = c .before .before .before .before .before in
     let k = t .before in
     let e = k .before .before .before .before in
     let m = e .before in
@@ -88,25 +112,12 @@ slice-aggregate-roots c =
     (may m) (e .if1 .left) _ (k .rule-buffers-fit .ensures) (t .if2 .left) in
     sym (length-take-le (of m .args .t1 .head .sizes .n * 4) (of m .args .node-table .now) h)
 
-returns-4 : tie.Need-returns-4
-returns-4 c =
-    let r = c .before .before in
-    let u = r .before .before in
-    let l = u .before in
-    let t = l .before in
-    let k = t .before in
-    let e = k .before .before .before .before in
-    let m = e .before in
-    start-18 (of m .args .t1) (shape (of m)) (lent (of m)) (of m .args .nodes .now) (of m .args .labels .now) _
-    (may m)
-    (e .if1 .left) _ (k .rule-buffers-fit .ensures) (t .if2 .left) _ (l .check-list .ensures) (u .if3 .left) _ (r .roots .ensures .result)
-    (c .if4 .taken)
-
 cast-parts : tie.Need-cast-parts
 cast-parts c =
-    let w = c .before in
-    let r = w .before .before in
-    let u = r .before .before in
+    let r = c .before in
+    let o = r .before .before in
+    let w = o .before in
+    let u = w .before in
     let l = u .before in
     let t = l .before in
     let k = t .before in
@@ -117,14 +128,15 @@ cast-parts c =
       start-count (of m .args .t1) (shape (of m)) (lent (of m)) (of m .args .nodes .now) (of m .args .labels .now) _
           (may m)
           (e .if1 .left) _ (k .rule-buffers-fit .ensures) (t .if2 .left) _ (l .check-list .ensures) (u .if3 .left) _
-          (r .roots .ensures .result) (w .if4 .left),
+          (w .tables-sound .ensures) (o .if4 .left) _ (r .roots .ensures),
     )
 
 started-requires : tie.Need-started-requires
 started-requires c κs =
-    let w = c .before .before in
-    let r = w .before .before in
-    let u = r .before .before in
+    let r = c .before .before in
+    let o = r .before .before in
+    let w = o .before in
+    let u = w .before in
     let l = u .before in
     let t = l .before in
     let k = t .before in
@@ -136,9 +148,10 @@ started-requires c κs =
 
 returns-5 : tie.Need-returns-5
 returns-5 c =
-    let w = c .before .before .before in
-    let r = w .before .before in
-    let u = r .before .before in
+    let r = c .before .before .before in
+    let o = r .before .before in
+    let w = o .before in
+    let u = w .before in
     let l = u .before in
     let t = l .before in
     let k = t .before in
@@ -146,9 +159,8 @@ returns-5 c =
     let m = e .before in
     start-yes (of m .args .t1) (shape (of m)) (lent (of m)) (of m .args .nodes .now) (of m .args .labels .now) _
     (may m)
-    (e .if1 .left) _ (k .rule-buffers-fit .ensures) (t .if2 .left) _ (l .check-list .ensures) (u .if3 .left) _ (r .roots .ensures .result)
-    (w .if4 .left)
-    _ (c .started .ensures)
+    (e .if1 .left) _ (k .rule-buffers-fit .ensures) (t .if2 .left) _ (l .check-list .ensures) (u .if3 .left) _ (w .tables-sound .ensures)
+    (o .if4 .left) _ (r .roots .ensures) _ (c .started .ensures)
 
 pub start-spec : {M : Type 1} → statement M
 start-spec =
@@ -164,10 +176,11 @@ start-spec =
     returns-2
     (λ c κs. search needs)
     returns-3
+    tables-sound-requires
+    returns-4
     mul-roots
     slice-aggregate-roots
     (λ c κs. search needs)
-    returns-4
     cast-parts
     started-requires
     returns-5)
