@@ -4,6 +4,7 @@
 --     changed-superseded   changing by a list is changing by its superseded form
 --     changed-over         changing by one list and then by another is changing by the second laid over the first
 --     holds-superseded     the nodes listed are those of the superseded form; holds-laid: those of both lists
+--     same-count           lists that name the same nodes have as many after superseding
 --     superseded-passes, laid-passes   what passes 13 and 14 does so superseded, and laid one over the other
 -- Assumes nothing.
 use Prim.Native.Nat.{ℕ, zero, suc, _+_, _≤_, _<_}
@@ -21,10 +22,13 @@ use Rattle.trees.specs.Changes.{changed}
 use Rattle.trees.proofs.RunLaws.{changed-length}
 use Rattle.list_laws.specs.Tests.{allBelow, holds}
 use Rattle.list_laws.proofs.BoolLaws.{and-both, and-left, and-right}
+use Rattle.formats.specs.Checks.{firstNo, listChecks}
+use Rattle.formats.proofs.InputLaws.{ListPasses, list-passes, passes-list}
 use Rattle.changes.specs.Entries.{Entry, entry, entries, nodesListed, labelsListed, lastLabel, put, putAll, superseded, laidOver}
-use Rattle.changes.proofs.EntryLaws.{entries-listed, nodes-entries, labels-entries, lastLabel-append, listed-holds, isSome}
-use Rattle.changes.proofs.RisingLaws.{Place, later, same, sooner, place, put-later, put-same, put-here}
-use Rattle.changes.proofs.LaidLaws.{superseded-labels, laid-labels}
+use Rattle.changes.proofs.EntryLaws.{entries-listed, nodes-entries, labels-entries, length-entries, length-nodes, length-labels}
+use Rattle.changes.proofs.EntryLaws.{listed-holds, isSome}
+use Rattle.changes.proofs.RisingLaws.{Place, later, same, sooner, place, put-later, put-same, put-here, rising-fewer, superseded-most}
+use Rattle.changes.proofs.LaidLaws.{superseded-rises, superseded-labels, laid-labels}
 
 -- the label of an option, or another
 abbrev pub labelOr : Option ℕ → ℕ → ℕ
@@ -113,6 +117,18 @@ holds-laid v a b =
     listed-holds v (laidOver a b) ∙ ap isSome (laid-labels a b v) ∙ either-some (lastLabel v b) (lastLabel v a)
     ∙ sym (ap₂ (λ (x y : Bool). x || y) (listed-holds v a) (listed-holds v b))
 
+-- lists that name the same nodes have as many after superseding
+pub same-count : (a b : List Entry) → ((v : ℕ) → holds v (nodesListed a) ≡ holds v (nodesListed b))
+    → length (superseded a) ≡ length (superseded b)
+same-count a b f = omega (arith, fewer a b (λ v. f v), fewer b a (λ v. sym (f v)))
+  where
+    fewer : (c d : List Entry) → ((v : ℕ) → holds v (nodesListed c) ≡ holds v (nodesListed d))
+        → length (superseded c) ≤ length (superseded d)
+    fewer c d g =
+        rising-fewer (superseded c) (superseded d) (superseded-rises c) (superseded-rises d) (λ v h.
+        ap isSome (superseded-labels d v) ∙ sym (listed-holds v d) ∙ sym (g v) ∙ listed-holds v c
+        ∙ sym (ap isSome (superseded-labels c v)) ∙ h)
+
 -- ---- 13 and 14
 
 -- every entry passes a test
@@ -155,3 +171,20 @@ module _ (f : Entry → Bool) where
   pub laid-passes : (a b : List Entry) → allPass f a ≡ true → allPass f b ≡ true → allPass f (laidOver a b) ≡ true
   unfolding laidOver
   laid-passes a b h k = putAll-passes b (superseded a) k (superseded-passes a h)
+
+-- a list that passes 12 to 14 does so superseded
+pub superseded-list : (n k : ℕ) (vs bs : List ℕ) → firstNo (listChecks n k vs bs) ≡ 0
+    → firstNo (listChecks n k (nodesListed (superseded (entries vs bs))) (labelsListed (superseded (entries vs bs)))) ≡ 0
+superseded-list n k vs bs e =
+    let l = superseded (entries vs bs) in
+    let p : ListPasses n k vs bs = list-passes n k vs bs e in
+    let m : length (superseded (entries vs bs)) ≤ length vs =
+    omega (arith, superseded-most (entries vs bs), length-entries vs bs (p .lengths)) in
+    passes-list n k (nodesListed l) (labelsListed l) (record {
+      lengths = length-nodes l ∙ sym (length-labels l);
+      most = omega (arith, length-nodes l, p .most);
+      nodes-below = nodes-pass n l ∙ superseded-passes (λ e. ltb (e .node) n) (entries vs bs)
+          (sym (nodes-pass n (entries vs bs)) ∙ ap (allBelow n) (nodes-entries vs bs (p .lengths)) ∙ p .nodes-below);
+      labels-below = labels-pass k l ∙ superseded-passes (λ e. ltb (e .label) k) (entries vs bs)
+          (sym (labels-pass k (entries vs bs)) ∙ ap (allBelow k) (labels-entries vs bs (p .lengths)) ∙ p .labels-below);
+    })

@@ -108,12 +108,12 @@ pub other-at-start :
 unfolding seen loadA inputsA onNode otherState otherNumber otherLabel
 other-at-start = refl
 
--- 18 is the last of Start's checks: 17 and 12 to 15 come before it
+-- 18 is the last of Start's checks: 17 and 12 to 14 come before it; a node listed twice is none of them
 pub eighteen-last :
     seen (load loadA ∷ start nothing [] [] ∷ start (otherState 1 1) (0 ∷ []) [] ∷ start (otherState 1 1) (7 ∷ []) (0 ∷ [])
     ∷ start (otherState 1 1) (0 ∷ []) (2 ∷ []) ∷ start (otherState 1 1) (0 ∷ 0 ∷ []) (0 ∷ 1 ∷ []) ∷ start (otherState 1 1) [] [] ∷ [])
     ≡ all (some Answer.accepted ∷ some (refused 17) ∷ some (refused 12) ∷ some (refused 13) ∷ some (refused 14)
-    ∷ some (refused 15) ∷ some (refused 18) ∷ [])
+    ∷ some (refused 18) ∷ some (refused 18) ∷ [])
 unfolding seen loadA inputsA otherState
 eighteen-last = refl
 
