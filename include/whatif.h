@@ -105,7 +105,7 @@ enum whatif_answer {
     WHATIF_REFUSED_NOT_BELOW = 16,
     /* What is lent does not have the length that the counts of nodes, states and labels need. */
     WHATIF_REFUSED_LENT_LENGTH = 17,
-    /* A value read leads outside the plan, the states or the labels, or a climb does not rise. */
+    /* What Start is lent is not as built, or a value that another call reads leads outside or does not rise. */
     WHATIF_REFUSED_LENT_VALUE = 18,
     /* The two rule tables do not have the same count of labels. */
     WHATIF_REFUSED_LABEL_COUNTS = 23,
@@ -224,12 +224,12 @@ uint32_t whatif_agree(const uint8_t *first, size_t first_len, const uint8_t *sec
  * them and may be altered or exchanged between calls. A record belongs to one thread at a time. What one Load wrote may
  * serve many records: a copy of a loaded record is a loaded record, and tables that are only read may be shared.
  *
- * What altered buffers can do: of these calls Load alone tests a plan and a rule table whole. Start and an advance
- * test the lengths of what is lent (17) and the values that they read (18); whether tables are as built only
- * whatif_check can tell. So on tables that were altered after Load, until Start or between Start and the last advance,
- * a call may be refused with 18, and an answer may be another than the fresh run's; but every call ends, and none reads
- * or writes outside what is lent. The same holds of a plan and rules that were altered: 2 to 10 are not put to them
- * again. After the last advance the answer stands in the record, and nothing that is lent can alter it.
+ * What altered buffers can do: Start makes the full check of what is lent, so nothing needs to be promised about plan,
+ * rules and tables between Load and Start. A finished answer is right for what was lent at Start, provided that it stays
+ * so until the last advance: an advance tests the lengths of what is lent (17) and the values that it reads (18) alone.
+ * On what was altered between Start and the last advance an advance may be refused with 18, and an answer may be another
+ * than the fresh run's; but every call ends, and none reads or writes outside what is lent. After the last advance the
+ * answer stands in the record, and nothing that is lent can alter it.
  *
  * A session is empty, loaded, running or answered:
  *
@@ -261,8 +261,9 @@ uint32_t whatif_load(uint8_t *record, size_t record_len, const uint8_t *plan, si
  *          nodes_len and labels_len are equal, 0 to 64. A node listed with the label it has is still a change.
  * Written: *parts, the number of parts, 1 to WHATIF_MAX_PARTS; the record. An earlier question is forgotten.
  * Answers: WHATIF_ACCEPTED, or the first of 1, 17, 12, 13, 14, 15, 18; each of 13, 14 and 15 is put to the whole list.
- *          18 is never given on tables as built from the plan and rule table lent, where these name the record's N, S
- *          and K. Refused, the record and *parts are as they were.
+ *          18 is given exactly when the plan and the rule table do not pass 2 to 10 or name another N, S or K than the
+ *          record, or the tables, excess aside, are not what whatif_build writes from them. So a Start reads all that is
+ *          lent. Refused, the record and *parts are as they were.
  */
 uint32_t whatif_start(uint8_t *record, size_t record_len, const uint8_t *plan, size_t plan_len, const uint8_t *rules,
                       size_t rules_len, const uint16_t *node_table, size_t node_table_len, const uint8_t *state_table,
@@ -392,7 +393,7 @@ static inline const char *whatif_answer_text(uint32_t answer) {
     case WHATIF_REFUSED_LENT_LENGTH:
         return "What is lent does not have the length that the counts of nodes, states and labels need.";
     case WHATIF_REFUSED_LENT_VALUE:
-        return "A value read leads outside the plan, the states or the labels, or a climb does not rise.";
+        return "What Start is lent is not as built, or a value that another call reads leads outside or does not rise.";
     case WHATIF_REFUSED_LABEL_COUNTS:
         return "The two rule tables do not have the same count of labels.";
     case WHATIF_REFUSED_STATE_PRODUCT:

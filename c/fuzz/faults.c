@@ -67,6 +67,8 @@ uint32_t __wrap_whatif_start(uint8_t *record, size_t record_len, PLAN_RULES, REA
         ++*parts;
     if (laid(9) && answer == 0 && listed_len > 0) /* another label is written down */
         record[141] ^= 1;
+    if (laid(18) && answer == 0) /* 18 on what the build writes */
+        return 18;
     return answer;
 }
 

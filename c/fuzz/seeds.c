@@ -183,7 +183,10 @@ static void start_with(const char *which, const struct question *list, size_t la
     bytes(record, WHATIF_RECORD_BYTES), plan_and_rules(&sample), tables(&sample, SAMPLE_STATES), end();
 }
 
-/* Every refusal of Start but 1 and 17: a list without labels, the last questions of the sample, a table of 1s. */
+/*
+ * Every refusal of Start but 1 and 17: a list without labels, the last questions of the sample; of 18 a byte of the last
+ * map altered, and a table of 1s.
+ */
 static void refused_starts(void) {
     uint8_t record[WHATIF_RECORD_BYTES] = {0};
     must(whatif_load(record, sizeof record, PLAN(&sample), RULES(&sample), nodes, 28, states, 21) == 0);
@@ -191,6 +194,9 @@ static void refused_starts(void) {
     start_with("-13", &questions[6], 1, record);
     start_with("-14", &questions[7], 1, record);
     start_with("-15", &questions[8], 2, record);
+    states[20] ^= 1;
+    start_with("-18-byte", &questions[3], 2, record);
+    states[20] ^= 1;
     for (size_t i = 0; i < 28; i++)
         nodes[i] = 1;
     start_with("-18", &questions[3], 2, record);

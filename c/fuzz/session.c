@@ -52,6 +52,16 @@ uint32_t load(struct session *s) {
     return answer;
 }
 
+/* The record's N, S and K; plan and rules name them, and a full check says yes. */
+static int sound(const struct session *s) {
+    uint32_t yes = 0;
+    const uint8_t *r = s->record.at;
+    size_t n = r[4] + 256u * r[5];
+    int named_so = named(&s->plan, 0) == n && named(&s->rules, 0) == r[2] && named(&s->rules, 4) == r[3];
+    return whatif_check(LENT(s->plan), LENT(s->rules), LENT(s->nodes), LENT(s->states), &yes) == WHATIF_ACCEPTED &&
+           yes == 1 && named_so;
+}
+
 uint32_t start(struct session *s, struct lent *listed, struct lent *labels, uint32_t *parts) {
     *parts = UNSET;
     uint32_t answer = whatif_start(LENT(s->record), LENT(s->plan), LENT(s->rules), LENT(s->nodes), LENT(s->states),
@@ -60,6 +70,8 @@ uint32_t start(struct session *s, struct lent *listed, struct lent *labels, uint
     held(labels, 0, "the listed labels stay");
     told(answer, parts, 1);
     sure(answer != WHATIF_ACCEPTED || (*parts >= 1 && *parts <= WHATIF_MAX_PARTS), "there are 1 to 254 parts");
+    sure(answer != WHATIF_ACCEPTED || sound(s), "an accepted Start was lent what the build writes");
+    sure(answer != WHATIF_REFUSED_LENT_VALUE || !sound(s), "a Start is refused with 18 on nothing that the build writes");
     done(s, answer, RUNNING);
     return answer;
 }

@@ -27,7 +27,7 @@ use table::{Row, Single};
 const USAGE: &str = "usage: bench                      the whole table, in some minutes
        bench only TEXT            the rows whose work has this text in its name
        bench --markdown FILE      the table as Markdown, between the two lines of FILE that mark its place
-       bench plot FILE.svg        time of a question and of a fresh run over N
+       bench plot FILE.svg        time of a Start, of all advances and of a fresh run over N
        bench calls SHAPE N S M    nothing but 20 calls of each kind; bench/instructions counts their instructions
        bench in-place --seed S --count C
                                   nothing is measured: C cases of calls in place against the same calls on record bytes

@@ -9,22 +9,17 @@ pub type Pair = (f64, f64);
 
 /// The median nanoseconds of library and plain, run by turns, for one of `count` calls.
 pub fn by_turns(count: usize, mut library: impl FnMut(), mut yardstick: impl FnMut()) -> Pair {
-    by_turns_timed(count, || time(&mut library), || time(&mut yardstick))
-}
-
-/// The same for sides that take their time themselves.
-pub fn by_turns_timed(count: usize, mut library: impl FnMut() -> f64, mut yardstick: impl FnMut() -> f64) -> Pair {
     library();
     yardstick();
     let (mut of_library, mut of_yardstick) = (Vec::new(), Vec::new());
     for turn in 0..TURNS {
         // who goes first changes
         if turn % 2 == 0 {
-            of_library.push(library());
-            of_yardstick.push(yardstick());
+            of_library.push(time(&mut library));
+            of_yardstick.push(time(&mut yardstick));
         } else {
-            of_yardstick.push(yardstick());
-            of_library.push(library());
+            of_yardstick.push(time(&mut yardstick));
+            of_library.push(time(&mut library));
         }
     }
     (median(of_library) / count as f64, median(of_yardstick) / count as f64)

@@ -1,21 +1,19 @@
 //! Work below the exported calls: roots and one part alone, and the session in place, without the record's bytes.
 //!
 //! In place are the library's calls on a session that they alter where it is, one after the other (crates/probes); the
-//! plain side alters a struct likewise. Both begin with a loaded session made anew. An advance is what Start and all
-//! advances of a question take, less what Start takes.
+//! plain side alters a struct likewise. Both begin with a loaded session made anew.
 
 use crate::cases::List;
-use crate::measure::{by_turns, by_turns_timed, time, Pair};
+use crate::measure::{by_turns, Pair};
 use crate::probes;
 use crate::sessions::{One, Set, Work};
 use yardstick::layers;
 use yardstick::place::{Lends, Session};
 
-pub const WORKS: [Work; 5] = [
+pub const WORKS: [Work; 4] = [
     ("roots", roots),
     ("part", part),
     ("Start in place", start),
-    ("advance in place", advance),
     ("question in place", question),
 ];
 
@@ -89,48 +87,14 @@ fn loaded(one: &One) -> (Session, Lends<'_>) {
     (session, Lends { plan: &case.plan, rules: &case.rules, node_table, state_table })
 }
 
-/// Parts and links after Start and, if wanted, all advances.
-fn yardstick_steps(one: &One, (nodes, labels): &List, advances: bool) -> u32 {
-    let (mut session, lends) = loaded(one);
-    let parts = session.start(&lends, nodes, labels).expect("accepted");
-    while advances && session.advance(&lends) == Ok(false) {}
-    parts + 256 * session.links()
-}
-
 fn start(set: &Set) -> Pair {
-    set.told(
-        |one, list| {
-            let told = probes::steps(one.sizes(), &one.lent(), list, 0);
-            told.parts + 256 * told.links
+    set.told_by_few(
+        |one, list| probes::steps(one.sizes(), &one.lent(), list, 0).parts,
+        |one, (nodes, labels)| {
+            let (mut session, lends) = loaded(one);
+            session.start(&lends, nodes, labels).expect("accepted")
         },
-        |one, list| yardstick_steps(one, list, false),
     )
-}
-
-fn advance(set: &Set) -> Pair {
-    let steps = |at: usize, list: &List, count: u32| {
-        let one = &set.plans[at];
-        probes::steps(one.sizes(), &one.lent(), list, count)
-    };
-    let parts: Vec<u32> = set.lists.iter().map(|(at, list)| steps(*at, list, 0).parts).collect();
-    let library = |advances: bool| -> u32 {
-        let one = |((at, list), count): (&(usize, List), &u32)| {
-            let told = steps(*at, list, if advances { *count } else { 0 });
-            told.parts + 256 * told.links
-        };
-        set.lists.iter().zip(&parts).map(one).sum()
-    };
-    let yardstick = |advances: bool| set.sum(|one, list| yardstick_steps(one, list, advances));
-    assert_eq!(library(true), yardstick(true), "both tell the same");
-    let less_start = |f: &dyn Fn(bool) -> u32| {
-        let mut told = 0;
-        let all = time(&mut || told = f(true));
-        let start = time(&mut || told -= f(false));
-        assert!(told < u32::MAX);
-        all - start
-    };
-    let count: u32 = parts.iter().sum();
-    by_turns_timed(count as usize, || less_start(&library), || less_start(&yardstick))
 }
 
 fn ask(one: &One, list: &List) -> u32 {
@@ -147,7 +111,7 @@ fn yardstick_ask(one: &One, (nodes, labels): &List) -> u32 {
 }
 
 fn question(set: &Set) -> Pair {
-    set.told(ask, yardstick_ask)
+    set.told_by_few(ask, yardstick_ask)
 }
 
 /// A question in place and its roots and parts alone, by both sides.

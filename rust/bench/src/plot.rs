@@ -1,6 +1,5 @@
-//! The plot: time of a question and of a fresh run over N, both axes logarithmic, as SVG.
+//! The plot: time of a Start, of all advances of a question and of a fresh run over N, both axes logarithmic, as SVG.
 
-use crate::cases::List;
 use crate::measure::{median, time, TURNS};
 use crate::sessions::{One, Set};
 use crate::table::short;
@@ -8,9 +7,9 @@ use compare::inputs::Case;
 use compare::random::Random;
 use compare::shapes::Shape;
 use std::fmt::Write;
+use whatif::Session;
 
 const NODES: [usize; 7] = [1_001, 2_047, 4_095, 8_191, 16_383, 32_767, 65_535];
-const FRESH_RUN: &str = "fresh run, m 64";
 
 /// The picture, the frame of the plot in it, and the room that is shown: nodes across, nanoseconds up.
 const SIZE: (f64, f64) = (760.0, 470.0);
@@ -19,10 +18,18 @@ const RIGHT: f64 = 620.0;
 const TOP: f64 = 50.0;
 const BOTTOM: f64 = 400.0;
 const ACROSS: (f64, f64) = (900.0, 75_000.0);
-const UP: (f64, f64) = (300.0, 2_000_000.0);
+const UP: (f64, f64) = (1_000.0, 9_000_000.0);
+
+#[derive(Clone, Copy)]
+enum Call {
+    Start,
+    AllAdvances,
+    FreshRun,
+}
 
 struct Line {
     name: String,
+    call: Call,
     colour: &'static str,
     points: Vec<Point>,
 }
@@ -31,6 +38,7 @@ struct Line {
 struct Point {
     n: usize,
     set: Set,
+    started: Vec<(usize, Session)>,
     times: Vec<f64>,
 }
 
@@ -40,15 +48,20 @@ impl Point {
         let case = || Case::new(Shape::Uniform, (n + 1) / 2, 16, 64, random);
         let mut set = Set::new(std::iter::repeat_with(case).take(65_535 / n).collect());
         set.with_changes(m, random);
-        Point { n, set, times: Vec::new() }
+        let started = set.started(set.few());
+        Point { n, set, started, times: Vec::new() }
     }
 
     /// Once to warm up, then once that counts.
-    fn turn(&mut self, call: fn(&One, &List) -> u32) {
-        let set = &self.set;
-        let mut told = set.sum(call);
-        self.times.push(time(&mut || told = told.max(set.sum(call))) / set.lists.len() as f64);
-        assert!(told > 0, "some state or link is not 0");
+    fn turn(&mut self, call: Call) {
+        let (set, started) = (&self.set, &self.started);
+        let mut all = || match call {
+            Call::Start => assert!(set.sum(set.few(), One::start_alone) > 0),
+            Call::AllAdvances => set.finish(started),
+            Call::FreshRun => assert!(set.sum(set.few(), One::fresh_run) < u32::MAX),
+        };
+        all();
+        self.times.push(time(&mut all) / started.len() as f64);
     }
 
     /// In the picture.
@@ -67,7 +80,7 @@ pub fn svg() -> String {
     )
     .unwrap();
     writeln!(out, r##"<rect width="{}" height="{}" fill="#fff"/>"##, width, height).unwrap();
-    text(&mut out, (LEFT, 28.0), "start", "A question and a fresh run of the library, random plans, S 16, K 64");
+    text(&mut out, (LEFT, 28.0), "start", "Start, all advances of a question and a fresh run, random plans, S 16, K 64");
     axes(&mut out);
     for line in lines() {
         draw(&mut out, &line);
@@ -78,20 +91,19 @@ pub fn svg() -> String {
 /// Each turn takes every point once, so that a busy spell of the machine touches all alike.
 fn lines() -> Vec<Line> {
     let random = &mut Random::new(5);
-    let mut line = |name: &str, m: usize, colour| {
+    let mut line = |name: &str, call: Call, m: usize, colour| {
         let points = NODES.iter().map(|&n| Point::new(n, m, random)).collect();
-        Line { name: name.to_string(), colour, points }
+        Line { name: name.to_string(), call, colour, points }
     };
     let mut lines = vec![
-        line("question, m 1", 1, "#0072b2"),
-        line("question, m 8", 8, "#009e73"),
-        line("question, m 64", 64, "#d55e00"),
-        line(FRESH_RUN, 64, "#333333"),
+        line("Start, m 64", Call::Start, 64, "#0072b2"),
+        line("advances, m 8", Call::AllAdvances, 8, "#009e73"),
+        line("advances, m 64", Call::AllAdvances, 64, "#d55e00"),
+        line("fresh run, m 64", Call::FreshRun, 64, "#333333"),
     ];
     for _ in 0..TURNS {
-        for line in &mut lines {
-            let call = if line.name == FRESH_RUN { One::fresh_run } else { One::ask };
-            line.points.iter_mut().for_each(|point| point.turn(call));
+        for Line { call, points, .. } in &mut lines {
+            points.iter_mut().for_each(|point| point.turn(*call));
         }
     }
     lines

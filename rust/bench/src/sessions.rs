@@ -1,11 +1,12 @@
 //! The session through the record's bytes: Start, one advance, whole questions.
 //!
 //! A question is Start, as many advances as there are parts, and Read, on tables as built. Its lists are nodes from
-//! anywhere. A Start begins with a copy of a loaded record, an advance is one of all those that a question has.
+//! anywhere. A Start begins with a copy of a loaded record and reads all that is lent, so of large plans fewer are made; an
+//! advance is one of all those that a question has.
 
 use crate::cases::{each, list, List};
 use crate::measure::{by_turns, Pair};
-use crate::table::{Row, BESIDE_FRESH_RUN};
+use crate::table::{Row, ADVANCES_BESIDE, START_BESIDE};
 use compare::inputs::Case;
 use compare::random::Random;
 use whatif::sizes::RECORD_BYTES;
@@ -13,6 +14,9 @@ use whatif::{Lent, Progress, Session};
 use yardstick::session;
 
 const QUESTIONS: usize = 130;
+
+/// Of plans of more nodes than this, a tenth of the questions is put where a Start is among the work.
+const LARGE_PLAN: usize = 10_000;
 
 /// A case with its tables, and a session that has loaded it.
 pub struct One {
@@ -42,6 +46,11 @@ impl One {
 
     fn start(&self, session: &mut Session, list: &List) -> u32 {
         session.start(&self.lent(), &list.0, &list.1).expect("accepted")
+    }
+
+    /// A Start of the loaded session; its parts.
+    pub fn start_alone(&self, list: &List) -> u32 {
+        self.start(&mut self.loaded.clone(), list)
     }
 
     fn finish(&self, session: &mut Session) {
@@ -101,52 +110,86 @@ impl Set {
 
     /// Both sides by turns on every question; both must tell the same.
     pub fn told(&self, library: impl Fn(&One, &List) -> u32, yardstick: impl Fn(&One, &List) -> u32) -> Pair {
+        self.told_of(&self.lists, library, yardstick)
+    }
+
+    /// The same on as many questions as there is time for where each has a Start.
+    pub fn told_by_few(&self, library: impl Fn(&One, &List) -> u32, yardstick: impl Fn(&One, &List) -> u32) -> Pair {
+        self.told_of(self.few(), library, yardstick)
+    }
+
+    fn told_of(
+        &self,
+        lists: &[(usize, List)],
+        library: impl Fn(&One, &List) -> u32,
+        yardstick: impl Fn(&One, &List) -> u32,
+    ) -> Pair {
         let (mut by_library, mut by_yardstick) = (0, 0);
-        let times =
-            by_turns(self.lists.len(), || by_library = self.sum(&library), || by_yardstick = self.sum(&yardstick));
+        let times = by_turns(
+            lists.len(),
+            || by_library = self.sum(lists, &library),
+            || by_yardstick = self.sum(lists, &yardstick),
+        );
         assert_eq!(by_library, by_yardstick, "both tell the same");
         times
     }
 
-    pub fn sum(&self, f: impl Fn(&One, &List) -> u32) -> u32 {
-        self.lists.iter().fold(0, |sum, (at, list)| sum.wrapping_add(f(&self.plans[*at], list)))
+    pub fn sum(&self, lists: &[(usize, List)], f: impl Fn(&One, &List) -> u32) -> u32 {
+        lists.iter().fold(0, |sum, (at, list)| sum.wrapping_add(f(&self.plans[*at], list)))
+    }
+
+    pub fn few(&self) -> &[(usize, List)] {
+        let parts_of = if self.plans[0].case.n > LARGE_PLAN { 10 } else { 1 };
+        &self.lists[..self.lists.len() / parts_of]
+    }
+
+    /// A session for each of these questions, after its Start, with the place of its plan.
+    pub fn started(&self, lists: &[(usize, List)]) -> Vec<(usize, Session)> {
+        let start = |(at, list): &(usize, List)| {
+            let mut session = self.plans[*at].loaded.clone();
+            self.plans[*at].start(&mut session, list);
+            (*at, session)
+        };
+        lists.iter().map(start).collect()
+    }
+
+    /// All advances of copies of these sessions.
+    pub fn finish(&self, started: &[(usize, Session)]) {
+        started.iter().for_each(|(at, session)| self.plans[*at].finish(&mut session.clone()));
     }
 
     fn start(&self) -> Pair {
-        self.told(
-            |one, list| one.start(&mut one.loaded.clone(), list),
-            |one, list| one.yardstick_start(&mut one.loaded.as_bytes().clone(), list),
-        )
+        self.told_by_few(One::start_alone, |one, list| {
+            one.yardstick_start(&mut one.loaded.as_bytes().clone(), list)
+        })
     }
 
     fn advance(&self) -> Pair {
-        let mut parts = 0;
-        let mut started = Vec::new();
-        for (at, list) in &self.lists {
-            let one = &self.plans[*at];
-            let mut session = one.loaded.clone();
-            parts += one.start(&mut session, list) as usize;
-            started.push((one, session));
-        }
-        by_turns(
-            parts,
-            || started.iter().for_each(|(one, session)| one.finish(&mut session.clone())),
-            || started.iter().for_each(|(one, session)| one.yardstick_finish(&mut session.as_bytes().clone())),
-        )
+        let parts = self.sum(&self.lists, One::start_alone) as usize;
+        let started = self.started(&self.lists);
+        let yardstick = |(at, session): &(usize, Session)| {
+            self.plans[*at].yardstick_finish(&mut session.as_bytes().clone());
+        };
+        by_turns(parts, || self.finish(&started), || started.iter().for_each(yardstick))
     }
 
     fn question(&self) -> Pair {
-        self.told(One::ask, One::yardstick_ask)
+        self.told_by_few(One::ask, One::yardstick_ask)
     }
 
-    /// Fewer of them: a fresh run of a large plan is slow.
-    fn beside_fresh_run(&self) -> Pair {
-        let few = &self.lists[..self.lists.len() / 10];
-        let sum = |f: &dyn Fn(&One, &List) -> u32| {
-            let told: u32 = few.iter().map(|(at, list)| f(&self.plans[*at], list)).sum();
-            assert!(told < u32::MAX);
-        };
-        by_turns(few.len(), || sum(&One::ask), || sum(&One::fresh_run))
+    fn fresh_runs(&self, lists: &[(usize, List)]) {
+        assert!(self.sum(lists, One::fresh_run) < u32::MAX);
+    }
+
+    fn start_beside_fresh_run(&self) -> Pair {
+        let few = self.few();
+        by_turns(few.len(), || assert!(self.sum(few, One::start_alone) > 0), || self.fresh_runs(few))
+    }
+
+    fn advances_beside_fresh_run(&self) -> Pair {
+        let few = self.few();
+        let started = self.started(few);
+        by_turns(few.len(), || self.finish(&started), || self.fresh_runs(few))
     }
 }
 
@@ -157,11 +200,12 @@ pub type Work = (&'static str, fn(&Set) -> Pair);
 pub fn rows(wanted: &str, keep: &mut dyn FnMut(Row)) {
     let random = &mut Random::new(3);
     let mut sets = each(random, |cases, _| Set::new(cases));
-    let works: [Work; 4] = [
+    let works: [Work; 5] = [
         ("Start", Set::start),
         ("advance", Set::advance),
         ("question", Set::question),
-        (BESIDE_FRESH_RUN, Set::beside_fresh_run),
+        (START_BESIDE, Set::start_beside_fresh_run),
+        (ADVANCES_BESIDE, Set::advances_beside_fresh_run),
     ];
     #[cfg(feature = "probes")]
     let works: Vec<Work> = works.into_iter().chain(crate::places::WORKS).collect();

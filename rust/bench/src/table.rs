@@ -28,7 +28,7 @@ const fn work(name: &'static str, goal: Option<f64>, of: For) -> Work {
     Work { name, goal, of }
 }
 
-/// What is measured, in the order of the table. All but one are compared with plain Rust.
+/// What is measured, in the order of the table. All but two are compared with plain Rust.
 const WORKS: [Work; 15] = [
     work("Load", Some(1.5), For::All),
     work("full check", None, For::All),
@@ -36,19 +36,20 @@ const WORKS: [Work; 15] = [
     work("roots", Some(2.0), For::All),
     work("part", Some(2.0), For::All),
     work("Start in place", Some(1.5), For::All),
-    work("advance in place", Some(1.5), For::All),
     work("question in place", Some(1.5), For::Longest),
     work("Start", Some(1.5), For::All),
     work("advance", Some(4.0), For::All),
     work("question", Some(4.0), For::Longest),
-    work(BESIDE_FRESH_RUN, Some(1.0), For::Largest),
+    work(START_BESIDE, None, For::Largest),
+    work(ADVANCES_BESIDE, Some(1.0), For::Largest),
     work("branch build", Some(2.0), For::All),
     work("branch check", None, For::All),
     work("branch question", Some(1.3), For::All),
 ];
 
-/// A question of the library in ratio to a fresh run of the library.
-pub const BESIDE_FRESH_RUN: &str = "question : fresh run";
+/// A Start of the library, and all advances of its question, in ratio to a fresh run of the library.
+pub const START_BESIDE: &str = "Start : fresh run";
+pub const ADVANCES_BESIDE: &str = "all advances : fresh run";
 
 /// What was measured on what: nanoseconds of a call of library and plain, for the smaller and the larger plans.
 pub struct Row {
@@ -65,13 +66,17 @@ impl Row {
         self.times[at].0 / self.times[at].1
     }
 
-    fn goal(&self, at: usize) -> Option<f64> {
-        let work = &WORKS[self.place()];
-        work.goal.filter(|_| match work.of {
+    /// Is it one of the rows, and sizes, that its work's goal is for?
+    fn counts(&self, at: usize) -> bool {
+        match WORKS[self.place()].of {
             For::All => true,
             For::Longest => self.m == Some(64),
             For::Largest => at == LARGE,
-        })
+        }
+    }
+
+    fn goal(&self, at: usize) -> Option<f64> {
+        WORKS[self.place()].goal.filter(|_| self.counts(at))
     }
 
     fn over(&self, at: usize) -> bool {
@@ -144,7 +149,7 @@ pub fn summary(rows: &[Row]) -> String {
     let mut out = "| work | goal | median | greatest | over |\n|---|---|---|---|---|\n".to_string();
     for work in &WORKS {
         let both = rows.iter().filter(|row| row.work == work.name).flat_map(|row| [(row, SMALL), (row, LARGE)]);
-        let counted: Vec<_> = both.filter(|(row, at)| work.goal.is_none() || row.goal(*at).is_some()).collect();
+        let counted: Vec<_> = both.filter(|(row, at)| row.counts(*at)).collect();
         if counted.is_empty() {
             continue;
         }

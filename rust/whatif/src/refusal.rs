@@ -70,7 +70,7 @@ refusals! {
     NodeTwice = 15, "The list has a node twice.";
     NotBelow = 16, "The lower node is not at or below the upper node.";
     LentLength = 17, "What is lent does not have the length that the counts of nodes, states and labels need.";
-    LentValue = 18, "A value read leads outside the plan, the states or the labels, or a climb does not rise.";
+    LentValue = 18, "What Start is lent is not as built, or a value that another call reads leads outside or does not rise.";
     LabelCounts = 23, "The two rule tables do not have the same count of labels.";
     StateProduct = 24, "The product of the two rule tables' counts of states is above 16.";
 }
