@@ -41,9 +41,9 @@ fn copy_labels(a: [u8; 64], n: usize, out: &mut [u8])
     }
 }
 
-// Not exported until S-4 lands whole.
 // The upper list laid over the lower: its nodes and labels go to the front of `nodes` and `labels`, and their number to `count`.
-pub fn whatif_lay_over(
+#[no_mangle]
+pub extern "C" fn whatif_lay_over(
     lower_nodes: &[u16],
     lower_labels: &[u8],
     upper_nodes: &[u16],

@@ -71,6 +71,7 @@ refusals! {
     NotBelow = 16, "The lower node is not at or below the upper node.";
     LentLength = 17, "What is lent does not have the length that the counts of nodes, states and labels need.";
     LentValue = 18, "What Start is lent is not as built, or a value that another call reads leads outside or does not rise.";
+    LaidOver = 22, "Of the two lists laid over one another more than 64 nodes would remain.";
     LabelCounts = 23, "The two rule tables do not have the same count of labels.";
     StateProduct = 24, "The product of the two rule tables' counts of states is above 16.";
 }
