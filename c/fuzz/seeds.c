@@ -193,7 +193,7 @@ static void refused_starts(void) {
     start_with("-12", &questions[1], 0, record);
     start_with("-13", &questions[6], 1, record);
     start_with("-14", &questions[7], 1, record);
-    start_with("-15", &questions[8], 2, record);
+    start_with("-twice", &questions[8], 2, record);
     states[20] ^= 1;
     start_with("-18-byte", &questions[3], 2, record);
     states[20] ^= 1;
