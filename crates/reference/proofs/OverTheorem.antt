@@ -80,8 +80,7 @@ module _ (x y : Inputs) (vs bs us cs : List ℕ) (passes : PlanPasses (x .plan))
       → (q : ℕ) × (b : Bool) × EveryOutcome (Tells q b) ys × EveryOutcome (Tells q b) zs
   question-over n m ys zs C D =
       let q = rootState (x .plan) (x .rules) (nodesListed over) (labelsListed over) in
-      let b = rootAccepted (x .plan) (x .rules) (nodesListed over) (labelsListed over) in
-      (
+      let b = rootAccepted (x .plan) (x .rules) (nodesListed over) (labelsListed over) in (
         q,
         b,
         subst (λ (t : ℕ). EveryOutcome (Tells t b) ys) state-over
