@@ -1,2 +1,4 @@
 pub mod RefusalLaws
+pub mod SupersededForms
 pub mod Main
+pub mod Lists
