@@ -1,6 +1,7 @@
 /*
  * The sample clearance of document 01 through the session's calls: a line for each of its nine questions, state, yes or
- * no, parts and links, or the refusal. What it prints is held to examples/sample.expected.
+ * no, parts and links, or the refusal. What it prints is held to examples/sample.expected. Before them, Starts on altered
+ * tables, which print nothing where all is well.
  */
 #include "sample.h"
 
@@ -56,6 +57,27 @@ static void ask(const struct question *q) {
     printf("%u %s %u %u\n", state, yes ? "yes" : "no", told_parts, links);
 }
 
+/* Start makes the full check: 18 with one value altered, the last of its table too; and none afterwards. */
+static void altered(void) {
+    uint8_t before[WHATIF_RECORD_BYTES];
+    uint32_t parts = 77;
+    memcpy(before, record, sizeof record);
+    for (size_t i = 0; i < sizeof state_table; i++) {
+        state_table[i] ^= 1;
+        if (whatif_start_lent(record, sizeof record, &lent, NULL, NULL, 0, &parts) != WHATIF_REFUSED_LENT_VALUE)
+            printf("a Start on state byte %zu altered was NOT refused\n", i);
+        state_table[i] ^= 1;
+    }
+    for (size_t i = 0; i < lent.node_table_len; i++) {
+        node_table[i] ^= 1;
+        if (whatif_start_lent(record, sizeof record, &lent, NULL, NULL, 0, &parts) != WHATIF_REFUSED_LENT_VALUE)
+            printf("a Start on node number %zu altered was NOT refused\n", i);
+        node_table[i] ^= 1;
+    }
+    if (memcmp(record, before, sizeof record) || parts != 77)
+        printf("a refused Start ALTERED something\n");
+}
+
 int main(void) {
     tells(WHATIF_EMPTY, 0, 0);
     uint32_t answer = whatif_load(record, sizeof record, plan, sizeof plan, rules, sizeof rules, node_table,
@@ -63,6 +85,7 @@ int main(void) {
     if (answer != WHATIF_ACCEPTED)
         return 1;
     tells(WHATIF_LOADED, 0, 0);
+    altered();
     for (size_t i = 0; i < QUESTIONS; i++)
         ask(&questions[i]);
     /* a record of another length, as another layout version has, and bytes without a state */

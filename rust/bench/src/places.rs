@@ -10,12 +10,8 @@ use crate::sessions::{One, Set, Work};
 use yardstick::layers;
 use yardstick::place::{Lends, Session};
 
-pub const WORKS: [Work; 4] = [
-    ("roots", roots),
-    ("part", part),
-    ("Start in place", start),
-    ("question in place", question),
-];
+pub const WORKS: [Work; 4] =
+    [("roots", roots), ("part", part), ("Start in place", start), ("question in place", question)];
 
 fn roots(set: &Set) -> Pair {
     let tell = |count: usize, out: &[u16; 254]| count as u32 * 65_536 + u32::from(out[count / 2]);

@@ -80,7 +80,12 @@ pub fn svg() -> String {
     )
     .unwrap();
     writeln!(out, r##"<rect width="{}" height="{}" fill="#fff"/>"##, width, height).unwrap();
-    text(&mut out, (LEFT, 28.0), "start", "Start, all advances of a question and a fresh run, random plans, S 16, K 64");
+    text(
+        &mut out,
+        (LEFT, 28.0),
+        "start",
+        "Start, all advances of a question and a fresh run, random plans, S 16, K 64",
+    );
     axes(&mut out);
     for line in lines() {
         draw(&mut out, &line);

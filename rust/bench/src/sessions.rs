@@ -109,6 +109,7 @@ impl Set {
     }
 
     /// Both sides by turns on every question; both must tell the same.
+    #[cfg(feature = "probes")]
     pub fn told(&self, library: impl Fn(&One, &List) -> u32, yardstick: impl Fn(&One, &List) -> u32) -> Pair {
         self.told_of(&self.lists, library, yardstick)
     }
@@ -159,9 +160,7 @@ impl Set {
     }
 
     fn start(&self) -> Pair {
-        self.told_by_few(One::start_alone, |one, list| {
-            one.yardstick_start(&mut one.loaded.as_bytes().clone(), list)
-        })
+        self.told_by_few(One::start_alone, |one, list| one.yardstick_start(&mut one.loaded.as_bytes().clone(), list))
     }
 
     fn advance(&self) -> Pair {
