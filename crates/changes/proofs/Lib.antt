@@ -6,4 +6,3 @@ pub mod PutCases
 pub mod LayCases
 pub mod ChangedLaws
 pub mod Theorems
-pub mod PlanOver

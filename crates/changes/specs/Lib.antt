@@ -1,4 +1,3 @@
 pub mod Entries
 pub mod LayOver
-pub mod ChangedPlan
 pub mod inner
