@@ -24,6 +24,8 @@ static uint8_t four[WHATIF_RULES_BYTES(4, LABELS)], merged[WHATIF_RULES_BYTES(ST
 static uint16_t lines[4 * WHATIF_MAX_LINES];
 static uint8_t planner[WHATIF_PLANNER_BYTES(N / 2)], image[WHATIF_PLANNER_PLAN_BYTES(N / 2)];
 static uint16_t places[N / 2];
+static uint16_t over_nodes[WHATIF_MAX_CHANGES];
+static uint8_t over_labels[WHATIF_MAX_CHANGES];
 static uint32_t answer, out[4];
 static _Alignas(64) uint8_t stack[ROOM];
 
@@ -51,6 +53,9 @@ static void planner_out(void) {
     answer = whatif_plan_of_planner(planner, sizeof planner, image, sizeof image, places, N / 2);
 }
 static void planner_home(void) { answer = whatif_planner_of_plan(image, sizeof image, planner, sizeof planner); }
+static void lay_over(void) {
+    answer = whatif_lay_over(LIST, LIST, over_nodes, WHATIF_MAX_CHANGES, over_labels, WHATIF_MAX_CHANGES, out);
+}
 static void load(void) { answer = whatif_load(RECORD, RULES, TABLES); }
 static void start(void) { answer = whatif_start(RECORD, RULES, TABLES, LIST, out); }
 static void cancel(void) { answer = whatif_cancel(RECORD); }
@@ -84,6 +89,7 @@ static const struct call {
     {"agreement", agree, 12 * 1024},
     {"planner out", planner_out, 1024},
     {"planner home", planner_home, 1024},
+    {"laying over", lay_over, 1024},
 };
 
 static void *run(void *make) {

@@ -37,8 +37,8 @@ extern "C" {
 
 /* This header's version, as text and as major * 10000 + minor * 100 + patch. whatif_version() is the archive's: before
  * 1.0 a program is to use both of one minor version. */
-#define WHATIF_VERSION "0.4.0"
-#define WHATIF_VERSION_NUMBER 400u
+#define WHATIF_VERSION "0.5.0"
+#define WHATIF_VERSION_NUMBER 500u
 
 /* Limits: nodes of a plan (1 to), states and labels of a table (1 to), changes in a list (0 to). */
 #define WHATIF_MAX_NODES 65535u
@@ -119,6 +119,8 @@ enum whatif_answer {
     WHATIF_REFUSED_PLANNER_LABEL = 20,
     /* The planner's file has more than 32,767 nodes, or an output buffer is too short for it. */
     WHATIF_REFUSED_PLANNER_ROOM = 21,
+    /* Of the two lists laid over one another more than 64 nodes would remain. */
+    WHATIF_REFUSED_LAID_OVER = 22,
     /* The two rule tables do not have the same count of labels. */
     WHATIF_REFUSED_LABEL_COUNTS = 23,
     /* The product of the two rule tables' counts of states is above 16. */
@@ -153,10 +155,11 @@ uint32_t whatif_check(const uint8_t *plan, size_t plan_len, const uint8_t *rules
 /*
  * Fresh run: runs the rule table over the whole plan with some labels changed, without tables.
  * Lent:    the plan, the rule table and the list of changes, read: node nodes[i] takes labels[i]. nodes_len and
- *          labels_len are equal, 0 to 64. The order of the list has no effect.
+ *          labels_len are equal, 0 to 64. A node may be listed several times: its last entry holds. Where none is,
+ *          the order of the list has no effect.
  * Written: *state, the root's state; *yes, 1 where that state's mark is 1, else 0.
- * Answers: WHATIF_ACCEPTED, or the first of 2, 3, 4, 5, 6, 7, 8, 9, 10, 12, 13, 14, 15; each is put to the whole list
- *          before the next. Refused, *state and *yes are as they were.
+ * Answers: WHATIF_ACCEPTED, or the first of 2, 3, 4, 5, 6, 7, 8, 9, 10, 12, 13, 14; each is put to the whole list as
+ *          listed before the next. Refused, *state and *yes are as they were.
  */
 uint32_t whatif_fresh_run(const uint8_t *plan, size_t plan_len, const uint8_t *rules, size_t rules_len,
                           const uint16_t *nodes, size_t nodes_len, const uint8_t *labels, size_t labels_len,
@@ -268,6 +271,22 @@ uint32_t whatif_plan_of_planner(const uint8_t *file, size_t file_len, uint8_t *p
 uint32_t whatif_planner_of_plan(const uint8_t *plan, size_t plan_len, uint8_t *file, size_t file_len);
 
 /*
+ * Lays one list of changes over another: all nodes of both, with the upper list's label where both name one; of two
+ * entries for a node in a list the last. It has no plan: nodes and labels may be any.
+ * Lent:    both lists, read: lower_nodes_len and lower_labels_len are equal, 0 to 64, and so are the upper's; nodes and
+ *          labels, written.
+ * Written: *count, the nodes that remain, 0 to 64; as many nodes, rising, and their labels. The rest of a longer buffer is
+ *          untouched; WHATIF_MAX_CHANGES numbers and bytes always suffice.
+ * Answers: WHATIF_ACCEPTED, or the first of 12, 12, 22, 11: 12 is put to the lower list, then to the upper; 22 is given
+ *          where more than 64 nodes would remain, 11 where nodes or labels is shorter than *count would be. Refused, nodes,
+ *          labels and *count are as they were.
+ */
+uint32_t whatif_lay_over(const uint16_t *lower_nodes, size_t lower_nodes_len, const uint8_t *lower_labels,
+                         size_t lower_labels_len, const uint16_t *upper_nodes, size_t upper_nodes_len,
+                         const uint8_t *upper_labels, size_t upper_labels_len, uint16_t *nodes, size_t nodes_len,
+                         uint8_t *labels, size_t labels_len, uint32_t *count);
+
+/*
  * The panel session. Its record, WHATIF_RECORD_BYTES bytes, belongs to the panel: it is all zero at first, passes from
  * call to call and is written by these functions alone. Plan, rule table and tables are lent with each call that needs
  * them and may be altered or exchanged between calls. A record belongs to one thread at a time. What one Load wrote may
@@ -307,9 +326,10 @@ uint32_t whatif_load(uint8_t *record, size_t record_len, const uint8_t *plan, si
  * Start: puts a question. What would the plan's state be if node nodes[i] took labels[i], for every i?
  * Lent:    the record, altered; the plan, the rule table, both tables and the list, read. The plan need not be that of
  *          the Load, but N, S and K are: plan and rule table have the length that these need, the tables at least.
- *          nodes_len and labels_len are equal, 0 to 64. A node listed with the label it has is still a change.
+ *          nodes_len and labels_len are equal, 0 to 64. A node may be listed several times: its last entry holds, and
+ *          all is told as of the list with that entry alone. A node listed with the label it has is still a change.
  * Written: *parts, the number of parts, 1 to WHATIF_MAX_PARTS; the record. An earlier question is forgotten.
- * Answers: WHATIF_ACCEPTED, or the first of 1, 17, 12, 13, 14, 15, 18; each of 13, 14 and 15 is put to the whole list.
+ * Answers: WHATIF_ACCEPTED, or the first of 1, 17, 12, 13, 14, 18; 12, 13 and 14 are put to the whole list as listed.
  *          18 is given exactly when the plan and the rule table do not pass 2 to 10 or name another N, S or K than the
  *          record, or the tables, excess aside, are not what whatif_build writes from them. So a Start reads all that is
  *          lent. Refused, the record and *parts are as they were.
@@ -449,6 +469,8 @@ static inline const char *whatif_answer_text(uint32_t answer) {
         return "The planner's file has a label of 63 or more.";
     case WHATIF_REFUSED_PLANNER_ROOM:
         return "The planner's file has more than 32,767 nodes, or an output buffer is too short for it.";
+    case WHATIF_REFUSED_LAID_OVER:
+        return "Of the two lists laid over one another more than 64 nodes would remain.";
     case WHATIF_REFUSED_LABEL_COUNTS:
         return "The two rule tables do not have the same count of labels.";
     case WHATIF_REFUSED_STATE_PRODUCT:

@@ -26,6 +26,7 @@ enum try {
     AGREE,
     PLANNER_OUT,
     PLANNER_HOME,
+    LAY_OVER,
     TRIES
 };
 
@@ -59,5 +60,8 @@ uint32_t try_agree(struct input *in);
 /* The calls on planner's files, and what was written back again. planner.c */
 uint32_t try_plan_of_planner(struct input *in);
 uint32_t try_planner_of_plan(struct input *in);
+
+/* One list of changes laid over another. lists.c */
+uint32_t try_lay_over(struct input *in);
 
 #endif

@@ -82,6 +82,7 @@ static const char *const folders[TRIES] = {
     [AGREE] = "agree",
     [PLANNER_OUT] = "plan-of-planner",
     [PLANNER_HOME] = "planner-of-plan",
+    [LAY_OVER] = "lay-over",
 };
 
 /* A file in the folder of its call. */
@@ -195,7 +196,7 @@ static void refused_starts(void) {
     start_with("-12", &questions[1], 0, record);
     start_with("-13", &questions[6], 1, record);
     start_with("-14", &questions[7], 1, record);
-    start_with("-15", &questions[8], 2, record);
+    start_with("-twice", &questions[8], 2, record);
     states[20] ^= 1;
     start_with("-18-byte", &questions[3], 2, record);
     states[20] ^= 1;
@@ -287,6 +288,24 @@ static void planner_files(const char *name, const uint8_t *labels, const uint8_t
     put((uint32_t)n, 2), end();
 }
 
+/* Two questions' lists, into buffers of one more than remain and of one less; 64 nodes over 64 others; 65 of three nodes. */
+static void lists_over(void) {
+    uint16_t many[128];
+    uint8_t same[128] = {0};
+    for (uint16_t i = 0; i < 128; i++)
+        many[i] = (uint16_t)(511 * i);
+    const struct question *low = &questions[8], *high = &questions[3];
+    begin(LAY_OVER, "a", ""), put(BEFORE, 1), changes(low), changes(high), put(3, 2), put(3, 2), end();
+    begin(LAY_OVER, "a", "-behind"), put(BEHIND, 1), changes(high), changes(low), put(64, 2), put(2, 2), end();
+    begin(LAY_OVER, "a", "-11"), put(BEFORE, 1), changes(low), changes(high), put(1, 2), put(2, 2), end();
+    begin(LAY_OVER, "a", "-22"), put(BEFORE, 1), numbers(many, 64), bytes(same, 64), numbers(many + 64, 64);
+    bytes(same, 64), put(64, 2), put(64, 2), end();
+    for (size_t i = 0; i < 65; i++)
+        many[i] = (uint16_t)(i % 3);
+    begin(LAY_OVER, "a", "-12"), put(BEFORE, 1), changes(low), numbers(many, 65), bytes(same, 65), put(64, 2);
+    put(64, 2), end();
+}
+
 int main(int argc, char **argv) {
     must(argc == 2);
     folder = argv[1];
@@ -302,6 +321,7 @@ int main(int argc, char **argv) {
     agreements(&sample, &comb), agreements(&comb, &sample);
     planner_files("one", (const uint8_t[]){7}, (const uint8_t[]){0}, 1);
     planner_files("nine", (const uint8_t[]){5, 6, 8, 7, 0, 62, 1, 1, 9}, (const uint8_t[]){3, 1, 0, 0, 2, 1, 1, 0, 0}, 9);
+    lists_over();
     on_tables(&comb), on_records(&comb, &far), panel(&comb, &far), question(&comb, &far, "");
     for (size_t i = 0; i < QUESTIONS; i++) {
         char which[] = {'-', (char)('1' + i), 0};

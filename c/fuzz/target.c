@@ -23,21 +23,22 @@ static const struct {
 } tries[TRIES] = {
     [BUILD] = {"whatif_build", try_build, 1u | FROM(2, 11)},
     [CHECK] = {"whatif_check", try_check, 1u | FROM(2, 11)},
-    [FRESH_RUN] = {"whatif_fresh_run", try_fresh_run, 1u | FROM(2, 10) | FROM(12, 15)},
+    [FRESH_RUN] = {"whatif_fresh_run", try_fresh_run, 1u | FROM(2, 10) | FROM(12, 14)},
     [BRANCH_BUILD] = {"whatif_branch_build", try_branch_build, 1u | FROM(2, 11)},
     [BRANCH_CHECK] = {"whatif_branch_check", try_branch_check, 1u | FROM(2, 11)},
     [BRANCH] = {"whatif_branch, both readings", try_branch, 1u | FROM(13, 13) | FROM(16, 18)},
     [LOAD] = {"whatif_load", try_load, FROM(0, 11)},
-    [START] = {"whatif_start", try_start, FROM(0, 1) | FROM(12, 15) | FROM(17, 18)},
+    [START] = {"whatif_start", try_start, FROM(0, 1) | FROM(12, 14) | FROM(17, 18)},
     [ADVANCE] = {"whatif_advance", try_advance, FROM(0, 1) | FROM(17, 18)},
     [CANCEL] = {"whatif_cancel", try_cancel, FROM(0, 1)},
     [READ] = {"whatif_read", try_read, FROM(0, 1)},
-    [QUESTION] = {"a question", try_question, 1u | FROM(2, 15)},
-    [PANEL] = {"a list of calls", try_panel, FROM(0, 15) | FROM(17, 18)},
+    [QUESTION] = {"a question", try_question, 1u | FROM(2, 14)},
+    [PANEL] = {"a list of calls", try_panel, FROM(0, 14) | FROM(17, 18)},
     [MERGE] = {"whatif_merge", try_merge, 1u | FROM(6, 9) | FROM(11, 11) | FROM(23, 24)},
     [AGREE] = {"whatif_agree", try_agree, 1u | FROM(6, 9) | FROM(11, 11) | FROM(23, 23)},
     [PLANNER_OUT] = {"whatif_plan_of_planner", try_plan_of_planner, 1u | FROM(19, 21)},
     [PLANNER_HOME] = {"whatif_planner_of_plan", try_planner_of_plan, 1u | FROM(19, 19) | FROM(21, 21)},
+    [LAY_OVER] = {"whatif_lay_over", try_lay_over, 1u | FROM(11, 12) | FROM(22, 22)},
 };
 
 #define MOST 27 /* the greatest number of a refusal */

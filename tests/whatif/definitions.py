@@ -93,7 +93,7 @@ class Rules:
 
 
 def refusal(plan, rules, changes):
-    """The first of 12 to 15 that says no; 0 for none."""
+    """The first of 12 to 14 that says no; 0 for none."""
     nodes = [node for node, label in changes]
     if len(changes) > 64:
         return 12
@@ -101,7 +101,7 @@ def refusal(plan, rules, changes):
         return 13
     if any(label >= rules.labels for node, label in changes):
         return 14
-    return 15 if len(set(nodes)) < len(nodes) else 0
+    return 0
 
 
 def line(plan, rules, changes):

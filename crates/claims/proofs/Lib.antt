@@ -1,3 +1,5 @@
 pub mod RefusalLaws
+pub mod SupersededForms
 pub mod Main
 pub mod ProvedToo
+pub mod Lists

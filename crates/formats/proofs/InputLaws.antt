@@ -1,11 +1,11 @@
 -- Inputs that pass all the checks of a call: the plan and a table, with room for the tables or with a list of changes.
---     ListPasses n k vs bs        what 12 to 15 say, by name; list-passes, passes-list: exactly where none fails
+--     ListPasses n k vs bs        what 12 to 14 say, by name; list-passes, passes-list: exactly where none fails
 --     rule-table-passes, passes-rule-table       2 to 10 for a rule table; branch-table-passes, passes-branch-table for a branch table
 --     build-passes, passes-build                 2 to 11; branch-build-passes, passes-branch-build
---     fresh-run-passes, passes-fresh-run         2 to 10, then 12 to 15
+--     fresh-run-passes, passes-fresh-run         2 to 10, then 12 to 14
 --     label-below                 every label of the plan is below K, at every place: past the end it is 0
 --     build-table, branch-build-table, fresh-run-table
---                                 where 2 to 11, or 2 to 15, pass, 2 to 10 do
+--                                 where 2 to 11, or 2 to 14, pass, 2 to 10 do
 -- Assumes nothing.
 use Prim.Native.Nat.{ℕ, _+_, _≤_, _<_}
 use mathlib.Core.Path.{_≡_, _∙_}
@@ -15,7 +15,7 @@ use native.Mathlib.Omega.{arith}
 use lib.Dec.{leb, eqb}
 use lib.ListN.{length, getD}
 use borrow.Author.Tests.{leb-true, le-leb}
-use Rattle.list_laws.specs.Tests.{allBelow, distinct}
+use Rattle.list_laws.specs.Tests.{allBelow}
 use Rattle.formats.specs.Limits.{changeLimit}
 use Rattle.formats.specs.Plan.{nodeCount, labelsIn}
 use Rattle.formats.specs.Rules.{stateCount, labelCount}
@@ -27,7 +27,7 @@ use Rattle.formats.proofs.CheckLaws.{Numbered, numbered-append, firstNo
 use Rattle.formats.proofs.CheckLaws.{firstNo-append-zero, firstNo-append-left, firstNo-append-right}
 use Rattle.list_laws.proofs.BoolLaws.{and-both, and-left, and-right}
 use Rattle.list_laws.proofs.TestLaws.{allBelow-all}
-use Rattle.formats.proofs.FourChecks.{four-pass, pass-four}
+use Rattle.formats.proofs.FourChecks.{three-pass, pass-three}
 use Rattle.formats.proofs.PlanLaws.{PlanPasses, plan-passes, passes-plan, plan-numbered, same-left, same-both}
 use Rattle.formats.proofs.RuleLaws.{RulesPass, rules-pass, pass-rules, rules-numbered}
 use Rattle.formats.proofs.BranchLaws.{BranchPasses, branch-passes, passes-branch, branch-numbered}
@@ -39,32 +39,30 @@ pub record ListPasses (n k : ℕ) (vs bs : List ℕ) : Type 0 where
   pub most : length vs ≤ 64
   pub nodes-below : allBelow n vs ≡ true
   pub labels-below : allBelow k bs ≡ true
-  pub no-twice : distinct vs ≡ true
 
 module _ (n k : ℕ) (vs bs : List ℕ) where
   pub list-passes : firstNo (listChecks n k vs bs) ≡ 0 → ListPasses n k vs bs
   unfolding listChecks
   list-passes e =
-      let q : (listsFit vs bs ≡ true) × (allBelow n vs ≡ true) × (allBelow k bs ≡ true) × (distinct vs ≡ true) =
-      four-pass 11 12 13 14 (listsFit vs bs) (allBelow n vs) (allBelow k bs) (distinct vs) e in
+      let q : (listsFit vs bs ≡ true) × (allBelow n vs ≡ true) × (allBelow k bs ≡ true) =
+      three-pass 11 12 13 (listsFit vs bs) (allBelow n vs) (allBelow k bs) e in
       record {
         lengths = same-left (length vs) (length bs) (leb (length vs) changeLimit) (q .0);
         most = leb-true (length vs) changeLimit (and-right (eqb (length vs) (length bs)) (leb (length vs) changeLimit) (q .0));
         nodes-below = q .1;
         labels-below = q .2;
-        no-twice = q .3;
       }
 
   pub passes-list : ListPasses n k vs bs → firstNo (listChecks n k vs bs) ≡ 0
   unfolding listChecks
   passes-list h =
-      pass-four 11 12 13 14 (listsFit vs bs) (allBelow n vs) (allBelow k bs) (distinct vs)
+      pass-three 11 12 13 (listsFit vs bs) (allBelow n vs) (allBelow k bs)
       (same-both (length vs) (length bs) (leb (length vs) changeLimit) (h .lengths) (le-leb (length vs) changeLimit (h .most)))
-      (h .nodes-below) (h .labels-below) (h .no-twice)
+      (h .nodes-below) (h .labels-below)
 
   pub list-numbered : Numbered (listChecks n k vs bs)
   unfolding listChecks
-  list-numbered = (omega arith, (omega arith, (omega arith, (omega arith, tt))))
+  list-numbered = (omega arith, (omega arith, (omega arith, tt)))
 
 -- ---- plan and rule table
 

@@ -2,10 +2,10 @@
 --
 -- Check == a number and whether its question is answered with yes
 -- firstNo cs == the number of the first check that fails; 0 where none does
--- planChecks p == 2 to 5; ruleChecks r, branchChecks r == 6 to 9; labelCheck == 10; roomCheck == 11; listChecks == 12 to 15
+-- planChecks p == 2 to 5; ruleChecks r, branchChecks r == 6 to 9; labelCheck == 10; roomCheck == 11; listChecks == 12 to 14
 -- ruleTableChecks p r, branchTableChecks p r == 2 to 10
 -- buildChecks, branchBuildChecks == 2 to 11: those of the builds and of the full checks
--- freshRunChecks == 2 to 10, then 12 to 15
+-- freshRunChecks == 2 to 10, then 12 to 14
 -- nodeTableLength n, stateTableLength n s == what n nodes and s states need of the two table buffers
 --
 -- Not here: 1 (the session), 16 and 18 (the branch question and the questions layer), 17 (Buffers).
@@ -17,7 +17,7 @@ use lib.Dec.{leb, eqb}
 use lib.ListN.{length}
 use Rattle.trees.specs.Postorder.{isPostorder}
 use Rattle.formats.specs.Bytes.{le32}
-use Rattle.list_laws.specs.Tests.{allBelow, distinct}
+use Rattle.list_laws.specs.Tests.{allBelow}
 use Rattle.formats.specs.Limits.{nodeLimit, stateLimit, labelLimit, changeLimit, within}
 use Rattle.formats.specs.Plan.{nodeCount, planLength, labelsIn, kindsIn}
 use Rattle.formats.specs.Rules.{stateCount, labelCount, ruleLength, leafStates, innerStates, ruleMarks, branchLength, branchSteps, branchMarks}
@@ -80,13 +80,14 @@ stateTableLength n s = n * (s + 1)
 abbrev pub roomCheck : ℕ → ℕ → ℕ → ℕ → Check
 roomCheck n s nodeTable stateTable = check 11 (leb (nodeTableLength n) nodeTable && leb (stateTableLength n s) stateTable)
 
--- "node and label lists of one length, at most 64? 12; nodes below N? 13; labels below K? 14; no node twice? 15"
+-- "node and label lists of one length, at most 64? 12; nodes below N? 13; labels below K? 14". 01's 15 ("no node twice?") is not
+-- asked since document 02, S-4: "A list may now name a node several times and the last entry holds." All three are asked of the list
+-- as listed, of an entry that a later one supersedes too
 unfoldable pub listChecks : ℕ → ℕ → List ℕ → List ℕ → List Check
 listChecks n k vs bs =
     check 12 (eqb (length vs) (length bs) && leb (length vs) changeLimit)
     ∷ check 13 (allBelow n vs)
     ∷ check 14 (allBelow k bs)
-    ∷ check 15 (distinct vs)
     ∷ []
 
 unfoldable pub ruleTableChecks : List ℕ → List ℕ → List Check
@@ -102,6 +103,6 @@ buildChecks p r nodeTable stateTable = ruleTableChecks p r ++ (roomCheck (nodeCo
 unfoldable pub branchBuildChecks : List ℕ → List ℕ → ℕ → ℕ → List Check
 branchBuildChecks p r nodeTable stateTable = branchTableChecks p r ++ (roomCheck (nodeCount p) (stateCount r) nodeTable stateTable ∷ [])
 
--- "the fresh run 2 to 10, then 12 to 15"
+-- "the fresh run 2 to 10, then 12 to 15", of which S-4 leaves 12 to 14
 unfoldable pub freshRunChecks : List ℕ → List ℕ → List ℕ → List ℕ → List Check
 freshRunChecks p r vs bs = ruleTableChecks p r ++ listChecks (nodeCount p) (labelCount r) vs bs

@@ -101,7 +101,7 @@ pub fn check_branch_build(plan: &[u8], branch: &[u8], node_table: usize, state_t
     0
 }
 
-// Checks 2 to 10, then 12 to 15: of a fresh run.
+// Checks 2 to 10, then 12 to 14: of a fresh run.
 pub fn check_fresh_run(plan: &[u8], rules: &[u8], nodes: &[u16], labels: &[u8]) -> u8
     ensures { λ r. ⌜ r ≡ firstNo (freshRunChecks (now (plan .entry)) (now (rules .entry)) (now (nodes .entry)) (now (labels .entry))) ⌝ }
 {

@@ -4,7 +4,7 @@
 //     plan     checks 2 to 5
 //     rules    checks 6 to 9 of a rule table
 //     branch   checks 6 to 9 of a branch table
-//     lists    checks 12 to 15
+//     lists    checks 12 to 14, and 15 as a test
 //     inputs   the checks of whole calls, 10 and 11 among them
 //     buffers  check 17
 // A check answers the number of the first question that is answered with no, and 0 where none is.

@@ -1,4 +1,4 @@
-// Lists of changes: checks 12 to 15.
+// Lists of changes: checks 12 to 14; and 15, which no call asks since S-4 and until S-10.
 use crate::limits::CHANGE_LIMIT;
 use crate::rules::all_below;
 ghost use mathlib.Core.Path.{_≡_};
@@ -52,7 +52,7 @@ fn holds_one(x: u16, nodes: &[u16]) -> bool
     found
 }
 
-// Check 15: no node twice.
+// Check 15: no node twice. Not asked by check_list (S-4); kept for S-10.
 pub fn all_distinct(nodes: &[u16]) -> bool
     ensures { λ r. ⌜ r ≡ distinct (now (nodes .entry)) ⌝ }
 {
@@ -66,7 +66,7 @@ pub fn all_distinct(nodes: &[u16]) -> bool
     true
 }
 
-// Checks 12 to 15 for a plan of n nodes and a table of k labels.
+// Checks 12 to 14 for a plan of n nodes and a table of k labels.
 pub fn check_list(n: usize, k: usize, nodes: &[u16], labels: &[u8]) -> u8
     ensures { λ r. ⌜ r ≡ firstNo (listChecks n k (now (nodes .entry)) (now (labels .entry))) ⌝ }
 {
@@ -78,9 +78,6 @@ pub fn check_list(n: usize, k: usize, nodes: &[u16], labels: &[u8]) -> u8
     }
     if !labels_below(labels, k) {
         return 14;
-    }
-    if !all_distinct(nodes) {
-        return 15;
     }
     0
 }

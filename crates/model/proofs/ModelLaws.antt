@@ -1,7 +1,7 @@
 -- What a call that no check refuses has, and what the calls read of the inputs.
 --     load-running     Load is refused with 1 while a question runs
 --     before-numbered, start-before    Start's checks before 18
---     start-list, start-sound, start-built    a Start that no check refuses has a list that passes 12 to 15, and sound inputs
+--     start-list, start-sound, start-built    a Start that no check refuses has a list that passes 12 to 14, and sound inputs
 --     advance-fits     an advance that no check refuses has room: check 17
 --     some-root        there is always a part: the plan's root
 --     marks-built      the accept marks by the record's S and K are the rule table's

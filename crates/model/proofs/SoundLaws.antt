@@ -68,21 +68,20 @@ module _ (z : Sizes) (x : Inputs) where
 -- ---- Start
 
 -- 18 is none of the numbers of the checks before it
-before-numbers : (a b c d e f : Bool)
-    → firstNo (check 1 a ∷ check 17 b ∷ check 12 c ∷ check 13 d ∷ check 14 e ∷ check 15 f ∷ []) ≡ 18 → ⊥
+before-numbers : (a b c d e : Bool)
+    → firstNo (check 1 a ∷ check 17 b ∷ check 12 c ∷ check 13 d ∷ check 14 e ∷ []) ≡ 18 → ⊥
 unfolding firstNo
-before-numbers false b c d e f i = omega (arith, i)
-before-numbers true false c d e f i = omega (arith, i)
-before-numbers true true false d e f i = omega (arith, i)
-before-numbers true true true false e f i = omega (arith, i)
-before-numbers true true true true false f i = omega (arith, i)
-before-numbers true true true true true false i = omega (arith, i)
-before-numbers true true true true true true i = omega (arith, i)
+before-numbers false b c d e i = omega (arith, i)
+before-numbers true false c d e i = omega (arith, i)
+before-numbers true true false d e i = omega (arith, i)
+before-numbers true true true false e i = omega (arith, i)
+before-numbers true true true true false i = omega (arith, i)
+before-numbers true true true true true i = omega (arith, i)
 
 module _ (r : Record) (x : Inputs) (vs bs : List ℕ) where
   before-not-18 : firstNo (checksBefore18 (stageOf r) x vs bs) ≡ 18 → ⊥
   unfolding listChecks
-  before-not-18 i = before-numbers _ _ _ _ _ _ i
+  before-not-18 i = before-numbers _ _ _ _ _ i
 
   past : firstNo (checksBefore18 (stageOf r) x vs bs) ≡ 0
       → refusal (stageOf r) (start x vs bs) ≡ firstNo (check 18 (sound (r .sizes) x) ∷ [])

@@ -26,7 +26,7 @@ abbrev pub loadChecks : Stage → Inputs → List Check
 loadChecks t x =
     check 1 (mayLoad (t .phase)) ∷ buildChecks (x .plan) (x .rules) (length (x .nodeTable)) (length (x .stateTable))
 
--- "Start: .. 17; .. 12; .. 13; .. 14; .. 15"
+-- "Start: .. 17; .. 12; .. 13; .. 14; .. 15", of which S-4 leaves 12 to 14
 abbrev pub checksBefore18 : Stage → Inputs → List ℕ → List ℕ → List Check
 checksBefore18 t x vs bs =
     check 1 (mayStart (t .phase)) ∷ check 17 (fits (t .sizes) x) ∷ listChecks (t .sizes .n) (t .sizes .k) vs bs

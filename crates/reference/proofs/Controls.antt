@@ -15,7 +15,7 @@ use Rattle.model.specs.Calls.{Call, load, start, advance, cancel, read, Answer,
 use Rattle.model.specs.Calls.{outcomeAnswer}
 use Rattle.reference.specs.Reference.{newReference}
 use Rattle.reference.specs.AgreementTest.{agreed}
-use Rattle.reference.proofs.Sample.{computing, tableA, loadA, inputsA, Seen, seen, asking}
+use Rattle.reference.proofs.Sample.{computing, tableA, loadA, inputsA, Seen, seen, asking, row}
 
 -- what the reference model settles of a list of calls, all of whose answers agree
 abbrev pub all : List (Option Answer) → Seen
@@ -108,12 +108,12 @@ pub other-at-start :
 unfolding seen loadA inputsA onNode otherState otherNumber otherLabel
 other-at-start = refl
 
--- 18 is the last of Start's checks: 17 and 12 to 15 come before it
+-- 18 is the last of Start's checks: 17 and 12 to 14 come before it; a node listed twice is none of them
 pub eighteen-last :
     seen (load loadA ∷ start nothing [] [] ∷ start (otherState 1 1) (0 ∷ []) [] ∷ start (otherState 1 1) (7 ∷ []) (0 ∷ [])
     ∷ start (otherState 1 1) (0 ∷ []) (2 ∷ []) ∷ start (otherState 1 1) (0 ∷ 0 ∷ []) (0 ∷ 1 ∷ []) ∷ start (otherState 1 1) [] [] ∷ [])
     ≡ all (some Answer.accepted ∷ some (refused 17) ∷ some (refused 12) ∷ some (refused 13) ∷ some (refused 14)
-    ∷ some (refused 15) ∷ some (refused 18) ∷ [])
+    ∷ some (refused 18) ∷ some (refused 18) ∷ [])
 unfolding seen loadA inputsA otherState
 eighteen-last = refl
 
@@ -258,3 +258,8 @@ pub turned-down-causeless :
     ≡ false ∷ true ∷ true ∷ []
 unfolding judgedAdvance otherNumber otherLabel inputsA
 turned-down-causeless = refl
+
+-- a node listed twice: what Reads tell is that of its last entry, whatever the first one says
+pub last-entry : (row (0 ∷ 0 ∷ []) (0 ∷ 1 ∷ []) 2 ≡ row (0 ∷ []) (1 ∷ []) 2) × (row (0 ∷ 0 ∷ []) (1 ∷ 0 ∷ []) 2 ≡ row (0 ∷ []) (0 ∷ []) 2)
+unfolding row
+last-entry = (refl, refl)

@@ -8,6 +8,7 @@ pub mod Demand3Theorem
 pub mod Ceilings
 pub mod UndisturbedLaws
 pub mod OrderLaws
+pub mod SupersedingLaws
 pub mod QuestionTheorem
 pub mod WrittenSound
 pub mod AgreementTestLaws

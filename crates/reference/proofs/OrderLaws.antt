@@ -19,7 +19,10 @@ use Rattle.formats.specs.Rules.{ruleAutomaton}
 use Rattle.formats.specs.Checks.{Check, check, firstNo, listChecks}
 use Rattle.formats.proofs.CheckLaws.{Numbered, firstNo-append-zero, firstNo-append-suc}
 use Rattle.formats.proofs.InputLaws.{list-numbered}
-use Rattle.runs.proofs.OrderLaws.{keys-zip, keys-perm, length-perm, holds-perm, changed-order, list-order}
+use Rattle.runs.proofs.OrderLaws.{keys-zip, keys-perm, holds-perm, changed-order, list-order}
+use Rattle.changes.specs.Entries.{entries, superseded}
+use Rattle.changes.proofs.EntryLaws.{nodes-entries}
+use Rattle.changes.proofs.ChangedLaws.{same-count}
 use Rattle.ready.specs.Members.{readyList, roots}
 use Rattle.ready.specs.Parts.{questionLinks}
 use Rattle.formats.specs.Inputs.{Inputs, fits, sound}
@@ -28,7 +31,7 @@ use Rattle.model.specs.Refusals.{Stage, refusal}
 use Rattle.reference.specs.Reference.{Question, rootsOf, partCount, changedTree, freshAnswer}
 
 -- two lists of checks with one first no, and the same checks after them
-same-append : (xs ys zs : List Check) → Numbered xs → Numbered ys → firstNo xs ≡ firstNo ys → firstNo (xs ++ zs) ≡ firstNo (ys ++ zs)
+pub same-append : (xs ys zs : List Check) → Numbered xs → Numbered ys → firstNo xs ≡ firstNo ys → firstNo (xs ++ zs) ≡ firstNo (ys ++ zs)
 same-append xs ys zs p q e = go (firstNo ys) refl
   where
     go : (n : ℕ) → firstNo ys ≡ n → firstNo (xs ++ zs) ≡ firstNo (ys ++ zs)
@@ -40,8 +43,11 @@ module _ (vs bs ws cs : List ℕ) (g : length vs ≡ length bs) (h : length ws �
   same-nodes : (v : ℕ) → holds v vs ≡ holds v ws
   same-nodes v = sym (ap (holds v) (keys-zip vs bs g)) ∙ holds-perm v (keys-perm d) ∙ ap (holds v) (keys-zip ws cs h)
 
-  pub length-order : length vs ≡ length ws
-  length-order = sym (ap length (keys-zip vs bs g)) ∙ length-perm (keys-perm d) ∙ ap length (keys-zip ws cs h)
+  -- as many nodes after superseding
+  pub count-order : length (superseded (entries vs bs)) ≡ length (superseded (entries ws cs))
+  count-order =
+      same-count (entries vs bs) (entries ws cs) (λ v.
+      ap (holds v) (nodes-entries vs bs g) ∙ same-nodes v ∙ sym (ap (holds v) (nodes-entries ws cs h)))
 
   pub roots-order : (t : Tree) → roots t vs ≡ roots t ws
   unfolding roots

@@ -19,8 +19,12 @@ use Rattle.trees.specs.Climb.{digits}
 use Rattle.list_laws.specs.Tests.{distinct}
 use Rattle.formats.specs.Plan.{planTree}
 use Rattle.list_laws.proofs.BoolLaws.{true-false}
+use Rattle.formats.specs.Checks.{firstNo, listChecks}
 use Rattle.formats.proofs.InputLaws.{list-passes}
-use Rattle.formats.specs.Inputs.{Inputs, Sizes}
+use Rattle.changes.specs.Entries.{entries, superseded}
+use Rattle.changes.proofs.EntryLaws.{length-nodes}
+use Rattle.changes.proofs.ChangedLaws.{superseded-list}
+use Rattle.formats.specs.Inputs.{Inputs, Sizes, nodeTableBuilt}
 use Rattle.model.specs.Calls.{Call, start, Answer, refused, parts, more, finished, outcome, onOutcome, isRefused}
 use Rattle.model.specs.Refusals.{stage, refusal}
 use Rattle.model.specs.Sound.{Sound}
@@ -30,6 +34,7 @@ use Rattle.reference.specs.Demand3.{Conforms, after, Agrees}
 use Rattle.model.specs.History.{History}
 use Rattle.model.specs.Model.{freshRecord, Does}
 use Rattle.reference.specs.Undisturbed.{advances, finishedAfter, referenceAt, Undisturbed, OutcomeHas}
+use Rattle.reference.specs.Superseding.{supersededNodes, supersededLabels}
 use Rattle.reference.specs.Undisturbed.{EveryOutcome, OnlyOutcome}
 use Rattle.model.proofs.Facts.{Layers}
 use Rattle.reference.proofs.StartSimulation.{some-part}
@@ -39,14 +44,15 @@ use Rattle.reference.proofs.Demand3Theorem.{demand-3}
 use Rattle.model.proofs.Refinement.{Refines, refines}
 use Rattle.reference.proofs.Ceilings.{Few, ready-count, question-links}
 use Rattle.reference.proofs.UndisturbedLaws.{going, UndisturbedFrom, agrees-split, undisturbed}
-use Rattle.reference.proofs.OrderLaws.{length-order, parts-order, fresh-order}
+use Rattle.reference.proofs.OrderLaws.{count-order, parts-order, fresh-order}
+use Rattle.reference.proofs.SupersedingLaws.{parts-superseded}
 
 -- n is what Start told, ys are the answers of the calls after it
 pub record CleanOutcomes (x : Inputs) (vs bs : List ℕ) (n : ℕ) (ys : List Answer) : Type 0 where
   -- Start tells the size of the ready set
   pub parts-are : n ≡ partCount (asked x vs bs)
-  -- at most 4 m - 2 parts for m changes, 1 for none
-  pub few : Few (length vs) n
+  -- at most 4 m - 2 parts for m changes, 1 for none; of a list with repeats "m counts its nodes" after superseding
+  pub few : Few (length (superseded (entries vs bs))) n
   -- finished by exactly as many accepted advances as there are parts
   pub exact : (m : ℕ) → finishedAfter ys ≡ some m → m ≡ n
   pub unfinished : finishedAfter ys ≡ none → advances ys < n
@@ -125,6 +131,17 @@ fresh-few : (q : Question) → linksIn (freshAnswer q) ≤ partsIn
 unfolding linksIn partsIn freshAnswer
 fresh-few q = question-links (planTree (q .inputs .plan)) (q .nodes)
 
+-- ---- the parts, by the list after superseding
+
+few-superseded : Layers → (z : Sizes) (x : Inputs) (vs bs : List ℕ) → nodeTableBuilt z x ≡ true
+    → firstNo (listChecks (z .n) (z .k) vs bs) ≡ 0 → Few (length (superseded (entries vs bs))) (partCount (asked x vs bs))
+few-superseded L z x vs bs built passes =
+    let us = supersededNodes vs bs in
+    let l = list-passes (z .n) (z .k) us (supersededLabels vs bs) (superseded-list (z .n) (z .k) vs bs passes) in
+    subst (λ (m : ℕ). Few m (partCount (asked x vs bs))) (length-nodes (superseded (entries vs bs)))
+    (subst (Few (length us)) (sym (parts-superseded x vs bs (list-passes (z .n) (z .k) vs bs passes .lengths)))
+    (ready-count L z x us built (l .nodes-below)))
+
 -- ---- the statements
 
 module _ (L : Layers) (cs : List Call) (xs : List Answer) (x : Inputs) (vs bs : List ℕ) (n : ℕ) (ds : List Call)
@@ -140,7 +157,6 @@ module _ (L : Layers) (cs : List Call) (xs : List Answer) (x : Inputs) (vs bs : 
       let A = agrees-split newReference cs (start x vs bs ∷ ds) xs (parts n ∷ ys) same (demand-3 L _ _ h) in
       let p = passed sizesBefore s x vs bs n (A .0) in
       let B = begun sizesBefore s x vs bs n (A .0) in
-      let l = list-passes _ _ vs bs (start-list (stage (phase s) sizesBefore) x vs bs p) in
       record {
         started-sound = sound-yes sizesBefore x (start-sound (stage (phase s) sizesBefore) x vs bs p);
         outcomes = λ alone.
@@ -149,8 +165,9 @@ module _ (L : Layers) (cs : List Call) (xs : List Answer) (x : Inputs) (vs bs : 
             (subst (λ (b : Reference). Agrees b ds ys) (B .1) (A .1)) alone in
             record {
               parts-are = B .0;
-              few = subst (Few (length vs)) (sym (B .0))
-                  (ready-count L sizesBefore x vs (start-built (stage (phase s) sizesBefore) x vs bs p) (l .nodes-below));
+              few = subst (Few (length (superseded (entries vs bs)))) (sym (B .0))
+                  (few-superseded L sizesBefore x vs bs (start-built (stage (phase s) sizesBefore) x vs bs p)
+                  (start-list (stage (phase s) sizesBefore) x vs bs p));
               exact = λ m e. omega (arith, K .exact m e, B .0);
               unfinished = λ e. omega (arith, K .unfinished e, B .0);
               most = omega (arith, K .most, B .0);
@@ -167,7 +184,7 @@ pub outcome-order : (x : Inputs) (vs bs ws cs : List ℕ) → length vs ≡ leng
 outcome-order x vs bs ws cs g h d u n ys T = record {
   parts-are = T .parts-are ∙ parts-order vs bs ws cs g h d (asked x vs bs) (asked x ws cs) refl refl refl refl
       refl;
-  few = subst (λ (m : ℕ). Few m n) (length-order vs bs ws cs g h d) (T .few);
+  few = subst (λ (m : ℕ). Few m n) (count-order vs bs ws cs g h d) (T .few);
   exact = T .exact;
   unfinished = T .unfinished;
   most = T .most;

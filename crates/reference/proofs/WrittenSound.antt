@@ -2,7 +2,7 @@
 -- and K, longer buffers and their excess included. So every plan and rule table passes Start's 18 after its Load.
 --     loaded x          the inputs after an accepted Load
 --     written-sound, written-fits     they are sound, and long enough
---     start-written     so a Start on them is accepted with any list that passes 12 to 15
+--     start-written     so a Start on them is accepted with any list that passes 12 to 14
 -- Assumes nothing.
 use Prim.Native.Nat.{ℕ, _+_, _≤_}
 use mathlib.Core.Path.{_≡_, refl, ap, _∙_}
@@ -134,7 +134,7 @@ written-sound t x e = passed-sound x (load-passes t x e)
 pub written-fits : (t : Stage) (x : Inputs) → refusal t (load x) ≡ 0 → fits (sizesIn x) (loaded x) ≡ true
 written-fits t x e = passed-fits x (load-passes t x e)
 
--- so a Start on what an accepted Load left is accepted with any list that passes 12 to 15, and tells its parts
+-- so a Start on what an accepted Load left is accepted with any list that passes 12 to 14, and tells its parts
 pub start-written : (t : Stage) (x : Inputs) (s : State) (vs bs : List ℕ) → refusal t (load x) ≡ 0
     → mayStart (phase s) ≡ true
     → firstNo (listChecks (sizesIn x .n) (sizesIn x .k) vs bs) ≡ 0

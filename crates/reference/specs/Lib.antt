@@ -3,3 +3,4 @@ pub mod Reference
 pub mod Demand3
 pub mod Undisturbed
 pub mod AgreementTest
+pub mod Superseding

@@ -2,8 +2,8 @@
 --     keys, values       the nodes and the labels of a list of entries; keys-zip, values-zip: of two lists of a length
 --     allBelow-perm, holds-perm, distinct-perm, length-perm   tests that do not depend on the order of a list
 --     changed-order      where no node is listed twice, the labels as changed do not depend on the order of the list
---     list-order         nor does the first no of checks 12 to 15, listed twice or not
---     freshRun-order     nor does the answer of a fresh run, a run or a refusal
+--     list-order         nor does the first no of checks 12 to 14, listed twice or not
+--     freshRun-order     nor, where no node is listed twice, does the answer of a fresh run, a run or a refusal
 -- A permutation is mathlib's `List·Permᴰ`, here of the list of entries (node, label).
 -- Assumes nothing.
 use Prim.Native.Nat.{ℕ, zero, suc}
@@ -26,7 +26,6 @@ use Rattle.formats.specs.Rules.{labelCount, ruleAutomaton}
 use Rattle.formats.specs.Checks.{Check, firstNo, listChecks, ruleTableChecks, freshRunChecks}
 use Rattle.list_laws.proofs.BoolLaws.{true-false}
 use Rattle.list_laws.proofs.TestLaws.{distinct-head, distinct-tail}
-use Rattle.formats.proofs.InputLaws.{list-passes, fresh-run-list}
 use Rattle.runs.specs.declared.answer.Running.the-variants.{Ended}
 use Rattle.runs.specs.FreshRun.{runAnswer, rootState, rootAccepted, freshRun}
 
@@ -174,7 +173,6 @@ module _ (vs bs ws cs : List ℕ) (g : length vs ≡ length bs) (h : length ws �
       let m : length bs ≡ length cs = by-labels length (length-perm (values-perm d)) in
       let a : allBelow n vs ≡ allBelow n ws = by-nodes (allBelow n) (allBelow-perm n (keys-perm d)) in
       let b : allBelow k bs ≡ allBelow k cs = by-labels (allBelow k) (allBelow-perm k (values-perm d)) in
-      let u : distinct vs ≡ distinct ws = by-nodes distinct (distinct-perm (keys-perm d)) in
       cc
 
 -- ---- the fresh run
@@ -198,20 +196,18 @@ module _ (p r vs bs ws cs : List ℕ) (g : length vs ≡ length bs) (h : length 
       append-same (ruleTableChecks p r) (listChecks (nodeCount p) (labelCount r) vs bs)
       (listChecks (nodeCount p) (labelCount r) ws cs) (list-order vs bs ws cs g h d (nodeCount p) (labelCount r))
 
-  roots-order : firstNo (freshRunChecks p r vs bs) ≡ 0
+  roots-order : distinct vs ≡ true
       → (rootState p r vs bs ≡ rootState p r ws cs) × (rootAccepted p r vs bs ≡ rootAccepted p r ws cs)
-  roots-order e =
-      let u : distinct vs ≡ true =
-      list-passes (nodeCount p) (labelCount r) vs bs (fresh-run-list p r vs bs e) .no-twice in
+  roots-order u =
       let c : changed (labelsIn p) vs bs ≡ changed (labelsIn p) ws cs =
       changed-order vs bs ws cs g h d u (labelsIn p) in (
         ap (λ (l : List ℕ). state (ruleAutomaton r) (treeOf (kindsIn p) l)) c,
         ap (λ (l : List ℕ). accepts (ruleAutomaton r) (treeOf (kindsIn p) l)) c,
       )
 
-  pub freshRun-order : freshRun p r vs bs ≡ freshRun p r ws cs
+  pub freshRun-order : distinct vs ≡ true → freshRun p r vs bs ≡ freshRun p r ws cs
   unfolding freshRun
-  freshRun-order =
+  freshRun-order u =
       ap (λ (n : ℕ). runAnswer n (rootState p r vs bs) (rootAccepted p r vs bs)) checks-order
       ∙ answer-same (firstNo (freshRunChecks p r ws cs)) (rootState p r vs bs) (rootState p r ws cs)
-      (rootAccepted p r vs bs) (rootAccepted p r ws cs) (λ e. roots-order (checks-order ∙ e))
+      (rootAccepted p r vs bs) (rootAccepted p r ws cs) (λ e. roots-order u)

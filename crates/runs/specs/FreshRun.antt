@@ -50,7 +50,7 @@ rootState p r vs bs = state (ruleAutomaton r) (changedTree p vs bs)
 abbrev pub rootAccepted : List ℕ → List ℕ → List ℕ → List ℕ → Bool
 rootAccepted p r vs bs = accepts (ruleAutomaton r) (changedTree p vs bs)
 
--- "the fresh run 2 to 10, then 12 to 15"
+-- "the fresh run 2 to 10, then 12 to 15", of which S-4 leaves 12 to 14
 unfoldable pub freshRun : List ℕ → List ℕ → List ℕ → List ℕ → Running
 freshRun p r vs bs = runAnswer (firstNo (freshRunChecks p r vs bs)) (rootState p r vs bs) (rootAccepted p r vs bs)
 

@@ -35,7 +35,7 @@ fn run_passed(
 }
 
 // A fresh run without tables: of the rules over the plan with the listed labels changed. It tells the root's state and
-// yes or no, or the number of the first check that fails, of 2 to 10 and 12 to 15.
+// yes or no, or the number of the first check that fails, of 2 to 10 and 12 to 14.
 pub fn fresh_run(plan: &[u8], rules: &[u8], nodes: &[u16], labels: &[u8]) -> Running
     ensures { λ r. ⌜ FreshRunDone (now (plan .entry)) (now (rules .entry)) (now (nodes .entry)) (now (labels .entry)) r ⌝ }
 {

@@ -1,4 +1,4 @@
-// Start: checks 1, 17, 12 to 15 and 18, then the roots of the parts. On sound tables they are always found.
+// Start: checks 1, 17, 12 to 14 and 18, then the roots of the parts. On sound tables they are always found.
 use crate::answers::StartAnswer;
 use crate::answers::Started;
 use crate::fill::padded_labels;

@@ -1,6 +1,6 @@
 -- What a question's answer is by the definitions alone, with no session.
 --
--- answerTo p r vs bs == of the changes vs to bs on the plan p and the rules r: the number of the first check of 12 to 15 that fails, or the
+-- answerTo p r vs bs == of the changes vs to bs on the plan p and the rules r: the number of the first check of 12 to 14 that fails, or the
 --   state and the yes or no of a run on the changed plan, the parts, and as links the moves of their climbs
 -- Cleared s x == the session s is the one that an accepted Load left, and x is what it was given, with the tables that it wrote
 --

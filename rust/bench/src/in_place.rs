@@ -22,10 +22,10 @@ use whatif::{slices, Lent, Refusal, Session};
 
 /// Around the tables that a life writes: what is outside must stay.
 const MARGIN: usize = 9;
-const LIST_CHECKS: [u32; 4] = [12, 13, 14, 15];
+const LIST_CHECKS: [u32; 3] = [12, 13, 14];
 /// Every answer that these calls give here; an advance's 17 and 18 need other buffers than Start's.
 const CAME: [(&str, &[u32]); 3] =
-    [("Load", &[0, 2, 3, 4, 5, 6, 7, 8, 9, 10, 11]), ("Start", &[0, 1, 12, 13, 14, 15, 17, 18]), ("advance", &[0, 1])];
+    [("Load", &[0, 2, 3, 4, 5, 6, 7, 8, 9, 10, 11]), ("Start", &[0, 1, 12, 13, 14, 17, 18]), ("advance", &[0, 1])];
 
 const MOST_PARTS: &str = "Start told 254 parts";
 

@@ -153,6 +153,34 @@ pub fn merge(first: &[u8], second: &[u8], len: usize, random: &mut Random) -> Re
 
 type Merge = fn(&[u8], &[u8], &mut [u8]) -> u32;
 
+/// A list laid over another, into buffers of these lengths that hold random numbers, compared whole. The entries that remain.
+pub fn lay_over(
+    lower: (&[u16], &[u8]),
+    upper: (&[u16], &[u8]),
+    lens: (usize, usize),
+    random: &mut Random,
+) -> Result<Vec<(u16, u8)>, u32> {
+    let expected = reference::lists::lay_over(lower, upper, lens);
+    let (mut nodes, mut labels) = (random.numbers(lens.0 + 2 * MARGIN), random.bytes(lens.1 + 2 * MARGIN));
+    let (mut want_nodes, mut want_labels, unset) = (nodes.clone(), labels.clone(), random.word() as u32 | 1 << 20);
+    let mut want_count = unset;
+    if let Ok(laid) = &expected {
+        for (i, &(node, label)) in laid.iter().enumerate() {
+            want_nodes[MARGIN + i] = node;
+            want_labels[MARGIN + i] = label;
+        }
+        want_count = laid.len() as u32;
+    }
+    let mut count = unset;
+    let (out_nodes, out_labels) = (&mut nodes[MARGIN..MARGIN + lens.0], &mut labels[MARGIN..MARGIN + lens.1]);
+    let number = slices::lay_over(lower, upper, out_nodes, out_labels, &mut count);
+    assert_eq!(number, expected.as_ref().err().copied().unwrap_or(0), "the answer of laying over");
+    same("laid nodes", &nodes, &want_nodes);
+    same("laid labels", &labels, &want_labels);
+    assert_eq!(count, want_count, "the count of nodes that remain");
+    expected
+}
+
 /// Do two rule tables agree? Compared: the answer with the reference, the lines with what they must be, and every number
 /// with plain Rust, which searches in the same order. The lines of the separating plan; none where they agree.
 pub fn agree(first: &[u8], second: &[u8], len: usize, random: &mut Random) -> Result<Option<Vec<Line>>, u32> {

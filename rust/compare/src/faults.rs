@@ -9,7 +9,7 @@ use crate::trace;
 /// The checks of the builds and of the full checks, in their order.
 pub const BUILD_CHECKS: [u32; 10] = [2, 3, 4, 5, 6, 7, 8, 9, 10, 11];
 /// The checks of the fresh run, in their order.
-pub const FRESH_CHECKS: [u32; 13] = [2, 3, 4, 5, 6, 7, 8, 9, 10, 12, 13, 14, 15];
+pub const FRESH_CHECKS: [u32; 12] = [2, 3, 4, 5, 6, 7, 8, 9, 10, 12, 13, 14];
 
 /// Everything lent to a build, a full check or a fresh run.
 #[derive(Clone)]
@@ -152,7 +152,7 @@ impl Input {
     }
 }
 
-/// Lays a fault of 12 to 15 on a list that names some nodes of a plan with N nodes, for K labels.
+/// Lays a fault of 12 to 14 on a list that names some nodes of a plan with N nodes, for K labels.
 pub fn lay_on_list(
     check: u32,
     nodes: &mut Vec<u16>,
@@ -171,14 +171,19 @@ pub fn lay_on_list(
         },
         13 => *pick_mut(nodes, random) = random.between(n, 65_535) as u16,
         14 => *pick_mut(labels, random) = random.between(k, 255) as u8,
-        15 => {
-            nodes.truncate(63);
-            labels.truncate(63);
-            let (from, to) = (random.below(nodes.len()), random.between(0, nodes.len()));
-            nodes.insert(to, nodes[from]);
-            labels.insert(to, random.below(k) as u8);
-        }
         _ => panic!("no fault for {}", check),
+    }
+}
+
+/// Lists some nodes of a list again, with labels below K of their own, at any place: at most 64 entries in all.
+pub fn repeat_nodes(nodes: &mut Vec<u16>, labels: &mut Vec<u8>, k: usize, random: &mut Random) {
+    for _ in 0..random.between(1, 9) {
+        if nodes.is_empty() || nodes.len() > 63 {
+            return;
+        }
+        let (from, to) = (random.below(nodes.len()), random.between(0, nodes.len()));
+        nodes.insert(to, nodes[from]);
+        labels.insert(to, random.below(k) as u8);
     }
 }
 

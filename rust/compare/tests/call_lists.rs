@@ -16,7 +16,7 @@ fn small_plans() {
         list(150, 20, random, counts);
     }
     // everything that a session can answer came, and each often enough
-    let wanted: Vec<String> = [1, 17, 12, 13, 14, 15, 18].iter().map(|n| format!("Start refused {}", n)).collect();
+    let wanted: Vec<String> = [1, 17, 12, 13, 14, 18].iter().map(|n| format!("Start refused {}", n)).collect();
     let loads = (1..=11).map(|n| format!("Load refused {}", n));
     let others = [
         "Load Accepted",

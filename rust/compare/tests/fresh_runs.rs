@@ -66,10 +66,13 @@ fn limits_of_the_list() {
     assert_eq!(run(&nodes[..63], &labels[..64], random), 12);
     assert_eq!(run(&[], &labels[..1], random), 12);
     assert_eq!(run(&nodes[..1], &[], random), 12);
-    // 13 is put to the whole list before 14, and 14 before 15
+    // 12 counts the entries, not their nodes; 13 is put to the whole list before 14, superseded entries included
+    assert_eq!(run(&[0, 1, 2].repeat(22)[..65], &[0; 65], random), 12);
+    assert_eq!(run(&[199, 0, 199, 1], &[0, 0, 0, 0], random), 13);
+    assert_eq!(run(&[5, 5], &[4, 1], random), 14);
     assert_eq!(run(&[0, 199], &[4, 0], random), 13);
     assert_eq!(run(&[0, 0], &[0, 4], random), 14);
-    assert_eq!(run(&[5, 0, 5], &[1, 2, 1], random), 15);
+    assert_eq!(run(&[5, 0, 5], &[1, 2, 1], random), 0);
     assert_eq!(run(&[198, 0], &[3, 3], random), 0);
 }
 

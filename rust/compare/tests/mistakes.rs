@@ -10,7 +10,7 @@ use reference::mistakes::{making, Mistake};
 const SEEDS: std::ops::Range<u64> = 1..201;
 
 /// A mistake, and the rounds that must notice it.
-const NOTICED: [(Mistake, &[&str]); 37] = [
+const NOTICED: [(Mistake, &[&str]); 40] = [
     (Mistake::ChildrenExchanged, &["builds", "fresh runs", "questions", "other bytes", "call lists"]),
     (Mistake::SiblingFromOldRun, &["questions", "other bytes", "damaged lends", "call lists"]),
     (Mistake::ClimbToTheRoot, &["questions", "other bytes", "damaged lends", "call lists"]),
@@ -37,6 +37,9 @@ const NOTICED: [(Mistake, &[&str]); 37] = [
     (Mistake::LastByteFree, &["full checks", "session refusals"]),
     (Mistake::AnyMarkIsYes, &["damaged tables", "damaged lends"]),
     (Mistake::FirstEntryHolds, &["damaged records"]),
+    (Mistake::FirstTapHolds, &["fresh runs", "questions", "call lists"]),
+    (Mistake::UpperUnderLower, &["laying over"]),
+    (Mistake::EntriesRemain, &["laying over"]),
     (Mistake::TailsFree, &["damaged records", "call lists"]),
     (Mistake::NodeTableIsNoCause, &["damaged lends"]),
     (Mistake::NamesNotAsked, &["call lists"]),

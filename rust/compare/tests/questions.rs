@@ -120,10 +120,12 @@ fn limits_of_the_list() {
     assert_eq!(refused(panel, lent, &nodes, &labels, random), 12);
     assert_eq!(refused(panel, lent, &nodes[..64], &labels[..63], random), 12);
     assert_eq!(refused(panel, lent, &[], &labels[..1], random), 12);
-    // 13 is put to the whole list before 14, and 14 before 15
+    // 12 counts the entries, not their nodes; 13 is put to the whole list before 14, superseded entries included
+    assert_eq!(refused(panel, lent, &[0, 1, 2].repeat(22)[..65], &[0; 65], random), 12);
+    assert_eq!(refused(panel, lent, &[199, 0, 199, 1], &[0, 0, 0, 0], random), 13);
+    assert_eq!(refused(panel, lent, &[5, 5], &[4, 1], random), 14);
     assert_eq!(refused(panel, lent, &[0, 199], &[4, 0], random), 13);
     assert_eq!(refused(panel, lent, &[0, 0], &[0, 4], random), 14);
-    assert_eq!(refused(panel, lent, &[5, 0, 5], &[1, 2, 1], random), 15);
     // the answer before is still there
     assert!(matches!(panel.call(&Call::Read, random), Answer::Told(_)));
 }

@@ -85,7 +85,7 @@ fn the_answer_stays_until_a_start_is_accepted() {
         for call in [
             Call::Load(short.lends()),
             Call::Start(short.lends(), &[], &[]),
-            Call::Start(scene.lent.lends(), &[0, 0], &[0, 0]),
+            Call::Start(scene.lent.lends(), &[0, 0], &[0]),
             Call::Advance(scene.lent.lends()),
             Call::Cancel,
         ] {

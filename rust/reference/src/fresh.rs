@@ -1,4 +1,4 @@
-//! The fresh run: "a fresh run without tables (it tells state, yes or no)". Checks 2 to 10, then 12 to 15.
+//! The fresh run: "a fresh run without tables (it tells state, yes or no)". Checks 2 to 10, then 12 to 14.
 
 use crate::formats::{read_plan, read_rules};
 use crate::mistakes::{made, Mistake};
@@ -22,16 +22,19 @@ pub fn fresh_run(plan: &[u8], rules: &[u8], nodes: &[u16], labels: &[u8]) -> Res
     Ok(Answer { state, yes: rules.accepts(state) })
 }
 
-/// The plan's labels with the listed ones changed.
+/// The plan's labels with the listed ones changed; of two entries for a node the last holds.
 pub fn changed(labels: &[u8], nodes: &[u16], new: &[u8]) -> Vec<u8> {
     let mut changed = labels.to_vec();
-    for (&v, &a) in nodes.iter().zip(new) {
-        changed[v as usize] = a;
+    for (i, (&v, &a)) in nodes.iter().zip(new).enumerate() {
+        if !(made(Mistake::FirstTapHolds) && nodes[..i].contains(&v)) {
+            changed[v as usize] = a;
+        }
     }
     changed
 }
 
-/// "node and label lists of one length, at most 64? 12; nodes below N? 13; labels below K? 14; no node twice? 15"
+/// "node and label lists of one length, at most 64? 12; nodes below N? 13; labels below K? 14", of every entry as listed. A
+/// node may be listed several times (document 02, S-4): the last entry holds.
 pub fn check_list(nodes: &[u16], labels: &[u8], n: usize, k: usize) -> Result<(), u32> {
     if nodes.len() != labels.len() || nodes.len() > MAX_CHANGES {
         return Err(12);
@@ -45,9 +48,6 @@ pub fn check_list(nodes: &[u16], labels: &[u8], n: usize, k: usize) -> Result<()
     }
     if !labels_fit {
         return Err(14);
-    }
-    if (1..nodes.len()).any(|i| nodes[..i].contains(&nodes[i])) {
-        return Err(15);
     }
     Ok(())
 }

@@ -18,6 +18,7 @@ pub mod climb;
 pub mod formats;
 pub mod fresh;
 pub mod lent;
+pub mod lists;
 pub mod merge;
 pub mod mistakes;
 pub mod panel;

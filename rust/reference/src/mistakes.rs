@@ -51,6 +51,12 @@ pub enum Mistake {
     AnyMarkIsYes,
     /// Of two entries of a record for one node, the first holds.
     FirstEntryHolds,
+    /// Of two entries for one node in the list of a fresh run or a question, the first holds.
+    FirstTapHolds,
+    /// Of two lists laid over one another, the lower one's label holds.
+    UpperUnderLower,
+    /// 22 counts the entries of both lists, not the nodes that remain.
+    EntriesRemain,
     /// Unused entries of a record may be anything.
     TailsFree,
     /// A link that leads outside the plan or does not rise is no cause for 18.

@@ -51,7 +51,7 @@ impl Record {
         }
     }
 
-    /// 17, 12 to 15, 18. It tells the number of parts; nothing of an earlier question stays.
+    /// 17, 12 to 14, 18. It tells the number of parts; nothing of an earlier question stays.
     fn start(self, lends: Lends, nodes: &[u16], labels: &[u8]) -> Result<After, u32> {
         self.sizes.fit(&lends)?;
         check_list(nodes, labels, self.sizes.n, self.sizes.k)?;

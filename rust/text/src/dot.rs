@@ -17,7 +17,7 @@ digraph plan {
 /// The colours of Graphviz's set312.
 const COLOURS: usize = 12;
 
-/// Or the refusal of the plan (2 to 5) or of the changes (12, 13, 15); which labels there are is not asked.
+/// Or the refusal of the plan (2 to 5) or of the changes (12, 13); which labels there are is not asked.
 pub fn picture(plan: &[u8], changes: &[Change]) -> Result<String, u32> {
     let plan = read_plan(plan)?;
     let (nodes, labels): (Vec<u16>, Vec<u8>) = changes.iter().copied().unzip();
@@ -27,7 +27,7 @@ pub fn picture(plan: &[u8], changes: &[Change]) -> Result<String, u32> {
     let parts = parts(&tree, &roots);
     let mut text = HEAD.to_string();
     for v in 0..plan.nodes() {
-        let to = changes.iter().find(|change| change.0 as usize == v).map(|change| change.1);
+        let to = changes.iter().rev().find(|change| change.0 as usize == v).map(|change| change.1);
         text += &node(v, plan.labels[v], to, parts[v], roots[parts[v]] == v);
     }
     for (v, pair) in tree.children.iter().enumerate() {

@@ -145,6 +145,25 @@ extern "C" {
 }
 
 extern "C" {
+    /// Lays one list of changes over another.
+    pub fn whatif_lay_over(
+        lower_nodes: *const u16,
+        lower_nodes_len: usize,
+        lower_labels: *const u8,
+        lower_labels_len: usize,
+        upper_nodes: *const u16,
+        upper_nodes_len: usize,
+        upper_labels: *const u8,
+        upper_labels_len: usize,
+        nodes: *mut u16,
+        nodes_len: usize,
+        labels: *mut u8,
+        labels_len: usize,
+        count: *mut u32,
+    ) -> u32;
+}
+
+extern "C" {
     /// Load: begins with a plan, and writes its tables.
     pub fn whatif_load(
         record: *mut u8,

@@ -5,7 +5,8 @@
 //! never allocates; the caller lends the tables. A refused call has changed nothing.
 //!
 //! Order: `sizes` (limits and lengths), `Refusal`, the calls on tables, those on two rule tables (`merge`, `agree`),
-//! those on the planner's files (`plan_of_planner`, `planner_of_plan`), `Session`, the panel session, with `Lent`.
+//! those on the planner's files (`plan_of_planner`, `planner_of_plan`), on two lists (`lay_over`), `Session`, the panel
+//! session, with `Lent`.
 //! The crate `whatif-sys` has the library's own functions. Without the feature `std` this crate needs `core` alone.
 //!
 //! The sample of document 01: plan A of seven nodes, and table A, under which label 0 takes the greater state of two
@@ -61,7 +62,7 @@ pub use session::{Answer, Lent, Progress, Session, State};
 pub const VERSION: &str = env!("CARGO_PKG_VERSION");
 
 /// This crate's version, as major * 10000 + minor * 100 + patch: that of the archive it is made for.
-pub const VERSION_NUMBER: u32 = 400;
+pub const VERSION_NUMBER: u32 = 500;
 
 /// The version of the archive that is linked.
 ///
@@ -116,7 +117,7 @@ pub fn check(plan: &[u8], rules: &[u8], node_table: &[u16], state_table: &[u8]) 
 }
 
 /// Runs the rule table over the whole plan with the listed labels changed: node `nodes[i]` takes `labels[i]`.
-/// Refused with 2 to 10, 12 to 15.
+/// A node may be listed several times: its last entry holds. Refused with 2 to 10, 12 to 14.
 pub fn fresh_run(plan: &[u8], rules: &[u8], nodes: &[u16], labels: &[u8]) -> Result<Verdict, Refusal> {
     let mut told = [0; 2];
     accepted(slices::fresh_run(plan, rules, nodes, labels, &mut told))?;
@@ -243,4 +244,28 @@ pub fn merge(first: &[u8], second: &[u8], merged: &mut [u8]) -> Result<usize, Re
 /// 0 is accepted; any other number is a refusal's.
 fn accepted(number: u32) -> Result<(), Refusal> {
     Refusal::from_number(number).map_or(Ok(()), Err)
+}
+
+/// Lays one list of changes over another, each its nodes and its labels: all nodes of both, with the upper list's label
+/// where both name one; of two entries for a node in a list the last. Writes the nodes that remain, rising, and their
+/// labels, and tells how many there are; the rest is untouched. Refused with 12 for the lower list, 12 for the upper, 22, 11
+/// (in this order).
+///
+/// ```
+/// # fn main() -> Result<(), whatif::Refusal> {
+/// let (mut nodes, mut labels) = ([0; whatif::sizes::MAX_CHANGES], [0; whatif::sizes::MAX_CHANGES]);
+/// let count = whatif::lay_over((&[5, 2, 5], &[1, 2, 3]), (&[9, 2], &[4, 6]), &mut nodes, &mut labels)?;
+/// assert_eq!((&nodes[..count], &labels[..count]), (&[2, 5, 9][..], &[6, 3, 4][..]));
+/// # Ok(())
+/// # }
+/// ```
+pub fn lay_over(
+    lower: (&[u16], &[u8]),
+    upper: (&[u16], &[u8]),
+    nodes: &mut [u16],
+    labels: &mut [u8],
+) -> Result<usize, Refusal> {
+    let mut count = 0;
+    accepted(slices::lay_over(lower, upper, nodes, labels, &mut count))?;
+    Ok(count as usize)
 }

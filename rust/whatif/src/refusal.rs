@@ -74,6 +74,7 @@ refusals! {
     PlannerFile = 19, "The planner's file is malformed, or the plan is not that of a planner's file.";
     PlannerLabel = 20, "The planner's file has a label of 63 or more.";
     PlannerRoom = 21, "The planner's file has more than 32,767 nodes, or an output buffer is too short for it.";
+    LaidOver = 22, "Of the two lists laid over one another more than 64 nodes would remain.";
     LabelCounts = 23, "The two rule tables do not have the same count of labels.";
     StateProduct = 24, "The product of the two rule tables' counts of states is above 16.";
 }

@@ -129,7 +129,7 @@ impl Session {
     }
 
     /// Puts a question: node `nodes[i]` takes `labels[i]`. Tells the number of its parts; the session is running then.
-    /// Refused with 1, 17, 12, 13, 14, 15, 18 (in this order); 18 exactly when plan and rules do not pass 2 to 10 or name
+    /// Refused with 1, 17, 12, 13, 14, 18 (in this order); 18 exactly when plan and rules do not pass 2 to 10 or name
     /// other counts than those loaded, or the tables are not what Load writes from them.
     pub fn start(&mut self, lent: &Lent<'_>, nodes: &[u16], labels: &[u8]) -> Result<u32, Refusal> {
         let Lent { plan, rules, node_table, state_table } = *lent;

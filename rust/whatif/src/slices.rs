@@ -192,6 +192,34 @@ pub fn planner_of_plan(plan: &[u8], file: &mut [u8]) -> u32 {
     unsafe { raw::whatif_planner_of_plan(plan.as_ptr(), plan.len(), file.as_mut_ptr(), file.len()) }
 }
 
+/// A list is its nodes and its labels; tells the count of nodes that remain.
+pub fn lay_over(
+    lower: (&[u16], &[u8]),
+    upper: (&[u16], &[u8]),
+    nodes: &mut [u16],
+    labels: &mut [u8],
+    count: &mut u32,
+) -> u32 {
+    // SAFETY: as in `build_by`
+    unsafe {
+        raw::whatif_lay_over(
+            lower.0.as_ptr(),
+            lower.0.len(),
+            lower.1.as_ptr(),
+            lower.1.len(),
+            upper.0.as_ptr(),
+            upper.0.len(),
+            upper.1.as_ptr(),
+            upper.1.len(),
+            nodes.as_mut_ptr(),
+            nodes.len(),
+            labels.as_mut_ptr(),
+            labels.len(),
+            count,
+        )
+    }
+}
+
 pub use session::*;
 
 mod session {

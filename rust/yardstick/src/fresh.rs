@@ -2,7 +2,7 @@
 
 use crate::checks;
 
-/// The root's state and its yes or no, or the first of 2 to 10 and 12 to 15.
+/// The root's state and its yes or no, or the first of 2 to 10 and 12 to 14.
 pub fn fresh_run(plan: &[u8], rules: &[u8], nodes: &[u16], changes: &[u8]) -> Result<(u8, bool), u32> {
     let plan = checks::plan(plan)?;
     let rules = checks::rules(rules)?;
@@ -38,11 +38,6 @@ pub fn list(nodes: &[u16], changes: &[u8], n: usize, k: usize) -> Result<(), u32
     }
     if changes.iter().any(|&a| a as usize >= k) {
         return Err(14);
-    }
-    for (i, v) in nodes.iter().enumerate() {
-        if nodes[..i].contains(v) {
-            return Err(15);
-        }
     }
     Ok(())
 }

@@ -9,7 +9,7 @@ use super::refusals::any_two;
 use crate::alterations::{Alteration, ALTERATIONS};
 use crate::calls::Kind;
 use crate::counts::Counts;
-use crate::faults::{lay_on_list, Input, BUILD_CHECKS};
+use crate::faults::{lay_on_list, repeat_nodes, Input, BUILD_CHECKS};
 use crate::inputs::Case;
 use crate::panel::{Lent, Panel};
 use crate::random::Random;
@@ -125,13 +125,16 @@ impl World<'_> {
         (at, lent)
     }
 
-    /// A list, now and then with one or two faults of 12 to 15.
+    /// A list, now and then with nodes listed again, or with one or two faults of 12 to 14.
     fn changes(&self, at: usize, random: &mut Random) -> (Vec<u16>, Vec<u8>) {
         let case = &self.at_hand[at].0;
         let m = *random.pick(&[0, 1, 2, 3, 5, 9]);
         let (mut nodes, mut labels) = case.list(m, random);
+        if random.below(3) == 0 {
+            repeat_nodes(&mut nodes, &mut labels, case.k, random);
+        }
         if random.below(4) == 0 && !nodes.is_empty() {
-            let faults = any_two(&[12, 13, 14, 15], random);
+            let faults = any_two(&[12, 13, 14], random);
             // the last check first, so that its fault still shows
             for &check in faults.iter().rev() {
                 lay_on_list(check, &mut nodes, &mut labels, (case.n, case.k), random);

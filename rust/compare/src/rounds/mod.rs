@@ -10,6 +10,7 @@ pub mod damaged_records;
 pub mod damaged_tables;
 pub mod fresh_runs;
 pub mod full_checks;
+pub mod lay_overs;
 pub mod merges;
 pub mod other_bytes;
 pub mod planner_files;
@@ -29,7 +30,7 @@ pub struct Round {
     compare: fn(&mut Random, &mut Counts),
 }
 
-pub const ROUNDS: [Round; 15] = [
+pub const ROUNDS: [Round; 16] = [
     Round { name: "builds", compare: builds::round },
     Round { name: "full checks", compare: full_checks::round },
     Round { name: "fresh runs", compare: fresh_runs::round },
@@ -45,6 +46,7 @@ pub const ROUNDS: [Round; 15] = [
     Round { name: "merges", compare: merges::round },
     Round { name: "agreements", compare: agreements::round },
     Round { name: "planner files", compare: planner_files::round },
+    Round { name: "laying over", compare: lay_overs::round },
 ];
 
 impl Round {

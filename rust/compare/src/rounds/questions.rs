@@ -3,6 +3,7 @@
 
 use super::any_case;
 use crate::counts::Counts;
+use crate::faults::repeat_nodes;
 use crate::inputs::Case;
 use crate::panel::{Lent, Panel};
 use crate::random::Random;
@@ -13,6 +14,7 @@ use reference::panel::{Answer, Told};
 use reference::ready::{by_marks, closure};
 use reference::tables::run;
 use reference::tree::Tree;
+use std::collections::BTreeSet;
 
 pub fn round(random: &mut Random, counts: &mut Counts) {
     let mut asked = Asked::new(any_case(random), random);
@@ -45,7 +47,17 @@ impl Asked {
         nodes.reverse();
         labels.reverse();
         assert_eq!(self.ask(&nodes, &labels, random), told, "the same changes in another order");
+        self.repeated(nodes.clone(), labels.clone(), random);
         counts.add(format!("changes: {}", if nodes.len() < m { "all nodes".to_string() } else { m.to_string() }));
+    }
+
+    /// With nodes listed again the answer is that of the list after superseding.
+    pub fn repeated(&mut self, mut nodes: Vec<u16>, mut labels: Vec<u8>, random: &mut Random) {
+        repeat_nodes(&mut nodes, &mut labels, self.case.k, random);
+        let told = self.ask(&nodes, &labels, random);
+        let laid = reference::lists::lay_over((&[], &[]), (&nodes, &labels), (64, 64)).expect("accepted");
+        let (nodes, labels): (Vec<u16>, Vec<u8>) = laid.into_iter().unzip();
+        assert_eq!(self.ask(&nodes, &labels, random), told, "the list after superseding");
     }
 
     /// A whole question; every part's state is the changed run's at its root, and its root is the ready set's.
@@ -67,7 +79,8 @@ impl Asked {
         let deepest = *self.tree.depth.iter().max().unwrap();
         let digits = usize::BITS - deepest.leading_zeros();
         assert!(told.links <= 3 * digits * parts);
-        assert!(parts as usize <= if nodes.is_empty() { 1 } else { 4 * nodes.len() - 2 });
+        let listed: BTreeSet<u16> = nodes.iter().copied().collect();
+        assert!(parts as usize <= if listed.is_empty() { 1 } else { 4 * listed.len() - 2 });
         told
     }
 }

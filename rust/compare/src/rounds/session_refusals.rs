@@ -15,7 +15,7 @@ use crate::trace;
 use reference::panel::{Answer, Call, Phase};
 
 pub const LOAD_CHECKS: [u32; 11] = [1, 2, 3, 4, 5, 6, 7, 8, 9, 10, 11];
-pub const START_CHECKS: [u32; 7] = [1, 17, 12, 13, 14, 15, 18];
+pub const START_CHECKS: [u32; 6] = [1, 17, 12, 13, 14, 18];
 pub const ADVANCE_CHECKS: [u32; 3] = [1, 17, 18];
 
 /// How many kinds of damage `unsound` knows.
@@ -159,7 +159,7 @@ impl Scene {
         trace::say(format!("faults {:?}", faults));
         let Case { n, k, .. } = self.case;
         let has = |number: &u32| faults.contains(number);
-        for check in [15, 14, 13, 12].into_iter().filter(has) {
+        for check in [14, 13, 12].into_iter().filter(has) {
             lay_on_list(check, &mut self.nodes, &mut self.labels, (n, k), random);
         }
         if has(&17) {

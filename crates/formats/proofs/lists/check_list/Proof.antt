@@ -1,5 +1,5 @@
 -- `formats::lists::check_list` meets its contract: each return cites the law of its answer. Assumes nothing.
-use Rattle.formats.proofs.ListAnswers.{list-12, list-13, list-14, list-15, list-good}
+use Rattle.formats.proofs.ListAnswers.{list-12, list-13, list-14, list-good}
 use borrow.Author.Needs.{needs}
 use Rattle.formats.proofs.lists.check_list.Statement.{statement}
 use Rattle.formats.proofs.lists.check_list.Tie as tie
@@ -21,19 +21,10 @@ returns-3 c =
 
 returns-4 : tie.Need-returns-4
 returns-4 c =
-    let g = c .before .before in
-    let f = g .before .before in
-    let e = f .before .before in
-    list-15 _ _ _ _ _ (e .before .lists-fit .ensures) (e .if1 .left) _ (f .before .nodes-below .ensures) (f .if2 .left)
-    _ (g .before .labels-below .ensures) (g .if3 .left) _ (c .before .all-distinct .ensures) (c .if4 .taken)
-
-returns-5 : tie.Need-returns-5
-returns-5 c =
-    let g = c .before .before in
-    let f = g .before .before in
+    let f = c .before .before in
     let e = f .before .before in
     list-good _ _ _ _ _ (e .before .lists-fit .ensures) (e .if1 .left) _ (f .before .nodes-below .ensures) (f .if2 .left)
-    _ (g .before .labels-below .ensures) (g .if3 .left) _ (c .before .all-distinct .ensures) (c .if4 .left)
+    _ (c .before .labels-below .ensures) (c .if3 .left)
 
 pub check-list-spec : {M : Type 1} → statement M
 check-list-spec =
@@ -45,6 +36,4 @@ check-list-spec =
     returns-2
     (λ c κs. search needs)
     returns-3
-    (λ c κs. search needs)
-    returns-4
-    returns-5)
+    returns-4)
