@@ -6,3 +6,4 @@ pub mod PutCases
 pub mod LayCases
 pub mod ChangedLaws
 pub mod Theorems
+pub mod PlanOver

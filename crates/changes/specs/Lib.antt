@@ -1,3 +1,4 @@
 pub mod Entries
 pub mod LayOver
+pub mod ChangedPlan
 pub mod inner

@@ -1,17 +1,36 @@
--- What is claimed of lists of changes (document 02, S-4), each proved by citing what is below.
+-- What is claimed of lists of changes (document 02, S-4 and S-12), each proved by citing what is below.
 --     superseding, laying-over, nothing-else    what the two operations are, said without their definitions
 --     changed-by, repeats-..                    a list with repeats is as good as its superseded form
+--     associative, empty, itself, swapped       the laws of laying over; associative-call .. swapped-call with the call's numbers
+--     twice-changed, still-a-plan, on-a-changed-plan    plans and questions
 -- Where each word of a statement is defined: README, *Reading order*; docs/NAMES.md.
 -- Assumes nothing.
 use Prim.Native.Nat.{ℕ}
 use mathlib.Core.Path.{_≡_}
-use mathlib.Core.List.{List}
+use mathlib.Core.Bool.{Bool, true}
+use mathlib.Core.List.{List, []}
+use mathlib.Core.Logic.{_↔_}
 use mathlib.Core.Option.{orElse}
 use lib.ListN.{replicate}
 use Rattle.trees.specs.Changes.{changed}
+use Rattle.formats.specs.Plan.{nodeCount}
+use Rattle.formats.specs.Rules.{labelCount}
+use Rattle.formats.specs.Checks.{firstNo, listChecks, ruleTableChecks}
+use Rattle.formats.specs.Inputs.{Inputs}
+use Rattle.formats.specs.inner.InnerChecks.{listsFit}
+use Rattle.formats.proofs.PlanLaws.{PlanPasses}
 use Rattle.changes.specs.Entries.{Entry, entries, nodesListed, labelsListed, lastLabel, superseded, laidOver, RisingNodes}
-use Rattle.changes.proofs.LaidLaws.{superseded-only, laid-rises, laid-labels, laid-only}
+use Rattle.changes.specs.LayOver.{laid, layNumber}
+use Rattle.changes.specs.ChangedPlan.{changedPlan}
+use Rattle.changes.proofs.LaidLaws.{superseded-only, laid-rises, laid-labels, laid-only, over-assoc, over-empty, over-self}
+use Rattle.changes.proofs.LaidLaws.{over-swap, Apart}
 use Rattle.changes.proofs.ChangedLaws.{changed-superseded}
+use Rattle.changes.proofs.Theorems.{LeftFirst, RightFirst, lay-assoc, lay-empty, lay-self, lay-swap}
+use Rattle.changes.proofs.PlanOver.{plan-over, plan-passes}
+use Rattle.model.specs.Calls.{Answer}
+use Rattle.reference.specs.Undisturbed.{EveryOutcome}
+use Rattle.reference.proofs.QuestionTheorem.{CleanOutcomes}
+use Rattle.reference.proofs.OverTheorem.{Tells, question-over}
 use Rattle.session.specs.Records.{freshSession}
 use Rattle.session.specs.CallsByValue.{CallByValue}
 use Rattle.in_place.specs.CallsInPlace.{CallInPlace}
@@ -47,3 +66,56 @@ repeats-in-place = superseded-in-place
 
 repeats-on-record-bytes : Superseded (replicate 967 0) Exports
 repeats-on-record-bytes = superseded-exported
+
+-- ---- S-12
+
+-- "laying over is associative, the empty list on either side gives the other's superseded form in rising node number, and so does a list
+-- over itself, and two lists that share no node may be swapped"
+associative : (a b c : List Entry) → laidOver (laidOver a b) c ≡ laidOver a (laidOver b c)
+associative = over-assoc
+
+empty : (a : List Entry) → (laidOver [] a ≡ superseded a) × (laidOver a [] ≡ superseded a)
+empty = over-empty
+
+itself : (a : List Entry) → laidOver a a ≡ superseded a
+itself = over-self
+
+swapped : (a b : List Entry) → Apart a b → laidOver a b ≡ laidOver b a
+swapped = over-swap
+
+-- "Where neither 12 nor 22 occurs": the same of the call. Neither bracketing is refused where the other is not
+associative-call : (avs abs bvs bbs cvs cbs : List ℕ)
+    → (LeftFirst avs abs bvs bbs cvs cbs ↔ RightFirst avs abs bvs bbs cvs cbs)
+    × (laid (nodesListed (laid avs abs bvs bbs)) (labelsListed (laid avs abs bvs bbs)) cvs cbs
+    ≡ laid avs abs (nodesListed (laid bvs bbs cvs cbs)) (labelsListed (laid bvs bbs cvs cbs)))
+associative-call = lay-assoc
+
+empty-call : (vs bs : List ℕ) → listsFit vs bs ≡ true
+    → (layNumber [] [] vs bs ≡ 0) × (laid [] [] vs bs ≡ superseded (entries vs bs)) × (layNumber vs bs [] [] ≡ 0)
+    × (laid vs bs [] [] ≡ superseded (entries vs bs))
+empty-call = lay-empty
+
+itself-call : (vs bs : List ℕ) → listsFit vs bs ≡ true → (layNumber vs bs vs bs ≡ 0) × (laid vs bs vs bs ≡ superseded (entries vs bs))
+itself-call = lay-self
+
+swapped-call : (lvs lbs uvs ubs : List ℕ) → Apart (entries lvs lbs) (entries uvs ubs)
+    → (layNumber lvs lbs uvs ubs ≡ layNumber uvs ubs lvs lbs) × (laid lvs lbs uvs ubs ≡ laid uvs ubs lvs lbs)
+swapped-call = lay-swap
+
+-- "changing a plan by one and then by another gives the plan changed by the second laid over the first"
+twice-changed : (p vs bs us cs : List ℕ) → PlanPasses p
+    → changedPlan (changedPlan p vs bs) us cs
+    ≡ changedPlan p (nodesListed (laidOver (entries vs bs) (entries us cs))) (labelsListed (laidOver (entries vs bs) (entries us cs)))
+twice-changed = plan-over
+
+still-a-plan : (p r vs bs : List ℕ) → firstNo (ruleTableChecks p r) ≡ 0
+    → firstNo (listChecks (nodeCount p) (labelCount r) vs bs) ≡ 0 → firstNo (ruleTableChecks (changedPlan p vs bs) r) ≡ 0
+still-a-plan = plan-passes
+
+-- "a question with the second on the plan changed by the first has the state of a question with the second laid over the first on the plan
+-- itself, each on tables built from its own plan and left alone": CleanOutcomes is what undisturbed-.. (Main) gives of each
+on-a-changed-plan : (x y : Inputs) (vs bs us cs : List ℕ) → PlanPasses (x .plan) → y .plan ≡ changedPlan (x .plan) vs bs → y .rules ≡ x .rules
+    → (n m : ℕ) (ys zs : List Answer) → CleanOutcomes y us cs n ys
+    → CleanOutcomes x (nodesListed (laidOver (entries vs bs) (entries us cs))) (labelsListed (laidOver (entries vs bs) (entries us cs))) m zs
+    → (q : ℕ) × (b : Bool) × EveryOutcome (Tells q b) ys × EveryOutcome (Tells q b) zs
+on-a-changed-plan = question-over

@@ -13,9 +13,11 @@ use Rattle.formats.specs.Built.{builtNodeTable, builtStateTable}
 use Rattle.formats.specs.Inputs.{Inputs, inputsOf, sound}
 use Rattle.model.specs.Calls.{Call, load, start, advance, cancel, read, Answer, refused, parts, more, finished}
 use Rattle.model.specs.Calls.{outcomeAnswer}
-use Rattle.reference.specs.Reference.{newReference}
+use Rattle.changes.specs.Entries.{entries, nodesListed, labelsListed, put, putAll, superseded, laidOver}
+use Rattle.changes.specs.ChangedPlan.{changedPlan}
+use Rattle.reference.specs.Reference.{newReference, asked, freshAnswer}
 use Rattle.reference.specs.AgreementTest.{agreed}
-use Rattle.reference.proofs.Sample.{computing, tableA, loadA, inputsA, Seen, seen, asking, row}
+use Rattle.reference.proofs.Sample.{computing, planA, tableA, loadA, inputsA, Seen, seen, asking, row}
 
 -- what the reference model settles of a list of calls, all of whose answers agree
 abbrev pub all : List (Option Answer) → Seen
@@ -258,6 +260,26 @@ pub turned-down-causeless :
     ≡ false ∷ true ∷ true ∷ []
 unfolding judgedAdvance otherNumber otherLabel inputsA
 turned-down-causeless = refl
+
+-- ---- parts and links of S-12's two questions (OverTheorem)
+
+-- plan A changed by 0 → 0, with its own tables
+unfoldable pub changedA : Inputs
+unfolding planA tableA computing changedPlan
+changedA = record {
+  plan = changedPlan planA (0 ∷ []) (0 ∷ []);
+  rules = tableA;
+  nodeTable = builtNodeTable (changedPlan planA (0 ∷ []) (0 ∷ []));
+  stateTable = builtStateTable (changedPlan planA (0 ∷ []) (0 ∷ [])) tableA;
+}
+
+-- 4 → 0 on it, and 4 → 0 laid over 0 → 0 on plan A itself: the same state and yes or no, other parts and links
+pub parts-differ :
+    (freshAnswer (asked changedA (4 ∷ []) (0 ∷ [])) ≡ outcomeAnswer 0 false 2 1)
+    × (freshAnswer (asked inputsA (nodesListed (laidOver (entries (0 ∷ []) (0 ∷ [])) (entries (4 ∷ []) (0 ∷ []))))
+    (labelsListed (laidOver (entries (0 ∷ []) (0 ∷ [])) (entries (4 ∷ []) (0 ∷ []))))) ≡ outcomeAnswer 0 false 5 0)
+unfolding changedA inputsA computing entries nodesListed labelsListed put putAll superseded laidOver
+parts-differ = (refl, refl)
 
 -- a node listed twice: what Reads tell is that of its last entry, whatever the first one says
 pub last-entry : (row (0 ∷ 0 ∷ []) (0 ∷ 1 ∷ []) 2 ≡ row (0 ∷ []) (1 ∷ []) 2) × (row (0 ∷ 0 ∷ []) (1 ∷ 0 ∷ []) 2 ≡ row (0 ∷ []) (0 ∷ []) 2)

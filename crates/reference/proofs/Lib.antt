@@ -10,6 +10,7 @@ pub mod UndisturbedLaws
 pub mod OrderLaws
 pub mod SupersedingLaws
 pub mod QuestionTheorem
+pub mod OverTheorem
 pub mod WrittenSound
 pub mod AgreementTestLaws
 pub mod Theorems

@@ -11,6 +11,9 @@ fn random_lists() {
     for _ in 0..3_000 {
         round(random, counts);
     }
+    for wanted in ["on a changed plan: the same parts and links", "on a changed plan: other parts and links"] {
+        assert!(counts.of(wanted) > 3, "{}: {}", wanted, counts.of(wanted));
+    }
     for wanted in
         ["laid over", "laid over: 64 remain", "laid over: refused 11", "laid over: refused 12", "laid over: refused 22"]
     {

@@ -1,7 +1,10 @@
 //! One list of changes laid over another: what remains, refusals, and the laws of document 02, S-12.
 
+use super::questions::Asked;
 use crate::calls;
 use crate::counts::Counts;
+use crate::faults::repeat_nodes;
+use crate::inputs::Case;
 use crate::random::Random;
 use crate::trace;
 
@@ -20,6 +23,7 @@ pub fn round(random: &mut Random, counts: &mut Counts) {
         Err(number) => format!("laid over: refused {}", number),
     });
     laws(&a, &b, &c, random);
+    on_a_changed_plan(&Case::random(30, random), random, counts);
 }
 
 /// A list of nodes up to `most`, with repeats; seldom of two lengths or too long.
@@ -59,4 +63,26 @@ fn laws(a: &List, b: &List, c: &List, random: &mut Random) {
     if !a.0.iter().any(|node| b.0.contains(node)) {
         assert_eq!(laid(a, b, random), laid(b, a, random), "lists that share no node");
     }
+}
+
+/// "A question with the second on the plan changed by the first has the state of a question with the second laid over the
+/// first on the plan itself, each on tables built from its own plan and left alone." Parts and links may differ.
+fn on_a_changed_plan(case: &Case, random: &mut Random, counts: &mut Counts) {
+    let [first, second] = [0; 2].map(|_| {
+        let m = random.below(40);
+        let (mut nodes, mut labels) = case.list(m, random);
+        repeat_nodes(&mut nodes, &mut labels, case.k, random);
+        (nodes, labels)
+    });
+    let mut altered = case.clone();
+    first.0.iter().zip(&first.1).for_each(|(&v, &label)| altered.plan[12 + v as usize] = label);
+    let over = match laid(&first, &second, random) {
+        Some(over) => over,
+        None => return,
+    };
+    let then = Asked::new(altered, random).ask(&second.0, &second.1, random);
+    let told = Asked::new(case.clone(), random).ask(&over.0, &over.1, random);
+    assert_eq!((then.state, then.yes), (told.state, told.yes), "the state on the changed plan");
+    let same = (then.parts, then.links) == (told.parts, told.links);
+    counts.add(format!("on a changed plan: {} parts and links", if same { "the same" } else { "other" }));
 }
