@@ -1,0 +1,7 @@
+pub mod PairNodeLaws
+pub mod PairStateLaws
+pub mod PairLaws
+pub mod BlockLaws
+pub mod DifferenceLaws
+pub mod CheckLaws
+pub mod PartLaws
