@@ -17,7 +17,8 @@ use borrow.Author.Tests.{eqb-true, eq-eqb, ne-eqb}
 use Rattle.trees.proofs.MoveLaws.{both}
 use Rattle.list_laws.proofs.BoolLaws.{and-both, and-left, and-right}
 use Rattle.tables.specs.inner.Compare.{every}
-use Rattle.table_checks.specs.inner.PairStates.{leafIs, Listed, Means, Leaves}
+use Rattle.table_checks.specs.inner.PairStates.{leafIs}
+use Rattle.table_checks.specs.inner.Blocks.{Listed, Means, Leaves}
 
 pub every-step : (n : ℕ) (f : ℕ → Bool) → every (n + 1) f ≡ (every n f && f n)
 unfolding every

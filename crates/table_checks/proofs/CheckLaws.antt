@@ -36,10 +36,11 @@ use Rattle.tables.specs.inner.Compare.{every, rowIs}
 use Rattle.tables.specs.inner.States.{RuleRuns, innerState}
 use Rattle.node_tables.specs.inner.UpPass.{leftOf}
 use Rattle.tables.proofs.CompareLaws.{every-all, every-at, rowIs-map, map-rowIs}
-use Rattle.tables.proofs.LocalLaws.{StatesTo, MapsFrom, table-states, table-maps}
+use Rattle.table_checks.proofs.LocalLaws.{StatesTo, MapsFrom, table-states, table-maps}
 use Rattle.table_checks.specs.inner.PairNodes.{pairNodes, rootNode}
-use Rattle.table_checks.specs.inner.PairStates.{rowOf, colOf, rowsMatch, pairStates, leafIs, pairIs, MatchArgs, TableRoom}
-use Rattle.table_checks.specs.inner.PairStates.{Listed, Means, Leaves, Nodes, Kinds, TablesTested}
+use Rattle.table_checks.specs.inner.PairStates.{rowOf, colOf, rowsMatch, pairStates, leafIs, pairIs, TableRoom}
+use Rattle.table_checks.specs.inner.Blocks.{Listed, Means, Leaves, Nodes, Kinds}
+use Rattle.table_checks.specs.inner.Tested.{MatchArgs, TablesTested}
 use Rattle.table_checks.proofs.PairNodeLaws.{Pair, pair-told, tells-pair, NodePairs}
 use Rattle.table_checks.proofs.PairStateLaws.{Rows, rows-told, tells-rows}
 use Rattle.table_checks.proofs.PairLaws.{StatePairs, both-built, built-both}

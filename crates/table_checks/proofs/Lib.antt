@@ -1,3 +1,4 @@
+pub mod LocalLaws
 pub mod PairNodeLaws
 pub mod PairStateLaws
 pub mod PairLaws

@@ -27,13 +27,13 @@ use Rattle.trees.proofs.PostorderLaws.{size-of, kind-of}
 use Rattle.node_tables.proofs.UpLoop.{child-is}
 use Rattle.node_tables.proofs.CellLaws.{link-cells, cells-link}
 use Rattle.tables.specs.StateCells.{stateCell, mapCell}
-use Rattle.tables.specs.inner.Compare.{nearEntry, farEntry}
+use Rattle.tables.specs.inner.Compare.{nearEntry}
+use Rattle.table_checks.specs.inner.PairStates.{farEntry, rowOf, colOf}
 use Rattle.tables.specs.inner.States.{RuleRuns, innerState}
 use Rattle.node_tables.specs.inner.UpPass.{leftOf}
-use Rattle.tables.specs.inner.LocalTables.{stepCells, LocalStates, LocalMaps}
-use Rattle.tables.proofs.LocalLaws.{local-unique, built-local-states, built-local-maps}
+use Rattle.table_checks.specs.inner.LocalTables.{stepCells, LocalStates, LocalMaps}
+use Rattle.table_checks.proofs.LocalLaws.{local-unique, built-local-states, built-local-maps}
 use Rattle.table_checks.specs.inner.PairNodes.{within}
-use Rattle.table_checks.specs.inner.PairStates.{rowOf, colOf}
 use Rattle.table_checks.proofs.PairNodeLaws.{within-in, Pair, NodePairs, pairs-cells, cells-pairs}
 use Rattle.table_checks.proofs.PairStateLaws.{Rows}
 

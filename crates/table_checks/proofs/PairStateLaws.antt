@@ -30,15 +30,15 @@ use Rattle.trees.proofs.PostorderLaws.{size-of, kind-of}
 use Rattle.node_tables.proofs.UpLoop.{child-is}
 use Rattle.tables.specs.StateCells.{stateCell, mapCell}
 use Rattle.tables.specs.inner.Rows.{RowIn, NearArgs}
-use Rattle.tables.specs.inner.Compare.{rowIs, nearEntry, farEntry, FarIsArgs}
+use Rattle.tables.specs.inner.Compare.{rowIs, nearEntry}
+use Rattle.table_checks.specs.inner.PairStates.{farEntry, FarEntryArgs, rowOf, colOf, rowsMatch, pairStates, leafIs, RowsArgs, StateIn, TableRoom, NodeRoom}
 use Rattle.tables.specs.inner.States.{RuleRuns, innerState}
 use Rattle.node_tables.specs.inner.UpPass.{leftOf}
-use Rattle.tables.specs.inner.LocalTables.{stepCells, LocalStates, LocalMaps}
+use Rattle.table_checks.specs.inner.LocalTables.{stepCells, LocalStates, LocalMaps}
 use Rattle.tables.proofs.CompareLaws.{rowIs-map, map-rowIs}
 use Rattle.formats.proofs.RuleLaws.{rule-in}
 use Rattle.tables.proofs.MapPlaces.{Small, small}
 use Rattle.table_checks.specs.inner.PairNodes.{within, PairArgs}
-use Rattle.table_checks.specs.inner.PairStates.{rowOf, colOf, rowsMatch, pairStates, leafIs, RowsArgs, StateIn, TableRoom, NodeRoom}
 use Rattle.table_checks.proofs.PairNodeLaws.{within-in, Pair, NodePairs, cells-pairs}
 
 pub within-below : (n x : ℕ) → 0 < n → within n x < n
@@ -93,7 +93,7 @@ module _ (ls nodeTable lv inn : List ℕ) (s k n : ℕ) (b : List ℕ) (T : Tabl
         )
 
     far-in : (u base step : ℕ) → u < n → ((q : ℕ) → q < s → base + q * step < length inn)
-        → FarIsArgs s b u v (within n (jumpCell nodeTable v)) inn base step
+        → FarEntryArgs s b u v (within n (jumpCell nodeTable v)) inn base step
     far-in u base step h inside = record {
       room = row-room u h;
       first = row-room v hv;

@@ -18,7 +18,7 @@ use Rattle.node_tables.specs.Cells.{NodeTableArgs}
 use Rattle.tables.specs.Answers.{sameTables}
 use Rattle.tables.specs.inner.Written.{BuildArgs}
 use Rattle.tables.proofs.BuildLaws.{length-builtNodeTable, length-builtStates, link-args, rule-runs}
-use Rattle.table_checks.specs.inner.PairStates.{MatchArgs, TablesTested}
+use Rattle.table_checks.specs.inner.Tested.{MatchArgs, TablesTested}
 
 module _ (p r nodeTable stateTable : List ℕ) (n s k : ℕ) (B : BuildArgs p r n s k nodeTable stateTable) where
   plan-passed : PlanPasses p

@@ -5,7 +5,8 @@ ghost use mathlib.Core.Path.{_≡_};
 ghost use lib.ListN.{length, getD};
 ghost use Rattle.tables.specs.inner.Compare.{every};
 ghost use Prim.Native.Nat.{_+_, _≤_, _<_};
-ghost use Rattle.table_checks.specs.inner.PairStates.{pairIs, Listed, ListArgs, Means, Leaves, LeavesArgs, PairsArgs, Nodes, BlockArgs, BlocksArgs};
+ghost use Rattle.table_checks.specs.inner.PairStates.{pairIs};
+ghost use Rattle.table_checks.specs.inner.Blocks.{Listed, ListArgs, Means, Leaves, LeavesArgs, PairsArgs, Nodes, BlockArgs, BlocksArgs};
 
 // Lists the inner nodes of b, .. e - 1. A leaf is written too, and the next node over it.
 fn list_inner(kinds: &[u8], b: usize, e: usize, list: &mut [u16]) -> usize

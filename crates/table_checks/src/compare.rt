@@ -5,7 +5,7 @@ use formats::rules::all_below;
 use tables::compare::root_row_is;
 ghost use mathlib.Core.Path.{_≡_};
 ghost use lib.ListN.{length};
-ghost use Rattle.table_checks.specs.inner.PairStates.{MatchArgs, TablesTested};
+ghost use Rattle.table_checks.specs.inner.Tested.{MatchArgs, TablesTested};
 
 // Room for the inner nodes of a block.
 fn block() -> [u16; 1024]

@@ -3,7 +3,8 @@ ghost use mathlib.Core.Path.{_≡_};
 ghost use lib.Dec.{eqb};
 ghost use lib.ListN.{length};
 ghost use Rattle.tables.specs.inner.Rows.{NearArgs};
-ghost use Rattle.tables.specs.inner.Compare.{rowIs, nearEntry, farEntry, FarIsArgs};
+ghost use Rattle.tables.specs.inner.Compare.{rowIs, nearEntry};
+ghost use Rattle.table_checks.specs.inner.PairStates.{farEntry, FarEntryArgs};
 
 // Where node v's map differs from the rule's values that start at `base`, `stride` apart.
 pub fn near_differences(
@@ -63,7 +64,7 @@ pub fn far_differences(
     base: usize,
     stride: usize,
 ) -> u8
-    requires { ⌜ FarIsArgs s (now «state_table») v p j (now table) base stride ⌝ }
+    requires { ⌜ FarEntryArgs s (now «state_table») v p j (now table) base stride ⌝ }
     ensures { λ r. ⌜ eqb r 0 ≡ rowIs s (now («state_table» .entry)) v
         (farEntry s (now («state_table» .entry)) p j (now (table .entry)) base stride) ⌝ }
 {

@@ -3,7 +3,7 @@
 use mathlib.Core.Path.{subst}
 use mathlib.Core.Bool.{Bool}
 use borrow.Author.Tests.{not-true, not-false}
-use Rattle.table_checks.specs.inner.PairStates.{Means, Leaves}
+use Rattle.table_checks.specs.inner.Blocks.{Means, Leaves}
 use Rattle.table_checks.proofs.CheckLaws.{block-no, block-told}
 use native.Mathlib.Omega.{arith}
 use borrow.Author.Needs.{needs}

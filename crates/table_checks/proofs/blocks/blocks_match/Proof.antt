@@ -3,12 +3,11 @@
 use mathlib.Core.Path.{refl, subst, _∙_}
 use mathlib.Core.Bool.{Bool}
 use borrow.Author.Tests.{not-true, not-false}
-use Rattle.table_checks.specs.inner.PairStates.{Means}
+use Rattle.table_checks.specs.inner.Blocks.{Means, Nodes}
 use Rattle.table_checks.proofs.CheckLaws.{nodes-none, nodes-more, nodes-no, nodes-all}
 use Prim.Native.Nat.{_-_, _≤_}
 use mathlib.Core.Path.{_≡_}
 use lib.ListN.{length}
-use Rattle.table_checks.specs.inner.PairStates.{Nodes}
 use native.Mathlib.Omega.{arith}
 use borrow.Author.Needs.{needs}
 use Rattle.table_checks.proofs.blocks.blocks_match.Statement.{statement}

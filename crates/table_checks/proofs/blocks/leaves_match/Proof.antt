@@ -4,11 +4,11 @@ use Prim.Native.Nat.{ℕ}
 use mathlib.Core.Path.{refl, subst}
 use lib.ListN.{length}
 use Rattle.table_checks.specs.inner.PairStates.{leafIs}
+use Rattle.table_checks.specs.inner.Blocks.{Means, Leaves}
 use Rattle.table_checks.proofs.PairStateLaws.{row-room, row-small}
 use Rattle.table_checks.proofs.BlockLaws.{leaves-start, leaves-step, leaf-flag, inner-flag}
 use Prim.Native.Nat.{_+_, _-_, _≤_}
 use mathlib.Core.Path.{_≡_}
-use Rattle.table_checks.specs.inner.PairStates.{Means, Leaves}
 use native.Mathlib.Omega.{arith}
 use borrow.Author.Needs.{needs}
 use Rattle.table_checks.proofs.blocks.leaves_match.Statement.{statement}

@@ -7,7 +7,7 @@ use Rattle.table_checks.proofs.BlockLaws.{listed-start, listed-step}
 use Prim.Native.Nat.{_-_, _≤_}
 use mathlib.Core.Path.{_≡_}
 use lib.ListN.{length}
-use Rattle.table_checks.specs.inner.PairStates.{Listed}
+use Rattle.table_checks.specs.inner.Blocks.{Listed}
 use native.Mathlib.Omega.{arith}
 use borrow.Author.Needs.{needs}
 use Rattle.table_checks.proofs.blocks.list_inner.Statement.{statement}

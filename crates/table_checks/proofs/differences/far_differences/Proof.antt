@@ -4,7 +4,8 @@ use Prim.Native.Nat.{ℕ, _≤_, _-_}
 use mathlib.Core.Path.{_≡_, refl}
 use lib.Dec.{eqb}
 use Rattle.tables.specs.StateCells.{mapCell}
-use Rattle.tables.specs.inner.Compare.{every, nearEntry, farEntry}
+use Rattle.tables.specs.inner.Compare.{every, nearEntry}
+use Rattle.table_checks.specs.inner.PairStates.{farEntry}
 use Rattle.table_checks.proofs.DifferenceLaws.{more-test}
 use native.Mathlib.Omega.{arith}
 use borrow.Author.Needs.{needs}

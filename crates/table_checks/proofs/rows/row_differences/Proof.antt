@@ -4,7 +4,8 @@ use mathlib.Core.Path.{sym, ap, subst, _∙_}
 use lib.Dec.{eqb}
 use lib.ListN.{length}
 use Rattle.tables.specs.inner.Rows.{NearArgs}
-use Rattle.tables.specs.inner.Compare.{rowIs, nearEntry, FarIsArgs}
+use Rattle.tables.specs.inner.Compare.{rowIs, nearEntry}
+use Rattle.table_checks.specs.inner.PairStates.{FarEntryArgs}
 use Rattle.table_checks.proofs.DifferenceLaws.{or-test}
 use Rattle.table_checks.proofs.PairStateLaws.{rows-near, rows-far}
 use native.Mathlib.Omega.{arith}
@@ -59,14 +60,14 @@ far-differences-requires : tie.Need-far-differences-requires
 far-differences-requires c κs =
     let s = c .before .before .before .before .before .before .before in
     let g = s .args in
-    subst (λ (j : ℕ). FarIsArgs (g .s) (g .state-table .now) (g .v - 1) (g .v) j (g .inner .now) (g .row) 1)
+    subst (λ (j : ℕ). FarEntryArgs (g .s) (g .state-table .now) (g .v - 1) (g .v) j (g .inner .now) (g .row) 1)
     (sym (c .inside .ensures .0)) (s .pre .far-right)
 
 far-differences-requires-2 : tie.Need-far-differences-requires-2
 far-differences-requires-2 c κs =
     let s = c .before .before .before .before .before .before .before .before in
     let g = s .args in
-    subst (λ (j : ℕ). FarIsArgs (g .s) (g .state-table .now) (g .left) (g .v) j (g .inner .now) (g .col) (g .step))
+    subst (λ (j : ℕ). FarEntryArgs (g .s) (g .state-table .now) (g .left) (g .v) j (g .inner .now) (g .col) (g .step))
     (sym (c .before .inside .ensures .0)) (s .pre .far-left)
 
 returns-3 : tie.Need-returns-3

@@ -1,25 +1,21 @@
--- A table of states by equations between neighbouring nodes, and whether its cells are the built ones.
+-- A table of states by equations between neighbouring nodes.
 --
 -- stepCells A t b v q == the state at the parent of v if the state at v is q, with the sibling's state by table b
 -- LocalStates A t b == each node's state byte follows by A's rules from its label and its children's state bytes
 -- LocalMaps A t b == each node's map follows from that step and the maps of its parent and of its parent's jump
--- statesAre A t b == whether all state bytes are the run's
--- mapsAre A t b == whether all maps are those to the jumps
 --
 -- That these equations leave one table only is proved in proofs/LocalLaws.
 -- Assumes nothing.
 use Prim.Native.Nat.{ℕ, _+_, _-_, _<_}
 use mathlib.Core.Path.{_≡_}
-use mathlib.Core.Bool.{Bool, cond}
+use mathlib.Core.Bool.{cond}
 use mathlib.Core.List.{List}
 use lib.Dec.{eqb}
 use Rattle.trees.specs.Tree.{Tree, size, kindAt, labelAt}
-use Rattle.trees.specs.Automaton.{Automaton, state}
+use Rattle.trees.specs.Automaton.{Automaton}
 use Rattle.trees.specs.Numbering.{sub, parent}
 use Rattle.trees.specs.Jumps.{jump}
-use Rattle.trees.specs.Tables.{stateMap}
 use Rattle.tables.specs.StateCells.{stateCell, mapCell}
-use Rattle.tables.specs.inner.Compare.{every, rowIs}
 
 -- a right child v stands just before its parent, and its left sibling before v's subtree; a left child's sibling stands
 -- just before their parent
@@ -42,9 +38,3 @@ pub record LocalMaps (A : Automaton) (t : Tree) (b : List ℕ) : Type 0 where
   pub far : (v q : ℕ) → v + 1 < size t → (jump t v ≡ parent t v → ⊥) → q < A .states
       → mapCell (A .states) b v q
       ≡ mapCell (A .states) b (jump t (parent t v)) (mapCell (A .states) b (parent t v) (stepCells A t b v q))
-
-unfoldable pub statesAre : Automaton → Tree → List ℕ → Bool
-statesAre A t b = every (size t) (λ v. eqb (stateCell (A .states) b v) (state A (sub t v)))
-
-unfoldable pub mapsAre : Automaton → Tree → List ℕ → Bool
-mapsAre A t b = every (size t) (λ v. rowIs (A .states) b v (stateMap A t v))

@@ -3,7 +3,6 @@
 --     step-local, near-local, far-local  a map by its equation, where the maps above are those to the jumps
 --     local-unique                 a table that satisfies the equations node by node is the built one
 --     built-local-states, built-local-maps  and the built one satisfies them
---     table-same                   the built table, tested by states and maps
 -- Assumes nothing.
 use Prim.Native.Nat.{ℕ, zero, suc, _+_, _-_, _*_, _≤_, _<_}
 use mathlib.Core.Path.{_≡_, sym, ap, ap₂, _∙_}
@@ -23,9 +22,9 @@ use Rattle.trees.proofs.TableRows.{stateTableOf-state}
 use Rattle.trees.proofs.RunLaws.{Children, children, state-leaf, state-inner}
 use Rattle.trees.proofs.MapLaws.{left-sibling-in, right-sibling-in, stepUp-right, stepUp-left, stepUp-below}
 use Rattle.trees.proofs.MapLaws.{stateMap-root, stateMap-near, stateMap-far, stateMap-below}
 use Rattle.tables.specs.StateCells.{stateCell, mapCell}
-use Rattle.tables.specs.inner.LocalTables.{stepCells, LocalStates, LocalMaps}
+use Rattle.table_checks.specs.inner.LocalTables.{stepCells, LocalStates, LocalMaps}
 use Rattle.tables.proofs.TableTestLaws.{cells-table, table-maps as cells-maps}
 
 -- ---- states: those of the nodes below i are the run's
 
