@@ -6,25 +6,17 @@ ghost use lib.ListN.{length, getD};
 ghost use Rattle.tables.specs.inner.Compare.{every};
 ghost use Prim.Native.Nat.{_+_, _≤_, _<_};
 ghost use Rattle.table_checks.specs.inner.PairStates.{pairIs};
-ghost use Rattle.table_checks.specs.inner.Blocks.{Listed, ListArgs, Means, Leaves, LeavesArgs, PairsArgs, Nodes, BlockArgs, BlocksArgs};
+ghost use Rattle.table_checks.specs.inner.Blocks.{Means, BlockListed, PairsArgs, Nodes, BlockArgs, BlocksArgs};
 
-// Lists the inner nodes of b, .. e - 1. A leaf is written too, and the next node over it.
-fn list_inner(kinds: &[u8], b: usize, e: usize, list: &mut [u16]) -> usize
-    requires { ⌜ ListArgs (now kinds) b e (length (now list)) ⌝ }
-    ensures { λ r. ⌜ Listed (now (kinds .entry)) b e r (now (list .exit)) ⌝ }
-{
-    let mut c = 0;
-    let mut v = b;
-    while v < e {
-        list[c] = v as u16;
-        c += kinds[v] as usize;
-        v += 1;
-    }
-    c
+// What the first look at a block gives: how many inner nodes are listed, and whether its leaves match.
+struct Listing {
+    count: usize,
+    leaves: bool,
 }
 
-// Whether the leaves of b, .. e - 1 have a leaf's size and state.
-fn leaves_match(
+// Lists the inner nodes of b, .. e - 1, and tests whether its leaves have a leaf's size and state. A leaf is listed too, and
+// the next node over it, so that nothing hangs on the kind.
+fn list_block(
     kinds: &[u8],
     labels: &[u8],
     node_table: &[u16],
@@ -35,21 +27,29 @@ fn leaves_match(
     state_table: &[u8],
     b: usize,
     e: usize,
-) -> bool
-    requires { ⌜ LeavesArgs (now kinds) (now labels) (now «node_table») (now leaves) (now inner) s k (now «state_table») b e ⌝ }
-    ensures { λ r. ⌜ Means r (Leaves (now (kinds .entry)) (now (labels .entry)) (now («node_table» .entry)) (now (leaves .entry)) s
-        (now («state_table» .entry)) b e) ⌝ }
+    list: &mut [u16],
+) -> Listing
+    requires { ⌜ BlockArgs (now kinds) (now labels) (now «node_table») (now leaves) (now inner) s k (now «state_table») b e
+        (length (now list)) ⌝ }
+    ensures { λ r. ⌜ BlockListed (now (kinds .entry)) (now (labels .entry)) (now («node_table» .entry)) (now (leaves .entry)) s
+        (now («state_table» .entry)) b e (r .count) (r .leaves) (now (list .exit)) ⌝ }
 {
     let w = s + 1;
     let mut ok = true;
+    let mut c = 0;
     let mut v = b;
     while v < e {
+        list[c] = v as u16;
+        c += kinds[v] as usize;
         let size = node_table[v * 4 + 3] == 1;
         let state = state_table[v * w] == leaves[labels[v] as usize];
         ok = ok & ((kinds[v] != 0) | (size & state));
         v += 1;
     }
-    ok
+    Listing {
+        count: c,
+        leaves: ok,
+    }
 }
 
 // Whether the pairs of the first c listed nodes match.
@@ -101,8 +101,7 @@ fn block_match(
     ensures { λ r. ⌜ Means r (Nodes (now (kinds .entry)) (now (labels .entry)) (now («node_table» .entry)) (now (leaves .entry))
         (now (inner .entry)) s k (now («state_table» .entry)) b e) ⌝ }
 {
-    let c = list_inner(kinds, b, e, list);
-    if !leaves_match(
+    let listing = list_block(
         kinds,
         labels,
         node_table,
@@ -113,7 +112,10 @@ fn block_match(
         state_table,
         b,
         e,
-    ) {
+        list,
+    );
+    let c = listing.count;
+    if !listing.leaves {
         return false;
     }
     pairs_match(

@@ -4,7 +4,8 @@
 -- Means r P == r is whether P
 -- Leaves .. b e, Nodes .. b e == the leaves of b, .. e - 1 match; the leaves and the pairs of these nodes do
 -- Kinds ks == kinds are 0 or 1, and no inner node is the first
--- ListArgs, LeavesArgs, PairsArgs, BlockArgs, BlocksArgs == what the loops need
+-- BlockListed .. c r l == both of a block's first look: its inner nodes are listed, and r is whether its leaves match
+-- PairsArgs, BlockArgs, BlocksArgs == what the loops need
 --
 -- Assumes nothing.
 use Prim.Native.Nat.{ℕ, _+_, _≤_, _<_}
@@ -21,13 +22,6 @@ pub record Listed (ks : List ℕ) (b e c : ℕ) (l : List ℕ) : Type 0 where
   pub inner : (i : ℕ) → i < c → getD ks (getD l i 0) 0 ≡ 0 → ⊥
   pub all : (v : ℕ) → b ≤ v → v < e → (getD ks v 0 ≡ 0 → ⊥) → (i : ℕ) × (i < c) × (getD l i 0 ≡ v)
 
-pub record ListArgs (ks : List ℕ) (b e m : ℕ) : Type 0 where
-  pub order : b ≤ e
-  pub inside : e ≤ length ks
-  pub most : e ≤ 65535
-  pub fits : e ≤ b + m
-  pub kinds : (j : ℕ) → j < e → getD ks j 0 ≤ 1
-
 pub record Means (r : Bool) (P : Type 0) : Type 0 where
   pub yes : r ≡ true → P
   pub back : P → r ≡ true
@@ -36,10 +30,9 @@ abbrev pub Leaves : List ℕ → List ℕ → List ℕ → List ℕ → ℕ → 
 Leaves ks ls nodeTable lv s stateTable b e =
     (v : ℕ) → b ≤ v → v < e → getD ks v 0 ≡ 0 → leafIs ls nodeTable lv s stateTable v ≡ true
 
-pub record LeavesArgs (ks ls nodeTable lv inn : List ℕ) (s k : ℕ) (stateTable : List ℕ) (b e : ℕ) : Type 0 where
-  pub table : TableRoom ls nodeTable lv inn s k (length ks) stateTable
-  pub order : b ≤ e
-  pub inside : e ≤ length ks
+pub record BlockListed (ks ls nodeTable lv : List ℕ) (s : ℕ) (stateTable : List ℕ) (b e c : ℕ) (r : Bool) (l : List ℕ) : Type 0 where
+  pub listed : Listed ks b e c l
+  pub leaves : Means r (Leaves ks ls nodeTable lv s stateTable b e)
 
 pub record PairsArgs (ls nodeTable lv inn : List ℕ) (s k n : ℕ) (stateTable l : List ℕ) (c : ℕ) : Type 0 where
   pub table : TableRoom ls nodeTable lv inn s k n stateTable
