@@ -13,12 +13,14 @@ use lib.ListN.{length, getD, set, length-set}
 use lib.Seq.{getD-set-same, getD-set-other}
 use Rattle.trees.specs.Tree.{Tree, size}
 use Rattle.trees.specs.Numbering.{parent, depth}
-use Rattle.trees.specs.Jumps.{jump, twoDistances}
+use Rattle.trees.specs.Jumps.{jump, jumpIn, jumpDepth, twoDistances}
 use Rattle.trees.proofs.NodeLaws.{up, depth-root, depth-small, size-pos}
 use Rattle.trees.proofs.JumpLaws.{jump-in, jump-above, jump-rule, jump-root, depth-jump, jumpDepth-le}
 use Rattle.node_tables.specs.Cells.{parentCell, jumpCell, depthCell}
 use Rattle.node_tables.specs.NodeCells.{DownFrom, Parents, DownWritten}
-use Rattle.node_tables.specs.inner.DownPass.{childJump, put, nodeIteration, JumpArgs, NodeArgs, DownArgs}
+use Rattle.list_laws.proofs.Choice.{by-lt}
+use Rattle.node_tables.proofs.JumpLengthLaws.{length-choice}
+use Rattle.node_tables.specs.inner.DownPass.{byDistances, byLength, childJump, put, nodeIteration, JumpArgs, NodeArgs, DownArgs}
 
 -- ---- what a turn leaves and what it writes
 
@@ -53,6 +55,11 @@ put-iteration t v b₀ b d h room = record {
   kept = λ j a. put-other b v (jump t v) (depth t v) j (a v h .0) (a v h .1) ∙ d .kept j a;
 }
 
+-- at the top the jump is the node itself
+top-jump : (t : Tree) (v : ℕ) → depth t v ≡ 0 → jump t v ≡ v
+unfolding jump jumpIn
+top-jump t v e = rw e
+
 -- ---- the cells above node v, in a table that has the depths and jumps of the nodes after it
 
 module _ (t : Tree) (v : ℕ) (b : List ℕ) (d : DownFrom t (v + 1) b) (p : ℕ) (hp : v < p) (hs : p < size t) where
@@ -74,9 +81,27 @@ module _ (t : Tree) (v : ℕ) (b : List ℕ) (d : DownFrom t (v + 1) b) (p : ℕ
       ∙ d .depths (jump t (jump t p)) (omega (arith, jump-above t p hs, jump-above t (jump t p) (jump-in t p hs)))
       (jump-in t (jump t p) (jump-in t p hs))
 
+  distances : byDistances b p
+      ≡ twoDistances (depth t p) (depth t (jump t p)) (depth t (jump t (jump t p))) (jump t (jump t p)) p
+  distances = rw (depth-twice, depth-once, parent-depth, jump-twice)
+
+  -- where the parent is the root, so is its jump's jump
+  root-jumps : depth t p ≡ 0 → jump t (jump t p) ≡ p
+  root-jumps e = ap (jump t) (top-jump t p e) ∙ top-jump t p e
+
+  lengths : depth t p + 1 < 1024 → byLength b p
+      ≡ twoDistances (depth t p) (depth t (jump t p)) (depth t (jump t (jump t p))) (jump t (jump t p)) p
+  lengths h =
+      let once : depth t (jump t p) ≡ jumpDepth (depth t p) = depth-jump t p hs in
+      let twice : depth t (jump t (jump t p)) ≡ jumpDepth (jumpDepth (depth t p)) =
+      depth-jump t (jump t p) (jump-in t p hs) ∙ ap jumpDepth once in
+      rw (parent-depth, jump-twice, twice, once) (length-choice (depth t p) (jump t (jump t p)) p h root-jumps)
+
   child-jump : childJump b p
       ≡ twoDistances (depth t p) (depth t (jump t p)) (depth t (jump t (jump t p))) (jump t (jump t p)) p
-  child-jump = rw (depth-twice, depth-once, parent-depth, jump-twice)
+  child-jump =
+      by-lt (λ (x : ℕ). x ≡ twoDistances (depth t p) (depth t (jump t p)) (depth t (jump t (jump t p))) (jump t (jump t p)) p)
+      (depthCell b p + 1) 1024 (λ h. lengths (omega (arith, parent-depth))) (λ h. distances)
 
   jump-args : size t ≤ 65535 → size t * 4 ≤ length b → JumpArgs b p
   jump-args m room = record {

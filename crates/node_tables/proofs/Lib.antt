@@ -1,3 +1,5 @@
+pub mod TableRule
+pub mod JumpLengthLaws
 pub mod UpLoop
 pub mod DownLoop
 pub mod CellLaws

@@ -1,5 +1,6 @@
 // The build of a table of links.
 use crate::down::write_down;
+use crate::jump_lengths::jump_lengths;
 use crate::up::write_up;
 ghost use mathlib.Core.Path.{_≡_};
 ghost use mathlib.Core.List.{_++_};
@@ -16,5 +17,6 @@ pub fn build_node_table(kinds: &[u8], node_table: &mut [u16])
         → now («node_table» .exit) ≡ nodeTableOf t ++ drop (nodeTableLength (length (now (kinds .entry)))) (now («node_table» .entry))) ⌝ }
 {
     write_up(kinds, node_table);
-    write_down(node_table, kinds.len());
+    let lengths = jump_lengths();
+    write_down(node_table, &lengths, kinds.len());
 }

@@ -1,6 +1,7 @@
 // The full check of a table of links: both passes, comparing where the build writes.
 // The first difference ends it, since what comes after would be read by what is wrong.
 use crate::down::child_jump;
+use crate::jump_lengths::jump_lengths;
 use crate::up::inner_size;
 use crate::up::left_child;
 ghost use mathlib.Core.Path.{_≡_};
@@ -11,6 +12,7 @@ ghost use Rattle.list_laws.specs.Tests.{sameList};
 ghost use Rattle.formats.specs.Checks.{nodeTableLength};
 ghost use Rattle.node_tables.specs.Cells.{NodeTableArgs};
 ghost use Rattle.node_tables.specs.NodeCells.{NodeCells, UpCells, DownFrom, Parents};
+ghost use Rattle.node_tables.specs.JumpLengths.{jumpLengths};
 ghost use Rattle.node_tables.specs.inner.UpPass.{InnerArgs};
 ghost use Rattle.node_tables.specs.inner.DownPass.{NodeArgs, DownArgs};
 ghost use Rattle.node_tables.specs.inner.CheckPass.{innerMatches, upMatches, downMatches, UpArgs, Tells};
@@ -61,20 +63,20 @@ fn check_up(kinds: &[u8], node_table: &[u16]) -> bool
 }
 
 // Whether node v has the depth and the jump that its parent's give.
-fn down_matches(node_table: &[u16], v: usize) -> bool
-    requires { ⌜ NodeArgs (now «node_table») v ⌝ }
+fn down_matches(node_table: &[u16], lengths: &[u16; 1024], v: usize) -> bool
+    requires { ⌜ NodeArgs (now «node_table») v × (now lengths ≡ jumpLengths) ⌝ }
     ensures { λ r. ⌜ r ≡ downMatches (now («node_table» .entry)) v ⌝ }
 {
     let p = node_table[v * 4] as usize;
     if node_table[v * 4 + 2] != node_table[p * 4 + 2] + 1 {
         return false;
     }
-    node_table[v * 4 + 1] == child_jump(node_table, p)
+    node_table[v * 4 + 1] == child_jump(node_table, lengths, p)
 }
 
 // Compares the depth and the jump of each of the n nodes.
-fn check_down(node_table: &[u16], n: usize) -> bool
-    requires { ⌜ DownArgs n (now «node_table») ⌝ }
+fn check_down(node_table: &[u16], lengths: &[u16; 1024], n: usize) -> bool
+    requires { ⌜ DownArgs n (now «node_table») × (now lengths ≡ jumpLengths) ⌝ }
     ensures { λ r. ⌜ ((t : Tree) → Parents t n (now («node_table» .entry))
         → Tells r (DownFrom t 0 (now («node_table» .entry))) (NodeCells t (now («node_table» .entry)))) ⌝ }
 {
@@ -88,7 +90,7 @@ fn check_down(node_table: &[u16], n: usize) -> bool
     let mut v = root;
     while 0 < v {
         v -= 1;
-        if !down_matches(node_table, v) {
+        if !down_matches(node_table, lengths, v) {
             return false;
         }
     }
@@ -104,5 +106,6 @@ pub fn check_node_table(kinds: &[u8], node_table: &[u16]) -> bool
     if !check_up(kinds, node_table) {
         return false;
     }
-    check_down(node_table, kinds.len())
+    let lengths = jump_lengths();
+    check_down(node_table, &lengths, kinds.len())
 }

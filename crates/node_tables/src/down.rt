@@ -1,38 +1,63 @@
 // The pass down: the depth and the jump of each node, from its parent's.
+use crate::jump_lengths::jump_length;
 ghost use mathlib.Core.Path.{_≡_};
+ghost use mathlib.Core.Bool.{cond};
+ghost use lib.Dec.{eqb};
 ghost use Rattle.trees.specs.Tree.{Tree};
 ghost use Rattle.node_tables.specs.NodeCells.{Parents, DownWritten};
-ghost use Rattle.node_tables.specs.inner.DownPass.{childJump, nodeIteration, JumpArgs, NodeArgs, DownArgs};
+ghost use Rattle.node_tables.specs.JumpLengths.{jumpLengths};
+ghost use Rattle.node_tables.specs.inner.DownPass.{byDistances, childJump, nodeIteration, JumpArgs, NodeArgs, DownArgs};
 
-// The jump of a child of node p.
-pub fn child_jump(node_table: &[u16], p: usize) -> u16
+// Of the two jumps that a child of node p may have, the one of this length: 1 is to the parent, any other to the jump of its jump.
+fn by_length(length: u16, near: u16, far: u16) -> u16
+    ensures { λ r. ⌜ r ≡ cond (eqb length 1) near far ⌝ }
+{
+    if length == 1 { near } else { far }
+}
+
+// The jump of a child of node p, by the two distances: d - e is e - f where d + f is 2 e.
+fn by_distances(node_table: &[u16], p: usize) -> u16
     requires { ⌜ JumpArgs (now «node_table») p ⌝ }
-    ensures { λ r. ⌜ r ≡ childJump (now («node_table» .entry)) p ⌝ }
+    ensures { λ r. ⌜ r ≡ byDistances (now («node_table» .entry)) p ⌝ }
 {
     let j = node_table[p * 4 + 1] as usize;
     let jj = node_table[j * 4 + 1];
     let far = jj as usize;
+    let d = node_table[p * 4 + 2] as usize;
+    let e = node_table[j * 4 + 2] as usize;
+    let f = node_table[far * 4 + 2] as usize;
+    if d + f == e + e { jj } else { p as u16 }
+}
+
+// The jump of a child of node p: its length by the table where the child's depth is below 1,024, else by the two distances.
+pub fn child_jump(node_table: &[u16], lengths: &[u16; 1024], p: usize) -> u16
+    requires { ⌜ JumpArgs (now «node_table») p × (now lengths ≡ jumpLengths) ⌝ }
+    ensures { λ r. ⌜ r ≡ childJump (now («node_table» .entry)) p ⌝ }
+{
+    let j = node_table[p * 4 + 1] as usize;
+    let far = node_table[j * 4 + 1];
     let d = node_table[p * 4 + 2];
-    let e = node_table[j * 4 + 2];
-    let f = node_table[far * 4 + 2];
-    if d - e == e - f { jj } else { p as u16 }
+    if d < 1023 {
+        return by_length(jump_length(lengths, d as usize + 1), p as u16, far);
+    }
+    by_distances(node_table, p)
 }
 
 // Node v's turn: its jump and its depth, from its parent's.
-fn write_node(node_table: &mut [u16], v: usize)
-    requires { ⌜ NodeArgs (now «node_table») v ⌝ }
+fn write_node(node_table: &mut [u16], lengths: &[u16; 1024], v: usize)
+    requires { ⌜ NodeArgs (now «node_table») v × (now lengths ≡ jumpLengths) ⌝ }
     ensures { λ _. ⌜ now («node_table» .exit) ≡ nodeIteration (now («node_table» .entry)) v ⌝ }
 {
     let p = node_table[v * 4] as usize;
     let d = node_table[p * 4 + 2] + 1;
-    let j = child_jump(node_table, p);
+    let j = child_jump(node_table, lengths, p);
     node_table[v * 4 + 1] = j;
     node_table[v * 4 + 2] = d;
 }
 
 // Writes the depth and the jump of each of the n nodes, from their parents.
-pub fn write_down(node_table: &mut [u16], n: usize)
-    requires { ⌜ DownArgs n (now «node_table») ⌝ }
+pub fn write_down(node_table: &mut [u16], lengths: &[u16; 1024], n: usize)
+    requires { ⌜ DownArgs n (now «node_table») × (now lengths ≡ jumpLengths) ⌝ }
     ensures { λ _. ⌜ ((t : Tree) → Parents t n (now («node_table» .entry))
         → DownWritten t 0 (now («node_table» .entry)) (now («node_table» .exit))) ⌝ }
 {
@@ -42,6 +67,6 @@ pub fn write_down(node_table: &mut [u16], n: usize)
     let mut v = root;
     while 0 < v {
         v -= 1;
-        write_node(node_table, v);
+        write_node(node_table, lengths, v);
     }
 }

@@ -2,5 +2,6 @@
 pub mod build;
 pub mod check;
 mod down;
+mod jump_lengths;
 pub mod moves;
 mod up;

@@ -1,6 +1,8 @@
 -- The pass down: from the root to the first node, each node's depth and jump from its parent's.
 --
--- childJump b p == the jump of a child of node p, by the depths and jumps in table b
+-- byDistances b p == the jump of a child of node p, by the depths and jumps in table b: the two-distances rule
+-- byLength b p == the same by the length of the child's jump, from the table of lengths
+-- childJump b p == the one where the child's depth is below 1,024, else the other
 -- put b v j d == table b with jump j and depth d for node v
 -- nodeIteration b v == table b with node v's jump and depth, by its parent's
 -- JumpArgs b p, NodeArgs b v == what these need of the table
@@ -8,19 +10,30 @@
 --
 -- Assumes nothing.
 use Prim.Native.Nat.{ℕ, _+_, _*_, _≤_}
+use mathlib.Core.Bool.{cond}
 use mathlib.Core.List.{List}
-use lib.ListN.{length, set}
+use lib.Dec.{eqb, ltb}
+use lib.ListN.{length, getD, set}
 use Rattle.trees.specs.Tree.{Tree}
 use Rattle.trees.specs.Jumps.{twoDistances}
 use Rattle.formats.specs.Checks.{nodeTableLength}
 use Rattle.node_tables.specs.Cells.{parentCell, jumpCell, depthCell}
 use Rattle.node_tables.specs.NodeCells.{Parents}
+use Rattle.node_tables.specs.JumpLengths.{jumpLengths}
 
 -- "if depth(p) - depth(jump p) equals depth(jump p) - depth(jump of jump p), its jump is the jump of jump p; else p"
-abbrev pub childJump : List ℕ → ℕ → ℕ
-childJump b p =
+abbrev pub byDistances : List ℕ → ℕ → ℕ
+byDistances b p =
     twoDistances (depthCell b p) (depthCell b (jumpCell b p)) (depthCell b (jumpCell b (jumpCell b p)))
     (jumpCell b (jumpCell b p)) p
+
+-- a length of 1 is the parent's, any other that of the jump of its jump
+abbrev pub byLength : List ℕ → ℕ → ℕ
+byLength b p = cond (eqb (getD jumpLengths (depthCell b p + 1) 0) 1) p (jumpCell b (jumpCell b p))
+
+-- "For depths below 1,024 the jump's length shall come from a constant table of 1,024 numbers, and from the rule above that."
+abbrev pub childJump : List ℕ → ℕ → ℕ
+childJump b p = cond (ltb (depthCell b p + 1) 1024) (byLength b p) (byDistances b p)
 
 abbrev pub put : List ℕ → ℕ → ℕ → ℕ → List ℕ
 put b v j d = set (set b (v * 4 + 1) j) (v * 4 + 2) d

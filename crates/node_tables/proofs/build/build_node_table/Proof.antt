@@ -1,4 +1,4 @@
--- `build_links` meets its contract: the pass up, then the pass down. Assumes nothing.
+-- `build_node_table` meets its contract: the pass up, then the pass down. Assumes nothing.
 use lib.ListN.{length}
 use Rattle.node_tables.specs.Cells.{NodeTableArgs}
 use Rattle.node_tables.proofs.CellLaws.{down-args, passes}
@@ -10,16 +10,21 @@ use Rattle.node_tables.proofs.build.build_node_table.Tie as tie
 write-up-requires : tie.Need-write-up-requires
 write-up-requires c κs = search needs
 
+jump-lengths-requires : tie.Need-jump-lengths-requires
+jump-lengths-requires c κs = search needs
+
 write-down-requires : tie.Need-write-down-requires
 write-down-requires c κs =
-    let l = c .before .before .before in
+    let l = c .before .before .before .before .before in
     let s = l .before .before .before .before in
     let args : NodeTableArgs (s .args .kinds .now) (length (l .write-up .last .1 .0)) = record {
       postorder = s .pre .postorder;
       most = s .pre .most;
       room = omega (arith, l .write-up .kept .1 .0, s .pre .room);
-    } in
-    down-args (s .args .kinds .now) (l .write-up .last .1 .0) args (λ t e. l .write-up .ensures t e .cells)
+    } in (
+      down-args (s .args .kinds .now) (l .write-up .last .1 .0) args (λ t e. l .write-up .ensures t e .cells),
+      c .before .before .jump-lengths .ensures,
+    )
 
 same-length : tie.Need-same-length
 same-length c = search needs
@@ -27,11 +32,11 @@ same-length c = search needs
 returns : tie.Need-returns
 returns c =
     let d = c .before .before in
-    let l = d .before .before .before .before in
+    let l = d .before .before .before .before .before .before in
     let s = l .before .before .before .before in
     passes (s .args .kinds .now) (s .args .node-table .now) (l .write-up .last .1 .0) (d .write-down .last .0)
     (omega (arith, l .write-up .kept .1 .0, d .write-down .kept .0)) (s .pre .room) (l .write-up .ensures)
     (d .write-down .ensures)
 
 pub build-node-table-spec : {M : Type 1} → statement M
-build-node-table-spec = tie.close (tie.spec write-up-requires write-down-requires same-length returns)
+build-node-table-spec = tie.close (tie.spec write-up-requires jump-lengths-requires write-down-requires same-length returns)

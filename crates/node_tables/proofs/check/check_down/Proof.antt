@@ -11,13 +11,13 @@ use Rattle.node_tables.proofs.check.check_down.Statement.{statement}
 use Rattle.node_tables.proofs.check.check_down.Tie as tie
 
 abbrev Inv-loop : tie.InvT-loop
-Inv-loop nodeTable n root v₀ v = (v < n) × DownsFrom n v nodeTable
+Inv-loop nodeTable lengths n root v₀ v = (v < n) × DownsFrom n v nodeTable
 
 abbrev μ-loop : tie.MeasureT-loop
-μ-loop nodeTable n root v₀ v = v
+μ-loop nodeTable lengths n root v₀ v = v
 
 pos : (s : tie.Start Inv-loop μ-loop) → 0 < s .args .n
-pos s = down-pos (s .args .n) (s .args .node-table .now) (s .pre)
+pos s = down-pos (s .args .n) (s .args .node-table .now) (s .pre .0)
 
 abbrev entry : (a : tie.At-loop Inv-loop μ-loop) → tie.Start Inv-loop μ-loop
 entry a = a .before .before .before .before .before .before
@@ -42,7 +42,7 @@ mul-if1-2 : tie.Need-mul-if1-2 Inv-loop μ-loop
 mul-if1-2 c = search needs
 
 shared-slice-read-if1 : tie.Need-shared-slice-read-if1 Inv-loop μ-loop
-shared-slice-read-if1 c = omega (arith, pos (c .before .before), c .before .before .pre .room)
+shared-slice-read-if1 c = omega (arith, pos (c .before .before), c .before .before .pre .0 .room)
 
 cast-if1 : tie.Need-cast-if1 Inv-loop μ-loop
 cast-if1 c = omega (arith, c .shared-slice-known2 .given ((c .before .before .args .n - 1) * 4 + 1))
@@ -64,7 +64,7 @@ mul-if2-2 c = search needs
 shared-slice-read-if2 : tie.Need-shared-slice-read-if2 Inv-loop μ-loop
 shared-slice-read-if2 c =
     let s = c .before .before .before .before in
-    omega (arith, pos s, s .pre .room)
+    omega (arith, pos s, s .pre .0 .room)
 
 returns-2 : tie.Need-returns-2 Inv-loop μ-loop
 returns-2 c =
@@ -85,10 +85,12 @@ sub-v c = search needs
 down-matches-requires : tie.Need-down-matches-requires Inv-loop μ-loop
 down-matches-requires c κs =
     let a = c .before in
-    let s = entry a in
-    downs-args (s .args .n) (a .loop .v - 1) (s .args .node-table .now)
-    (omega (arith, a .loop .inv .0, c .loop-test .taken)) (s .pre)
-    (below a (c .loop-test .taken))
+    let s = entry a in (
+      downs-args (s .args .n) (a .loop .v - 1) (s .args .node-table .now)
+          (omega (arith, a .loop .inv .0, c .loop-test .taken)) (s .pre .0)
+          (below a (c .loop-test .taken)),
+      s .pre .1,
+    )
 
 returns-3 : tie.Need-returns-3 Inv-loop μ-loop
 returns-3 c =

@@ -1,4 +1,4 @@
--- `check_links` meets its contract: the pass up, then the pass down. Assumes nothing.
+-- `check_node_table` meets its contract: the pass up, then the pass down. Assumes nothing.
 use mathlib.Core.Path.{subst}
 use mathlib.Core.Bool.{Bool, true}
 use borrow.Author.Tests.{not-true, not-false}
@@ -26,16 +26,21 @@ returns c =
     (subst (λ (r : Bool). UpTells r (s .args .kinds .now) (s .args .node-table .now)) (not-true _ (c .if1 .taken))
     (c .before .check-up .ensures))
 
+jump-lengths-requires : tie.Need-jump-lengths-requires
+jump-lengths-requires c κs = search needs
+
 check-down-requires : tie.Need-check-down-requires
 check-down-requires c κs =
-    let s = c .before .before .before .before in
-    down-room (s .args .kinds .now) (s .args .node-table .now) (s .pre) (up-yes c)
+    let e = c .before .before in
+    let s = e .before .before .before .before in
+    (down-room (s .args .kinds .now) (s .args .node-table .now) (s .pre) (up-yes e), c .before .jump-lengths .ensures)
 
 returns-2 : tie.Need-returns-2
 returns-2 c =
-    let s = c .before .before .before .before .before in
-    answer-both (s .args .kinds .now) (s .args .node-table .now) (s .pre .room) (up-yes (c .before)) (c .check-down .result)
+    let e = c .before .before .before in
+    let s = e .before .before .before .before in
+    answer-both (s .args .kinds .now) (s .args .node-table .now) (s .pre .room) (up-yes e) (c .check-down .result)
     (c .check-down .ensures)
 
 pub check-node-table-spec : {M : Type 1} → statement M
-check-node-table-spec = tie.close (tie.spec check-up-requires returns check-down-requires returns-2)
+check-node-table-spec = tie.close (tie.spec check-up-requires returns jump-lengths-requires check-down-requires returns-2)

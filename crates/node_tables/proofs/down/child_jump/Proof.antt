@@ -1,14 +1,19 @@
--- `child_jump` meets its contract: the two-distances rule, by the test's two ways. Assumes nothing.
-use borrow.Author.Tests.{eq-eqb, ne-eqb}
+-- `child_jump` meets its contract: by the table of lengths below its end, and by the two distances past it. Assumes nothing.
 use borrow.Author.Needs.{needs}
+use Rattle.node_tables.proofs.JumpLengthLaws.{by-table, past-table}
 use Rattle.node_tables.proofs.down.child_jump.Statement.{statement}
 use Rattle.node_tables.proofs.down.child_jump.Tie as tie
 
 returns : tie.Need-returns
-returns c = simp (eq-eqb _ _ (c .if1 .taken))
+returns c =
+    let a = c .before .before .before .before .before .before .before .args in
+    by-table (a .node-table .now) (a .p) (c .by-length .result) (c .before .jump-length .result) (c .before .before .if1 .taken)
+    (c .before .jump-length .ensures) (c .by-length .ensures)
 
 returns-2 : tie.Need-returns-2
-returns-2 c = simp (ne-eqb _ _ (c .if1 .left))
+returns-2 c =
+    let a = c .before .before .before .before .before .before .args in
+    past-table (a .node-table .now) (a .p) (c .by-distances .result) (c .before .if1 .left) (c .by-distances .ensures)
 
 pub child-jump-spec : {M : Type 1} → statement M
 child-jump-spec =
@@ -29,15 +34,9 @@ child-jump-spec =
     (λ c. search needs)
     (λ c. search needs)
     (λ c. search needs)
+    (λ c κs. search needs)
     (λ c. search needs)
-    (λ c. search needs)
-    (λ c. search needs)
-    (λ c. search needs)
-    (λ c. search needs)
-    (λ c. search needs)
-    (λ c. search needs)
-    (λ c. search needs)
-    (λ c. search needs)
-    (λ c. search needs)
+    (λ c κs. search needs)
     returns
+    (λ c κs. search needs)
     returns-2)

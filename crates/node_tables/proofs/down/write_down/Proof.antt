@@ -11,20 +11,20 @@ use Rattle.node_tables.proofs.down.write_down.Statement.{statement}
 use Rattle.node_tables.proofs.down.write_down.Tie as tie
 
 abbrev Inv-loop : tie.InvT-loop
-Inv-loop nums₀ n root v₀ nodeTable v =
+Inv-loop nums₀ lengths n root v₀ nodeTable v =
     (v < n) × (length nodeTable ≡ length nums₀) × ((b : List ℕ) → DownsWritten n v₀ b nums₀ → DownsWritten n v b nodeTable)
 
 abbrev μ-loop : tie.MeasureT-loop
-μ-loop nums₀ n root v₀ nodeTable v = v
+μ-loop nums₀ lengths n root v₀ nodeTable v = v
 
 pos : (s : tie.Start Inv-loop μ-loop) → 0 < s .args .n
-pos s = down-pos (s .args .n) (s .args .node-table .now) (s .pre)
+pos s = down-pos (s .args .n) (s .args .node-table .now) (s .pre .0)
 
 kept-length : (a : tie.At-loop Inv-loop μ-loop) → length (a .loop .node-table) ≡ length (a .before .before .args .node-table .now)
 kept-length a = a .loop .inv .1 ∙ simp length-set
 
 room : (a : tie.At-loop Inv-loop μ-loop) → a .before .before .args .n * 4 ≤ length (a .loop .node-table)
-room a = omega (arith, kept-length a, a .before .before .pre .room)
+room a = omega (arith, kept-length a, a .before .before .pre .0 .room)
 
 -- the invariant, from the function's entry
 down : (a : tie.At-loop Inv-loop μ-loop)
@@ -32,7 +32,7 @@ down : (a : tie.At-loop Inv-loop μ-loop)
 down a =
     let s = a .before .before in
     a .loop .inv .2 (s .args .node-table .now)
-    (root-turns (s .args .n) (s .args .n - 1) (s .args .node-table .now) (omega (arith, pos s)) (s .pre .room))
+    (root-turns (s .args .n) (s .args .n - 1) (s .args .node-table .now) (omega (arith, pos s)) (s .pre .0 .room))
 
 sub-root : tie.Need-sub-root Inv-loop μ-loop
 sub-root c = pos (c .before)
@@ -74,10 +74,12 @@ write-node-requires : tie.Need-write-node-requires Inv-loop μ-loop
 write-node-requires c κs =
     let a = c .before .before in
     let s = a .before .before in
-    let e : a .loop .v ≡ a .loop .v - 1 + 1 = omega (arith, c .before .loop-test .taken) in
-    node-args (s .args .n) (a .loop .v - 1) (s .args .node-table .now) (a .loop .node-table)
-    (subst (λ (i : ℕ). DownsWritten (s .args .n) i (s .args .node-table .now) (a .loop .node-table)) e (down a))
-    (omega (arith, a .loop .inv .0, c .before .loop-test .taken)) (room a) (s .pre)
+    let e : a .loop .v ≡ a .loop .v - 1 + 1 = omega (arith, c .before .loop-test .taken) in (
+      node-args (s .args .n) (a .loop .v - 1) (s .args .node-table .now) (a .loop .node-table)
+          (subst (λ (i : ℕ). DownsWritten (s .args .n) i (s .args .node-table .now) (a .loop .node-table)) e (down a))
+          (omega (arith, a .loop .inv .0, c .before .loop-test .taken)) (room a) (s .pre .0),
+      s .pre .1,
+    )
 
 loop-less : tie.Need-loop-less Inv-loop μ-loop
 loop-less c = search needs
