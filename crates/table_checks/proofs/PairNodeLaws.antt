@@ -6,7 +6,7 @@
 --     pair-right, leaf-right, root-right   and back
 -- Assumes nothing.
 use Prim.Native.Nat.{ℕ, zero, suc, _+_, _-_, _*_, _≤_, _<_}
-use mathlib.Core.Path.{_≡_, refl, sym, ap, _∙_, subst}
+use mathlib.Core.Path.{_≡_, refl, sym, ap, ap₂, _∙_, subst}
 use mathlib.Core.Bool.{Bool, true, false, cond, _&&_}
 use mathlib.Core.List.{List}
 use mathlib.Core.Logic.{_⊎_, inl, inr}
@@ -15,7 +15,7 @@ use native.Mathlib.Numerals.{add-one}
 use native.Mathlib.Omega.{arith}
 use lib.Dec.{eqb, ltb}
 use lib.ListN.{length, getD}
-use borrow.Author.Tests.{eqb-true, eq-eqb, ne-eqb, lt-ltb}
+use borrow.Author.Tests.{eqb-true, eq-eqb, ne-eqb, lt-ltb, le-ltb}
 use Rattle.trees.proofs.MoveLaws.{both}
 use Rattle.trees.specs.Tree.{Tree, kindsOf, size}
 use Rattle.trees.specs.Numbering.{parent, depth, sub}
@@ -27,7 +27,8 @@ use Rattle.node_tables.specs.NodeCells.{NodeCells, UpCells, UpTo, DownFrom, Par
 use Rattle.node_tables.specs.inner.UpPass.{leftOf, innerSize}
 use Rattle.node_tables.specs.inner.DownPass.{childJump}
 use Rattle.node_tables.specs.inner.CheckPass.{innerMatches, upMatches, downMatches}
-use Rattle.table_checks.specs.inner.PairNodes.{within, pairJump, bothAre, pairNodes, rootNode}
+use Rattle.table_checks.specs.inner.PairNodes.{within, pairByDistances, pairJump, bothAre, pairNodes, rootNode}
+use Rattle.node_tables.specs.JumpLengths.{jumpLengths}
 use Rattle.node_tables.proofs.UpLoop.{child-is, at-left, new-size, none-yet}
 use Rattle.trees.proofs.PostorderLaws.{size-of, kind-of}
 use Rattle.node_tables.proofs.DownLoop.{jump-of, depth-of}
@@ -45,15 +46,29 @@ distances d e f g h = elim (ℕ-discrete (d - e) (e - f)) [
 ]
 
 -- ---- the jump by pairs, as the code goes
+
 module _ (n : ℕ) (b : List ℕ) (v j far : ℕ) (e : j ≡ within n (jumpCell b v)) (f : far ≡ within n (jumpCell b j)) where
-  by-places : pairJump n b v ≡ cond (eqb (depthCell b v + depthCell b far) (depthCell b j + depthCell b j)) (jumpCell b j) v
+  by-places : pairByDistances n b v
+      ≡ cond (eqb (depthCell b v + depthCell b far) (depthCell b j + depthCell b j)) (jumpCell b j) v
   by-places = rw (f, e)
 
-  pub jump-far : depthCell b v + depthCell b far ≡ depthCell b j + depthCell b j → jumpCell b j ≡ pairJump n b v
+  pub jump-far : depthCell b v + depthCell b far ≡ depthCell b j + depthCell b j → jumpCell b j ≡ pairByDistances n b v
   jump-far h = sym (by-places ∙ ap (λ (x : Bool). cond x (jumpCell b j) v) (eq-eqb _ _ h))
 
-  pub jump-near : (depthCell b v + depthCell b far ≡ depthCell b j + depthCell b j → ⊥) → v ≡ pairJump n b v
+  pub jump-near : (depthCell b v + depthCell b far ≡ depthCell b j + depthCell b j → ⊥) → v ≡ pairByDistances n b v
   jump-near h = sym (by-places ∙ ap (λ (x : Bool). cond x (jumpCell b j) v) (ne-eqb _ _ h))
+
+module _ (n : ℕ) (b : List ℕ) (v r : ℕ) where
+  pub pair-by-table : (j l : ℕ) → j ≡ within n (jumpCell b v) → depthCell b v < 1023
+      → l ≡ getD jumpLengths (depthCell b v + 1) 0 → r ≡ cond (eqb l 1) v (jumpCell b j) → r ≡ pairJump n b v
+  pair-by-table j l e h f g =
+      let q : depthCell b v + 1 < 1024 = omega arith in
+      g ∙ ap₂ (λ (i x : ℕ). cond (eqb i 1) v (jumpCell b x)) f e ∙ sym (rw (lt-ltb (depthCell b v + 1) 1024 q))
+
+  pub pair-past-table : 1023 ≤ depthCell b v → r ≡ pairByDistances n b v → r ≡ pairJump n b v
+  pair-past-table h e =
+      let q : 1024 ≤ depthCell b v + 1 = omega arith in
+      e ∙ sym (rw (le-ltb (depthCell b v + 1) 1024 q))
 
 -- ---- the jump by pairs, where depths and jumps from node i on are the tree's
 module _ (t : Tree) (i : ℕ) (b : List ℕ) (d : DownFrom t i b) (p : ℕ) (hp : i ≤ p) (hs : p < size t) where

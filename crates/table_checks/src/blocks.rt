@@ -3,6 +3,7 @@ use crate::rows::pair_differences;
 use crate::siblings::pair_nodes_match;
 ghost use mathlib.Core.Path.{_≡_};
 ghost use lib.ListN.{length, getD};
+ghost use Rattle.node_tables.specs.JumpLengths.{jumpLengths};
 ghost use Rattle.tables.specs.inner.Compare.{every};
 ghost use Prim.Native.Nat.{_+_, _≤_, _<_};
 ghost use Rattle.table_checks.specs.inner.PairStates.{pairIs};
@@ -56,6 +57,7 @@ fn list_block(
 fn pairs_match(
     labels: &[u8],
     node_table: &[u16],
+    lengths: &[u16; 1024],
     leaves: &[u8],
     inner: &[u8],
     s: usize,
@@ -65,7 +67,8 @@ fn pairs_match(
     list: &[u16],
     c: usize,
 ) -> bool
-    requires { ⌜ PairsArgs (now labels) (now «node_table») (now leaves) (now inner) s k n (now «state_table») (now list) c ⌝ }
+    requires { ⌜ PairsArgs (now labels) (now «node_table») (now leaves) (now inner) s k n (now «state_table») (now list) c
+        × (now lengths ≡ jumpLengths) ⌝ }
     ensures { λ r. ⌜ r ≡ every c (λ i. pairIs (now (labels .entry)) (now («node_table» .entry)) (now (inner .entry)) s k n
         (now («state_table» .entry)) (getD (now (list .entry)) i 0)) ⌝ }
 {
@@ -74,10 +77,10 @@ fn pairs_match(
     let mut i = 0;
     while i < c {
         let v = list[i] as usize;
-        let links = pair_nodes_match(node_table, n, v);
-        let table = pair_differences(labels, node_table, leaves, inner, s, k, n, state_table, v);
-        ok = ok & links;
-        bad = bad | table;
+        let nodes = pair_nodes_match(node_table, lengths, n, v);
+        let states = pair_differences(labels, node_table, leaves, inner, s, k, n, state_table, v);
+        ok = ok & nodes;
+        bad = bad | states;
         i += 1;
     }
     ok & (bad == 0)
@@ -88,6 +91,7 @@ fn block_match(
     kinds: &[u8],
     labels: &[u8],
     node_table: &[u16],
+    lengths: &[u16; 1024],
     leaves: &[u8],
     inner: &[u8],
     s: usize,
@@ -97,7 +101,8 @@ fn block_match(
     e: usize,
     list: &mut [u16],
 ) -> bool
-    requires { ⌜ BlockArgs (now kinds) (now labels) (now «node_table») (now leaves) (now inner) s k (now «state_table») b e (length (now list)) ⌝ }
+    requires { ⌜ BlockArgs (now kinds) (now labels) (now «node_table») (now leaves) (now inner) s k (now «state_table») b e
+        (length (now list)) × (now lengths ≡ jumpLengths) ⌝ }
     ensures { λ r. ⌜ Means r (Nodes (now (kinds .entry)) (now (labels .entry)) (now («node_table» .entry)) (now (leaves .entry))
         (now (inner .entry)) s k (now («state_table» .entry)) b e) ⌝ }
 {
@@ -121,6 +126,7 @@ fn block_match(
     pairs_match(
         labels,
         node_table,
+        lengths,
         leaves,
         inner,
         s,
@@ -145,6 +151,7 @@ pub fn blocks_match(
     kinds: &[u8],
     labels: &[u8],
     node_table: &[u16],
+    lengths: &[u16; 1024],
     leaves: &[u8],
     inner: &[u8],
     s: usize,
@@ -152,7 +159,8 @@ pub fn blocks_match(
     state_table: &[u8],
     list: &mut [u16],
 ) -> bool
-    requires { ⌜ BlocksArgs (now kinds) (now labels) (now «node_table») (now leaves) (now inner) s k (now «state_table») (length (now list)) ⌝ }
+    requires { ⌜ BlocksArgs (now kinds) (now labels) (now «node_table») (now leaves) (now inner) s k (now «state_table»)
+        (length (now list)) × (now lengths ≡ jumpLengths) ⌝ }
     ensures { λ r. ⌜ Means r (Nodes (now (kinds .entry)) (now (labels .entry)) (now («node_table» .entry)) (now (leaves .entry))
         (now (inner .entry)) s k (now («state_table» .entry)) 0 (length (now (kinds .entry)))) ⌝ }
 {
@@ -164,6 +172,7 @@ pub fn blocks_match(
             kinds,
             labels,
             node_table,
+            lengths,
             leaves,
             inner,
             s,

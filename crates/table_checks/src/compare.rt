@@ -2,6 +2,7 @@
 use crate::blocks::blocks_match;
 use crate::siblings::root_node_is;
 use formats::rules::all_below;
+use node_tables::jump_lengths::jump_lengths;
 use tables::compare::root_row_is;
 ghost use mathlib.Core.Path.{_≡_};
 ghost use lib.ListN.{length};
@@ -39,11 +40,13 @@ pub fn tables_match(
     if !root_row_is(state_table, s, n - 1) {
         return false;
     }
+    let lengths = jump_lengths();
     let mut list = block();
     blocks_match(
         kinds,
         labels,
         node_table,
+        &lengths,
         leaves,
         inner,
         s,

@@ -1,9 +1,13 @@
-// The links of a node's two children, tested at the parent. Nothing that is lent leads outside, so that the nodes may be
-// looked at in any order and no test has to end the pass.
+// The node table's numbers of a node's two children, tested at their parent. Nothing that is lent leads outside, so that
+// the nodes may be looked at in any order and no test has to end the pass.
+use node_tables::jump_lengths::by_length;
+use node_tables::jump_lengths::jump_length;
 ghost use mathlib.Core.Path.{_≡_};
 ghost use Prim.Native.Nat.{_<_};
+ghost use Rattle.node_tables.specs.JumpLengths.{jumpLengths};
 ghost use Rattle.node_tables.specs.inner.UpPass.{leftOf};
-ghost use Rattle.table_checks.specs.inner.PairNodes.{within, pairJump, pairNodes, rootNode, PairArgs, RootArgs};
+ghost use Rattle.table_checks.specs.inner.PairNodes.{within, pairByDistances, pairJump, pairNodes};
+ghost use Rattle.table_checks.specs.inner.PairNodes.{rootNode, PairArgs, RootArgs};
 
 // The number itself where it is below n, else 0.
 pub fn inside(x: usize, n: usize) -> usize
@@ -23,10 +27,10 @@ pub fn left_in(node_table: &[u16], n: usize, v: usize) -> usize
     if size <= right { right - size } else { 0 }
 }
 
-// The jump of a child of node v.
-fn pair_jump(node_table: &[u16], n: usize, v: usize) -> u16
+// The jump of a child of node v, by the two distances: d - e is e - f where d + f is 2 e.
+fn pair_by_distances(node_table: &[u16], n: usize, v: usize) -> u16
     requires { ⌜ PairArgs n (now «node_table») v ⌝ }
-    ensures { λ r. ⌜ r ≡ pairJump n (now («node_table» .entry)) v ⌝ }
+    ensures { λ r. ⌜ r ≡ pairByDistances n (now («node_table» .entry)) v ⌝ }
 {
     let j = inside(node_table[v * 4 + 1] as usize, n);
     let jj = node_table[j * 4 + 1];
@@ -37,14 +41,29 @@ fn pair_jump(node_table: &[u16], n: usize, v: usize) -> u16
     if d + f == e + e { jj } else { v as u16 }
 }
 
-// Whether inner node v's size and its children's links follow from their neighbours'. No test is left out after a wrong one.
-pub fn pair_nodes_match(node_table: &[u16], n: usize, v: usize) -> bool
-    requires { ⌜ PairArgs n (now «node_table») v ⌝ }
+// The jump of a child of node v: its length by the table where the child's depth is below 1,024, else by the two distances.
+fn pair_jump(node_table: &[u16], lengths: &[u16; 1024], n: usize, v: usize) -> u16
+    requires { ⌜ PairArgs n (now «node_table») v × (now lengths ≡ jumpLengths) ⌝ }
+    ensures { λ r. ⌜ r ≡ pairJump n (now («node_table» .entry)) v ⌝ }
+{
+    let j = inside(node_table[v * 4 + 1] as usize, n);
+    let far = node_table[j * 4 + 1];
+    let d = node_table[v * 4 + 2];
+    if d < 1023 {
+        return by_length(jump_length(lengths, d as usize + 1), v as u16, far);
+    }
+    pair_by_distances(node_table, n, v)
+}
+
+// Whether inner node v's size and its children's parents, jumps and depths follow from their neighbours'. No test is left
+// out after a wrong one.
+pub fn pair_nodes_match(node_table: &[u16], lengths: &[u16; 1024], n: usize, v: usize) -> bool
+    requires { ⌜ PairArgs n (now «node_table») v × (now lengths ≡ jumpLengths) ⌝ }
     ensures { λ r. ⌜ r ≡ pairNodes n (now («node_table» .entry)) v ⌝ }
 {
     let right = v - 1;
     let left = left_in(node_table, n, v);
-    let to = pair_jump(node_table, n, v);
+    let to = pair_jump(node_table, lengths, n, v);
     let up = v as u16;
     let below = node_table[left * 4 + 3] as usize + node_table[right * 4 + 3] as usize + 1;
     let depth = node_table[v * 4 + 2] as usize + 1;
@@ -56,7 +75,7 @@ pub fn pair_nodes_match(node_table: &[u16], n: usize, v: usize) -> bool
     sizes & (parents & (depths & jumps))
 }
 
-// Whether node v has the root's links.
+// Whether node v has the root's parent, jump and depth.
 pub fn root_node_is(node_table: &[u16], v: usize) -> bool
     requires { ⌜ RootArgs (now «node_table») v ⌝ }
     ensures { λ r. ⌜ r ≡ rootNode (now («node_table» .entry)) v ⌝ }

@@ -52,7 +52,7 @@ pub fn plan(bytes: &[u8]) -> Result<Plan<'_>, u32> {
 }
 
 /// No early end, so that many bytes are tested at a time.
-fn all_below(bytes: &[u8], bound: usize) -> bool {
+pub fn all_below(bytes: &[u8], bound: usize) -> bool {
     bytes.iter().fold(true, |ok, &b| ok & (b < bound as u8))
 }
 

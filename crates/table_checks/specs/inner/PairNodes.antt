@@ -1,30 +1,42 @@
--- The links of a node's two children, tested at the parent with every place made safe, so that they can be read in any order.
+-- The node table's numbers of a node's two children, tested at their parent with every place made safe, so that nodes can be looked
+-- at in any order.
 --
 -- within n x == x where it is below n, else 0
--- pairJump n b v == the jump of a child of node v by the two distances, in a table b of n nodes; the places read lie inside
--- pairNodes n b v == whether inner node v's size, and the parents, depths and jumps of its two children, follow from their neighbours'
+-- pairByDistances n b v == the jump of a child of node v by the two distances, in a table b of n nodes; the places read lie inside
+-- pairByLength n b v == the same by the length of the child's jump, from the table of lengths (node_tables)
+-- pairJump n b v == the one where the child's depth is below 1,024, else the other: childJump (node_tables) with its places inside
+-- pairNodes n b v == whether inner node v's size, and the parents, depths and jumps of its two children, follow from their
+--   neighbours'
 -- rootNode b v == whether node v has the root's parent, jump and depth
--- PairArgs n b v == node v is not the first, and n nodes within the limit have room in b
+-- PairArgs n b v == node v is not the first, and n nodes within the limit have room in b; RootArgs == what rootNode reads
 --
--- On a right table within changes nothing (proofs/PairLaws).
+-- On a right table within changes nothing (proofs/PairNodeLaws).
 -- Assumes nothing.
 use Prim.Native.Nat.{ℕ, _+_, _-_, _*_, _≤_, _<_}
 use mathlib.Core.Bool.{Bool, cond, _&&_}
 use mathlib.Core.List.{List}
 use lib.Dec.{eqb, ltb}
-use lib.ListN.{length}
+use lib.ListN.{length, getD}
+use Rattle.formats.specs.Checks.{nodeTableLength}
 use Rattle.node_tables.specs.Cells.{parentCell, jumpCell, depthCell, sizeCell}
+use Rattle.node_tables.specs.JumpLengths.{jumpLengths}
 use Rattle.node_tables.specs.inner.UpPass.{leftOf, innerSize}
 
 abbrev pub within : ℕ → ℕ → ℕ
 within n x = cond (ltb x n) x 0
 
-abbrev pub pairJump : ℕ → List ℕ → ℕ → ℕ
-pairJump n b v =
+abbrev pub pairByDistances : ℕ → List ℕ → ℕ → ℕ
+pairByDistances n b v =
     cond
     (eqb (depthCell b v + depthCell b (within n (jumpCell b (within n (jumpCell b v)))))
     (depthCell b (within n (jumpCell b v)) + depthCell b (within n (jumpCell b v))))
     (jumpCell b (within n (jumpCell b v))) v
+
+abbrev pub pairByLength : ℕ → List ℕ → ℕ → ℕ
+pairByLength n b v = cond (eqb (getD jumpLengths (depthCell b v + 1) 0) 1) v (jumpCell b (within n (jumpCell b v)))
+
+abbrev pub pairJump : ℕ → List ℕ → ℕ → ℕ
+pairJump n b v = cond (ltb (depthCell b v + 1) 1024) (pairByLength n b v) (pairByDistances n b v)
 
 -- both children's cell c is x
 abbrev pub bothAre : (ℕ → ℕ) → ℕ → ℕ → ℕ → Bool
@@ -44,7 +56,7 @@ pub record PairArgs (n : ℕ) (b : List ℕ) (v : ℕ) : Type 0 where
   pub pos : 0 < v
   pub inside : v < n
   pub most : n ≤ 65535
-  pub room : n * 4 ≤ length b
+  pub room : nodeTableLength n ≤ length b
 
 pub record RootArgs (b : List ℕ) (v : ℕ) : Type 0 where
   pub most : v ≤ 65535

@@ -25,13 +25,15 @@ pairs-match-requires : tie.Need-pairs-match-requires
 pairs-match-requires c κs =
     let b = c .before .before .before .before .before .list-block in
     let s = c .before .before .before .before .before .before .before .before .before .before .before .before .before .before in
-    let L = b .ensures .listed in
-    record {
-      table = s .pre .table;
-      few = omega (arith, L .few, s .pre .fits, b .kept .1 .1 .1 .1 .1 .1 .1 .1 .1 .1 .0);
-      pos = λ i h. s .pre .kinds .later _ (omega (arith, L .to i h, s .pre .inside)) (L .inner i h);
-      inside = λ i h. omega (arith, L .to i h, s .pre .inside);
-    }
+    let L = b .ensures .listed in (
+      record {
+        table = s .pre .0 .table;
+        few = omega (arith, L .few, s .pre .0 .fits, b .kept .1 .1 .1 .1 .1 .1 .1 .1 .1 .1 .0);
+        pos = λ i h. s .pre .0 .kinds .later _ (omega (arith, L .to i h, s .pre .0 .inside)) (L .inner i h);
+        inside = λ i h. omega (arith, L .to i h, s .pre .0 .inside);
+      },
+      s .pre .1,
+    )
 
 returns-2 : tie.Need-returns-2
 returns-2 c =

@@ -18,11 +18,11 @@ use Rattle.table_checks.proofs.blocks.block_end.Reads as block-end-read
 use Rattle.table_checks.proofs.blocks.block_match.Reads as block-match-reads
 
 abbrev Inv-loop : tie.InvT-loop
-Inv-loop kinds labels nodeTable leaves inner s k stateTable list₀ n b₀ list b =
+Inv-loop kinds labels nodeTable lengths leaves inner s k stateTable list₀ n b₀ list b =
     (n ≡ length kinds) × (b ≤ n) × (length list ≡ length list₀) × Nodes kinds labels nodeTable leaves inner s k stateTable 0 b
 
 abbrev μ-loop : tie.MeasureT-loop
-μ-loop kinds labels nodeTable leaves inner s k stateTable list₀ n b₀ list b = n - b
+μ-loop kinds labels nodeTable lengths leaves inner s k stateTable list₀ n b₀ list b = n - b
 
 loop-holds : tie.Need-loop-holds Inv-loop μ-loop
 loop-holds c =
@@ -38,14 +38,16 @@ block-match-requires c κs =
     let s = c .before .before .before .before .before .before .before .before .before .before .before in
     let g = s .args in
     let l = c .before .before .before .loop in
-    let e = c .before .block-end in
-    record {
-      table = s .pre .table;
-      kinds = s .pre .kinds;
-      order = omega (arith, e .ensures .0);
-      inside = omega (arith, e .ensures .1, l .inv .0);
-      fits = omega (arith, e .ensures .2, l .inv .2, s .pre .fits);
-    }
+    let e = c .before .block-end in (
+      record {
+        table = s .pre .0 .table;
+        kinds = s .pre .0 .kinds;
+        order = omega (arith, e .ensures .0);
+        inside = omega (arith, e .ensures .1, l .inv .0);
+        fits = omega (arith, e .ensures .2, l .inv .2, s .pre .0 .fits);
+      },
+      s .pre .1,
+    )
 
 same-length : tie.Need-same-length Inv-loop μ-loop
 same-length c = search needs
@@ -72,7 +74,7 @@ loop-again c =
     let m = c .before .before .before .block-match in (
       refl,
       omega (arith, e .ensures .1, l .inv .0),
-      m .kept .1 .1 .1 .1 .1 .1 .1 .1 .1 .1 .0 ∙ l .inv .2,
+      m .kept .1 .1 .1 .1 .1 .1 .1 .1 .1 .1 .1 .0 ∙ l .inv .2,
       nodes-more (g .kinds .now) (g .labels .now) (g .node-table .now) (g .leaves .now) (g .inner .now) (g .s) (g .k) (g .state-table .now) (l .b) (e .result) (l .inv .3)
           (subst (λ (r : Bool). Means r (Nodes (g .kinds .now) (g .labels .now) (g .node-table .now) (g .leaves .now) (g .inner .now) (g .s) (g .k) (g .state-table .now) (l .b) (e .result))) (not-false (m .result) (c .if1 .left)) (m .ensures)),
     )

@@ -87,9 +87,9 @@ loop-again c =
       leaves-step (g .kinds .now) (g .labels .now) (g .node-table .now) (g .leaves .now) (g .s) (g .state-table .now) (g .b)
           (l .v) (l .ok) _ (l .inv .0) (l .inv .5)
           (leaf-flag (g .kinds .now) (g .labels .now) (g .node-table .now) (g .leaves .now) (g .s) (g .state-table .now) (g .b)
-              (l .v))
+          (l .v))
           (inner-flag (g .kinds .now) (g .labels .now) (g .node-table .now) (g .leaves .now) (g .s) (g .state-table .now) (g .b)
-              (l .v) _),
+          (l .v) _),
     )
 
 returns : tie.Need-returns Inv-loop μ-loop

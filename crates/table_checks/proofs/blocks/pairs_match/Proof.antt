@@ -18,11 +18,11 @@ use Rattle.table_checks.proofs.rows.pair_differences.Reads as pair-diff
 use Rattle.table_checks.proofs.siblings.pair_nodes_match.Reads as pair-nodes-match-reads
 
 abbrev Inv-loop : tie.InvT-loop
-Inv-loop labels nodeTable leaves inner s k n stateTable list c ok₀ bad₀ i₀ ok bad i =
+Inv-loop labels nodeTable lengths leaves inner s k n stateTable list c ok₀ bad₀ i₀ ok bad i =
     (i ≤ c) × ((ok && eqb bad 0) ≡ every i (λ x. pairIs labels nodeTable inner s k n stateTable (getD list x 0)))
 
 abbrev μ-loop : tie.MeasureT-loop
-μ-loop labels nodeTable leaves inner s k n stateTable list c ok₀ bad₀ i₀ ok bad i = c - i
+μ-loop labels nodeTable lengths leaves inner s k n stateTable list c ok₀ bad₀ i₀ ok bad i = c - i
 
 loop-holds : tie.Need-loop-holds Inv-loop μ-loop
 unfolding every
@@ -42,14 +42,22 @@ pair-nodes-match-requires c κs =
     let s = c .before .before .before .before .before .before .before .before .before in
     let i = c .before .before .loop .i in
     let h = c .before .loop-test .taken in
-    record { pos = s .pre .pos i h; inside = s .pre .inside i h; most = s .pre .table .most; room = s .pre .table .link-room }
+    (
+      record {
+        pos = s .pre .0 .pos i h;
+        inside = s .pre .0 .inside i h;
+        most = s .pre .0 .table .most;
+        room = s .pre .0 .table .link-room;
+      },
+      s .pre .1,
+    )
 
 pair-differences-requires : tie.Need-pair-differences-requires Inv-loop μ-loop
 pair-differences-requires c κs =
     let s = c .before .before .before .before .before .before .before .before .before .before in
     let i = c .before .before .before .loop .i in
     let h = c .before .before .loop-test .taken in
-    record { table = s .pre .table; pos = s .pre .pos i h; inside = s .pre .inside i h }
+    record { table = s .pre .0 .table; pos = s .pre .0 .pos i h; inside = s .pre .0 .inside i h }
 
 add-i : tie.Need-add-i Inv-loop μ-loop
 add-i c = search needs

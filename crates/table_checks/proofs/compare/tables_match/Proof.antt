@@ -71,24 +71,30 @@ returns-3 c =
 
 blocks-match-requires : tie.Need-blocks-match-requires
 blocks-match-requires c κs =
-    let s = c .before .before .before .before .before .before .before .before .before .before .before .before .before .before .before in
+    let s = c .before .before .before .before .before .before .before .before .before .before .before .before .before .before .before .before .before in
     let g = s .args in
-    let a = c .before .before .before .before .before .before .before .all-below in
-    record {
-      table = room-of (g .kinds .now) (g .labels .now) (g .node-table .now) (g .leaves .now) (g .inner .now) (g .s) (g .k) (g .state-table .now) (s .pre) (sym (a .ensures) ∙ not-false (a .result) (c .before .before .before .before .before .before .if1 .left));
-      kinds = kinds-of (g .kinds .now) (s .pre .postorder);
-      fits = omega (arith, c .before .block .ensures);
-    }
+    let a = c .before .before .before .before .before .before .before .before .before .all-below in
+    let e = c .before .before .before .before .before .before .before .before .if1 in (
+      record {
+        table = room-of (g .kinds .now) (g .labels .now) (g .node-table .now) (g .leaves .now) (g .inner .now) (g .s) (g .k)
+            (g .state-table .now) (s .pre) (sym (a .ensures) ∙ not-false (a .result) (e .left));
+        kinds = kinds-of (g .kinds .now) (s .pre .postorder);
+        fits = omega (arith, c .before .before .block .ensures);
+      },
+      c .before .before .before .jump-lengths .ensures,
+    )
 
 returns-4 : tie.Need-returns-4
 returns-4 c =
-    let s = c .before .before .before .before .before .before .before .before .before .before .before .before .before .before .before .before .before in
+    let s = c .before .before .before .before .before .before .before .before .before .before .before .before .before .before .before .before .before .before .before in
     let g = s .args in
-    let x = c .before .before .before .before .before .before .before .root-node-is in
-    let y = c .before .before .before .before .before .root-row-is in
+    let x = c .before .before .before .before .before .before .before .before .before .root-node-is in
+    let y = c .before .before .before .before .before .before .before .root-row-is in
     let m = c .before .blocks-match in
-    nodes-tell (g .kinds .now) (g .labels .now) (g .node-table .now) (g .leaves .now) (g .inner .now) (g .s) (g .k) (g .state-table .now) (s .pre) (sym (x .ensures) ∙ not-false (x .result) (c .before .before .before .before .before .before .if2 .left))
-    (sym (y .ensures) ∙ not-false (y .result) (c .before .before .before .before .if3 .left)) (m .result) (m .ensures)
+    nodes-tell (g .kinds .now) (g .labels .now) (g .node-table .now) (g .leaves .now) (g .inner .now) (g .s) (g .k)
+    (g .state-table .now) (s .pre)
+    (sym (x .ensures) ∙ not-false (x .result) (c .before .before .before .before .before .before .before .before .if2 .left))
+    (sym (y .ensures) ∙ not-false (y .result) (c .before .before .before .before .before .before .if3 .left)) (m .result) (m .ensures)
 
 pub tables-match-spec : {M : Type 1} → statement M
 tables-match-spec =
@@ -106,6 +112,7 @@ tables-match-spec =
     sub-root-row-is
     root-row-is-requires
     returns-3
+    (λ c κs. search needs)
     (λ c κs. search needs)
     (λ c. search needs)
     blocks-match-requires

@@ -1,7 +1,7 @@
 -- `by_length` meets its contract, by the test. Assumes nothing.
 use borrow.Author.Tests.{eq-eqb, ne-eqb}
-use Rattle.node_tables.proofs.down.by_length.Statement.{statement}
-use Rattle.node_tables.proofs.down.by_length.Tie as tie
+use Rattle.node_tables.proofs.jump_lengths.by_length.Statement.{statement}
+use Rattle.node_tables.proofs.jump_lengths.by_length.Tie as tie
 
 returns : tie.Need-returns
 returns c = simp (eq-eqb _ _ (c .if1 .taken))

@@ -1,0 +1,116 @@
+//! The full check of rule tables in the fastest scalar form known without `unsafe`: every test of two children is made at their
+//! parent; inner nodes of a block are listed without a branch on the kind; differences are or-ed, and tested once a block; what
+//! leads outside is clamped, since another test then fails anyway. For 2 and 16 states the rows' lengths are constants.
+//!
+//! What Rust without `unsafe` cannot drop here are the tests of indices: one for a node's four numbers and one for a map, one for
+//! each lookup of a far map, a state and a rule.
+
+use crate::checks::{all_below, Plan, Rules};
+use crate::node_tables::{self, DEPTH, JUMP, SIZE};
+
+const BLOCK: usize = 1024;
+
+/// Whether both tables, cut to their lengths, are what the build writes.
+pub fn matches(plan: &Plan, rules: &Rules, node_table: &[u16], state_table: &[u8]) -> bool {
+    let (s, root) = (rules.s, plan.n - 1);
+    let identity = (0..s).all(|q| state_table[(s + 1) * root + 1 + q] == q as u8);
+    if !all_below(state_table, s) || node_table[4 * root..4 * root + 3] != node_tables::root(plan.n) || !identity {
+        return false;
+    }
+    match s {
+        2 => blocks(2, plan, rules, node_table, state_table),
+        16 => blocks(16, plan, rules, node_table, state_table),
+        _ => blocks(s, plan, rules, node_table, state_table),
+    }
+}
+
+#[inline(always)]
+fn blocks(s: usize, plan: &Plan, rules: &Rules, node_table: &[u16], state_table: &[u8]) -> bool {
+    let (row, n) = (s + 1, plan.n);
+    let (kinds, labels) = (&plan.kinds[..n], &plan.labels[..n]);
+    let (node_table, state_table) = (&node_table[..4 * n], &state_table[..row * n]);
+    let mut list = [0u16; BLOCK];
+    for start in (0..n).step_by(BLOCK) {
+        let mut count = 0;
+        let mut bad = false;
+        for v in start..n.min(start + BLOCK) {
+            list[count % BLOCK] = v as u16;
+            count += kinds[v] as usize;
+            let leaf = (node_table[4 * v + SIZE] == 1) & (state_table[row * v] == rules.leaf[labels[v] as usize]);
+            bad |= (kinds[v] == 0) & !leaf;
+        }
+        let mut differences = 0;
+        for &v in &list[..count] {
+            let v = v as usize;
+            bad |= numbers_differ(node_table, n, v);
+            differences |= pair(s, rules, labels[v] as usize, node_table, state_table, v);
+        }
+        if bad || differences != 0 {
+            return false;
+        }
+    }
+    true
+}
+
+#[inline(always)]
+fn numbers(node_table: &[u16], v: usize) -> [u16; 4] {
+    node_table[4 * v..4 * v + 4].try_into().unwrap()
+}
+
+/// A number that may lead outside, made safe.
+#[inline(always)]
+fn inside(x: u16, n: usize) -> usize {
+    if (x as usize) < n {
+        x as usize
+    } else {
+        0
+    }
+}
+
+#[inline(always)]
+fn left_of(right: usize, size: u16) -> usize {
+    if size as usize <= right {
+        right - size as usize
+    } else {
+        0
+    }
+}
+
+#[inline(always)]
+fn numbers_differ(node_table: &[u16], n: usize, v: usize) -> bool {
+    let [_, jump, depth, size] = numbers(node_table, v);
+    let [right_parent, right_jump, right_depth, right_size] = numbers(node_table, v - 1);
+    let [left_parent, left_jump, left_depth, left_size] = numbers(node_table, left_of(v - 1, right_size));
+    let j = inside(jump, n);
+    let (over, e) = (node_table[4 * j + JUMP], node_table[4 * j + DEPTH] as u32);
+    let f = node_table[4 * inside(over, n) + DEPTH] as u32;
+    let to = if depth as u32 + f == e + e { over } else { v as u16 };
+    let of_child = [v as u16, to, depth.wrapping_add(1)];
+    ([right_parent, right_jump, right_depth] != of_child)
+        | ([left_parent, left_jump, left_depth] != of_child)
+        | (size as u32 != left_size as u32 + right_size as u32 + 1)
+}
+
+#[inline(always)]
+fn pair(s: usize, rules: &Rules, a: usize, node_table: &[u16], state_table: &[u8], v: usize) -> u8 {
+    let (row, n, right) = (s + 1, node_table.len() / 4, v - 1);
+    let left = left_of(right, node_table[4 * right + SIZE]);
+    let map = |u: usize| &state_table[row * u + 1..row * u + 1 + s];
+    let (p, q) = (state_table[row * left] as usize, state_table[row * right] as usize);
+    let (of_right, of_left) = (&rules.inner[(p * rules.k + a) * s..][..s], &rules.inner[a * s + q..]);
+    let stride = rules.k * s;
+    let mut bad = of_right[q] ^ state_table[row * v];
+    let (right_map, left_map) = (map(right), map(left));
+    if node_table[4 * right + JUMP] as usize == v {
+        for i in 0..s {
+            bad |= (right_map[i] ^ of_right[i]) | (left_map[i] ^ of_left[i * stride]);
+        }
+    } else {
+        let (of_v, of_j) = (map(v), map(inside(node_table[4 * v + JUMP], n)));
+        let on = |x: u8| of_j[of_v[x as usize] as usize];
+        for i in 0..s {
+            bad |= (right_map[i] ^ on(of_right[i])) | (left_map[i] ^ on(of_left[i * stride]));
+        }
+    }
+    bad
+}
