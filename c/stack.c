@@ -58,8 +58,8 @@ static const struct call {
     void (*make)(void);
     size_t most;
 } calls[] = {
-    {"build", build, 1024},
-    {"check", check, 1024},
+    {"build", build, 3072},
+    {"check", check, 3072},
     {"fresh run", fresh_run, 40 * 1024},
     {"load", load, 4096},
     {"start", start, 4096},
@@ -67,8 +67,8 @@ static const struct call {
     {"start", start, 4096},
     {"advance", advance, 4096},
     {"read", read_answer, 4096},
-    {"branch build", branch_build, 1024},
-    {"branch check", branch_check, 1024},
+    {"branch build", branch_build, 3072},
+    {"branch check", branch_check, 3072},
     {"branch question", ask, 1024},
     {"merge", merge, 1024},
     {"agreement", agree, 12 * 1024},
