@@ -1,11 +1,11 @@
 -- Blocks of nodes.
+--     every-step                     one number more
 --     listed-start, listed-step      the list of inner nodes, one node more
---     leaves-start, leaves-step      the leaves' test, one node more
---     every-step                     a flag that is never put back
+--     leaves-start, leaves-step      the leaves' test, one node more; leaf-flag, inner-flag: as the code tests one node
 -- Assumes nothing.
-use Prim.Native.Nat.{ℕ, zero, suc, _+_, _-_, _*_, _≤_, _<_}
+use Prim.Native.Nat.{ℕ, _+_, _-_, _≤_, _<_}
 use mathlib.Core.Path.{_≡_, refl, sym, ap, _∙_, subst}
-use mathlib.Core.Bool.{Bool, true, false, _&&_, _||_, not}
+use mathlib.Core.Bool.{Bool, true, _&&_, _||_, not}
 use mathlib.Core.List.{List}
 use native.Mathlib.Decide.{ℕ-discrete}
 use native.Mathlib.Numerals.{add-one}
@@ -13,8 +13,7 @@ use native.Mathlib.Omega.{arith}
 use lib.Dec.{eqb}
 use lib.ListN.{length, getD, set}
 use lib.Seq.{getD-set-same, getD-set-other}
-use borrow.Author.Tests.{eqb-true, eq-eqb, ne-eqb}
-use Rattle.trees.proofs.MoveLaws.{both}
+use borrow.Author.Tests.{eq-eqb, ne-eqb}
 use Rattle.list_laws.proofs.BoolLaws.{and-both, and-left, and-right}
 use Rattle.tables.specs.inner.Compare.{every}
 use Rattle.table_checks.specs.inner.PairStates.{leafIs}
@@ -23,9 +22,6 @@ use Rattle.table_checks.specs.inner.Blocks.{Listed, Means, Leaves}
 pub every-step : (n : ℕ) (f : ℕ → Bool) → every (n + 1) f ≡ (every n f && f n)
 unfolding every
 every-step n f = rw (add-one n)
-
-pub every-and : (n : ℕ) (f : ℕ → Bool) (ok r : Bool) → ok ≡ every n f → r ≡ f n → (ok && r) ≡ every (n + 1) f
-every-and n f ok r e h = rw (e, h) (sym (every-step n f))
 
 -- ---- the list
 

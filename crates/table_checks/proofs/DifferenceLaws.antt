@@ -1,13 +1,13 @@
 -- Differences or-ed into one number: it is 0 exactly where none was.
 --     or-zero, xor-zero, or-test, xor-test, more-test
 -- Assumes nothing.
-use Prim.Native.Nat.{ℕ, _+_, _*_, _≤_}
+use Prim.Native.Nat.{ℕ, _+_}
 use mathlib.Core.Path.{_≡_, refl, sym, ap, _∙_}
 use mathlib.Core.Bool.{Bool, true, false, _&&_}
 use native.Mathlib.Decide.{ℕ-discrete}
 use native.Mathlib.Omega.{arith}
 use lib.Dec.{eqb}
-use lib.Bits.{bitAnd, bitOr, bitXor, or-add-and, xor-add-and, and-le-l, and-le-r, xor-self}
+use lib.Bits.{bitOr, bitXor, or-add-and, xor-add-and, and-le-l, and-le-r, xor-self}
 use borrow.Author.Tests.{eq-eqb, ne-eqb}
 use Rattle.tables.specs.inner.Compare.{every}
 use Rattle.table_checks.proofs.BlockLaws.{every-step}

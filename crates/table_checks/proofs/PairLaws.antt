@@ -1,18 +1,16 @@
 -- Both tables by pairs: all tests together are the test for the built tables.
 --     right-step, left-step          the entries that a pair reads are the steps to the parent
---     tabled-local, local-tabled     the tests of states and maps are the local equations of the tables layer
---     both-built, built-both         links, states and maps pass exactly where both tables are the built ones
+--     tabled-states, tabled-maps, local-tabled   the tests of states and maps are the equations between neighbours
+--     both-built, built-both         all tests pass exactly where both tables are the built ones
 -- Assumes nothing.
 use Prim.Native.Nat.{ℕ, _+_, _-_, _*_, _≤_, _<_}
-use mathlib.Core.Path.{_≡_, refl, sym, ap, ap₂, _∙_, subst}
+use mathlib.Core.Path.{_≡_, sym, ap, ap₂, _∙_, subst}
 use mathlib.Core.List.{List}
 use mathlib.Core.Logic.{_⊎_, inl, inr}
-use native.Mathlib.Decide.{ℕ-discrete}
 use native.Mathlib.Omega.{arith}
-use lib.Dec.{eqb}
 use lib.ListN.{length, getD, take}
 use borrow.Author.Tests.{eq-eqb, ne-eqb}
-use Rattle.trees.specs.Tree.{Tree, kindsOf, labelsOf, size, kindAt, labelAt}
+use Rattle.trees.specs.Tree.{Tree, kindsOf, labelsOf, size, labelAt}
 use Rattle.trees.specs.Automaton.{Automaton}
 use Rattle.trees.specs.Numbering.{sub, parent}
 use Rattle.trees.specs.Jumps.{jump}
@@ -21,15 +19,15 @@ use Rattle.trees.proofs.NodeLaws.{Inner, inner, Up, up, size-pos}
 use Rattle.trees.proofs.JumpLaws.{jump-in}
 use Rattle.trees.proofs.MapLaws.{parent-inner}
 use Rattle.formats.specs.Rules.{treeAutomaton}
-use Rattle.node_tables.specs.Cells.{jumpCell, sizeCell}
+use Rattle.node_tables.specs.Cells.{jumpCell}
 use Rattle.node_tables.specs.NodeCells.{NodeCells}
 use Rattle.trees.proofs.PostorderLaws.{size-of, kind-of}
 use Rattle.node_tables.proofs.UpLoop.{child-is}
 use Rattle.node_tables.proofs.CellLaws.{link-cells, cells-link}
 use Rattle.tables.specs.StateCells.{stateCell, mapCell}
 use Rattle.tables.specs.inner.Compare.{nearEntry}
-use Rattle.table_checks.specs.inner.PairStates.{farEntry, rowOf, colOf}
-use Rattle.tables.specs.inner.States.{RuleRuns, innerState}
+use Rattle.table_checks.specs.inner.PairStates.{rowOf, colOf}
+use Rattle.tables.specs.inner.States.{innerState}
 use Rattle.node_tables.specs.inner.UpPass.{leftOf}
 use Rattle.table_checks.specs.inner.LocalTables.{stepCells, LocalStates, LocalMaps}
 use Rattle.table_checks.proofs.LocalLaws.{local-unique, built-local-states, built-local-maps}
@@ -46,7 +44,8 @@ pub record StatePairs (ks ls nodeTable lv inn : List ℕ) (s k : ℕ) (b : List 
       → Rows nodeTable inn s (length ks) b v (leftOf nodeTable v) (rowOf ls nodeTable b s k v) (colOf ls b s v) (k * s)
   pub root : (v q : ℕ) → v + 1 ≡ length ks → q < s → mapCell s b v q ≡ q
 
-module _ (s k : ℕ) (lv inn mk : List ℕ) (t : Tree) (ks ls nodeTable b : List ℕ) (ek : kindsOf t ≡ ks) (el : labelsOf t ≡ ls)
+module _ (s k : ℕ) (lv inn mk : List ℕ) (t : Tree) (ks ls nodeTable b : List ℕ) (ek : kindsOf t ≡ ks)
+    (el : labelsOf t ≡ ls)
     (L : NodeCells t nodeTable) where
   A : Automaton
   A = treeAutomaton s k lv inn mk
@@ -75,7 +74,8 @@ module _ (s k : ℕ) (lv inn mk : List ℕ) (t : Tree) (ks ls nodeTable b : List
     unfolding stepCells A
     right-step q =
         let e : p - 1 + 1 ≡ p = omega (arith, I .at) in
-        let f : leftOf nodeTable p ≡ p - 1 - size (sub t (p - 1)) = ap (λ (x : ℕ). p - 1 - x) (L .sizes (p - 1) (omega arith)) in
+        let f : leftOf nodeTable p ≡ p - 1 - size (sub t (p - 1)) = ap (λ (x : ℕ). p - 1 - x)
+        (L .sizes (p - 1) (omega arith)) in
         let i : rowOf ls nodeTable b s k p + q * 1 ≡ rowOf ls nodeTable b s k p + q = omega arith in
         rw (I .right-up, eq-eqb (p - 1 + 1) p e, i, f, label p)
 
@@ -89,7 +89,8 @@ module _ (s k : ℕ) (lv inn mk : List ℕ) (t : Tree) (ks ls nodeTable b : List
         ≡ A .δ (stateCell s b (p - 1 - size (sub t (p - 1)))) (labelAt t p) (stateCell s b (p - 1))
     unfolding A
     inner-is =
-        let f : leftOf nodeTable p ≡ p - 1 - size (sub t (p - 1)) = ap (λ (x : ℕ). p - 1 - x) (L .sizes (p - 1) (omega arith)) in
+        let f : leftOf nodeTable p ≡ p - 1 - size (sub t (p - 1)) = ap (λ (x : ℕ). p - 1 - x)
+        (L .sizes (p - 1) (omega arith)) in
         rw (f, label p)
 
     -- both children jump to the same node
@@ -99,7 +100,8 @@ module _ (s k : ℕ) (lv inn mk : List ℕ) (t : Tree) (ks ls nodeTable b : List
     left-jump : (getD ks p 0 ≡ 0 → ⊥) → jump t (I .left) ≡ jumpCell nodeTable (p - 1)
     left-jump k =
         let q : Pair (length ks) nodeTable p = cells-pairs t ks nodeTable ek L .pairs p (omega (arith, z)) k in
-        sym (L .jumps (I .left) (omega arith)) ∙ ap (jumpCell nodeTable) (sym left-is) ∙ q .left-jump ∙ sym (q .right-jump)
+        sym (L .jumps (I .left) (omega arith)) ∙ ap (jumpCell nodeTable) (sym left-is) ∙ q .left-jump
+        ∙ sym (q .right-jump)
 
     jump-is : within (length ks) (jumpCell nodeTable p) ≡ jump t p
     jump-is =
@@ -115,8 +117,10 @@ module _ (s k : ℕ) (lv inn mk : List ℕ) (t : Tree) (ks ls nodeTable b : List
     tabled-states : LocalStates A t b
     unfolding A
     tabled-states = record {
-      at-leaf = λ v h e. T .leaves v (omega (arith, z)) (sym (kind-of t ks v ek) ∙ e) ∙ ap (λ (a : ℕ). getD lv a 0) (label v);
-      at-inner = λ v h e. T .states v (omega (arith, z)) (λ y. e (kind-of t ks v ek ∙ y)) ∙ inner-is v h (inner t v h e);
+      at-leaf = λ v h e. T .leaves v (omega (arith, z)) (sym (kind-of t ks v ek) ∙ e)
+          ∙ ap (λ (a : ℕ). getD lv a 0) (label v);
+      at-inner = λ v h e. T .states v (omega (arith, z)) (λ y. e (kind-of t ks v ek ∙ y))
+          ∙ inner-is v h (inner t v h e);
     }
 
     -- node v is one of its parent's two children
@@ -130,7 +134,8 @@ module _ (s k : ℕ) (lv inn mk : List ℕ) (t : Tree) (ks ls nodeTable b : List
       kind : getD ks (parent t v) 0 ≡ 0 → ⊥
       kind e = omega (arith, U .inside, kind-of t ks (parent t v) ek)
 
-      R : Rows nodeTable inn s (length ks) b (parent t v) (leftOf nodeTable (parent t v)) (rowOf ls nodeTable b s k (parent t v))
+      R : Rows nodeTable inn s (length ks) b (parent t v) (leftOf nodeTable (parent t v))
+          (rowOf ls nodeTable b s k (parent t v))
           (colOf ls b s (parent t v)) (k * s)
       R = T .rows (parent t v) (omega (arith, z, U .below)) kind
 
@@ -159,7 +164,8 @@ module _ (s k : ℕ) (lv inn mk : List ℕ) (t : Tree) (ks ls nodeTable b : List
       far-map q j l =
           let n : jumpCell nodeTable (parent t v - 1) ≡ parent t v → ⊥ = λ e. j (same-jump ∙ e) in
           let f : ℕ → ℕ → ℕ = λ u x. mapCell s b u (mapCell s b (parent t v) x) in
-          let w : within (length ks) (jumpCell nodeTable (parent t v)) ≡ jump t (parent t v) = jump-is (parent t v) (U .below) I in
+          let w : within (length ks) (jumpCell nodeTable (parent t v)) ≡ jump t (parent t v) = jump-is (parent t v)
+          (U .below) I in
           elim is-child [
             | inl c ↦ subst (λ (u : ℕ). mapCell s b u q ≡ f (jump t (parent t v)) (stepCells A t b u q)) (sym c)
                 (R .far-right n q l ∙ ap₂ f w (right-step (parent t v) (U .below) I q))
@@ -178,7 +184,8 @@ module _ (s k : ℕ) (lv inn mk : List ℕ) (t : Tree) (ks ls nodeTable b : List
 
   module _ (S : LocalStates A t b) (M : LocalMaps A t b) where
     local-rows : (p : ℕ) → p < length ks → (getD ks p 0 ≡ 0 → ⊥)
-        → Rows nodeTable inn s (length ks) b p (leftOf nodeTable p) (rowOf ls nodeTable b s k p) (colOf ls b s p) (k * s)
+        → Rows nodeTable inn s (length ks) b p (leftOf nodeTable p) (rowOf ls nodeTable b s k p) (colOf ls b s p)
+        (k * s)
     unfolding A
     local-rows p h k =
         let hp : p < size t = omega (arith, z) in
@@ -189,7 +196,8 @@ module _ (s k : ℕ) (lv inn mk : List ℕ) (t : Tree) (ks ls nodeTable b : List
           near-right = λ e q l. M .near (p - 1) q (right-in p hp I) (right-jump p hp I ∙ e ∙ sym (I .right-up)) l
               ∙ sym (right-step p hp I q);
           near-left = λ e q l. ap (λ (u : ℕ). mapCell s b u q) (left-is p hp I)
-              ∙ M .near (I .left) q (left-in p hp I) (left-jump p hp I k ∙ e ∙ sym (I .left-up)) l ∙ sym (left-step p hp I q);
+              ∙ M .near (I .left) q (left-in p hp I) (left-jump p hp I k ∙ e ∙ sym (I .left-up)) l
+              ∙ sym (left-step p hp I q);
           far-right = λ e q l. M .far (p - 1) q (right-in p hp I) (λ y. e (sym (right-jump p hp I) ∙ y ∙ I .right-up)) l
               ∙ ap (λ (x : ℕ). mapCell s b (jump t x) (mapCell s b x (stepCells A t b (p - 1) q))) (I .right-up)
               ∙ sym (ap₂ f w (right-step p hp I q));
@@ -202,7 +210,8 @@ module _ (s k : ℕ) (lv inn mk : List ℕ) (t : Tree) (ks ls nodeTable b : List
     local-tabled : StatePairs ks ls nodeTable lv inn s k b
     unfolding A
     local-tabled = record {
-      leaves = λ v h e. S .at-leaf v (omega (arith, z)) (kind-of t ks v ek ∙ e) ∙ ap (λ (a : ℕ). getD lv a 0) (sym (label v));
+      leaves = λ v h e. S .at-leaf v (omega (arith, z)) (kind-of t ks v ek ∙ e)
+          ∙ ap (λ (a : ℕ). getD lv a 0) (sym (label v));
       states = λ v h e. S .at-inner v (omega (arith, z)) (inner-kind v e)
           ∙ sym (inner-is v (omega (arith, z)) (inner t v (omega (arith, z)) (inner-kind v e)));
       rows = local-rows;
@@ -211,7 +220,8 @@ module _ (s k : ℕ) (lv inn mk : List ℕ) (t : Tree) (ks ls nodeTable b : List
 
 -- ---- both tables
 
-module _ (s k : ℕ) (lv inn mk : List ℕ) (t : Tree) (ks ls nodeTable b : List ℕ) (ek : kindsOf t ≡ ks) (el : labelsOf t ≡ ls)
+module _ (s k : ℕ) (lv inn mk : List ℕ) (t : Tree) (ks ls nodeTable b : List ℕ) (ek : kindsOf t ≡ ks)
+    (el : labelsOf t ≡ ls)
     (below : (j : ℕ) → getD inn j 0 < s) where
   pub both-built : length ks * 4 ≤ length nodeTable → length ks * (s + 1) ≤ length b → NodePairs ks nodeTable
       → StatePairs ks ls nodeTable lv inn s k b
@@ -224,7 +234,8 @@ module _ (s k : ℕ) (lv inn mk : List ℕ) (t : Tree) (ks ls nodeTable b : List
       let r : size t * (s + 1) ≤ length b = subst (λ (n : ℕ). n * (s + 1) ≤ length b) z room in (
         cells-link t (length ks) nodeTable z lroom C,
         rw z (local-unique (treeAutomaton s k lv inn mk) t b (λ p a q. below ((p * k + a) * s + q)) r
-            (tabled-states s k lv inn mk t ks ls nodeTable b ek el C T) (tabled-maps s k lv inn mk t ks ls nodeTable b ek el C T)),
+            (tabled-states s k lv inn mk t ks ls nodeTable b ek el C T)
+            (tabled-maps s k lv inn mk t ks ls nodeTable b ek el C T)),
       )
 
   pub built-both : take (length ks * 4) nodeTable ≡ nodeTableOf t

@@ -1,25 +1,25 @@
--- The links by pairs: the tests at the parents, all of them, are the test for the tree's own links.
---     or-zero .. xor-zero        differences or-ed into one number
---     within-in                  a place inside is left alone
---     pair-jump                  on a right table the jump by pairs is the child's
---     pairs-cells                all tests hold: the table is the tree's
---     pair-right, leaf-right, root-right   and back
+-- The node table by pairs: the tests at the parents, all of them, are the test for the tree's own table.
+--     within-in                     a place inside is left alone
+--     jump-far, jump-near           the two ways out of pair_by_distances; pair-by-table, pair-past-table: of pair_jump
+--     pair-jump                     on a right table the jump by pairs is childJump of the node table's passes
+--     pair-told, tells-pair         what the test of a pair tells, as seven equations
+--     pairs-cells, cells-pairs      every leaf, pair and the root pass exactly where the table is the tree's
 -- Assumes nothing.
-use Prim.Native.Nat.{ℕ, zero, suc, _+_, _-_, _*_, _≤_, _<_}
-use mathlib.Core.Path.{_≡_, refl, sym, ap, ap₂, _∙_, subst}
-use mathlib.Core.Bool.{Bool, true, false, cond, _&&_}
+use Prim.Native.Nat.{ℕ, zero, suc, _+_, _-_, _≤_, _<_}
+use mathlib.Core.Path.{_≡_, sym, ap, ap₂, _∙_, subst}
+use mathlib.Core.Bool.{Bool, true, cond, _&&_}
 use mathlib.Core.List.{List}
-use mathlib.Core.Logic.{_⊎_, inl, inr}
+use mathlib.Core.Logic.{inl, inr}
 use native.Mathlib.Decide.{ℕ-discrete}
 use native.Mathlib.Numerals.{add-one}
 use native.Mathlib.Omega.{arith}
-use lib.Dec.{eqb, ltb}
+use lib.Dec.{eqb}
 use lib.ListN.{length, getD}
 use borrow.Author.Tests.{eqb-true, eq-eqb, ne-eqb, lt-ltb, le-ltb}
 use Rattle.trees.proofs.MoveLaws.{both}
 use Rattle.trees.specs.Tree.{Tree, kindsOf, size}
-use Rattle.trees.specs.Numbering.{parent, depth, sub}
-use Rattle.trees.specs.Jumps.{jump, twoDistances}
+use Rattle.trees.specs.Numbering.{parent, depth}
+use Rattle.trees.specs.Jumps.{jump}
 use Rattle.trees.proofs.NodeLaws.{Inner, inner, Up, up, sub-leaf, parent-root, depth-root, size-pos}
 use Rattle.trees.proofs.JumpLaws.{jump-root, jump-in, jump-above, depth-jump, jumpDepth-le}
 use Rattle.node_tables.specs.Cells.{parentCell, jumpCell, depthCell, sizeCell}
@@ -27,13 +27,13 @@ use Rattle.node_tables.specs.NodeCells.{NodeCells, UpCells, UpTo, DownFrom, Par
 use Rattle.node_tables.specs.inner.UpPass.{leftOf, innerSize}
 use Rattle.node_tables.specs.inner.DownPass.{childJump}
 use Rattle.node_tables.specs.inner.CheckPass.{innerMatches, upMatches, downMatches}
-use Rattle.table_checks.specs.inner.PairNodes.{within, pairByDistances, pairJump, bothAre, pairNodes, rootNode}
+use Rattle.table_checks.specs.inner.PairNodes.{within, pairByDistances, pairJump, bothAre, pairNodes}
 use Rattle.node_tables.specs.JumpLengths.{jumpLengths}
 use Rattle.node_tables.proofs.UpLoop.{child-is, at-left, new-size, none-yet}
 use Rattle.trees.proofs.PostorderLaws.{size-of, kind-of}
 use Rattle.node_tables.proofs.DownLoop.{jump-of, depth-of}
 use Rattle.node_tables.proofs.CellLaws.{both-passes, up-parents}
-use Rattle.node_tables.proofs.CheckLoop.{UpsTo, ups-step, ups-no, DownsFrom, downs-step, downs-no, root-from, false-true}
+use Rattle.node_tables.proofs.CheckLoop.{UpsTo, ups-step, root-from}
 
 pub within-in : (n x : ℕ) → x < n → within n x ≡ x
 within-in n x h = rw (lt-ltb x n h)
@@ -116,7 +116,8 @@ module _ (t : Tree) (i : ℕ) (b : List ℕ) (d : DownFrom t i b) (p : ℕ) (hp 
       rw (
         within-in (size t) (jumpCell b p) once-in,
         within-in (size t) (jumpCell b (jumpCell b p)) twice-in,
-        distances (depthCell b p) (depthCell b (jumpCell b p)) (depthCell b (jumpCell b (jumpCell b p))) falls falls-again,
+        distances (depthCell b p) (depthCell b (jumpCell b p)) (depthCell b (jumpCell b (jumpCell b p))) falls
+            falls-again,
       )
 
 -- ---- what the test of a pair tells
@@ -275,7 +276,8 @@ module _ (ks b : List ℕ) (L : NodePairs ks b) where
 
     -- the depths and jumps of all nodes but the first i
     downs : (m i : ℕ) → m + i + 1 ≡ length ks → DownFrom t i b
-    downs zero i h = root-from (length ks) i b (omega arith) (L .root-jump i (omega arith)) (L .root-depth i (omega arith)) t ps
+    downs zero i h = root-from (length ks) i b (omega arith) (L .root-jump i (omega arith))
+        (L .root-depth i (omega arith)) t ps
     downs (suc m) i h =
         let d : DownFrom t (i + 1) b = downs m (i + 1) (omega arith) in
         let y : parentCell b i ≡ parent t i = ps .are i (omega arith) in
@@ -307,7 +309,8 @@ module _ (t : Tree) (ks b : List ℕ) (e : kindsOf t ≡ ks) (L : NodeCells t b)
       let y : parentCell b c ≡ v = L .parents c (omega arith) ∙ p in
       L .jumps c (omega arith) ∙ sym (jump-of t c b (all-down (c + 1)) h (L .parents c (omega arith)))
       ∙ ap (childJump b) y
-      ∙ sym (subst (λ (n : ℕ). pairJump n b v ≡ childJump b v) (sym z₂) (pair-jump t 0 b (all-down 0) v (omega arith) hv))
+      ∙ sym (subst (λ (n : ℕ). pairJump n b v ≡ childJump b v) (sym z₂)
+      (pair-jump t 0 b (all-down 0) v (omega arith) hv))
 
   cells-pair : (v : ℕ) → v < size t → Inner t v → Pair (length ks) b v
   cells-pair v h I =
@@ -326,7 +329,8 @@ module _ (t : Tree) (ks b : List ℕ) (e : kindsOf t ≡ ks) (L : NodeCells t b)
 
   pub cells-pairs : NodePairs ks b
   cells-pairs = record {
-    leaves = λ v h k. L .sizes v (omega (arith, z₂)) ∙ ap size (sub-leaf t v (omega (arith, z₂)) (kind-of t ks v e ∙ k));
+    leaves = λ v h k. L .sizes v (omega (arith, z₂))
+        ∙ ap size (sub-leaf t v (omega (arith, z₂)) (kind-of t ks v e ∙ k));
     pairs = λ v h k. cells-pair v (omega (arith, z₂))
         (inner t v (omega (arith, z₂)) (λ y. k (sym (kind-of t ks v e) ∙ y)));
     root-parent = λ v h. L .parents v (omega (arith, z₂)) ∙ parent-root t v (omega (arith, z₂));

@@ -1,45 +1,32 @@
--- The states and maps by pairs: places, and that all tests together are the test for the built table.
---     rows-args, rows-args-of        what the tests at one node read lies inside
+-- The states and maps of a pair: places, and what the test tells.
+--     within-below .. left-less      places and values of the tables lie inside
+--     rows-args, rows-args-of        what the tests at one node read lies inside; small-of, rule-place: the same of the rules
+--     pair-is, rows-near, rows-far   the definitions, as the code goes
 --     Rows, rows-told, tells-rows    what the test of both children's maps tells
---     right-step, left-step          the entries read are the steps to the parent
---     pairs-maps, maps-pairs         all of them hold: the maps satisfy the local equations, and back
 -- Assumes nothing.
 use Prim.Native.Nat.{ℕ, _+_, _-_, _*_, _≤_, _<_}
-use mathlib.Core.Path.{_≡_, refl, sym, ap, ap₂, _∙_, subst}
+use mathlib.Core.Path.{_≡_, refl}
 use mathlib.Core.Bool.{Bool, true, false, cond, _&&_}
 use mathlib.Core.List.{List}
-use mathlib.Core.Logic.{_⊎_, inl, inr}
 use native.Mathlib.Nat.{mul-le-mul-right}
 use native.Mathlib.Decide.{ℕ-discrete}
 use native.Mathlib.Omega.{arith}
 use lib.Dec.{eqb, ltb}
 use lib.ListN.{length, getD}
-use borrow.Author.Tests.{eqb-true, eq-eqb, ne-eqb, ltb-true}
-use Rattle.trees.specs.Tree.{Tree, kindsOf, labelsOf, size, kindAt, labelAt}
-use Rattle.trees.specs.Numbering.{sub, parent}
-use Rattle.trees.specs.Jumps.{jump}
+use borrow.Author.Tests.{eq-eqb, ne-eqb, ltb-true}
 use Rattle.list_laws.proofs.RowLaws.{stride}
 use Rattle.trees.proofs.MoveLaws.{both}
-use Rattle.trees.proofs.NodeLaws.{Inner, inner, Up, up}
-use Rattle.trees.proofs.JumpLaws.{jump-in}
-use Rattle.formats.specs.Rules.{treeAutomaton}
-use Rattle.list_laws.proofs.BoolLaws.{and-both}
-use Rattle.node_tables.specs.Cells.{jumpCell, sizeCell}
-use Rattle.node_tables.specs.NodeCells.{NodeCells}
-use Rattle.trees.proofs.PostorderLaws.{size-of, kind-of}
-use Rattle.node_tables.proofs.UpLoop.{child-is}
+use Rattle.node_tables.specs.Cells.{jumpCell}
 use Rattle.tables.specs.StateCells.{stateCell, mapCell}
-use Rattle.tables.specs.inner.Rows.{RowIn, NearArgs}
+use Rattle.tables.specs.inner.Rows.{RowIn}
 use Rattle.tables.specs.inner.Compare.{rowIs, nearEntry}
-use Rattle.table_checks.specs.inner.PairStates.{farEntry, FarEntryArgs, rowOf, colOf, rowsMatch, pairStates, leafIs, RowsArgs, StateIn, TableRoom, NodeRoom}
-use Rattle.tables.specs.inner.States.{RuleRuns, innerState}
+use Rattle.table_checks.specs.inner.PairStates.{farEntry, FarEntryArgs, rowOf, colOf, rowsMatch, pairStates}
+use Rattle.table_checks.specs.inner.PairStates.{RowsArgs, StateIn, TableRoom}
 use Rattle.node_tables.specs.inner.UpPass.{leftOf}
-use Rattle.table_checks.specs.inner.LocalTables.{stepCells, LocalStates, LocalMaps}
 use Rattle.tables.proofs.CompareLaws.{rowIs-map, map-rowIs}
 use Rattle.formats.proofs.RuleLaws.{rule-in}
 use Rattle.tables.proofs.MapPlaces.{Small, small}
-use Rattle.table_checks.specs.inner.PairNodes.{within, PairArgs}
-use Rattle.table_checks.proofs.PairNodeLaws.{within-in, Pair, NodePairs, cells-pairs}
+use Rattle.table_checks.specs.inner.PairNodes.{within}
 
 pub within-below : (n x : ℕ) → 0 < n → within n x < n
 within-below n x h = go (ltb x n) refl
@@ -103,7 +90,8 @@ module _ (ls nodeTable lv inn : List ℕ) (s k n : ℕ) (b : List ℕ) (T : Tabl
       first-below = map-less v hv;
     }
 
-    pub rows-args : RowsArgs nodeTable inn s n b v (leftOf nodeTable v) (rowOf ls nodeTable b s k v) (colOf ls b s v) (k * s)
+    pub rows-args : RowsArgs nodeTable inn s n b v (leftOf nodeTable v) (rowOf ls nodeTable b s k v) (colOf ls b s v)
+        (k * s)
     rows-args = record {
       links = record { pos = pos; inside = hv; most = T .most; room = T .link-room };
       near-right = record { room = row-room (v - 1) right-less; inside = row-in };
@@ -130,7 +118,8 @@ module _ (ls nodeTable lv inn : List ℕ) (s k n : ℕ) (b : List ℕ) (T : Tabl
           T .rules .inner-count,
         ))
 
-    pub pair-is : (l p q x : ℕ) → l ≡ leftOf nodeTable v → p ≡ stateCell s b l → q ≡ stateCell s b (v - 1) → x ≡ stateCell s b v
+    pub pair-is : (l p q x : ℕ) → l ≡ leftOf nodeTable v → p ≡ stateCell s b l → q ≡ stateCell s b (v - 1)
+        → x ≡ stateCell s b v
         → (r : Bool) → r ≡ rowsMatch nodeTable inn s n b v l ((p * k + getD ls v 0) * s) (getD ls v 0 * s + q) (k * s)
         → (eqb x (getD inn ((p * k + getD ls v 0) * s + q) 0) && r) ≡ pairStates ls nodeTable inn s k n b v
     unfolding pairStates
@@ -176,11 +165,13 @@ module _ (nodeTable inn : List ℕ) (s n : ℕ) (b : List ℕ) (v l row col step
   fl : Bool
   fl = rowIs s b l (farEntry s b v (within n (jumpCell nodeTable v)) inn col step)
 
-  near-told : rowsMatch nodeTable inn s n b v l row col step ≡ true → jumpCell nodeTable (v - 1) ≡ v → (nr ≡ true) × (nl ≡ true)
+  near-told : rowsMatch nodeTable inn s n b v l row col step ≡ true → jumpCell nodeTable (v - 1) ≡ v → (nr ≡ true)
+      × (nl ≡ true)
   unfolding rowsMatch nr nl
   near-told e h = both nr nl (rw (eq-eqb (jumpCell nodeTable (v - 1)) v h) at e)
 
-  far-told : rowsMatch nodeTable inn s n b v l row col step ≡ true → (jumpCell nodeTable (v - 1) ≡ v → ⊥) → (fr ≡ true) × (fl ≡ true)
+  far-told : rowsMatch nodeTable inn s n b v l row col step ≡ true → (jumpCell nodeTable (v - 1) ≡ v → ⊥)
+      → (fr ≡ true) × (fl ≡ true)
   unfolding rowsMatch fr fl
   far-told e h = both fr fl (rw (ne-eqb (jumpCell nodeTable (v - 1)) v h) at e)
 
@@ -189,7 +180,8 @@ module _ (nodeTable inn : List ℕ) (s n : ℕ) (b : List ℕ) (v l row col step
   rows-told e = record {
     near-right = λ h. rowIs-map s b (v - 1) (nearEntry inn row 1) (near-told e h .0);
     near-left = λ h. rowIs-map s b l (nearEntry inn col step) (near-told e h .1);
-    far-right = λ h. rowIs-map s b (v - 1) (farEntry s b v (within n (jumpCell nodeTable v)) inn row 1) (far-told e h .0);
+    far-right = λ h. rowIs-map s b (v - 1) (farEntry s b v (within n (jumpCell nodeTable v)) inn row 1)
+        (far-told e h .0);
     far-left = λ h. rowIs-map s b l (farEntry s b v (within n (jumpCell nodeTable v)) inn col step) (far-told e h .1);
   }
 

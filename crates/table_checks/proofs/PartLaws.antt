@@ -3,7 +3,7 @@
 --     both-tells      what it tells is the test of both tables
 -- Assumes nothing.
 use Prim.Native.Nat.{ℕ, _+_, _-_, _*_}
-use mathlib.Core.Path.{_≡_, refl, sym, ap, _∙_}
+use mathlib.Core.Path.{_≡_}
 use mathlib.Core.Bool.{Bool}
 use mathlib.Core.List.{List}
 use lib.ListN.{length, take, drop}
@@ -30,7 +30,8 @@ module _ (p r nodeTable stateTable : List ℕ) (n s k : ℕ) (B : BuildArgs p r 
   inner-are : (c : ℕ) → c ≡ s * k * s → take (20 + k + c - (20 + k)) (drop (20 + k) r) ≡ innerStates r
   inner-are c e = rw e (inner-part r s k (B .states) (B .labels))
 
-  args-in : MatchArgs (kindsIn p) (labelsIn p) nodeTable (leafStates r) (innerStates r) (stateCount r) (labelCount r) (length stateTable)
+  args-in : MatchArgs (kindsIn p) (labelsIn p) nodeTable (leafStates r) (innerStates r) (stateCount r) (labelCount r)
+      (length stateTable)
   args-in =
       let A = build-passes p r (length nodeTable) (length stateTable) (B .passed) in
       let L : NodeTableArgs (kindsIn p) (length nodeTable) = link-args p r nodeTable stateTable (B .passed) in
@@ -47,7 +48,8 @@ module _ (p r nodeTable stateTable : List ℕ) (n s k : ℕ) (B : BuildArgs p r 
       }
 
   tells-in : (x : Bool)
-      → TablesTested (stateCount r) (labelCount r) (leafStates r) (innerStates r) (kindsIn p) (labelsIn p) nodeTable stateTable x
+      → TablesTested (stateCount r) (labelCount r) (leafStates r) (innerStates r) (kindsIn p) (labelsIn p) nodeTable
+      stateTable x
       → x ≡ sameTables (builtNodeTable p) (builtStateTable p r) nodeTable stateTable
   unfolding sameTables
   tells-in x told =
@@ -56,10 +58,12 @@ module _ (p r nodeTable stateTable : List ℕ) (n s k : ℕ) (B : BuildArgs p r 
       (rw z at (told (ruleMarks r) (planTree p) (kinds-planTree p plan-passed) (labels-planTree p plan-passed)))
 
   module _ (c : ℕ) (e : c ≡ s * k * s) where
-    pub both-args-of : MatchArgs (take (length p - (12 + n)) (drop (12 + n) p)) (take (12 + n - 12) (drop 12 p)) nodeTable
+    pub both-args-of : MatchArgs (take (length p - (12 + n)) (drop (12 + n) p)) (take (12 + n - 12) (drop 12 p))
+        nodeTable
         (take (20 + k - 20) (drop 20 r)) (take (20 + k + c - (20 + k)) (drop (20 + k) r)) s k (length stateTable)
     both-args-of =
-        rw (kinds-are, labels-part p n (B .nodes), leaves-part r k (B .labels), inner-are c e, B .states, B .labels) args-in
+        rw (kinds-are, labels-part p n (B .nodes), leaves-part r k (B .labels), inner-are c e, B .states, B .labels)
+        args-in
 
     pub both-tells : (x : Bool)
         → TablesTested s k (take (20 + k - 20) (drop 20 r)) (take (20 + k + c - (20 + k)) (drop (20 + k) r))

@@ -15,8 +15,8 @@ struct Listing {
     leaves: bool,
 }
 
-// Lists the inner nodes of b, .. e - 1, and tests whether its leaves have a leaf's size and state. A leaf is listed too, and
-// the next node over it, so that nothing hangs on the kind.
+// Lists the inner nodes of b, .. e - 1, and tests whether its leaves have a leaf's size and state. A leaf is listed
+// too, and the next node over it, so that nothing hangs on the kind.
 fn list_block(
     kinds: &[u8],
     labels: &[u8],
@@ -30,10 +30,10 @@ fn list_block(
     e: usize,
     list: &mut [u16],
 ) -> Listing
-    requires { ⌜ BlockArgs (now kinds) (now labels) (now «node_table») (now leaves) (now inner) s k (now «state_table») b e
-        (length (now list)) ⌝ }
-    ensures { λ r. ⌜ BlockListed (now (kinds .entry)) (now (labels .entry)) (now («node_table» .entry)) (now (leaves .entry)) s
-        (now («state_table» .entry)) b e (r .count) (r .leaves) (now (list .exit)) ⌝ }
+    requires { ⌜ BlockArgs (now kinds) (now labels) (now «node_table») (now leaves) (now inner) s k
+        (now «state_table») b e (length (now list)) ⌝ }
+    ensures { λ r. ⌜ BlockListed (now (kinds .entry)) (now (labels .entry)) (now («node_table» .entry))
+        (now (leaves .entry)) s (now («state_table» .entry)) b e (r .count) (r .leaves) (now (list .exit)) ⌝ }
 {
     let w = s + 1;
     let mut ok = true;
@@ -67,10 +67,10 @@ fn pairs_match(
     list: &[u16],
     c: usize,
 ) -> bool
-    requires { ⌜ PairsArgs (now labels) (now «node_table») (now leaves) (now inner) s k n (now «state_table») (now list) c
-        × (now lengths ≡ jumpLengths) ⌝ }
-    ensures { λ r. ⌜ r ≡ every c (λ i. pairIs (now (labels .entry)) (now («node_table» .entry)) (now (inner .entry)) s k n
-        (now («state_table» .entry)) (getD (now (list .entry)) i 0)) ⌝ }
+    requires { ⌜ PairsArgs (now labels) (now «node_table») (now leaves) (now inner) s k n (now «state_table»)
+        (now list) c × (now lengths ≡ jumpLengths) ⌝ }
+    ensures { λ r. ⌜ r ≡ every c (λ i. pairIs (now (labels .entry)) (now («node_table» .entry)) (now (inner .entry)) s
+        k n (now («state_table» .entry)) (getD (now (list .entry)) i 0)) ⌝ }
 {
     let mut ok = true;
     let mut bad = 0;
@@ -101,10 +101,10 @@ fn block_match(
     e: usize,
     list: &mut [u16],
 ) -> bool
-    requires { ⌜ BlockArgs (now kinds) (now labels) (now «node_table») (now leaves) (now inner) s k (now «state_table») b e
-        (length (now list)) × (now lengths ≡ jumpLengths) ⌝ }
-    ensures { λ r. ⌜ Means r (Nodes (now (kinds .entry)) (now (labels .entry)) (now («node_table» .entry)) (now (leaves .entry))
-        (now (inner .entry)) s k (now («state_table» .entry)) b e) ⌝ }
+    requires { ⌜ BlockArgs (now kinds) (now labels) (now «node_table») (now leaves) (now inner) s k
+        (now «state_table») b e (length (now list)) × (now lengths ≡ jumpLengths) ⌝ }
+    ensures { λ r. ⌜ Means r (Nodes (now (kinds .entry)) (now (labels .entry)) (now («node_table» .entry))
+        (now (leaves .entry)) (now (inner .entry)) s k (now («state_table» .entry)) b e) ⌝ }
 {
     let listing = list_block(
         kinds,
@@ -161,8 +161,8 @@ pub fn blocks_match(
 ) -> bool
     requires { ⌜ BlocksArgs (now kinds) (now labels) (now «node_table») (now leaves) (now inner) s k (now «state_table»)
         (length (now list)) × (now lengths ≡ jumpLengths) ⌝ }
-    ensures { λ r. ⌜ Means r (Nodes (now (kinds .entry)) (now (labels .entry)) (now («node_table» .entry)) (now (leaves .entry))
-        (now (inner .entry)) s k (now («state_table» .entry)) 0 (length (now (kinds .entry)))) ⌝ }
+    ensures { λ r. ⌜ Means r (Nodes (now (kinds .entry)) (now (labels .entry)) (now («node_table» .entry))
+        (now (leaves .entry)) (now (inner .entry)) s k (now («state_table» .entry)) 0 (length (now (kinds .entry)))) ⌝ }
 {
     let n = kinds.len();
     let mut b = 0;

@@ -11,8 +11,8 @@ ghost use Rattle.formats.specs.Built.{builtNodeTable, builtStateTable};
 ghost use Rattle.tables.specs.Answers.{sameTables, CheckDone};
 ghost use Rattle.tables.specs.inner.Written.{BuildArgs};
 
-// Whether both buffers begin with the tables of a plan and a rule table that pass their checks. Labels, kinds and states
-// are handed on as parts.
+// Whether both buffers begin with the tables of a plan and a rule table that pass their checks. Labels, kinds and
+// states are handed on as parts.
 fn both_match(
     plan: &[u8],
     rules: &[u8],
@@ -23,8 +23,9 @@ fn both_match(
     state_table: &[u8],
 ) -> bool
     requires { ⌜ BuildArgs (now plan) (now rules) n s k (now «node_table») (now «state_table») ⌝ }
-    ensures { λ r. ⌜ r ≡ sameTables (builtNodeTable (now (plan .entry))) (builtStateTable (now (plan .entry)) (now (rules .entry)))
-        (now («node_table» .entry)) (now («state_table» .entry)) ⌝ }
+    ensures { λ r. ⌜ r ≡ sameTables (builtNodeTable (now (plan .entry)))
+        (builtStateTable (now (plan .entry)) (now (rules .entry))) (now («node_table» .entry))
+        (now («state_table» .entry)) ⌝ }
 {
     let end = 20 + k + inner_count(s, k);
     tables_match(
@@ -41,10 +42,11 @@ fn both_match(
 
 // The full check: 2 to 11, then whether the lent tables are what the build writes. Nothing is written.
 pub fn check_tables(plan: &[u8], rules: &[u8], node_table: &[u16], state_table: &[u8]) -> Checking
-    ensures { λ a. ⌜ CheckDone
-        (firstNo (buildChecks (now (plan .entry)) (now (rules .entry)) (length (now («node_table» .entry))) (length (now («state_table» .entry)))))
-        (builtNodeTable (now (plan .entry))) (builtStateTable (now (plan .entry)) (now (rules .entry)))
-        (now («node_table» .entry)) (now («state_table» .entry)) a ⌝ }
+    ensures { λ a. ⌜ CheckDone (firstNo
+        (buildChecks (now (plan .entry)) (now (rules .entry)) (length (now («node_table» .entry)))
+        (length (now («state_table» .entry))))) (builtNodeTable (now (plan .entry)))
+        (builtStateTable (now (plan .entry)) (now (rules .entry))) (now («node_table» .entry))
+        (now («state_table» .entry)) a ⌝ }
 {
     let refused = check_build(plan, rules, node_table.len(), state_table.len());
     if refused != 0 {

@@ -26,9 +26,10 @@ pub fn tables_match(
     k: usize,
     state_table: &[u8],
 ) -> bool
-    requires { ⌜ MatchArgs (now kinds) (now labels) (now «node_table») (now leaves) (now inner) s k (length (now «state_table»)) ⌝ }
-    ensures { λ r. ⌜ TablesTested s k (now (leaves .entry)) (now (inner .entry)) (now (kinds .entry)) (now (labels .entry))
-        (now («node_table» .entry)) (now («state_table» .entry)) r ⌝ }
+    requires { ⌜ MatchArgs (now kinds) (now labels) (now «node_table») (now leaves) (now inner) s k
+        (length (now «state_table»)) ⌝ }
+    ensures { λ r. ⌜ TablesTested s k (now (leaves .entry)) (now (inner .entry)) (now (kinds .entry))
+        (now (labels .entry)) (now («node_table» .entry)) (now («state_table» .entry)) r ⌝ }
 {
     let n = kinds.len();
     if !all_below(&state_table[..n * (s + 1)], s as u8) {

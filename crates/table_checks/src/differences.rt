@@ -1,4 +1,5 @@
-// Rows of a table of states compared with what they have to be: the differences or-ed into one byte, 0 where there is none.
+// Rows of a table of states compared with what they have to be: the differences or-ed into one byte, 0 where there is
+// none.
 ghost use mathlib.Core.Path.{_≡_};
 ghost use lib.Dec.{eqb};
 ghost use lib.ListN.{length};

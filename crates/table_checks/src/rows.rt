@@ -10,8 +10,8 @@ ghost use Prim.Native.Nat.{_<_};
 ghost use Rattle.tables.specs.StateCells.{stateCell};
 ghost use Rattle.table_checks.specs.inner.PairStates.{rowsMatch, pairStates, RowsArgs, StateIn, NodeRoom};
 
-// Where both children's maps differ from their steps to node v, taken on by the maps of v and its jump where the right child's jump is
-// not v.
+// Where both children's maps differ from their steps to node v, taken on by the maps of v and its jump where the right
+// child's jump is not v.
 fn row_differences(
     node_table: &[u16],
     inner: &[u8],
@@ -25,7 +25,8 @@ fn row_differences(
     step: usize,
 ) -> u8
     requires { ⌜ RowsArgs (now «node_table») (now inner) s n (now «state_table») v left row col step ⌝ }
-    ensures { λ r. ⌜ eqb r 0 ≡ rowsMatch (now («node_table» .entry)) (now (inner .entry)) s n (now («state_table» .entry)) v left row col step ⌝ }
+    ensures { λ r. ⌜ eqb r 0 ≡ rowsMatch (now («node_table» .entry)) (now (inner .entry)) s n
+        (now («state_table» .entry)) v left row col step ⌝ }
 {
     let right = v - 1;
     if node_table[right * 4 + 1] == v as u16 {
@@ -65,7 +66,8 @@ pub fn pair_differences(
     v: usize,
 ) -> usize
     requires { ⌜ NodeRoom (now labels) (now «node_table») (now leaves) (now inner) s k n (now «state_table») v ⌝ }
-    ensures { λ r. ⌜ eqb r 0 ≡ pairStates (now (labels .entry)) (now («node_table» .entry)) (now (inner .entry)) s k n (now («state_table» .entry)) v ⌝ }
+    ensures { λ r. ⌜ eqb r 0 ≡ pairStates (now (labels .entry)) (now («node_table» .entry)) (now (inner .entry)) s k n
+        (now («state_table» .entry)) v ⌝ }
 {
     let left = left_in(node_table, n, v);
     let a = labels[v] as usize;

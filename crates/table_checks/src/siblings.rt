@@ -1,5 +1,5 @@
-// The node table's numbers of a node's two children, tested at their parent. Nothing that is lent leads outside, so that
-// the nodes may be looked at in any order and no test has to end the pass.
+// The node table's numbers of a node's two children, tested at their parent. Nothing that is lent leads outside, so
+// that the nodes may be looked at in any order and no test has to end the pass.
 use node_tables::jump_lengths::by_length;
 use node_tables::jump_lengths::jump_length;
 ghost use mathlib.Core.Path.{_≡_};
@@ -41,7 +41,8 @@ fn pair_by_distances(node_table: &[u16], n: usize, v: usize) -> u16
     if d + f == e + e { jj } else { v as u16 }
 }
 
-// The jump of a child of node v: its length by the table where the child's depth is below 1,024, else by the two distances.
+// The jump of a child of node v: its length by the table where the child's depth is below 1,024, else by the two
+// distances.
 fn pair_jump(node_table: &[u16], lengths: &[u16; 1024], n: usize, v: usize) -> u16
     requires { ⌜ PairArgs n (now «node_table») v × (now lengths ≡ jumpLengths) ⌝ }
     ensures { λ r. ⌜ r ≡ pairJump n (now («node_table» .entry)) v ⌝ }
@@ -55,8 +56,8 @@ fn pair_jump(node_table: &[u16], lengths: &[u16; 1024], n: usize, v: usize) -> u
     pair_by_distances(node_table, n, v)
 }
 
-// Whether inner node v's size and its children's parents, jumps and depths follow from their neighbours'. No test is left
-// out after a wrong one.
+// Whether inner node v's size and its children's parents, jumps and depths follow from their neighbours'. No test is
+// left out after a wrong one.
 pub fn pair_nodes_match(node_table: &[u16], lengths: &[u16; 1024], n: usize, v: usize) -> bool
     requires { ⌜ PairArgs n (now «node_table») v × (now lengths ≡ jumpLengths) ⌝ }
     ensures { λ r. ⌜ r ≡ pairNodes n (now («node_table» .entry)) v ⌝ }

@@ -30,7 +30,8 @@ abbrev pub Leaves : List ℕ → List ℕ → List ℕ → List ℕ → ℕ → 
 Leaves ks ls nodeTable lv s stateTable b e =
     (v : ℕ) → b ≤ v → v < e → getD ks v 0 ≡ 0 → leafIs ls nodeTable lv s stateTable v ≡ true
 
-pub record BlockListed (ks ls nodeTable lv : List ℕ) (s : ℕ) (stateTable : List ℕ) (b e c : ℕ) (r : Bool) (l : List ℕ) : Type 0 where
+pub record BlockListed (ks ls nodeTable lv : List ℕ) (s : ℕ) (stateTable : List ℕ) (b e c : ℕ) (r : Bool) (l : List ℕ)
+    : Type 0 where
   pub listed : Listed ks b e c l
   pub leaves : Means r (Leaves ks ls nodeTable lv s stateTable b e)
 
@@ -42,7 +43,8 @@ pub record PairsArgs (ls nodeTable lv inn : List ℕ) (s k n : ℕ) (stateTable 
 
 pub record Nodes (ks ls nodeTable lv inn : List ℕ) (s k : ℕ) (stateTable : List ℕ) (b e : ℕ) : Type 0 where
   pub leaves : Leaves ks ls nodeTable lv s stateTable b e
-  pub pairs : (v : ℕ) → b ≤ v → v < e → (getD ks v 0 ≡ 0 → ⊥) → pairIs ls nodeTable inn s k (length ks) stateTable v ≡ true
+  pub pairs : (v : ℕ) → b ≤ v → v < e → (getD ks v 0 ≡ 0 → ⊥)
+      → pairIs ls nodeTable inn s k (length ks) stateTable v ≡ true
 
 pub record Kinds (ks : List ℕ) : Type 0 where
   pub small : (j : ℕ) → j < length ks → getD ks j 0 ≤ 1

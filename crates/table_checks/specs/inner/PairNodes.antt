@@ -1,14 +1,15 @@
--- The node table's numbers of a node's two children, tested at their parent with every place made safe, so that nodes can be looked
--- at in any order.
+-- The node table's numbers of a node's two children, tested at their parent with every place made safe, so that nodes
+-- can be looked at in any order.
 --
 -- within n x == x where it is below n, else 0
--- pairByDistances n b v == the jump of a child of node v by the two distances, in a table b of n nodes; the places read lie inside
+-- pairByDistances n b v == the jump of a child of node v by the two distances, in a table b of n nodes
 -- pairByLength n b v == the same by the length of the child's jump, from the table of lengths (node_tables)
--- pairJump n b v == the one where the child's depth is below 1,024, else the other: childJump (node_tables) with its places inside
--- pairNodes n b v == whether inner node v's size, and the parents, depths and jumps of its two children, follow from their
+-- pairJump n b v == the one where the child's depth is below 1,024, else the other: childJump (node_tables), inside
+-- pairNodes n b v == whether inner node v's size, and its children's parents, depths and jumps, follow from their
 --   neighbours'
 -- rootNode b v == whether node v has the root's parent, jump and depth
--- PairArgs n b v == node v is not the first, and n nodes within the limit have room in b; RootArgs == what rootNode reads
+-- PairArgs n b v == node v is not the first, and n nodes within the limit have room in b
+-- RootArgs b v == what rootNode reads lies inside
 --
 -- On a right table within changes nothing (proofs/PairNodeLaws).
 -- Assumes nothing.

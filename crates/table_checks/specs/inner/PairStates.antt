@@ -2,12 +2,13 @@
 --
 -- rowOf, colOf == where the steps of the right and of the left child of inner node v begin in the inner states
 -- farEntry s b p j table base stride q == nearEntry (tables) taken on by the maps of node p and then of node j
--- rowsMatch == whether both children's maps are the steps to v (where the right child's jump is v), else the steps taken on by
---   the maps of v and of its jump
+-- rowsMatch == whether both children's maps are the steps to v (where the right child's jump is v), else the steps
+--   taken on by the maps of v and of its jump
 -- pairStates == whether inner node v's state and its children's maps follow from their neighbours'
 -- leafIs == whether v's size and state are a leaf's
 -- pairIs == whether pairNodes and pairStates hold
--- TableRoom == what the tests need: room, and every byte of the state table below s; NodeRoom == besides, v is not the first
+-- TableRoom == what the tests need: room, and every byte of the state table below s
+-- NodeRoom == besides, v is one of the n nodes and not the first
 -- FarEntryArgs, RowsArgs, StateIn == what the comparisons of rows and the reading of a state need
 --
 -- Assumes nothing.

@@ -1,8 +1,9 @@
 -- What the comparison of both tables by pairs needs, and what it tells.
 --
--- MatchArgs ks ls nodeTable lv inn s k m == parts of a plan and a rule table within the limits, and lent tables long enough
--- TablesTested s k lv inn ks ls nodeTable stateTable r == r is whether both buffers begin with the tables of the tree with kinds ks
---   and labels ls, whatever the marks are
+-- MatchArgs ks ls nodeTable lv inn s k m == parts of a plan and a rule table within the limits, and room in the lent
+--   tables, m bytes in the state table
+-- TablesTested s k lv inn ks ls nodeTable stateTable r == r is whether both buffers begin with the tables of the tree
+--   with kinds ks and labels ls, whatever the marks are
 --
 -- Assumes nothing.
 use Prim.Native.Nat.{ℕ, _≤_, _<_}

@@ -13,18 +13,21 @@ use Rattle.table_checks.proofs.blocks.block_match.Tie as tie
 returns : tie.Need-returns
 returns c =
     let b = c .before .before .before .before .list-block in
-    let g = c .before .before .before .before .before .before .before .before .before .before .before .before .before .args in
+    let d = c .before .before .before .before .before .before .before .before in
+    let g = d .before .before .before .before .before .args in
     block-no (g .kinds .now) (g .labels .now) (g .node-table .now) (g .leaves .now) (g .inner .now) (g .s) (g .k)
     (g .state-table .now) (g .b) (g .e)
     (subst
     (λ (r : Bool). Means r
-    (Leaves (g .kinds .now) (g .labels .now) (g .node-table .now) (g .leaves .now) (g .s) (g .state-table .now) (g .b) (g .e)))
+    (Leaves (g .kinds .now) (g .labels .now) (g .node-table .now) (g .leaves .now) (g .s) (g .state-table .now) (g .b)
+    (g .e)))
     (not-true (b .result .leaves) (c .if1 .taken)) (b .ensures .leaves))
 
 pairs-match-requires : tie.Need-pairs-match-requires
 pairs-match-requires c κs =
     let b = c .before .before .before .before .before .list-block in
-    let s = c .before .before .before .before .before .before .before .before .before .before .before .before .before .before in
+    let d = c .before .before .before .before .before .before .before .before in
+    let s = d .before .before .before .before .before .before in
     let L = b .ensures .listed in (
       record {
         table = s .pre .0 .table;
@@ -38,13 +41,16 @@ pairs-match-requires c κs =
 returns-2 : tie.Need-returns-2
 returns-2 c =
     let b = c .before .before .before .before .before .before .list-block in
-    let s = c .before .before .before .before .before .before .before .before .before .before .before .before .before .before .before in
+    let d = c .before .before .before .before .before .before .before .before in
+    let s = d .before .before .before .before .before .before .before in
     let g = s .args in
     block-told (g .kinds .now) (g .labels .now) (g .node-table .now) (g .leaves .now) (g .inner .now) (g .s) (g .k)
-    (g .state-table .now) (g .b) (g .e) (b .result .count) (b .last .1 .1 .1 .1 .1 .1 .1 .1 .1 .1 .0) (b .ensures .listed)
+    (g .state-table .now) (g .b) (g .e) (b .result .count) (b .last .1 .1 .1 .1 .1 .1 .1 .1 .1 .1 .0)
+    (b .ensures .listed)
     (subst
     (λ (r : Bool). Means r
-    (Leaves (g .kinds .now) (g .labels .now) (g .node-table .now) (g .leaves .now) (g .s) (g .state-table .now) (g .b) (g .e)))
+    (Leaves (g .kinds .now) (g .labels .now) (g .node-table .now) (g .leaves .now) (g .s) (g .state-table .now) (g .b)
+    (g .e)))
     (not-false (b .result .leaves) (c .before .before .if1 .left)) (b .ensures .leaves))
     (c .pairs-match .result) (c .pairs-match .ensures)
 

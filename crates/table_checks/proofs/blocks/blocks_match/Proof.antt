@@ -1,25 +1,21 @@
 -- `blocks::blocks_match` meets its contract.
 -- Assumes nothing.
-use mathlib.Core.Path.{refl, subst, _∙_}
+use mathlib.Core.Path.{refl, subst, _∙_, _≡_}
 use mathlib.Core.Bool.{Bool}
 use borrow.Author.Tests.{not-true, not-false}
 use Rattle.table_checks.specs.inner.Blocks.{Means, Nodes}
 use Rattle.table_checks.proofs.CheckLaws.{nodes-none, nodes-more, nodes-no, nodes-all}
 use Prim.Native.Nat.{_-_, _≤_}
-use mathlib.Core.Path.{_≡_}
 use lib.ListN.{length}
 use native.Mathlib.Omega.{arith}
 use borrow.Author.Needs.{needs}
 use Rattle.table_checks.proofs.blocks.blocks_match.Statement.{statement}
 use Rattle.table_checks.proofs.blocks.blocks_match.Tie as tie
-use Rattle.table_checks.proofs.blocks.blocks_match.Reads as reads
-use Rattle.table_checks.proofs.blocks.blocks_match.Lts as lts
-use Rattle.table_checks.proofs.blocks.block_end.Reads as block-end-reads
-use Rattle.table_checks.proofs.blocks.block_match.Reads as block-match-reads
 
 abbrev Inv-loop : tie.InvT-loop
 Inv-loop kinds labels nodeTable lengths leaves inner s k stateTable list₀ n b₀ list b =
-    (n ≡ length kinds) × (b ≤ n) × (length list ≡ length list₀) × Nodes kinds labels nodeTable leaves inner s k stateTable 0 b
+    (n ≡ length kinds) × (b ≤ n) × (length list ≡ length list₀)
+    × Nodes kinds labels nodeTable leaves inner s k stateTable 0 b
 
 abbrev μ-loop : tie.MeasureT-loop
 μ-loop kinds labels nodeTable lengths leaves inner s k stateTable list₀ n b₀ list b = n - b
@@ -27,8 +23,13 @@ abbrev μ-loop : tie.MeasureT-loop
 loop-holds : tie.Need-loop-holds Inv-loop μ-loop
 loop-holds c =
     let s = c .before .before .before .before .before .before .before in
-    let g = s .args in
-    (refl, omega arith, refl, nodes-none (g .kinds .now) (g .labels .now) (g .node-table .now) (g .leaves .now) (g .inner .now) (g .s) (g .k) (g .state-table .now))
+    let g = s .args in (
+      refl,
+      omega arith,
+      refl,
+      nodes-none (g .kinds .now) (g .labels .now) (g .node-table .now) (g .leaves .now)
+          (g .inner .now) (g .s) (g .k) (g .state-table .now),
+    )
 
 block-end-requires : tie.Need-block-end-requires Inv-loop μ-loop
 block-end-requires c κs = search needs
@@ -54,20 +55,25 @@ same-length c = search needs
 
 returns : tie.Need-returns Inv-loop μ-loop
 returns c =
-    let s = c .before .before .before .before .before .before .before .before .before .before .before .before .before .before .before in
+    let d = c .before .before .before .before .before .before .before .before in
+    let s = d .before .before .before .before .before .before .before in
     let g = s .args in
     let l = c .before .before .before .before .before .before .before .loop in
     let e = c .before .before .before .before .before .block-end in
     let m = c .before .before .before .block-match in
-    nodes-no (g .kinds .now) (g .labels .now) (g .node-table .now) (g .leaves .now) (g .inner .now) (g .s) (g .k) (g .state-table .now) (l .b) (e .result) (omega (arith, e .ensures .1, l .inv .0))
-    (subst (λ (r : Bool). Means r (Nodes (g .kinds .now) (g .labels .now) (g .node-table .now) (g .leaves .now) (g .inner .now) (g .s) (g .k) (g .state-table .now) (l .b) (e .result))) (not-true (m .result) (c .if1 .taken)) (m .ensures))
+    nodes-no (g .kinds .now) (g .labels .now) (g .node-table .now) (g .leaves .now) (g .inner .now) (g .s) (g .k)
+    (g .state-table .now) (l .b) (e .result) (omega (arith, e .ensures .1, l .inv .0))
+    (subst (λ (r : Bool). Means r (Nodes (g .kinds .now) (g .labels .now) (g .node-table .now) (g .leaves .now)
+    (g .inner .now) (g .s) (g .k) (g .state-table .now) (l .b) (e .result)))
+    (not-true (m .result) (c .if1 .taken)) (m .ensures))
 
 loop-less : tie.Need-loop-less Inv-loop μ-loop
 loop-less c = search needs
 
 loop-again : tie.Need-loop-again Inv-loop μ-loop
 loop-again c =
-    let s = c .before .before .before .before .before .before .before .before .before .before .before .before .before .before .before in
+    let d = c .before .before .before .before .before .before .before .before in
+    let s = d .before .before .before .before .before .before .before in
     let g = s .args in
     let l = c .before .before .before .before .before .before .before .loop in
     let e = c .before .before .before .before .before .block-end in
@@ -75,8 +81,11 @@ loop-again c =
       refl,
       omega (arith, e .ensures .1, l .inv .0),
       m .kept .1 .1 .1 .1 .1 .1 .1 .1 .1 .1 .1 .0 ∙ l .inv .2,
-      nodes-more (g .kinds .now) (g .labels .now) (g .node-table .now) (g .leaves .now) (g .inner .now) (g .s) (g .k) (g .state-table .now) (l .b) (e .result) (l .inv .3)
-          (subst (λ (r : Bool). Means r (Nodes (g .kinds .now) (g .labels .now) (g .node-table .now) (g .leaves .now) (g .inner .now) (g .s) (g .k) (g .state-table .now) (l .b) (e .result))) (not-false (m .result) (c .if1 .left)) (m .ensures)),
+      nodes-more (g .kinds .now) (g .labels .now) (g .node-table .now) (g .leaves .now) (g .inner .now) (g .s) (g .k)
+          (g .state-table .now) (l .b) (e .result) (l .inv .3)
+          (subst (λ (r : Bool). Means r (Nodes (g .kinds .now) (g .labels .now) (g .node-table .now) (g .leaves .now)
+          (g .inner .now) (g .s) (g .k) (g .state-table .now) (l .b) (e .result)))
+          (not-false (m .result) (c .if1 .left)) (m .ensures)),
     )
 
 same-length-2 : tie.Need-same-length-2 Inv-loop μ-loop
@@ -87,7 +96,8 @@ returns-2 c =
     let s = c .before .before .before .before .before .before .before .before .before in
     let g = s .args in
     let l = c .before .loop in
-    nodes-all (g .kinds .now) (g .labels .now) (g .node-table .now) (g .leaves .now) (g .inner .now) (g .s) (g .k) (g .state-table .now) (l .b) (omega (arith, l .inv .0, l .inv .1, c .loop-test .left)) (l .inv .3)
+    nodes-all (g .kinds .now) (g .labels .now) (g .node-table .now) (g .leaves .now) (g .inner .now) (g .s) (g .k)
+    (g .state-table .now) (l .b) (omega (arith, l .inv .0, l .inv .1, c .loop-test .left)) (l .inv .3)
 
 pub blocks-match-spec : {M : Type 1} → statement M
 blocks-match-spec =

@@ -1,4 +1,5 @@
--- `blocks::list_block` meets its contract. The loop's invariant: the inner nodes passed are listed, and the flag tests the leaves passed.
+-- `blocks::list_block` meets its contract. The loop's invariant: the inner nodes passed are listed, and the flag tests
+-- the leaves passed.
 -- Assumes nothing.
 use Prim.Native.Nat.{ℕ, _+_, _-_, _≤_}
 use mathlib.Core.Path.{_≡_, refl, subst, _∙_}
@@ -8,7 +9,8 @@ use borrow.Author.Needs.{needs}
 use Rattle.table_checks.specs.inner.PairStates.{leafIs}
 use Rattle.table_checks.specs.inner.Blocks.{Listed, Means, Leaves}
 use Rattle.table_checks.proofs.PairStateLaws.{row-room, row-small}
-use Rattle.table_checks.proofs.BlockLaws.{listed-start, listed-step, leaves-start, leaves-step, leaf-flag, inner-flag}
+use Rattle.table_checks.proofs.BlockLaws.{listed-start, listed-step, leaves-start, leaves-step, leaf-flag}
+use Rattle.table_checks.proofs.BlockLaws.{inner-flag}
 use Rattle.table_checks.proofs.blocks.list_block.Statement.{statement}
 use Rattle.table_checks.proofs.blocks.list_block.Tie as tie
 
@@ -28,7 +30,8 @@ loop-holds c =
       refl,
       refl,
       listed-start _ _ _,
-      leaves-start (g .kinds .now) (g .labels .now) (g .node-table .now) (g .leaves .now) (g .s) (g .state-table .now) (g .b),
+      leaves-start (g .kinds .now) (g .labels .now) (g .node-table .now) (g .leaves .now) (g .s) (g .state-table .now)
+          (g .b),
     )
 
 slice-write-list : tie.Need-slice-write-list Inv-loop μ-loop
@@ -84,11 +87,14 @@ loop-again c =
       listed-step (g .kinds .now) (g .b) (l .v) (l .c) (l .list) (l .inv .4)
           (omega (arith, l .inv .3, l .inv .4 .few, h, s .pre .fits)) (l .inv .0)
           (s .pre .kinds .small (l .v) (omega (arith, h, s .pre .inside))),
-      leaves-step (g .kinds .now) (g .labels .now) (g .node-table .now) (g .leaves .now) (g .s) (g .state-table .now) (g .b)
+      leaves-step (g .kinds .now) (g .labels .now) (g .node-table .now) (g .leaves .now) (g .s) (g .state-table .now)
+          (g .b)
           (l .v) (l .ok) _ (l .inv .0) (l .inv .5)
-          (leaf-flag (g .kinds .now) (g .labels .now) (g .node-table .now) (g .leaves .now) (g .s) (g .state-table .now) (g .b)
+          (leaf-flag (g .kinds .now) (g .labels .now) (g .node-table .now) (g .leaves .now) (g .s)
+          (g .state-table .now) (g .b)
           (l .v))
-          (inner-flag (g .kinds .now) (g .labels .now) (g .node-table .now) (g .leaves .now) (g .s) (g .state-table .now) (g .b)
+          (inner-flag (g .kinds .now) (g .labels .now) (g .node-table .now) (g .leaves .now) (g .s)
+          (g .state-table .now) (g .b)
           (l .v) _),
     )
 
@@ -102,7 +108,8 @@ returns c =
       leaves =
           subst
           (λ (x : ℕ). Means (l .ok)
-          (Leaves (g .kinds .now) (g .labels .now) (g .node-table .now) (g .leaves .now) (g .s) (g .state-table .now) (g .b) x))
+          (Leaves (g .kinds .now) (g .labels .now) (g .node-table .now) (g .leaves .now) (g .s) (g .state-table .now)
+          (g .b) x))
           z (l .inv .5);
     }
 

@@ -12,10 +12,6 @@ use native.Mathlib.Omega.{arith}
 use borrow.Author.Needs.{needs}
 use Rattle.table_checks.proofs.blocks.pairs_match.Statement.{statement}
 use Rattle.table_checks.proofs.blocks.pairs_match.Tie as tie
-use Rattle.table_checks.proofs.blocks.pairs_match.Reads as reads
-use Rattle.table_checks.proofs.blocks.pairs_match.Lts as lts
-use Rattle.table_checks.proofs.rows.pair_differences.Reads as pair-differences-reads
-use Rattle.table_checks.proofs.siblings.pair_nodes_match.Reads as pair-nodes-match-reads
 
 abbrev Inv-loop : tie.InvT-loop
 Inv-loop labels nodeTable lengths leaves inner s k n stateTable list c ok₀ bad₀ i₀ ok bad i =
@@ -41,8 +37,7 @@ pair-nodes-match-requires : tie.Need-pair-nodes-match-requires Inv-loop μ-loop
 pair-nodes-match-requires c κs =
     let s = c .before .before .before .before .before .before .before .before .before in
     let i = c .before .before .loop .i in
-    let h = c .before .loop-test .taken in
-    (
+    let h = c .before .loop-test .taken in (
       record {
         pos = s .pre .0 .pos i h;
         inside = s .pre .0 .inside i h;
@@ -70,18 +65,21 @@ unfolding pairIs
 loop-again c =
     let g = c .before .before .before .before .before .before .before .before .before .before .before .args in
     let l = c .before .before .before .before .loop in
-    let f : ℕ → Bool = (λ x. pairIs (g .labels .now) (g .node-table .now) (g .inner .now) (g .s) (g .k) (g .n) (g .state-table .now) (getD (g .list .now) x 0)) in
+    let f : ℕ → Bool = (λ x. pairIs (g .labels .now) (g .node-table .now) (g .inner .now) (g .s) (g .k) (g .n)
+    (g .state-table .now) (getD (g .list .now) x 0)) in
     let e : (c .before .pair-nodes-match .result && eqb (c .pair-differences .result) 0) ≡ f (l .i) =
     rw (c .before .pair-nodes-match .ensures, c .pair-differences .ensures) in (
       omega (arith, c .before .before .before .loop-test .taken),
-      both-more (l .i) f (l .ok) (c .before .pair-nodes-match .result) (l .bad) (c .pair-differences .result) (l .inv .1) e,
+      both-more (l .i) f (l .ok) (c .before .pair-nodes-match .result) (l .bad) (c .pair-differences .result)
+          (l .inv .1) e,
     )
 
 returns : tie.Need-returns Inv-loop μ-loop
 returns c =
     let g = c .before .before .before .before .before .before .before .before .args in
     let l = c .before .loop in
-    let f : ℕ → Bool = (λ x. pairIs (g .labels .now) (g .node-table .now) (g .inner .now) (g .s) (g .k) (g .n) (g .state-table .now) (getD (g .list .now) x 0)) in
+    let f : ℕ → Bool = (λ x. pairIs (g .labels .now) (g .node-table .now) (g .inner .now) (g .s) (g .k) (g .n)
+    (g .state-table .now) (getD (g .list .now) x 0)) in
     let z : l .i ≡ g .c = omega (arith, l .inv .0, c .loop-test .left) in
     l .inv .1 ∙ ap (λ (x : ℕ). every x f) z
 

@@ -26,7 +26,8 @@ passes : (c : tie.Else1)
     PlanPasses (g .plan .now) × RulesPass (g .rules .now))
 passes c =
     let g = c .before .before .before .before .before .before .args in
-    let a = build-passes (g .plan .now) (g .rules .now) (length (g .node-table .now)) (length (g .state-table .now)) (ok c) in
+    let a = build-passes (g .plan .now) (g .rules .now) (length (g .node-table .now)) (length (g .state-table .now))
+    (ok c) in
     (a .0, a .1)
 
 returns : tie.Need-returns
@@ -34,7 +35,8 @@ returns c =
     let g = c .before .before .before .before .before .before .args in
     let r = c .before .check-build in
     check-refused (buildNumber (g .plan .now) (g .rules .now) (g .node-table .now) (g .state-table .now))
-    (builtNodeTable (g .plan .now)) (builtStateTable (g .plan .now) (g .rules .now)) (g .node-table .now) (g .state-table .now)
+    (builtNodeTable (g .plan .now)) (builtStateTable (g .plan .now) (g .rules .now)) (g .node-table .now)
+    (g .state-table .now)
     (r .result) (r .ensures) (c .if1 .taken)
 
 read32-requires : tie.Need-read32-requires
@@ -59,7 +61,8 @@ returns-2 c =
     let g = c .before .before .before .before .before .before .before .before .before .before .before .args in
     let r = c .before .both-match in
     check-matches (buildNumber (g .plan .now) (g .rules .now) (g .node-table .now) (g .state-table .now))
-    (builtNodeTable (g .plan .now)) (builtStateTable (g .plan .now) (g .rules .now)) (g .node-table .now) (g .state-table .now)
+    (builtNodeTable (g .plan .now)) (builtStateTable (g .plan .now) (g .rules .now)) (g .node-table .now)
+    (g .state-table .now)
     (ok (c .before .before .before .before .before)) (r .result) (r .ensures) (c .if2 .taken)
 
 returns-3 : tie.Need-returns-3
@@ -67,7 +70,8 @@ returns-3 c =
     let g = c .before .before .before .before .before .before .before .before .before .before .before .args in
     let r = c .before .both-match in
     check-differs (buildNumber (g .plan .now) (g .rules .now) (g .node-table .now) (g .state-table .now))
-    (builtNodeTable (g .plan .now)) (builtStateTable (g .plan .now) (g .rules .now)) (g .node-table .now) (g .state-table .now)
+    (builtNodeTable (g .plan .now)) (builtStateTable (g .plan .now) (g .rules .now)) (g .node-table .now)
+    (g .state-table .now)
     (ok (c .before .before .before .before .before)) (r .result) (r .ensures) (c .if2 .left)
 
 pub check-tables-spec : {M : Type 1} → statement M

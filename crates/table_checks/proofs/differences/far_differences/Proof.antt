@@ -1,4 +1,5 @@
--- `differ::far_differences` meets its contract. The loop's invariant: the byte is 0 exactly where the entries passed are the same.
+-- `differ::far_differences` meets its contract. The loop's invariant: the byte is 0 exactly where the entries passed
+-- are the same.
 -- Assumes nothing.
 use Prim.Native.Nat.{ℕ, _≤_, _-_}
 use mathlib.Core.Path.{_≡_, refl}
@@ -14,7 +15,8 @@ use Rattle.table_checks.proofs.differences.far_differences.Tie as tie
 
 abbrev Inv-loop : tie.InvT-loop
 Inv-loop stateTable s v p j table base stride at first second bad₀ q₀ bad q =
-    (q ≤ s) × (eqb bad 0 ≡ every q (λ x. eqb (mapCell s stateTable v x) (farEntry s stateTable p j table base stride x)))
+    (q ≤ s) × (eqb bad 0 ≡ every q (λ x. eqb (mapCell s stateTable v x)
+    (farEntry s stateTable p j table base stride x)))
 
 abbrev μ-loop : tie.MeasureT-loop
 μ-loop stateTable s v p j table base stride at first second bad₀ q₀ bad q = s - q

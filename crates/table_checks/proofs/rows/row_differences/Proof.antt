@@ -12,12 +12,6 @@ use native.Mathlib.Omega.{arith}
 use borrow.Author.Needs.{needs}
 use Rattle.table_checks.proofs.rows.row_differences.Statement.{statement}
 use Rattle.table_checks.proofs.rows.row_differences.Tie as tie
-use Rattle.table_checks.proofs.rows.row_differences.Reads as reads
-use Rattle.table_checks.proofs.rows.row_differences.Lts as lts
-use Rattle.table_checks.proofs.differences.far_differences.Reads as far-differences-reads
-use Rattle.table_checks.proofs.differences.near_differences.Reads as near-differences-reads
-use Rattle.table_checks.proofs.differences.near_differences16.Reads as near-differences16-reads
-use Rattle.table_checks.proofs.siblings.inside.Reads as inside-reads
 
 near-differences16-requires : tie.Need-near-differences16-requires
 near-differences16-requires c κs =
@@ -39,22 +33,32 @@ returns c =
     let g = s .args in
     let e = sym (c .before .before .if2 .taken) in
     or-test (c .before .near-differences16 .result) (c .near-differences162 .result)
-    ∙ rows-near (g .node-table .now) (g .inner .now) (g .s) (g .n) (g .state-table .now) (g .v) (g .left) (g .row) (g .col) (g .step)
-    (c .before .before .before .if1 .taken) (eqb (c .before .near-differences16 .result) 0) (eqb (c .near-differences162 .result) 0)
-    (c .before .near-differences16 .ensures ∙ ap (λ (x : ℕ). rowIs x (g .state-table .now) (g .v - 1) (nearEntry (g .inner .now) (g .row) 1)) e)
-    (c .near-differences162 .ensures ∙ ap (λ (x : ℕ). rowIs x (g .state-table .now) (g .left) (nearEntry (g .inner .now) (g .col) (g .step))) e)
+    ∙ rows-near (g .node-table .now) (g .inner .now) (g .s) (g .n) (g .state-table .now) (g .v) (g .left) (g .row)
+    (g .col) (g .step)
+    (c .before .before .before .if1 .taken) (eqb (c .before .near-differences16 .result) 0)
+    (eqb (c .near-differences162 .result) 0)
+    (c .before .near-differences16 .ensures
+    ∙ ap (λ (x : ℕ). rowIs x (g .state-table .now) (g .v - 1) (nearEntry (g .inner .now) (g .row) 1)) e)
+    (c .near-differences162 .ensures
+    ∙ ap (λ (x : ℕ). rowIs x (g .state-table .now) (g .left) (nearEntry (g .inner .now) (g .col) (g .step))) e)
 
 returns-2 : tie.Need-returns-2
 returns-2 c =
     let s = c .before .before .before .before .before .before .before .before in
     let g = s .args in
     or-test (c .before .near-differences .result) (c .near-differences2 .result)
-    ∙ rows-near (g .node-table .now) (g .inner .now) (g .s) (g .n) (g .state-table .now) (g .v) (g .left) (g .row) (g .col) (g .step)
-    (c .before .before .before .if1 .taken) (eqb (c .before .near-differences .result) 0) (eqb (c .near-differences2 .result) 0) (c .before .near-differences .ensures)
+    ∙ rows-near (g .node-table .now) (g .inner .now) (g .s) (g .n) (g .state-table .now) (g .v) (g .left) (g .row)
+    (g .col) (g .step)
+    (c .before .before .before .if1 .taken) (eqb (c .before .near-differences .result) 0)
+    (eqb (c .near-differences2 .result) 0) (c .before .near-differences .ensures)
     (c .near-differences2 .ensures)
 
 cast-inside : tie.Need-cast-inside
-cast-inside c = omega (arith, c .shared-slice-known5 .given (c .before .before .before .before .before .before .args .v * 4 + 1))
+cast-inside c = omega (
+  arith,
+  c .shared-slice-known5 .given
+      (c .before .before .before .before .before .before .args .v * 4 + 1),
+)
 
 far-differences-requires : tie.Need-far-differences-requires
 far-differences-requires c κs =
@@ -75,8 +79,10 @@ returns-3 c =
     let s = c .before .before .before .before .before .before .before .before .before in
     let g = s .args in
     or-test (c .before .far-differences .result) (c .far-differences2 .result)
-    ∙ rows-far (g .node-table .now) (g .inner .now) (g .s) (g .n) (g .state-table .now) (g .v) (g .left) (g .row) (g .col) (g .step)
-    (c .before .before .before .before .if1 .left) (c .before .before .inside .result) (c .before .before .inside .ensures .0) (eqb (c .before .far-differences .result) 0)
+    ∙ rows-far (g .node-table .now) (g .inner .now) (g .s) (g .n) (g .state-table .now) (g .v) (g .left) (g .row)
+    (g .col) (g .step)
+    (c .before .before .before .before .if1 .left) (c .before .before .inside .result)
+    (c .before .before .inside .ensures .0) (eqb (c .before .far-differences .result) 0)
     (eqb (c .far-differences2 .result) 0) (c .before .far-differences .ensures) (c .far-differences2 .ensures)
 
 pub row-differences-spec : {M : Type 1} → statement M

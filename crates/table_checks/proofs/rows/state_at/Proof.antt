@@ -6,8 +6,6 @@ use native.Mathlib.Omega.{arith}
 use borrow.Author.Needs.{needs}
 use Rattle.table_checks.proofs.rows.state_at.Statement.{statement}
 use Rattle.table_checks.proofs.rows.state_at.Tie as tie
-use Rattle.table_checks.proofs.rows.state_at.Reads as reads
-use Rattle.table_checks.proofs.rows.state_at.Lts as lts
 
 add-result : tie.Need-add-result
 add-result c = search needs

@@ -1,12 +1,8 @@
 -- `siblings::inside` meets its contract.
 -- Assumes nothing.
 use borrow.Author.Tests.{lt-ltb, le-ltb}
-use native.Mathlib.Omega.{arith}
-use borrow.Author.Needs.{needs}
 use Rattle.table_checks.proofs.siblings.inside.Statement.{statement}
 use Rattle.table_checks.proofs.siblings.inside.Tie as tie
-use Rattle.table_checks.proofs.siblings.inside.Reads as reads
-use Rattle.table_checks.proofs.siblings.inside.Lts as lts
 
 returns : tie.Need-returns
 returns c = (simp (lt-ltb _ _ (c .if1 .taken)), c .if1 .taken)

@@ -5,8 +5,6 @@ use native.Mathlib.Omega.{arith}
 use borrow.Author.Needs.{needs}
 use Rattle.table_checks.proofs.siblings.left_in.Statement.{statement}
 use Rattle.table_checks.proofs.siblings.left_in.Tie as tie
-use Rattle.table_checks.proofs.siblings.left_in.Reads as reads
-use Rattle.table_checks.proofs.siblings.left_in.Lts as lts
 
 cast-size : tie.Need-cast-size
 cast-size c = omega (arith, c .shared-slice-known .given ((c .before .args .v - 1) * 4 + 3))

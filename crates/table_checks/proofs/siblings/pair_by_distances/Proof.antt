@@ -6,9 +6,6 @@ use native.Mathlib.Omega.{arith}
 use borrow.Author.Needs.{needs}
 use Rattle.table_checks.proofs.siblings.pair_by_distances.Statement.{statement}
 use Rattle.table_checks.proofs.siblings.pair_by_distances.Tie as tie
-use Rattle.table_checks.proofs.siblings.pair_by_distances.Reads as reads
-use Rattle.table_checks.proofs.siblings.pair_by_distances.Lts as lts
-use Rattle.table_checks.proofs.siblings.inside.Reads as inside-reads
 
 cast-inside : tie.Need-cast-inside
 cast-inside c = omega (arith, c .shared-slice-known2 .given (c .before .before .args .v * 4 + 1))
@@ -17,7 +14,11 @@ cast-inside-2 : tie.Need-cast-inside-2
 cast-inside-2 c = omega (arith, c .shared-slice-known3 .given (c .before .inside .result * 4 + 1))
 
 cast-d : tie.Need-cast-d
-cast-d c = omega (arith, c .shared-slice-known4 .given (c .before .before .before .before .before .before .args .v * 4 + 2))
+cast-d c = omega (
+  arith,
+  c .shared-slice-known4 .given
+      (c .before .before .before .before .before .before .args .v * 4 + 2),
+)
 
 cast-e : tie.Need-cast-e
 cast-e c = omega (arith, c .shared-slice-known5 .given (c .before .before .before .before .inside .result * 4 + 2))
@@ -26,10 +27,19 @@ cast-f : tie.Need-cast-f
 cast-f c = omega (arith, c .shared-slice-known6 .given (c .before .before .before .inside2 .result * 4 + 2))
 
 add-if1 : tie.Need-add-if1
-add-if1 c = omega (arith, c .shared-slice-known6 .given (c .before .before .before .inside2 .result * 4 + 2), c .before .before .shared-slice-known4 .given (c .before .before .before .before .before .before .before .before .args .v * 4 + 2))
+add-if1 c = omega (
+  arith,
+  c .shared-slice-known6 .given (c .before .before .before .inside2 .result * 4 + 2),
+  c .before .before .shared-slice-known4 .given
+      (c .before .before .before .before .before .before .before .before .args .v * 4 + 2),
+)
 
 add-if1-2 : tie.Need-add-if1-2
-add-if1-2 c = omega (arith, c .before .shared-slice-known5 .given (c .before .before .before .before .before .inside .result * 4 + 2))
+add-if1-2 c = omega (
+  arith,
+  c .before .shared-slice-known5 .given
+      (c .before .before .before .before .before .inside .result * 4 + 2),
+)
 
 returns : tie.Need-returns
 returns c =

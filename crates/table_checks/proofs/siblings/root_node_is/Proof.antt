@@ -2,12 +2,9 @@
 -- Assumes nothing.
 use mathlib.Core.Path.{refl}
 use Rattle.table_checks.specs.inner.PairNodes.{rootNode}
-use native.Mathlib.Omega.{arith}
 use borrow.Author.Needs.{needs}
 use Rattle.table_checks.proofs.siblings.root_node_is.Statement.{statement}
 use Rattle.table_checks.proofs.siblings.root_node_is.Tie as tie
-use Rattle.table_checks.proofs.siblings.root_node_is.Reads as reads
-use Rattle.table_checks.proofs.siblings.root_node_is.Lts as lts
 
 returns : tie.Need-returns
 unfolding rootNode
