@@ -1,9 +1,10 @@
 //! The full check of rule tables in the fastest scalar form known without `unsafe`: every test of two children is made at their
 //! parent; inner nodes of a block are listed without a branch on the kind; differences are or-ed, and tested once a block; what
-//! leads outside is clamped, since another test then fails anyway. For 2 and 16 states the rows' lengths are constants.
+//! leads outside is clamped, since another test then fails anyway. For 2, 4, 8 and 16 states a row's length is a constant, and a
+//! state, which is known to be below it, is taken by the mask, so that no lookup in a row is tested.
 //!
-//! What Rust without `unsafe` cannot drop here are the tests of indices: one for a node's four numbers and one for a map, one for
-//! each lookup of a far map, a state and a rule.
+//! What Rust without `unsafe` cannot drop here are the tests of the other indices: one for a node's four numbers, for each row,
+//! for each state and for each entry of a left child's step (a column of the rules).
 
 use crate::checks::{all_below, Plan, Rules};
 use crate::node_tables::{self, DEPTH, JUMP, SIZE};
@@ -18,14 +19,33 @@ pub fn matches(plan: &Plan, rules: &Rules, node_table: &[u16], state_table: &[u8
         return false;
     }
     match s {
-        2 => blocks(2, plan, rules, node_table, state_table),
-        16 => blocks(16, plan, rules, node_table, state_table),
-        _ => blocks(s, plan, rules, node_table, state_table),
+        2 => blocks(2, plan, rules, node_table, state_table, constant_rows::<2>),
+        4 => blocks(4, plan, rules, node_table, state_table, constant_rows::<4>),
+        8 => blocks(8, plan, rules, node_table, state_table, constant_rows::<8>),
+        16 => blocks(16, plan, rules, node_table, state_table, constant_rows::<16>),
+        _ => blocks(s, plan, rules, node_table, state_table, rows),
     }
 }
 
+/// The two maps of a pair and where their steps begin; the maps of the parent and of its jump where the children's jump is far.
+struct Maps<'a> {
+    right: &'a [u8],
+    left: &'a [u8],
+    of_right: &'a [u8],
+    of_left: &'a [u8],
+    stride: usize,
+    far: Option<(&'a [u8], &'a [u8])>,
+}
+
 #[inline(always)]
-fn blocks(s: usize, plan: &Plan, rules: &Rules, node_table: &[u16], state_table: &[u8]) -> bool {
+fn blocks(
+    s: usize,
+    plan: &Plan,
+    rules: &Rules,
+    node_table: &[u16],
+    state_table: &[u8],
+    rows_differ: impl Fn(Maps) -> u8,
+) -> bool {
     let (row, n) = (s + 1, plan.n);
     let (kinds, labels) = (&plan.kinds[..n], &plan.labels[..n]);
     let (node_table, state_table) = (&node_table[..4 * n], &state_table[..row * n]);
@@ -43,7 +63,7 @@ fn blocks(s: usize, plan: &Plan, rules: &Rules, node_table: &[u16], state_table:
         for &v in &list[..count] {
             let v = v as usize;
             bad |= numbers_differ(node_table, n, v);
-            differences |= pair(s, rules, labels[v] as usize, node_table, state_table, v);
+            differences |= pair(s, rules, labels[v] as usize, node_table, state_table, v, &rows_differ);
         }
         if bad || differences != 0 {
             return false;
@@ -92,24 +112,70 @@ fn numbers_differ(node_table: &[u16], n: usize, v: usize) -> bool {
 }
 
 #[inline(always)]
-fn pair(s: usize, rules: &Rules, a: usize, node_table: &[u16], state_table: &[u8], v: usize) -> u8 {
+fn pair(
+    s: usize,
+    rules: &Rules,
+    a: usize,
+    node_table: &[u16],
+    state_table: &[u8],
+    v: usize,
+    rows_differ: &impl Fn(Maps) -> u8,
+) -> u8 {
     let (row, n, right) = (s + 1, node_table.len() / 4, v - 1);
     let left = left_of(right, node_table[4 * right + SIZE]);
     let map = |u: usize| &state_table[row * u + 1..row * u + 1 + s];
     let (p, q) = (state_table[row * left] as usize, state_table[row * right] as usize);
-    let (of_right, of_left) = (&rules.inner[(p * rules.k + a) * s..][..s], &rules.inner[a * s + q..]);
-    let stride = rules.k * s;
-    let mut bad = of_right[q] ^ state_table[row * v];
-    let (right_map, left_map) = (map(right), map(left));
-    if node_table[4 * right + JUMP] as usize == v {
-        for i in 0..s {
-            bad |= (right_map[i] ^ of_right[i]) | (left_map[i] ^ of_left[i * stride]);
+    let of_right = &rules.inner[(p * rules.k + a) * s..][..s];
+    let near = node_table[4 * right + JUMP] as usize == v;
+    let rows = rows_differ(Maps {
+        right: map(right),
+        left: map(left),
+        of_right,
+        of_left: &rules.inner[a * s + q..],
+        stride: rules.k * s,
+        far: if near { None } else { Some((map(v), map(inside(node_table[4 * v + JUMP], n)))) },
+    });
+    rows | (of_right[q] ^ state_table[row * v])
+}
+
+#[inline(always)]
+fn rows(maps: Maps) -> u8 {
+    let mut bad = 0;
+    for (i, (x, y)) in maps.right.iter().zip(maps.left).enumerate() {
+        let (p, q) = (maps.of_right[i], maps.of_left[i * maps.stride]);
+        bad |= match maps.far {
+            None => (x ^ p) | (y ^ q),
+            Some((first, second)) => {
+                (x ^ second[first[p as usize] as usize]) | (y ^ second[first[q as usize] as usize])
+            }
+        };
+    }
+    bad
+}
+
+#[inline(always)]
+fn row<const S: usize>(r: &[u8]) -> &[u8; S] {
+    r.try_into().unwrap()
+}
+
+/// For S a power of 2.
+#[inline(always)]
+fn constant_rows<const S: usize>(maps: Maps) -> u8 {
+    let (right, left, of_right) = (row::<S>(maps.right), row::<S>(maps.left), row::<S>(maps.of_right));
+    let of_left = &maps.of_left[..(S - 1) * maps.stride + 1];
+    let mut bad = 0;
+    match maps.far {
+        None => {
+            for i in 0..S {
+                bad |= (right[i] ^ of_right[i]) | (left[i] ^ of_left[i * maps.stride]);
+            }
         }
-    } else {
-        let (of_v, of_j) = (map(v), map(inside(node_table[4 * v + JUMP], n)));
-        let on = |x: u8| of_j[of_v[x as usize] as usize];
-        for i in 0..s {
-            bad |= (right_map[i] ^ on(of_right[i])) | (left_map[i] ^ on(of_left[i * stride]));
+        Some((first, second)) => {
+            let (first, second) = (row::<S>(first), row::<S>(second));
+            let on = |x: u8| second[first[x as usize % S] as usize % S];
+            for i in 0..S {
+                bad |= (right[i] ^ on(of_right[i])) | (left[i] ^ on(of_left[i * maps.stride]));
+            }
         }
     }
     bad
