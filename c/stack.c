@@ -73,7 +73,7 @@ static const struct call {
     size_t most;
 } calls[] = {
     {"build", build, 3072},
-    {"check", check, 3072},
+    {"check", check, 6 * 1024},
     {"fresh run", fresh_run, 40 * 1024},
     {"load", load, 4096},
     {"start", start, 7 * 1024},

@@ -1,19 +1,11 @@
 // The pass down: the depth and the jump of each node, from its parent's.
+use crate::jump_lengths::by_length;
 use crate::jump_lengths::jump_length;
 ghost use mathlib.Core.Path.{_≡_};
-ghost use mathlib.Core.Bool.{cond};
-ghost use lib.Dec.{eqb};
 ghost use Rattle.trees.specs.Tree.{Tree};
 ghost use Rattle.node_tables.specs.NodeCells.{Parents, DownWritten};
 ghost use Rattle.node_tables.specs.JumpLengths.{jumpLengths};
 ghost use Rattle.node_tables.specs.inner.DownPass.{byDistances, childJump, nodeIteration, JumpArgs, NodeArgs, DownArgs};
-
-// Of the two jumps that a child of node p may have, the one of this length: 1 is to the parent, any other to the jump of its jump.
-fn by_length(length: u16, near: u16, far: u16) -> u16
-    ensures { λ r. ⌜ r ≡ cond (eqb length 1) near far ⌝ }
-{
-    if length == 1 { near } else { far }
-}
 
 // The jump of a child of node p, by the two distances: d - e is e - f where d + f is 2 e.
 fn by_distances(node_table: &[u16], p: usize) -> u16

@@ -1,7 +1,9 @@
 // The lengths of the jumps by depth: the constant table, and its lookup.
 // "For depths below 1,024 the jump's length shall come from a constant table of 1,024 numbers" (document 02).
 ghost use mathlib.Core.Path.{_≡_};
+ghost use mathlib.Core.Bool.{cond};
 ghost use Prim.Native.Nat.{_<_};
+ghost use lib.Dec.{eqb};
 ghost use lib.ListN.{getD};
 ghost use Rattle.node_tables.specs.JumpLengths.{jumpLengths};
 
@@ -1046,4 +1048,11 @@ pub fn jump_length(lengths: &[u16; 1024], d: usize) -> u16
     ensures { λ r. ⌜ r ≡ getD jumpLengths d 0 ⌝ }
 {
     lengths[d]
+}
+
+// Of the two jumps that a child of node p may have, the one of this length: 1 is to the parent, any other to the jump of its jump.
+pub fn by_length(length: u16, near: u16, far: u16) -> u16
+    ensures { λ r. ⌜ r ≡ cond (eqb length 1) near far ⌝ }
+{
+    if length == 1 { near } else { far }
 }

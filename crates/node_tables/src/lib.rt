@@ -2,6 +2,6 @@
 pub mod build;
 pub mod check;
 mod down;
-mod jump_lengths;
+pub mod jump_lengths;
 pub mod moves;
 mod up;

@@ -1,8 +1,8 @@
 // Start's 18: whether what is lent is sound for the record's N, S and K. The full check takes N, S and K from the headers, so the headers
 // are asked first.
 use formats::bytes::read32;
+use table_checks::check::check_tables;
 use tables::answers::Checking;
-use tables::check::check_tables;
 ghost use mathlib.Core.Path.{_≡_};
 ghost use Rattle.formats.specs.Inputs.{inputsOf, sound};
 ghost use Rattle.session.specs.inner.Shapes.{HeaderArgs, sizesBy};

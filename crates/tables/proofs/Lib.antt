@@ -1,12 +1,5 @@
 pub mod CompareLaws
 pub mod TableTestLaws
-pub mod LocalLaws
-pub mod CheckLaws
-pub mod CheckStateLoop
-pub mod CheckMapLoop
-pub mod CheckMapPlaces
-pub mod CheckTableLoop
-pub mod CheckBothLoop
 pub mod CheckAnswers
 pub mod CheckTheorems
 pub mod MapRowLaws

@@ -1,6 +1,4 @@
 pub mod Compare
-pub mod Compared
-pub mod LocalTables
 pub mod MapTable
 pub mod Maps
 pub mod PathViews

@@ -2,7 +2,7 @@
 ghost use mathlib.Core.Path.{_≡_};
 ghost use lib.ListN.{length};
 ghost use Rattle.tables.specs.inner.Rows.{RowIn, NearArgs};
-ghost use Rattle.tables.specs.inner.Compare.{rowIs, nearEntry, farEntry, FarIsArgs};
+ghost use Rattle.tables.specs.inner.Compare.{rowIs, nearEntry};
 
 // Whether node v's map is the identity, as the root's has to be.
 pub fn root_row_is(state_table: &[u8], s: usize, v: usize) -> bool
@@ -40,39 +40,6 @@ pub fn near_row_is(
     while q < s {
         let x = state_table[at + (1 + q)];
         let y = table[base + q * stride];
-        if x != y {
-            same = false;
-        }
-        q += 1;
-    }
-    same
-}
-
-// Whether node v's map has those values taken on by the maps of nodes p and j.
-pub fn far_row_is(
-    state_table: &[u8],
-    s: usize,
-    v: usize,
-    p: usize,
-    j: usize,
-    table: &[u8],
-    base: usize,
-    stride: usize,
-) -> bool
-    requires { ⌜ FarIsArgs s (now «state_table») v p j (now table) base stride ⌝ }
-    ensures { λ r. ⌜ r ≡ rowIs s (now («state_table» .entry)) v
-        (farEntry s (now («state_table» .entry)) p j (now (table .entry)) base stride) ⌝ }
-{
-    let at = v * (s + 1);
-    let first = p * (s + 1);
-    let second = j * (s + 1);
-    let mut same = true;
-    let mut q = 0;
-    while q < s {
-        let x = state_table[at + (1 + q)];
-        let near = table[base + q * stride] as usize;
-        let next = state_table[first + (1 + near)] as usize;
-        let y = state_table[second + (1 + next)];
         if x != y {
             same = false;
         }

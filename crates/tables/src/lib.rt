@@ -1,11 +1,8 @@
-// Tables for rule tables: their build, their full check, and what branch tables share with them; and the climbs: with a
-// state over a rule table (climb), with a map over a branch table (branch_climb).
+// Tables for rule tables: their build, and what branch tables share with them; and the climbs: with a state over a rule
+// table (climb), with a map over a branch table (branch_climb). Not here: the full check (table_checks).
 pub mod answers;
 pub mod branch_climb;
 pub mod build;
-pub mod check;
-mod check_maps;
-mod check_states;
 pub mod climb;
 pub mod compare;
 pub mod lookups;

@@ -37,22 +37,20 @@ pub fn plan(bytes: &[u8]) -> Result<Plan<'_>, u32> {
         return Err(4);
     }
     let (labels, kinds) = bytes[12..].split_at(n);
-    let mut waiting = 0usize;
+    // no branch on the kind, and no early end: a leaf adds a tree that waits, an inner node takes two and adds one
+    let (mut waiting, mut fits) = (0i32, true);
     for &kind in kinds {
-        match kind {
-            0 => waiting += 1,
-            1 if waiting >= 2 => waiting -= 1,
-            _ => return Err(5),
-        }
+        waiting += 1 - 2 * i32::from(kind);
+        fits &= (kind <= 1) & (waiting >= 1);
     }
-    if waiting != 1 {
+    if !fits || waiting != 1 {
         return Err(5);
     }
     Ok(Plan { n, labels, kinds })
 }
 
 /// No early end, so that many bytes are tested at a time.
-fn all_below(bytes: &[u8], bound: usize) -> bool {
+pub fn all_below(bytes: &[u8], bound: usize) -> bool {
     bytes.iter().fold(true, |ok, &b| ok & (b < bound as u8))
 }
 

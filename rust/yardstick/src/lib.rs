@@ -1,7 +1,8 @@
 //! The what-if checker as one would write it in plain fast Rust: the yardstick of the bench.
 //!
-//! Order: `checks` (2 to 11 and the parts of the lent bytes), `node_tables` (parents, jumps, depths, sizes), `rules` and `branch` (the
-//! bytes, full checks, branch questions), `fresh`, `merge` and `agree` (two rule tables), `planner` (the planner's files);
+//! Order: `checks` (2 to 11 and the parts of the lent bytes), `node_tables` (parents, jumps, depths, sizes), `rules`, `full_check`
+//! and `branch` (the bytes, full checks, branch questions), `fresh`, `merge` and `agree` (two rule tables), `planner` (the
+//! planner's files);
 //! `record` (the session's bytes), `question` (roots and parts),
 //! `layers` (both alone), `session` (the five calls on bytes), `place` (the session as a struct). Each call gives the
 //! same answers as the library's; the comparison tests hold it to the reference implementation as well.
@@ -11,6 +12,7 @@ mod agree;
 mod branch;
 mod checks;
 mod fresh;
+mod full_check;
 pub mod layers;
 mod merge;
 mod node_tables;

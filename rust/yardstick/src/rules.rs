@@ -1,6 +1,8 @@
-//! Build and full check of rule tables: one pass up (sizes, parents, run states), one pass down (depths, jumps, maps).
+//! Build of rule tables: one pass up (sizes, parents, run states), one pass down (depths, jumps, maps). And their full check
+//! (`full_check`) after checks 2 to 11.
 
 use crate::checks::{self, Plan, Rules};
+use crate::full_check;
 use crate::node_tables::{self, DEPTH, JUMP, PARENT, SIZE};
 
 pub fn build(plan: &[u8], rules: &[u8], node_table: &mut [u16], state_table: &mut [u8]) -> Result<(), u32> {
@@ -96,56 +98,5 @@ pub fn check(plan: &[u8], rules: &[u8], node_table: &[u16], state_table: &[u8]) 
     checks::buffers(plan.n, rules.s, node_table.len(), state_table.len())?;
     let row = rules.s + 1;
     let (node_table, state_table) = (&node_table[..4 * plan.n], &state_table[..row * plan.n]);
-    Ok(checked_up(&plan, &rules, node_table, state_table) && checked_down(&plan, &rules, node_table, state_table))
-}
-
-fn checked_up(plan: &Plan, rules: &Rules, node_table: &[u16], state_table: &[u8]) -> bool {
-    let row = rules.s + 1;
-    for v in 0..plan.n {
-        let a = plan.labels[v] as usize;
-        let (size, state) = if plan.kinds[v] == 0 {
-            (1, rules.leaf[a])
-        } else {
-            let (l, r) = node_tables::children(node_table, v);
-            if node_table[4 * l + PARENT] as usize != v || node_table[4 * r + PARENT] as usize != v {
-                return false;
-            }
-            let (p, q) = (state_table[row * l] as usize, state_table[row * r] as usize);
-            (1 + node_table[4 * l + SIZE] + node_table[4 * r + SIZE], rules.inner[(p * rules.k + a) * rules.s + q])
-        };
-        if node_table[4 * v + SIZE] != size || state_table[row * v] != state {
-            return false;
-        }
-    }
-    true
-}
-
-fn checked_down(plan: &Plan, rules: &Rules, node_table: &[u16], state_table: &[u8]) -> bool {
-    let row = rules.s + 1;
-    let root = plan.n - 1;
-    if node_table[4 * root..4 * root + 3] != node_tables::root(plan.n)
-        || (0..rules.s).any(|q| state_table[row * root + 1 + q] != q as u8)
-    {
-        return false;
-    }
-    for v in (0..root).rev() {
-        let p = node_table[4 * v + PARENT] as usize;
-        let jump = node_tables::jump(node_table, p);
-        if node_table[4 * v + JUMP] != jump.to || node_table[4 * v + DEPTH] != jump.depth {
-            return false;
-        }
-        let step = Step::new(plan, rules, node_table, state_table, v, p);
-        let mut map = state_table[row * v + 1..row * v + row].iter().enumerate();
-        let same = match jump.over {
-            Some(j) => {
-                let (of_p, of_j) = (&state_table[row * p + 1..row * p + row], &state_table[row * j + 1..row * j + row]);
-                map.all(|(q, to)| *to == of_j[of_p[step.from(q) as usize] as usize])
-            }
-            None => map.all(|(q, to)| *to == step.from(q)),
-        };
-        if !same {
-            return false;
-        }
-    }
-    true
+    Ok(full_check::matches(&plan, &rules, node_table, state_table))
 }

@@ -1,0 +1,201 @@
+-- The states and maps of a pair: places, and what the test tells.
+--     within-below .. left-less      places and values of the tables lie inside
+--     rows-args, rows-args-of        what the tests at one node read lies inside; small-of, rule-place: the same of the rules
+--     pair-is, rows-near, rows-far   the definitions, as the code goes
+--     Rows, rows-told, tells-rows    what the test of both children's maps tells
+-- Assumes nothing.
+use Prim.Native.Nat.{ℕ, _+_, _-_, _*_, _≤_, _<_}
+use mathlib.Core.Path.{_≡_, refl}
+use mathlib.Core.Bool.{Bool, true, false, cond, _&&_}
+use mathlib.Core.List.{List}
+use native.Mathlib.Nat.{mul-le-mul-right}
+use native.Mathlib.Decide.{ℕ-discrete}
+use native.Mathlib.Omega.{arith}
+use lib.Dec.{eqb, ltb}
+use lib.ListN.{length, getD}
+use borrow.Author.Tests.{eq-eqb, ne-eqb, ltb-true}
+use Rattle.list_laws.proofs.RowLaws.{stride}
+use Rattle.trees.proofs.MoveLaws.{both}
+use Rattle.node_tables.specs.Cells.{jumpCell}
+use Rattle.tables.specs.StateCells.{stateCell, mapCell}
+use Rattle.tables.specs.inner.Rows.{RowIn}
+use Rattle.tables.specs.inner.Compare.{rowIs, nearEntry}
+use Rattle.table_checks.specs.inner.PairStates.{farEntry, FarEntryArgs, rowOf, colOf, rowsMatch, pairStates}
+use Rattle.table_checks.specs.inner.PairStates.{RowsArgs, StateIn, TableRoom}
+use Rattle.node_tables.specs.inner.UpPass.{leftOf}
+use Rattle.tables.proofs.CompareLaws.{rowIs-map, map-rowIs}
+use Rattle.formats.proofs.RuleLaws.{rule-in}
+use Rattle.tables.proofs.MapPlaces.{Small, small}
+use Rattle.table_checks.specs.inner.PairNodes.{within}
+
+pub within-below : (n x : ℕ) → 0 < n → within n x < n
+within-below n x h = go (ltb x n) refl
+  where
+    go : (c : Bool) → ltb x n ≡ c → cond c x 0 < n
+    go true e = ltb-true x n e
+    go false e = h
+
+-- ---- places
+
+module _ (ls nodeTable lv inn : List ℕ) (s k n : ℕ) (b : List ℕ) (T : TableRoom ls nodeTable lv inn s k n b) where
+  pub row-room : (u : ℕ) → u < n → RowIn (length b) s u
+  row-room u h = omega (arith, stride (s + 1) u n h, T .room)
+
+  pub row-small : (u : ℕ) → u < n → u * (s + 1) < 4294967296
+  row-small u h =
+      let e : u ≤ 65535 = omega (arith, T .most) in
+      omega (arith, mul-le-mul-right (s + 1) e, T .rules .few)
+
+  pub state-in : (u : ℕ) → u < n → StateIn s b u
+  state-in u h = record { few = T .rules .few; at = omega (arith, row-room u h) }
+
+  pub state-less : (u : ℕ) → u < n → stateCell s b u < s
+  state-less u h = T .states (u * (s + 1)) (omega (arith, stride (s + 1) u n h))
+
+  pub map-less : (u : ℕ) → u < n → (q : ℕ) → q < s → mapCell s b u q < s
+  map-less u h q l = T .states (u * (s + 1) + (1 + q)) (omega (arith, stride (s + 1) u n h))
+
+  module _ (v : ℕ) (pos : 0 < v) (hv : v < n) where
+    pub left-less : leftOf nodeTable v < n
+    left-less = omega arith
+
+    right-less : v - 1 < n
+    right-less = omega arith
+
+    row-in : (q : ℕ) → q < s → rowOf ls nodeTable b s k v + q * 1 < length inn
+    row-in q l =
+        omega (
+          arith,
+          rule-in s k (stateCell s b (leftOf nodeTable v)) (getD ls v 0) q (state-less (leftOf nodeTable v) left-less)
+              (T .below v) l,
+          T .rules .inner-count,
+        )
+
+    col-in : (q : ℕ) → q < s → colOf ls b s v + q * (k * s) < length inn
+    col-in q l =
+        omega (
+          arith,
+          rule-in s k q (getD ls v 0) (stateCell s b (v - 1)) l (T .below v) (state-less (v - 1) right-less),
+          T .rules .inner-count,
+        )
+
+    far-in : (u base step : ℕ) → u < n → ((q : ℕ) → q < s → base + q * step < length inn)
+        → FarEntryArgs s b u v (within n (jumpCell nodeTable v)) inn base step
+    far-in u base step h inside = record {
+      room = row-room u h;
+      first = row-room v hv;
+      second = row-room (within n (jumpCell nodeTable v)) (within-below n (jumpCell nodeTable v) (omega arith));
+      inside = inside;
+      near-below = λ q l. T .rules .inner-below (base + q * step);
+      first-below = map-less v hv;
+    }
+
+    pub rows-args : RowsArgs nodeTable inn s n b v (leftOf nodeTable v) (rowOf ls nodeTable b s k v) (colOf ls b s v)
+        (k * s)
+    rows-args = record {
+      links = record { pos = pos; inside = hv; most = T .most; room = T .link-room };
+      near-right = record { room = row-room (v - 1) right-less; inside = row-in };
+      near-left = record { room = row-room (leftOf nodeTable v) left-less; inside = col-in };
+      far-right = far-in (v - 1) (rowOf ls nodeTable b s k v) 1 right-less row-in;
+      far-left = far-in (leftOf nodeTable v) (colOf ls b s v) (k * s) left-less col-in;
+    }
+
+    -- as the code has them
+    pub rows-args-of : (l p q : ℕ) → l ≡ leftOf nodeTable v → p ≡ stateCell s b l → q ≡ stateCell s b (v - 1)
+        → RowsArgs nodeTable inn s n b v l ((p * k + getD ls v 0) * s) (getD ls v 0 * s + q) (k * s)
+    rows-args-of l p q e f g = rw (f, g, e) rows-args
+
+    pub small-of : (p : ℕ) → p < 256 → Small s k p (getD ls v 0)
+    small-of p h = small s k p (getD ls v 0) (T .rules .few) (T .rules .labels) (T .below v) h
+
+    pub rule-place : (l p q : ℕ) → l ≡ leftOf nodeTable v → p ≡ stateCell s b l → q ≡ stateCell s b (v - 1)
+        → (p * k + getD ls v 0) * s + q < length inn
+    rule-place l p q e f g =
+        rw (f, g, e) (omega (
+          arith,
+          rule-in s k (stateCell s b (leftOf nodeTable v)) (getD ls v 0) (stateCell s b (v - 1))
+              (state-less (leftOf nodeTable v) left-less) (T .below v) (state-less (v - 1) right-less),
+          T .rules .inner-count,
+        ))
+
+    pub pair-is : (l p q x : ℕ) → l ≡ leftOf nodeTable v → p ≡ stateCell s b l → q ≡ stateCell s b (v - 1)
+        → x ≡ stateCell s b v
+        → (r : Bool) → r ≡ rowsMatch nodeTable inn s n b v l ((p * k + getD ls v 0) * s) (getD ls v 0 * s + q) (k * s)
+        → (eqb x (getD inn ((p * k + getD ls v 0) * s + q) 0) && r) ≡ pairStates ls nodeTable inn s k n b v
+    unfolding pairStates
+    pair-is l p q x e f g h r z = rw (z, h, f, g, e)
+
+  pub step-small : k * s ≤ 1024
+  step-small = omega (arith, mul-le-mul-right s (T .rules .labels), T .rules .few)
+
+-- ---- the test of both maps, as the code goes
+
+module _ (nodeTable inn : List ℕ) (s n : ℕ) (b : List ℕ) (v l row col step : ℕ) where
+  pub rows-near : jumpCell nodeTable (v - 1) ≡ v → (x y : Bool) → x ≡ rowIs s b (v - 1) (nearEntry inn row 1)
+      → y ≡ rowIs s b l (nearEntry inn col step) → (x && y) ≡ rowsMatch nodeTable inn s n b v l row col step
+  unfolding rowsMatch
+  rows-near h x y e f = rw (eq-eqb (jumpCell nodeTable (v - 1)) v h, e, f)
+
+  pub rows-far : (jumpCell nodeTable (v - 1) ≡ v → ⊥) → (j : ℕ) → j ≡ within n (jumpCell nodeTable v) → (x y : Bool)
+      → x ≡ rowIs s b (v - 1) (farEntry s b v j inn row 1) → y ≡ rowIs s b l (farEntry s b v j inn col step)
+      → (x && y) ≡ rowsMatch nodeTable inn s n b v l row col step
+  unfolding rowsMatch
+  rows-far h j z x y e f = rw (ne-eqb (jumpCell nodeTable (v - 1)) v h, e, f, z)
+
+-- ---- what it tells
+
+pub record Rows (nodeTable inn : List ℕ) (s n : ℕ) (b : List ℕ) (v l row col step : ℕ) : Type 0 where
+  pub near-right : jumpCell nodeTable (v - 1) ≡ v → (q : ℕ) → q < s → mapCell s b (v - 1) q ≡ nearEntry inn row 1 q
+  pub near-left : jumpCell nodeTable (v - 1) ≡ v → (q : ℕ) → q < s → mapCell s b l q ≡ nearEntry inn col step q
+  pub far-right : (jumpCell nodeTable (v - 1) ≡ v → ⊥) → (q : ℕ) → q < s
+      → mapCell s b (v - 1) q ≡ farEntry s b v (within n (jumpCell nodeTable v)) inn row 1 q
+  pub far-left : (jumpCell nodeTable (v - 1) ≡ v → ⊥) → (q : ℕ) → q < s
+      → mapCell s b l q ≡ farEntry s b v (within n (jumpCell nodeTable v)) inn col step q
+
+module _ (nodeTable inn : List ℕ) (s n : ℕ) (b : List ℕ) (v l row col step : ℕ) where
+  nr : Bool
+  nr = rowIs s b (v - 1) (nearEntry inn row 1)
+
+  nl : Bool
+  nl = rowIs s b l (nearEntry inn col step)
+
+  fr : Bool
+  fr = rowIs s b (v - 1) (farEntry s b v (within n (jumpCell nodeTable v)) inn row 1)
+
+  fl : Bool
+  fl = rowIs s b l (farEntry s b v (within n (jumpCell nodeTable v)) inn col step)
+
+  near-told : rowsMatch nodeTable inn s n b v l row col step ≡ true → jumpCell nodeTable (v - 1) ≡ v → (nr ≡ true)
+      × (nl ≡ true)
+  unfolding rowsMatch nr nl
+  near-told e h = both nr nl (rw (eq-eqb (jumpCell nodeTable (v - 1)) v h) at e)
+
+  far-told : rowsMatch nodeTable inn s n b v l row col step ≡ true → (jumpCell nodeTable (v - 1) ≡ v → ⊥)
+      → (fr ≡ true) × (fl ≡ true)
+  unfolding rowsMatch fr fl
+  far-told e h = both fr fl (rw (ne-eqb (jumpCell nodeTable (v - 1)) v h) at e)
+
+  pub rows-told : rowsMatch nodeTable inn s n b v l row col step ≡ true → Rows nodeTable inn s n b v l row col step
+  unfolding nr nl fr fl
+  rows-told e = record {
+    near-right = λ h. rowIs-map s b (v - 1) (nearEntry inn row 1) (near-told e h .0);
+    near-left = λ h. rowIs-map s b l (nearEntry inn col step) (near-told e h .1);
+    far-right = λ h. rowIs-map s b (v - 1) (farEntry s b v (within n (jumpCell nodeTable v)) inn row 1)
+        (far-told e h .0);
+    far-left = λ h. rowIs-map s b l (farEntry s b v (within n (jumpCell nodeTable v)) inn col step) (far-told e h .1);
+  }
+
+  pub tells-rows : Rows nodeTable inn s n b v l row col step → rowsMatch nodeTable inn s n b v l row col step ≡ true
+  unfolding rowsMatch
+  tells-rows R = elim (ℕ-discrete (jumpCell nodeTable (v - 1)) v) [
+    | yes h ↦ rw (
+      eq-eqb (jumpCell nodeTable (v - 1)) v h,
+      map-rowIs s b (v - 1) (nearEntry inn row 1) (R .near-right h),
+      map-rowIs s b l (nearEntry inn col step) (R .near-left h),
+    )
+    | no h ↦ rw (
+      ne-eqb (jumpCell nodeTable (v - 1)) v h,
+      map-rowIs s b (v - 1) (farEntry s b v (within n (jumpCell nodeTable v)) inn row 1) (R .far-right h),
+      map-rowIs s b l (farEntry s b v (within n (jumpCell nodeTable v)) inn col step) (R .far-left h),
+    )
+  ]

@@ -1,0 +1,87 @@
+-- `differ::near_differences16` meets its contract. The loop's invariant: the byte is 0 exactly where the entries passed
+-- are the same.
+-- Assumes nothing.
+use Prim.Native.Nat.{ℕ, _≤_, _-_}
+use mathlib.Core.Path.{_≡_, refl}
+use lib.Dec.{eqb}
+use Rattle.tables.specs.StateCells.{mapCell}
+use Rattle.tables.specs.inner.Compare.{every, nearEntry}
+use Rattle.table_checks.proofs.DifferenceLaws.{more-test}
+use native.Mathlib.Omega.{arith}
+use borrow.Author.Needs.{needs}
+use Rattle.table_checks.proofs.differences.near_differences16.Statement.{statement}
+use Rattle.table_checks.proofs.differences.near_differences16.Tie as tie
+
+abbrev Inv-loop : tie.InvT-loop
+Inv-loop stateTable v table base stride at bad₀ q₀ bad q =
+    (q ≤ 16) × (eqb bad 0 ≡ every q (λ x. eqb (mapCell 16 stateTable v x) (nearEntry table base stride x)))
+
+abbrev μ-loop : tie.MeasureT-loop
+μ-loop stateTable v table base stride at bad₀ q₀ bad q = 16 - q
+
+mul-at : tie.Need-mul-at Inv-loop μ-loop
+mul-at c = search needs
+
+loop-holds : tie.Need-loop-holds Inv-loop μ-loop
+unfolding every
+loop-holds c = (omega arith, refl)
+
+add-x : tie.Need-add-x Inv-loop μ-loop
+add-x c = search needs
+
+add-x-2 : tie.Need-add-x-2 Inv-loop μ-loop
+add-x-2 c = search needs
+
+shared-slice-read-x : tie.Need-shared-slice-read-x Inv-loop μ-loop
+shared-slice-read-x c = search needs
+
+mul-y : tie.Need-mul-y Inv-loop μ-loop
+mul-y c =
+    omega (arith, c .before .before .before .pre .inside (c .before .before .loop .q) (c .before .loop-test .taken))
+
+add-y : tie.Need-add-y Inv-loop μ-loop
+add-y c =
+    omega (arith, c .before .before .before .pre .inside (c .before .before .loop .q) (c .before .loop-test .taken))
+
+shared-slice-read-y : tie.Need-shared-slice-read-y Inv-loop μ-loop
+shared-slice-read-y c =
+    c .before .before .before .before .pre .inside
+    (c .before .before .before .loop .q) (c .before .before .loop-test .taken)
+
+add-q : tie.Need-add-q Inv-loop μ-loop
+add-q c = search needs
+
+loop-less : tie.Need-loop-less Inv-loop μ-loop
+loop-less c = search needs
+
+loop-again : tie.Need-loop-again Inv-loop μ-loop
+loop-again c =
+    let l = c .before .before .before .loop in
+    let a = c .before .before .before .before .args in
+    let g : ℕ → ℕ = nearEntry (a .table .now) (a .base) (a .stride) in
+    (omega arith, more-test (l .bad) (l .q) (mapCell 16 (a .state-table .now) (a .v)) g (l .inv .1))
+
+returns : tie.Need-returns Inv-loop μ-loop
+returns c =
+    let a = c .before .before .args in
+    let e : c .before .loop .q ≡ 16 = omega arith in
+    rw e at (c .before .loop .inv .1)
+
+pub near-differences16-spec : {M : Type 1} → statement M
+near-differences16-spec =
+    tie.close
+    (tie.spec
+    Inv-loop
+    μ-loop
+    mul-at
+    loop-holds
+    add-x
+    add-x-2
+    shared-slice-read-x
+    mul-y
+    add-y
+    shared-slice-read-y
+    add-q
+    loop-less
+    loop-again
+    returns)

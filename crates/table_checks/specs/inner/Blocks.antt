@@ -1,0 +1,63 @@
+-- Blocks of nodes: the inner ones listed, the leaves and the pairs tested.
+--
+-- Listed ks b e c l == the first c elements of l are the inner nodes of b, .. e - 1 by the kinds ks, in any order
+-- Means r P == r is whether P
+-- Leaves .. b e, Nodes .. b e == the leaves of b, .. e - 1 match; the leaves and the pairs of these nodes do
+-- Kinds ks == kinds are 0 or 1, and no inner node is the first
+-- BlockListed .. c r l == both of a block's first look: its inner nodes are listed, and r is whether its leaves match
+-- PairsArgs, BlockArgs, BlocksArgs == what the loops need
+--
+-- Assumes nothing.
+use Prim.Native.Nat.{ℕ, _+_, _≤_, _<_}
+use mathlib.Core.Path.{_≡_}
+use mathlib.Core.Bool.{Bool, true}
+use mathlib.Core.List.{List}
+use lib.ListN.{length, getD}
+use Rattle.table_checks.specs.inner.PairStates.{leafIs, pairIs, TableRoom}
+
+pub record Listed (ks : List ℕ) (b e c : ℕ) (l : List ℕ) : Type 0 where
+  pub few : c + b ≤ e
+  pub from : (i : ℕ) → i < c → b ≤ getD l i 0
+  pub to : (i : ℕ) → i < c → getD l i 0 < e
+  pub inner : (i : ℕ) → i < c → getD ks (getD l i 0) 0 ≡ 0 → ⊥
+  pub all : (v : ℕ) → b ≤ v → v < e → (getD ks v 0 ≡ 0 → ⊥) → (i : ℕ) × (i < c) × (getD l i 0 ≡ v)
+
+pub record Means (r : Bool) (P : Type 0) : Type 0 where
+  pub yes : r ≡ true → P
+  pub back : P → r ≡ true
+
+abbrev pub Leaves : List ℕ → List ℕ → List ℕ → List ℕ → ℕ → List ℕ → ℕ → ℕ → Type 0
+Leaves ks ls nodeTable lv s stateTable b e =
+    (v : ℕ) → b ≤ v → v < e → getD ks v 0 ≡ 0 → leafIs ls nodeTable lv s stateTable v ≡ true
+
+pub record BlockListed (ks ls nodeTable lv : List ℕ) (s : ℕ) (stateTable : List ℕ) (b e c : ℕ) (r : Bool) (l : List ℕ)
+    : Type 0 where
+  pub listed : Listed ks b e c l
+  pub leaves : Means r (Leaves ks ls nodeTable lv s stateTable b e)
+
+pub record PairsArgs (ls nodeTable lv inn : List ℕ) (s k n : ℕ) (stateTable l : List ℕ) (c : ℕ) : Type 0 where
+  pub table : TableRoom ls nodeTable lv inn s k n stateTable
+  pub few : c ≤ length l
+  pub pos : (i : ℕ) → i < c → 0 < getD l i 0
+  pub inside : (i : ℕ) → i < c → getD l i 0 < n
+
+pub record Nodes (ks ls nodeTable lv inn : List ℕ) (s k : ℕ) (stateTable : List ℕ) (b e : ℕ) : Type 0 where
+  pub leaves : Leaves ks ls nodeTable lv s stateTable b e
+  pub pairs : (v : ℕ) → b ≤ v → v < e → (getD ks v 0 ≡ 0 → ⊥)
+      → pairIs ls nodeTable inn s k (length ks) stateTable v ≡ true
+
+pub record Kinds (ks : List ℕ) : Type 0 where
+  pub small : (j : ℕ) → j < length ks → getD ks j 0 ≤ 1
+  pub later : (j : ℕ) → j < length ks → (getD ks j 0 ≡ 0 → ⊥) → 0 < j
+
+pub record BlockArgs (ks ls nodeTable lv inn : List ℕ) (s k : ℕ) (stateTable : List ℕ) (b e m : ℕ) : Type 0 where
+  pub table : TableRoom ls nodeTable lv inn s k (length ks) stateTable
+  pub kinds : Kinds ks
+  pub order : b ≤ e
+  pub inside : e ≤ length ks
+  pub fits : e ≤ b + m
+
+pub record BlocksArgs (ks ls nodeTable lv inn : List ℕ) (s k : ℕ) (stateTable : List ℕ) (m : ℕ) : Type 0 where
+  pub table : TableRoom ls nodeTable lv inn s k (length ks) stateTable
+  pub kinds : Kinds ks
+  pub fits : 1024 ≤ m

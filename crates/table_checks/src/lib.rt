@@ -1,0 +1,8 @@
+// The full check of rule tables, by pairs: every test of a node's two children is made at their parent, and no test
+// ends a block of nodes. Not here: the full check of branch tables (branches).
+mod blocks;
+pub mod check;
+mod compare;
+mod differences;
+mod rows;
+mod siblings;

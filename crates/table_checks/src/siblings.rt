@@ -1,0 +1,89 @@
+// The node table's numbers of a node's two children, tested at their parent. Nothing that is lent leads outside, so
+// that the nodes may be looked at in any order and no test has to end the pass.
+use node_tables::jump_lengths::by_length;
+use node_tables::jump_lengths::jump_length;
+ghost use mathlib.Core.Path.{_≡_};
+ghost use Prim.Native.Nat.{_<_};
+ghost use Rattle.node_tables.specs.JumpLengths.{jumpLengths};
+ghost use Rattle.node_tables.specs.inner.UpPass.{leftOf};
+ghost use Rattle.table_checks.specs.inner.PairNodes.{within, pairByDistances, pairJump, pairNodes};
+ghost use Rattle.table_checks.specs.inner.PairNodes.{rootNode, PairArgs, RootArgs};
+
+// The number itself where it is below n, else 0.
+pub fn inside(x: usize, n: usize) -> usize
+    requires { ⌜ 0 < n ⌝ }
+    ensures { λ r. ⌜ (r ≡ within n x) × (r < n) ⌝ }
+{
+    if x < n { x } else { 0 }
+}
+
+// The left child of inner node v by the lent sizes; node 0 where they lead outside.
+pub fn left_in(node_table: &[u16], n: usize, v: usize) -> usize
+    requires { ⌜ PairArgs n (now «node_table») v ⌝ }
+    ensures { λ r. ⌜ r ≡ leftOf (now («node_table» .entry)) v ⌝ }
+{
+    let right = v - 1;
+    let size = node_table[right * 4 + 3] as usize;
+    if size <= right { right - size } else { 0 }
+}
+
+// The jump of a child of node v, by the two distances: d - e is e - f where d + f is 2 e.
+fn pair_by_distances(node_table: &[u16], n: usize, v: usize) -> u16
+    requires { ⌜ PairArgs n (now «node_table») v ⌝ }
+    ensures { λ r. ⌜ r ≡ pairByDistances n (now («node_table» .entry)) v ⌝ }
+{
+    let j = inside(node_table[v * 4 + 1] as usize, n);
+    let jj = node_table[j * 4 + 1];
+    let far = inside(jj as usize, n);
+    let d = node_table[v * 4 + 2] as usize;
+    let e = node_table[j * 4 + 2] as usize;
+    let f = node_table[far * 4 + 2] as usize;
+    if d + f == e + e { jj } else { v as u16 }
+}
+
+// The jump of a child of node v: its length by the table where the child's depth is below 1,024, else by the two
+// distances.
+fn pair_jump(node_table: &[u16], lengths: &[u16; 1024], n: usize, v: usize) -> u16
+    requires { ⌜ PairArgs n (now «node_table») v × (now lengths ≡ jumpLengths) ⌝ }
+    ensures { λ r. ⌜ r ≡ pairJump n (now («node_table» .entry)) v ⌝ }
+{
+    let j = inside(node_table[v * 4 + 1] as usize, n);
+    let far = node_table[j * 4 + 1];
+    let d = node_table[v * 4 + 2];
+    if d < 1023 {
+        return by_length(jump_length(lengths, d as usize + 1), v as u16, far);
+    }
+    pair_by_distances(node_table, n, v)
+}
+
+// Whether inner node v's size and its children's parents, jumps and depths follow from their neighbours'. No test is
+// left out after a wrong one.
+pub fn pair_nodes_match(node_table: &[u16], lengths: &[u16; 1024], n: usize, v: usize) -> bool
+    requires { ⌜ PairArgs n (now «node_table») v × (now lengths ≡ jumpLengths) ⌝ }
+    ensures { λ r. ⌜ r ≡ pairNodes n (now («node_table» .entry)) v ⌝ }
+{
+    let right = v - 1;
+    let left = left_in(node_table, n, v);
+    let to = pair_jump(node_table, lengths, n, v);
+    let up = v as u16;
+    let below = node_table[left * 4 + 3] as usize + node_table[right * 4 + 3] as usize + 1;
+    let depth = node_table[v * 4 + 2] as usize + 1;
+    let sizes = node_table[v * 4 + 3] as usize == below;
+    let parents = (node_table[right * 4] == up) & (node_table[left * 4] == up);
+    let depths = (node_table[right * 4 + 2] as usize == depth)
+        & (node_table[left * 4 + 2] as usize == depth);
+    let jumps = (node_table[right * 4 + 1] == to) & (node_table[left * 4 + 1] == to);
+    sizes & (parents & (depths & jumps))
+}
+
+// Whether node v has the root's parent, jump and depth.
+pub fn root_node_is(node_table: &[u16], v: usize) -> bool
+    requires { ⌜ RootArgs (now «node_table») v ⌝ }
+    ensures { λ r. ⌜ r ≡ rootNode (now («node_table» .entry)) v ⌝ }
+{
+    let up = v as u16;
+    let parent = node_table[v * 4] == up;
+    let jump = node_table[v * 4 + 1] == up;
+    let depth = node_table[v * 4 + 2] == 0;
+    parent & (jump & depth)
+}
