@@ -16,3 +16,5 @@ pub mod AgreementTestLaws
 pub mod Theorems
 pub mod Sample
 pub mod Controls
+pub mod OwnAnswersLaws
+pub mod FinishTheorem
