@@ -3,3 +3,4 @@ pub mod SupersededForms
 pub mod Main
 pub mod ProvedToo
 pub mod Lists
+pub mod BrokenBytes
