@@ -18,3 +18,4 @@ pub mod Sample
 pub mod Controls
 pub mod OwnAnswersLaws
 pub mod FinishTheorem
+pub mod PartCeiling
