@@ -1,6 +1,6 @@
 -- The tables layer's main theorems by name, each cited from where it is proved.
 --     plans              plans decode to exactly one tree exactly when 2 to 5 pass; N 1 is accepted with 14 bytes, N 2 gets 5
---     builds             what an accepted build wrote is "as built", in longer buffers with any excess too
+--     builds, branch-builds   what a build that answers 0 leaves in the buffers is "as built", whatever they were, longer ones too
 --     full-checks        yes exactly when the lent tables are what the build writes: local equations leave one table only
 --     climbs             a climb carries what the walk by parents does, for any value (where it ends, its moves: claims/proofs/ProvedToo)
 --     branch-answers     on tables as built a branch answer is the word automaton's, in each reading on its own word
@@ -13,7 +13,7 @@
 use Prim.Native.Nat.{ℕ, _+_, _-_, _≤_, _<_}
 use mathlib.Core.Path.{_≡_}
 use mathlib.Core.Bool.{true}
-use mathlib.Core.List.{List, [], _∷_, _++_}
+use mathlib.Core.List.{List, [], _∷_}
 use mathlib.Core.Logic.{_↔_}
 use mathlib.Core.Option.{Option, some}
 use lib.ListN.{length}
@@ -30,13 +30,14 @@ use Rattle.formats.specs.Bytes.{le32}
 use Rattle.list_laws.specs.Tests.{allBelow}
 use Rattle.formats.specs.Plan.{nodeCount, planTree, planBytes}
 use Rattle.formats.specs.Rules.{branchAutomaton}
-use Rattle.formats.specs.Checks.{firstNo, planChecks, buildChecks, branchBuildChecks, ruleTableChecks, branchTableChecks}
+use Rattle.formats.specs.Checks.{firstNo, planChecks, buildChecks, branchBuildChecks}
 use Rattle.formats.specs.Built.{builtNodeTable, builtStateTable, builtBranchTable, AsBuilt, BranchBuilt}
 use Rattle.formats.proofs.PlanTheorems as plan-theorems
+use Rattle.tables.specs.declared.answers.Building.{Building}
 use Rattle.tables.specs.declared.answers.Checking.{Checking}
 use Rattle.tables.specs.declared.answers.Checking.the-variants.{Yes}
-use Rattle.tables.specs.Answers.{CheckDone}
-use Rattle.tables.proofs.BuildLaws.{written-as-built}
+use Rattle.tables.specs.Answers.{buildingNumber, BuildDone, CheckDone}
+use Rattle.tables.proofs.BuildLaws.{built-as-built}
 use Rattle.tables.proofs.CheckTheorems.{check-yes, yes-check, buildNumber}
 use Rattle.branches.specs.declared.answers.Reading.{Reading}
 use Rattle.branches.specs.declared.answers.Reading.the-variants.{BelowUpper}
@@ -45,7 +46,6 @@ use Rattle.branches.specs.Question.{askNumber, askAnswer}
 use Rattle.branches.specs.OutOfRange.{BranchOutOfRange}
 use Rattle.branches.specs.Promise.{wordAnswer}
 use Rattle.branches.proofs.BranchTheorems as branch-theorems
-use Rattle.branches.proofs.BranchTheorems.{written-branch-built}
 use Rattle.branches.proofs.AskTheorem as ask-theorem
 use Rattle.branches.proofs.AskTheorem.{ask-built}
 use Rattle.branches.proofs.AskRange.{ask-out-of-range}
@@ -62,12 +62,18 @@ one-node = plan-theorems.one-node
 two-nodes : (p : List ℕ) → length p ≡ 16 → nodeCount p ≡ 2 → le32 p 4 ≡ 12 → le32 p 8 ≡ 14 → firstNo (planChecks p) ≡ 5
 two-nodes = plan-theorems.two-nodes
 
-builds : (p r : List ℕ) → firstNo (ruleTableChecks p r) ≡ 0 → (x y : List ℕ) → AsBuilt p r (builtNodeTable p ++ x) (builtStateTable p r ++ y)
-builds = written-as-built
+-- whatever the buffers were: what a build that answers 0 leaves in them
+builds : (p r nodeTable stateTable nodeTable′ stateTable′ : List ℕ) (a : Building)
+    → BuildDone (firstNo (buildChecks p r (length nodeTable) (length stateTable))) (builtNodeTable p) (builtStateTable p r) nodeTable stateTable
+    a nodeTable′ stateTable′
+    → buildingNumber a ≡ 0 → AsBuilt p r nodeTable′ stateTable′
+builds = built-as-built
 
-branch-builds : (p r : List ℕ) → firstNo (branchTableChecks p r) ≡ 0 → (x y : List ℕ)
-    → BranchBuilt p r (builtNodeTable p ++ x) (builtBranchTable p r ++ y)
-branch-builds = written-branch-built
+branch-builds : (p r nodeTable stateTable nodeTable′ stateTable′ : List ℕ) (a : Building)
+    → BuildDone (firstNo (branchBuildChecks p r (length nodeTable) (length stateTable))) (builtNodeTable p) (builtBranchTable p r)
+    nodeTable stateTable a nodeTable′ stateTable′
+    → buildingNumber a ≡ 0 → BranchBuilt p r nodeTable′ stateTable′
+branch-builds = branch-theorems.built-branch-built
 
 full-checks : (p r nodeTable stateTable : List ℕ) (a : Checking)
     → CheckDone (firstNo (buildChecks p r (length nodeTable) (length stateTable))) (builtNodeTable p) (builtStateTable p r) nodeTable stateTable a

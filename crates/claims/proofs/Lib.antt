@@ -1,5 +1,7 @@
 pub mod RefusalLaws
 pub mod SupersededForms
 pub mod Main
-pub mod ProvedToo
 pub mod Lists
+pub mod BrokenBytes
+pub mod QuestionForms
+pub mod ProvedToo

@@ -5,26 +5,30 @@
 --     empty-word                            document 02, S-9: a branch question from below the upper node, the same node twice
 --     roots-are-ready                       the roots that are computed are the ready set
 --     parts-partition                       each node is in exactly one part; what each part looks like: ready/proofs/PartitionLaws
+--     answered-by-value, answered-in-place, answered-on-bytes   a question that Start accepted is answered to its end: nothing is refused
+--     part-links                            the ceiling for each part: an advance adds at most 3 links for each digit of the plan's height
+--     broken-bytes                          "bytes that break it get 1", and stay
 -- Assumes nothing.
-use Prim.Native.Nat.{ℕ, _+_, _-_, _≤_, _<_}
+use Prim.Native.Nat.{ℕ, _+_, _-_, _*_, _≤_, _<_}
 use mathlib.Core.Path.{_≡_, refl, ap, _∙_}
-use mathlib.Core.Bool.{Bool, true}
+use mathlib.Core.Bool.{Bool, true, false}
 use mathlib.Core.List.{List, [], _∷_, List·Memᴰ}
 use mathlib.Core.Option.{some}
 use native.Mathlib.Omega.{arith}
 use lib.Dec.{ltb}
-use lib.ListN.{length}
+use lib.ListN.{length, replicate}
 use borrow.Author.Tests.{lt-ltb}
 use Rattle.list_laws.specs.Tests.{holds, allBelow}
 use Rattle.list_laws.proofs.BoolLaws.{and-both}
-use Rattle.trees.specs.Tree.{Tree, leaf, size}
+use Rattle.trees.specs.Tree.{Tree, leaf, size, height}
 use Rattle.trees.specs.Numbering.{depth}
-use Rattle.trees.specs.Climb.{moveCount}
+use Rattle.trees.specs.Climb.{moveCount, digits}
 use Rattle.trees.proofs.NodeLaws.{size-pos}
 use Rattle.trees.proofs.TreeClimbs.{climb-tree, climb-bound}
 use Rattle.trees.proofs.Samples.{moveCount-samples}
 use Rattle.formats.specs.Bytes.{le32}
-use Rattle.formats.specs.Plan.{nodeCount, planBytes}
+use Rattle.formats.specs.Plan.{nodeCount, planTree, planBytes}
+use Rattle.formats.specs.Inputs.{Inputs}
 use Rattle.formats.specs.Rules.{stateCount, labelCount, branchAutomaton}
 use Rattle.formats.specs.Built.{BranchBuilt}
 use Rattle.formats.specs.Checks.{firstNo, planChecks, ruleChecks, ruleTableChecks, roomCheck, buildChecks}
@@ -39,10 +43,24 @@ use Rattle.branches.specs.declared.answers.Branching.the-variants.{Answered}
 use Rattle.branches.specs.Question.{askAnswer}
 use Rattle.branches.proofs.AskTheorem as ask-theorem
 use Rattle.ready.specs.Members.{roots}
+use Rattle.ready.specs.Parts.{Part}
 use Rattle.ready.proofs.ListLaws.{list-ready, ready-list, list-rising, list-last}
 use Rattle.ready.proofs.PartitionLaws.{part-unique, part-exists}
 use Rattle.questions.specs.Roots.{rootsOn}
 use Rattle.questions.proofs.RootsBuilt.{roots-built}
+use Rattle.model.specs.Calls.{Call, advance, Answer, refused}
+use Rattle.model.specs.Refusals.{refusal}
+use Rattle.model.specs.Model.{stageOf}
+use Rattle.model.specs.LeftOpen.{Usable}
+use Rattle.reference.specs.Finished.{QuestionsFinish}
+use Rattle.session.specs.declared.state.Session.{Session}
+use Rattle.session.specs.Records.{recordOf, valid, freshSession}
+use Rattle.session.specs.CallsByValue.{CallByValue}
+use Rattle.in_place.specs.CallsInPlace.{CallInPlace}
+use Rattle.records.specs.Layout.{validBytes}
+use Rattle.capi_session.specs.DecodedAnswers.{Exports}
+use Rattle.claims.proofs.QuestionForms.{finishes-by-value, finishes-in-place, finishes-on-bytes, part-ceiling}
+use Rattle.claims.proofs.BrokenBytes.{broken-refused}
 use Rattle.claims.specs.ProvedToo.{ClimbTo, ClimbTakes, RootsReady, PartOf}
 
 -- ---- climbs, in every tree
@@ -117,3 +135,25 @@ parts-partition w t x h =
       has = p .1;
       only = λ u q. part-unique w t u (p .0) x q (p .1);
     }
+
+-- ---- from an accepted Start that told n parts, n advances given the same and a Read answer more .., finished and the fresh run's answer
+
+answered-by-value : QuestionsFinish freshSession CallByValue
+answered-by-value = finishes-by-value
+
+answered-in-place : QuestionsFinish freshSession CallInPlace
+answered-in-place = finishes-in-place
+
+answered-on-bytes : QuestionsFinish (replicate 967 0) Exports
+answered-on-bytes = finishes-on-bytes
+
+-- "at most three links for each binary digit of the plan's height", of the call that handles the part; on usable tables
+part-links : (s s′ : Session) (x : Inputs) (a : Answer) (ps : List Part) → CallByValue s (advance x) a s′ → valid s ≡ true
+    → refusal (stageOf (recordOf s)) (advance x) ≡ 0 → Usable (recordOf s) x ps
+    → s′ .head .links ≤ s .head .links + 3 * digits (height (planTree (x .plan)))
+part-links = part-ceiling
+
+-- ---- "the record crosses as bytes, whose layout stands in docs/, and bytes that break it get 1"
+
+broken-bytes : (b b′ : List ℕ) (c : Call) (a : Answer) → Exports b c a b′ → validBytes b ≡ false → (a ≡ refused 1) × (b′ ≡ b)
+broken-bytes = broken-refused

@@ -5,3 +5,5 @@ pub mod PartLaws
 pub mod TableLaws
 pub mod MergeLaws
 pub mod Theorems
+pub mod RuleDecodes
+pub mod BranchDecodes

@@ -1,3 +1,4 @@
 pub mod Merged
 pub mod Writes
 pub mod Answer
+pub mod BranchBytes

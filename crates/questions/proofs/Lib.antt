@@ -13,6 +13,7 @@ pub mod PlaceLaws
 pub mod InsertLoop
 pub mod RootsLaws
 pub mod FitLaws
+pub mod ListedLaws
 pub mod GrowLaws
 pub mod ForkLoop
 pub mod FillLoop

@@ -36,6 +36,7 @@ use Rattle.questions.specs.PartAnswers.{askedFits, partFits, partGiven, 
 use Rattle.questions.specs.OutOfRange.{PartOutOfRange}
 use Rattle.questions.specs.Promises.{numberFor, rootedNumber, RootsDone, Asked, PartDone}
 use Rattle.questions.proofs.FitLaws.{Fit, fit-facts, given-yes, given-are}
+use Rattle.questions.proofs.ListedLaws.{given-listed}
 use Rattle.questions.proofs.PartBounds.{partGiven-below, part-links}
 use Rattle.questions.proofs.PartFits as fits
 use Rattle.questions.proofs.PartFits.{asked-are}
@@ -80,6 +81,7 @@ module _ (n : ℕ) (nodeTable vs : List ℕ) where
     number = ap rootedNumber e ∙ rooted-number (rootsGiven n nodeTable vs);
     out-of-range = λ f i. roots-18 f (rootsGiven n nodeTable vs) refl (sym (rooted-number (rootsGiven n nodeTable vs)) ∙ sym (ap rootedNumber e) ∙ i);
     few = given-are n nodeTable vs;
+    listed = given-listed n nodeTable vs;
     built = λ t L m f. e ∙ ap rootedOf (built t L m f);
   }
 

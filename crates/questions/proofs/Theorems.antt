@@ -29,7 +29,8 @@ use Rattle.ready.specs.Parts.{Given, Part, nodesOf, statesOf, stateOf, partStat
 use Rattle.ready.proofs.ClosedForm as closed-form
 use Rattle.ready.proofs.HighestLaws.{Highest, highest-holds}
 use Rattle.ready.proofs.ChangedRun.{Changes}
-use Rattle.ready.proofs.PartsRun.{Members, Sound, RunGiven, parts-right}
+use Rattle.ready.specs.StaysInside.{StaysInside}
+use Rattle.ready.proofs.PartsRun.{Members, RunGiven, parts-right}
 use Rattle.questions.specs.Roots.{rootsOn}
 use Rattle.questions.specs.Part.{partOn}
 use Rattle.questions.specs.OutOfRange.{PartOutOfRange}
@@ -64,7 +65,7 @@ part-is-the-rule : (X : View) (G : Given) → Reads X G → (w : ℕ → Bool) (
     → partOn X (nodesOf ps) (statesOf ps) vs bs v ≡ some (reached (partState G ms ps v) (partLinks (G .tree) ms v))
 part-is-the-rule = part-built
 
-part-is-the-run : (G : Given) (u : Tree) → RunGiven G u → Sound (G .automaton) → (w : ℕ → Bool) → Changes w (G .tree) u → (ms : List ℕ)
+part-is-the-run : (G : Given) (u : Tree) → RunGiven G u → StaysInside (G .automaton) → (w : ℕ → Bool) → Changes w (G .tree) u → (ms : List ℕ)
     → Members w (G .tree) ms → (v : ℕ) → List·Memᴰ v ms → stateOf (partsOf G ms) v ≡ state (G .automaton) (sub u v)
 part-is-the-run = parts-right
 

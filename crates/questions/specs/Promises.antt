@@ -11,7 +11,7 @@
 use Prim.Native.Nat.{ℕ, _+_, _-_, _*_, _≤_, _<_}
 use mathlib.Core.Path.{_≡_}
 use mathlib.Core.Bool.{true, cond}
-use mathlib.Core.List.{List}
+use mathlib.Core.List.{List, List·Memᴰ}
 use mathlib.Core.Option.{Option, none, some}
 use lib.ListN.{length, getD, take}
 use Rattle.trees.specs.Tree.{Tree, size, labelsOf, kindsOf, labelAt}
@@ -55,6 +55,8 @@ pub record RootsDone (n : ℕ) (nodeTable vs : List ℕ) (r : Rooted) : Type 0 w
   pub out-of-range : rootsFit n (length nodeTable) vs ≡ true → rootedNumber r ≡ 18 → NodeTableOutOfRange n nodeTable
   -- on whatever numbers: rising to the root, and few
   pub few : (l : List ℕ) → rootsGiven n nodeTable vs ≡ some l → RootsAre n (length vs) l
+  -- and every listed node is among them
+  pub listed : (l : List ℕ) → rootsGiven n nodeTable vs ≡ some l → (v : ℕ) → List·Memᴰ v vs → List·Memᴰ v l
   -- on numbers as built: exactly the ready set, never 18
   pub built : (t : Tree) → NodeCells t nodeTable → n ≡ size t → rootsFit n (length nodeTable) vs ≡ true → r ≡ rootedOf (some (members.roots t vs))
 

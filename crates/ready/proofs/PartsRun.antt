@@ -18,7 +18,7 @@ use lib.Dec.{eqb}
 use lib.ListN.{length, getD}
 use borrow.Author.Tests.{eqb-true, eqb-false, eq-eqb, ne-eqb}
 use Rattle.trees.specs.Tree.{Tree, size, kindsOf, kindAt, labelsOf, labelAt}
-use Rattle.trees.specs.Automaton.{Automaton, state}
+use Rattle.trees.specs.Automaton.{state}
 use Rattle.trees.specs.Numbering.{sub, parent, depth, InSubtree}
 use Rattle.trees.specs.Jumps.{jump}
 use Rattle.trees.specs.Climb.{Move, byJump, toParent, forestOf, climb, carry, walk, andThen}
@@ -28,6 +28,7 @@ use Rattle.trees.proofs.CarryLaws.{carry-walk}
 use Rattle.trees.proofs.MapLaws.{stepUp-right, stepUp-left, stepUp-below, left-sibling-in, right-sibling-in}
 use Rattle.trees.proofs.RunLaws.{state-leaf, state-inner, state-below}
 use Rattle.trees.proofs.IntervalLaws.{interval-ancestor, above-at}
+use Rattle.ready.specs.StaysInside.{StaysInside}
 use Rattle.ready.specs.Ready.{leftChild, rightChild, Closed, Fork}
 use Rattle.ready.specs.Members.{Rising}
 use Rattle.ready.specs.Parts.{Given, anyBelow, highestBelow, moveState, moveStates, movesOf, climbMoves, Part, part, nodesOf}
@@ -44,11 +45,6 @@ pub record Members (w : ℕ → Bool) (t : Tree) (ms : List ℕ) : Type 0 where
   pub rising : Rising 0 ms
   pub inside : (v : ℕ) → List·Memᴰ v ms → v < size t
   pub closed : Closed w t (λ v. List·Memᴰ v ms)
-
--- an automaton whose values are states
-pub record Sound (A : Automaton) : Type 0 where
-  pub init : (a : ℕ) → A .ι a < A .states
-  pub next : (p a q : ℕ) → A .δ p a q < A .states
 
 pub record RunGiven (G : Given) (u : Tree) : Type 0 where
   pub labels : G .labels ≡ labelsOf u
@@ -94,7 +90,7 @@ rising-not (d ∷ done) v rest lo r m = elim (List·Memᴰ·cases-cons m) [
   | inr k ↦ rising-not done v rest (suc d) (r .1) k
 ]
 
-module _ (G : Given) (u : Tree) (R : RunGiven G u) (S : Sound (G .automaton)) where
+module _ (G : Given) (u : Tree) (R : RunGiven G u) (S : StaysInside (G .automaton)) where
   carry-states : (ms : List Move) (q : ℕ) → carry (λ m x. some (moveState G m x)) ms q ≡ some (moveStates G ms q)
   carry-states [] q = refl
   carry-states (m ∷ ms) q = carry-states ms (moveState G m q)

@@ -2,3 +2,4 @@ pub mod Ready
 pub mod Members
 pub mod Parts
 pub mod Partition
+pub mod StaysInside

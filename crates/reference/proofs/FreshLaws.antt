@@ -43,7 +43,8 @@ use Rattle.ready.specs.Members.{roots, Rising}
 use Rattle.ready.specs.Parts.{Given, Part, anyBelow, stateOf, climbedState, innerState, partState, partOf, partsFrom}
 use Rattle.ready.specs.Parts.{partsOf, lastState, allLinks, questionLinks}
 use Rattle.ready.proofs.ChangedRun.{Changes}
-use Rattle.ready.proofs.PartsRun.{Sound, RunGiven, parts-right}
+use Rattle.ready.specs.StaysInside.{StaysInside}
+use Rattle.ready.proofs.PartsRun.{RunGiven, parts-right}
 use Rattle.ready.proofs.SameTrees.{same-count}
 use Rattle.ready.proofs.BelowLaws.{rising-above}
 use Rattle.ready.proofs.ListLaws.{list-members, list-last, list-rising}
@@ -56,7 +57,7 @@ use Rattle.formats.proofs.InputsLaws.{Built, plan-of, rules-of}
 
 -- ---- the state table that Load writes
 
-module _ (A : Automaton) (S : Sound A) (t : Tree) where
+module _ (A : Automaton) (S : StaysInside A) (t : Tree) where
   row-below : (v k : ℕ) → k < A .states + 1 → getD (stateRow A t v) k 0 < A .states
   row-below v zero h = state-below A (S .init) (S .next) (sub t v)
   row-below v (suc q) h =
@@ -87,10 +88,10 @@ choice n true x y p q = p
 choice n false x y p q = q
 
 -- the automaton of rules that pass 6 to 9
-pub rules-sound : (r : List ℕ) → RulesPass r → Sound (ruleAutomaton r)
-rules-sound r h = record { init = λ a. leaf-state-below r h a; next = λ p a q. inner-state-below r h _ }
+pub rules-inside : (r : List ℕ) → RulesPass r → StaysInside (ruleAutomaton r)
+rules-inside r h = record { init = λ a. leaf-state-below r h a; next = λ p a q. inner-state-below r h _ }
 
-module _ (G : Given) (ms : List ℕ) (ps : List Part) (v : ℕ) (S : Sound (G .automaton)) where
+module _ (G : Given) (ms : List ℕ) (ps : List Part) (v : ℕ) (S : StaysInside (G .automaton)) where
   inner-below : (l r : ℕ) → innerState G ms ps v l r < G .automaton .states
   unfolding innerState
   inner-below l r = go (anyBelow ms (G .tree) l) (anyBelow ms (G .tree) r)
@@ -152,14 +153,14 @@ module _ (z : Sizes) (q : Question) (B : Built z (q .inputs)) where
   abbrev w : ℕ → Bool
   w v = holds v (q .nodes)
 
-  sound-rules : Sound A
-  sound-rules = rules-sound (q .inputs .rules) (rules-of z (q .inputs) B)
+  inside-rules : StaysInside A
+  inside-rules = rules-inside (q .inputs .rules) (rules-of z (q .inputs) B)
 
   pub part-state : (x : Inputs) (ps : List Part) (v : ℕ) → partOf (givenBy z q x) (rootsOf q) ps v .state < z .s
   unfolding givenOf
   part-state x ps v =
       subst (λ (s : ℕ). partOf (givenBy z q x) (rootsOf q) ps v .state < s) (B .s-is)
-      (part-below (givenBy z q x) (rootsOf q) ps v sound-rules)
+      (part-below (givenBy z q x) (rootsOf q) ps v inside-rules)
 
   -- ---- the changed tree
 
@@ -199,11 +200,11 @@ module _ (z : Sizes) (q : Question) (B : Built z (q .inputs)) where
 
     table : take (size t * (A .states + 1)) (usedStateTable z (q .inputs)) ≡ stateTableOf A t
     table = rw stateTable (take-all (size t * (A .states + 1)) (stateTableOf A t)
-        (omega (arith, length-stateTableOf A sound-rules t)))
+        (omega (arith, length-stateTableOf A inside-rules t)))
 
     pub sound-below : statesBelow z (q .inputs) ≡ true
     unfolding statesBelow
-    sound-below = rw (stateTable, ← B .s-is) (table-below A sound-rules t)
+    sound-below = rw (stateTable, ← B .s-is) (table-below A inside-rules t)
 
     given-run : RunGiven (givenBy z q (q .inputs)) u
     unfolding givenOf
@@ -226,7 +227,7 @@ module _ (z : Sizes) (q : Question) (B : Built z (q .inputs)) where
 
     all-right : (x : ℕ) → List·Memᴰ x ms → stateOf (partsOf G ms) x ≡ state A (sub u x)
     unfolding givenOf roots
-    all-right x m = parts-right G u given-run sound-rules w changes ms (list-members w t) x m
+    all-right x m = parts-right G u given-run inside-rules w changes ms (list-members w t) x m
 
     pub whole-state : lastState (partsOf G ms) 0 ≡ state A u
     unfolding partsOf partOf roots

@@ -16,3 +16,6 @@ pub mod AgreementTestLaws
 pub mod Theorems
 pub mod Sample
 pub mod Controls
+pub mod OwnAnswersLaws
+pub mod FinishTheorem
+pub mod PartCeiling

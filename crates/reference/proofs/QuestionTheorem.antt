@@ -78,14 +78,14 @@ QuestionsAnswered fresh Step = (cs : List Call) (xs : List Answer) (x : Inputs) 
 -- ---- the Start
 
 module _ (z : Sizes) (s : State) (x : Inputs) (vs bs : List ℕ) (n : ℕ) where
-  abbrev b : Reference
+  abbrev pub b : Reference
   b = record { state = s; sizes = z }
 
   parts-in : (m : ℕ) → parts n ≡ parts m → n ≡ m
   parts-in m e = cc
 
   -- no check refused it
-  passed : Conforms (step b (start x vs bs)) (parts n) → refusal (stage (phase s) z) (start x vs bs) ≡ 0
+  pub passed : Conforms (step b (start x vs bs)) (parts n) → refusal (stage (phase s) z) (start x vs bs) ≡ 0
   unfolding step decided
   passed e = go (refusal (stage (phase s) z) (start x vs bs)) e
     where
@@ -94,7 +94,7 @@ module _ (z : Sizes) (s : State) (x : Inputs) (vs bs : List ℕ) (n : ℕ) where
       go (suc m) e = absurd (true-false (sym (ap isRefused e)))
 
   -- n is the number of parts, and the question runs
-  begun : Conforms (step b (start x vs bs)) (parts n)
+  pub begun : Conforms (step b (start x vs bs)) (parts n)
       → (n ≡ partCount (asked x vs bs)) × (after (step b (start x vs bs)) (parts n) ≡ going z (asked x vs bs) 0 [])
   unfolding step decided proceed starting inState
   begun = go (refusal (stage (phase s) z) (start x vs bs))

@@ -4,3 +4,5 @@ pub mod Demand3
 pub mod Undisturbed
 pub mod AgreementTest
 pub mod Superseding
+pub mod OwnAnswers
+pub mod Finished

@@ -1,0 +1,19 @@
+-- Which answers belong to which call.
+--
+-- Own c a == a is a refusal, or what call c tells when it is accepted: Load and Cancel that alone, Start its parts, an advance more or
+--   finished, Read an outcome
+--
+-- Assumes nothing.
+use Prim.Native.Nat.{ℕ}
+use mathlib.Core.List.{List}
+use Rattle.formats.specs.Inputs.{Inputs}
+use Rattle.model.specs.Calls.{Call, load, start, advance, cancel, read, Answer, refused, parts, more, finished, Outcome, outcome}
+
+pub data Own : Call → Answer → Type 0 where
+  refuses : {c : Call} (n : ℕ) → Own c (refused n)
+  loads : {x : Inputs} → Own (load x) Answer.accepted
+  starts : {x : Inputs} {vs bs : List ℕ} (p : ℕ) → Own (start x vs bs) (parts p)
+  goes-on : {x : Inputs} → Own (advance x) more
+  finishes : {x : Inputs} → Own (advance x) finished
+  cancels : Own cancel Answer.accepted
+  reads : (o : Outcome) → Own read (outcome o)
