@@ -20,7 +20,7 @@ use Rattle.joining.proofs.CappedLaws.{capped-add}
 
 -- x more at place d
 module _ (l : List ℕ) (K : Kept l) (d x r : ℕ) (h : d < 16) (e : r ≡ capped (getD l d 0 + x)) where
-  added-count : (c : ℕ) → getD (set l d r) c 0 ≡ capped (getD l c 0 + one c d * x)
+  pub added-count : (c : ℕ) → getD (set l d r) c 0 ≡ capped (getD l c 0 + one c d * x)
   added-count c = elim (ℕ-discrete c d) [
     | yes i ↦ (let q : eqb d c ≡ true = eq-eqb d c (sym i) in
         let z : one c d * x ≡ x = rw q (omega arith) in
@@ -82,7 +82,7 @@ module _ (f : List ℕ) (s k i e p q x : ℕ) (l₀ l : List ℕ) (b : ℕ) (L :
     pouring-in = omega (arith, cell, T .room)
 
     pub pouring-state : ledTo f s k p q b < 16
-    pouring-state = omega (arith, T .below ((p * k + b) * s + q), T .states-most)
+    pouring-state = T .below ((p * k + b) * s + q)
 
     pub pouring-next : (r : ℕ) → r ≡ capped (getD l (ledTo f s k p q b) 0 + x)
         → Pouring f s k i e p q x l₀ (set l (ledTo f s k p q b) r) (b + 1)

@@ -2,7 +2,7 @@
 --
 -- ledTo f s k p q b == the state for left state p, label b and right state q in the inner states f
 -- waysTo f s k i e p q c == how many of the labels from i to before e lead from p and q to state c
--- PourArgs, RowArgs, JoinArgs == every read is inside, every value read is a state, every count at most the limit
+-- PourArgs, RowArgs, JoinArgs == every read is inside, every value read is below 16, every count at most the limit
 -- Poured, RowJoined, Joined == each state's count
 --
 -- Counts are lists of 16; those from S on are not read.
@@ -27,7 +27,7 @@ pub record TableArgs (f : List ℕ) (s k i e : ℕ) : Type 0 where
   pub order : i ≤ e
   pub labels : e ≤ k
   pub room : s * k * s ≤ length f
-  pub below : (j : ℕ) → getD f j 0 < s
+  pub below : (j : ℕ) → getD f j 0 < 16
 
 -- counts that were kept
 pub record Kept (l : List ℕ) : Type 0 where

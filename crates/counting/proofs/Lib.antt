@@ -1,0 +1,2 @@
+pub mod CarryLoop
+pub mod SideLaws
