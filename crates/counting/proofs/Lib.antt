@@ -1,2 +1,4 @@
 pub mod CarryLoop
 pub mod SideLaws
+pub mod CappedSums
+pub mod ForkLaws

@@ -1,2 +1,3 @@
 pub mod Carry
 pub mod Side
+pub mod Fork
