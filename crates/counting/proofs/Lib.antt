@@ -2,3 +2,4 @@ pub mod CarryLoop
 pub mod SideLaws
 pub mod CappedSums
 pub mod ForkLaws
+pub mod LimitLoop

@@ -19,8 +19,8 @@ pub fn copy_row(table: &[u64], i: usize, out: &mut [u64; 16])
 }
 
 // The counts at child c, at depth `to`, where `own` is the place from 1 of the last earlier root below c and `other`
-// that of the last below its sibling: 1 at the run's state without a root below, the root's own with roots below both, else
-// what the climb from the root makes of its counts. `out` is 0 at first.
+// that of the last below its sibling: 1 at the run's state without a root below, the root's own with roots below both,
+// else what the climb from the root makes of its counts. `out` is 0 at first.
 pub fn side_counts(
     labels: &[u8],
     inner: &[u8],
