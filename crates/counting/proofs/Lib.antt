@@ -3,3 +3,4 @@ pub mod SideLaws
 pub mod CappedSums
 pub mod ForkLaws
 pub mod LimitLoop
+pub mod ForkSums
