@@ -4,3 +4,4 @@ pub mod CappedSums
 pub mod ForkLaws
 pub mod LimitLoop
 pub mod ForkSums
+pub mod RootLaws

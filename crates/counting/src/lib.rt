@@ -2,4 +2,5 @@
 pub mod carry;
 pub mod fork;
 pub mod limit;
+pub mod root;
 pub mod side;
