@@ -41,7 +41,8 @@ add-to c =
 
 sub-fork-counts : tie.Need-sub-fork-counts
 sub-fork-counts c =
-    omega (arith, c .before .before .before .before .before .before .before .before .before .before .before .pre .inside (c .before .if1 .left))
+    let s = c .before .before .before .before .before .before .before .before .before .before .before in
+    omega (arith, s .pre .inside (c .before .if1 .left))
 
 fork-counts-requires : tie.Need-fork-counts-requires
 fork-counts-requires c κs =
