@@ -1,0 +1,4 @@
+pub mod Carry
+pub mod Side
+pub mod Fork
+pub mod Root

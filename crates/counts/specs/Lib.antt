@@ -1,0 +1,4 @@
+pub mod Assignments
+pub mod Sums
+pub mod PartCounts
+pub mod inner

@@ -1,0 +1,3 @@
+pub mod CappedLaws
+pub mod PourLoop
+pub mod JoinLoop
