@@ -27,7 +27,7 @@
 //!
 //! Order: `lines` (words and numbers), `plan`, `rules`, `questions` (each from text to bytes and back), `input` (text
 //! or bytes), `outcome` (what a verb writes, its status), `sentences`, `loaded` (the library's session on an input),
-//! `progress`; then a file a verb: `answer`, `outline`, `why`, `suggest`, `script` (session), `stored` (build and
+//! `progress`; then a file a verb: `answer`, `outline`, `why`, `suggest`, `script` (session), `over`, `stored` (build and
 //! check), `random`, `dot` (a small plan whole), `agree` (a separating plan). Writing, showing, merging and choosing
 //! a picture are in this file.
 
@@ -39,6 +39,7 @@ pub mod lines;
 pub mod loaded;
 pub mod outcome;
 pub mod outline;
+pub mod over;
 pub mod plan;
 pub mod planner;
 pub mod progress;

@@ -16,6 +16,7 @@ INPUT is text or the bytes that the program whatif reads, a plan of up to 65,535
   suggest [NODE ..]         each single change that turns the verdict, of the whole plan or of these nodes, as questions
   outline QUESTION          the roots of the parts as a picture, with their states and the climbs between (Graphviz)
   dot QUESTION              the whole plan with the parts; above 100 nodes the outline (Graphviz)
+  over LOWER UPPER          question UPPER's list laid over question LOWER's, as a question to paste
   session SCRIPT-FILE       a script of the lines load, start NODE->LABEL .., advance [TIMES|all], cancel, read
   build FILE FILE           writes node table and state table into two files
   check FILE FILE           are these the tables that build writes? else the first wrong node
@@ -70,6 +71,9 @@ fn made(words: &[&str]) -> Result<Made, Failure> {
         }
         ["outline", question] => text::outline::of_question(&input()?, a_question(question)?).map(Made::answered),
         ["dot", question] => text::draw(&input()?, a_question(question)?).map(Made::answered),
+        ["over", lower, upper] => {
+            text::over::of_questions(&input()?, a_question(lower)?, a_question(upper)?).map(Made::answered)
+        }
         ["session", script] => {
             let script = as_text(file(script)?).map_err(|what| of_file(script, what))?;
             text::script::run(&input()?, &script)

@@ -22,13 +22,23 @@ fn on_the_sample() {
     holds("suggest-nodes", &["suggest", "2", "5"], SAMPLE);
     holds("outline-4", &["outline", "4"], SAMPLE);
     holds("session", &["session", SCRIPT], SAMPLE);
+    holds("over-4-9", &["over", "4", "9"], SAMPLE);
+    holds("over-9-4", &["over", "9", "4"], SAMPLE);
+    holds("over-none", &["over", "1", "1"], SAMPLE);
 }
 
 #[test]
 fn bytes_are_taken_like_text() {
     let bytes = text::write(SAMPLE).unwrap();
-    for words in [&["answer"][..], &["why", "4"], &["suggest"], &["outline", "4"], &["dot", "4"], &["session", SCRIPT]]
-    {
+    for words in [
+        &["answer"][..],
+        &["why", "4"],
+        &["suggest"],
+        &["outline", "4"],
+        &["dot", "4"],
+        &["session", SCRIPT],
+        &["over", "4", "9"],
+    ] {
         assert_eq!(told(&run(words, &bytes)), told(&run(words, SAMPLE.as_bytes())), "{:?}", words);
     }
 }
@@ -88,7 +98,9 @@ fn refusals_are_sentences() {
     holds("refused-label", &["outline", "1"], &format!("plan\nleaf 1\nleaf 3\ninner 0\n{}", rules));
     holds("refused-question", &["outline", "7"], SAMPLE);
     let many: String = (0..65).map(|v| format!(" {}->0", v)).collect();
-    holds("refused-65", &["answer"], &SAMPLE.replace("none\n", &format!("{}\n", many.trim())));
+    let many = SAMPLE.replace("none\n", &format!("{}\n", many.trim()));
+    holds("refused-65", &["answer"], &many);
+    holds("refused-over", &["over", "2", "1"], &many);
 }
 
 /// Built, checked, and each of a few places altered.
