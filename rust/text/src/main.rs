@@ -17,6 +17,11 @@ INPUT is text or the bytes that the program whatif reads, a plan of up to 65,535
   outline QUESTION          the roots of the parts as a picture, with their states and the climbs between (Graphviz)
   dot QUESTION              the whole plan with the parts; above 100 nodes the outline (Graphviz)
   over LOWER UPPER          question UPPER's list laid over question LOWER's, as a question to paste
+  branch FILE UPPER LOWER [all|dot]
+                            what a branch table makes of the labels from below node UPPER down to node LOWER, step by step;
+                            all: every step, dot: the path as a picture (Graphviz)
+  branch-with-upper FILE UPPER LOWER [all|dot]
+                            the same with the upper node's label as the first letter
   session SCRIPT-FILE       a script of the lines load, start NODE->LABEL .., advance [TIMES|all], cancel, read
   build FILE FILE           writes node table and state table into two files
   check FILE FILE           are these the tables that build writes? else the first wrong node
@@ -74,6 +79,9 @@ fn made(words: &[&str]) -> Result<Made, Failure> {
         ["over", lower, upper] => {
             text::over::of_questions(&input()?, a_question(lower)?, a_question(upper)?).map(Made::answered)
         }
+        [verb @ ("branch" | "branch-with-upper"), table, upper, lower, rest @ ..] if rest.len() < 2 => {
+            branch(verb, table, [upper, lower], rest)
+        }
         ["session", script] => {
             let script = as_text(file(script)?).map_err(|what| of_file(script, what))?;
             text::script::run(&input()?, &script)
@@ -106,6 +114,21 @@ fn build(nodes: &str, states: &str) -> Result<Made, Failure> {
 
 fn merge([first, second]: &[Vec<u8>; 2]) -> Result<Made, Failure> {
     text::merge(first, second).map(Made::answered).map_err(|refusal| Failure::Refused(refusal.to_string()))
+}
+
+/// A branch question, by a table from a file.
+fn branch(verb: &str, table: &str, nodes: [&str; 2], rest: &[&str]) -> Result<Made, Failure> {
+    use text::branch::{ask, Reading};
+    let shown: fn(&text::branch::Asked) -> String = match rest {
+        [] => |asked| asked.text(false),
+        ["all"] => |asked| asked.text(true),
+        ["dot"] => |asked| asked.picture(),
+        _ => usage(),
+    };
+    let reading = if verb == "branch" { Reading::BelowUpper } else { Reading::WithUpper };
+    let bytes = text::branch_table::of(&file(table)?).map_err(|what| of_file(table, what))?;
+    let nodes = [a_number(nodes[0], "a node")?, a_number(nodes[1], "a node")?];
+    Ok(Made::answered(shown(&ask(&input()?, &bytes, nodes, reading)?)))
 }
 
 /// Planner's text in or out; planner.rs has its form.

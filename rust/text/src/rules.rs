@@ -28,14 +28,14 @@ pub fn to_bytes(lines: &[Line]) -> Result<Vec<u8>, Wrong> {
 }
 
 /// The count that stands in one of the first two lines.
-fn count(lines: &[Line], at: usize, name: &str) -> Result<usize, Wrong> {
+pub(crate) fn count(lines: &[Line], at: usize, name: &str) -> Result<usize, Wrong> {
     let line = &lines[at.min(lines.len() - 1)];
     match &line.words[..] {
         [word, number] if *word == name => match line.number(number, 255)? {
             0 => Err(line.wrong(format!("'{} 0': there is one at least", name))),
             number => Ok(number),
         },
-        _ => Err(line.wrong("the rules begin with 'states NUMBER' and 'labels NUMBER', or with 'bytes ..'")),
+        _ => Err(line.wrong("a table begins with 'states NUMBER' and 'labels NUMBER', or with 'bytes ..'")),
     }
 }
 
@@ -87,7 +87,7 @@ impl Table {
 }
 
 /// One of so many, or all of them.
-fn some(line: &Line, word: &str, count: usize) -> Result<Range<usize>, Wrong> {
+pub(crate) fn some(line: &Line, word: &str, count: usize) -> Result<Range<usize>, Wrong> {
     if word == "*" {
         return Ok(0..count);
     }

@@ -69,7 +69,7 @@ fn wrong_lines_are_named() {
         ("planner\n5\n  256", 3, "'256' is not a number from 0 to 255"),
         ("planner\nleaf 5", 2, "a line of the planner's tree"),
         ("planner\n5\n    6\n  7", 4, "neither below the line before it nor beside one above it"),
-        ("planner\n5\nrules\nstates 2", 4, "the rules begin with"),
+        ("planner\n5\nrules\nstates 2", 4, "a table begins with"),
         ("planner\n5\nquestions\np1->0", 4, "'1' is not a number from 0 to 0"),
         ("planner\n5\nquestions\n\np0-0", 5, "'p0-0' is not NODE->LABEL"),
         ("planner\n5\nquestions\np0->256", 4, "'256' is not a number from 0 to 255"),

@@ -67,6 +67,23 @@ fn outlines() {
     }
 }
 
+/// The path of a branch question is one page, however deep the plan.
+#[test]
+fn paths() {
+    let words: Vec<&str> = "--nodes 65535 --shape comb --labels 2".split(' ').collect();
+    let comb = Input::of_text(&text::random::text(&words).unwrap().unwrap()).unwrap();
+    let table = text::branch_table::of(include_bytes!("../../../examples/branch.txt")).unwrap();
+    for nodes in [[65_534, 0], [65_534, 65_534], [8, 2]] {
+        let asked = text::branch::ask(&comb, &table, nodes, text::branch::Reading::BelowUpper).unwrap();
+        let graphviz = asked.picture();
+        if let Some(svg) = svg(&graphviz) {
+            let [width, height] = size(&svg);
+            assert!(width <= 7.5 * 72.0 + 1.0 && height <= 10.5 * 72.0 + 1.0, "{} {}", width, height);
+            assert_eq!(svg.matches("<g id=\"node").count(), titles(&graphviz).len());
+        }
+    }
+}
+
 /// docs/outline.svg is the picture of the arch's first question.
 #[test]
 fn the_readme_s_picture() {

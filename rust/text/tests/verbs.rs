@@ -10,6 +10,7 @@ use std::process::{Command, Output, Stdio};
 
 const SAMPLE: &str = include_str!("../../../examples/sample.txt");
 const SCRIPT: &str = concat!(env!("CARGO_MANIFEST_DIR"), "/../../examples/session.txt");
+const TABLE: &str = concat!(env!("CARGO_MANIFEST_DIR"), "/../../examples/branch.txt");
 
 /// With the sample of 01, as text and as bytes, with random plans, and with what is wrong or refused.
 #[test]
@@ -25,6 +26,26 @@ fn on_the_sample() {
     holds("over-4-9", &["over", "4", "9"], SAMPLE);
     holds("over-9-4", &["over", "9", "4"], SAMPLE);
     holds("over-none", &["over", "1", "1"], SAMPLE);
+}
+
+/// Both readings of the word, the same node twice, a long path, and what is refused.
+#[test]
+fn branch_questions() {
+    holds("branch-6-4", &["branch", TABLE, "6", "4"], SAMPLE);
+    holds("branch-6-4-dot", &["branch", TABLE, "6", "4", "dot"], SAMPLE);
+    holds("branch-with-upper-6-4", &["branch-with-upper", TABLE, "6", "4"], SAMPLE);
+    holds("branch-6-6", &["branch", TABLE, "6", "6"], SAMPLE);
+    holds("branch-with-upper-6-6", &["branch-with-upper", TABLE, "6", "6"], SAMPLE);
+    let comb = random(&["--nodes", "61", "--shape", "comb", "--labels", "2", "--seed", "3"]);
+    holds("branch-comb", &["branch", TABLE, "60", "0"], &comb);
+    holds("branch-comb-all", &["branch", TABLE, "60", "0", "all"], &comb);
+    holds("branch-comb-dot", &["branch-with-upper", TABLE, "60", "0", "dot"], &comb);
+    holds("refused-branch", &["branch", TABLE, "2", "5"], SAMPLE);
+    holds("refused-branch-node", &["branch", TABLE, "7", "5"], SAMPLE);
+    let four = random(&["--nodes", "15", "--shape", "comb", "--labels", "4"]);
+    holds("refused-branch-label", &["branch", TABLE, "14", "0"], &four);
+    assert_eq!(run(&["branch", TABLE, "6", "4", "drawn"], SAMPLE.as_bytes()).status.code(), Some(2));
+    assert_eq!(run(&["branch", SCRIPT, "6", "4"], SAMPLE.as_bytes()).status.code(), Some(1), "no branch table");
 }
 
 #[test]

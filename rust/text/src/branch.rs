@@ -1,0 +1,132 @@
+//! `whatif-text branch` and `branch-with-upper`: what a branch table makes of the labels down to a node, step by step or
+//! as a picture of the path.
+
+use crate::input::Input;
+use crate::outcome::Failure;
+use crate::sentences::count;
+use reference::formats::number;
+use whatif::sizes::{node_table_len, state_table_len, MAX_NODES, MAX_STATES};
+use whatif::{BranchVerdict, Refusal};
+
+/// Of a longer path the first and the last nodes are told.
+const NODES: usize = 12;
+const FIRST: usize = 6;
+const LAST: usize = 4;
+
+const HEAD: &str = "\
+// The path from the upper node down to the lower, with the state after each label that is read.
+// A dotted node is not read; a dashed line leaves nodes out.
+digraph branch {
+    graph [labelloc=t, fontname=\"sans-serif\", fontsize=20, size=\"7.5,10.5\", ranksep=0.35];
+    node [shape=ellipse, style=filled, fillcolor=\"#ffffff\", fontname=\"sans-serif\", margin=\"0.05,0.03\"];
+    edge [dir=none, fontname=\"sans-serif\"];
+";
+const YES: &str = "#9ed89e";
+const NO: &str = "#f2a0a0";
+
+/// Which word is read: whether the upper node's label is its first letter.
+#[derive(Clone, Copy, PartialEq, Eq)]
+pub enum Reading {
+    BelowUpper,
+    WithUpper,
+}
+
+/// A branch question that was answered: its nodes from the upper down, and the state after each letter.
+pub struct Asked {
+    reading: Reading,
+    verdict: BranchVerdict,
+    path: Vec<usize>,
+    labels: Vec<u8>,
+    /// After each node's label; none for an upper node that is not read.
+    states: Vec<Option<u8>>,
+}
+
+/// By the library; the states on the way are worked out here and held to its answer.
+pub fn ask(input: &Input, table: &[u8], [upper, lower]: [usize; 2], reading: Reading) -> Result<Asked, Failure> {
+    let refused = |refusal: Refusal| Failure::Refused(refusal.to_string());
+    let most = (input.plan.len().saturating_sub(12) / 2).min(MAX_NODES);
+    let (mut nodes, mut states) = (vec![0; node_table_len(most)], vec![0; state_table_len(most, MAX_STATES)]);
+    whatif::branch_build(&input.plan, table, &mut nodes, &mut states).map_err(refused)?;
+    let call = if reading == Reading::WithUpper { whatif::branch_with_upper } else { whatif::branch };
+    let [u, l] = [upper, lower].map(|v| u32::try_from(v).unwrap_or(u32::MAX));
+    let verdict = call(&input.plan, table, &nodes, &states, u, l).map_err(refused)?;
+    let mut path = vec![lower];
+    while path[path.len() - 1] != upper {
+        path.push(nodes[4 * path[path.len() - 1]] as usize);
+    }
+    path.reverse();
+    let labels: Vec<u8> = path.iter().map(|&v| input.plan[12 + v]).collect();
+    let asked = Asked { reading, verdict, states: along(table, &labels, reading), labels, path };
+    let last = asked.states[asked.states.len() - 1].unwrap_or(0);
+    if last != verdict.state {
+        return Err(Failure::wrong("a fault of whatif-text: its steps and the library's answer differ"));
+    }
+    Ok(asked)
+}
+
+fn along(table: &[u8], labels: &[u8], reading: Reading) -> Vec<Option<u8>> {
+    let k = number(table, 4) as usize;
+    let mut state = 0;
+    let step = |(i, &label): (usize, &u8)| {
+        if i == 0 && reading == Reading::BelowUpper {
+            return None;
+        }
+        state = table[16 + state as usize * k + label as usize];
+        Some(state)
+    };
+    labels.iter().enumerate().map(step).collect()
+}
+
+impl Asked {
+    fn sentence(&self) -> String {
+        let from = if self.reading == Reading::WithUpper { "from" } else { "from below" };
+        let (upper, lower) = (self.path[0], self.path[self.path.len() - 1]);
+        let yes = if self.verdict.yes { "yes" } else { "no" };
+        let links = count(self.verdict.links as usize, "link");
+        format!("{} node {} down to node {}: {}, state {}, {}", from, upper, lower, yes, self.verdict.state, links)
+    }
+
+    /// The places on the path that are told, and how many are left out after the first of them.
+    fn told(&self, whole: bool) -> (Vec<usize>, usize) {
+        let nodes = self.path.len();
+        if whole || nodes <= NODES {
+            return ((0..nodes).collect(), 0);
+        }
+        ((0..FIRST).chain(nodes - LAST..nodes).collect(), nodes - FIRST - LAST)
+    }
+
+    /// A line a node.
+    pub fn text(&self, whole: bool) -> String {
+        let (told, left_out) = self.told(whole);
+        let mut text = self.sentence() + "\n";
+        for (i, &at) in told.iter().enumerate() {
+            if left_out > 0 && i == FIRST {
+                text += &format!("  .. {}\n", count(left_out, "node"));
+            }
+            let state = self.states[at].map_or("not read".into(), |state| format!("state {}", state));
+            text += &format!("  node {}, label {}: {}\n", self.path[at], self.labels[at], state);
+        }
+        text
+    }
+
+    /// The path as Graphviz text; the lower node has the answer's colour.
+    pub fn picture(&self) -> String {
+        let (told, left_out) = self.told(false);
+        let mut text = HEAD.to_string() + &format!("    label=\"{}\\n \";\n", self.sentence());
+        for &at in &told {
+            let state = self.states[at].map_or(String::new(), |state| format!("\\nstate {}", state));
+            let dotted = if self.states[at].is_none() { ", style=\"filled,dotted\"" } else { "" };
+            let colour = if self.verdict.yes { YES } else { NO };
+            let end = if at + 1 == self.path.len() { format!(", fillcolor=\"{}\"", colour) } else { String::new() };
+            let v = self.path[at];
+            text +=
+                &format!("    {} [label=\"node {}\\nlabel {}{}\"{}{}];\n", v, v, self.labels[at], state, dotted, end);
+        }
+        for (i, pair) in told.windows(2).enumerate() {
+            let left = format!(" [style=dashed, label=\" {} \"]", count(left_out, "node"));
+            let look = if left_out > 0 && i + 1 == FIRST { left } else { String::new() };
+            text += &format!("    {} -> {}{};\n", self.path[pair[0]], self.path[pair[1]], look);
+        }
+        text + "}\n"
+    }
+}
