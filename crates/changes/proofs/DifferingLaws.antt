@@ -22,9 +22,10 @@ use Rattle.trees.proofs.RunLaws.{changed-length}
 use Rattle.list_laws.specs.Tests.{allBelow, holds}
 use Rattle.list_laws.proofs.BoolLaws.{true-false, and-both, and-left, and-right, or-cases, or-first, or-second}
 use mathlib.Core.Logic.{inl, inr}
-use Rattle.changes.specs.Entries.{Entry, entry, entries, nodesListed, labelsListed, lastLabel, superseded, RisingNodes}
+use Rattle.changes.specs.Entries.{Entry, entries, nodesListed, labelsListed, lastLabel, superseded, RisingNodes}
 use Rattle.changes.specs.Differing.{changing, differing, differs}
-use Rattle.changes.proofs.EntryLaws.{entries-listed, nodes-entries, length-entries, length-nodes, lastLabel-miss, listed-holds, isSome}
+use Rattle.changes.proofs.EntryLaws.{entries-listed, nodes-entries, length-entries, length-nodes, lastLabel-miss}
+use Rattle.changes.proofs.EntryLaws.{listed-holds, isSome}
 use Rattle.changes.proofs.RisingLaws.{above-none, rising-first, rising-only, superseded-most}
 use Rattle.changes.proofs.LaidLaws.{superseded-rises, superseded-labels}
 use Rattle.changes.proofs.ChangedLaws.{labelOr, changed-label, allPass, nodes-pass, superseded-passes}
@@ -64,7 +65,8 @@ changing-last ls (e ∷ l) v r = elim (ℕ-discrete v (e .node)) [
 ]
 
 -- a node is left where it is listed and its last label is not its own
-pub differing-last : (ls vs bs : List ℕ) (v : ℕ) → holds v (differing ls vs bs) ≡ leftBy (lastLabel v (entries vs bs)) (getD ls v 0)
+pub differing-last : (ls vs bs : List ℕ) (v : ℕ)
+    → holds v (differing ls vs bs) ≡ leftBy (lastLabel v (entries vs bs)) (getD ls v 0)
 unfolding differing
 differing-last ls vs bs v =
     changing-last ls (superseded (entries vs bs)) v (superseded-rises (entries vs bs))
@@ -91,7 +93,8 @@ label-kept none d e = refl
 label-kept (some b) d e = eqb-true b d (not-false (eqb b d) e)
 
 -- a node that is not left has the label that it had: "On tables as built the answer is as before"
-pub unlisted-same : (ls vs bs : List ℕ) (v : ℕ) → holds v (differing ls vs bs) ≡ false → getD (changed ls vs bs) v 0 ≡ getD ls v 0
+pub unlisted-same : (ls vs bs : List ℕ) (v : ℕ) → holds v (differing ls vs bs) ≡ false
+    → getD (changed ls vs bs) v 0 ≡ getD ls v 0
 unlisted-same ls vs bs v e = elim (decLt v (length ls)) [
   | yes h ↦ changed-label ls vs bs v h
       ∙ label-kept (lastLabel v (entries vs bs)) (getD ls v 0) (sym (differing-last ls vs bs v) ∙ e)
@@ -130,14 +133,17 @@ differing-same ls vs bs us cs f =
     superseded-labels (entries vs bs) v ∙ f v ∙ sym (superseded-labels (entries us cs) v)))
 
 pub differing-superseded : (ls vs bs : List ℕ)
-    → differing ls vs bs ≡ differing ls (nodesListed (superseded (entries vs bs))) (labelsListed (superseded (entries vs bs)))
+    → differing ls vs bs
+    ≡ differing ls (nodesListed (superseded (entries vs bs))) (labelsListed (superseded (entries vs bs)))
 differing-superseded ls vs bs =
-    differing-same ls vs bs (nodesListed (superseded (entries vs bs))) (labelsListed (superseded (entries vs bs))) (λ v.
+    let l = superseded (entries vs bs) in
+    differing-same ls vs bs (nodesListed l) (labelsListed l) (λ v.
     sym (ap (lastLabel v) (entries-listed (superseded (entries vs bs))) ∙ superseded-labels (entries vs bs) v))
 
 -- ---- 13, and how many
 
-changing-passes : (f : Entry → Bool) (ls : List ℕ) (l : List Entry) → allPass f l ≡ true → allPass f (changing ls l) ≡ true
+changing-passes : (f : Entry → Bool) (ls : List ℕ) (l : List Entry) → allPass f l ≡ true
+    → allPass f (changing ls l) ≡ true
 unfolding changing allPass
 changing-passes f ls [] e = e
 changing-passes f ls (x ∷ l) e =
@@ -147,7 +153,8 @@ changing-passes f ls (x ∷ l) e =
     go true ih = ih
     go false ih = and-both (f x) (allPass f (changing ls l)) (and-left (f x) (allPass f l) e) ih
 
-pub differing-below : (n : ℕ) (ls vs bs : List ℕ) → length vs ≡ length bs → allBelow n vs ≡ true → allBelow n (differing ls vs bs) ≡ true
+pub differing-below : (n : ℕ) (ls vs bs : List ℕ) → length vs ≡ length bs → allBelow n vs ≡ true
+    → allBelow n (differing ls vs bs) ≡ true
 unfolding differing
 differing-below n ls vs bs h e =
     let inside : Entry → Bool = λ x. ltb (x .node) n in
@@ -161,7 +168,8 @@ unfolding changing
 changing-most ls [] = omega arith
 changing-most ls (x ∷ l) = go (eqb (x .label) (getD ls (x .node) 0)) (changing-most ls l)
   where
-    go : (b : Bool) → length (changing ls l) ≤ length l → length (cond b (changing ls l) (x ∷ changing ls l)) ≤ length (x ∷ l)
+    go : (b : Bool) → length (changing ls l) ≤ length l
+        → length (cond b (changing ls l) (x ∷ changing ls l)) ≤ length (x ∷ l)
     go true ih = omega arith
     go false ih = omega arith
 

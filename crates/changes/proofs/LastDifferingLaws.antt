@@ -1,10 +1,11 @@
 -- The code of `differing`: the nodes that it keeps are those that the definition leaves in W.
 --     last-same            the nodes kept in the order of their last entries are those of `differing`
---     last-most            no more than are listed
+--     last-most, last-below   no more than are listed, and below what these are below
 --     pushed-left          one node more
 --     keep-later, keep-own, keep-new   one for each way out of `keep`
 --     KeepLoop, keep-start, keep-again, keep-done   the loop over the list
 --     kept-all, none-done, all-done   what is returned
+--     left-wide, left-taken   what a caller takes of it
 -- Assumes nothing.
 use Prim.Native.Nat.{ℕ, zero, suc, _+_, _-_, _≤_, _<_}
 use mathlib.Core.Path.{_≡_, refl, sym, ap, ap₂, _∙_, subst}
@@ -14,12 +15,12 @@ use mathlib.Core.Option.{Option, none, some, orElse}
 use native.Mathlib.Decide.{ℕ-discrete}
 use native.Mathlib.Numerals.{add-one}
 use native.Mathlib.Omega.{arith}
-use lib.Dec.{eqb, leb}
+use lib.Dec.{eqb, leb, ltb}
 use lib.ListN.{length, getD, take, drop, set, replicate, length-append, length-set, length-drop, drop-of-length-le}
 use lib.Seq.{drop-cons, set-append-seam, take-all}
 use borrow.Author.Tests.{eq-eqb, ne-eqb, eqb-true, leb-true}
-use Rattle.list_laws.specs.Tests.{holds}
-use Rattle.list_laws.proofs.BoolLaws.{and-left, and-right, or-first, true-false}
+use Rattle.list_laws.specs.Tests.{allBelow, holds}
+use Rattle.list_laws.proofs.BoolLaws.{and-both, and-left, and-right, or-first, true-false}
 use Rattle.formats.specs.inner.InnerChecks.{listsFit}
 use Rattle.changes.specs.Entries.{Entry, entry, entries, nodesListed, lastLabel}
 use Rattle.changes.specs.LayOver.{padded}
@@ -55,16 +56,20 @@ unfolding lastDiffering entries
 last-left ls [] bs v h = unfold holds lastLabel in refl
 last-left ls (u ∷ vs) [] v h = absurd (omega arith)
 last-left ls (u ∷ vs) (b ∷ bs) v h = elim (ℕ-discrete v u) [
-  | yes q ↦ ap (λ (w : ℕ). holds v (cond (isLeft ls w b vs) (w ∷ lastDiffering ls vs bs) (lastDiffering ls vs bs))) (sym q)
-      ∙ ap (λ (t : Bool). holds v (cond (not t && not (eqb b (getD ls v 0))) (v ∷ lastDiffering ls vs bs) (lastDiffering ls vs bs)))
+  | yes q ↦ ap (λ (w : ℕ). holds v (cond (isLeft ls w b vs) (w ∷ lastDiffering ls vs bs) (lastDiffering ls vs bs)))
+      (sym q)
+      ∙ ap (λ (t : Bool). holds v (cond (not t && not (eqb b (getD ls v 0))) (v ∷ lastDiffering ls vs bs)
+      (lastDiffering ls vs bs)))
       (sym (ap (holds v) (nodes-entries vs bs (omega arith))) ∙ listed-holds v (entries vs bs))
-      ∙ own-kept (lastLabel v (entries vs bs)) b (getD ls v 0) v (lastDiffering ls vs bs) (last-left ls vs bs v (omega arith))
+      ∙ own-kept (lastLabel v (entries vs bs)) b (getD ls v 0) v (lastDiffering ls vs bs)
+      (last-left ls vs bs v (omega arith))
       ∙ sym (ap (λ (o : Option ℕ). leftBy o (getD ls v 0)) (lastLabel-hit v (entry u b) (entries vs bs) q))
   | no q ↦ other-kept (isLeft ls u b vs) u v (lastDiffering ls vs bs) q ∙ last-left ls vs bs v (omega arith)
       ∙ sym (ap (λ (o : Option ℕ). leftBy o (getD ls v 0)) (lastLabel-miss v (entry u b) (entries vs bs) q))
 ]
 
-pub last-same : (ls vs bs : List ℕ) (v : ℕ) → length vs ≡ length bs → holds v (lastDiffering ls vs bs) ≡ holds v (differing ls vs bs)
+pub last-same : (ls vs bs : List ℕ) (v : ℕ) → length vs ≡ length bs
+    → holds v (lastDiffering ls vs bs) ≡ holds v (differing ls vs bs)
 last-same ls vs bs v h = last-left ls vs bs v h ∙ sym (differing-last ls vs bs v)
 
 pub last-most : (ls vs bs : List ℕ) → length (lastDiffering ls vs bs) ≤ length vs
@@ -77,6 +82,18 @@ last-most ls (v ∷ vs) (b ∷ bs) = go (isLeft ls v b vs) (last-most ls vs bs)
         → length (cond t (v ∷ lastDiffering ls vs bs) (lastDiffering ls vs bs)) ≤ suc (length vs)
     go true ih = omega arith
     go false ih = omega arith
+
+pub last-below : (n : ℕ) (ls vs bs : List ℕ) → allBelow n vs ≡ true → allBelow n (lastDiffering ls vs bs) ≡ true
+unfolding lastDiffering allBelow
+last-below n ls [] bs e = e
+last-below n ls (v ∷ vs) [] e = refl
+last-below n ls (v ∷ vs) (b ∷ bs) e =
+    go (isLeft ls v b vs) (last-below n ls vs bs (and-right (ltb v n) (allBelow n vs) e))
+  where
+    go : (t : Bool) → allBelow n (lastDiffering ls vs bs) ≡ true
+        → allBelow n (cond t (v ∷ lastDiffering ls vs bs) (lastDiffering ls vs bs)) ≡ true
+    go true ih = and-both (ltb v n) (allBelow n (lastDiffering ls vs bs)) (and-left (ltb v n) (allBelow n vs) e) ih
+    go false ih = ih
 
 -- ---- in an array
 
@@ -94,7 +111,8 @@ pushed-left l v h =
     ∙ ap (λ (i : ℕ). (l ++ (v ∷ [])) ++ replicate i 0) m in
     ap₂ (λ (i : ℕ) (xs : List ℕ). record { count = i; nodes = xs }) (sym c) e
 
-pub kept-all : (ls l vs bs : List ℕ) → length l + length vs ≤ 64 → keptIn ls (leftNodes l) vs bs ≡ leftNodes (l ++ lastDiffering ls vs bs)
+pub kept-all : (ls l vs bs : List ℕ) → length l + length vs ≤ 64
+    → keptIn ls (leftNodes l) vs bs ≡ leftNodes (l ++ lastDiffering ls vs bs)
 unfolding keptIn lastDiffering
 kept-all ls l [] bs h = ap leftNodes (sym (append-nil l))
 kept-all ls l (v ∷ vs) [] h = ap leftNodes (sym (append-nil l))
@@ -114,7 +132,8 @@ kept-all ls l (v ∷ vs) (b ∷ bs) h =
 
 -- ---- one entry
 
-module _ (t : LeftNodes) (ls vs : List ℕ) (v b i : ℕ) (f : Bool) (test : f ≡ holds v (take (length vs - (i + 1)) (drop (i + 1) vs))) where
+module _ (t : LeftNodes) (ls vs : List ℕ) (v b i : ℕ) (f : Bool)
+    (test : f ≡ holds v (take (length vs - (i + 1)) (drop (i + 1) vs))) where
   abbrev kept : LeftNodes
   kept = cond (isLeft ls v b (drop (i + 1) vs)) (pushed t v) t
 
@@ -174,11 +193,13 @@ module _ (ls vs bs : List ℕ) where
     }
 
     pub keep-again : i < length vs → (r : LeftNodes)
-        → r ≡ cond (isLeft ls (getD vs i 0) (getD bs i 0) (drop (i + 1) vs)) (pushed t (getD vs i 0)) t → KeepLoop ls vs bs r (i + 1)
+        → r ≡ cond (isLeft ls (getD vs i 0) (getD bs i 0) (drop (i + 1) vs)) (pushed t (getD vs i 0)) t
+        → KeepLoop ls vs bs r (i + 1)
     unfolding keptIn
     keep-again h r e =
         let a : drop i vs ≡ getD vs i 0 ∷ drop (i + 1) vs = rw add-one (drop-cons vs i 0 h) in
-        let d : drop i bs ≡ getD bs i 0 ∷ drop (i + 1) bs = rw add-one (drop-cons bs i 0 (omega (arith, L .one-length))) in
+        let d : drop i bs ≡ getD bs i 0 ∷ drop (i + 1) bs =
+        rw add-one (drop-cons bs i 0 (omega (arith, L .one-length))) in
         let s = shape (isLeft ls (getD vs i 0) (getD bs i 0) (drop (i + 1) vs)) in
         record {
           wide = ap (λ (x : LeftNodes). length (x .nodes)) e ∙ s .0;
@@ -192,7 +213,8 @@ module _ (ls vs bs : List ℕ) where
               ∙ L .is;
         }
       where
-        shape : (b : Bool) → (length (cond b (pushed t (getD vs i 0)) t .nodes) ≡ 64) × (cond b (pushed t (getD vs i 0)) t .count ≤ i + 1)
+        shape : (b : Bool)
+            → (length (cond b (pushed t (getD vs i 0)) t .nodes) ≡ 64) × (cond b (pushed t (getD vs i 0)) t .count ≤ i + 1)
         shape true = (length-set (t .nodes) (t .count) (getD vs i 0) ∙ L .wide, omega (arith, L .room))
         shape false = (L .wide, omega (arith, L .room))
 
@@ -202,11 +224,13 @@ module _ (ls vs bs : List ℕ) where
 
   -- ---- what is returned
 
-  done : (b : Bool) → listsFit vs bs ≡ b → (r : LeftNodes) → r ≡ leftNodes (cond b (lastDiffering ls vs bs) []) → DifferingDone ls vs bs r
+  done : (b : Bool) → listsFit vs bs ≡ b → (r : LeftNodes) → r ≡ leftNodes (cond b (lastDiffering ls vs bs) [])
+      → DifferingDone ls vs bs r
   done true e r q = record {
     result = q ∙ ap (λ (b : Bool). leftNodes (cond b (lastDiffering ls vs bs) [])) (sym e);
     few = omega (arith, ap (λ (x : LeftNodes). x .count) q, last-most ls vs bs, fit-lengths e .1);
-    same = λ f v. ap (λ (x : LeftNodes). holds v (take (x .count) (x .nodes))) q ∙ ap (holds v) (take-padded (lastDiffering ls vs bs))
+    same = λ f v. ap (λ (x : LeftNodes). holds v (take (x .count) (x .nodes))) q
+        ∙ ap (holds v) (take-padded (lastDiffering ls vs bs))
         ∙ last-same ls vs bs v (fit-lengths e .0);
   }
   done false e r q = record {
@@ -218,5 +242,25 @@ module _ (ls vs bs : List ℕ) where
   pub none-done : listsFit vs bs ≡ false → (r : LeftNodes) → r ≡ leftNodes [] → DifferingDone ls vs bs r
   none-done e r q = done false e r q
 
-  pub all-done : listsFit vs bs ≡ true → (r : LeftNodes) → r ≡ leftNodes (lastDiffering ls vs bs) → DifferingDone ls vs bs r
+  pub all-done : listsFit vs bs ≡ true → (r : LeftNodes) → r ≡ leftNodes (lastDiffering ls vs bs)
+      → DifferingDone ls vs bs r
   all-done e r q = done true e r q
+
+-- ---- what a caller takes of it
+
+module _ (ls vs bs : List ℕ) (r : LeftNodes) (D : DifferingDone ls vs bs r) where
+  count-is : r .count ≡ length (givenDiffering ls vs bs)
+  count-is = ap (λ (x : LeftNodes). x .count) (D .result)
+
+  pub left-wide : r .count ≤ length (r .nodes)
+  left-wide =
+      omega (
+        arith,
+        D .few,
+        ap (λ (x : LeftNodes). length (x .nodes)) (D .result),
+        length-padded (givenDiffering ls vs bs) (omega (arith, D .few, count-is)),
+      )
+
+  pub left-taken : take (r .count) (r .nodes) ≡ givenDiffering ls vs bs
+  left-taken =
+      ap (λ (x : LeftNodes). take (x .count) (x .nodes)) (D .result) ∙ take-padded (givenDiffering ls vs bs)

@@ -1,10 +1,12 @@
 -- Changes that change nothing (document 02, S-5).
 --
--- changing ls l == of the entries l those whose label is not the one that their node has in the labels ls (0 past their end)
--- differing ls vs bs == the nodes that a list leaves in W: those of the list after superseding whose label is not the plan's, rising
+-- changing ls l == of the entries l those whose label is not the one that their node has in the labels ls (0 past their
+--   end)
+-- differing ls vs bs == the nodes that a list leaves in W: those of the list after superseding whose label is not the
+--   plan's, rising
 -- differs ls vs bs v == the same as a test on nodes: v is listed, and its label as changed is another than before
 --
--- Nodes are left out, not entries: a node whose last entry gives it its own label is no change, whatever entries come before.
+-- Nodes are left out, not entries: a node whose last entry gives it its own label is no change, whatever comes before.
 -- That `differing` lists exactly what `differs` tells is differing-is (proofs/DifferingLaws).
 -- Assumes nothing.
 use Prim.Native.Nat.{ℕ}

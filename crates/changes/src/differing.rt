@@ -1,4 +1,5 @@
-// Changes that change nothing (document 02, S-5): the nodes of a list whose label, after superseding, is not the plan's.
+// Changes that change nothing (document 02, S-5): the nodes of a list whose label, after superseding, is not the
+// plan's.
 //     LeftNodes   these nodes
 //     differing   the test of a whole list
 use formats::lists::lists_fit;
@@ -65,7 +66,8 @@ fn label_at(labels: &[u8], v: u16) -> u8
 fn keep(t: LeftNodes, labels: &[u8], nodes: &[u16], changes: &[u8], i: usize) -> LeftNodes
     requires { ⌜ KeepArgs t (now nodes) (now changes) i ⌝ }
     ensures { λ r. ⌜
-        r ≡ cond (isLeft (now (labels .entry)) (getD (now (nodes .entry)) i 0) (getD (now (changes .entry)) i 0) (drop (i + 1) (now (nodes .entry))))
+        r ≡ cond (isLeft (now (labels .entry)) (getD (now (nodes .entry)) i 0) (getD (now (changes .entry)) i 0)
+        (drop (i + 1) (now (nodes .entry))))
         (pushed t (getD (now (nodes .entry)) i 0)) t ⌝ }
 {
     let v = nodes[i];
@@ -78,7 +80,8 @@ fn keep(t: LeftNodes, labels: &[u8], nodes: &[u16], changes: &[u8], i: usize) ->
     push(t, v)
 }
 
-// The nodes of the list whose label, after superseding, is not the one they have in `labels`: in the order of their last entries.
+// The nodes of the list whose label, after superseding, is not the one they have in `labels`: in the order of their
+// last entries.
 pub fn differing(labels: &[u8], nodes: &[u16], changes: &[u8]) -> LeftNodes
     ensures { λ r. ⌜ DifferingDone (now (labels .entry)) (now (nodes .entry)) (now (changes .entry)) r ⌝ }
 {

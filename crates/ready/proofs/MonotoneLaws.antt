@@ -40,7 +40,8 @@ module _ (w u : ℕ → Bool) (more : (v : ℕ) → w v ≡ true → u v ≡ tru
   forks-mono t v e =
       and-mono (eqb (kindAt t v) 1) (someBelow w t (leftChild t v) && someBelow w t (rightChild v)) (eqb (kindAt t v) 1)
       (someBelow u t (leftChild t v) && someBelow u t (rightChild v)) (λ h. h)
-      (and-mono (someBelow w t (leftChild t v)) (someBelow w t (rightChild v)) (someBelow u t (leftChild t v)) (someBelow u t (rightChild v))
+      (and-mono (someBelow w t (leftChild t v)) (someBelow w t (rightChild v)) (someBelow u t (leftChild t v))
+      (someBelow u t (rightChild v))
       (some-mono (size (sub t (leftChild t v))) (leftChild t v + 1 - size (sub t (leftChild t v))))
       (some-mono (size (sub t (rightChild v))) (rightChild v + 1 - size (sub t (rightChild v))))) e
 
@@ -72,7 +73,8 @@ keep-mono p q f (suc n) =
     one false b g = omega arith
 
 -- "parts and advances needed never rise"
-pub ready-mono : (w u : ℕ → Bool) (t : Tree) → ((v : ℕ) → w v ≡ true → u v ≡ true) → length (readyList w t) ≤ length (readyList u t)
+pub ready-mono : (w u : ℕ → Bool) (t : Tree) → ((v : ℕ) → w v ≡ true → u v ≡ true)
+    → length (readyList w t) ≤ length (readyList u t)
 unfolding readyList
 ready-mono w u t f = keep-mono (isMember w t) (isMember u t) (member-mono w u f t) (size t)
 

@@ -1,7 +1,7 @@
 -- The nodes of `differing` as the code finds them: in the order of their last entries.
 --
--- isLeft ls v b vs == whether an entry, v to b, counts, where the nodes vs are listed after it: it is the last for its node, and gives it
---   another label than ls
+-- isLeft ls v b vs == whether an entry, v to b, counts, where the nodes vs are listed after it: it is the last for its
+--   node, and gives it another label than ls
 -- lastDiffering ls vs bs == the nodes of the entries that count, as listed
 -- givenDiffering ls vs bs == these where the two lists pass 12; none where they do not
 -- leftNodes xs == the numbers xs, at most 64, in an array of 64

@@ -3,7 +3,8 @@ use mathlib.Core.Path.{_≡_, sym, _∙_}
 use borrow.Author.Tests.{not-true, not-false}
 use Prim.Native.Nat.{_-_}
 use lib.ListN.{length}
-use Rattle.changes.proofs.LastDifferingLaws.{KeepLoop, keep-start, keep-args, keep-again, keep-done, none-done, all-done}
+use Rattle.changes.proofs.LastDifferingLaws.{KeepLoop, keep-start, keep-args, keep-again, keep-done, none-done}
+use Rattle.changes.proofs.LastDifferingLaws.{all-done}
 use native.Mathlib.Omega.{arith}
 use borrow.Author.Needs.{needs}
 use Rattle.changes.proofs.differing.differing.Statement.{statement}
@@ -29,19 +30,22 @@ lists-fit-requires c κs = search needs
 returns : tie.Need-returns Inv-loop μ-loop
 returns c =
     let a = c .before .before .before .before .before .before .args in
-    none-done (a .labels .now) (a .nodes .now) (a .changes .now) (sym (c .before .lists-fit .ensures) ∙ not-true _ (c .if1 .taken)) _
+    none-done (a .labels .now) (a .nodes .now) (a .changes .now)
+    (sym (c .before .lists-fit .ensures) ∙ not-true _ (c .if1 .taken)) _
     (c .before .before .none-left .ensures)
 
 loop-holds : tie.Need-loop-holds Inv-loop μ-loop
 loop-holds c =
     let a = c .before .before .before .before .before .before .args in
-    keep-start (a .labels .now) (a .nodes .now) (a .changes .now) (sym (c .before .lists-fit .ensures) ∙ not-false _ (c .if1 .left)) _
+    keep-start (a .labels .now) (a .nodes .now) (a .changes .now)
+    (sym (c .before .lists-fit .ensures) ∙ not-false _ (c .if1 .left)) _
     (c .before .before .none-left .ensures)
 
 keep-requires : tie.Need-keep-requires Inv-loop μ-loop
 keep-requires c κs =
     let a = c .before .before .before .before .before .before .before .before .args in
-    keep-args (a .labels .now) (a .nodes .now) (a .changes .now) (c .before .loop .t) (c .before .loop .i) (c .before .loop .inv)
+    let l = c .before .loop in
+    keep-args (a .labels .now) (a .nodes .now) (a .changes .now) (l .t) (l .i) (l .inv)
     (c .loop-test .taken)
 
 add-i : tie.Need-add-i Inv-loop μ-loop
@@ -54,14 +58,16 @@ loop-again : tie.Need-loop-again Inv-loop μ-loop
 loop-again c =
     let a = c .before .before .before .before .before .before .before .before .before .args in
     let l = c .before .before .loop in
-    keep-again (a .labels .now) (a .nodes .now) (a .changes .now) (l .t) (l .i) (l .inv) (c .before .loop-test .taken) _ (c .keep .ensures)
+    keep-again (a .labels .now) (a .nodes .now) (a .changes .now) (l .t) (l .i) (l .inv) (c .before .loop-test .taken) _
+    (c .keep .ensures)
 
 returns-2 : tie.Need-returns-2 Inv-loop μ-loop
 returns-2 c =
     let a = c .before .before .before .before .before .before .before .before .args in
     let l = c .before .loop in
     let e = c .before .before in
-    all-done (a .labels .now) (a .nodes .now) (a .changes .now) (sym (e .before .lists-fit .ensures) ∙ not-false _ (e .if1 .left)) _
+    all-done (a .labels .now) (a .nodes .now) (a .changes .now)
+    (sym (e .before .lists-fit .ensures) ∙ not-false _ (e .if1 .left)) _
     (keep-done (a .labels .now) (a .nodes .now) (a .changes .now) (l .t) (l .i) (l .inv) (c .loop-test .left))
 
 pub differing-spec : {M : Type 1} → statement M

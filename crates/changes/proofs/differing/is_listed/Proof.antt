@@ -1,5 +1,5 @@
--- `changes::differing::is_listed` meets its contract. The loop's invariant: the running answer or that of the numbers to come is the
--- answer for all. Assumes nothing.
+-- `changes::differing::is_listed` meets its contract. The loop's invariant: the running answer or that of the numbers
+-- to come is the answer for all. Assumes nothing.
 use Prim.Native.Nat.{_-_, _≤_}
 use mathlib.Core.Path.{_≡_, refl, sym, _∙_}
 use mathlib.Core.Bool.{_||_}

@@ -38,7 +38,8 @@ is-listed-requires c κs = search needs
 returns : tie.Need-returns
 returns c =
     let a = c .before .before .before .before .before .before .before .args in
-    keep-later (a .t) (a .labels .now) (a .nodes .now) (getD (a .nodes .now) (a .i) 0) (getD (a .changes .now) (a .i) 0) (a .i) _
+    keep-later (a .t) (a .labels .now) (a .nodes .now) (getD (a .nodes .now) (a .i) 0)
+    (getD (a .changes .now) (a .i) 0) (a .i) _
     (c .before .is-listed .ensures) (c .if1 .taken)
 
 shared-slice-read-if2 : tie.Need-shared-slice-read-if2
@@ -51,7 +52,8 @@ returns-2 : tie.Need-returns-2
 returns-2 c =
     let a = c .before .before .before .before .before .before .before .before .before .before .args in
     let e = c .before .before .before in
-    keep-own (a .t) (a .labels .now) (a .nodes .now) (getD (a .nodes .now) (a .i) 0) (getD (a .changes .now) (a .i) 0) (a .i) _
+    keep-own (a .t) (a .labels .now) (a .nodes .now) (getD (a .nodes .now) (a .i) 0)
+    (getD (a .changes .now) (a .i) 0) (a .i) _
     (e .before .is-listed .ensures) (e .if1 .left) _ (c .before .label-at .ensures) (c .if2 .taken)
 
 push-requires : tie.Need-push-requires
@@ -62,7 +64,8 @@ returns-3 c =
     let a = c .before .before .before .before .before .before .before .before .before .before .before .args in
     let n = c .before in
     let e = n .before .before .before in
-    keep-new (a .t) (a .labels .now) (a .nodes .now) (getD (a .nodes .now) (a .i) 0) (getD (a .changes .now) (a .i) 0) (a .i) _
+    keep-new (a .t) (a .labels .now) (a .nodes .now) (getD (a .nodes .now) (a .i) 0)
+    (getD (a .changes .now) (a .i) 0) (a .i) _
     (e .before .is-listed .ensures) (e .if1 .left) _ (n .before .label-at .ensures) (n .if2 .left) _ (c .push .ensures)
 
 pub keep-spec : {M : Type 1} → statement M
