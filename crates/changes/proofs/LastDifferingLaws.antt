@@ -214,7 +214,8 @@ module _ (ls vs bs : List ℕ) where
         }
       where
         shape : (b : Bool)
-            → (length (cond b (pushed t (getD vs i 0)) t .nodes) ≡ 64) × (cond b (pushed t (getD vs i 0)) t .count ≤ i + 1)
+            → (length (cond b (pushed t (getD vs i 0)) t .nodes) ≡ 64)
+            × (cond b (pushed t (getD vs i 0)) t .count ≤ i + 1)
         shape true = (length-set (t .nodes) (t .count) (getD vs i 0) ∙ L .wide, omega (arith, L .room))
         shape false = (L .wide, omega (arith, L .room))
 

@@ -185,8 +185,8 @@ module _ (s : Session) (h : Shaped s) (x : Inputs) (vs bs : List ℕ) (b : Bool)
                   found : R ≡ rootedOf (some (rootsIn x (leftIn x vs bs)))
                   found =
                       D .built (planTree (x .plan)) (cells (sizesOf s) x B) (tree-size (sizesOf s) x B)
-                      (sym (fit-all (s .head .sizes .n) (length (take (s .head .sizes .n * 4) (x .nodeTable))) ws (sized .nodes-least) (sized .nodes-most) (omega (arith, cut))
-                      left-few)
+                      (sym (fit-all (s .head .sizes .n) (length (take (s .head .sizes .n * 4) (x .nodeTable))) ws (sized .nodes-least)
+                      (sized .nodes-most) (omega (arith, cut)) left-few)
                       ∙ left-inside)
                       ∙ ap (λ (l : List ℕ). rootedOf (some l)) same-roots
 

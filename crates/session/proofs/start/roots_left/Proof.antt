@@ -66,8 +66,8 @@ returns : tie.Need-returns
 returns c =
     let a = c .before .before .before .before .before .before .before .before .before .before .args in
     let r = c .before .before .before .before .differing in
-    handed (a .n) (a .plan .now) (take (a .n * 4) (a .node-table .now)) (a .nodes .now) (a .labels .now) (r .result) (c .roots .result)
-    (r .ensures) (c .roots .ensures)
+    handed (a .n) (a .plan .now) (take (a .n * 4) (a .node-table .now)) (a .nodes .now) (a .labels .now) (r .result)
+    (c .roots .result) (r .ensures) (c .roots .ensures)
 
 pub roots-left-spec : {M : Type 1} → statement M
 roots-left-spec =
