@@ -47,7 +47,6 @@ pub fn list(case: &Case, m: usize, random: &mut Random) -> List {
             nodes.push(v);
         }
     }
-    let mut other = |v: u16| (case.labels()[v as usize] as usize + 1 + random.below((case.k - 1).max(1))) % case.k;
-    let labels = nodes.iter().map(|&v| other(v) as u8).collect();
+    let labels = case.other_labels(&nodes, random);
     (nodes, labels)
 }

@@ -82,15 +82,9 @@ fn as_many_parts_as_there_can_be() {
     for m in 1..=64 {
         let mut nodes = listed[..m].to_vec();
         random.shuffle(&mut nodes);
-        let labels = others(&asked.case, &nodes, random);
+        let labels = asked.case.other_labels(&nodes, random);
         assert_eq!(asked.ask(&nodes, &labels, random).parts as usize, 4 * m - 2);
     }
-}
-
-/// For each node a label that it has not.
-fn others(case: &Case, nodes: &[u16], random: &mut Random) -> Vec<u8> {
-    let own = |v: u16| case.labels()[v as usize] as usize;
-    nodes.iter().map(|&v| ((own(v) + random.between(1, case.k - 1)) % case.k) as u8).collect()
 }
 
 /// "A listed node whose label equals the plan's is left out of W from now on": nothing is rechecked but the root.
@@ -107,7 +101,7 @@ fn labels_that_are_there_already() {
         assert_eq!(told, unchanged);
         assert_eq!((told.parts, told.links), (1, 0));
         // and beside nodes that change they count for nothing; a first entry for a node does not hold
-        let (mut more, mut others) = (nodes.clone(), others(&asked.case, &nodes, random));
+        let (mut more, mut others) = (nodes.clone(), asked.case.other_labels(&nodes, random));
         more.extend(&nodes[1..]);
         others.extend(&labels[1..]);
         assert_eq!(asked.ask(&more, &others, random), asked.ask(&nodes[..1], &others[..1], random));
