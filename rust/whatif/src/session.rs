@@ -129,6 +129,7 @@ impl Session {
     }
 
     /// Puts a question: node `nodes[i]` takes `labels[i]`. Tells the number of its parts; the session is running then.
+    /// Of two entries for a node the last holds; a node that ends with the label it has in the plan lent is no change.
     /// Refused with 1, 17, 12, 13, 14, 18 (in this order); 18 exactly when plan and rules do not pass 2 to 10 or name
     /// other counts than those loaded, or the tables are not what Load writes from them.
     pub fn start(&mut self, lent: &Lent<'_>, nodes: &[u16], labels: &[u8]) -> Result<u32, Refusal> {
