@@ -1,0 +1,2 @@
+// How many choices of labels end in each state, on whatever is lent (document 02, S-10).
+pub mod count;
