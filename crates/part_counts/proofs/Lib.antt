@@ -1,0 +1,4 @@
+pub mod RootPlaces
+pub mod ClimbsBuilt
+pub mod SidesBuilt
+pub mod CountsBuilt
