@@ -2,3 +2,5 @@ pub mod RootPlaces
 pub mod ClimbsBuilt
 pub mod SidesBuilt
 pub mod CountsBuilt
+pub mod RowsBuilt
+pub mod RuleCounts
