@@ -4,3 +4,5 @@ pub mod SidesBuilt
 pub mod CountsBuilt
 pub mod RowsBuilt
 pub mod RuleCounts
+pub mod BuiltCounts
+pub mod Theorems
