@@ -55,6 +55,14 @@ append-most l r f g j = go (ltb j (length l)) refl
           g (j - length l),
         )
 
+pub rows-most : (X : View) (w : ℕ → Bool) (ms es cs : List ℕ) → ((j : ℕ) → getD cs j 0 ≤ countLimit)
+    → (j : ℕ) → getD (rowsFrom X w es cs ms) j 0 ≤ countLimit
+unfolding rowsFrom
+rows-most X w [] es cs f j = f j
+rows-most X w (v ∷ ms) es cs f j =
+    rows-most X w ms (es ++ (v ∷ [])) (cs ++ rowOn X w es cs v)
+    (append-most cs (rowOn X w es cs v) f (row-most X w es cs v)) j
+
 module _ (n s k : ℕ) (ls ks lv inn nodeTable stateTable vs ms b₀ : List ℕ) where
   abbrev X : View
   X = partView n s k ls ks lv inn nodeTable stateTable
@@ -93,6 +101,7 @@ module _ (n s k : ℕ) (ls ks lv inn nodeTable stateTable vs ms b₀ : List ℕ)
         record {
           ok = sym (ap (partsOk X w (take i ms)) e) ∙ G .oks;
           links = λ _. omega (arith, G .links-are, ap (linksFrom X (take i ms)) e);
+          room = omega (arith, G .args .room, G .same);
           rows = λ _. ap (λ (x : ℕ). take (x * 16) m) (sym z)
               ∙ sym (ap (rowsFrom X w (take i ms) (take (i * 16) m)) e) ∙ G .rows;
         }
@@ -133,6 +142,7 @@ module _ (n s k : ℕ) (ls ks lv inn nodeTable stateTable vs ms b₀ : List ℕ)
           ok = sym (sym (G .oks) ∙ ap (partsOk X w es) rest
               ∙ and-no-left (partOkOn X w es v) _ (sym (N .ok) ∙ f));
           links = λ q. no-yes _ q;
+          room = omega (arith, G .args .room, G .same, N .same);
           rows = λ q. no-yes _ q;
         }
 

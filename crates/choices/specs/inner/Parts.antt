@@ -71,4 +71,5 @@ pub record AllArgs (n s k : ℕ) (ls ks lv inn nodeTable stateTable vs ms b : Li
 pub record AllCounted (X : View) (vs ms : List ℕ) (a : Carried) (m : List ℕ) : Type 0 where
   pub ok : a .ok ≡ partsOk X (openIn vs) [] ms
   pub links : a .ok ≡ true → a .links ≡ linksFrom X [] ms
+  pub room : length ms * 16 ≤ length m
   pub rows : a .ok ≡ true → take (length ms * 16) m ≡ rowsFrom X (openIn vs) [] [] ms
