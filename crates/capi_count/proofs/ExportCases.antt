@@ -60,8 +60,10 @@ module _ (p r nodeTable stateTable vs : List ℕ) where
         either true = length-tabulate 16 _
         either false = refl
 
-    pub copy-args : a .answer ≡ 0 → (d : List ℕ) → stateCount r ≤ length d → CopyArgs (a .counts) (stateCount r) d
-    copy-args z d h = record { wide = sixteen; few = headed z .headers .in-limits .few; room = h }
+    -- s is the count of states as it was read
+    pub copy-args : a .answer ≡ 0 → (s : ℕ) → s ≡ stateCount r → (d : List ℕ) → s ≤ length d → CopyArgs (a .counts) s d
+    copy-args z s e d h =
+        record { wide = sixteen; few = omega (arith, e, headed z .headers .in-limits .few); room = h }
 
     -- ---- the ways out
 
@@ -99,14 +101,17 @@ module _ (p r nodeTable stateTable vs : List ℕ) where
           kept 11 (λ q. omega arith) (sym (last z
           ∙ firstNo-no 11 (leb (stateCount r) (length counts)) [] (lt-leb (stateCount r) (length counts) h)))
 
-      pub counted-exported : a .answer ≡ 0 → stateCount r ≤ length counts → (counts′ : List ℕ)
-          → counts′ ≡ overBuffer (stateCount r) (a .counts) counts
+      pub counted-exported : a .answer ≡ 0 → (s : ℕ) → s ≡ stateCount r → s ≤ length counts → (counts′ : List ℕ)
+          → counts′ ≡ overBuffer s (a .counts) counts
           → CountExported p r nodeTable stateTable vs counts parts links 0 counts′ (a .parts) (a .links)
-      counted-exported z h counts′ e = record {
+      counted-exported z s is h counts′ e = record {
         number = sym (last z
-            ∙ firstNo-yes 11 (leb (stateCount r) (length counts)) [] (le-leb (stateCount r) (length counts) h)
+            ∙ firstNo-yes 11 (leb (stateCount r) (length counts)) []
+            (le-leb (stateCount r) (length counts) (omega (arith, is)))
             ∙ firstNo-none);
-        counts-are = λ _. e ∙ ap (λ (x : Counted). overBuffer (stateCount r) (x .counts) counts) (D .result);
+        counts-are = λ _. e
+            ∙ ap (λ (n : ℕ). overBuffer n (a .counts) counts) is
+            ∙ ap (λ (x : Counted). overBuffer (stateCount r) (x .counts) counts) (D .result);
         parts-are = λ _. ap (λ (x : Counted). x .parts) (D .result);
         links-are = λ _. ap (λ (x : Counted). x .links) (D .result);
         counts-kept = λ q. absurd (q refl);
