@@ -20,7 +20,8 @@ use Rattle.joining.specs.Join.{TableArgs}
 use Rattle.counting.specs.declared.carry.Carried.{Carried}
 use Rattle.counting.specs.Fork.{forkOk, ForkArgs}
 use Rattle.counting.specs.Root.{rootOk, rootLinks, rootCount, RootArgs, RootDone}
-use Rattle.part_counts.specs.PartOn.{firstLabel, endLabel, leftOn, childrenOn, placeOn, partOkOn, partLinksOn, partCountOn}
+use Rattle.part_counts.specs.PartOn.{firstLabel, endLabel, leftOn, childrenOn, placeOn}
+use Rattle.part_counts.specs.PartOn.{partOkOn, partLinksOn, partCountOn}
 use Rattle.part_counts.specs.PartsOn.{rowOn}
 use Rattle.choices.specs.inner.Part.{PartNeeds, PartCounted}
 use Rattle.choices.proofs.SameCounts.{root-ok-same, root-links-same, root-count-same}

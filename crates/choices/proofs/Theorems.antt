@@ -1,4 +1,4 @@
--- What a count means (document 02, S-10), each theorem by citing the count's promise, with the sentence that it renders.
+-- What a count means (document 02, S-10): each theorem cites the count's promise, with the sentence that it renders.
 --     count-number       on tables as built the number is that of the first five checks: 18 never
 --     count-is-tried     "the counts are those of the definition by trying all"
 --     count-sum          "and their sum is K to the power m"

@@ -30,8 +30,8 @@ fn label_range(labels: &[u8], k: usize, free: bool, v: usize) -> LabelRange
     }
 }
 
-// The counts of root v, open or not, where `table` has those of the earlier roots, 16 for each. `out` is 0 at first. Not
-// ok where v's own label is none, or a value read leads outside the plan or the states.
+// The counts of root v, open or not, where `table` has those of the earlier roots, 16 for each. `out` is 0 at first.
+// Not ok where v's own label is none, or a value read leads outside the plan or the states.
 pub fn part_counts(
     labels: &[u8],
     kinds: &[u8],
@@ -48,8 +48,8 @@ pub fn part_counts(
     v: usize,
     out: &mut [u64; 16],
 ) -> Carried
-    requires { ⌜ PartNeeds n s k (now labels) (now kinds) (now leaves) (now inner) (now «node_table») (now «state_table»)
-        (now earlier) (now table) v (now out) ⌝ }
+    requires { ⌜ PartNeeds n s k (now labels) (now kinds) (now leaves) (now inner) (now «node_table»)
+        (now «state_table») (now earlier) (now table) v (now out) ⌝ }
     ensures { λ a. ⌜ PartCounted (partView n s k (now (labels .entry)) (now (kinds .entry)) (now (leaves .entry))
         (now (inner .entry)) (now («node_table» .entry)) (now («state_table» .entry))) (λ (u : ℕ). free)
         (now (earlier .entry)) (now (table .entry)) v a (now (out .exit)) ⌝ }

@@ -1,8 +1,8 @@
 -- What the function of one part needs and promises.
 --
 -- labelRange ls k free v == all labels where v is open, else its own
--- Runs n s k ls ks lv inn nodeTable stateTable == the runs of what is lent are as long as N, S and K need, and every leaf
---   and inner state is below S
+-- Runs n s k ls ks lv inn nodeTable stateTable == the runs of what is lent are as long as N, S and K need, and every
+--   leaf and inner state is below S
 -- PartNeeds == besides, v is a node, there are at most 254 earlier roots, and cs has 16 counts for each, none above the
 --   limit
 -- PartCounted X w es cs v a m == answer a and counts m are those of part v

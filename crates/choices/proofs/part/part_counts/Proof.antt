@@ -67,9 +67,12 @@ sub-if4 c = search needs
 
 returns-4 : tie.Need-returns-4
 returns-4 c =
-    let a = c .before .before .before .before .before .before .before in
+    let b5 = c .before .before .before .before .before in
+    let b5 = b5 in
+    let a = b5 .before .before in
     outside _ _ _ _ _ _ _ _ _ _ _ _ _ (start a .pre) (start a .args .free) _ _ (first-is a) (end-is a)
-    (c .before .before .before .before .before .if1 .left) (c .before .before .before .if2 .left) (c .before .before .if3 .left) _ (c .before .size-at .ensures) (c .if4 .taken)
+    (b5 .if1 .left) (c .before .before .before .if2 .left) (c .before .before .if3 .left) _
+    (c .before .size-at .ensures) (c .if4 .taken)
 
 sub-l : tie.Need-sub-l
 sub-l c = search needs
@@ -88,19 +91,29 @@ last-below-requires-2 c κs = search needs
 
 root-counts-requires-2 : tie.Need-root-counts-requires-2
 root-counts-requires-2 c κs =
-    let a = c .before .before .before .before .before .before .before .before .before .before in
+    let b5 = c .before .before .before .before .before in
+    let b10 = b5 .before .before .before .before .before in
+    let b5 = b5 in
+    let b10 = b5 .before .before .before .before .before in
+    let a = b10 in
     inner-args _ _ _ _ _ _ _ _ _ _ _ _ _ (start a .pre) (start a .args .free) _ _ (first-is a) (end-is a)
-    (c .before .before .before .before .before .before .before .before .if1 .left) (c .before .before .before .before .before .before .if2 .left)
-    (c .before .before .before .before .before .if3 .left) _ (c .before .before .before .before .size-at .ensures)
-    (c .before .before .before .if4 .left) _ _ (c .before .before .last-below .ensures) (c .before .last-below2 .ensures)
+    (b5 .before .before .before .if1 .left) (b5 .before .if2 .left)
+    (b5 .if3 .left) _ (c .before .before .before .before .size-at .ensures)
+    (c .before .before .before .if4 .left) _ _ (c .before .before .last-below .ensures)
+    (c .before .last-below2 .ensures)
 
 returns-5 : tie.Need-returns-5
 returns-5 c =
-    let a = c .before .before .before .before .before .before .before .before .before .before .before in
+    let b5 = c .before .before .before .before .before in
+    let b10 = b5 .before .before .before .before .before in
+    let b5 = b5 in
+    let b10 = b5 .before .before .before .before .before in
+    let a = b10 .before in
     inner-done _ _ _ _ _ _ _ _ _ _ _ _ _ (start a .pre) (start a .args .free) _ _ (first-is a) (end-is a)
-    (c .before .before .before .before .before .before .before .before .before .if1 .left)
-    (c .before .before .before .before .before .before .before .if2 .left) (c .before .before .before .before .before .before .if3 .left) _
-    (c .before .before .before .before .before .size-at .ensures) (c .before .before .before .before .if4 .left) _ _ (c .before .before .before .last-below .ensures)
+    (b5 .before .before .before .before .if1 .left)
+    (b5 .before .before .if2 .left) (b5 .before .if3 .left) _
+    (b5 .size-at .ensures) (c .before .before .before .before .if4 .left) _ _
+    (c .before .before .before .last-below .ensures)
     (c .before .before .last-below2 .ensures) _ _ (c .root-counts2 .ensures)
 
 pub part-counts-spec : {M : Type 1} → statement M
