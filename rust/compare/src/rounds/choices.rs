@@ -35,8 +35,8 @@ pub fn round(random: &mut Random, counts: &mut Counts) {
 
 /// The most nodes that are not too many for 26, with K labels.
 pub fn most_nodes(k: usize) -> usize {
-    (0..=64).rev().find(|&m| (k as u128).pow(m) <= u128::from(MOST_ASSIGNMENTS)).expect("0 nodes have 1 assignment")
-        as usize
+    let few = |m: &u32| (k as u64).checked_pow(*m).map_or(false, |all| all <= MOST_ASSIGNMENTS);
+    (0..=64).rev().find(few).expect("no node has one assignment") as usize
 }
 
 /// A count on tables as built, with any number of nodes that 26 lets through; the same with the nodes in another order.
@@ -62,7 +62,7 @@ fn by_definition(case: &Case, nodes: &[u16], told: &Counted, counts: &mut Counts
     assert_eq!(told.0, by_sums(&Tree::of(&plan), &plan, &rules, nodes), "by sums");
     let all = (case.k as u64).pow(nodes.len() as u32);
     assert_eq!(told.0.iter().sum::<u64>(), all, "K to the power m");
-    if all * case.n as u64 <= 100_000 {
+    if all.saturating_mul(case.n as u64) <= 100_000 {
         assert_eq!(told.0, by_trying(&plan, &rules, nodes), "by trying all");
         counts.add("counted, and tried");
     } else {
