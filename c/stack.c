@@ -86,7 +86,7 @@ static const struct call {
     {"start", start, 7 * 1024},
     {"advance", advance, 4096},
     {"read", read_answer, 4096},
-    {"count", count, 40 * 1024},
+    {"count", count, 35 * 1024},
     {"branch build", branch_build, 3072},
     {"branch check", branch_check, 3072},
     {"branch question", ask, 1024},

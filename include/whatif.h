@@ -10,8 +10,8 @@
  * Link with libwhatif.a or, where it is installed, with libwhatif.so (x86-64 Linux). The library never allocates, keeps
  * nothing between calls and is re-entrant: any number of threads may call it at once, each with buffers that no other
  * thread writes during the call.
- * Stack of a call, as measured on plans of 65,535 nodes and the largest tables: a fresh run at most 40 KiB, agreement of
- * two rule tables at most 12 KiB, a Start, which makes the full check, at most 7 KiB, the full check of a rule
+ * Stack of a call, as measured on plans of 65,535 nodes and the largest tables: a fresh run at most 40 KiB, a count of
+ * choices at most 35 KiB, agreement of two rule tables at most 12 KiB, a Start, which makes the full check, at most 7 KiB, the full check of a rule
  * table's tables at most 6 KiB, any other session call at most 4 KiB, a build or a branch table's full check at most
  * 3 KiB, any other at most 1 KiB.
  *

@@ -1,7 +1,7 @@
 //! How many choices end in each state, part by part, on lent tables.
 
-use crate::checks::{all_below, number};
-use crate::question::{Lent, MAX_PARTS};
+use crate::checks::number;
+use crate::question::Lent;
 
 const LIMIT: u64 = 1_000_000_000_000_000_000;
 
@@ -10,6 +10,11 @@ type Counts = [u64; 16];
 #[inline]
 fn add(to: &mut u64, x: u64) {
     *to = (*to + x).min(LIMIT);
+}
+
+/// Many bytes at a time, with no early end.
+fn highest(states: &[u8]) -> usize {
+    usize::from(states.iter().fold(0, |most, &q| most.max(q)))
 }
 
 /// 17: N, S and K from the headers.
@@ -47,15 +52,16 @@ pub fn count(
     if all.map_or(true, |all| all > LIMIT) {
         return Err(26);
     }
-    if !all_below(lent.leaf, lent.s) || !all_below(lent.inner, lent.s) {
+    if highest(lent.leaf) >= lent.s || highest(lent.inner) >= lent.s {
         return Err(18);
     }
     let roots = lent.roots(nodes)?;
     let roots = roots.as_slice();
-    let (mut table, mut links) = ([[0; 16]; MAX_PARTS], 0);
+    let (mut table, mut links): (Vec<Counts>, u32) = (Vec::with_capacity(roots.len()), 0);
     for (i, &v) in roots.iter().enumerate() {
-        let (handled, rest) = table.split_at_mut(i);
-        links += lent.counts(v as usize, nodes.contains(&v), &roots[..i], handled, &mut rest[0])?;
+        let mut own = [0; 16];
+        links += lent.counts(v as usize, nodes.contains(&v), &roots[..i], &table, &mut own)?;
+        table.push(own);
     }
     if counts.len() < lent.s {
         return Err(11);
@@ -92,7 +98,7 @@ impl Lent<'_> {
         Ok(on_left + on_right)
     }
 
-    /// The counts at a child: one at its run state, those of the member that it is, or the climb's, once for each state.
+    /// The counts at a child: one at its run state, those of the member that it is, or those that one climb carries up.
     fn side(
         &self,
         child: usize,
@@ -109,11 +115,9 @@ impl Lent<'_> {
             }
             Some((_, i)) if both => Ok((handled[i], 0)),
             Some((w, i)) => {
-                let mut links = 0;
-                for (q, &x) in handled[i][..self.s].iter().enumerate() {
-                    let (state, moves) = self.climb(w, to, q as u8)?;
+                let (map, links) = self.climb_map(w, to)?;
+                for (&state, &x) in map[..self.s].iter().zip(&handled[i]) {
                     add(&mut counts[state as usize], x);
-                    links = moves;
                 }
                 Ok((counts, links))
             }
