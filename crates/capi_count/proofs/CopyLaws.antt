@@ -19,7 +19,8 @@ pub record CopyLoop (a : List ℕ) (n : ℕ) (d₀ d : List ℕ) (i : ℕ) : Typ
 pub copy-start : (a : List ℕ) (n : ℕ) (d : List ℕ) → CopyArgs a n d → CopyLoop a n d d 0
 copy-start a n d A = record { args = A; upto = omega arith; long = refl; is = refl }
 
-one-more : (a d : List ℕ) (i : ℕ) → i < length a → i < length d → set (overBuffer i a d) i (getD a i 0) ≡ overBuffer (i + 1) a d
+one-more : (a d : List ℕ) (i : ℕ) → i < length a → i < length d
+    → set (overBuffer i a d) i (getD a i 0) ≡ overBuffer (i + 1) a d
 one-more a d i h k =
     ap (λ (r : List ℕ). set (take i a ++ r) i (getD a i 0)) (drop-cons d i 0 k)
     ∙ set-at (take i a) (getD d i 0) (drop (suc i) d) (getD a i 0) i (length-take-le i a (omega arith))
@@ -40,7 +41,8 @@ module _ (a : List ℕ) (n : ℕ) (d₀ d : List ℕ) (i : ℕ) (L : CopyLoop a 
       record {
         args = L .args;
         upto = omega arith;
-        long = ap length w ∙ length-over a d₀ (i + 1) (omega (arith, L .args .wide, L .args .few)) (omega (arith, L .args .room));
+        long = ap length w ∙ length-over a d₀ (i + 1) (omega (arith, L .args .wide, L .args .few))
+            (omega (arith, L .args .room));
         is = w;
       }
 

@@ -51,7 +51,8 @@ module _ (p r nodeTable stateTable vs : List ℕ) where
 
     sixteen : length (a .counts) ≡ 16
     unfolding countResult
-    sixteen = ap (λ (x : Counted). length (x .counts)) (D .result) ∙ either (eqb (countNumber p r nodeTable stateTable vs) 0)
+    sixteen = ap (λ (x : Counted). length (x .counts)) (D .result)
+        ∙ either (eqb (countNumber p r nodeTable stateTable vs) 0)
       where
         either : (b : Bool)
             → length (cond b (countedAt (countView p r nodeTable stateTable) vs

@@ -1,5 +1,6 @@
 -- How many choices clear the plan, as C and Rust are told it (document 02, S-10), from the promise of `whatif_count`.
---     count-tried       "On tables as the build wrote them from the plan and rules lent, the counts are those of the definition by trying all"
+--     count-tried       "On tables as the build wrote them from the plan and rules lent, the counts are those of the
+--                       definition by trying all"
 --     count-sum         "and their sum is K to the power m"
 --     count-as-asked    "the parts and links told are those of a question whose W is these nodes and the root"
 -- Assumes nothing.
@@ -44,7 +45,8 @@ module _ (p r nodeTable stateTable vs counts : List ℕ) (parts links : ℕ) (co
       (check 18 (isCountable (countView p r nodeTable stateTable) vs) ∷ [])
       (listed-numbered p r nodeTable stateTable vs)
       (firstNo-append-left (countChecks p r nodeTable stateTable vs)
-      (check 11 (leb (stateCount r) (length counts)) ∷ []) (checks-numbered p r nodeTable stateTable vs) (sym (E .number)))
+      (check 11 (leb (stateCount r) (length counts)) ∷ []) (checks-numbered p r nodeTable stateTable vs)
+      (sym (E .number)))
 
   tried : countResult p r nodeTable stateTable vs ≡ triedCount p r vs
   tried = count-done p r nodeTable stateTable vs (countResult p r nodeTable stateTable vs) refl .built B accepted

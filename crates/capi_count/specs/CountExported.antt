@@ -1,7 +1,8 @@
 -- What the exported function promises (document 02, S-10).
 --
 -- overBuffer n a d == the buffer d with the first n numbers of a at its front; behind them what was there
--- exportedChecks .. room == the checks of a count, then 11: whether a buffer of that many numbers has one for each state
+-- exportedChecks .. room == the checks of a count, then 11: whether a buffer of that many numbers has one for each
+--   state
 -- CountExported .. == the promise of whatif_count: its number, and counts, parts and links afterwards
 --
 -- In C a counts buffer shorter than S gets 11: it is asked last, so no number of the count is hidden by it.

@@ -1,6 +1,6 @@
-// What C and Rust call of the count of choices (document 02, S-10). It is thin over the call of crate choices: its result is
-// the reply's number, 0 where it is accepted, and the counts of the S states go to the buffer given, which keeps what it held
-// where it is refused.
+// What C and Rust call of the count of choices (document 02, S-10). It is thin over the call of crate choices: its
+// result is the reply's number, 0 where it is accepted, and the counts of the S states go to the buffer given, which
+// keeps what it held where it is refused.
 //     whatif_count   how many choices end in each state
 use choices::count::count;
 use formats::bytes::read32;
@@ -19,8 +19,8 @@ fn copy_counts(a: [u64; 16], n: usize, out: &mut [u64])
     }
 }
 
-// How many choices of labels for the nodes end in each state: the counts go to the front of `counts`, parts and links to
-// their places.
+// How many choices of labels for the nodes end in each state: the counts go to the front of `counts`, parts and links
+// to their places.
 #[no_mangle]
 pub extern "C" fn whatif_count(
     plan: &[u8],

@@ -10,3 +10,4 @@ pub mod CountChecks
 pub mod CountRange
 pub mod CountWidth
 pub mod Theorem
+pub mod Theorems

@@ -44,7 +44,8 @@ module _ (X : View) where
   side-links-same es t (suc i) zero = ap linksIn (sym (climb-same X (getD es i 0) t (X .s - 1)))
   side-links-same es t (suc i) (suc j) = refl
 
-  side-count-same : (es cs : List ℕ) (t c i j p : ℕ) → sideCount (pathOf X) es cs t c i j p ≡ sideCount X es cs t c i j p
+  side-count-same : (es cs : List ℕ) (t c i j p : ℕ)
+      → sideCount (pathOf X) es cs t c i j p ≡ sideCount X es cs t c i j p
   unfolding sideCount
   side-count-same es cs t c zero j p = refl
   side-count-same es cs t c (suc i) zero p =

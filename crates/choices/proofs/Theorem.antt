@@ -43,9 +43,11 @@ use Rattle.part_counts.specs.CountOn.{openIn, countView, rootsIn, listIn, state
 use Rattle.part_counts.specs.CountOn.{countOf, linksOf, listedChecks, countNumber}
 use Rattle.part_counts.proofs.BuiltCounts.{fit-17, listed-are}
 use Rattle.part_counts.proofs.RuleCounts.{rule-roots, rule-countable, rule-links, rule-counts}
-use Rattle.part_counts.proofs.Theorems.{as-built-roots, as-built-countable, as-built-links, as-built-counts, as-built-sum}
+use Rattle.part_counts.proofs.Theorems.{as-built-roots, as-built-countable, as-built-links}
+use Rattle.part_counts.proofs.Theorems.{as-built-counts, as-built-sum}
 use Rattle.choices.specs.declared.count.Counted.{Counted}
-use Rattle.choices.specs.Promise.{refusedWith, countedWith, countedAt, countResult, ruledCount, triedCount, CountDone}
+use Rattle.choices.specs.Promise.{refusedWith, countedWith, countedAt, countResult, ruledCount, triedCount}
+use Rattle.choices.specs.Promise.{CountDone}
 use Rattle.choices.proofs.AllLoop.{rows-most}
 use Rattle.choices.proofs.CountChecks.{number-listed, number-last}
 use Rattle.choices.proofs.CountRange.{count-none}

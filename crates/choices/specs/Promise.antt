@@ -5,7 +5,8 @@
 -- countResult p r nodeTable stateTable vs == the answer, by name, on whatever is lent
 -- CountDone .. == the promise
 --
--- "Given a list of different nodes, count the assignments of any of the K labels to them, for each of the S root states."
+-- "Given a list of different nodes, count the assignments of any of the K labels to them, for each of the S root
+-- states."
 -- Assumes nothing.
 use Prim.Native.Nat.{ℕ, _+_, _-_, _*_, _≤_, _<_, _^_}
 use mathlib.Core.Path.{_≡_}
@@ -76,7 +77,7 @@ pub record CountDone (p r nodeTable stateTable vs : List ℕ) (a : Counted) : Ty
   pub rule : (G : Given) → Reads (countView p r nodeTable stateTable) G → G .labels ≡ labelsOf (G .tree)
       → firstNo (listedChecks p r (length nodeTable) (length stateTable) vs) ≡ 0 → a ≡ ruledCount G (labelCount r) vs
   -- tables as built: the definition by trying all
-  pub built : AsBuilt p r nodeTable stateTable → firstNo (listedChecks p r (length nodeTable) (length stateTable) vs) ≡ 0
-      → a ≡ triedCount p r vs
+  pub built : AsBuilt p r nodeTable stateTable
+      → firstNo (listedChecks p r (length nodeTable) (length stateTable) vs) ≡ 0 → a ≡ triedCount p r vs
   pub sum : AsBuilt p r nodeTable stateTable → firstNo (listedChecks p r (length nodeTable) (length stateTable) vs) ≡ 0
       → sumTo (stateCount r) (λ c. getD (a .counts) c 0) ≡ labelCount r ^ length vs

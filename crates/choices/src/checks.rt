@@ -43,8 +43,8 @@ pub fn check_count(
     state_table: &[u8],
     nodes: &[u16],
 ) -> u8
-    ensures { λ r. ⌜ r ≡ firstNo (listedChecks (now (plan .entry)) (now (rules .entry)) (length (now («node_table» .entry)))
-        (length (now («state_table» .entry))) (now (nodes .entry))) ⌝ }
+    ensures { λ r. ⌜ r ≡ firstNo (listedChecks (now (plan .entry)) (now (rules .entry))
+        (length (now («node_table» .entry))) (length (now («state_table» .entry))) (now (nodes .entry))) ⌝ }
 {
     if !rule_headers_fit(plan, rules, node_table, state_table) {
         return 17;

@@ -133,8 +133,8 @@ fn count_on(
     )
 }
 
-// The same from a plan of n nodes and rules of s states and k labels: their runs, and the tables without their excess, are
-// handed on as parts.
+// The same from a plan of n nodes and rules of s states and k labels: their runs, and the tables without their excess,
+// are handed on as parts.
 fn count_runs(
     n: usize,
     s: usize,

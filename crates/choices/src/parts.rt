@@ -6,8 +6,8 @@ ghost use mathlib.Core.Path.{_≡_};
 ghost use Prim.Native.Nat.{ℕ, _≤_};
 ghost use Rattle.list_laws.specs.Tests.{holds};
 ghost use Rattle.questions.specs.inner.PartArgs.{partView};
-ghost use Rattle.choices.specs.inner.Parts.{ListArgs, PutArgs, RowPut, NextArgs, RowArgs, RowCounted, NextCounted};
-ghost use Rattle.choices.specs.inner.Parts.{AllArgs, AllCounted};
+ghost use Rattle.choices.specs.inner.Parts.{ListArgs, PutArgs, RowPut, NextArgs, RowArgs, RowCounted};
+ghost use Rattle.choices.specs.inner.Parts.{NextCounted, AllArgs, AllCounted};
 
 // Whether node v is one of the listed nodes.
 fn is_listed(nodes: &[u16], v: usize) -> bool

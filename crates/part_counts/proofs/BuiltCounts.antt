@@ -1,5 +1,6 @@
 -- The whole count on tables as built.
---     givenBuilt       what the rule reads there: the plan's tree, the rules' automaton, the plan's own labels, the lent bytes
+--     givenBuilt       what the rule reads there: the plan's tree, the rules' automaton, the plan's own labels, the
+--                      lent bytes
 --     built-reads, built-run   what is lent is so, and these bytes are the run's
 --     built-fits       the list is one that has roots
 --     built-counts     the counts are those of the definition by trying all: nothing is cut off
@@ -242,7 +243,8 @@ module _ (p r nodeTable stateTable : List ℕ) (B : AsBuilt p r nodeTable stateT
 
     end-below : (bs : List ℕ) → endState (ruleAutomaton r) (planTree p) vs bs < stateCount r
     end-below bs =
-        state-below A (inside .init) (inside .next) (treeOf (kindsOf (planTree p)) (changed (labelsOf (planTree p)) vs bs))
+        state-below A (inside .init) (inside .next)
+        (treeOf (kindsOf (planTree p)) (changed (labelsOf (planTree p)) vs bs))
 
     -- no assignment ends in a state that there is not
     counted-none : (c : ℕ) → stateCount r ≤ c → counted (ruleAutomaton r) (labelCount r) (planTree p) vs c ≡ 0

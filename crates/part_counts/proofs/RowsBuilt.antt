@@ -100,7 +100,8 @@ module _ (X : View) (G : Given) (R : Reads X G) (plain : G .labels ≡ labelsOf 
           go true true =
               no-sum (G .automaton .states) (countAt ts l)
               (λ p. sumTo (G .automaton .states) (λ q. countAt ts r q * appliedCount G (X .k) w v c p q))
-              (λ p. no-sum (G .automaton .states) (countAt ts r) (λ q. appliedCount G (X .k) w v c p q) (λ q. no-step v p q))
+              (λ p. no-sum (G .automaton .states) (countAt ts r) (λ q. appliedCount G (X .k) w v c p q)
+              (λ q. no-step v p q))
           go true false =
               no-sum (G .automaton .states) (countAt ts (highestBelow ms (G .tree) l))
               (λ q. appliedCount G (X .k) w v c (climbedTo G ms l q) (G .runState r)) (λ q. no-step v _ _)
@@ -171,7 +172,8 @@ module _ (X : View) (G : Given) (R : Reads X G) (plain : G .labels ≡ labelsOf 
     rows-more i h q g = elim (decLt i (length es)) [
       | yes l ↦ old i l q g
       | no l ↦ (let e : length es ≡ i = omega (arith, length-append es (v ∷ [])) in
-          subst (λ (j : ℕ). countIn (cs ++ rowOn X w es cs v) j q ≡ capped (countAt more (getD (es ++ (v ∷ [])) j 0) q)) e
+          subst (λ (j : ℕ).
+          countIn (cs ++ rowOn X w es cs v) j q ≡ capped (countAt more (getD (es ++ (v ∷ [])) j 0) q)) e
           (latest q g))
     ]
 

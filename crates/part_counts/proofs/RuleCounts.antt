@@ -48,7 +48,8 @@ module _ (X : View) (G : Given) (R : Reads X G) (plain : G .labels ≡ labelsOf 
       given-yes (X .n) (X .nodeTable) vs fits
       ∙ ap (λ (m : ℕ). rootsOn m (X .nodeTable) vs) (R .count)
       ∙ roots-built (G .tree) (X .nodeTable) (R .cells) vs
-      (λ v m. omega (arith, R .count, all-small (X .n) vs (fit-facts (X .n) (length (X .nodeTable)) vs fits .below) v m))
+      (λ v m.
+      omega (arith, R .count, all-small (X .n) vs (fit-facts (X .n) (length (X .nodeTable)) vs fits .below) v m))
 
   inside : statesInside X ≡ true
   unfolding statesInside

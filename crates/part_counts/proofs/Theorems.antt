@@ -1,5 +1,7 @@
--- How many choices clear the plan, on tables as built (document 02, S-10), each theorem with the sentence that it renders.
---     as-built-roots, as-built-links   "the parts and links told are those of a question whose W is these nodes and the root"
+-- How many choices clear the plan, on tables as built (document 02, S-10): each theorem with the sentence that it
+-- renders.
+--     as-built-roots, as-built-links   "the parts and links told are those of a question whose W is these nodes and
+--                                      the root"
 --     as-built-countable               18 is not given
 --     as-built-counts                  "the counts are those of the definition by trying all"
 --     as-built-sum                     "and their sum is K to the power m"

@@ -6,8 +6,8 @@
 -- leftOn X v == the left child of v, by the lent size of the right one, v - 1
 -- childrenOn X v == whether both children are nodes before v
 -- placeOn X es c == the place from 1 of the last of es that is c or below it, by the lent size of c; 0 for none
--- partOkOn X w es v == whether part v comes to counts: its label is one, and no value read leads outside the plan or the
---   states
+-- partOkOn X w es v == whether part v comes to counts: its label is one, and no value read leads outside the plan or
+--   the states
 -- partLinksOn X es v == the links of its climb, if it has one
 -- partCountOn X w es cs v c == how many choices end in state c at v
 --
@@ -45,7 +45,8 @@ partOkOn X w es v =
     && cond (eqb (getD (X .kinds) v 0) 0)
     true
     (childrenOn X v
-    && forkOk X es (depthCell (X .nodeTable) v + 1) (leftOn X v) (v - 1) (placeOn X es (leftOn X v)) (placeOn X es (v - 1)))
+    && forkOk X es (depthCell (X .nodeTable) v + 1) (leftOn X v) (v - 1) (placeOn X es (leftOn X v))
+    (placeOn X es (v - 1)))
 
 unfoldable pub partLinksOn : View → List ℕ → ℕ → ℕ
 partLinksOn X es v = rootLinks X (X .kinds) es v (placeOn X es (leftOn X v)) (placeOn X es (v - 1))

@@ -4,8 +4,8 @@
 -- linksFrom X es ms == the links of the parts of ms
 -- rowOn X w es cs v == the 16 counts of part v; rowsFrom X w es cs ms == cs, and behind them those of the parts of ms
 --
--- Counts stop at the limit (crate joining, Capped). The counts decide nothing of partsOk and of the links: all states are
--- climbed from.
+-- Counts stop at the limit (crate joining, Capped). The counts decide nothing of partsOk and of the links: all states
+-- are climbed from.
 -- Assumes nothing.
 use Prim.Native.Nat.{ℕ, _+_}
 use mathlib.Core.Bool.{Bool, true, _&&_}

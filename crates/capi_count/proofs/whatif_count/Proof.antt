@@ -1,7 +1,8 @@
 -- `whatif_count` meets its contract. Assumes nothing.
 use native.Mathlib.Omega.{arith}
 use borrow.Author.Needs.{needs}
-use Rattle.capi_count.proofs.ExportCases.{header-there, copy-args, refused-exported, short-exported, counted-exported}
+use Rattle.capi_count.proofs.ExportCases.{header-there, copy-args, refused-exported, short-exported}
+use Rattle.capi_count.proofs.ExportCases.{counted-exported}
 use Rattle.capi_count.proofs.whatif_count.Statement.{statement}
 use Rattle.capi_count.proofs.whatif_count.Tie as tie
 use Rattle.capi_count.proofs.whatif_count.Reads as reads

@@ -25,20 +25,26 @@ use Rattle.formats.proofs.lists.all_distinct.Reads as all-distinct-reads
 use Rattle.formats.proofs.lists.nodes_below.Reads as nodes-below-reads
 
 fits : (c : tie.Else1) → let g = c .before .before .before .before .before .before .before .args in
-    headedBuffersFit ruleTables (g .plan .now) (g .rules .now) (length (g .node-table .now)) (length (g .state-table .now))
-    ≡ true
+    headedBuffersFit ruleTables (g .plan .now) (g .rules .now) (length (g .node-table .now))
+    (length (g .state-table .now)) ≡ true
 fits c = sym (c .before .rule-headers-fit .ensures) ∙ not-false _ (c .if1 .left)
 
-below : (c : tie.After-nodes-below) → let g = c .before .before .before .before .before .before .before .before .before .before .args in
+below : (c : tie.After-nodes-below) → let b5 = c .before .before .before .before .before in
+    let g = b5 .before .before .before .before .before .args in
     c .nodes-below .result ≡ allBelow (nodeCount (g .plan .now)) (g .nodes .now)
 below c =
-    let g = c .before .before .before .before .before .before .before .before .before .before .args in
+    let b5 = c .before .before .before .before .before in
+    let b10 = b5 .before .before .before .before .before in
+    let g = b10 .args in
     c .nodes-below .ensures ∙ ap (λ (n : ℕ). allBelow n (g .nodes .now)) (c .before .read32 .ensures)
 
-few : (c : tie.After-assignments-fit) → let g = c .before .before .before .before .before .before .before .before .before .before .before .before .before .before .before .args in
+few : (c : tie.After-assignments-fit) → let b5 = c .before .before .before .before .before in
+    let g = b5 .before .before .before .before .before .before .before .before .before .before .args in
     c .assignments-fit .result ≡ leb (labelCount (g .rules .now) ^ length (g .nodes .now)) countLimit
 few c =
-    let g = c .before .before .before .before .before .before .before .before .before .before .before .before .before .before .before .args in
+    let b5 = c .before .before .before .before .before in
+    let b10 = b5 .before .before .before .before .before in
+    let g = b10 .before .before .before .before .before .args in
     c .assignments-fit .ensures
     ∙ ap (λ (k : ℕ). leb (k ^ length (g .nodes .now)) countLimit) (c .before .read322 .ensures)
 
@@ -79,9 +85,10 @@ read32-requires-2 c κs =
 
 assignments-fit-requires : tie.Need-assignments-fit-requires
 assignments-fit-requires c κs =
+    let b5 = c .before .before .before .before .before in
     omega (
       arith,
-      headed-are _ _ _ _ _ (fits (c .before .before .before .before .before .before .before)) .headers .in-limits .labels,
+      headed-are _ _ _ _ _ (fits (b5 .before .before)) .headers .in-limits .labels,
       c .read322 .ensures,
     )
 

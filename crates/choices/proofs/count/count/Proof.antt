@@ -24,7 +24,8 @@ passed : (c : tie.Else1) → let g = c .before .before .before .before .before .
     (g .nodes .now)) ≡ 0
 passed c = sym (c .before .check-count .ensures) ∙ c .if1 .left
 
-heads : (c : tie.Else1) → let g = c .before .before .before .before .before .before .before .args in Headers 20 (g .plan .now) (g .rules .now)
+heads : (c : tie.Else1) → let g = c .before .before .before .before .before .before .before .args in
+    Headers 20 (g .plan .now) (g .rules .now)
 heads c = headed-are ruleTables _ _ _ _ (fit-17 _ _ _ _ _ (passed c)) .headers
 
 check-count-requires : tie.Need-check-count-requires

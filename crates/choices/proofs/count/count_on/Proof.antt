@@ -27,10 +27,14 @@ all-below-requires c κs = search needs
 refused-requires : tie.Need-refused-requires
 refused-requires c κs = search needs
 
-leaves-in : (c : tie.Else1) → let g = c .before .before .before .before .before .before .before .before .before .args in allBelow (g .s) (g .leaves .now) ≡ true
+leaves-in : (c : tie.Else1) → let b5 = c .before .before .before .before .before in
+    let g = b5 .before .before .before .before .args in
+    allBelow (g .s) (g .leaves .now) ≡ true
 leaves-in c = sym (c .before .all-below .ensures) ∙ not-false _ (c .if1 .left)
 
-inner-in : (c : tie.Else2) → let g = c .before .before .before .before .before .before .before .before .before .before .before .args in allBelow (g .s) (g .inner .now) ≡ true
+inner-in : (c : tie.Else2) → let b5 = c .before .before .before .before .before in
+    let g = b5 .before .before .before .before .before .before .args in
+    allBelow (g .s) (g .inner .now) ≡ true
 inner-in c = sym (c .before .all-below2 .ensures) ∙ not-false _ (c .if2 .left)
 
 returns : tie.Need-returns
@@ -64,8 +68,10 @@ refused-requires-3 c κs = search needs
 
 returns-3 : tie.Need-returns-3
 returns-3 c =
+    let b5 = c .before .before .before .before .before in
+    let b10 = b5 .before .before .before .before .before in
     let h = c .before .before .before in
-    let t = c .before .before .before .before .before .before .before .before .before .before .before .before .before .before .before in
+    let t = b10 .before .before .before .before .before in
     c .refused3 .ensures
     ∙ roots-lost _ _ _ _ _ _ _ _ _ _ (t .pre)
     (rooted-none (h .roots .result) _ (h .roots .ensures .result)
@@ -73,32 +79,40 @@ returns-3 c =
 
 array-share-prefix-list : tie.Need-array-share-prefix-list
 array-share-prefix-list c =
+    let b5 = c .before .before .before .before .before in
+    let b10 = b5 .before .before .before .before .before in
     let h = c .before .before .before in
-    let g = c .before .before .before .before .before .before .before .before .before .before .before .before .before .before .before .args in
+    let g = b10 .before .before .before .before .before .args in
     rooted-room (h .roots .result) (rootsGiven (g .n) (g .node-table .now) (g .nodes .now)) (h .roots .ensures .result)
     (not-false (h .roots .result .ok) (c .before .if3 .left))
 
 slice-aggregate-count-parts : tie.Need-slice-aggregate-count-parts
 slice-aggregate-count-parts c =
+    let b5 = c .before .before .before .before .before in
+    let b10 = b5 .before .before .before .before .before in
     let h = c .before .before .before .before in
-    let g = c .before .before .before .before .before .before .before .before .before .before .before .before .before .before .before .before .args in
+    let g = b10 .before .before .before .before .before .before .args in
     sym (length-take-le _ _ (rooted-room (h .roots .result) (rootsGiven (g .n) (g .node-table .now) (g .nodes .now))
     (h .roots .ensures .result)
     (not-false (h .roots .result .ok) (c .before .before .if3 .left))))
 
 count-parts-requires : tie.Need-count-parts-requires
 count-parts-requires c κs =
+    let b5 = c .before .before .before .before .before in
+    let b10 = b5 .before .before .before .before .before in
     let h = c .before .before .before .before in
-    let t = c .before .before .before .before .before .before .before .before .before .before .before .before .before .before .before .before in
-    taken-args _ _ _ _ _ _ _ _ _ _ (t .pre) (leaves-in (h .before .before .before)) (inner-in (h .before)) (h .roots .result)
-    (h .roots .ensures) (not-false (h .roots .result .ok) (c .before .before .if3 .left))
+    let t = b10 .before .before .before .before .before .before in
+    taken-args _ _ _ _ _ _ _ _ _ _ (t .pre) (leaves-in (h .before .before .before)) (inner-in (h .before))
+    (h .roots .result) (h .roots .ensures) (not-false (h .roots .result .ok) (c .before .before .if3 .left))
 
 returns-4 : tie.Need-returns-4
 returns-4 c =
-    let h = c .before .before .before .before .before in
-    let t = c .before .before .before .before .before .before .before .before .before .before .before .before .before .before .before .before .before in
-    taken-done _ _ _ _ _ _ _ _ _ _ (t .pre) (leaves-in (h .before .before .before)) (inner-in (h .before)) (h .roots .result)
-    (h .roots .ensures) (not-false (h .roots .result .ok) (c .before .before .before .if3 .left)) _
+    let b5 = c .before .before .before .before .before in
+    let b10 = b5 .before .before .before .before .before in
+    let h = b5 in
+    let t = b10 .before .before .before .before .before .before .before in
+    taken-done _ _ _ _ _ _ _ _ _ _ (t .pre) (leaves-in (h .before .before .before)) (inner-in (h .before))
+    (h .roots .result) (h .roots .ensures) (not-false (h .roots .result .ok) (c .before .before .before .if3 .left)) _
     (c .count-parts .ensures)
 
 pub count-on-spec : {M : Type 1} → statement M

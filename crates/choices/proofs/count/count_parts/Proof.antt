@@ -28,8 +28,10 @@ refused-requires c κs = search needs
 
 returns : tie.Need-returns
 returns c =
+    let b5 = c .before .before .before .before .before in
+    let b10 = b5 .before .before .before .before .before in
     let h = c .before .before .before .before in
-    let t = c .before .before .before .before .before .before .before .before .before .before .before .before .before .before .before in
+    let t = b10 .before .before .before .before .before in
     c .refused .ensures
     ∙ parts-lost _ _ _ _ _ _ _ _ _ _ _ (t .pre) _ _ (h .all-parts .ensures)
     (not-true (h .all-parts .result .ok) (c .before .if1 .taken))
@@ -49,8 +51,10 @@ sub-copy-row c = search needs
 
 copy-row-requires : tie.Need-copy-row-requires
 copy-row-requires c κs =
-    let h = c .before .before .before .before .before in
-    let t = c .before .before .before .before .before .before .before .before .before .before .before .before .before .before .before .before in
+    let b5 = c .before .before .before .before .before in
+    let b10 = b5 .before .before .before .before .before in
+    let h = b5 in
+    let t = b10 .before .before .before .before .before .before in
     last-args _ _ _ _ _ _ _ _ _ _ _ (t .pre) _ _ (h .all-parts .ensures)
     (not-false (h .all-parts .result .ok) (c .before .before .if1 .left)) _ refl
 
@@ -59,8 +63,10 @@ cast-t27 c = search needs
 
 returns-2 : tie.Need-returns-2
 returns-2 c =
-    let h = c .before .before .before .before .before .before in
-    let t = c .before .before .before .before .before .before .before .before .before .before .before .before .before .before .before .before .before in
+    let b5 = c .before .before .before .before .before in
+    let b10 = b5 .before .before .before .before .before in
+    let h = b5 .before in
+    let t = b10 .before .before .before .before .before .before .before in
     parts-done _ _ _ _ _ _ _ _ _ _ _ (t .pre) _ _ (h .all-parts .ensures)
     (not-false (h .all-parts .result .ok) (c .before .before .before .if1 .left)) _ (c .copy-row .ensures)
 

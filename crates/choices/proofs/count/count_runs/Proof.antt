@@ -79,25 +79,39 @@ mul-count-on-3 c = omega (arith, fit (c .before .before .before .before .before 
 
 slice-aggregate-count-on : tie.Need-slice-aggregate-count-on
 slice-aggregate-count-on c =
-    sym (length-take-le _ _ (fit (c .before .before .before .before .before .before .before .before .before .before) .lengths .node-table-room))
+    let b5 = c .before .before .before .before .before in
+    let b10 = b5 .before .before .before .before .before in
+    sym (length-take-le _ _ (fit (b10) .lengths .node-table-room))
 
 add-count-on-7 : tie.Need-add-count-on-7
-add-count-on-7 c = omega (arith, fit (c .before .before .before .before .before .before .before .before .before .before))
+add-count-on-7 c =
+    let b5 = c .before .before .before .before .before in
+    let b10 = b5 .before .before .before .before .before in
+    omega (arith, fit (b10))
 
 mul-count-on-4 : tie.Need-mul-count-on-4
-mul-count-on-4 c = omega (arith, fit (c .before .before .before .before .before .before .before .before .before .before))
+mul-count-on-4 c =
+    let b5 = c .before .before .before .before .before in
+    let b10 = b5 .before .before .before .before .before in
+    omega (arith, fit (b10))
 
 slice-aggregate-count-on-2 : tie.Need-slice-aggregate-count-on-2
 slice-aggregate-count-on-2 c =
-    sym (length-take-le _ _ (fit (c .before .before .before .before .before .before .before .before .before .before .before) .lengths .state-table-room))
+    let b5 = c .before .before .before .before .before in
+    let b10 = b5 .before .before .before .before .before in
+    sym (length-take-le _ _ (fit (b10 .before) .lengths .state-table-room))
 
 count-on-requires : tie.Need-count-on-requires
 count-on-requires c κs =
-    on-args _ _ _ _ _ _ _ _ (c .before .before .before .before .before .before .before .before .before .before .before .pre)
+    let b5 = c .before .before .before .before .before in
+    let b10 = b5 .before .before .before .before .before in
+    on-args _ _ _ _ _ _ _ _ (b10 .before .pre)
 
 returns : tie.Need-returns
 returns c =
-    on-answer _ _ _ _ _ _ _ _ (c .before .before .before .before .before .before .before .before .before .before .before .before .pre) _ (c .count-on .ensures)
+    let b5 = c .before .before .before .before .before in
+    let b10 = b5 .before .before .before .before .before in
+    on-answer _ _ _ _ _ _ _ _ (b10 .before .before .pre) _ (c .count-on .ensures)
 
 pub count-runs-spec : {M : Type 1} → statement M
 count-runs-spec =

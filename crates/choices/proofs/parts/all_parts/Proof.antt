@@ -22,7 +22,9 @@ abbrev μ-loop : tie.MeasureT-loop
     length roots - i
 
 loop-holds : tie.Need-loop-holds Inv-loop μ-loop
-loop-holds c = going-start _ _ _ _ _ _ _ _ _ _ _ _ (c .before .before .before .before .before .before .before .before .before .pre)
+loop-holds c =
+    let b5 = c .before .before .before .before .before in
+    going-start _ _ _ _ _ _ _ _ _ _ _ _ (b5 .before .before .before .before .pre)
 
 slice-aggregate-next-part : tie.Need-slice-aggregate-next-part Inv-loop μ-loop
 slice-aggregate-next-part c =
@@ -41,43 +43,52 @@ cast-next-part c =
 
 next-part-requires : tie.Need-next-part-requires Inv-loop μ-loop
 next-part-requires c κs =
-    next-args _ _ _ _ _ _ _ _ _ _ _ _ _ _ _ (c .before .before .before .before .loop .inv) (c .before .before .before .loop-test .taken)
+    next-args _ _ _ _ _ _ _ _ _ _ _ _ _ _ _ (c .before .before .before .before .loop .inv)
+    (c .before .before .before .loop-test .taken)
 
 same-length : tie.Need-same-length Inv-loop μ-loop
 same-length c =
-    c .before .before .before .before .next-part .ensures .same ∙ c .before .before .before .before .before .before .before .before .before .loop .inv .same
+    let b5 = c .before .before .before .before .before in
+    c .before .before .before .before .next-part .ensures .same ∙ b5 .before .before .before .before .loop .inv .same
 
 returns : tie.Need-returns Inv-loop μ-loop
 returns c =
+    let b5 = c .before .before .before .before .before in
     let h = c .before .before .before .before in
     going-lost _ _ _ _ _ _ _ _ _ _ _ _ _ _ _
-    (c .before .before .before .before .before .before .before .before .before .loop .inv) (c .before .before .before .before .before .before .before .before .loop-test .taken) _ _
+    (b5 .before .before .before .before .loop .inv) (b5 .before .before .before .loop-test .taken) _ _
     (h .next-part .ensures) (not-true (h .next-part .result .ok) (c .if1 .taken))
 
 add-links : tie.Need-add-links Inv-loop μ-loop
 add-links c =
-    let h = c .before .before .before .before .before in
-    let l = c .before .before .before .before .before .before .before .before .before .before in
+    let b5 = c .before .before .before .before .before in
+    let b10 = b5 .before .before .before .before .before in
+    let h = b5 in
+    let l = b10 in
     let f = links-fit _ _ _ _ _ _ _ _ _ _ _ _ _ _ _
-    (c .before .before .before .before .before .before .before .before .before .before .loop .inv)
-    (c .before .before .before .before .before .before .before .before .before .loop-test .taken) _ _ (h .next-part .ensures)
+    (b10 .loop .inv)
+    (b5 .before .before .before .before .loop-test .taken) _ _ (h .next-part .ensures)
     (not-false (h .next-part .result .ok) (c .before .if1 .left)) in
-    omega (arith, f, c .before .before .before .before .before .before .before .before .before .loop-test .taken, l .loop .inv .args .few)
+    omega (arith, f, b5 .before .before .before .before .loop-test .taken, l .loop .inv .args .few)
 
 add-i : tie.Need-add-i Inv-loop μ-loop
 add-i c =
-    let l = c .before .before .before .before .before .before .before .before .before .before in
-    omega (arith, c .before .before .before .before .before .before .before .before .before .loop-test .taken, l .loop .inv .args .few)
+    let b5 = c .before .before .before .before .before in
+    let b10 = b5 .before .before .before .before .before in
+    let l = b10 in
+    omega (arith, b5 .before .before .before .before .loop-test .taken, l .loop .inv .args .few)
 
 loop-less : tie.Need-loop-less Inv-loop μ-loop
 loop-less c = omega (arith, c .before .before .before .before .before .before .before .before .before .loop-test .taken)
 
 loop-again : tie.Need-loop-again Inv-loop μ-loop
 loop-again c =
-    let h = c .before .before .before .before .before in
+    let b5 = c .before .before .before .before .before in
+    let b10 = b5 .before .before .before .before .before in
+    let h = b5 in
     going-next _ _ _ _ _ _ _ _ _ _ _ _ _ _ _
-    (c .before .before .before .before .before .before .before .before .before .before .loop .inv)
-    (c .before .before .before .before .before .before .before .before .before .loop-test .taken) _ _ (h .next-part .ensures)
+    (b10 .loop .inv)
+    (b5 .before .before .before .before .loop-test .taken) _ _ (h .next-part .ensures)
     (not-false (h .next-part .result .ok) (c .before .if1 .left))
 
 same-length-2 : tie.Need-same-length-2 Inv-loop μ-loop

@@ -22,15 +22,19 @@ same-length c = search needs
 
 returns : tie.Need-returns
 returns c =
+    let b5 = c .before .before .before .before .before in
+    let b10 = b5 .before .before .before .before .before in
     let h = c .before .before in
-    let t = c .before .before .before .before .before .before .before .before .before .before .before .before .before .before in
+    let t = b10 .before .before .before .before in
     next-lost _ _ _ _ _ _ _ _ _ _ _ _ _ (t .pre) _ _ (h .part-row .ensures)
     (not-true (h .part-row .result .ok) (c .if1 .taken))
 
 put-row-requires : tie.Need-put-row-requires
 put-row-requires c κs =
+    let b5 = c .before .before .before .before .before in
+    let b10 = b5 .before .before .before .before .before in
     let h = c .before .before .before .before in
-    let t = c .before .before .before .before .before .before .before .before .before .before .before .before .before .before .before .before in
+    let t = b10 .before .before .before .before .before .before in
     put-args _ _ _ _ _ _ _ _ _ _ _ _ _ (t .pre) _
     (row-sixteen _ _ _ _ _ _ _ _ _ _ _ _ _ (t .pre) _ _ (h .part-row .ensures)
     (not-false (h .part-row .result .ok) (c .before .before .if1 .left)))
@@ -40,10 +44,12 @@ same-length-2 c = c .before .before .put-row .ensures .same
 
 returns-2 : tie.Need-returns-2
 returns-2 c =
-    let h = c .before .before .before .before .before .before .before in
-    let t = c .before .before .before .before .before .before .before .before .before .before .before .before .before .before .before .before .before .before .before in
+    let b5 = c .before .before .before .before .before in
+    let b10 = b5 .before .before .before .before .before in
+    let h = b5 .before .before in
+    let t = b10 .before .before .before .before .before .before .before .before .before in
     next-done _ _ _ _ _ _ _ _ _ _ _ _ _ (t .pre) _ _ (h .part-row .ensures)
-    (not-false (h .part-row .result .ok) (c .before .before .before .before .before .if1 .left)) _ (c .before .before .put-row .ensures)
+    (not-false (h .part-row .result .ok) (b5 .if1 .left)) _ (c .before .before .put-row .ensures)
 
 pub next-part-spec : {M : Type 1} → statement M
 next-part-spec =
