@@ -92,7 +92,7 @@ narrow-all G k w ms ts (v ∷ vs) h =
     (narrow-more (G .automaton .states) ts (partTally G k w ms ts v) h
     (omega (arith, length-tabulate (G .automaton .states) (partCount G k w ms ts v))))
 
-tallies-none : (G : Given) (k : ℕ) (w : ℕ → Bool) (ms : List ℕ) (v c : ℕ) → G .automaton .states ≤ c
+pub tallies-none : (G : Given) (k : ℕ) (w : ℕ → Bool) (ms : List ℕ) (v c : ℕ) → G .automaton .states ≤ c
     → countAt (tallies G k w ms) v c ≡ 0
 unfolding tallies
 tallies-none G k w ms v c h =

@@ -6,3 +6,4 @@ pub mod RowsBuilt
 pub mod RuleCounts
 pub mod BuiltCounts
 pub mod Theorems
+pub mod RuleTotals
