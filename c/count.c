@@ -1,6 +1,6 @@
 /*
- * How many choices of labels end in each state, of the sample and of a comb with many labels. Every buffer ends at a page
- * that must not be touched, or begins behind one. What it prints is held to count.expected.
+ * How many choices of labels end in each state, of the sample and of a comb with many labels. Every buffer ends at a
+ * page that must not be touched, or begins behind one. What it prints is held to count.expected.
  */
 #define _DEFAULT_SOURCE
 #include "sample.h"
@@ -33,7 +33,8 @@ struct built {
     uint8_t *state_table;
 };
 
-static struct built build(const uint8_t *plan_bytes, const uint8_t *rule_bytes, size_t n, size_t s, size_t k, int behind) {
+static struct built build(const uint8_t *plan_bytes, const uint8_t *rule_bytes, size_t n, size_t s, size_t k,
+                          int behind) {
     static uint16_t node_table[WHATIF_NODE_TABLE_LEN(39)];
     static uint8_t state_table[WHATIF_STATE_TABLE_LEN(39, 2)];
     if (whatif_build(plan_bytes, WHATIF_PLAN_BYTES(n), rule_bytes, WHATIF_RULES_BYTES(s, k), node_table,
@@ -115,7 +116,7 @@ int main(void) {
         a.plan[0] = 9;
         count(&a, many, 65, 0, behind);
     }
-    /* ten labels: 18 nodes have 10 to the power 18 choices, 19 too many; 64 labels: 9 and 10; one label: all 39 nodes */
+    /* ten labels: 18 nodes have 10 to the power 18 choices, 19 too many; 64 labels: 9, 10; one label: all 39 nodes */
     const size_t labels[] = {10, 64, 1}, most[] = {18, 9, 39};
     for (size_t i = 0; i < 3; i++) {
         fill(labels[i]);

@@ -11,16 +11,16 @@
  * nothing between calls and is re-entrant: any number of threads may call it at once, each with buffers that no other
  * thread writes during the call.
  * Stack of a call, as measured on plans of 65,535 nodes and the largest tables: a fresh run at most 40 KiB, a count of
- * choices at most 35 KiB, agreement of two rule tables at most 12 KiB, a Start, which makes the full check, at most 7 KiB, the full check of a rule
- * table's tables at most 6 KiB, any other session call at most 4 KiB, a build or a branch table's full check at most
- * 3 KiB, any other at most 1 KiB.
+ * choices at most 35 KiB, agreement of two rule tables at most 12 KiB, a Start, which makes the full check, at most
+ * 7 KiB, the full check of a rule table's tables at most 6 KiB, any other session call at most 4 KiB, a build or a branch
+ * table's full check at most 3 KiB, any other at most 1 KiB.
  *
  * What holds for every function:
  * - A slice is a pointer, then its count of elements (not bytes).
  * - What is `const` is only read. What is not is written as its comment says, and nowhere else.
  * - No two buffers of one call overlap, unless both are only read. Out values overlap nothing.
- * - 16-bit buffers are aligned to 2, 64-bit ones to 8, out values to 4. No pointer is NULL, save that an empty slice (count 0) may have
- *   any pointer, NULL too: nothing is read or written through it.
+ * - 16-bit buffers are aligned to 2, 64-bit ones to 8, out values to 4. No pointer is NULL, save that an empty slice
+ *   (count 0) may have any pointer, NULL too: nothing is read or written through it.
  * - The answer is WHATIF_ACCEPTED or the number of the first check that says no.
  * - A refused call has changed nothing: every buffer and every out value holds what it held. This is proved.
  * - Whatever bytes are lent, a call ends and stays inside the lent buffers. This is proved too.

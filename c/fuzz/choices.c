@@ -19,8 +19,8 @@ static uint64_t tried(const struct asked *q, uint32_t state) {
     uint32_t labels = q->open.count == 0 ? 1 : named(&q->rules, 4);
     for (uint32_t a = 0; a < labels; a++) {
         const uint8_t label = (uint8_t)a;
-        uint32_t answer = whatif_fresh_run(LENT(q->plan), LENT(q->rules), LENT(q->open), &label, q->open.count, &told[0],
-                                           &told[1]);
+        uint32_t answer = whatif_fresh_run(LENT(q->plan), LENT(q->rules), LENT(q->open), &label, q->open.count,
+                                           &told[0], &told[1]);
         sure(answer == WHATIF_ACCEPTED, "a fresh run of a choice is accepted");
         found += told[0] == state;
     }
@@ -44,8 +44,8 @@ uint32_t try_count(struct input *in) {
     struct asked q = {open, plan, rules, nodes, states};
     struct lent counts = lend_filled(take(in, 2), 8, 0x77);
     uint32_t out[2] = {UNSET, UNSET};
-    uint32_t answer = whatif_count(LENT(q.plan), LENT(q.rules), LENT(q.nodes), LENT(q.states), LENT(q.open), LENT(counts),
-                                   &out[0], &out[1]);
+    uint32_t answer = whatif_count(LENT(q.plan), LENT(q.rules), LENT(q.nodes), LENT(q.states), LENT(q.open),
+                                   LENT(counts), &out[0], &out[1]);
     held(&q.open, 0, "the listed nodes stay");
     held(&q.plan, 0, "the plan stays");
     held(&q.rules, 0, "the rule table stays");
