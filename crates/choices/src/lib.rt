@@ -1,5 +1,5 @@
 // How many choices of labels end in each state, on whatever is lent (document 02, S-10).
-pub mod checks;
+mod checks;
 pub mod count;
-pub mod part;
-pub mod parts;
+mod part;
+mod parts;
