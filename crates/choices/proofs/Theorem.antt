@@ -36,13 +36,14 @@ use Rattle.counts.specs.Sums.{sumTo}
 use Rattle.counts.specs.Assignments.{counted}
 use Rattle.counts.specs.PartCounts.{countAt, tallies}
 use Rattle.counts.proofs.SumLaws.{sum-ext}
-use Rattle.joining.specs.Capped.{countLimit, capped}
+use Rattle.joining.specs.Capped.{countLimit}
 use Rattle.counting.proofs.ForkLaws.{zeros-at}
 use Rattle.part_counts.specs.PartsOn.{rowsFrom}
 use Rattle.part_counts.specs.CountOn.{openIn, countView, rootsIn, listIn, statesInside, allOk, isCountable}
 use Rattle.part_counts.specs.CountOn.{countOf, linksOf, listedChecks, countNumber}
 use Rattle.part_counts.proofs.BuiltCounts.{fit-17, listed-are}
-use Rattle.part_counts.proofs.RuleCounts.{rule-roots, rule-countable, rule-links, rule-counts}
+use Rattle.part_counts.proofs.RuleCounts.{rule-roots, rule-countable, rule-links}
+use Rattle.part_counts.proofs.RuleTotals.{rule-exact}
 use Rattle.part_counts.proofs.Theorems.{as-built-roots, as-built-countable, as-built-links}
 use Rattle.part_counts.proofs.Theorems.{as-built-counts, as-built-sum}
 use Rattle.choices.specs.declared.count.Counted.{Counted}
@@ -217,9 +218,11 @@ module _ (p r nodeTable stateTable vs : List ℕ) (a : Counted) (e : a ≡ count
       → a ≡ ruledCount G (labelCount r) vs
   ruled G R plain ok =
       let few : X .s ≤ 16 = heads ok .headers .in-limits .few in
+      let L = listed-are p r (length nodeTable) (length stateTable) vs ok in
       counts-when ok (rule-countable X G R plain few vs (fits ok))
       ∙ ap (λ (o : Option (List ℕ)). countedAt X vs (listIn o)) (rule-roots X G R plain few vs (fits ok))
-      ∙ same-count _ _ _ _ _ (rule-counts X G R plain few vs (fits ok)) (rule-links X G R plain few vs (fits ok))
+      ∙ same-count _ _ _ _ _ (rule-exact X G R plain few vs (fits ok) (L .different) (L .fit))
+      (rule-links X G R plain few vs (fits ok))
 
   built : AsBuilt p r nodeTable stateTable → firstNo listed ≡ 0 → a ≡ triedCount p r vs
   built B ok =

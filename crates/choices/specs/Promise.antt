@@ -29,7 +29,7 @@ use Rattle.questions.specs.OutOfRange.{PartOutOfRange}
 use Rattle.counts.specs.Sums.{sumTo}
 use Rattle.counts.specs.Assignments.{counted}
 use Rattle.counts.specs.PartCounts.{countAt, tallies}
-use Rattle.joining.specs.Capped.{countLimit, capped}
+use Rattle.joining.specs.Capped.{countLimit}
 use Rattle.part_counts.specs.CountOn.{openIn, countView, rootsIn, listIn, countOf, linksOf, listedChecks, countNumber}
 use Rattle.choices.specs.declared.count.Counted.{Counted}
 
@@ -49,10 +49,11 @@ countResult p r nodeTable stateTable vs =
     (countedAt (countView p r nodeTable stateTable) vs (listIn (rootsIn (countView p r nodeTable stateTable) vs)))
     (refusedWith (countNumber p r nodeTable stateTable vs))
 
--- "reckoned part by part", on given bytes; capped takes nothing away on tables as built
+-- "reckoned part by part", on given bytes: nothing is cut off, their sum is K to the power m there too (part_counts,
+-- RuleTotals)
 abbrev pub ruledCount : Given → ℕ → List ℕ → Counted
 ruledCount G k vs =
-    countedWith (λ c. capped (countAt (tallies G k (openIn vs) (roots (G .tree) vs)) (size (G .tree) - 1) c))
+    countedWith (countAt (tallies G k (openIn vs) (roots (G .tree) vs)) (size (G .tree) - 1))
     (length (roots (G .tree) vs)) (questionLinks (G .tree) (roots (G .tree) vs))
 
 -- "those of the definition by trying all"

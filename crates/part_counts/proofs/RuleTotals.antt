@@ -1,6 +1,6 @@
 -- On bytes below S, too, the counts of the root add up to K to the power m, so that none is cut off.
---     total-parts    the counts of a part add up to what they would be with a single state, whatever run states and maps
---                    hold: its total goes by the labels alone
+--     total-parts    the counts of a part add up to what they would be with a single state, whatever run states and
+--                    maps hold: its total goes by the labels alone
 --     rule-sum       at the plan's root that is K to the power m
 --     rule-exact     so the counts told are those of the rule, and nothing is cut off
 -- Assumes nothing.
