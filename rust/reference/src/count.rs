@@ -124,8 +124,8 @@ pub fn by_sums(tree: &Tree, plan: &Plan, rules: &Rules, nodes: &[u16]) -> Vec<u6
     let mut counts: Vec<Vec<u64>> = Vec::new();
     let mut open = vec![false; plan.nodes()];
     nodes.iter().for_each(|&v| open[v as usize] = true);
-    for v in 0..plan.nodes() {
-        let labels = if open[v] { 0..rules.labels as u8 } else { plan.labels[v]..plan.labels[v] + 1 };
+    for (v, &is_open) in open.iter().enumerate() {
+        let labels = if is_open { 0..rules.labels as u8 } else { plan.labels[v]..plan.labels[v] + 1 };
         let mut own = vec![0; rules.states];
         for a in labels {
             match tree.children[v] {

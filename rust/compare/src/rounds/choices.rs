@@ -183,7 +183,7 @@ pub fn tangled(random: &mut Random, counts: &mut Counts) {
     let mut lent = Lent::built(&case, random);
     damage(&mut lent.node_table, *random.pick(&[2, 10, 40]), random, |random| random.below(case.n) as u16);
     counts.add(match calls::count(&lent.lends(), &nodes, 16, random) {
-        Ok((told, _)) if told.iter().any(|&count| count == MOST_ASSIGNMENTS) => "a count at the limit".to_string(),
+        Ok((told, _)) if told.contains(&MOST_ASSIGNMENTS) => "a count at the limit".to_string(),
         Ok(_) => "answered".to_string(),
         Err(number) => format!("refused {}", number),
     });
