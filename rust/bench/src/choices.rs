@@ -57,12 +57,13 @@ fn times(shape: Shape, m: usize) -> Pair {
     let random = &mut Random::new(8);
     let built = Built::new(Case::new(shape, 32_768, MAX_STATES, LABELS, random));
     let lists: Vec<Vec<u16>> = (0..LISTS).map(|_| list(&built.case, m, random).0).collect();
-    let all = |count: &dyn Fn(&[u16]) -> [u64; MAX_STATES]| lists.iter().map(|nodes| count(nodes)[0]).max();
+    let first = |count: &dyn Fn(&[u16]) -> [u64; MAX_STATES]| lists.iter().map(|nodes| count(nodes)[0] % 1_000).sum();
     assert!(lists.iter().all(|nodes| built.by_library(nodes) == built.by_yardstick(nodes)), "both count the same");
+    let wanted: u64 = first(&|nodes| built.by_library(nodes));
     by_turns(
         LISTS,
-        || assert!(std::hint::black_box(all(&|nodes| built.by_library(nodes))).is_some()),
-        || assert!(std::hint::black_box(all(&|nodes| built.by_yardstick(nodes))).is_some()),
+        || assert_eq!(first(&|nodes| built.by_library(nodes)), wanted),
+        || assert_eq!(first(&|nodes| built.by_yardstick(nodes)), wanted),
     )
 }
 
