@@ -128,7 +128,7 @@ enum whatif_answer {
     WHATIF_REFUSED_LABEL_COUNTS = 23,
     /* The product of the two rule tables' counts of states is above 16. */
     WHATIF_REFUSED_STATE_PRODUCT = 24,
-    /* There are more than 1,000,000,000,000,000,000 assignments of labels to the nodes listed. */
+    /* There are more than 10^18 assignments of labels to the nodes listed. */
     WHATIF_REFUSED_ASSIGNMENTS = 26
 };
 
@@ -501,7 +501,7 @@ static inline const char *whatif_answer_text(uint32_t answer) {
     case WHATIF_REFUSED_STATE_PRODUCT:
         return "The product of the two rule tables' counts of states is above 16.";
     case WHATIF_REFUSED_ASSIGNMENTS:
-        return "There are more than 1,000,000,000,000,000,000 assignments of labels to the nodes listed.";
+        return "There are more than 10^18 assignments of labels to the nodes listed.";
     default:
         return "This is no answer of this version.";
     }
