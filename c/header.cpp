@@ -18,6 +18,8 @@ static int without_a_session() {
     if (whatif_branch_with_upper(NULL, 0, NULL, 0, NULL, 0, NULL, 0, 0, 0, &state, &yes, &links) !=
         WHATIF_REFUSED_LENT_LENGTH)
         return 10;
+    if (whatif_count(NULL, 0, NULL, 0, NULL, 0, NULL, 0, NULL, 0, NULL, 0, &state, &links) != WHATIF_REFUSED_LENT_LENGTH)
+        return 12;
     if (whatif_merge(NULL, 0, NULL, 0, NULL, 0) != WHATIF_REFUSED_TABLE_SHORT)
         return 8;
     if (whatif_agree(NULL, 0, NULL, 0, NULL, 0, &yes, &links) != WHATIF_REFUSED_TABLE_SHORT)

@@ -26,6 +26,7 @@ static uint8_t planner[WHATIF_PLANNER_BYTES(N / 2)], image[WHATIF_PLANNER_PLAN_B
 static uint16_t places[N / 2];
 static uint16_t over_nodes[WHATIF_MAX_CHANGES];
 static uint8_t over_labels[WHATIF_MAX_CHANGES];
+static uint64_t counts[WHATIF_MAX_STATES];
 static uint32_t answer, out[4];
 static _Alignas(64) uint8_t stack[ROOM];
 
@@ -56,6 +57,10 @@ static void planner_home(void) { answer = whatif_planner_of_plan(image, sizeof i
 static void lay_over(void) {
     answer = whatif_lay_over(LIST, LIST, over_nodes, WHATIF_MAX_CHANGES, over_labels, WHATIF_MAX_CHANGES, out);
 }
+/* nine nodes with 64 labels are the most that 26 lets through */
+static void count(void) {
+    answer = whatif_count(RULES, TABLES, nodes, 9, counts, WHATIF_MAX_STATES, out, out + 1);
+}
 static void load(void) { answer = whatif_load(RECORD, RULES, TABLES); }
 static void start(void) { answer = whatif_start(RECORD, RULES, TABLES, LIST, out); }
 static void cancel(void) { answer = whatif_cancel(RECORD); }
@@ -81,6 +86,7 @@ static const struct call {
     {"start", start, 7 * 1024},
     {"advance", advance, 4096},
     {"read", read_answer, 4096},
+    {"count", count, 35 * 1024},
     {"branch build", branch_build, 3072},
     {"branch check", branch_check, 3072},
     {"branch question", ask, 1024},

@@ -1,26 +1,26 @@
 /*
  * whatif.h: the what-if checker for C and C++.
  *
- * Order: version, limits, sizes, answers; the functions for tables and fresh runs, for branch questions, for two rule
- * tables, for the planner's files, and of the panel session; then what is written here alone: what a record tells, the session's calls with what
- * is lent as one struct, the answers' texts.
+ * Order: version, limits, sizes, answers; the functions for tables and fresh runs, for branch questions, for counts of
+ * choices, for two rule tables, for the planner's files, and of the panel session; then what is written here alone: what
+ * a record tells, the session's calls with what is lent as one struct, the answers' texts.
  * The bytes of plans, tables and records are in LAYOUT.md, the order of the checks of each call in REFUSALS.md: both
  * stand in docs/ of the sources, and beside this file where it is installed.
  *
  * Link with libwhatif.a or, where it is installed, with libwhatif.so (x86-64 Linux). The library never allocates, keeps
  * nothing between calls and is re-entrant: any number of threads may call it at once, each with buffers that no other
  * thread writes during the call.
- * Stack of a call, as measured on plans of 65,535 nodes and the largest tables: a fresh run at most 40 KiB, agreement of
- * two rule tables at most 12 KiB, a Start, which makes the full check, at most 7 KiB, the full check of a rule
- * table's tables at most 6 KiB, any other session call at most 4 KiB, a build or a branch table's full check at most
- * 3 KiB, any other at most 1 KiB.
+ * Stack of a call, as measured on plans of 65,535 nodes and the largest tables: a fresh run at most 40 KiB, a count of
+ * choices at most 35 KiB, agreement of two rule tables at most 12 KiB, a Start, which makes the full check, at most
+ * 7 KiB, the full check of a rule table's tables at most 6 KiB, any other session call at most 4 KiB, a build or a branch
+ * table's full check at most 3 KiB, any other at most 1 KiB.
  *
  * What holds for every function:
  * - A slice is a pointer, then its count of elements (not bytes).
  * - What is `const` is only read. What is not is written as its comment says, and nowhere else.
  * - No two buffers of one call overlap, unless both are only read. Out values overlap nothing.
- * - 16-bit buffers are aligned to 2, out values to 4. No pointer is NULL, save that an empty slice (count 0) may have
- *   any pointer, NULL too: nothing is read or written through it.
+ * - 16-bit buffers are aligned to 2, 64-bit ones to 8, out values to 4. No pointer is NULL, save that an empty slice
+ *   (count 0) may have any pointer, NULL too: nothing is read or written through it.
  * - The answer is WHATIF_ACCEPTED or the number of the first check that says no.
  * - A refused call has changed nothing: every buffer and every out value holds what it held. This is proved.
  * - Whatever bytes are lent, a call ends and stays inside the lent buffers. This is proved too.
@@ -50,6 +50,8 @@ extern "C" {
 #define WHATIF_MAX_PARTS 254u
 /* The most lines of a separating plan: a line for each pair of states. */
 #define WHATIF_MAX_LINES 256u
+/* The most assignments that are counted: 10 to the power 18. */
+#define WHATIF_MAX_ASSIGNMENTS 1000000000000000000u
 /* The greatest depth of a node, root 0. It follows from the limit on nodes and is no check of its own. */
 #define WHATIF_MAX_DEPTH 32767u
 /* The most nodes of a planner's file: its plan has twice as many and one. */
@@ -125,7 +127,9 @@ enum whatif_answer {
     /* The two rule tables do not have the same count of labels. */
     WHATIF_REFUSED_LABEL_COUNTS = 23,
     /* The product of the two rule tables' counts of states is above 16. */
-    WHATIF_REFUSED_STATE_PRODUCT = 24
+    WHATIF_REFUSED_STATE_PRODUCT = 24,
+    /* There are more than 10^18 assignments of labels to the nodes listed. */
+    WHATIF_REFUSED_ASSIGNMENTS = 26
 };
 
 /* The archive's version, as WHATIF_VERSION_NUMBER is this header's. It is always answered; there is no refusal. */
@@ -217,6 +221,26 @@ uint32_t whatif_branch_with_upper(const uint8_t *plan, size_t plan_len, const ui
                                   const uint16_t *node_table, size_t node_table_len, const uint8_t *state_table,
                                   size_t state_table_len, uint32_t upper, uint32_t lower, uint32_t *state,
                                   uint32_t *yes, uint32_t *links);
+
+/*
+ * Count: how many choices of labels end in each state? Every assignment of the K labels to the nodes listed is one
+ * choice, so that there are K to the power nodes_len of them; the other nodes keep their labels.
+ * Lent:    the plan, the rule table, the tables of whatif_build and the nodes, read: nodes_len different nodes, 0 to 64.
+ *          N, S and K are those of the headers of the plan and the rule table. counts, written.
+ * Written: the first S numbers of counts: for each state how many choices end in it at the root; *parts and *links, those
+ *          of a question about these nodes. With no node listed the run's own state has 1. The sum is K to the power
+ *          nodes_len. The rest of a longer buffer is untouched; WHATIF_MAX_STATES numbers always suffice.
+ * Answers: WHATIF_ACCEPTED, or the first of 17, 12, 13, 15, 26, 18, 11. 17 is given too where a header is cut short or
+ *          names a number outside its limits; 12 for more than 64 nodes; 26 for more than WHATIF_MAX_ASSIGNMENTS choices,
+ *          and not for that many; 11 where counts is shorter than S. 18 is never given on tables as whatif_build wrote
+ *          them for what is lent, nor on run states and maps that are any bytes below S. On other tables the call ends
+ *          as well, with 18 or with counts, none above WHATIF_MAX_ASSIGNMENTS. Refused, counts, *parts and *links are as
+ *          they were.
+ */
+uint32_t whatif_count(const uint8_t *plan, size_t plan_len, const uint8_t *rules, size_t rules_len,
+                      const uint16_t *node_table, size_t node_table_len, const uint8_t *state_table,
+                      size_t state_table_len, const uint16_t *nodes, size_t nodes_len, uint64_t *counts,
+                      size_t counts_len, uint32_t *parts, uint32_t *links);
 
 /*
  * Merge: writes one rule table that clears exactly the plans that both clear. State p of the first table and q of the
@@ -478,6 +502,8 @@ static inline const char *whatif_answer_text(uint32_t answer) {
         return "The two rule tables do not have the same count of labels.";
     case WHATIF_REFUSED_STATE_PRODUCT:
         return "The product of the two rule tables' counts of states is above 16.";
+    case WHATIF_REFUSED_ASSIGNMENTS:
+        return "There are more than 10^18 assignments of labels to the nodes listed.";
     default:
         return "This is no answer of this version.";
     }

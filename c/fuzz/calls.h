@@ -27,6 +27,7 @@ enum try {
     PLANNER_OUT,
     PLANNER_HOME,
     LAY_OVER,
+    COUNT,
     TRIES
 };
 
@@ -63,5 +64,8 @@ uint32_t try_planner_of_plan(struct input *in);
 
 /* One list of changes laid over another. lists.c */
 uint32_t try_lay_over(struct input *in);
+
+/* How many choices end in each state. choices.c */
+uint32_t try_count(struct input *in);
 
 #endif

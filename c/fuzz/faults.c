@@ -22,6 +22,8 @@ uint32_t __real_whatif_fresh_run(PLAN_RULES, LIST, uint32_t *state, uint32_t *ye
 uint32_t __real_whatif_merge(MERGED);
 uint32_t __real_whatif_agree(const uint8_t *first, size_t first_len, const uint8_t *second, size_t second_len,
                              uint16_t *lines, size_t lines_len, uint32_t *agree, uint32_t *count);
+uint32_t __real_whatif_count(PLAN_RULES, READ, const uint16_t *listed, size_t listed_len, uint64_t *counts,
+                             size_t counts_len, uint32_t *parts, uint32_t *links);
 uint32_t __real_whatif_plan_of_planner(PLANNER_OUT);
 uint32_t __real_whatif_planner_of_plan(const uint8_t *plan, size_t plan_len, uint8_t *file, size_t file_len);
 uint32_t __real_whatif_start(uint8_t *record, size_t record_len, PLAN_RULES, READ, LIST, uint32_t *parts);
@@ -127,5 +129,17 @@ uint32_t __wrap_whatif_planner_of_plan(const uint8_t *plan, size_t plan_len, uin
     uint32_t answer = __real_whatif_planner_of_plan(plan, plan_len, file, file_len);
     if (laid(20) && answer == 0) /* another label comes home */
         file[12]++;
+    return answer;
+}
+
+uint32_t __wrap_whatif_count(PLAN_RULES, READ, const uint16_t *listed, size_t listed_len, uint64_t *counts,
+                             size_t counts_len, uint32_t *parts, uint32_t *links) {
+    uint32_t answer = __real_whatif_count(ALL, listed, listed_len, counts, counts_len, parts, links);
+    if (laid(22) && answer != 0 && counts_len > 0) /* a refused count writes */
+        counts[0] = 0;
+    if (laid(23) && answer == 0) /* one number past the output */
+        counts[counts_len]++;
+    if (laid(24) && answer == 0 && counts_len > 1) /* a choice ends in another state */
+        counts[0]++, counts[1]--;
     return answer;
 }

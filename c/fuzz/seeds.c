@@ -83,6 +83,7 @@ static const char *const folders[TRIES] = {
     [PLANNER_OUT] = "plan-of-planner",
     [PLANNER_HOME] = "planner-of-plan",
     [LAY_OVER] = "lay-over",
+    [COUNT] = "count",
 };
 
 /* A file in the folder of its call. */
@@ -306,6 +307,34 @@ static void lists_over(void) {
     put(64, 2), end();
 }
 
+static void count_of(const struct plan *p, const char *which, enum side side, size_t m, const uint16_t *list, size_t room) {
+    begin(COUNT, p->name, which), put(side, 1), numbers(list, m), plan_and_rules(p), tables(p, p->s);
+    put((uint32_t)room, 2), end();
+}
+
+/* No node, one, three, of buffers with some excess and of one that is exact behind a page; each refusal but 17. */
+static void counts(const struct plan *p) {
+    const uint16_t list[] = {0, 2, 5, 2}, none_there[] = {0, (uint16_t)p->n};
+    uint16_t many[65];
+    for (uint16_t v = 0; v < 65; v++)
+        many[v] = v;
+    size_t numbers_len = WHATIF_NODE_TABLE_LEN(p->n);
+    must(whatif_build(PLAN(p), RULES(p), nodes, numbers_len, states, WHATIF_STATE_TABLE_LEN(p->n, p->s)) == 0);
+    count_of(p, "", BEFORE, 0, list, p->s + 1);
+    count_of(p, "-one", BEFORE, 1, list, p->s);
+    count_of(p, "-three", BEFORE, 3, list, p->s + 1);
+    count_of(p, "-behind", BEHIND, 1, list + 2, p->s);
+    count_of(p, "-11", BEFORE, 2, list, p->s - 1);
+    count_of(p, "-12", BEFORE, 65, many, p->s);
+    count_of(p, "-13", BEFORE, 2, none_there, p->s);
+    count_of(p, "-15", BEFORE, 4, list, p->s);
+    if (p->k == K)
+        count_of(p, "-26", BEFORE, 20, many, p->s);
+    for (size_t i = 0; i < numbers_len; i++)
+        nodes[i] = 1;
+    count_of(p, "-18", BEFORE, 3, list, p->s);
+}
+
 int main(int argc, char **argv) {
     must(argc == 2);
     folder = argv[1];
@@ -322,6 +351,7 @@ int main(int argc, char **argv) {
     planner_files("one", (const uint8_t[]){7}, (const uint8_t[]){0}, 1);
     planner_files("nine", (const uint8_t[]){5, 6, 8, 7, 0, 62, 1, 1, 9}, (const uint8_t[]){3, 1, 0, 0, 2, 1, 1, 0, 0}, 9);
     lists_over();
+    counts(&sample), counts(&comb);
     on_tables(&comb), on_records(&comb, &far), panel(&comb, &far), question(&comb, &far, "");
     for (size_t i = 0; i < QUESTIONS; i++) {
         char which[] = {'-', (char)('1' + i), 0};

@@ -39,6 +39,7 @@ static const struct {
     [PLANNER_OUT] = {"whatif_plan_of_planner", try_plan_of_planner, 1u | FROM(19, 21)},
     [PLANNER_HOME] = {"whatif_planner_of_plan", try_planner_of_plan, 1u | FROM(19, 19) | FROM(21, 21)},
     [LAY_OVER] = {"whatif_lay_over", try_lay_over, 1u | FROM(11, 12) | FROM(22, 22)},
+    [COUNT] = {"whatif_count", try_count, 1u | FROM(11, 13) | FROM(15, 15) | FROM(17, 18) | FROM(26, 26)},
 };
 
 #define MOST 27 /* the greatest number of a refusal */

@@ -43,11 +43,11 @@ use Rattle.counts.proofs.Vectors.{by-counts, convolved}
 
 -- ---- lists of parts
 
-tallied-more : (ts : List Tally) (p : Tally) → tallied (ts ++ (p ∷ [])) ≡ tallied ts ++ (p .node ∷ [])
+pub tallied-more : (ts : List Tally) (p : Tally) → tallied (ts ++ (p ∷ [])) ≡ tallied ts ++ (p .node ∷ [])
 tallied-more [] p = refl
 tallied-more (q ∷ ts) p = ap (λ (l : List ℕ). q .node ∷ l) (tallied-more ts p)
 
-counts-kept : (ts : List Tally) (p : Tally) (x : ℕ) → List·Memᴰ x (tallied ts) → countsOf (ts ++ (p ∷ [])) x
+pub counts-kept : (ts : List Tally) (p : Tally) (x : ℕ) → List·Memᴰ x (tallied ts) → countsOf (ts ++ (p ∷ [])) x
     ≡ countsOf ts x
 unfolding countsOf
 counts-kept [] p x m = absurd (List·Memᴰ·not-nil m)
@@ -57,7 +57,7 @@ counts-kept (q ∷ ts) p x m = elim (ℕ-discrete (q .node) x) [
       (elim (List·Memᴰ·cases-cons m) [ inl e ↦ absurd (n (sym e)) | inr k ↦ counts-kept ts p x k ])
 ]
 
-counts-new : (ts : List Tally) (p : Tally) (x : ℕ) → p .node ≡ x → (List·Memᴰ x (tallied ts) → ⊥)
+pub counts-new : (ts : List Tally) (p : Tally) (x : ℕ) → p .node ≡ x → (List·Memᴰ x (tallied ts) → ⊥)
     → countsOf (ts ++ (p ∷ [])) x ≡ p .counts
 unfolding countsOf
 counts-new [] p x e n = rw (eq-eqb (p .node) x e)
@@ -76,7 +76,7 @@ rising-first (d ∷ done) v rest lo x r m l = elim (List·Memᴰ·cases-cons m) 
   | inr k ↦ List·Memᴰ·tail (rising-first done v rest (suc d) x (r .1) k l)
 ]
 
-rising-not : (done : List ℕ) (v : ℕ) (rest : List ℕ) (lo : ℕ) → Rising lo (done ++ (v ∷ rest)) → List·Memᴰ v done → ⊥
+pub rising-not : (done : List ℕ) (v : ℕ) (rest : List ℕ) (lo : ℕ) → Rising lo (done ++ (v ∷ rest)) → List·Memᴰ v done → ⊥
 rising-not [] v rest lo r m = List·Memᴰ·not-nil m
 rising-not (d ∷ done) v rest lo r m = elim (List·Memᴰ·cases-cons m) [
   | inl e ↦ omega (

@@ -23,6 +23,10 @@ pub fn capped_add(a: u64, b: u64) -> u64
 pub fn capped_times(a: u64, b: u64) -> u64
     ensures { λ r. ⌜ r ≡ capped (a * b) ⌝ }
 {
+    // most states have no count: no division for them
+    if a == 0 {
+        return 0;
+    }
     if b == 0 {
         return 0;
     }

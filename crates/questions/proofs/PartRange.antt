@@ -147,7 +147,7 @@ module _ (X : View) (qs vs bs : List ℕ) where
           parent-none (f .node) (f .inside) (omega (arith, f .deeper)) (subst (λ (x : Move). target F x < X .n) e h) (f .value) (f .good)
           (subst (λ (x : Move). moveOn X x (f .value) ≡ none) e i)
 
-  climb-none : (h t q : ℕ) → h < X .n → q < X .s → climbOn X h t q ≡ none → Lost
+  pub climb-none : (h t q : ℕ) → h < X .n → q < X .s → climbOn X h t q ≡ none → Lost
   unfolding climbOn
   climb-none h t q hh hq e =
       elim (carried-none F (moveOn X) (λ x. x < X .s) keeps t h q hh hq

@@ -3,5 +3,5 @@ pub mod fits;
 pub mod part;
 mod rising;
 pub mod roots;
-mod scan;
+pub mod scan;
 mod search;

@@ -25,7 +25,7 @@ ghost use Rattle.questions.specs.inner.PartArgs.{JoinArgs, SideArgs, For
 ghost use Rattle.questions.specs.Promises.{PartDone};
 
 // The place, from 1, of the last of the earlier roots that is c or below it; 0 where there is none.
-fn last_below(node_table: &[u16], earlier: &[u16], c: usize) -> usize
+pub fn last_below(node_table: &[u16], earlier: &[u16], c: usize) -> usize
     requires { ⌜ LastArgs (now «node_table») (now earlier) c ⌝ }
     ensures { λ r. ⌜ r ≡ lastIn c (sizeCell (now («node_table» .entry)) c) (now (earlier .entry)) ⌝ }
 {

@@ -8,6 +8,7 @@
 
 mod calls;
 mod cases;
+mod choices;
 #[cfg(feature = "probes")]
 mod in_place;
 mod measure;
@@ -76,9 +77,10 @@ fn rows(wanted: &str, mut measured: impl FnMut(&Row)) -> Vec<Row> {
     table::in_order(rows)
 }
 
-/// What is measured without a question: on rule tables alone, and on planner's files.
+/// What is measured without a question: counts of choices, on rule tables alone, and on planner's files.
 fn singles(wanted: &str) -> Vec<Single> {
     let mut singles = Vec::new();
+    choices::singles(wanted, &mut |single| singles.push(single));
     rule_tables::singles(wanted, &mut |single| singles.push(single));
     planner::singles(wanted, &mut |single| singles.push(single));
     singles

@@ -181,7 +181,7 @@ fn without_climb(rows: &[Row]) -> String {
     format!("\nAn advance through bytes that does not climb takes {}, at most {} (goal: 500 ns).\n", median, greatest)
 }
 
-/// A work that needs no plan: on what, the greatest ratio that is wanted, nanoseconds of a call of library and plain.
+/// A work that is not in the table by shapes: on what, the greatest ratio that is wanted, nanoseconds of a call of library and plain.
 pub struct Single {
     pub work: &'static str,
     pub on: &'static str,

@@ -6,6 +6,9 @@
 use crate::random::Random;
 use reference::agree::{separates, Line, MAX_LINES};
 use reference::branch::{Reading, READINGS};
+use reference::causes;
+use reference::count::{checks, Said, MOST_ASSIGNMENTS};
+use reference::panel::Lends;
 use reference::tables::Tables;
 use std::fmt::Debug;
 use whatif::slices;
@@ -126,6 +129,53 @@ pub fn fresh_run(plan: &[u8], rules: &[u8], nodes: &[u16], labels: &[u8], random
     let want = expected.map(|told| [told.state as u32, told.yes as u32]);
     assert_eq!(answer, want, "the answer of the fresh run with {:?} and {:?}", nodes, labels);
     answer.map(|_| ())
+}
+
+/// What a count of choices tells: a number for each state, parts and links.
+pub type Counted = (Vec<u64>, [u32; 2]);
+
+/// A count of choices into a buffer of this length that holds random numbers, compared whole: with the reference, where the
+/// documents say what is told, else an 18 with its causes; and with plain Rust in every case.
+pub fn count(lends: &Lends, nodes: &[u16], len: usize, random: &mut Random) -> Result<Counted, u32> {
+    let Lends { plan, rules, node_table, state_table } = *lends;
+    let before: Vec<u64> = (0..len + 2 * MARGIN).map(|_| random.word()).collect();
+    let unset = [random.word() as u32 | 1 << 20, random.word() as u32 | 1 << 20];
+    let (mut counts, mut out) = (before.clone(), unset);
+    let inside = &mut counts[MARGIN..MARGIN + len];
+    let number = slices::count(plan, rules, node_table, state_table, nodes, inside, &mut out);
+    let (mut want, mut want_out) = (before, unset);
+    let inside = &mut want[MARGIN..MARGIN + len];
+    let by_yardstick = yardstick::count(plan, rules, node_table, state_table, nodes, inside);
+    if let Ok((parts, links)) = by_yardstick {
+        want_out = [parts, links];
+    }
+    let said = reference::count::count(lends, nodes);
+    match &said {
+        Said::Refused(wanted) => assert_eq!(number, *wanted, "the answer of the count"),
+        Said::Answered(answer) => {
+            let short = len < answer.counts.len();
+            assert_eq!(number, if short { 11 } else { 0 }, "the answer of the count");
+            if !short {
+                same("counts", &counts[MARGIN..MARGIN + answer.counts.len()], &answer.counts);
+                assert_eq!(out.map(|told| told as usize), [answer.parts, answer.links], "parts and links");
+            }
+        }
+        Said::Left => {
+            let sizes = checks(lends, nodes).expect("checked before");
+            let cause = || causes::anywhere(sizes, lends, &[], &[]);
+            assert!(number != 18 || cause(), "18 without a cause");
+            assert!([0, 11, 18].contains(&number), "the answer of the count is {}", number);
+        }
+    }
+    assert_eq!((number, out), (by_yardstick.err().unwrap_or(0), want_out), "plain Rust's answer");
+    same("counts", &counts, &want);
+    if number != 0 {
+        return Err(number);
+    }
+    let states = rules[0] as usize;
+    let told = counts[MARGIN..MARGIN + states].to_vec();
+    assert!(told.iter().all(|&count| count <= MOST_ASSIGNMENTS), "a count above the limit");
+    Ok((told, out))
 }
 
 /// A merge into a buffer of this length that holds random bytes, compared whole; plain Rust too. The merged table alone.

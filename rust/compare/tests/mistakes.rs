@@ -10,7 +10,7 @@ use reference::mistakes::{making, Mistake};
 const SEEDS: std::ops::Range<u64> = 1..201;
 
 /// A mistake, and the rounds that must notice it.
-const NOTICED: [(Mistake, &[&str]); 42] = [
+const NOTICED: [(Mistake, &[&str]); 47] = [
     (Mistake::ChildrenExchanged, &["builds", "fresh runs", "questions", "other bytes", "call lists"]),
     (Mistake::SiblingFromOldRun, &["questions", "other bytes", "damaged lends", "call lists"]),
     (Mistake::ClimbToTheRoot, &["questions", "other bytes", "damaged lends", "call lists"]),
@@ -56,6 +56,11 @@ const NOTICED: [(Mistake, &[&str]); 42] = [
     (Mistake::PlacesEarly, &["planner files"]),
     (Mistake::RoomBeforeLabels, &["planner files"]),
     (Mistake::TwoTrees, &["planner files"]),
+    (Mistake::OwnLabelOnly, &["choices"]),
+    (Mistake::ForkAdded, &["choices"]),
+    (Mistake::CountsNotCarried, &["choices"]),
+    (Mistake::LimitRefused, &["choices"]),
+    (Mistake::TwiceBeforeNodes, &["choices"]),
 ];
 
 /// The first difference in the rounds of a kind, and its seed.

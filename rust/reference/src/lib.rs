@@ -4,7 +4,8 @@
 //! `formats` (bytes and checks 2 to 10), `tree` (parents, depths, sizes, jumps), `tables` (run, maps, both table
 //! buffers), `climb` (moves), `branch` (branch questions), `fresh` (fresh run), `merge` and `agree` (two rule
 //! tables), `planner` (the bridge planner's files); `ready` (the ready set), `parts` (the
-//! rule for a part, on a tree), `lent` (the same on lent tables, whatever they hold); `panel` (the session's calls and
+//! rule for a part, on a tree), `count` (how many choices end in each state), `lent` (parts on lent tables, whatever they
+//! hold); `panel` (the session's calls and
 //! answers), `record` (its record as bytes), `session` (the five calls), `causes` (what 18 is given for), `book` (the
 //! panel book).
 //! The calls without a session are in this file. `mistakes` is for a test of the comparison; it does nothing else.
@@ -15,6 +16,7 @@ pub mod book;
 pub mod branch;
 pub mod causes;
 pub mod climb;
+pub mod count;
 pub mod formats;
 pub mod fresh;
 pub mod lent;

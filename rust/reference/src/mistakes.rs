@@ -89,6 +89,16 @@ pub enum Mistake {
     RoomBeforeLabels,
     /// A plan with two trees at the top goes home.
     TwoTrees,
+    /// An open node has its own label alone.
+    OwnLabelOnly,
+    /// The counts of two children are added, not multiplied.
+    ForkAdded,
+    /// The counts of a member stay at their states, as if no climb led from it.
+    CountsNotCarried,
+    /// 10^18 assignments are too many.
+    LimitRefused,
+    /// 15 is put before 13.
+    TwiceBeforeNodes,
 }
 
 thread_local! {

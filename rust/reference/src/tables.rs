@@ -13,6 +13,11 @@ pub struct Tables {
 }
 
 impl Tables {
+    /// The node table alone.
+    pub fn node_table(tree: &Tree) -> Vec<u16> {
+        node_table(tree)
+    }
+
     /// Do the lent buffers start with these tables? Their excess is not looked at.
     pub fn starts(&self, node_table: &[u16], state_table: &[u8]) -> bool {
         let looked_at = self.state_table.len() - unless(Mistake::LastByteFree, 0, 1);

@@ -14,6 +14,8 @@ INPUT is text or the bytes that the program whatif reads, a plan of up to 65,535
   answer                    a sentence for each question
   why QUESTION [all]        the states from each changed node up, until they rejoin the old run; all: every step
   suggest [NODE ..]         each single change that turns the verdict, of the whole plan or of these nodes, as questions
+  count [NODE ..]           how many choices of labels for these nodes end in each state, what share of them clears the
+                            plan, and one that does
   outline QUESTION          the roots of the parts as a picture, with their states and the climbs between (Graphviz)
   dot QUESTION              the whole plan with the parts; above 100 nodes the outline (Graphviz)
   over LOWER UPPER          question UPPER's list laid over question LOWER's, as a question to paste
@@ -73,6 +75,10 @@ fn made(words: &[&str]) -> Result<Made, Failure> {
         ["suggest", nodes @ ..] => {
             let nodes = nodes.iter().map(|word| a_number(word, "a node")).collect::<Result<Vec<_>, _>>()?;
             text::suggest::of_nodes(&input()?, &nodes).map(Made::answered)
+        }
+        ["count", nodes @ ..] => {
+            let nodes = nodes.iter().map(|word| a_number(word, "a node")).collect::<Result<Vec<_>, _>>()?;
+            text::count::of_nodes(&input()?, &nodes).map(Made::answered)
         }
         ["outline", question] => text::outline::of_question(&input()?, a_question(question)?).map(Made::answered),
         ["dot", question] => text::draw(&input()?, a_question(question)?).map(Made::answered),

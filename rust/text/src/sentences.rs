@@ -51,7 +51,7 @@ pub fn state(before: u8, after: u8) -> String {
 }
 
 /// A refusal, and which entry it is about where that is found.
-fn refused(refusal: Refusal, about: Option<String>) -> Failure {
+pub fn refused(refusal: Refusal, about: Option<String>) -> Failure {
     Failure::Refused(match about {
         Some(about) => format!("{} ({})", refusal, about),
         None => refusal.to_string(),

@@ -28,6 +28,27 @@ fn on_the_sample() {
     holds("over-none", &["over", "1", "1"], SAMPLE);
 }
 
+/// No open node, some, all; where no choice clears the plan and where every one does; and what is refused.
+#[test]
+fn counts_of_choices() {
+    holds("count-none", &["count"], SAMPLE);
+    holds("count-0-2", &["count", "0", "2"], SAMPLE);
+    holds("count-all", &["count", "6", "5", "4", "3", "2", "1", "0"], SAMPLE);
+    let (never, always) = (SAMPLE.replace("accept 1", ""), SAMPLE.replace("accept 1", "accept 0 1"));
+    holds("count-never", &["count", "0", "6"], &never);
+    holds("count-always", &["count", "0", "6"], &always);
+    let many = ["--nodes", "301", "--shape", "random", "--states", "5", "--labels", "10", "--seed", "8"];
+    let nodes: Vec<String> = (0..18).map(|i| (16 * i).to_string()).collect();
+    let words = |m: usize| ["count"].into_iter().chain(nodes[..m].iter().map(String::as_str)).collect::<Vec<_>>();
+    holds("count-most", &words(18), &random(&many));
+    holds("refused-count-twice", &["count", "0", "3", "0"], SAMPLE);
+    holds("refused-count-node", &["count", "7"], SAMPLE);
+    holds("refused-count-great", &["count", "65536"], SAMPLE);
+    holds("refused-count-65", &[&["count"][..], &["1"; 65]].concat(), SAMPLE);
+    holds("refused-count-many", &[&words(18)[..], &["300"]].concat(), &random(&many));
+    assert_eq!(run(&["count", "first"], SAMPLE.as_bytes()).status.code(), Some(1), "no node");
+}
+
 /// Both readings of the word, the same node twice, a long path, and what is refused.
 #[test]
 fn branch_questions() {
@@ -59,6 +80,7 @@ fn bytes_are_taken_like_text() {
         &["dot", "4"],
         &["session", SCRIPT],
         &["over", "4", "9"],
+        &["count", "0", "2"],
     ] {
         assert_eq!(told(&run(words, &bytes)), told(&run(words, SAMPLE.as_bytes())), "{:?}", words);
     }
@@ -75,6 +97,7 @@ fn on_a_full_arch() {
     holds("arch-outline", &["dot", "1"], &arch);
     holds("arch-why", &["why", "1"], &arch);
     holds("arch-suggest", &["suggest", "61470", "30735"], &arch);
+    holds("arch-count", &["count", "0", "7000", "14000", "21000", "28000", "35000", "42000", "49000"], &arch);
 }
 
 #[test]

@@ -106,6 +106,24 @@ extern "C" {
         links: *mut u32,
     ) -> u32;
 
+    /// How many choices of labels for the nodes listed end in each state?
+    pub fn whatif_count(
+        plan: *const u8,
+        plan_len: usize,
+        rules: *const u8,
+        rules_len: usize,
+        node_table: *const u16,
+        node_table_len: usize,
+        state_table: *const u8,
+        state_table_len: usize,
+        nodes: *const u16,
+        nodes_len: usize,
+        counts: *mut u64,
+        counts_len: usize,
+        parts: *mut u32,
+        links: *mut u32,
+    ) -> u32;
+
     /// Writes one rule table that clears exactly the plans that both clear.
     pub fn whatif_merge(
         first: *const u8,

@@ -4,8 +4,8 @@
 //! automaton on the words from an upper node down to a lower. Plans and tables are bytes (docs/LAYOUT.md). The library
 //! never allocates; the caller lends the tables. A refused call has changed nothing.
 //!
-//! Order: `sizes` (limits and lengths), `Refusal`, the calls on tables, those on two rule tables (`merge`, `agree`),
-//! those on the planner's files (`plan_of_planner`, `planner_of_plan`), on two lists (`lay_over`), `Session`, the panel
+//! Order: `sizes` (limits and lengths), `Refusal`, the calls on tables, how many choices end in each state (`count`),
+//! the calls on two rule tables (`merge`, `agree`), those on the planner's files (`plan_of_planner`, `planner_of_plan`), on two lists (`lay_over`), `Session`, the panel
 //! session, with `Lent`.
 //! The crate `whatif-sys` has the library's own functions. Without the feature `std` this crate needs `core` alone.
 //!
@@ -46,6 +46,7 @@
 extern crate std;
 
 mod agree;
+mod count;
 mod planner;
 mod refusal;
 mod session;
@@ -54,6 +55,7 @@ pub mod sizes;
 pub mod slices;
 
 pub use agree::{agree, Line, SeparatingPlan};
+pub use count::{count, Counts};
 pub use planner::{plan_of_planner, planner_of_plan};
 pub use refusal::Refusal;
 pub use session::{Answer, Lent, Progress, Session, State};

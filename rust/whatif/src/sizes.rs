@@ -12,6 +12,8 @@ pub const MAX_CHANGES: usize = 64;
 pub const MAX_PARTS: usize = 254;
 /// The most lines of a separating plan: a line for each pair of states.
 pub const MAX_LINES: usize = 256;
+/// The most assignments that are counted: 10 to the power 18.
+pub const MAX_ASSIGNMENTS: usize = 1_000_000_000_000_000_000;
 /// The greatest depth of a node, root 0. It follows from the limit on nodes.
 pub const MAX_DEPTH: usize = 32_767;
 /// The most nodes of a planner's file: its plan has twice as many and one.

@@ -148,6 +148,38 @@ fn branch_by(
     }
 }
 
+/// Tells parts and links.
+pub fn count(
+    plan: &[u8],
+    rules: &[u8],
+    node_table: &[u16],
+    state_table: &[u8],
+    nodes: &[u16],
+    counts: &mut [u64],
+    told: &mut [u32; 2],
+) -> u32 {
+    let [parts, links] = told;
+    // SAFETY: as in `build_by`
+    unsafe {
+        raw::whatif_count(
+            plan.as_ptr(),
+            plan.len(),
+            rules.as_ptr(),
+            rules.len(),
+            node_table.as_ptr(),
+            node_table.len(),
+            state_table.as_ptr(),
+            state_table.len(),
+            nodes.as_ptr(),
+            nodes.len(),
+            counts.as_mut_ptr(),
+            counts.len(),
+            parts,
+            links,
+        )
+    }
+}
+
 pub fn merge(first: &[u8], second: &[u8], merged: &mut [u8]) -> u32 {
     // SAFETY: as in `build_by`
     unsafe {

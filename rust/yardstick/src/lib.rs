@@ -3,7 +3,7 @@
 //! Order: `checks` (2 to 11 and the parts of the lent bytes), `node_tables` (parents, jumps, depths, sizes), `rules`, `full_check`
 //! and `branch` (the bytes, full checks, branch questions), `fresh`, `merge` and `agree` (two rule tables), `planner` (the
 //! planner's files);
-//! `record` (the session's bytes), `question` (roots and parts),
+//! `record` (the session's bytes), `question` (roots and parts), `count` (how many choices end in each state),
 //! `layers` (both alone), `session` (the five calls on bytes), `place` (the session as a struct). Each call gives the
 //! same answers as the library's; the comparison tests hold it to the reference implementation as well.
 //! Maps are composed: a far jump's map is the step, then the parent's map, then the map of the parent's jump.
@@ -11,6 +11,7 @@
 mod agree;
 mod branch;
 mod checks;
+mod count;
 mod fresh;
 mod full_check;
 pub mod layers;
@@ -25,6 +26,7 @@ pub mod session;
 
 pub use agree::agree;
 pub use branch::{ask, ask_with_upper, branch_build, branch_check, Told};
+pub use count::count;
 pub use fresh::fresh_run;
 pub use merge::merge;
 pub use planner::{plan_of_planner, planner_of_plan};

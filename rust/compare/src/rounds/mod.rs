@@ -5,6 +5,7 @@ pub mod agreements;
 pub mod branch_questions;
 pub mod builds;
 pub mod call_lists;
+pub mod choices;
 pub mod damaged_lends;
 pub mod damaged_records;
 pub mod damaged_tables;
@@ -30,7 +31,7 @@ pub struct Round {
     compare: fn(&mut Random, &mut Counts),
 }
 
-pub const ROUNDS: [Round; 16] = [
+pub const ROUNDS: [Round; 17] = [
     Round { name: "builds", compare: builds::round },
     Round { name: "full checks", compare: full_checks::round },
     Round { name: "fresh runs", compare: fresh_runs::round },
@@ -47,6 +48,7 @@ pub const ROUNDS: [Round; 16] = [
     Round { name: "agreements", compare: agreements::round },
     Round { name: "planner files", compare: planner_files::round },
     Round { name: "laying over", compare: lay_overs::round },
+    Round { name: "choices", compare: choices::round },
 ];
 
 impl Round {

@@ -14,31 +14,35 @@ positive b n = omega arith
 
 returns : tie.Need-returns
 returns c =
-    let z = ap (λ (m : ℕ). c .before .args .a * m) (c .if1 .taken) in omega (arith, z)
-
-div-if2 : tie.Need-div-if2
-div-if2 c = search needs
+    let z = ap (λ (m : ℕ). m * c .before .args .b) (c .if1 .taken) in omega (arith, z)
 
 returns-2 : tie.Need-returns-2
-returns-2 c = omega (
+returns-2 c =
+    let z = ap (λ (m : ℕ). c .before .before .args .a * m) (c .if2 .taken) in omega (arith, z)
+
+div-if3 : tie.Need-div-if3
+div-if3 c = search needs
+
+returns-3 : tie.Need-returns-3
+returns-3 c = omega (
   arith,
-  product-above (c .before .before .args .a) (c .before .before .args .b)
-      (positive (c .before .before .args .b) (c .before .if1 .left)) (c .if2 .taken),
+  product-above (c .before .before .before .args .a) (c .before .before .before .args .b)
+      (positive (c .before .before .before .args .b) (c .before .if2 .left)) (c .if3 .taken),
 )
 
 mul-result : tie.Need-mul-result
 mul-result c = omega (
   arith,
-  product-within (c .before .before .args .a) (c .before .before .args .b)
-      (positive (c .before .before .args .b) (c .before .if1 .left)) (c .if2 .left),
+  product-within (c .before .before .before .args .a) (c .before .before .before .args .b)
+      (positive (c .before .before .before .args .b) (c .before .if2 .left)) (c .if3 .left),
 )
 
-returns-3 : tie.Need-returns-3
-returns-3 c = omega (
+returns-4 : tie.Need-returns-4
+returns-4 c = omega (
   arith,
-  product-within (c .before .before .args .a) (c .before .before .args .b)
-      (positive (c .before .before .args .b) (c .before .if1 .left)) (c .if2 .left),
+  product-within (c .before .before .before .args .a) (c .before .before .before .args .b)
+      (positive (c .before .before .before .args .b) (c .before .if2 .left)) (c .if3 .left),
 )
 
 pub capped-times-spec : {M : Type 1} → statement M
-capped-times-spec = tie.close (tie.spec returns div-if2 returns-2 mul-result returns-3)
+capped-times-spec = tie.close (tie.spec returns returns-2 div-if3 returns-3 mul-result returns-4)

@@ -1,0 +1,68 @@
+-- `copy_counts` meets its contract. Assumes nothing.
+use Prim.Native.Nat.{_-_}
+use Rattle.capi_count.proofs.CopyLaws.{CopyLoop, copy-start, copy-next, copy-done}
+use native.Mathlib.Omega.{arith}
+use borrow.Author.Needs.{needs}
+use Rattle.capi_count.proofs.copy_counts.Statement.{statement}
+use Rattle.capi_count.proofs.copy_counts.Tie as tie
+use Rattle.capi_count.proofs.copy_counts.Reads as reads
+use Rattle.capi_count.proofs.copy_counts.Lts as lts
+
+abbrev Inv-loop : tie.InvT-loop
+Inv-loop n out₀ a i₀ out i = CopyLoop a n out₀ out i
+
+abbrev μ-loop : tie.MeasureT-loop
+μ-loop n out₀ a i₀ out i = n - i
+
+loop-holds : tie.Need-loop-holds Inv-loop μ-loop
+loop-holds c = copy-start (c .args .t1) (c .args .n) (c .args .out .now) (c .pre)
+
+mul-out : tie.Need-mul-out Inv-loop μ-loop
+mul-out c = search needs
+
+array-read-out : tie.Need-array-read-out Inv-loop μ-loop
+array-read-out c = search needs
+
+mul-out-2 : tie.Need-mul-out-2 Inv-loop μ-loop
+mul-out-2 c = search needs
+
+slice-write-out : tie.Need-slice-write-out Inv-loop μ-loop
+slice-write-out c = search needs
+
+add-i : tie.Need-add-i Inv-loop μ-loop
+add-i c = search needs
+
+loop-less : tie.Need-loop-less Inv-loop μ-loop
+loop-less c = search needs
+
+loop-again : tie.Need-loop-again Inv-loop μ-loop
+loop-again c =
+    let g = c .before .before .args in
+    let l = c .before .loop in
+    copy-next (g .t1) (g .n) (g .out .now) (l .out) (l .i) (l .inv) (c .loop-test .taken)
+
+same-length : tie.Need-same-length Inv-loop μ-loop
+same-length c = c .before .loop .inv .long
+
+returns : tie.Need-returns Inv-loop μ-loop
+returns c =
+    let g = c .before .before .args in
+    let l = c .before .loop in
+    copy-done (g .t1) (g .n) (g .out .now) (l .out) (l .i) (l .inv) (c .loop-test .left)
+
+pub copy-counts-spec : {M : Type 1} → statement M
+copy-counts-spec =
+    tie.close
+    (tie.spec
+    Inv-loop
+    μ-loop
+    loop-holds
+    mul-out
+    array-read-out
+    mul-out-2
+    slice-write-out
+    add-i
+    loop-less
+    loop-again
+    same-length
+    returns)

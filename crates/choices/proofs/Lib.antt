@@ -1,0 +1,13 @@
+pub mod SameCounts
+pub mod PartCases
+pub mod RowLoop
+pub mod ListedNodes
+pub mod NextCases
+pub mod AllLoop
+pub mod CountCases
+pub mod RunCases
+pub mod CountChecks
+pub mod CountRange
+pub mod CountWidth
+pub mod Theorem
+pub mod Theorems

@@ -1,0 +1,3 @@
+pub mod PartOn
+pub mod PartsOn
+pub mod CountOn

@@ -1,0 +1,161 @@
+//! `whatif-text count`: how many choices of labels for some open nodes end in each state, what share of them clears the
+//! plan, and one that does.
+//!
+//! The counts are the library's. The choice is made node by node: each keeps its own label where some choice for the nodes
+//! after it still clears the plan, by the library's count, else it takes the first label with which one does.
+
+use crate::input::Input;
+use crate::loaded::Loaded;
+use crate::outcome::Failure;
+use crate::progress::Progress;
+use crate::questions::Change;
+use crate::sentences::{self, count, refused, verdict};
+use whatif::{Counts, Refusal};
+
+/// Of the given nodes, each open to all labels of the rules.
+pub fn of_nodes(input: &Input, nodes: &[usize]) -> Result<String, Failure> {
+    let loaded = Loaded::new(&input.plan, &input.rules)?;
+    let open = as_nodes(&loaded, nodes)?;
+    let told = whatif::count(loaded.plan, loaded.rules, &loaded.node_table, &loaded.state_table, &open)
+        .map_err(|refusal| count_refused(refusal, &loaded, &open))?;
+    Ok(head(&loaded, &open, &told) + &table(&loaded, &told) + &clears(&loaded, &told) + &choice(&loaded, &open, &told)?)
+}
+
+/// As 16-bit numbers; a greater one is no node of any plan.
+fn as_nodes(loaded: &Loaded, nodes: &[usize]) -> Result<Vec<u16>, Failure> {
+    let known = |v: usize| u16::try_from(v).map_err(|_| refused(Refusal::Node, Some(no_node(loaded, v))));
+    nodes.iter().map(|&v| known(v)).collect()
+}
+
+fn no_node(loaded: &Loaded, v: usize) -> String {
+    format!("node {}; the plan's are 0 to {}", v, loaded.nodes() - 1)
+}
+
+fn count_refused(refusal: Refusal, loaded: &Loaded, open: &[u16]) -> Failure {
+    let about = match refusal {
+        Refusal::ListLength => Some(count(open.len(), "node")),
+        Refusal::Node => open.iter().find(|&&v| v as usize >= loaded.nodes()).map(|&v| no_node(loaded, v as usize)),
+        Refusal::NodeTwice => {
+            (1..open.len()).find(|&i| open[..i].contains(&open[i])).map(|i| format!("node {}", open[i]))
+        }
+        Refusal::Assignments => {
+            Some(format!("{} at {}", count(loaded.as_rules().labels, "label"), count(open.len(), "node")))
+        }
+        _ => None,
+    };
+    refused(refusal, about)
+}
+
+fn head(loaded: &Loaded, open: &[u16], told: &Counts) -> String {
+    let (parts, links) = (count(told.parts as usize, "part"), count(told.links as usize, "link"));
+    let (nodes, labels) = (count(open.len(), "open node"), count(loaded.as_rules().labels, "label"));
+    format!("{}, {}: {}, {}, {}\n\n", nodes, labels, choices(told.all()), parts, links)
+}
+
+/// A line for each state.
+fn table(loaded: &Loaded, told: &Counts) -> String {
+    let (rules, all) = (loaded.as_rules(), told.all());
+    let numbers: Vec<String> = told.by_state().iter().map(|&number| grouped(number)).collect();
+    let wide = numbers.iter().map(String::len).max().unwrap_or(0).max("choices".len());
+    let mut text = format!("state  {:>wide$}  {:>12}\n", "choices", "share", wide = wide);
+    for (state, number) in numbers.iter().enumerate() {
+        let (share, clears) = (share(told.by_state()[state], all), verdict(rules.accepts(state as u8)));
+        text += &format!("{:>5}  {:>wide$}  {:>12}  {}\n", state, number, share, clears, wide = wide);
+    }
+    text + "\n"
+}
+
+fn clears(loaded: &Loaded, told: &Counts) -> String {
+    let (clearing, all) = (told.clearing(loaded.rules), told.all());
+    let said = match clearing {
+        0 => "no choice clears the plan".to_string(),
+        _ if clearing == all => "every choice clears the plan".to_string(),
+        _ => format!("{} of {} clear the plan: {}", grouped(clearing), choices(all), share(clearing, all)),
+    };
+    let before = loaded.before(loaded.nodes() - 1);
+    format!("{}\nas it is: {}, state {}\n", said, verdict(loaded.as_rules().accepts(before)), before)
+}
+
+/// A choice that clears the plan, as a question to paste; nothing where none does.
+fn choice(loaded: &Loaded, open: &[u16], told: &Counts) -> Result<String, Failure> {
+    if told.clearing(loaded.rules) == 0 {
+        return Ok(String::new());
+    }
+    let chosen = a_clearing_choice(loaded, open);
+    let (nodes, labels): (Vec<u16>, Vec<u8>) = chosen.iter().copied().unzip();
+    let held = whatif::fresh_run(loaded.plan, loaded.rules, &nodes, &labels);
+    if !held.map_or(false, |told| told.yes) {
+        return Err(Failure::wrong("a fault of whatif-text: its choice does not clear the plan by the library"));
+    }
+    Ok(format!("a choice that clears it: {}\n", sentences::changes(&chosen)))
+}
+
+/// Of nodes of which some choice clears the plan.
+fn a_clearing_choice(loaded: &Loaded, open: &[u16]) -> Vec<Change> {
+    let mut plan = loaded.plan.to_vec();
+    let (mut node_table, mut state_table) = (loaded.node_table.clone(), loaded.state_table.clone());
+    let mut progress = Progress::of(open.len(), "nodes");
+    let mut chosen = Vec::new();
+    for (i, &v) in open.iter().enumerate() {
+        progress.done(i);
+        let (at, rest) = (12 + v as usize, &open[i + 1..]);
+        let own = plan[at];
+        let others = (0..loaded.as_rules().labels as u8).filter(|&label| label != own);
+        let clears = |&label: &u8| {
+            plan[at] = label;
+            whatif::build(&plan, loaded.rules, &mut node_table, &mut state_table).expect("loaded");
+            let told = whatif::count(&plan, loaded.rules, &node_table, &state_table, rest).expect("fewer nodes");
+            told.clearing(loaded.rules) > 0
+        };
+        let label = std::iter::once(own).chain(others).find(clears).expect("some choice clears the plan");
+        chosen.push((v, label));
+    }
+    chosen
+}
+
+fn choices(number: u64) -> String {
+    format!("{} choice{}", grouped(number), if number == 1 { "" } else { "s" })
+}
+
+/// `1,000,000`.
+fn grouped(number: u64) -> String {
+    let digits = number.to_string();
+    let comma = |i: usize| i > 0 && (digits.len() - i) % 3 == 0;
+    digits.chars().enumerate().flat_map(|(i, c)| comma(i).then_some(',').into_iter().chain([c])).collect()
+}
+
+/// `12.5 %`, to the nearest; none and all are said so, and what is near them is not.
+fn share(number: u64, all: u64) -> String {
+    if number == 0 {
+        return "none".to_string();
+    }
+    if number == all {
+        return "all".to_string();
+    }
+    match (u128::from(number) * 2_000 + u128::from(all)) / (2 * u128::from(all)) {
+        0 => "below 0.1 %".to_string(),
+        1_000 => "above 99.9 %".to_string(),
+        tenths => format!("{}.{} %", tenths / 10, tenths % 10),
+    }
+}
+
+#[cfg(test)]
+mod tests {
+    use super::{grouped, share};
+
+    #[test]
+    fn numbers_in_groups() {
+        let of = |number: u64| grouped(number);
+        assert_eq!([of(0), of(999), of(1_000), of(1_234_567)].join(" "), "0 999 1,000 1,234,567");
+        assert_eq!(of(1_000_000_000_000_000_000), "1,000,000,000,000,000,000");
+    }
+
+    #[test]
+    fn shares() {
+        let most = 1_000_000_000_000_000_000;
+        let told = [(0, 4), (4, 4), (1, 4), (1, 3), (2, 3), (1, 2_000), (1, 2_001), (1, most), (most - 1, most)];
+        let wanted =
+            ["none", "all", "25.0 %", "33.3 %", "66.7 %", "0.1 %", "below 0.1 %", "below 0.1 %", "above 99.9 %"];
+        assert_eq!(told.map(|(number, all)| share(number, all)), wanted);
+    }
+}
