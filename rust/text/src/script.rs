@@ -69,9 +69,7 @@ impl Panel<'_> {
                 self.start(&changes)
             }
             ["advance"] | ["advance", _] => self.advance().map_err(plain),
-            ["cancel"] => {
-                self.session.cancel().map(|()| "the session is loaded, as after load".to_string()).map_err(plain)
-            }
+            ["cancel"] => self.session.cancel().map(|()| self.cancelled()).map_err(plain),
             ["read"] => self.session.read().map(|answer| sentences::answer(&answer)).map_err(plain),
             _ => {
                 let forms = "'load', 'start NODE->LABEL ..', 'start none', 'advance [TIMES|all]', 'cancel' or 'read'";
@@ -106,6 +104,12 @@ impl Panel<'_> {
         let progress = self.session.advance(&lent(self.input, &self.tables))?;
         let told = if progress == Progress::More { "more" } else { "finished" };
         Ok(format!("part {} of {}, {}", self.session.parts_done(), self.session.parts(), told))
+    }
+
+    /// An earlier question's answer stays.
+    fn cancelled(&self) -> String {
+        let kept = if self.session.read().is_ok() { ", with the last answer kept" } else { "" };
+        format!("the session is loaded, as after load{}", kept)
     }
 
     /// N, S and K, once the headers are known to be there.
