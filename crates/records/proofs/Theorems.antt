@@ -51,7 +51,7 @@ module _ (s : Session) (t : InTypes s) where
       simp length-append (omega arith)
 
   -- what stands behind the head, the nodes, the labels and the roots
-  tail : List ℕ
+  abbrev tail : List ℕ
   tail = s .states ++ lastBytes (s .head .last)
 
   encoded-nodes : run 13 128 (encoded s) ≡ bytes16 (s .nodes)
@@ -75,20 +75,23 @@ module _ (s : Session) (t : InTypes s) where
       ∙ behind (s .labels) (bytes16 (s .roots) ++ tail) 64 0 508 (t .labels-length)
       ∙ first-run (bytes16 (s .roots)) tail 508 roots-long
 
-  -- n bytes behind the roots, from their place k on
-  encoded-tail : (k n : ℕ) → run (713 + k) n (encoded s) ≡ run k n tail
-  unfolding encoded
-  encoded-tail k n =
-      behind (headBytes (s .head)) (restBytes s) 13 (700 + k) n refl
-      ∙ behind (bytes16 (s .nodes)) (s .labels ++ (bytes16 (s .roots) ++ tail)) 128 (572 + k) n nodes-long
-      ∙ behind (s .labels) (bytes16 (s .roots) ++ tail) 64 (508 + k) n (t .labels-length)
-      ∙ behind (bytes16 (s .roots)) tail 508 k n roots-long
-
   encoded-states : run 713 254 (encoded s) ≡ s .states
-  encoded-states = encoded-tail 0 254 ∙ first-run (s .states) (lastBytes (s .head .last)) 254 (t .states-length)
+  unfolding encoded
+  encoded-states =
+      behind (headBytes (s .head)) (restBytes s) 13 700 254 refl
+      ∙ behind (bytes16 (s .nodes)) (s .labels ++ (bytes16 (s .roots) ++ tail)) 128 572 254 nodes-long
+      ∙ behind (s .labels) (bytes16 (s .roots) ++ tail) 64 508 254 (t .labels-length)
+      ∙ behind (bytes16 (s .roots)) tail 508 0 254 roots-long
+      ∙ first-run (s .states) (lastBytes (s .head .last)) 254 (t .states-length)
 
   encoded-last : run 967 8 (encoded s) ≡ lastBytes (s .head .last)
-  encoded-last = encoded-tail 254 8 ∙ behind (s .states) (lastBytes (s .head .last)) 254 0 8 (t .states-length)
+  unfolding encoded
+  encoded-last =
+      behind (headBytes (s .head)) (restBytes s) 13 954 8 refl
+      ∙ behind (bytes16 (s .nodes)) (s .labels ++ (bytes16 (s .roots) ++ tail)) 128 826 8 nodes-long
+      ∙ behind (s .labels) (bytes16 (s .roots) ++ tail) 64 762 8 (t .labels-length)
+      ∙ behind (bytes16 (s .roots)) tail 508 254 8 roots-long
+      ∙ behind (s .states) (lastBytes (s .head .last)) 254 0 8 (t .states-length)
 
   -- a byte of the answer that is kept
   last-at : (i : ℕ) → i < 8 → getD (encoded s) (967 + i) 0 ≡ getD (lastBytes (s .head .last)) i 0
