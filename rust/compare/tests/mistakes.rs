@@ -29,7 +29,7 @@ const NOTICED: [(Mistake, &[&str]); 45] = [
     (Mistake::LinksKept, &["questions", "call lists"]),
     (Mistake::CancelEmpties, &["damaged records", "session refusals", "call lists"]),
     (Mistake::StartEmpties, &["damaged records", "session refusals", "questions", "call lists"]),
-    (Mistake::LoadKeeps, &["session refusals", "call lists"]),
+    (Mistake::LoadKeeps, &["damaged records", "call lists"]),
     (Mistake::LastCleanByRunning, &["call lists"]),
     (Mistake::LastFree, &["damaged records", "call lists"]),
     (
