@@ -96,7 +96,6 @@ pub fn decode(bytes: &[u8]) -> Session
     requires { ⌜ length (now bytes) ≡ recordLength ⌝ }
     ensures { λ r. ⌜ r ≡ decoded (now (bytes .entry)) ⌝ }
 {
-    let head = decode_head(bytes);
     let mut nodes = [0u16; 64];
     get_numbers(&bytes[13..141], &mut nodes);
     let mut labels = [0u8; 64];
@@ -105,6 +104,7 @@ pub fn decode(bytes: &[u8]) -> Session
     get_numbers(&bytes[205..713], &mut roots);
     let mut states = [0u8; 254];
     copy_bytes(&bytes[713..967], &mut states);
+    let head = decode_head(bytes);
     Session {
         head,
         nodes,
