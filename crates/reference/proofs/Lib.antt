@@ -19,4 +19,6 @@ pub mod Controls
 pub mod OwnAnswersLaws
 pub mod ReadingLaws
 pub mod FinishTheorem
+pub mod LastingTheorem
+pub mod AnewTheorem
 pub mod PartCeiling
