@@ -16,6 +16,7 @@ pub mod AgreementTestLaws
 pub mod Theorems
 pub mod Sample
 pub mod Controls
+pub mod LastControls
 pub mod OwnAnswersLaws
 pub mod ReadingLaws
 pub mod FinishTheorem
