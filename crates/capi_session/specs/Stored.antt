@@ -2,7 +2,6 @@
 --
 -- places a b c d == the four places of Read
 -- DoneStored, StartStored, AdvanceStored, ReadStored == an answer as a number, values and record bytes
--- SameLists s t == the arrays that an advance leaves as they are: the changes as listed and the roots
 --
 -- Assumes nothing.
 use Prim.Native.Nat.{ℕ}
@@ -15,8 +14,7 @@ use Rattle.session.specs.declared.answers.Advanced.{Advanced}
 use Rattle.session.specs.declared.answers.ReadAnswer.{ReadAnswer}
 use Rattle.session.specs.declared.state.Session.{Session}
 use Rattle.session.specs.Answers.{callAnswer, startAnswer, advanceAnswer, readAnswer}
-use lib.ListN.{length}
-use Rattle.records.specs.Layout.{recordLength, encoded}
+use Rattle.records.specs.Layout.{encoded}
 use Rattle.capi_session.specs.SessionExported.{answerNumber, unlessRefused, partsOf, finishedOf, Places, answeredPlaces}
 
 abbrev pub places : ℕ → ℕ → ℕ → ℕ → Places
@@ -33,16 +31,6 @@ DoneStored o b r b′ = Stored (callAnswer (o .answer)) (o .session) b r b′
 pub record StartStored (o : Started) (b : List ℕ) (p r : ℕ) (b′ : List ℕ) (p′ : ℕ) : Type 0 where
   pub stored : Stored (startAnswer (o .answer)) (o .session) b r b′
   pub parts-after : p′ ≡ partsOf (startAnswer (o .answer)) p
-
-pub record SameLists (s t : Session) : Type 0 where
-  pub nodes : t .nodes ≡ s .nodes
-  pub labels : t .labels ≡ s .labels
-  pub roots : t .roots ≡ s .roots
-
--- what is asked where an advance of s is stored
-pub record AdvanceArgs (o : Advanced) (s : Session) (b : List ℕ) : Type 0 where
-  pub long : length b ≡ recordLength
-  pub same : SameLists s (o .session)
 
 pub record AdvanceStored (o : Advanced) (b : List ℕ) (f r : ℕ) (b′ : List ℕ) (f′ : ℕ) : Type 0 where
   pub stored : Stored (advanceAnswer (o .answer)) (o .session) b r b′

@@ -2,7 +2,6 @@
 use capi_numbers::numbers::bit;
 use records::bytes::decode;
 use records::bytes::encode;
-use records::bytes::encode_parts;
 use records::bytes::laid_out;
 use session::answers::AdvanceAnswer;
 use session::answers::Advanced;
@@ -11,14 +10,13 @@ use session::answers::Called;
 use session::answers::ReadAnswer;
 use session::answers::StartAnswer;
 use session::answers::Started;
-use session::state::Session;
 ghost use mathlib.Core.Path.{_≡_};
 ghost use lib.ListN.{length};
 ghost use Rattle.model.specs.Calls as calls;
 ghost use Rattle.records.specs.Layout.{recordLength};
 ghost use Rattle.formats.specs.Inputs.{inputsOf};
 ghost use Rattle.capi_session.specs.SessionExported.{CallExported, LoadExported, StartExported, AdvanceExported, ReadExported};
-ghost use Rattle.capi_session.specs.Stored.{DoneStored, StartStored, AdvanceArgs, AdvanceStored, ReadStored, places};
+ghost use Rattle.capi_session.specs.Stored.{DoneStored, StartStored, AdvanceStored, ReadStored, places};
 
 // Stores the record of an accepted Load or Cancel; the answer's number.
 fn store_done(out: Called, rec: &mut [u8]) -> u32
@@ -118,23 +116,22 @@ pub extern "C" fn whatif_start(
     store_started(out, rec, parts)
 }
 
-// Stores the record of an accepted advance of s and tells whether it finished; the answer's number. An advance leaves list and roots as
-// they are: they are written from s, so that they need not be copied.
-fn store_advanced(out: Advanced, s: Session, rec: &mut [u8], finished: &mut u32) -> u32
-    requires { ⌜ AdvanceArgs out s (now rec) ⌝ }
+// Stores the record of an accepted advance and tells whether it finished; the answer's number.
+fn store_advanced(out: Advanced, rec: &mut [u8], finished: &mut u32) -> u32
+    requires { ⌜ length (now rec) ≡ recordLength ⌝ }
     ensures { λ r. ⌜ AdvanceStored out (now (rec .entry)) (now (finished .entry)) r (now (rec .exit)) (now (finished .exit)) ⌝ }
 {
     let answer = out.answer;
     match answer {
         AdvanceAnswer::More => {
             let next = out.session;
-            encode_parts(next.head, &s.nodes, &s.labels, &s.roots, &next.states, rec);
+            encode(next, rec);
             *finished = 0;
             return 0;
         }
         AdvanceAnswer::Finished => {
             let next = out.session;
-            encode_parts(next.head, &s.nodes, &s.labels, &s.roots, &next.states, rec);
+            encode(next, rec);
             *finished = 1;
             return 0;
         }
@@ -164,7 +161,7 @@ pub extern "C" fn whatif_advance(
     }
     let s = decode(rec);
     let out = s.advance(plan, rules, node_table, state_table);
-    store_advanced(out, s, rec, finished)
+    store_advanced(out, rec, finished)
 }
 
 // Tells what Read tells; the answer's number.

@@ -26,7 +26,7 @@ use Rattle.session.specs.declared.state.Session.{Session}
 use Rattle.session.specs.Records.{valid}
 use Rattle.records.proofs.NumberLaws.{bytes16-length}
 use Rattle.records.specs.Layout.{numbers16, bytes16, phaseByte, phaseAt, yesByte, headBytes, lastBytes, encoded}
-use Rattle.records.specs.Layout.{run, decodedHead, decodedLast, decoded, flagsFit, laidOut, validBytes}
+use Rattle.records.specs.Layout.{run, decodedHead, decodedLast, decoded, flagsFit, laidOut, validBytes, InTypes}
 
 module _ (b : List ℕ) where
   pub laid-short : (length b ≡ 975 → ⊥) → false ≡ laidOut b
@@ -91,16 +91,15 @@ joined p q a b e f = rw (length-append, e, f)
 regrouped : (h n l r t w : List ℕ) → ((((h ++ n) ++ l) ++ r) ++ t) ++ w ≡ h ++ (n ++ (l ++ (r ++ (t ++ w))))
 regrouped h n l r t w = simp append-assoc
 
-pub record-written : (o : List ℕ) (s : Session) (h n l r t w : List ℕ) → length o ≡ 975 → length (s .nodes) ≡ 64
-    → length (s .labels) ≡ 64 → length (s .roots) ≡ 254 → length (s .states) ≡ 254 → h ≡ headBytes (s .head)
+pub record-written : (o : List ℕ) (s : Session) (h n l r t w : List ℕ) → length o ≡ 975 → InTypes s → h ≡ headBytes (s .head)
     → n ≡ bytes16 (s .nodes) → l ≡ s .labels → r ≡ bytes16 (s .roots) → t ≡ s .states → w ≡ lastBytes (s .head .last)
     → put 967 8 (put 713 254 (put 205 508 (put 141 64 (put 13 128 (h ++ drop 13 o) n) l) r) t) w ≡ encoded s
 unfolding encoded
-record-written o s h n l r t w e zn zl zr zt eh en el er et ew =
+record-written o s h n l r t w e z eh en el er et ew =
     let lh : length h ≡ 13 = ap length eh in
-    let ln : length n ≡ 128 = ap length en ∙ (bytes16-length (s .nodes) ∙ ap (λ (k : ℕ). 2 * k) zn) in
-    let ll : length l ≡ 64 = ap length el ∙ zl in
-    let lr : length r ≡ 508 = ap length er ∙ (bytes16-length (s .roots) ∙ ap (λ (k : ℕ). 2 * k) zr) in
+    let ln : length n ≡ 128 = ap length en ∙ (bytes16-length (s .nodes) ∙ ap (λ (k : ℕ). 2 * k) (z .nodes-length)) in
+    let ll : length l ≡ 64 = ap length el ∙ z .labels-length in
+    let lr : length r ≡ 508 = ap length er ∙ (bytes16-length (s .roots) ∙ ap (λ (k : ℕ). 2 * k) (z .roots-length)) in
     let x₁ = part-written (h ++ drop 13 o) h o n 13 128 refl lh in
     let x₂ = part-written (put 13 128 (h ++ drop 13 o) n) (h ++ n) o l 141 64 x₁ (joined h n 13 128 lh ln) in
     let l₂ = joined (h ++ n) l 141 64 (joined h n 13 128 lh ln) ll in
@@ -108,7 +107,7 @@ record-written o s h n l r t w e zn zl zr zt eh en el er et ew =
     let l₃ = joined ((h ++ n) ++ l) r 205 508 l₂ lr in
     let y = put 205 508 (put 141 64 (put 13 128 (h ++ drop 13 o) n) l) r in
     let x₄ = part-written y (((h ++ n) ++ l) ++ r) o t 713 254 x₃ l₃ in
-    let lt : length t ≡ 254 = ap length et ∙ zt in
+    let lt : length t ≡ 254 = ap length et ∙ z .states-length in
     let l₄ = joined (((h ++ n) ++ l) ++ r) t 713 254 l₃ lt in
     let x₅ = part-written (put 713 254 y t) ((((h ++ n) ++ l) ++ r) ++ t) o w 967 8 x₄ l₄ in
     x₅

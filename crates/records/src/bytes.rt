@@ -14,7 +14,6 @@ ghost use mathlib.Core.Path.{_≡_};
 ghost use mathlib.Core.Bool.{cond};
 ghost use lib.Dec.{eqb};
 ghost use lib.ListN.{length};
-ghost use Rattle.session.specs.Records.{whole};
 ghost use Rattle.records.specs.Layout.{recordLength, phaseByte, phaseAt, yesByte, headBytes, lastBytes, encoded};
 ghost use Rattle.records.specs.Layout.{decodedHead, decodedLast, decoded, laidOut, validBytes};
 
@@ -152,38 +151,20 @@ fn put_last(l: Last, out: &mut [u8])
     out[7] = (o.links / 16777216 % 256) as u8;
 }
 
-// The bytes of a record that is given as its head and its four arrays, lent: a caller that has arrays as they were need not copy
-// them first. A buffer that has not 975 bytes is left as it is.
-pub fn encode_parts<'a>(
-    h: Head,
-    nodes: &'a [u16; 64],
-    labels: &'a [u8; 64],
-    roots: &'a [u16; 254],
-    states: &'a [u8; 254],
-    out: &mut [u8],
-)
-    ensures { λ _. ⌜
-        now (out .exit) ≡ cond (eqb (length (now (out .entry))) recordLength)
-        (encoded (whole h (now (nodes .entry)) (now (labels .entry)) (now (roots .entry)) (now (states .entry)))) (now (out .entry)) ⌝ }
-{
-    if out.len() != 975 {
-        return;
-    }
-    put_head(h, &mut out[..13]);
-    put_numbers(nodes, &mut out[13..141]);
-    copy_bytes(labels, &mut out[141..205]);
-    put_numbers(roots, &mut out[205..713]);
-    copy_bytes(states, &mut out[713..967]);
-    put_last(h.last, &mut out[967..975]);
-}
-
 // The bytes of a record. A buffer that has not 975 bytes is left as it is.
 pub fn encode(rec: Session, out: &mut [u8])
     ensures { λ _. ⌜
         now (out .exit) ≡ cond (eqb (length (now (out .entry))) recordLength) (encoded rec) (now (out .entry)) ⌝ }
 {
-    let h = rec.head;
-    encode_parts(h, &rec.nodes, &rec.labels, &rec.roots, &rec.states, out);
+    if out.len() != 975 {
+        return;
+    }
+    put_head(rec.head, &mut out[..13]);
+    put_numbers(&rec.nodes, &mut out[13..141]);
+    copy_bytes(&rec.labels, &mut out[141..205]);
+    put_numbers(&rec.roots, &mut out[205..713]);
+    copy_bytes(&rec.states, &mut out[713..967]);
+    put_last(rec.head.last, &mut out[967..975]);
 }
 
 // Whether there are 975 bytes, the state is at most 3, and both yes or no and whether an answer is kept are at most 1.

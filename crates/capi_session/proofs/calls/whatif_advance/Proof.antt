@@ -1,5 +1,4 @@
 use Rattle.capi_session.proofs.SessionExportedLaws.{refused-laid, passed-laid, passed-length, advance-not, advance-laid, of-decoded}
-use Rattle.capi_session.proofs.ListsKept.{advance-args}
 use native.Mathlib.Omega.{arith}
 use borrow.Author.Needs.{needs}
 use Rattle.capi_session.proofs.calls.whatif_advance.Statement.{statement}
@@ -21,10 +20,7 @@ decode-requires c κs =
 
 store-advanced-requires : tie.Need-store-advanced-requires
 store-advanced-requires c κs =
-    let v = c .before .before in
-    let d = v .before in
-    let i = d .before .before in
-    advance-args _ _ _ _ (passed-length _ _ (i .before .laid-out .ensures) (i .if1 .left)) (d .decode .ensures) (v .advance .ensures)
+    passed-length _ _ (c .before .before .before .before .before .before .laid-out .ensures) (c .before .before .before .before .before .if1 .left)
 
 returns-2 : tie.Need-returns-2
 returns-2 c =
