@@ -5,6 +5,7 @@
 --     head-written, last-written  13 stores in a row, and eight
 --     part-written                a part of a buffer that is written behind what is written
 --     record-written              the first 13 bytes and the five parts behind them
+--     step-other, step-done       the same of what an advance alters
 --     head-read, last-read, record-read
 --                                 the fields as the code reads them
 -- Assumes nothing.
@@ -24,8 +25,10 @@ use Rattle.session.specs.declared.state.Head.{Head}
 use Rattle.session.specs.declared.state.Last.{Last}
 use Rattle.session.specs.declared.state.Session.{Session}
 use Rattle.session.specs.Records.{valid}
+use Rattle.list_laws.proofs.SliceLaws.{length-part}
 use Rattle.records.proofs.NumberLaws.{bytes16-length}
-use Rattle.records.specs.Layout.{numbers16, bytes16, phaseByte, phaseAt, yesByte, headBytes, lastBytes, encoded}
+use Rattle.records.proofs.RunLaws.{run-then}
+use Rattle.records.specs.Layout.{numbers16, bytes16, phaseByte, phaseAt, yesByte, headBytes, lastBytes, stepBytes, encoded}
 use Rattle.records.specs.Layout.{run, decodedHead, decodedLast, decoded, flagsFit, laidOut, validBytes, InTypes}
 
 module _ (b : List ℕ) where
@@ -113,6 +116,33 @@ record-written o s h n l r t w e z eh en el er et ew =
     x₅
     ∙ (ap (λ (u : List ℕ). (((((h ++ n) ++ l) ++ r) ++ t) ++ w) ++ u) (drop-of-length-le o {i = 975} (omega arith))
     ∙ (append-nil (((((h ++ n) ++ l) ++ r) ++ t) ++ w) ∙ (regrouped h n l r t w ∙ rw (eh, en, el, er, et, ew))))
+
+module _ (out new : List ℕ) where
+  pub step-other : (length out ≡ 975 → ⊥) → out ≡ cond (eqb (length out) 975) new out
+  step-other h = rw (ne-eqb (length out) 975 h)
+
+  step-cond : (after : List ℕ) → length out ≡ 975 → after ≡ new → after ≡ cond (eqb (length out) 975) new out
+  step-cond after h e = rw (eq-eqb (length out) 975 h) e
+
+step-written : (o h t w : List ℕ) → length o ≡ 975 → length h ≡ 13 → length t ≡ 254
+    → put 967 8 (put 713 254 (h ++ drop 13 o) t) w ≡ h ++ (run 13 700 o ++ (t ++ w))
+step-written o h t w e lh lt =
+    let p = h ++ run 13 700 o in
+    let x₀ : h ++ drop 13 o ≡ (h ++ run 13 700 o) ++ drop 713 o = rw (append-assoc, run-then o 13 700) in
+    let lp = joined h (run 13 700 o) 13 700 lh (length-part o 13 700 (omega arith)) in
+    let x₁ = part-written (h ++ drop 13 o) p o t 713 254 x₀ lp in
+    let x₂ = part-written (put 713 254 (h ++ drop 13 o) t) (p ++ t) o w 967 8 x₁ (joined p t 713 254 lp lt) in
+    x₂
+    ∙ (ap (λ (u : List ℕ). ((p ++ t) ++ w) ++ u) (drop-of-length-le o {i = 975} (omega arith))
+    ∙ (append-nil ((p ++ t) ++ w) ∙ simp append-assoc))
+
+pub step-done : (o : List ℕ) (g : Head) (s h t w : List ℕ) → length o ≡ 975 → length s ≡ 254 → h ≡ headBytes g → t ≡ s
+    → w ≡ lastBytes (g .last)
+    → put 967 8 (put 713 254 (h ++ drop 13 o) t) w ≡ cond (eqb (length o) 975) (stepBytes g s o) o
+step-done o g s h t w e ls eh et ew =
+    step-cond o (stepBytes g s o) _ e
+    (step-written o h t w e (ap length eh) (ap length et ∙ ls)
+    ∙ rw (eh, et, ew))
 
 pub last-read : (t : List ℕ) (links : ℕ) → links ≡ le32 t 4
     → _≡_ {A = Last} (record {

@@ -24,6 +24,7 @@
 -- bytes16 l == the bytes of the numbers l, two each
 -- lastBytes l == the eight bytes of a finished answer, or of none
 -- encoded s == the bytes of a struct: those of its head, headBytes, the first 13, and restBytes s, whose last eight are lastBytes
+-- stepBytes h t b == the bytes b with another head and other states: what an advance alters
 -- decoded b == the struct of bytes, decodedHead b its head, each field read at its offset; a byte past the end counts 0, a state above 3 as
 --   answered, and only 1 as yes, or as an answer that is kept
 -- decodedLast t == the finished answer of eight bytes
@@ -101,6 +102,9 @@ encoded s = headBytes (s .head) ++ restBytes s
 -- n bytes from a place on
 abbrev pub run : ℕ → ℕ → List ℕ → List ℕ
 run at n b = take n (drop at b)
+
+abbrev pub stepBytes : Head → List ℕ → List ℕ → List ℕ
+stepBytes h t b = headBytes h ++ (run 13 700 b ++ (t ++ lastBytes (h .last)))
 
 abbrev pub decodedLast : List ℕ → Last
 decodedLast t = record {

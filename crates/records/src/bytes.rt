@@ -14,7 +14,7 @@ ghost use mathlib.Core.Path.{_≡_};
 ghost use mathlib.Core.Bool.{cond};
 ghost use lib.Dec.{eqb};
 ghost use lib.ListN.{length};
-ghost use Rattle.records.specs.Layout.{recordLength, phaseByte, phaseAt, yesByte, headBytes, lastBytes, encoded};
+ghost use Rattle.records.specs.Layout.{recordLength, phaseByte, phaseAt, yesByte, headBytes, lastBytes, stepBytes, encoded};
 ghost use Rattle.records.specs.Layout.{decodedHead, decodedLast, decoded, laidOut, validBytes};
 
 // The number of a state.
@@ -165,6 +165,21 @@ pub fn encode(rec: Session, out: &mut [u8])
     put_numbers(&rec.roots, &mut out[205..713]);
     copy_bytes(&rec.states, &mut out[713..967]);
     put_last(rec.head.last, &mut out[967..975]);
+}
+
+// What an advance alters of a record's bytes: the first 13, the states and the last eight. A buffer that has not 975 bytes is left
+// as it is.
+pub fn encode_step<'a>(h: Head, states: &'a [u8; 254], out: &mut [u8])
+    ensures { λ _. ⌜
+        now (out .exit) ≡ cond (eqb (length (now (out .entry))) recordLength) (stepBytes h (now (states .entry)) (now (out .entry)))
+        (now (out .entry)) ⌝ }
+{
+    if out.len() != 975 {
+        return;
+    }
+    put_head(h, &mut out[..13]);
+    copy_bytes(states, &mut out[713..967]);
+    put_last(h.last, &mut out[967..975]);
 }
 
 // Whether there are 975 bytes, the state is at most 3, and both yes or no and whether an answer is kept are at most 1.
