@@ -2,6 +2,7 @@
 use capi_numbers::numbers::bit;
 use records::bytes::decode;
 use records::bytes::encode;
+use records::bytes::encode_step;
 use records::bytes::laid_out;
 use session::answers::AdvanceAnswer;
 use session::answers::Advanced;
@@ -16,7 +17,7 @@ ghost use Rattle.model.specs.Calls as calls;
 ghost use Rattle.records.specs.Layout.{recordLength};
 ghost use Rattle.formats.specs.Inputs.{inputsOf};
 ghost use Rattle.capi_session.specs.SessionExported.{CallExported, LoadExported, StartExported, AdvanceExported, ReadExported};
-ghost use Rattle.capi_session.specs.Stored.{DoneStored, StartStored, AdvanceStored, ReadStored, places};
+ghost use Rattle.capi_session.specs.Stored.{DoneStored, StartStored, AdvanceArgs, AdvanceStored, ReadStored, places};
 
 // Stores the record of an accepted Load or Cancel; the answer's number.
 fn store_done(out: Called, rec: &mut [u8]) -> u32
@@ -58,7 +59,7 @@ pub extern "C" fn whatif_load(
     store_done(out, rec)
 }
 
-// Cancel: the question is forgotten.
+// Cancel: the question is forgotten, the last finished answer kept.
 #[no_mangle]
 pub extern "C" fn whatif_cancel(rec: &mut [u8]) -> u32
     ensures { λ r. ⌜ CallExported (now (rec .entry)) calls.cancel r (now (rec .exit)) ⌝ }
@@ -116,22 +117,23 @@ pub extern "C" fn whatif_start(
     store_started(out, rec, parts)
 }
 
-// Stores the record of an accepted advance and tells whether it finished; the answer's number.
+// Stores the record of an accepted advance and tells whether it finished; the answer's number. An advance leaves list and roots as
+// they are, so their bytes are not written again.
 fn store_advanced(out: Advanced, rec: &mut [u8], finished: &mut u32) -> u32
-    requires { ⌜ length (now rec) ≡ recordLength ⌝ }
+    requires { ⌜ AdvanceArgs out (now rec) ⌝ }
     ensures { λ r. ⌜ AdvanceStored out (now (rec .entry)) (now (finished .entry)) r (now (rec .exit)) (now (finished .exit)) ⌝ }
 {
     let answer = out.answer;
     match answer {
         AdvanceAnswer::More => {
             let next = out.session;
-            encode(next, rec);
+            encode_step(next.head, &next.states, rec);
             *finished = 0;
             return 0;
         }
         AdvanceAnswer::Finished => {
             let next = out.session;
-            encode(next, rec);
+            encode_step(next.head, &next.states, rec);
             *finished = 1;
             return 0;
         }
@@ -190,7 +192,7 @@ fn tell_read(
     }
 }
 
-// Read: the answer of a finished question.
+// Read: the last finished answer.
 #[no_mangle]
 pub extern "C" fn whatif_read(
     rec: &[u8],

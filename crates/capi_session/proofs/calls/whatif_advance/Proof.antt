@@ -1,4 +1,5 @@
 use Rattle.capi_session.proofs.SessionExportedLaws.{refused-laid, passed-laid, passed-length, advance-not, advance-laid, of-decoded}
+use Rattle.capi_session.proofs.ListsKept.{advance-args}
 use native.Mathlib.Omega.{arith}
 use borrow.Author.Needs.{needs}
 use Rattle.capi_session.proofs.calls.whatif_advance.Statement.{statement}
@@ -20,7 +21,14 @@ decode-requires c κs =
 
 store-advanced-requires : tie.Need-store-advanced-requires
 store-advanced-requires c κs =
-    passed-length _ _ (c .before .before .before .before .before .before .laid-out .ensures) (c .before .before .before .before .before .if1 .left)
+    let v = c .before .before in
+    let d = v .before in
+    let i = d .before .before in
+    let l = i .before in
+    let k = l .before .before .before .before .before .before in
+    let b = k .before .args .rec .now in
+    advance-args b _ _ _ (passed-length _ _ (l .laid-out .ensures) (i .if1 .left)) (λ j. omega (arith, k .slice-known .given j))
+    (d .decode .ensures) (v .advance .ensures)
 
 returns-2 : tie.Need-returns-2
 returns-2 c =
