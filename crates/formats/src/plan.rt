@@ -1,20 +1,25 @@
 // Plans: checks 2 to 5.
 use crate::bytes::read32;
+use crate::eight::after_eight;
 use crate::limits::NODE_LIMIT;
+use crate::rules::all_below;
 ghost use mathlib.Core.Path.{_≡_};
-ghost use Rattle.trees.specs.Postorder.{isPostorder};
+ghost use Prim.Native.Nat.{_≤_};
+ghost use lib.ListN.{length, drop};
+ghost use Rattle.trees.specs.Postorder.{isPostorder, isOne, waiting as treesWaiting};
 ghost use Rattle.formats.specs.Checks.{firstNo, planChecks};
 
-// Whether kinds are 0 or 1, two trees wait at each inner node and one at the end.
+// The same of the kinds from `from` on, where `waiting` trees wait before them.
 // A leaf is one tree more and an inner node one less; after either at least one waits. The count starts at the number of kinds, so
 // that it never falls below 0. There is no branch on a kind and no early exit.
-pub fn is_postorder(kinds: &[u8]) -> bool
-    ensures { λ r. ⌜ r ≡ isPostorder (now (kinds .entry)) ⌝ }
+fn rest_in_postorder(kinds: &[u8], from: usize, waiting: usize) -> bool
+    requires { ⌜ (from ≤ length (now kinds)) × (waiting ≤ from) ⌝ }
+    ensures { λ r. ⌜ r ≡ isOne (treesWaiting (drop from (now (kinds .entry))) waiting) ⌝ }
 {
     let none = kinds.len();
-    let mut trees = none;
+    let mut trees = none + waiting;
     let mut ok = true;
-    let mut i = 0;
+    let mut i = from;
     while i < kinds.len() {
         let k = kinds[i] as usize;
         trees = trees + 1 - 2 * (k % 2);
@@ -22,6 +27,26 @@ pub fn is_postorder(kinds: &[u8]) -> bool
         i += 1;
     }
     ok & (trees == none + 1)
+}
+
+// Whether kinds are 0 or 1, two trees wait at each inner node and one at the end: eight kinds at a time, then the rest.
+pub fn is_postorder(kinds: &[u8]) -> bool
+    ensures { λ r. ⌜ r ≡ isPostorder (now (kinds .entry)) ⌝ }
+{
+    if !all_below(kinds, 2) {
+        return false;
+    }
+    let count = kinds.len();
+    let mut waiting = 0;
+    let mut i = 0;
+    while 8 <= count - i {
+        waiting = after_eight(kinds, i, waiting);
+        if waiting == 0 {
+            return false;
+        }
+        i += 8;
+    }
+    rest_in_postorder(kinds, i, waiting)
 }
 
 // Checks 2 to 5. The kinds are the rest of the plan, where its length is exact.

@@ -1,35 +1,43 @@
--- `formats::plan::is_postorder` meets its contract: the loop's invariant is Counted of KindLoop. Assumes nothing.
+-- `formats::plan::is_postorder` meets its contract: the loop's invariant is Blocks of EightLoop. Assumes nothing.
 use Prim.Native.Nat.{_-_}
-use lib.ListN.{length}
-use Rattle.formats.proofs.KindLoop.{Counted, counted-start, counted-iteration, counted-end}
+use mathlib.Core.Path.{sym, _∙_}
+use borrow.Author.Tests.{not-true, not-false}
+use Rattle.formats.proofs.EightLoop.{Blocks, kinds-below, blocks-start, blocks-iteration, blocks-stop}
 use native.Mathlib.Omega.{arith}
 use borrow.Author.Needs.{needs}
 use Rattle.formats.proofs.plan.is_postorder.Statement.{statement}
 use Rattle.formats.proofs.plan.is_postorder.Tie as tie
 
 abbrev Inv-loop : tie.InvT-loop
-Inv-loop kinds none trees₀ ok₀ i₀ trees ok i = Counted kinds none trees ok i
+Inv-loop kinds count waiting₀ i₀ waiting i = Blocks kinds count waiting i
 
 abbrev μ-loop : tie.MeasureT-loop
-μ-loop kinds none trees₀ ok₀ i₀ trees ok i = length kinds - i
+μ-loop kinds count waiting₀ i₀ waiting i = count - i
+
+all-below-requires : tie.Need-all-below-requires Inv-loop μ-loop
+all-below-requires c κs = search needs
+
+returns : tie.Need-returns Inv-loop μ-loop
+returns c = kinds-below _ (sym (c .before .all-below .ensures) ∙ not-true _ (c .if1 .taken))
 
 loop-holds : tie.Need-loop-holds Inv-loop μ-loop
-loop-holds c = counted-start _
+loop-holds c = blocks-start _
 
-shared-slice-read-k : tie.Need-shared-slice-read-k Inv-loop μ-loop
-shared-slice-read-k c = search needs
+sub-loop : tie.Need-sub-loop Inv-loop μ-loop
+sub-loop c = search needs
 
-cast-k : tie.Need-cast-k Inv-loop μ-loop
-cast-k c = omega (arith, c .shared-slice-known .given (c .before .before .loop .i))
+after-eight-requires : tie.Need-after-eight-requires Inv-loop μ-loop
+after-eight-requires c κs =
+    let l = c .before .loop in (
+      omega (arith, l .inv .all, l .inv .within, c .loop-test .taken),
+      sym (c .before .before .before .all-below .ensures) ∙ not-false _ (c .before .before .if1 .left),
+      l .inv .most,
+    )
 
-add-trees : tie.Need-add-trees Inv-loop μ-loop
-add-trees c = search needs
-
-mul-trees : tie.Need-mul-trees Inv-loop μ-loop
-mul-trees c = search needs
-
-sub-trees : tie.Need-sub-trees Inv-loop μ-loop
-sub-trees c = search needs
+returns-2 : tie.Need-returns-2 Inv-loop μ-loop
+returns-2 c =
+    let l = c .before .before .before .loop in
+    blocks-stop _ _ _ _ _ (l .inv) (omega (arith, l .inv .all, l .inv .within, c .before .before .loop-test .taken)) (c .before .after-eight .ensures) (c .if2 .taken)
 
 add-i : tie.Need-add-i Inv-loop μ-loop
 add-i c = search needs
@@ -39,16 +47,14 @@ loop-less c = search needs
 
 loop-again : tie.Need-loop-again Inv-loop μ-loop
 loop-again c =
-    let l = c .before .before .loop in
-    counted-iteration _ _ (l .trees) (l .i) (l .ok) (l .inv) (c .before .loop-test .taken)
+    let l = c .before .before .before .loop in
+    blocks-iteration _ _ _ _ _ (l .inv) (omega (arith, l .inv .all, l .inv .within, c .before .before .loop-test .taken)) (c .before .after-eight .ensures) (c .if2 .left)
 
-add-result : tie.Need-add-result Inv-loop μ-loop
-add-result c = search needs
+rest-in-postorder-requires : tie.Need-rest-in-postorder-requires Inv-loop μ-loop
+rest-in-postorder-requires c κs = (c .before .loop .inv .within, c .before .loop .inv .most)
 
-returns : tie.Need-returns Inv-loop μ-loop
-returns c =
-    let l = c .before .loop in
-    counted-end _ _ (l .trees) (l .i) (l .ok) (l .inv) (c .loop-test .left)
+returns-3 : tie.Need-returns-3 Inv-loop μ-loop
+returns-3 c = c .rest-in-postorder .ensures ∙ c .before .before .loop .inv .answer
 
 pub is-postorder-spec : {M : Type 1} → statement M
 is-postorder-spec =
@@ -56,14 +62,14 @@ is-postorder-spec =
     (tie.spec
     Inv-loop
     μ-loop
+    all-below-requires
+    returns
     loop-holds
-    shared-slice-read-k
-    cast-k
-    add-trees
-    mul-trees
-    sub-trees
+    sub-loop
+    after-eight-requires
+    returns-2
     add-i
     loop-less
     loop-again
-    add-result
-    returns)
+    rest-in-postorder-requires
+    returns-3)
