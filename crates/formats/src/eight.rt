@@ -3,13 +3,14 @@ ghost use mathlib.Core.Path.{_≡_};
 ghost use mathlib.Core.Bool.{true};
 ghost use Prim.Native.Nat.{_+_, _<_, _≤_};
 ghost use lib.ListN.{length};
-ghost use Rattle.list_laws.specs.Tests.{allBelow};
-ghost use Rattle.formats.specs.inner.Eight.{eightKinds, innerOf, fits, AfterEight};
+ghost use Rattle.formats.specs.inner.Eight.{eightKinds, onlyKinds, sumsOf, fits, fewOf, sufficient};
 
 // 1 in each of eight bytes.
 const ONES: usize = 72340172838076673;
 // 128 in each.
 const HIGH: usize = 9259542123273814144;
+// 254 in each: the bits that a kind has not.
+const OTHERS: usize = 18374403900871474942;
 // 127 in the lowest, 126 in the next, down to 120.
 const SPARE: usize = 8681104427521506943;
 
@@ -21,7 +22,7 @@ fn wide(x: u8) -> usize
 }
 
 // Eight kinds as one number, the first lowest.
-fn eight_kinds(kinds: &[u8], at: usize) -> usize
+pub fn eight_kinds(kinds: &[u8], at: usize) -> usize
     requires { ⌜ at + 8 ≤ length (now kinds) ⌝ }
     ensures { λ r. ⌜ r ≡ eightKinds (now (kinds .entry)) at ⌝ }
 {
@@ -35,10 +36,17 @@ fn eight_kinds(kinds: &[u8], at: usize) -> usize
         + 72057594037927936 * wide(kinds[at + 7])
 }
 
-// In each byte, how many of the kinds up to it are inner nodes.
-fn inner_so_far(word: usize) -> usize
+// Whether all eight are 0 or 1.
+pub fn are_kinds(word: usize) -> bool
+    ensures { λ r. ⌜ r ≡ onlyKinds word ⌝ }
+{
+    word & OTHERS == 0
+}
+
+// In each byte, the sum of the bytes up to it.
+pub fn sums_so_far(word: usize) -> usize
     requires { ⌜ fits word ≡ true ⌝ }
-    ensures { λ r. ⌜ r ≡ innerOf word ⌝ }
+    ensures { λ r. ⌜ r ≡ sumsOf word ⌝ }
 {
     let pairs = word + (word << 8);
     let fours = pairs + (pairs << 16);
@@ -47,7 +55,7 @@ fn inner_so_far(word: usize) -> usize
 
 // At most 16: from there on eight kinds of any sort can follow.
 fn few(trees: usize) -> usize
-    ensures { λ r. ⌜ (trees < 16 → r ≡ trees) × (16 ≤ trees → r ≡ 16) ⌝ }
+    ensures { λ r. ⌜ r ≡ fewOf trees ⌝ }
 {
     if trees < 16 {
         return trees;
@@ -55,17 +63,12 @@ fn few(trees: usize) -> usize
     16
 }
 
-// How many trees wait after eight kinds where `trees` waited before; 0 where fewer than two wait at one of their inner nodes.
-// A tree is missing at a kind where twice that count exceeds the trees that
-// waited before by more than its place: then the high bit of its byte below is set.
-pub fn after_eight(kinds: &[u8], at: usize, trees: usize) -> usize
-    requires { ⌜ (at + 8 ≤ length (now kinds)) × (allBelow 2 (now kinds) ≡ true) × (trees ≤ at) ⌝ }
-    ensures { λ r. ⌜ AfterEight (now (kinds .entry)) at trees r ⌝ }
+// Whether two trees wait at each inner node of the eight, where `trees` waited before them.
+// A tree is missing at a kind where twice the inner nodes up to it exceed these trees by more than its place: then the high bit of
+// its byte is set.
+pub fn trees_suffice(twice: usize, trees: usize) -> bool
+    requires { ⌜ twice < 2000000000000000000 ⌝ }
+    ensures { λ r. ⌜ r ≡ sufficient twice trees ⌝ }
 {
-    let word = eight_kinds(kinds, at);
-    let inner = inner_so_far(word);
-    if (SPARE + 2 * inner - few(trees) * ONES) & HIGH != 0 {
-        return 0;
-    }
-    trees + 8 - 2 * (inner >> 56)
+    (SPARE + twice - few(trees) * ONES) & HIGH == 0
 }

@@ -1,8 +1,10 @@
 // Plans: checks 2 to 5.
 use crate::bytes::read32;
-use crate::eight::after_eight;
+use crate::eight::are_kinds;
+use crate::eight::eight_kinds;
+use crate::eight::sums_so_far;
+use crate::eight::trees_suffice;
 use crate::limits::NODE_LIMIT;
-use crate::rules::all_below;
 ghost use mathlib.Core.Path.{_≡_};
 ghost use Prim.Native.Nat.{_≤_};
 ghost use lib.ListN.{length, drop};
@@ -33,17 +35,19 @@ fn rest_in_postorder(kinds: &[u8], from: usize, waiting: usize) -> bool
 pub fn is_postorder(kinds: &[u8]) -> bool
     ensures { λ r. ⌜ r ≡ isPostorder (now (kinds .entry)) ⌝ }
 {
-    if !all_below(kinds, 2) {
-        return false;
-    }
-    let count = kinds.len();
+    let whole = kinds.len() - kinds.len() % 8;
     let mut waiting = 0;
     let mut i = 0;
-    while 8 <= count - i {
-        waiting = after_eight(kinds, i, waiting);
-        if waiting == 0 {
+    while i < whole {
+        let word = eight_kinds(kinds, i);
+        if !are_kinds(word) {
             return false;
         }
+        let twice = sums_so_far(2 * word);
+        if !trees_suffice(twice, waiting) {
+            return false;
+        }
+        waiting = waiting + 8 - (twice >> 56);
         i += 8;
     }
     rest_in_postorder(kinds, i, waiting)
