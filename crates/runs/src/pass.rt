@@ -56,7 +56,9 @@ fn pass_over(
             top += 1;
         } else {
             top -= 1;
-            last = rule(inner, s, k, states[top] as usize, a, last as usize);
+            let p = states[top] as usize;
+            let q = last as usize;
+            last = rule(inner, s, k, p, a, q);
         }
         v += 1;
     }

@@ -73,19 +73,19 @@ add-top c =
 sub-top : tie.Need-sub-top Inv-loop μ-loop
 sub-top c = omega (arith, two c)
 
-slice-read-rule : tie.Need-slice-read-rule Inv-loop μ-loop
-slice-read-rule c =
+slice-read-p : tie.Need-slice-read-p Inv-loop μ-loop
+slice-read-p c =
     let l = c .before .before .before .before .before in
     rw (length-set (l .loop .states) (l .loop .top) (l .loop .last)) (omega (arith, top-most (l .loop .inv .stacked)))
 
-cast-rule : tie.Need-cast-rule Inv-loop μ-loop
-cast-rule c =
+cast-p : tie.Need-cast-p Inv-loop μ-loop
+cast-p c =
     let l = c .before .before .before .before .before in
     let low = left-below (l .loop .inv .stacked) (inside l (c .before .before .before .before .loop-test .taken)) (c .before .if1 .left) in
     record { fits = omega (arith, low, entered l .pre .0 .states) }
 
-cast-rule-2 : tie.Need-cast-rule-2 Inv-loop μ-loop
-cast-rule-2 c =
+cast-q : tie.Need-cast-q Inv-loop μ-loop
+cast-q c =
     let l = c .before .before .before .before .before in record { fits = omega (arith, l .loop .inv .stacked .last-below) }
 
 rule-requires : tie.Need-rule-requires Inv-loop μ-loop
@@ -134,9 +134,9 @@ pass-over-spec =
     shared-slice-read-last
     add-top
     sub-top
-    slice-read-rule
-    cast-rule
-    cast-rule-2
+    slice-read-p
+    cast-p
+    cast-q
     rule-requires
     add-v
     loop-less
