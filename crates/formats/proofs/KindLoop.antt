@@ -1,4 +1,4 @@
--- One turn, and the end, of the loop over the kinds, which has no branch: what is known after i kinds.
+-- One turn, and the end, of the loop over the last kinds, which has no branch: what is known after i kinds.
 --     Counted         the count starts at `none`, the number of kinds; where the running answer is yes, w - none trees wait
 --     counted-start, counted-iteration, counted-end
 -- Assumes nothing.
@@ -12,28 +12,28 @@ use native.Mathlib.Decide.{decLt, ℕ-discrete}
 use lib.Dec.{ltb, eqb}
 use lib.ListN.{length, getD, drop}
 use borrow.Author.Tests.{lt-ltb, le-ltb, ltb-true, eq-eqb, ne-eqb}
-use Rattle.trees.specs.Postorder.{waiting, isOne, isPostorder}
+use Rattle.trees.specs.Postorder.{waiting, isOne}
 use Rattle.trees.proofs.PostorderLaws.{leaf-at, inner-at, short-at, other-at, end-at}
 use Rattle.list_laws.proofs.BoolLaws.{and-right}
 
-pub record Counted (ks : List ℕ) (none w : ℕ) (ok : Bool) (i : ℕ) : Type 0 where
+pub record Counted (ks : List ℕ) (goal : Bool) (none w : ℕ) (ok : Bool) (i : ℕ) : Type 0 where
   pub all : none ≡ length ks
   pub within : i ≤ length ks
   pub low : none ≤ w + i
   pub high : w ≤ none + i
   pub some : ok ≡ true → none ≤ w
-  pub answer : (ok && isOne (waiting (drop i ks) (w - none))) ≡ isPostorder ks
+  pub answer : (ok && isOne (waiting (drop i ks) (w - none))) ≡ goal
 
-pub counted-start : (ks : List ℕ) → Counted ks (length ks) (length ks) true 0
-unfolding isPostorder
-counted-start ks =
+pub counted-start : (ks : List ℕ) (from t : ℕ) → from ≤ length ks → t ≤ from
+    → Counted ks (isOne (waiting (drop from ks) t)) (length ks) (length ks + t) true from
+counted-start ks from t h l =
     record {
       all = refl;
-      within = omega arith;
+      within = h;
       low = omega arith;
       high = omega arith;
       some = λ e. omega arith;
-      answer = let z : length ks - length ks ≡ 0 = omega arith in ap (λ (n : ℕ). isOne (waiting ks n)) z;
+      answer = let z : length ks + t - length ks ≡ t = omega arith in ap (λ (n : ℕ). isOne (waiting (drop from ks) n)) z;
     }
 
 -- the same answer before and after a kind, where none of those before was wrong
@@ -65,9 +65,9 @@ module _ (ks : List ℕ) (i none w w₁ : ℕ) (h : i < length ks) (some : none 
         | no a ↦ elim (ℕ-discrete (getD ks i 0) 1) [ yes e ↦ at-inner e | no b ↦ at-other a b ]
       ]
 
-module _ (ks : List ℕ) (none w : ℕ) (i : ℕ) where
-  pub counted-iteration : (ok : Bool) → Counted ks none w ok i → i < length ks
-      → Counted ks none (w + 1 - 2 * (getD ks i 0 % 2)) (ok && ltb (getD ks i 0) 2 && ltb none (w + 1 - 2 * (getD ks i 0 % 2))) (i + 1)
+module _ (ks : List ℕ) (goal : Bool) (none w : ℕ) (i : ℕ) where
+  pub counted-iteration : (ok : Bool) → Counted ks goal none w ok i → i < length ks
+      → Counted ks goal none (w + 1 - 2 * (getD ks i 0 % 2)) (ok && ltb (getD ks i 0) 2 && ltb none (w + 1 - 2 * (getD ks i 0 % 2))) (i + 1)
   counted-iteration ok c h =
       record {
         all = c .all;
@@ -87,7 +87,7 @@ module _ (ks : List ℕ) (none w : ℕ) (i : ℕ) where
       go true s = at-kind ks i none w (w + 1 - 2 * (getD ks i 0 % 2)) h (s refl) refl
       go false s = refl
 
-  pub counted-end : (ok : Bool) → Counted ks none w ok i → length ks ≤ i → (ok && eqb w (none + 1)) ≡ isPostorder ks
+  pub counted-end : (ok : Bool) → Counted ks goal none w ok i → length ks ≤ i → (ok && eqb w (none + 1)) ≡ goal
   counted-end ok c h = go ok (c .some) ∙ c .answer
     where
       same : none ≤ w → eqb w (none + 1) ≡ eqb (w - none) 1

@@ -1,5 +1,7 @@
 pub mod CheckLaws
 pub mod FourChecks
+pub mod EightKinds
+pub mod EightLoop
 pub mod KindLoop
 pub mod ByteLaws
 pub mod PlanLaws

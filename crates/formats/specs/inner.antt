@@ -1,1 +1,2 @@
 pub mod InnerChecks
+pub mod Eight

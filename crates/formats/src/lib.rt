@@ -2,6 +2,7 @@
 //     limits   the limits of document 01
 //     bytes    numbers in bytes
 //     plan     checks 2 to 5
+//     eight    eight kinds of a plan at a time
 //     rules    checks 6 to 9 of a rule table
 //     branch   checks 6 to 9 of a branch table
 //     lists    checks 12 to 14, and 15 as a test
@@ -11,6 +12,7 @@
 mod branch;
 pub mod buffers;
 pub mod bytes;
+mod eight;
 pub mod inputs;
 pub mod limits;
 pub mod lists;

@@ -1,20 +1,27 @@
 // Plans: checks 2 to 5.
 use crate::bytes::read32;
+use crate::eight::are_kinds;
+use crate::eight::eight_kinds;
+use crate::eight::sums_so_far;
+use crate::eight::trees_suffice;
 use crate::limits::NODE_LIMIT;
 ghost use mathlib.Core.Path.{_≡_};
-ghost use Rattle.trees.specs.Postorder.{isPostorder};
+ghost use Prim.Native.Nat.{_≤_};
+ghost use lib.ListN.{length, drop};
+ghost use Rattle.trees.specs.Postorder.{isPostorder, isOne, waiting as treesWaiting};
 ghost use Rattle.formats.specs.Checks.{firstNo, planChecks};
 
-// Whether kinds are 0 or 1, two trees wait at each inner node and one at the end.
+// The same of the kinds from `from` on, where `waiting` trees wait before them.
 // A leaf is one tree more and an inner node one less; after either at least one waits. The count starts at the number of kinds, so
 // that it never falls below 0. There is no branch on a kind and no early exit.
-pub fn is_postorder(kinds: &[u8]) -> bool
-    ensures { λ r. ⌜ r ≡ isPostorder (now (kinds .entry)) ⌝ }
+fn rest_in_postorder(kinds: &[u8], from: usize, waiting: usize) -> bool
+    requires { ⌜ (from ≤ length (now kinds)) × (waiting ≤ from) ⌝ }
+    ensures { λ r. ⌜ r ≡ isOne (treesWaiting (drop from (now (kinds .entry))) waiting) ⌝ }
 {
     let none = kinds.len();
-    let mut trees = none;
+    let mut trees = none + waiting;
     let mut ok = true;
-    let mut i = 0;
+    let mut i = from;
     while i < kinds.len() {
         let k = kinds[i] as usize;
         trees = trees + 1 - 2 * (k % 2);
@@ -22,6 +29,28 @@ pub fn is_postorder(kinds: &[u8]) -> bool
         i += 1;
     }
     ok & (trees == none + 1)
+}
+
+// Whether kinds are 0 or 1, two trees wait at each inner node and one at the end: eight kinds at a time, then the rest.
+pub fn is_postorder(kinds: &[u8]) -> bool
+    ensures { λ r. ⌜ r ≡ isPostorder (now (kinds .entry)) ⌝ }
+{
+    let whole = kinds.len() - kinds.len() % 8;
+    let mut waiting = 0;
+    let mut i = 0;
+    while i < whole {
+        let word = eight_kinds(kinds, i);
+        if !are_kinds(word) {
+            return false;
+        }
+        let twice = sums_so_far(2 * word);
+        if !trees_suffice(twice, waiting) {
+            return false;
+        }
+        waiting = waiting + 8 - (twice >> 56);
+        i += 8;
+    }
+    rest_in_postorder(kinds, i, waiting)
 }
 
 // Checks 2 to 5. The kinds are the rest of the plan, where its length is exact.

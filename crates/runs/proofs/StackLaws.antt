@@ -1,11 +1,10 @@
 -- The states that wait, in an array, and the stack reading node by node.
---     stackOf st w == the first w numbers of st, the last first
---     stack-push, stack-two   a store on top, and the two numbers on top
+--     stack-push, stack-two, stack-join   a tree more, the two on top, and one in their place
 --     waiting-most            no more trees wait than can still be joined
 --     read-leaf, read-inner   the reading of Postorder at a leaf and at an inner node
 -- Assumes nothing.
 use Prim.Native.Nat.{ℕ, zero, suc, _+_, _≤_, _<_}
-use mathlib.Core.Path.{_≡_, refl, ap₂}
+use mathlib.Core.Path.{_≡_, refl, ap, ap₂}
 use mathlib.Core.List.{List, [], _∷_}
 use mathlib.Core.Option.{none, some}
 use native.Mathlib.Numerals.{add-one}
@@ -14,30 +13,34 @@ use lib.ListN.{length, getD, set, drop}
 use lib.Seq.{drop-cons, getD-set-same, getD-set-other}
 use Rattle.trees.specs.Postorder.{waiting, read}
 use Rattle.trees.proofs.MoveLaws.{none-some}
+use Rattle.runs.specs.inner.Pass.{lowerOf, stackOf}
 
 -- ---- the states that wait
 
-unfoldable pub stackOf : List ℕ → ℕ → List ℕ
-stackOf st zero = []
-stackOf st (suc w) = getD st w 0 ∷ stackOf st w
-
 -- a store above them does not touch them
-stack-set : (st : List ℕ) (w i x : ℕ) → w ≤ i → stackOf (set st i x) w ≡ stackOf st w
-unfolding stackOf
-stack-set st zero i x h = refl
-stack-set st (suc w) i x h =
-    ap₂ (λ (y : ℕ) (l : List ℕ). y ∷ l) (getD-set-other st i w x 0 (λ e. omega arith)) (stack-set st w i x (omega arith))
+lower-set : (st : List ℕ) (w i x : ℕ) → w < i → lowerOf (set st i x) w ≡ lowerOf st w
+unfolding lowerOf
+lower-set st zero i x h = refl
+lower-set st (suc w) i x h =
+    ap₂ (λ (y : ℕ) (l : List ℕ). y ∷ l) (getD-set-other st i (suc w) x 0 (λ e. omega arith)) (lower-set st w i x (omega arith))
 
-pub stack-push : (st : List ℕ) (w x : ℕ) → w < length st → stackOf (set st w x) (w + 1) ≡ x ∷ stackOf st w
-unfolding stackOf
-stack-push st w x h =
+-- the last completed is put into its place, and y is on top
+pub stack-push : (st : List ℕ) (w x y : ℕ) → w < length st → stackOf (set st w x) (w + 1) y ≡ y ∷ stackOf st w x
+unfolding stackOf lowerOf
+stack-push st zero x y h = refl
+stack-push st (suc w) x y h =
     rw add-one
-    (ap₂ (λ (y : ℕ) (l : List ℕ). y ∷ l) (getD-set-same st w x 0 h) (stack-set st w w x (omega arith)))
+    (ap₂ (λ (z : ℕ) (l : List ℕ). y ∷ z ∷ l) (getD-set-same st (suc w) x 0 h) (lower-set st w (suc w) x (omega arith)))
 
-pub stack-two : (st : List ℕ) (w top : ℕ) → top ≡ w + 2
-    → stackOf st top ≡ getD st (w + 1) 0 ∷ getD st w 0 ∷ stackOf st w
+-- the two on top
+pub stack-two : (st : List ℕ) (w top x : ℕ) → top ≡ w + 2 → stackOf st top x ≡ x ∷ getD st (w + 1) 0 ∷ lowerOf st w
+unfolding stackOf lowerOf
+stack-two st w top x e = let f : top ≡ suc (suc w) = omega arith in rw (f, add-one)
+
+-- one on top of those below: the place above is of no account
+pub stack-join : (st : List ℕ) (w i x y : ℕ) → w < i → stackOf (set st i x) (w + 1) y ≡ y ∷ lowerOf st w
 unfolding stackOf
-stack-two st w top e = let f : top ≡ suc (suc w) = omega arith in rw (f, add-one)
+stack-join st w i x y h = rw add-one (ap (λ (l : List ℕ). y ∷ l) (lower-set st w i x h))
 
 -- ---- the machine, node by node
 

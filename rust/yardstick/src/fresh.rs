@@ -1,4 +1,5 @@
-//! The fresh run, over a copy of the labels with the changes laid on and a stack of the states that wait.
+//! The fresh run, over a copy of the labels with the changes laid on and a stack of the states that wait, the last in a
+//! local. Safe code: places and rules are looked up with a test of the index.
 
 use crate::checks;
 
@@ -12,20 +13,21 @@ pub fn fresh_run(plan: &[u8], rules: &[u8], nodes: &[u16], changes: &[u8]) -> Re
     for (&v, &a) in nodes.iter().zip(changes) {
         labels[v as usize] = a;
     }
-    let mut waiting = vec![0u8; (plan.n + 1) / 2];
+    // the last state in a local: the places hold those before it, from place 1 on
+    let mut waiting = vec![0u8; (plan.n + 1) / 2 + 1];
     let mut count = 0;
+    let mut state = 0u8;
     for (&kind, &a) in plan.kinds.iter().zip(&labels) {
         let a = a as usize;
         if kind == 0 {
-            waiting[count] = rules.leaf[a];
+            waiting[count] = state;
             count += 1;
+            state = rules.leaf[a];
         } else {
             count -= 1;
-            let (p, q) = (waiting[count - 1] as usize, waiting[count] as usize);
-            waiting[count - 1] = rules.inner[(p * rules.k + a) * rules.s + q];
+            state = rules.inner[(waiting[count] as usize * rules.k + a) * rules.s + state as usize];
         }
     }
-    let state = waiting[0];
     Ok((state, rules.marks[state as usize] == 1))
 }
 

@@ -1,14 +1,13 @@
 -- A list of changes, read node by node.
 --
 -- labelFor a vs bs v == the label of node v whose own label is a: that of the last entry for v; a where there is none
--- afterChange c a == the label after change c of a node whose own is a: 0 is no change, else c is one more than the label
--- ListArgs vs bs == as many nodes as labels, and labels that can be changes
--- ChangesFrom vs bs from cs == cs are the changes of the 1,024 nodes from `from` on
+-- SpanArgs ls from to == at most 1,024 nodes, all in ls
+-- LabelsFrom ls from to cs == cs are the labels ls of the nodes from `from` to before `to`
 --
 -- The first is what `changed` of crate trees holds at v: label-changed (proofs/ListedLaws). Nothing here asks that a
 -- node is listed once.
 -- Assumes nothing.
-use Prim.Native.Nat.{ℕ, _+_, _-_, _<_}
+use Prim.Native.Nat.{ℕ, _+_, _≤_, _<_}
 use mathlib.Core.Path.{_≡_}
 use mathlib.Core.Bool.{cond}
 use mathlib.Core.List.{List, [], _∷_}
@@ -20,12 +19,11 @@ labelFor a [] bs v = a
 labelFor a (u ∷ vs) [] v = a
 labelFor a (u ∷ vs) (b ∷ bs) v = labelFor (cond (eqb u v) b a) vs bs v
 
-abbrev pub afterChange : ℕ → ℕ → ℕ
-afterChange c a = cond (eqb c 0) a (c - 1)
+pub record SpanArgs (ls : List ℕ) (from to : ℕ) : Type 0 where
+  pub rising : from ≤ to
+  pub inside : to ≤ length ls
+  pub few : to ≤ from + 1024
 
-pub record ListArgs (vs bs : List ℕ) : Type 0 where
-  pub paired : length vs ≡ length bs
-  pub below : (j : ℕ) → getD bs j 0 < 255
-
-pub record ChangesFrom (vs bs : List ℕ) (from : ℕ) (cs : List ℕ) : Type 0 where
-  pub after : (j : ℕ) → j < 1024 → (a : ℕ) → afterChange (getD cs j 0) a ≡ labelFor a vs bs (from + j)
+pub record LabelsFrom (ls : List ℕ) (from to : ℕ) (cs : List ℕ) : Type 0 where
+  pub size : length cs ≡ 1024
+  pub at : (j : ℕ) → from + j < to → getD cs j 0 ≡ getD ls (from + j) 0
