@@ -1,0 +1,4 @@
+pub mod RecordLaws
+pub mod TargetLaws
+pub mod EightLaws
+pub mod ProjectionTheorem
