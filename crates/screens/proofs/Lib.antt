@@ -5,3 +5,5 @@ pub mod ProjectionTheorem
 pub mod LoadTheorem
 pub mod ReferencesTheorem
 pub mod Steps
+pub mod ShapeLaws
+pub mod TurnsTheorem
