@@ -7,3 +7,5 @@ pub mod ReferencesTheorem
 pub mod Steps
 pub mod ShapeLaws
 pub mod TurnsTheorem
+pub mod SinceLoad
+pub mod LentLaws

@@ -104,22 +104,29 @@ module _ (rs : List Record) (bs : References) (t : TiedAll rs bs) where
       let e : answerIn (turnAnswer j a) ≡ a = answer-turn j a in
       (ap (turnAnswer j) (sym e), subst (λ (y : Answer). Conforms (step (bs j) (advance x)) y) (sym e) (acts-conforms j (advance x) (h .0)))
 
-  pub does-conforms : length rs ≡ 8 → (c : ScreenCall) (a : ScreenAnswer) (rs′ : List Record) → DoesAll rs c a rs′
+  does-conforms : length rs ≡ 8 → (c : ScreenCall) (a : ScreenAnswer) (rs′ : List Record) → DoesAll rs c a rs′
       → ScreenConforms bs (target (runningIn bs) c) a
   does-conforms long c a rs′ d =
       rw (target-same (runningIn bs) (runs rs) (tied-same rs bs t) c, d .tells, on-target rs c long)
       (target-conforms (target (runs rs) c) (rightly (runs rs) c))
 
-pub agrees-from : (rs : List Record) (bs : References) → length rs ≡ 8 → TiedAll rs bs
+-- one call
+pub tied-step : (rs rs′ : List Record) (bs : References) (c : ScreenCall) (a : ScreenAnswer) → length rs ≡ 8 → TiedAll rs bs
+    → DoesAll rs c a rs′
+    → ScreenConforms bs (target (runningIn bs) c) a × TiedAll rs′ (referencesAfter bs (target (runningIn bs) c) a)
+tied-step rs rs′ bs c a long t d =
+    let f = does-conforms rs bs t long c a rs′ d in (
+      f,
+      λ i l. fed-tied rs rs′ bs t i l (target (runningIn bs) c) a f
+          (does-moved rs rs′ c a long d (runningIn bs) (tied-same rs bs t) i l),
+    )
+
+agrees-from : (rs : List Record) (bs : References) → length rs ≡ 8 → TiedAll rs bs
     → (cs : List ScreenCall) (xs : List ScreenAnswer) → History DoesAll rs cs xs → ScreensAgree bs cs xs
 agrees-from rs bs long t [] [] done = tt
 agrees-from rs bs long t (c ∷ cs) (a ∷ xs) (call {r′ = rs′} d h) =
-    let f = does-conforms rs bs t long c a rs′ d in (
-      f,
-      agrees-from rs′ (referencesAfter bs (target (runningIn bs) c) a) (does-eight rs rs′ c a long d)
-          (λ i l. fed-tied rs rs′ bs t i l (target (runningIn bs) c) a f
-          (does-moved rs rs′ c a long d (runningIn bs) (tied-same rs bs t) i l)) cs xs h,
-    )
+    let n = tied-step rs rs′ bs c a long t d in
+    (n .0, agrees-from rs′ (referencesAfter bs (target (runningIn bs) c) a) (does-eight rs rs′ c a long d) (n .1) cs xs h)
 
 pub fresh-tied : TiedAll eightFresh (λ i. newReference)
 fresh-tied i h = subst (λ (r : Record). Tied r newReference) (sym (fresh-at i h)) model-demand-3
