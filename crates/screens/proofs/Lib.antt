@@ -9,3 +9,4 @@ pub mod ShapeLaws
 pub mod TurnsTheorem
 pub mod SinceLoad
 pub mod LentLaws
+pub mod DealTheorem

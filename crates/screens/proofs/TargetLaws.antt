@@ -133,7 +133,7 @@ abbrev pub SameRunning : Running → Running → Type 0
 SameRunning run run′ = (i : ℕ) → i < 8 → run i ≡ run′ i
 
 module _ (run run′ : Running) (same : SameRunning run run′) where
-  any-same : (n : ℕ) → n < 9 → anyRuns n run ≡ anyRuns n run′
+  pub any-same : (n : ℕ) → n < 9 → anyRuns n run ≡ anyRuns n run′
   unfolding anyRuns
   any-same zero h = refl
   any-same (suc n) h = ap₂ (λ (a b : Bool). a || b) (same n (omega arith)) (any-same n (omega arith))
