@@ -10,3 +10,5 @@ pub mod TurnsTheorem
 pub mod SinceLoad
 pub mod LentLaws
 pub mod DealTheorem
+pub mod NextLaws
+pub mod Theorems

@@ -10,10 +10,11 @@
 -- DealTaken == "While plan, rules and tables are as Load left them" every deal with a screen running is accepted
 -- LoadClears, LoadWaits == "Load is refused while any screen runs and clears them all"
 -- RefusedAlike == a refused call alters nothing; a refused deal tells no number
+-- DealServes == "One deal gives one advance to the next running screen .., going from 7 back to 0", said without the search
 -- Screens fresh Step == those of them that are about every list of calls
 --
 -- One statement about every list of screen calls: ScreensDemand3 (EightReferences). Assumes nothing.
-use Prim.Native.Nat.{ℕ, _≤_, _<_}
+use Prim.Native.Nat.{ℕ, _+_, _%_, _≤_, _<_}
 use mathlib.Core.Path.{_≡_}
 use mathlib.Core.Bool.{true, false}
 use mathlib.Core.List.{List, [], _∷_, _++_}
@@ -28,11 +29,30 @@ use Rattle.model.specs.Model.{Record, loadedRecord, Does}
 use Rattle.reference.specs.Reference.{newReference}
 use Rattle.reference.specs.Demand3.{Agrees}
 use Rattle.screens.specs.ScreenCalls.{ScreenCall, loadAll, startOn, cancelOn, readOn, deal, ScreenAnswer, one, loads, deals, answerIn}
-use Rattle.screens.specs.ScreenCalls.{refuses, Running, nobodyRuns, servedBy, anyRuns}
+use Rattle.screens.specs.ScreenCalls.{refuses, Running, nobodyRuns, servedBy, anyRuns, Target, nobody, everyScreen, screen, turn, target}
 use Rattle.screens.specs.EightRecords.{at, runs, actAll, DoesAll}
 use Rattle.screens.specs.Projection.{followed, runningAfter, ownCalls, ownAnswers}
 use Rattle.screens.specs.EightReferences.{ScreensDemand3}
 use Rattle.screens.specs.Turns.{turnsOf, HandedOn, Uncancelled, until}
+
+-- ---- whom a deal serves
+
+-- the first screen that runs, from number k on
+pub record Next (run : Running) (k i : ℕ) : Type 0 where
+  pub way : ℕ
+  pub few : way < 8
+  pub is : i ≡ (k + way) % 8
+  pub runs : run i ≡ true
+  pub first : (e : ℕ) → e < way → run ((k + e) % 8) ≡ false
+
+abbrev pub Serves : Running → ℕ → Target → Type 0
+Serves run k (nobody n) = (n ≡ 1) × ((i : ℕ) → i < 8 → run i ≡ false)
+Serves run k (everyScreen x) = ⊥
+Serves run k (screen i c) = ⊥
+Serves run k (turn i x) = Next run k i
+
+abbrev pub DealServes : Type 0
+DealServes = (run : Running) (k : ℕ) (x : Inputs) → k < 8 → Serves run k (target run (deal k x))
 
 -- ---- of the eight records
 
