@@ -12,3 +12,4 @@ pub mod LentLaws
 pub mod DealTheorem
 pub mod NextLaws
 pub mod Theorems
+pub mod Sample
