@@ -15,8 +15,9 @@ use lib.Dec.{eqb}
 use lib.ListN.{length, set, length-set, getD-replicate}
 use lib.Seq.{getD-set-same, getD-set-other}
 use borrow.Author.Tests.{eq-eqb, ne-eqb}
+use Rattle.list_laws.proofs.Choice.{by-test}
 use Rattle.formats.specs.Inputs.{Inputs, sizesIn}
-use Rattle.model.specs.Calls.{Call, advance, Answer, refused, isRefused, isRunning}
+use Rattle.model.specs.Calls.{Call, load, advance, Answer, refused, isRefused, isRunning}
 use Rattle.model.specs.Model.{Record, freshRecord, loadedRecord, act, Does}
 use Rattle.screens.specs.ScreenCalls.{ScreenCall, ScreenAnswer, one, deals, answerIn, Running, onePast, Target, nobody, everyScreen}
 use Rattle.screens.specs.ScreenCalls.{screen, turn, target, turnAnswer}
@@ -33,11 +34,7 @@ on-target rs c long =
 -- the answer of a turn is the advance's
 pub answer-turn : (i : ℕ) (a : Answer) → answerIn (turnAnswer i a) ≡ a
 unfolding answerIn turnAnswer
-answer-turn i a = go (isRefused a)
-  where
-    go : (b : Bool) → answerIn (cond b (one a) (deals (onePast i) a)) ≡ a
-    go true = refl
-    go false = refl
+answer-turn i a = by-test (λ (t : ScreenAnswer). answerIn t ≡ a) (isRefused a) (λ e. refl) (λ e. refl)
 
 -- ---- each screen's record
 
@@ -56,12 +53,17 @@ module _ (rs : List Record) (long : length rs ≡ 8) (i : ℕ) (hi : i < 8) wher
     | no q ↦ rw (ne-eqb i j q) (getD-set-other rs j i (act (at rs j) c .record′) freshRecord q)
   ]
 
+  all-loaded : (x : Inputs) → at (actOn rs (everyScreen x) .records′) i ≡ loadedRecord (sizesIn x)
+  unfolding actOn
+  all-loaded x = getD-replicate 8 i (loadedRecord (sizesIn x)) freshRecord hi
+
   target-moved : (t : Target) → Rightly (runs rs) t
       → Moved (fedBy i t (answerIn (actOn rs t .answer))) (at rs i) (at (actOn rs t .records′) i)
   unfolding actOn fedBy answerIn
   target-moved (nobody n) h = refl
   target-moved (everyScreen x) h =
-      rw (getD-replicate 8 i (loadedRecord (sizesIn x)) freshRecord hi) (load-accepted (at rs i) x (h .0 i hi) (h .1))
+      subst (λ (r : Record). Does (at rs i) (load x) Answer.accepted r) (sym (all-loaded x))
+      (load-accepted (at rs i) x (h .0 i hi) (h .1))
   target-moved (screen j c) h = one-moved j c
   target-moved (turn j x) h =
       subst (λ (a : Answer). Moved (cond (eqb i j) (some (fed (advance x) a)) none) (at rs i)

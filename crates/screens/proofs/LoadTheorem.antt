@@ -10,6 +10,7 @@ use mathlib.Core.List.{List, [], _∷_}
 use lib.Dec.{eqb}
 use lib.ListN.{length, getD, set, replicate}
 use Rattle.list_laws.proofs.BoolLaws.{true-false}
+use Rattle.list_laws.proofs.Choice.{by-test}
 use Rattle.formats.specs.Checks.{Check, check, firstNo, buildChecks}
 use Rattle.formats.specs.Inputs.{Inputs, sizesIn}
 use Rattle.formats.proofs.CheckLaws.{firstNo-no}
@@ -71,15 +72,9 @@ unfolding actOn answerIn turnAnswer
 target-alike rs (nobody n) e = (refl, refl)
 target-alike rs (everyScreen x) e = absurd (true-false (sym e))
 target-alike rs (screen i c) e = (refl, set-refused rs i c e)
-target-alike rs (turn i x) e = go (isRefused (act (at rs i) (advance x) .answer)) refl e
-  where
-    go : (b : Bool) → isRefused (act (at rs i) (advance x) .answer) ≡ b
-        → refuses (cond b (one (act (at rs i) (advance x) .answer)) (deals (onePast i) (act (at rs i) (advance x) .answer))) ≡ true
-        → (cond b (one (act (at rs i) (advance x) .answer)) (deals (onePast i) (act (at rs i) (advance x) .answer))
-        ≡ one (answerIn (cond b (one (act (at rs i) (advance x) .answer)) (deals (onePast i) (act (at rs i) (advance x) .answer)))))
-        × (set rs i (act (at rs i) (advance x) .record′) ≡ rs)
-    go true q e = (refl, set-refused rs i (advance x) q)
-    go false q e = absurd (true-false (sym e ∙ q))
+target-alike rs (turn i x) e =
+    by-test (λ (t : ScreenAnswer). refuses t ≡ true → (t ≡ one (answerIn t)) × (set rs i (act (at rs i) (advance x) .record′) ≡ rs))
+    (isRefused (act (at rs i) (advance x) .answer)) (λ q z. (refl, set-refused rs i (advance x) q)) (λ q z. absurd (true-false (sym z ∙ q))) e
 
 pub refused-alike : RefusedAlike
 unfolding actAll

@@ -17,6 +17,7 @@ use lib.Dec.{ltb, eqb}
 use lib.ListN.{length}
 use borrow.Author.Tests.{ltb-true, ltb-false, not-true}
 use Rattle.list_laws.proofs.BoolLaws.{true-false, or-first, or-second}
+use Rattle.list_laws.proofs.Choice.{by-lt}
 use Rattle.formats.specs.Checks.{Check, check, firstNo, buildChecks}
 use Rattle.formats.specs.Inputs.{Inputs}
 use Rattle.formats.proofs.CheckLaws.{firstNo-head, firstNo-tail}
@@ -99,33 +100,25 @@ load-rightly run x zero e =
     (any-no 8 run (not-true (anyRuns 8 run) b), firstNo-tail 1 (not (anyRuns 8 run)) B (omega arith) e)
 load-rightly run x (suc n) e = tt
 
-screen-rightly : (run : Running) (i : ℕ) (c : Call) → Rightly run (numbered i (screen i c))
+numbered-rightly : (run : Running) (i : ℕ) (t : Target) → (i < 8 → Rightly run t) → Rightly run (numbered i t)
 unfolding numbered
-screen-rightly run i c = go (ltb i 8) refl
-  where
-    go : (b : Bool) → ltb i 8 ≡ b → Rightly run (cond b (screen i c) (nobody 25))
-    go true e = ltb-true i 8 e
-    go false e = tt
+numbered-rightly run i t f = by-lt (Rightly run) {x = t} {y = nobody 25} i 8 f (λ l. tt)
 
-deal-rightly : (run : Running) (k : ℕ) (x : Inputs) → Rightly run (numbered k (dealTarget (nextRunning run k) x))
-unfolding numbered nextRunning dealTarget
-deal-rightly run k x = go (ltb k 8) refl
+next-rightly : (run : Running) (k : ℕ) (x : Inputs) → k < 8 → Rightly run (dealTarget (nextRunning run k) x)
+unfolding nextRunning dealTarget
+next-rightly run k x h = of (nextRunningIn 8 run k) refl
   where
-    of : (o : Option ℕ) → k < 8 → nextRunningIn 8 run k ≡ o → Rightly run (dealTarget o x)
-    of none h e = tt
-    of (some i) h e = next-runs 8 run k i h e
-
-    go : (b : Bool) → ltb k 8 ≡ b → Rightly run (cond b (dealTarget (nextRunningIn 8 run k) x) (nobody 25))
-    go true e = of (nextRunningIn 8 run k) (ltb-true k 8 e) refl
-    go false e = tt
+    of : (o : Option ℕ) → nextRunningIn 8 run k ≡ o → Rightly run (dealTarget o x)
+    of none e = tt
+    of (some i) e = next-runs 8 run k i h e
 
 pub rightly : (run : Running) (c : ScreenCall) → Rightly run (target run c)
 unfolding target
 rightly run (loadAll x) = load-rightly run x (firstNo (loadAllChecks run x)) refl
-rightly run (startOn i x vs bs) = screen-rightly run i (start x vs bs)
-rightly run (cancelOn i) = screen-rightly run i cancel
-rightly run (readOn i) = screen-rightly run i read
-rightly run (deal k x) = deal-rightly run k x
+rightly run (startOn i x vs bs) = numbered-rightly run i (screen i (start x vs bs)) (λ h. h)
+rightly run (cancelOn i) = numbered-rightly run i (screen i cancel) (λ h. h)
+rightly run (readOn i) = numbered-rightly run i (screen i read) (λ h. h)
+rightly run (deal k x) = numbered-rightly run k _ (λ h. next-rightly run _ x (omega (arith, h)))
 
 -- ---- who runs is all that a target asks
 
@@ -144,14 +137,17 @@ module _ (run run′ : Running) (same : SameRunning run run′) where
   next-same (suc f) k h =
       ap₂ (λ (b : Bool) (o : Option ℕ). cond b (some k) o) (same k h) (next-same f (onePast k) (one-past-in k h))
 
-  deal-same : (k : ℕ) (x : Inputs) → numbered k (dealTarget (nextRunning run k) x) ≡ numbered k (dealTarget (nextRunning run′ k) x)
-  unfolding numbered nextRunning
-  deal-same k x = go (ltb k 8) refl
+  numbered-same : (i : ℕ) (t u : Target) → (i < 8 → t ≡ u) → numbered i t ≡ numbered i u
+  unfolding numbered
+  numbered-same i t u f = go (ltb i 8) refl
     where
-      go : (b : Bool) → ltb k 8 ≡ b
-          → cond b (dealTarget (nextRunningIn 8 run k) x) (nobody 25) ≡ cond b (dealTarget (nextRunningIn 8 run′ k) x) (nobody 25)
-      go true e = ap (λ (o : Option ℕ). dealTarget o x) (next-same 8 k (ltb-true k 8 e))
+      go : (b : Bool) → ltb i 8 ≡ b → cond b t (nobody 25) ≡ cond b u (nobody 25)
+      go true e = f (ltb-true i 8 e)
       go false e = refl
+
+  next-target : (k : ℕ) (x : Inputs) → k < 8 → dealTarget (nextRunning run k) x ≡ dealTarget (nextRunning run′ k) x
+  unfolding nextRunning
+  next-target k x h = ap (λ (o : Option ℕ). dealTarget o x) (next-same 8 k h)
 
   pub target-same : (c : ScreenCall) → target run c ≡ target run′ c
   unfolding target
@@ -161,4 +157,4 @@ module _ (run run′ : Running) (same : SameRunning run run′) where
   target-same (startOn i x vs bs) = refl
   target-same (cancelOn i) = refl
   target-same (readOn i) = refl
-  target-same (deal k x) = deal-same k x
+  target-same (deal k x) = numbered-same k _ _ (λ h. next-target _ x (omega (arith, h)))
