@@ -26,7 +26,7 @@ simulates L read = on-read
 
 at-first : Rel freshRecord newReference
 unfolding freshRecord newReference idle phase
-at-first = record { phases = refl; sizes = refl; holds = tt }
+at-first = record { phases = refl; sizes = refl; holds = tt; lasts = tt }
 
 agrees-from : Layers → (r : Record) (b : Reference) (cs : List Call) (xs : List Answer) → Rel r b → History Does r cs xs
     → Agrees b cs xs

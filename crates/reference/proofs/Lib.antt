@@ -17,5 +17,6 @@ pub mod Theorems
 pub mod Sample
 pub mod Controls
 pub mod OwnAnswersLaws
+pub mod ReadingLaws
 pub mod FinishTheorem
 pub mod PartCeiling
