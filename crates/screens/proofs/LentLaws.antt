@@ -7,6 +7,7 @@ use Prim.Native.Nat.{ℕ, zero, suc}
 use mathlib.Core.Path.{_≡_, refl, sym, ap, _∙_, subst}
 use mathlib.Core.Bool.{Bool, true, false, cond}
 use mathlib.Core.List.{List, [], _∷_}
+use mathlib.Core.Option.{Option, none, some}
 use native.Mathlib.Omega.{arith}
 use lib.Dec.{eqb}
 use lib.ListN.{length}
@@ -21,8 +22,8 @@ use Rattle.formats.proofs.InputsLaws.{Same, same-node-inputs, node-inputs-same,
 use Rattle.model.specs.Calls.{load, start, advance, cancel, read, Answer, refused, more, finished, isRefused, isRunning}
 use Rattle.model.specs.Refusals.{refusal}
 use Rattle.reference.specs.Reference.{Settlement, clean, byRule, byProgram, Question, State, Reference, Reply, settled, phase, stageOf, inState}
-use Rattle.reference.specs.Reference.{starting, longer, advanced, goesOn, advancingByRule, advancing, partCount, reading, proceed, decided}
-use Rattle.reference.specs.Reference.{step}
+use Rattle.reference.specs.Reference.{starting, longer, advanced, goesOn, advancingByRule, advancing, partCount, finishedWith, reading, readingLast, proceed}
+use Rattle.reference.specs.Reference.{decided, step}
 use Rattle.reference.specs.Demand3.{Conforms, after}
 use Rattle.reference.proofs.FinishTheorem.{same-fits}
 use Rattle.reference.proofs.WrittenSound.{loaded, passed-fits}
@@ -51,7 +52,7 @@ module _ (x : Inputs) where
   KeptIn State.empty = Unit {0}
   KeptIn State.loaded = Unit {0}
   KeptIn (State.running q) = (q .settlement ≡ clean) × AsLent (q .inputs)
-  KeptIn (State.answered q) = Unit {0}
+  KeptIn State.answered = Unit {0}
 
   pub record Kept (b : Reference) : Type 0 where
     pub sizes : b .sizes ≡ sizesIn x
@@ -91,32 +92,30 @@ module _ (x : Inputs) where
         go (suc n) = k
 
     pub kept-read : Kept (after (step b read) a)
-    unfolding step decided proceed reading
-    kept-read = go (refusal (stageOf b) read) (b .state)
+    unfolding step decided proceed readingLast reading
+    kept-read = go (refusal (stageOf b) read)
       where
         reads : (q : Question) (s : Settlement) → Kept (after (reading b q s) a)
         reads q clean = k
         reads q byRule = k
         reads q byProgram = k
 
-        proceeds : (s : State) → Kept (after (proceed b s read) a)
-        proceeds State.empty = k
-        proceeds State.loaded = k
-        proceeds (State.running q) = k
-        proceeds (State.answered q) = reads q (q .settlement)
+        told : (o : Option Question) → Kept (after (readingLast b o) a)
+        told none = k
+        told (some q) = reads q (q .settlement)
 
-        go : (n : ℕ) (s : State) → Kept (after (decided n b read) a)
-        go zero s = proceeds (b .state)
-        go (suc n) s = k
+        go : (n : ℕ) → Kept (after (decided n b read) a)
+        go zero = told (b .last)
+        go (suc n) = k
 
     -- ---- advance
 
     -- what goes on keeps it, and is no refusal
     goes-kept : (q : Question) → q .settlement ≡ clean → AsLent (q .inputs) → Kept (after (goesOn b q) a)
-    unfolding goesOn inState
+    unfolding goesOn inState finishedWith
     goes-kept q e f = go (eqb (q .count) (partCount q))
       where
-        go : (t : Bool) → Kept (after (cond t (settled finished (inState b (State.answered q))) (settled more (inState b (State.running q)))) a)
+        go : (t : Bool) → Kept (after (cond t (settled finished (finishedWith b q)) (settled more (inState b (State.running q)))) a)
         go true = record { sizes = k .sizes; holds = tt }
         go false = record { sizes = k .sizes; holds = (e, f) }
 
@@ -124,7 +123,7 @@ module _ (x : Inputs) where
     unfolding goesOn
     goes-taken q = go (eqb (q .count) (partCount q))
       where
-        go : (t : Bool) → Conforms (cond t (settled finished (inState b (State.answered q))) (settled more (inState b (State.running q)))) a
+        go : (t : Bool) → Conforms (cond t (settled finished (finishedWith b q)) (settled more (inState b (State.running q)))) a
             → isRefused a ≡ false
         go true e = ap isRefused e
         go false e = ap isRefused e
@@ -144,7 +143,7 @@ module _ (x : Inputs) where
       proceed-kept State.loaded h = k
       proceed-kept (State.running q) h =
           subst (λ (r : Reply). Kept (after r a)) (sym (goes-on q h)) (goes-kept (advanced q clean (longer (b .sizes) q y)) refl (h .1))
-      proceed-kept (State.answered q) h = k
+      proceed-kept State.answered h = k
 
       pub kept-advance : Kept (after (step b (advance y)) a)
       unfolding step decided
@@ -160,7 +159,7 @@ module _ (x : Inputs) where
       proceed-taken State.loaded h r = absurd (true-false (sym r))
       proceed-taken (State.running q) h r =
           λ c. goes-taken (advanced q clean (longer (b .sizes) q y)) (subst (λ (t : Reply). Conforms t a) (goes-on q h) c)
-      proceed-taken (State.answered q) h r = absurd (true-false (sym r))
+      proceed-taken State.answered h r = absurd (true-false (sym r))
 
       pub advance-taken : Passes x → isRunning (phase (b .state)) ≡ true → Conforms (step b (advance y)) a → isRefused a ≡ false
       unfolding step decided refusal

@@ -1,5 +1,6 @@
 -- What a Load does to eight screens, and what a refused call does not.
 --     load-clears      an accepted Load tells 0 and leaves eight records as after a first Load of that plan
+--     load-empties     no finished answer is left
 --     load-waits       a Load is refused with 1 while any screen runs
 --     refused-alike    a refused call alters nothing, and a refused deal tells no number
 -- Assumes nothing.
@@ -7,6 +8,7 @@ use Prim.Native.Nat.{ℕ, zero, suc, _<_}
 use mathlib.Core.Path.{_≡_, refl, sym, ap, _∙_, subst}
 use mathlib.Core.Bool.{Bool, true, false, cond, not}
 use mathlib.Core.List.{List, [], _∷_}
+use mathlib.Core.Option.{none}
 use lib.Dec.{eqb}
 use lib.ListN.{length, getD, set, replicate}
 use Rattle.list_laws.proofs.BoolLaws.{true-false}
@@ -15,11 +17,11 @@ use Rattle.formats.specs.Checks.{Check, check, firstNo, buildChecks}
 use Rattle.formats.specs.Inputs.{Inputs, sizesIn}
 use Rattle.formats.proofs.CheckLaws.{firstNo-no}
 use Rattle.model.specs.Calls.{Call, advance, Answer, refused, isRefused}
-use Rattle.model.specs.Model.{Record, freshRecord, loadedRecord, act}
+use Rattle.model.specs.Model.{Record, idle, freshRecord, loadedRecord, act}
 use Rattle.screens.specs.ScreenCalls.{ScreenCall, loadAll, ScreenAnswer, one, loads, deals, answerIn, refuses, onePast, anyRuns, Target}
 use Rattle.screens.specs.ScreenCalls.{nobody, everyScreen, screen, turn, loadAllChecks, loadTarget, target, turnAnswer}
 use Rattle.screens.specs.EightRecords.{at, runs, ActedAll, actOn, actAll}
-use Rattle.screens.specs.Statements.{LoadClears, LoadWaits, RefusedAlike}
+use Rattle.screens.specs.Statements.{LoadClears, LoadEmpties, LoadWaits, RefusedAlike}
 use Rattle.screens.proofs.RecordLaws.{refused-same}
 use Rattle.screens.proofs.TargetLaws.{any-yes}
 use Rattle.screens.proofs.EightLaws.{on-target}
@@ -43,6 +45,16 @@ load-clears rs x k = go (eqb (length rs) 8) (firstNo (loadAllChecks (runs rs) x)
     go true zero e = (sym (ap numberIn e), refl)
     go true (suc n) e = absurd (true-false (sym (ap isLoads e)))
     go false n e = absurd (true-false (sym (ap isLoads e)))
+
+pub load-empties : LoadEmpties
+unfolding freshRecord idle
+load-empties rs x k i e =
+    ap (λ (l : List Record). at l i .last) (load-clears rs x k e .1) ∙ go 8 i
+  where
+    go : (n j : ℕ) → at (replicate n (loadedRecord (sizesIn x))) j .last ≡ none
+    go zero j = refl
+    go (suc n) zero = refl
+    go (suc n) (suc j) = go n j
 
 pub load-waits : LoadWaits
 unfolding actOn target loadTarget

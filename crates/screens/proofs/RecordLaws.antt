@@ -16,10 +16,10 @@ use Rattle.formats.specs.Checks.{check, firstNo, buildChecks}
 use Rattle.formats.specs.Inputs.{Inputs, sizesIn}
 use Rattle.formats.proofs.CheckLaws.{firstNo-yes}
 use Rattle.tables.specs.declared.answers.Reached.{Reached}
-use Rattle.model.specs.Calls.{Call, load, start, advance, cancel, read, Answer, refused, parts, more, finished, outcome, isRefused}
+use Rattle.model.specs.Calls.{Call, load, start, advance, cancel, read, Answer, refused, parts, more, finished, Outcome, outcome, isRefused}
 use Rattle.model.specs.Calls.{Phase, mayLoad, isRunning}
 use Rattle.model.specs.Refusals.{refusal}
-use Rattle.model.specs.Model.{Record, stageOf, acted, idle, loadedRecord, started, stepped, advanceWith, partNext, proceeds, unless, act, Does}
+use Rattle.model.specs.Model.{Record, stageOf, acted, lastAnswer, idle, loadedRecord, started, stepped, advanceWith, partNext, proceeds, unless, act, Does}
 use Rattle.model.proofs.LeftOpenLaws.{refused-unchanged}
 use Rattle.reference.specs.OwnAnswers.{Own, refuses, loads, starts, goes-on, finishes, cancels, reads}
 use Rattle.screens.specs.Projection.{stillRuns}
@@ -39,13 +39,17 @@ act-runs r c = go (refusal (stageOf r) c) c
     advanced x none = refl
     advanced x (some y) = either (eqb (suc (length (r .states))) (length (r .roots))) _ _ refl refl
 
+    told : (b : Bool) (o : Option Outcome) → stillRuns b (lastAnswer o) ≡ b
+    told b none = refl
+    told b (some o) = refl
+
     go : (n : ℕ) (d : Call) → isRunning (unless n r d .record′ .phase) ≡ stillRuns (isRunning (r .phase)) (unless n r d .answer)
     go (suc n) d = refl
     go zero (load x) = refl
     go zero (start x vs bs) = refl
     go zero (advance x) = advanced x (partNext r x)
     go zero cancel = refl
-    go zero read = refl
+    go zero read = sym (told (isRunning (r .phase)) (r .last))
 
 pub act-own : (r : Record) (c : Call) → Own c (act r c .answer)
 unfolding act unless proceeds advanceWith
@@ -59,13 +63,17 @@ act-own r c = go (refusal (stageOf r) c) c
     advanced x none = refuses 18
     advanced x (some y) = either x (eqb (suc (length (r .states))) (length (r .roots))) _ _
 
+    told : (o : Option Outcome) → Own read (lastAnswer o)
+    told none = refuses 1
+    told (some o) = reads o
+
     go : (n : ℕ) (d : Call) → Own d (unless n r d .answer)
     go (suc n) d = refuses (suc n)
     go zero (load x) = loads
     go zero (start x vs bs) = starts _
     go zero (advance x) = advanced x (partNext r x)
     go zero cancel = cancels
-    go zero read = reads _
+    go zero read = told (r .last)
 
 -- ---- Load
 

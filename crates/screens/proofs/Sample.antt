@@ -1,5 +1,5 @@
--- A list of screen calls on plan A, computed: three screens, one cancelled, one refused with 18, a Load refused with 1. The premises of the
--- theorems can be met, and their words say what they should.
+-- A list of screen calls on plan A, computed: three screens, one cancelled, one refused with 18, a Load refused with 1, a finished answer
+-- read after a Cancel and gone after a Load. The premises of the theorems can be met, and their words say what they should.
 --     sample-answers      what each call tells
 --     sample-references   what the reference models of screens 0, 3 and 5 settle of their calls
 --     sample-turns, sample-handed    who was served, and that the number was handed on as told
@@ -57,6 +57,7 @@ calls =
     ∷ loadAll loadA
     ∷ deal 0 inputsA ∷ deal 1 inputsA ∷ cancelOn 3 ∷ deal 4 inputsA
     ∷ deal 6 outside ∷ deal 6 inputsA ∷ readOn 0
+    ∷ startOn 0 inputsA [] [] ∷ cancelOn 0 ∷ readOn 0
     ∷ deal 1 inputsA ∷ deal 6 inputsA ∷ readOn 5
     ∷ loadAll loadA ∷ readOn 0 ∷ []
 
@@ -67,6 +68,7 @@ told =
     ∷ one (refused 1)
     ∷ deals 1 more ∷ deals 4 more ∷ one Answer.accepted ∷ deals 6 more
     ∷ one (refused 18) ∷ deals 1 finished ∷ one (outcomeAnswer 0 false 2 1)
+    ∷ one (parts 1) ∷ one Answer.accepted ∷ one (outcomeAnswer 0 false 2 1)
     ∷ deals 6 finished ∷ one (refused 1) ∷ one (outcomeAnswer 0 false 2 1)
     ∷ loads 0 ∷ one (refused 1) ∷ []
 
@@ -83,7 +85,7 @@ settledOf i = settledAnswers newReference (ownCalls i nobodyRuns calls told) (ow
 -- 18 is left to the program
 pub sample-references :
     (settledOf 0 ≡ some Answer.accepted ∷ some (parts 2) ∷ some more ∷ none ∷ some finished ∷ some (outcomeAnswer 0 false 2 1)
-    ∷ some Answer.accepted ∷ some (refused 1) ∷ [])
+    ∷ some (parts 1) ∷ some Answer.accepted ∷ some (outcomeAnswer 0 false 2 1) ∷ some Answer.accepted ∷ some (refused 1) ∷ [])
     × ((settledOf 3 ≡ some Answer.accepted ∷ some (parts 5) ∷ some more ∷ some Answer.accepted ∷ some Answer.accepted ∷ [])
     × (settledOf 5 ≡ some Answer.accepted ∷ some (parts 2) ∷ some more ∷ some finished ∷ some (outcomeAnswer 0 false 2 1)
     ∷ some Answer.accepted ∷ []))
@@ -98,19 +100,19 @@ sample-turns = refl
 
 pub sample-handed : HandedOn 0 calls told
 unfolding calls told
-sample-handed = (tt, (tt, (tt, (tt, (tt, (refl, (refl, (tt, (refl, (refl, (refl, (tt, (refl, (refl, (tt, (tt, (tt, tt)))))))))))))))))
+sample-handed = (tt, (tt, (tt, (tt, (tt, (refl, (refl, (tt, (refl, (refl, (refl, (tt, (tt, (tt, (tt, (refl, (refl, (tt, (tt, (tt, tt))))))))))))))))))))
 
 -- ---- alone
 
 unfoldable pub fewer : List ScreenCall
 fewer =
     loadAll loadA ∷ startOn 0 inputsA (0 ∷ []) (0 ∷ []) ∷ deal 0 inputsA ∷ deal 1 outside ∷ deal 1 inputsA ∷ readOn 0
-    ∷ loadAll loadA ∷ readOn 0 ∷ []
+    ∷ startOn 0 inputsA [] [] ∷ cancelOn 0 ∷ readOn 0 ∷ loadAll loadA ∷ readOn 0 ∷ []
 
 unfoldable pub toldFewer : List ScreenAnswer
 toldFewer =
     loads 0 ∷ one (parts 2) ∷ deals 1 more ∷ one (refused 18) ∷ deals 1 finished ∷ one (outcomeAnswer 0 false 2 1)
-    ∷ loads 0 ∷ one (refused 1) ∷ []
+    ∷ one (parts 1) ∷ one Answer.accepted ∷ one (outcomeAnswer 0 false 2 1) ∷ loads 0 ∷ one (refused 1) ∷ []
 
 pub fewer-answers : answersAll eightFresh fewer ≡ toldFewer
 unfolding computingScreens fewer toldFewer loadA inputsA outside

@@ -9,7 +9,7 @@
 -- "no other is served twice between two successive turns of it in one question": turns-apart, between-turns
 -- "Between two accepted Loads, .. what a screen reads, and each of its refusals except Load's, must be the same": isolation,
 --   isolation-since-load
--- "Load is refused while any screen runs and clears them all": load-waits, load-clears
+-- "Load is refused while any screen runs and clears them all": load-waits, load-clears, load-empties
 -- "Each screen has a panel book of its own, fed with the accepted Loads, its own calls and its turns as advances": screen-alone,
 --   screens-references, screens-demand-3
 -- A refused call alters nothing, and a refused deal tells no number: refused-alike
@@ -63,6 +63,9 @@ deal-taken = deals.deal-taken
 
 pub load-clears : say.LoadClears
 load-clears = load.load-clears
+
+pub load-empties : say.LoadEmpties
+load-empties = load.load-empties
 
 pub load-waits : say.LoadWaits
 load-waits = load.load-waits

@@ -8,7 +8,7 @@
 -- ServedSoon, TurnsApart, BetweenTurns == "a screen that stays running is served within eight accepted deals, and no other is served twice
 --   between two successive turns of it in one question", whatever is lent and whatever the others start or cancel
 -- DealTaken == "While plan, rules and tables are as Load left them" every deal with a screen running is accepted
--- LoadClears, LoadWaits == "Load is refused while any screen runs and clears them all"
+-- LoadClears, LoadEmpties, LoadWaits == "Load is refused while any screen runs and clears them all"
 -- RefusedAlike == a refused call alters nothing; a refused deal tells no number
 -- DealServes == "One deal gives one advance to the next running screen .., going from 7 back to 0", said without the search
 -- Screens fresh Step == those of them that are about every list of calls
@@ -18,6 +18,7 @@ use Prim.Native.Nat.{ℕ, _+_, _%_, _≤_, _<_}
 use mathlib.Core.Path.{_≡_}
 use mathlib.Core.Bool.{true, false}
 use mathlib.Core.List.{List, [], _∷_, _++_}
+use mathlib.Core.Option.{none}
 use lib.ListN.{length, take, replicate}
 use Rattle.list_laws.specs.Tests.{holds, distinct}
 use Rattle.formats.specs.Built.{builtNodeTable, builtStateTable}
@@ -64,6 +65,11 @@ ScreenAlone = (i : ℕ) → i < 8 → (rs : List Record) → length rs ≡ 8
 abbrev pub LoadClears : Type 0
 LoadClears = (rs : List Record) (x : Inputs) (k : ℕ) → actAll rs (loadAll x) .answer ≡ loads k
     → (k ≡ 0) × (actAll rs (loadAll x) .records′ ≡ replicate 8 (loadedRecord (sizesIn x)))
+
+-- "an accepted Load clears" the finished answers too (S-1)
+abbrev pub LoadEmpties : Type 0
+LoadEmpties = (rs : List Record) (x : Inputs) (k i : ℕ) → actAll rs (loadAll x) .answer ≡ loads k
+    → at (actAll rs (loadAll x) .records′) i .last ≡ none
 
 abbrev pub LoadWaits : Type 0
 LoadWaits = (rs : List Record) (x : Inputs) (i : ℕ) → length rs ≡ 8 → i < 8 → runs rs i ≡ true

@@ -131,11 +131,7 @@ fn last_is_own(h: Head, states: &[u8]) -> bool
     let o = h.last.outcome;
     let at = h.handled as usize - 1;
     let alike = if o.yes { h.yes } else { !h.yes };
-    h.last.present
-        & (o.state == states[at])
-        & alike
-        & (o.parts == h.parts)
-        & (o.links == h.links)
+    h.last.present & (o.state == states[at]) & alike & (o.parts == h.parts) & (o.links == h.links)
 }
 
 // The record is valid, by its state.
