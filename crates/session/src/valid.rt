@@ -17,7 +17,7 @@ ghost use mathlib.Core.List.{List};
 ghost use Prim.Native.Nat.{ℕ};
 ghost use lib.ListN.{length};
 ghost use Rattle.session.specs.Records.{whole, sizesFit, noQuestion, listFits, partsFit, questionFits, valid};
-ghost use Rattle.session.specs.Records.{isNone, lastFits, lastIsOwn};
+ghost use Rattle.session.specs.Records.{isNone, lastFits, sameFlag, lastIsOwn};
 ghost use Rattle.session.specs.inner.Shapes.{ListShaped, PartsShaped};
 
 // N, S and K in their limits.
@@ -117,6 +117,16 @@ fn last_fits(s: u8, l: Last) -> bool
     (o.state < s) & (0 < o.parts) & (o.parts <= 254) & (o.links <= 65535 * (o.parts as u32))
 }
 
+// Whether two yes or no are the same.
+fn same_flag(a: bool, b: bool) -> bool
+    ensures { λ r. ⌜ r ≡ sameFlag a b ⌝ }
+{
+    if a {
+        return b;
+    }
+    !b
+}
+
 // The last finished answer is the record's own, of all its parts.
 fn last_is_own(h: Head, states: &[u8]) -> bool
     requires { ⌜ length (now states) ≡ 254 ⌝ }
@@ -130,7 +140,7 @@ fn last_is_own(h: Head, states: &[u8]) -> bool
     }
     let o = h.last.outcome;
     let at = h.handled as usize - 1;
-    let alike = if o.yes { h.yes } else { !h.yes };
+    let alike = same_flag(o.yes, h.yes);
     h.last.present & (o.state == states[at]) & alike & (o.parts == h.parts) & (o.links == h.links)
 }
 
