@@ -131,7 +131,7 @@ module _ (run run′ : Running) (same : SameRunning run run′) where
   any-same zero h = refl
   any-same (suc n) h = ap₂ (λ (a b : Bool). a || b) (same n (omega arith)) (any-same n (omega arith))
 
-  next-same : (f k : ℕ) → k < 8 → nextRunningIn f run k ≡ nextRunningIn f run′ k
+  pub next-same : (f k : ℕ) → k < 8 → nextRunningIn f run k ≡ nextRunningIn f run′ k
   unfolding nextRunningIn
   next-same zero k h = refl
   next-same (suc f) k h =
