@@ -21,8 +21,10 @@ use Rattle.model.specs.Model.{Record, idle, freshRecord, loadedRecord}
 use Rattle.reference.specs.Reference.{Reference, newReference, step}
 use Rattle.reference.specs.Demand3.{after}
 use Rattle.reference.proofs.Theorems.{model-demand-3}
-use Rattle.screens.specs.ScreenCalls.{ScreenCall, loadAll, startOn, cancelOn, readOn, deal, ScreenAnswer, one, loads, answerIn, refuses}
-use Rattle.screens.specs.ScreenCalls.{Running, nobodyRuns, nextRunningIn, nextRunning, anyRuns, Target, nobody, everyScreen, screen, turn}
+use Rattle.screens.specs.ScreenCalls.{ScreenCall, loadAll, startOn, cancelOn, readOn, deal, ScreenAnswer, one}
+use Rattle.screens.specs.ScreenCalls.{loads, answerIn, refuses}
+use Rattle.screens.specs.ScreenCalls.{Running, nobodyRuns, nextRunningIn, nextRunning, anyRuns, Target, nobody}
+use Rattle.screens.specs.ScreenCalls.{everyScreen, screen, turn}
 use Rattle.screens.specs.ScreenCalls.{loadAllChecks, loadTarget, dealTarget, numbered, target}
 use Rattle.screens.specs.EightRecords.{at, runs, DoesAll, eightFresh}
 use Rattle.screens.specs.Projection.{followed}
@@ -35,7 +37,8 @@ use Rattle.screens.proofs.ReferencesTheorem.{Tied, TiedAll, tied-same, 
 use Rattle.screens.proofs.Steps.{Steps, steps, First, next-first}
 use Rattle.screens.proofs.TurnsTheorem.{to-turn}
 use Rattle.screens.proofs.SinceLoad.{eightLoaded, Passes, loaded-at, loaded-idle, since-load}
-use Rattle.screens.proofs.LentLaws.{Kept, kept-load, kept-start, kept-advance, kept-cancel, kept-read, advance-taken}
+use Rattle.screens.proofs.LentLaws.{Kept, kept-load, kept-start, kept-advance, kept-cancel, kept-read}
+use Rattle.screens.proofs.LentLaws.{advance-taken}
 
 module _ (x : Inputs) where
   abbrev KeptAll : References → Type 0
@@ -66,7 +69,8 @@ module _ (x : Inputs) where
     load-kept y a zero e h = absurd (true-false (sym e ∙ ap refuses (h .0)))
     load-kept y a (suc n) e h = k
 
-    turn-kept : (y : Inputs) (a : ScreenAnswer) (j : ℕ) → ((s : ℕ) → s < 8 → Kept x (after (step (bs s) (advance y)) (answerIn a)))
+    turn-kept : (y : Inputs) (a : ScreenAnswer) (j : ℕ)
+        → ((s : ℕ) → s < 8 → Kept x (after (step (bs s) (advance y)) (answerIn a)))
         → (o : Option ℕ) (t : Bool) → Rightly (runningIn bs) (cond t (dealTarget o y) (nobody 25))
         → KeptAll (referencesAfter bs (cond t (dealTarget o y) (nobody 25)) a)
     unfolding dealTarget
@@ -79,7 +83,8 @@ module _ (x : Inputs) where
     unfolding target numbered
     kept-target (loadAll y) a e h = load-kept y a (firstNo (loadAllChecks (runningIn bs) y)) e h
     kept-target (startOn m y vs ls) a e h =
-        screen-kept m (start y vs ls) a (λ l. kept-start x (bs m) (k m l) (answerIn a) y vs ls e) (rightly (runningIn bs) (startOn m y vs ls))
+        screen-kept m (start y vs ls) a (λ l. kept-start x (bs m) (k m l) (answerIn a) y vs ls e)
+        (rightly (runningIn bs) (startOn m y vs ls))
     kept-target (cancelOn m) a e h =
         screen-kept m cancel a (λ l. kept-cancel x (bs m) (k m l) (answerIn a)) (rightly (runningIn bs) (cancelOn m))
     kept-target (readOn m) a e h =
@@ -89,7 +94,8 @@ module _ (x : Inputs) where
         (rightly (runningIn bs) (deal j y))
 
     -- a deal while a screen runs
-    taken : Passes x → (c : ScreenCall) (a : ScreenAnswer) → AsLeftIn x c a → ScreenConforms bs (target (runningIn bs) c) a
+    taken : Passes x → (c : ScreenCall) (a : ScreenAnswer) → AsLeftIn x c a
+        → ScreenConforms bs (target (runningIn bs) c) a
         → Taken (runningIn bs) c a
     taken p (loadAll y) a e h = tt
     taken p (startOn m y vs ls) a e h = tt
@@ -98,27 +104,33 @@ module _ (x : Inputs) where
     taken p (deal j y) a e h = λ l r.
         let w = any-which 8 (runningIn bs) r in
         let S = steps j (w .0) l (w .1) in
-        let F : First j (S .0) (nextRunningIn 8 (runningIn bs) j) = next-first 8 (runningIn bs) j (w .0) (S .0) (S .1) (S .1 .few) (w .2) in
+        let F : First j (S .0) (nextRunningIn 8 (runningIn bs) j) = next-first 8 (runningIn bs) j (w .0) (S .0) (S .1)
+        (S .1 .few) (w .2) in
         let R = next-runs 8 (runningIn bs) j (F .screen) l (F .found) in
         let c = subst (λ (t : Target). ScreenConforms bs t a) (to-turn (runningIn bs) j y l (F .screen) (F .found)) h in
         advance-taken x (bs (F .screen)) (k (F .screen) (R .0)) (answerIn a) y e p (R .1) (c .1)
 
   -- who runs may be any test that agrees on the eight
-  same-taken : (run run′ : Running) → anyRuns 8 run ≡ anyRuns 8 run′ → (c : ScreenCall) (a : ScreenAnswer) → Taken run′ c a → Taken run c a
+  same-taken : (run run′ : Running) → anyRuns 8 run ≡ anyRuns 8 run′ → (c : ScreenCall) (a : ScreenAnswer)
+      → Taken run′ c a → Taken run c a
   same-taken run run′ e (loadAll y) a h = tt
   same-taken run run′ e (startOn m y vs ls) a h = tt
   same-taken run run′ e (cancelOn m) a h = tt
   same-taken run run′ e (readOn m) a h = tt
   same-taken run run′ e (deal j y) a h = λ l r. h l (sym e ∙ r)
 
-  taken-from : Passes x → (rs : List Record) (bs : References) (run : Running) → length rs ≡ 8 → TiedAll rs bs → SameRunning run (runs rs)
-      → KeptAll bs → (cs : List ScreenCall) (xs : List ScreenAnswer) → History DoesAll rs cs xs → AsLeft x cs xs → AllTaken run cs xs
+  taken-from : Passes x → (rs : List Record) (bs : References) (run : Running) → length rs ≡ 8 → TiedAll rs bs
+      → SameRunning run (runs rs)
+      → KeptAll bs → (cs : List ScreenCall) (xs : List ScreenAnswer) → History DoesAll rs cs xs → AsLeft x cs xs
+      → AllTaken run cs xs
   taken-from p rs bs run long t same k [] [] done l = tt
   taken-from p rs bs run long t same k (c ∷ cs) (a ∷ xs) (call {r′ = rs′} d h) l =
       let n = tied-step rs rs′ bs c a long t d in
       let agree : SameRunning run (runningIn bs) = λ i hi. same i hi ∙ sym (tied-same rs bs t i hi) in (
-        same-taken run (runningIn bs) (any-same run (runningIn bs) agree 8 (omega arith)) c a (taken bs k p c a (l .0) (n .0)),
-        taken-from p rs′ (referencesAfter bs (target (runningIn bs) c) a) (followed run c a) (does-eight rs rs′ c a long d) (n .1)
+        same-taken run (runningIn bs) (any-same run (runningIn bs) agree 8 (omega arith)) c a
+            (taken bs k p c a (l .0) (n .0)),
+        taken-from p rs′ (referencesAfter bs (target (runningIn bs) c) a) (followed run c a)
+            (does-eight rs rs′ c a long d) (n .1)
             (does-follows rs rs′ c a long d run same) (kept-target bs k c a (l .0) (n .0)) cs xs h (l .1),
       )
 
@@ -134,18 +146,21 @@ fresh-rests = refl
 loaded-tied : (x : Inputs) → Passes x → TiedAll (eightLoaded (sizesIn x)) (λ i. loadedReference x)
 unfolding loadedReference
 loaded-tied x p i h =
-    subst (λ (r : Record). Tied r (after (step newReference (load x)) Answer.accepted)) (sym (loaded-at (sizesIn x) i h))
+    subst (λ (r : Record). Tied r (after (step newReference (load x)) Answer.accepted))
+    (sym (loaded-at (sizesIn x) i h))
     (tied-next freshRecord (loadedRecord (sizesIn x)) newReference (load x) Answer.accepted model-demand-3
     (load-accepted freshRecord x fresh-rests p) .1)
 
 loaded-kept : (x : Inputs) → Passes x → Kept x (loadedReference x)
 unfolding loadedReference
 loaded-kept x p =
-    kept-load x newReference (tied-next freshRecord (loadedRecord (sizesIn x)) newReference (load x) Answer.accepted model-demand-3
+    kept-load x newReference (tied-next freshRecord (loadedRecord (sizesIn x)) newReference
+    (load x) Answer.accepted model-demand-3
     (load-accepted freshRecord x fresh-rests p) .0)
 
 pub deal-taken : DealTaken eightFresh DoesAll
 deal-taken x before cs told xs k e h l =
     let S = since-load x before cs told xs k e h in
-    taken-from x (S .passes) (eightLoaded (sizesIn x)) (λ i. loadedReference x) nobodyRuns refl (loaded-tied x (S .passes))
+    taken-from x (S .passes) (eightLoaded (sizesIn x)) (λ i. loadedReference x) nobodyRuns refl
+    (loaded-tied x (S .passes))
     (loaded-idle (sizesIn x)) (λ i hi. loaded-kept x (S .passes)) cs xs (S .history) l

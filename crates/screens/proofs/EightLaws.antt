@@ -1,6 +1,7 @@
 -- One call on the eight records, as each screen sees it.
 --     on-target      on eight records a call goes by its target
---     moved          what a screen is fed takes its record from before the call to after it; what it is not fed leaves it as it was
+--     moved          what a screen is fed takes its record from before the call to after it; what it is not fed leaves
+--                    it as it was
 --     stays-eight    the records stay eight
 --     follows        who runs is followed by calls and answers alone
 -- Assumes nothing.
@@ -19,7 +20,8 @@ use Rattle.list_laws.proofs.Choice.{by-test}
 use Rattle.formats.specs.Inputs.{Inputs, sizesIn}
 use Rattle.model.specs.Calls.{Call, load, advance, Answer, refused, isRefused, isRunning}
 use Rattle.model.specs.Model.{Record, freshRecord, loadedRecord, act, Does}
-use Rattle.screens.specs.ScreenCalls.{ScreenCall, ScreenAnswer, one, deals, answerIn, Running, onePast, Target, nobody, everyScreen}
+use Rattle.screens.specs.ScreenCalls.{ScreenCall, ScreenAnswer, one, deals, answerIn, Running, onePast, Target}
+use Rattle.screens.specs.ScreenCalls.{nobody, everyScreen}
 use Rattle.screens.specs.ScreenCalls.{screen, turn, target, turnAnswer}
 use Rattle.screens.specs.EightRecords.{at, runs, ActedAll, actOn, actAll, DoesAll}
 use Rattle.screens.specs.Projection.{Fed, fed, fedBy, fedTo, stillRuns, stillRunsBy, followed}
@@ -85,7 +87,8 @@ module _ (rs : List Record) (long : length rs ≡ 8) where
     pub moved : (c : ScreenCall) (i : ℕ) → i < 8
         → Moved (fedTo run i c (actAll rs c .answer)) (at rs i) (at (actAll rs c .records′) i)
     moved c i hi =
-        rw (target-same run (runs rs) same c, on-target rs c long) (target-moved rs long i hi (target (runs rs) c) (rightly (runs rs) c))
+        rw (target-same run (runs rs) same c, on-target rs c long)
+        (target-moved rs long i hi (target (runs rs) c) (rightly (runs rs) c))
 
     pub follows : (c : ScreenCall) → SameRunning (followed run c (actAll rs c .answer)) (runs (actAll rs c .records′))
     unfolding stillRunsBy
@@ -99,11 +102,13 @@ module _ (rs : List Record) (long : length rs ≡ 8) where
             ∙ sym (ap (λ (r : Record). isRunning (r .phase)) (d .leaves))
 
 -- the same of a call in a history
-module _ (rs rs′ : List Record) (c : ScreenCall) (a : ScreenAnswer) (long : length rs ≡ 8) (d : DoesAll rs c a rs′) where
+module _ (rs rs′ : List Record) (c : ScreenCall) (a : ScreenAnswer) (long : length rs ≡ 8)
+    (d : DoesAll rs c a rs′) where
   pub does-eight : length rs′ ≡ 8
   does-eight = ap length (d .leaves) ∙ stays-eight rs long c
 
-  pub does-moved : (run : Running) → SameRunning run (runs rs) → (i : ℕ) → i < 8 → Moved (fedTo run i c a) (at rs i) (at rs′ i)
+  pub does-moved : (run : Running) → SameRunning run (runs rs) → (i : ℕ) → i < 8
+      → Moved (fedTo run i c a) (at rs i) (at rs′ i)
   does-moved run same i hi = rw (d .tells, d .leaves) (moved rs long run same c i hi)
 
   pub does-follows : (run : Running) → SameRunning run (runs rs) → SameRunning (followed run c a) (runs rs′)

@@ -1,4 +1,5 @@
--- A reference model that is lent what a Load left, and nothing else: its question stays clean, and no advance is refused.
+-- A reference model that is lent what a Load left, and nothing else: its question stays clean, and no advance is
+-- refused.
 --     Kept x b        its N, S and K are that Load's; a question that runs is clean, and was lent what the Load left
 --     kept-load, kept-start, kept-advance, kept-cancel, kept-read    the calls keep it
 --     advance-taken   while a question runs an advance is accepted
@@ -21,8 +22,10 @@ use Rattle.formats.proofs.InputLaws.{build-table}
 use Rattle.formats.proofs.InputsLaws.{Same, same-node-inputs, node-inputs-same, same-inputs-nodes, same-state-table}
 use Rattle.model.specs.Calls.{load, start, advance, cancel, read, Answer, refused, more, finished, isRefused, isRunning}
 use Rattle.model.specs.Refusals.{refusal}
-use Rattle.reference.specs.Reference.{Settlement, clean, byRule, byProgram, Question, State, Reference, Reply, settled, phase, stageOf, inState}
-use Rattle.reference.specs.Reference.{starting, longer, advanced, goesOn, advancingByRule, advancing, partCount, finishedWith, reading, readingLast, proceed}
+use Rattle.reference.specs.Reference.{Settlement, clean, byRule, byProgram, Question, State, Reference, Reply, settled}
+use Rattle.reference.specs.Reference.{phase, stageOf, inState}
+use Rattle.reference.specs.Reference.{starting, longer, advanced, goesOn, advancingByRule, advancing, partCount}
+use Rattle.reference.specs.Reference.{finishedWith, reading, readingLast, proceed}
 use Rattle.reference.specs.Reference.{decided, step}
 use Rattle.reference.specs.Demand3.{Conforms, after}
 use Rattle.reference.proofs.FinishTheorem.{same-fits}
@@ -31,7 +34,8 @@ use Rattle.screens.specs.Statements.{leftBy}
 use Rattle.screens.proofs.SinceLoad.{Passes}
 
 -- what is the same as a third
-same-between : (z : Sizes) (l x y : Inputs) → sameInputs z l x ≡ true → sameInputs z l y ≡ true → sameInputs z x y ≡ true
+same-between : (z : Sizes) (l x y : Inputs) → sameInputs z l x ≡ true → sameInputs z l y ≡ true
+    → sameInputs z x y ≡ true
 unfolding sameInputs
 same-between z l x y e f =
     let S : Same z l x = same-node-inputs z l x (same-inputs-nodes z l x e) in
@@ -66,11 +70,13 @@ module _ (x : Inputs) where
 
   -- ---- Load, Start, Cancel, Read
 
-  pub kept-load : (b : Reference) → Conforms (step b (load x)) Answer.accepted → Kept (after (step b (load x)) Answer.accepted)
+  pub kept-load : (b : Reference) → Conforms (step b (load x)) Answer.accepted
+      → Kept (after (step b (load x)) Answer.accepted)
   unfolding step decided proceed
   kept-load b = go (refusal (stageOf b) (load x))
     where
-      go : (n : ℕ) → Conforms (decided n b (load x)) Answer.accepted → Kept (after (decided n b (load x)) Answer.accepted)
+      go : (n : ℕ) → Conforms (decided n b (load x)) Answer.accepted
+          → Kept (after (decided n b (load x)) Answer.accepted)
       go zero e = record { sizes = refl; holds = tt }
       go (suc n) e = absurd (true-false (sym (ap isRefused e)))
 
@@ -115,7 +121,8 @@ module _ (x : Inputs) where
     unfolding goesOn inState finishedWith
     goes-kept q e f = go (eqb (q .count) (partCount q))
       where
-        go : (t : Bool) → Kept (after (cond t (settled finished (finishedWith b q)) (settled more (inState b (State.running q)))) a)
+        go : (t : Bool) → Kept (after (cond t (settled finished (finishedWith b q))
+            (settled more (inState b (State.running q)))) a)
         go true = record { sizes = k .sizes; holds = tt }
         go false = record { sizes = k .sizes; holds = (e, f) }
 
@@ -123,7 +130,8 @@ module _ (x : Inputs) where
     unfolding goesOn
     goes-taken q = go (eqb (q .count) (partCount q))
       where
-        go : (t : Bool) → Conforms (cond t (settled finished (finishedWith b q)) (settled more (inState b (State.running q)))) a
+        go : (t : Bool) → Conforms (cond t (settled finished (finishedWith b q))
+            (settled more (inState b (State.running q)))) a
             → isRefused a ≡ false
         go true e = ap isRefused e
         go false e = ap isRefused e
@@ -135,14 +143,16 @@ module _ (x : Inputs) where
       goes-on q h =
           ap (λ (s : Settlement). advancing b y q s) (h .0)
           ∙ ap (λ (t : Bool). cond t (goesOn b (advanced q clean (longer (b .sizes) q y))) (advancingByRule b y q))
-          (ap (λ (z : Sizes). sameInputs z (q .inputs) y) (k .sizes) ∙ same-between (sizesIn x) (leftBy x) (q .inputs) y (h .1) lent)
+          (ap (λ (z : Sizes). sameInputs z (q .inputs) y) (k .sizes)
+          ∙ same-between (sizesIn x) (leftBy x) (q .inputs) y (h .1) lent)
 
       proceed-kept : (s : State) → KeptIn s → Kept (after (proceed b s (advance y)) a)
       unfolding proceed advanced
       proceed-kept State.empty h = k
       proceed-kept State.loaded h = k
       proceed-kept (State.running q) h =
-          subst (λ (r : Reply). Kept (after r a)) (sym (goes-on q h)) (goes-kept (advanced q clean (longer (b .sizes) q y)) refl (h .1))
+          subst (λ (r : Reply). Kept (after r a)) (sym (goes-on q h))
+          (goes-kept (advanced q clean (longer (b .sizes) q y)) refl (h .1))
       proceed-kept State.answered h = k
 
       pub kept-advance : Kept (after (step b (advance y)) a)
@@ -153,15 +163,18 @@ module _ (x : Inputs) where
           go zero = proceed-kept (b .state) (k .holds)
           go (suc n) = k
 
-      proceed-taken : (s : State) → KeptIn s → isRunning (phase s) ≡ true → Conforms (proceed b s (advance y)) a → isRefused a ≡ false
+      proceed-taken : (s : State) → KeptIn s → isRunning (phase s) ≡ true → Conforms (proceed b s (advance y)) a
+          → isRefused a ≡ false
       unfolding proceed phase isRunning
       proceed-taken State.empty h r = absurd (true-false (sym r))
       proceed-taken State.loaded h r = absurd (true-false (sym r))
       proceed-taken (State.running q) h r =
-          λ c. goes-taken (advanced q clean (longer (b .sizes) q y)) (subst (λ (t : Reply). Conforms t a) (goes-on q h) c)
+          λ c. goes-taken (advanced q clean (longer (b .sizes) q y))
+          (subst (λ (t : Reply). Conforms t a) (goes-on q h) c)
       proceed-taken State.answered h r = absurd (true-false (sym r))
 
-      pub advance-taken : Passes x → isRunning (phase (b .state)) ≡ true → Conforms (step b (advance y)) a → isRefused a ≡ false
+      pub advance-taken : Passes x → isRunning (phase (b .state)) ≡ true → Conforms (step b (advance y)) a
+          → isRefused a ≡ false
       unfolding step decided refusal
       advance-taken p r c =
           let f : fits (b .sizes) y ≡ true = ap (λ (z : Sizes). fits z y) (k .sizes) ∙ lent-fits p y lent in

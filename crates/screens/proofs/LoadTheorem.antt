@@ -18,8 +18,10 @@ use Rattle.formats.specs.Inputs.{Inputs, sizesIn}
 use Rattle.formats.proofs.CheckLaws.{firstNo-no}
 use Rattle.model.specs.Calls.{Call, advance, Answer, refused, isRefused}
 use Rattle.model.specs.Model.{Record, idle, freshRecord, loadedRecord, act}
-use Rattle.screens.specs.ScreenCalls.{ScreenCall, loadAll, ScreenAnswer, one, loads, deals, answerIn, refuses, onePast, anyRuns, Target}
-use Rattle.screens.specs.ScreenCalls.{nobody, everyScreen, screen, turn, loadAllChecks, loadTarget, target, turnAnswer}
+use Rattle.screens.specs.ScreenCalls.{ScreenCall, loadAll, ScreenAnswer, one, loads, deals, answerIn, refuses}
+use Rattle.screens.specs.ScreenCalls.{onePast, anyRuns, Target}
+use Rattle.screens.specs.ScreenCalls.{nobody, everyScreen, screen, turn, loadAllChecks, loadTarget, target}
+use Rattle.screens.specs.ScreenCalls.{turnAnswer}
 use Rattle.screens.specs.EightRecords.{at, runs, ActedAll, actOn, actAll}
 use Rattle.screens.specs.Statements.{LoadClears, LoadEmpties, LoadWaits, RefusedAlike}
 use Rattle.screens.proofs.RecordLaws.{refused-same}
@@ -41,7 +43,8 @@ unfolding actAll actOn target loadTarget isLoads numberIn
 load-clears rs x k = go (eqb (length rs) 8) (firstNo (loadAllChecks (runs rs) x))
   where
     go : (b : Bool) (n : ℕ) → cond b (actOn rs (loadTarget n x)) (actOn rs (nobody 25)) .answer ≡ loads k
-        → (k ≡ 0) × (cond b (actOn rs (loadTarget n x)) (actOn rs (nobody 25)) .records′ ≡ replicate 8 (loadedRecord (sizesIn x)))
+        → (k ≡ 0) × (cond b (actOn rs (loadTarget n x)) (actOn rs (nobody 25)) .records′ ≡ replicate 8
+        (loadedRecord (sizesIn x)))
     go true zero e = (sym (ap numberIn e), refl)
     go true (suc n) e = absurd (true-false (sym (ap isLoads e)))
     go false n e = absurd (true-false (sym (ap isLoads e)))
@@ -62,7 +65,8 @@ load-waits rs x i long h e =
     let B : List Check = buildChecks (x .plan) (x .rules) (length (x .nodeTable)) (length (x .stateTable)) in
     let n : firstNo (loadAllChecks (runs rs) x) ≡ 1 =
     firstNo-no 1 (not (anyRuns 8 (runs rs))) B (ap not (any-yes 8 (runs rs) i h e)) in
-    ap (λ (k : ActedAll). k .answer) (on-target rs (loadAll x) long) ∙ ap (λ (m : ℕ). actOn rs (loadTarget m x) .answer) n
+    ap (λ (k : ActedAll). k .answer) (on-target rs (loadAll x) long)
+    ∙ ap (λ (m : ℕ). actOn rs (loadTarget m x) .answer) n
 
 -- ---- refusals
 
@@ -85,8 +89,10 @@ target-alike rs (nobody n) e = (refl, refl)
 target-alike rs (everyScreen x) e = absurd (true-false (sym e))
 target-alike rs (screen i c) e = (refl, set-refused rs i c e)
 target-alike rs (turn i x) e =
-    by-test (λ (t : ScreenAnswer). refuses t ≡ true → (t ≡ one (answerIn t)) × (set rs i (act (at rs i) (advance x) .record′) ≡ rs))
-    (isRefused (act (at rs i) (advance x) .answer)) (λ q z. (refl, set-refused rs i (advance x) q)) (λ q z. absurd (true-false (sym z ∙ q))) e
+    by-test (λ (t : ScreenAnswer). refuses t ≡ true
+    → (t ≡ one (answerIn t)) × (set rs i (act (at rs i) (advance x) .record′) ≡ rs))
+    (isRefused (act (at rs i) (advance x) .answer)) (λ q z. (refl, set-refused rs i (advance x) q))
+    (λ q z. absurd (true-false (sym z ∙ q))) e
 
 pub refused-alike : RefusedAlike
 unfolding actAll

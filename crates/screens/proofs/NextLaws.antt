@@ -1,6 +1,7 @@
 -- Whom a deal serves, said without the search.
 --     next-is       what the search finds within f steps: the first screen that runs, or none
---     deal-serves   a deal with a number up to 7 is the turn of the first screen that runs from there on, or gives 1 where none runs
+--     deal-serves   a deal with a number up to 7 is the turn of the first screen that runs from there on, or gives 1
+--                   where none runs
 -- Assumes nothing.
 use Prim.Native.Nat.{ℕ, zero, suc, _+_, _%_, _<_}
 use mathlib.Core.Path.{_≡_, refl, sym, ap, _∙_, subst}
@@ -12,7 +13,8 @@ use native.Mathlib.Omega.{arith}
 use lib.Dec.{ltb}
 use borrow.Author.Tests.{lt-ltb, ltb-true, ltb-false}
 use Rattle.formats.specs.Inputs.{Inputs}
-use Rattle.screens.specs.ScreenCalls.{deal, Running, onePast, nextRunningIn, nextRunning, Target, dealTarget, numbered, target}
+use Rattle.screens.specs.ScreenCalls.{deal, Running, onePast, nextRunningIn, nextRunning, Target, dealTarget}
+use Rattle.screens.specs.ScreenCalls.{numbered, target}
 use Rattle.screens.specs.Statements.{Next, Serves, DealServes}
 use Rattle.screens.proofs.TargetLaws.{one-past-in}
 use Rattle.screens.proofs.Steps.{Steps, steps}
@@ -38,7 +40,8 @@ past-mod k e h = go (ltb k 7) refl
 next-is : (f : ℕ) (run : Running) (k : ℕ) → k < 8 → Found f run k (nextRunningIn f run k)
 unfolding nextRunningIn
 next-is zero run k h = λ e l. absurd (omega arith)
-next-is (suc f) run k h = go (run k) refl (nextRunningIn f run (onePast k)) (next-is f run (onePast k) (one-past-in k h))
+next-is (suc f) run k h = go (run k) refl (nextRunningIn f run (onePast k))
+    (next-is f run (onePast k) (one-past-in k h))
   where
     here : k ≡ (k + 0) % 8
     here = omega arith
@@ -61,7 +64,8 @@ next-is (suc f) run k h = go (run k) refl (nextRunningIn f run (onePast k)) (nex
     }
 
 -- each screen is some steps away
-all-idle : (run : Running) (k : ℕ) → k < 8 → ((e : ℕ) → e < 8 → run ((k + e) % 8) ≡ false) → (i : ℕ) → i < 8 → run i ≡ false
+all-idle : (run : Running) (k : ℕ) → k < 8 → ((e : ℕ) → e < 8 → run ((k + e) % 8) ≡ false) → (i : ℕ) → i < 8
+    → run i ≡ false
 all-idle run k h f i hi =
     let S = steps k i h hi in
     let e : i ≡ (k + S .0) % 8 = go (S .0) (S .1) (S .1 .are) in ap run e ∙ f (S .0) (S .1 .few)

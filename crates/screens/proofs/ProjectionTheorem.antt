@@ -1,4 +1,5 @@
--- Projection: what a screen is fed is a history of a single session; so each screen has its reference model, and no other screen's
+-- Projection: what a screen is fed is a history of a single session; so each screen has its reference model, and no
+-- other screen's
 -- calls change its answers.
 --     screen-alone         projection
 --     screens-references   with demand 3 of a single session, for each screen
@@ -17,7 +18,8 @@ use Rattle.model.specs.Model.{Record, idle, freshRecord, act, Does}
 use Rattle.reference.proofs.Theorems.{model-demand-3}
 use Rattle.screens.specs.ScreenCalls.{ScreenCall, ScreenAnswer, Running, nobodyRuns}
 use Rattle.screens.specs.EightRecords.{at, runs, DoesAll, eightFresh}
-use Rattle.screens.specs.Projection.{Fed, fedTo, followed, before, project, callsOf, answersOf, ownCalls, ownAnswers}
+use Rattle.screens.specs.Projection.{Fed, fedTo, followed, before, project, callsOf, answersOf, ownCalls}
+use Rattle.screens.specs.Projection.{ownAnswers}
 use Rattle.screens.specs.Statements.{ScreenAlone, ScreensReferences, Isolation}
 use Rattle.screens.proofs.TargetLaws.{SameRunning}
 use Rattle.screens.proofs.EightLaws.{Moved, does-eight, does-moved, does-follows}
@@ -37,7 +39,8 @@ alone i hi rs long run same (c ∷ cs) (a ∷ xs) (call {r′ = rs′} d h) =
         → History Does (at rs i) (callsOf (before o (project i (followed run c a) cs xs)))
         (answersOf (before o (project i (followed run c a) cs xs)))
     go none e k =
-        subst (λ (r : Record). History Does r (ownCalls i (followed run c a) cs xs) (ownAnswers i (followed run c a) cs xs)) e k
+        subst (λ (r : Record). History Does r (ownCalls i (followed run c a) cs xs)
+        (ownAnswers i (followed run c a) cs xs)) e k
     go (some f) e k = call e k
 
 pub screen-alone : ScreenAlone
@@ -65,7 +68,8 @@ screens-references i hi cs xs h =
 -- ---- isolation
 
 -- a session's answers go by its record and its calls
-pub same-answers : (r : Record) (cs : List Call) (xs ys : List Answer) → History Does r cs xs → History Does r cs ys → xs ≡ ys
+pub same-answers : (r : Record) (cs : List Call) (xs ys : List Answer) → History Does r cs xs → History Does r cs ys
+    → xs ≡ ys
 same-answers r [] [] [] done done = refl
 same-answers r (c ∷ cs) (x ∷ xs) (y ∷ ys) (call {r′} d h) (call {r′ = r″} e k) =
     let q : r″ ≡ r′ = e .leaves ∙ sym (d .leaves) in
@@ -81,8 +85,10 @@ isolation-from i hi rs qs l m e run run′ f g cs ds xs ys h k s =
     same-answers (at rs i) (ownCalls i run cs xs) (ownAnswers i run cs xs) (ownAnswers i run′ ds ys)
     (alone i hi rs l run f cs xs h)
     (subst (λ (l : List Call). History Does (at rs i) l (ownAnswers i run′ ds ys)) (sym s)
-    (subst (λ (r : Record). History Does r (ownCalls i run′ ds ys) (ownAnswers i run′ ds ys)) (sym e) (alone i hi qs m run′ g ds ys k)))
+    (subst (λ (r : Record). History Does r (ownCalls i run′ ds ys) (ownAnswers i run′ ds ys)) (sym e)
+    (alone i hi qs m run′ g ds ys k)))
 
 pub isolation : Isolation eightFresh DoesAll
 isolation i hi cs ds xs ys h k s =
-    isolation-from i hi eightFresh eightFresh refl refl refl nobodyRuns nobodyRuns fresh-idle fresh-idle cs ds xs ys h k s
+    isolation-from i hi eightFresh eightFresh refl refl refl nobodyRuns nobodyRuns fresh-idle fresh-idle cs ds xs ys h
+    k s

@@ -16,15 +16,18 @@ use Rattle.formats.specs.Checks.{check, firstNo, buildChecks}
 use Rattle.formats.specs.Inputs.{Inputs, sizesIn}
 use Rattle.formats.proofs.CheckLaws.{firstNo-yes}
 use Rattle.tables.specs.declared.answers.Reached.{Reached}
-use Rattle.model.specs.Calls.{Call, load, start, advance, cancel, read, Answer, refused, parts, more, finished, Outcome, outcome, isRefused}
+use Rattle.model.specs.Calls.{Call, load, start, advance, cancel, read, Answer, refused, parts, more, finished, Outcome}
+use Rattle.model.specs.Calls.{outcome, isRefused}
 use Rattle.model.specs.Calls.{Phase, mayLoad, isRunning}
 use Rattle.model.specs.Refusals.{refusal}
-use Rattle.model.specs.Model.{Record, stageOf, acted, lastAnswer, idle, loadedRecord, started, stepped, advanceWith, partNext, proceeds, unless, act, Does}
+use Rattle.model.specs.Model.{Record, stageOf, acted, lastAnswer, idle, loadedRecord, started, stepped, advanceWith}
+use Rattle.model.specs.Model.{partNext, proceeds, unless, act, Does}
 use Rattle.model.proofs.LeftOpenLaws.{refused-unchanged}
 use Rattle.reference.specs.OwnAnswers.{Own, refuses, loads, starts, goes-on, finishes, cancels, reads}
 use Rattle.screens.specs.Projection.{stillRuns}
 
-pub act-runs : (r : Record) (c : Call) → isRunning (act r c .record′ .phase) ≡ stillRuns (isRunning (r .phase)) (act r c .answer)
+pub act-runs : (r : Record) (c : Call)
+    → isRunning (act r c .record′ .phase) ≡ stillRuns (isRunning (r .phase)) (act r c .answer)
 unfolding act unless proceeds advanceWith stillRuns idle started stepped isRunning
 act-runs r c = go (refusal (stageOf r) c) c
   where
@@ -43,7 +46,8 @@ act-runs r c = go (refusal (stageOf r) c) c
     told b none = refl
     told b (some o) = refl
 
-    go : (n : ℕ) (d : Call) → isRunning (unless n r d .record′ .phase) ≡ stillRuns (isRunning (r .phase)) (unless n r d .answer)
+    go : (n : ℕ) (d : Call) → isRunning (unless n r d .record′ .phase) ≡ stillRuns (isRunning (r .phase))
+        (unless n r d .answer)
     go (suc n) d = refl
     go zero (load x) = refl
     go zero (start x vs bs) = refl
@@ -90,7 +94,8 @@ pub load-accepted : (r : Record) (x : Inputs) → isRunning (r .phase) ≡ false
 unfolding act unless proceeds refusal
 load-accepted r x m e =
     let k : refusal (stageOf r) (load x) ≡ 0 =
-    firstNo-yes 1 (mayLoad (r .phase)) (buildChecks (x .plan) (x .rules) (length (x .nodeTable)) (length (x .stateTable)))
+    firstNo-yes 1 (mayLoad (r .phase)) (buildChecks (x .plan) (x .rules) (length (x .nodeTable))
+    (length (x .stateTable)))
     (idle-loads (r .phase) m) ∙ e in
     record {
       tells = sym (ap (λ (n : ℕ). unless n r (load x) .answer) k);

@@ -24,11 +24,13 @@ use Rattle.model.specs.Model.{Record, freshRecord, proceeds, unless, act, Does}
 use Rattle.reference.specs.Reference.{Reference, newReference, phase, proceed, decided, step}
 use Rattle.reference.specs.Demand3.{Conforms, after, Agrees}
 use Rattle.reference.proofs.Theorems.{model-demand-3}
-use Rattle.screens.specs.ScreenCalls.{ScreenCall, ScreenAnswer, one, loads, answerIn, Target, nobody, everyScreen, screen, turn, target}
+use Rattle.screens.specs.ScreenCalls.{ScreenCall, ScreenAnswer, one, loads, answerIn, Target, nobody, everyScreen}
+use Rattle.screens.specs.ScreenCalls.{screen, turn, target}
 use Rattle.screens.specs.ScreenCalls.{turnAnswer}
 use Rattle.screens.specs.EightRecords.{at, runs, ActedAll, actOn, actAll, DoesAll, eightFresh}
 use Rattle.screens.specs.Projection.{Fed, fed, fedBy, fedTo}
-use Rattle.screens.specs.EightReferences.{References, runningIn, put, ScreenConforms, referencesAfter, ScreensAgree, ScreensDemand3}
+use Rattle.screens.specs.EightReferences.{References, runningIn, put, ScreenConforms, referencesAfter}
+use Rattle.screens.specs.EightReferences.{ScreensAgree, ScreensDemand3}
 use Rattle.screens.proofs.RecordLaws.{load-accepted, acts}
 use Rattle.screens.proofs.TargetLaws.{Rightly, rightly, SameRunning, target-same}
 use Rattle.screens.proofs.EightLaws.{on-target, answer-turn, Moved, does-eight, does-moved}
@@ -50,7 +52,8 @@ tied-runs r b t =
     go (isRunning (r .phase)) (isRunning (phase (b .state)))
     (tied-next r (act r cancel .record′) b cancel (act r cancel .answer) t (acts r cancel) .0)
   where
-    go : (p q : Bool) → Conforms (decided (firstNo (check 1 q ∷ [])) b cancel) (unless (firstNo (check 1 p ∷ [])) r cancel .answer) → p ≡ q
+    go : (p q : Bool) → Conforms (decided (firstNo (check 1 q ∷ [])) b cancel)
+        (unless (firstNo (check 1 p ∷ [])) r cancel .answer) → p ≡ q
     go true true e = refl
     go true false e = absurd (true-false (sym (ap isRefused e)))
     go false true e = absurd (true-false (ap isRefused e))
@@ -78,7 +81,8 @@ module _ (rs rs′ : List Record) (bs : References) (t : TiedAll rs bs) (i : ℕ
         rw (ne-eqb j i (λ e. q (sym e))) (subst (λ (r : Record). Tied r (bs i)) (sym e) (t i hi)))
   ]
 
-  fed-tied : (u : Target) (a : ScreenAnswer) → ScreenConforms bs u a → Moved (fedBy i u (answerIn a)) (at rs i) (at rs′ i)
+  fed-tied : (u : Target) (a : ScreenAnswer) → ScreenConforms bs u a
+      → Moved (fedBy i u (answerIn a)) (at rs i) (at rs′ i)
       → Tied (at rs′ i) (referencesAfter bs u a i)
   unfolding fedBy answerIn
   fed-tied (nobody n) a f e = subst (λ (r : Record). Tied r (bs i)) (sym e) (t i hi)
@@ -96,13 +100,19 @@ module _ (rs : List Record) (bs : References) (t : TiedAll rs bs) where
   target-conforms : (u : Target) → Rightly (runs rs) u → ScreenConforms bs u (actOn rs u .answer)
   unfolding actOn answerIn
   target-conforms (nobody n) h = refl
-  target-conforms (everyScreen x) h =
-      (refl, λ i l. tied-next (at rs i) _ (bs i) (load x) Answer.accepted (t i l) (load-accepted (at rs i) x (h .0 i l) (h .1)) .0)
+  target-conforms (everyScreen x) h = (
+    refl,
+    λ i l. tied-next (at rs i) _ (bs i) (load x) Answer.accepted (t i l)
+        (load-accepted (at rs i) x (h .0 i l) (h .1)) .0,
+  )
   target-conforms (screen j c) h = (refl, acts-conforms j c h)
   target-conforms (turn j x) h =
       let a : Answer = act (at rs j) (advance x) .answer in
-      let e : answerIn (turnAnswer j a) ≡ a = answer-turn j a in
-      (ap (turnAnswer j) (sym e), subst (λ (y : Answer). Conforms (step (bs j) (advance x)) y) (sym e) (acts-conforms j (advance x) (h .0)))
+      let e : answerIn (turnAnswer j a) ≡ a = answer-turn j a in (
+        ap (turnAnswer j) (sym e),
+        subst (λ (y : Answer). Conforms (step (bs j) (advance x)) y) (sym e)
+            (acts-conforms j (advance x) (h .0)),
+      )
 
   does-conforms : length rs ≡ 8 → (c : ScreenCall) (a : ScreenAnswer) (rs′ : List Record) → DoesAll rs c a rs′
       → ScreenConforms bs (target (runningIn bs) c) a
@@ -111,7 +121,8 @@ module _ (rs : List Record) (bs : References) (t : TiedAll rs bs) where
       (target-conforms (target (runs rs) c) (rightly (runs rs) c))
 
 -- one call
-pub tied-step : (rs rs′ : List Record) (bs : References) (c : ScreenCall) (a : ScreenAnswer) → length rs ≡ 8 → TiedAll rs bs
+pub tied-step : (rs rs′ : List Record) (bs : References) (c : ScreenCall) (a : ScreenAnswer) → length rs ≡ 8
+    → TiedAll rs bs
     → DoesAll rs c a rs′
     → ScreenConforms bs (target (runningIn bs) c) a × TiedAll rs′ (referencesAfter bs (target (runningIn bs) c) a)
 tied-step rs rs′ bs c a long t d =
@@ -125,8 +136,11 @@ agrees-from : (rs : List Record) (bs : References) → length rs ≡ 8 → TiedA
     → (cs : List ScreenCall) (xs : List ScreenAnswer) → History DoesAll rs cs xs → ScreensAgree bs cs xs
 agrees-from rs bs long t [] [] done = tt
 agrees-from rs bs long t (c ∷ cs) (a ∷ xs) (call {r′ = rs′} d h) =
-    let n = tied-step rs rs′ bs c a long t d in
-    (n .0, agrees-from rs′ (referencesAfter bs (target (runningIn bs) c) a) (does-eight rs rs′ c a long d) (n .1) cs xs h)
+    let n = tied-step rs rs′ bs c a long t d in (
+      n .0,
+      agrees-from rs′ (referencesAfter bs (target (runningIn bs) c) a) (does-eight rs rs′ c a long d)
+          (n .1) cs xs h,
+    )
 
 pub fresh-tied : TiedAll eightFresh (λ i. newReference)
 fresh-tied i h = subst (λ (r : Record). Tied r newReference) (sym (fresh-at i h)) model-demand-3

@@ -13,7 +13,8 @@ use Rattle.model.specs.Calls.{advance, Answer, refused}
 use Rattle.model.specs.History.{History, done, call}
 use Rattle.model.specs.Model.{Record, act}
 use Rattle.reference.specs.OwnAnswers.{Own}
-use Rattle.screens.specs.ScreenCalls.{ScreenCall, ScreenAnswer, one, loads, answerIn, Running, nobodyRuns, Target, nobody, everyScreen}
+use Rattle.screens.specs.ScreenCalls.{ScreenCall, ScreenAnswer, one, loads, answerIn, Running, nobodyRuns, Target}
+use Rattle.screens.specs.ScreenCalls.{nobody, everyScreen}
 use Rattle.screens.specs.ScreenCalls.{screen, turn, target, turnAnswer}
 use Rattle.screens.specs.EightRecords.{at, runs, actOn, DoesAll, eightFresh}
 use Rattle.screens.specs.Projection.{followed, runningAfter}
@@ -49,10 +50,12 @@ pub history-shaped : (rs : List Record) (run : Running) → length rs ≡ 8 → 
 history-shaped rs run long same [] [] done = tt
 history-shaped rs run long same (c ∷ cs) (a ∷ xs) (call {r′ = rs′} d h) = (
   rw (target-same run (runs rs) same c, d .tells, on-target rs c long) (target-shaped rs (target (runs rs) c)),
-  history-shaped rs′ (followed run c a) (does-eight rs rs′ c a long d) (does-follows rs rs′ c a long d run same) cs xs h,
+  history-shaped rs′ (followed run c a) (does-eight rs rs′ c a long d)
+      (does-follows rs rs′ c a long d run same) cs xs h,
 )
 
-pub fresh-shaped : (cs : List ScreenCall) (xs : List ScreenAnswer) → History DoesAll eightFresh cs xs → Shaped nobodyRuns cs xs
+pub fresh-shaped : (cs : List ScreenCall) (xs : List ScreenAnswer) → History DoesAll eightFresh cs xs
+    → Shaped nobodyRuns cs xs
 fresh-shaped cs xs h = history-shaped eightFresh nobodyRuns refl fresh-idle cs xs h
 
 pub shaped-split : (run : Running) (cs ds : List ScreenCall) (xs ys : List ScreenAnswer) → length cs ≡ length xs

@@ -1,6 +1,7 @@
 -- A history cut at an accepted Load: what follows it starts from eight records as after a first Load.
 --     since-load             so it does, and what was lent to that Load passed 2 to 11
---     isolation-since-load   "Between two accepted Loads, for the same own calls and turns with the same lent bytes in the same order, what
+--     isolation-since-load   "Between two accepted Loads, for the same own calls and turns with the same lent bytes in
+--                            the same order, what
 --                            a screen reads, and each of its refusals except Load's, must be the same"
 -- Assumes nothing.
 use Prim.Native.Nat.{ℕ, zero, suc, _<_}
@@ -15,7 +16,8 @@ use Rattle.formats.specs.Inputs.{Inputs, Sizes, sizesIn}
 use Rattle.model.specs.Calls.{isRunning}
 use Rattle.model.specs.History.{History, done, call}
 use Rattle.model.specs.Model.{Record, idle, freshRecord, loadedRecord}
-use Rattle.screens.specs.ScreenCalls.{ScreenCall, loadAll, ScreenAnswer, one, loads, deals, nobodyRuns, loadAllChecks, loadTarget}
+use Rattle.screens.specs.ScreenCalls.{ScreenCall, loadAll, ScreenAnswer, one, loads, deals, nobodyRuns}
+use Rattle.screens.specs.ScreenCalls.{loadAllChecks, loadTarget}
 use Rattle.screens.specs.ScreenCalls.{target}
 use Rattle.screens.specs.EightRecords.{at, runs, actOn, actAll, ActedAll, DoesAll, eightFresh}
 use Rattle.screens.specs.Statements.{IsolationSinceLoad}
@@ -44,7 +46,8 @@ record Reached (cs : List ScreenCall) (xs : List ScreenAnswer) : Type 0 where
   eight : length records ≡ 8
   history : History DoesAll records cs xs
 
-reached : (rs : List Record) → length rs ≡ 8 → (before cs : List ScreenCall) (told xs : List ScreenAnswer) → length before ≡ length told
+reached : (rs : List Record) → length rs ≡ 8 → (before cs : List ScreenCall) (told xs : List ScreenAnswer)
+    → length before ≡ length told
     → History DoesAll rs (before ++ cs) (told ++ xs) → Reached cs xs
 reached rs long [] cs [] xs e h = record { records = rs; eight = long; history = h }
 reached rs long [] cs (a ∷ told) xs e h = absurd (omega arith)
@@ -57,10 +60,12 @@ isLoads (one a) = false
 isLoads (loads k) = true
 isLoads (deals k a) = false
 
-load-passes : (rs : List Record) (x : Inputs) (k : ℕ) → length rs ≡ 8 → actAll rs (loadAll x) .answer ≡ loads k → Passes x
+load-passes : (rs : List Record) (x : Inputs) (k : ℕ) → length rs ≡ 8 → actAll rs (loadAll x) .answer ≡ loads k
+    → Passes x
 unfolding actOn target loadTarget isLoads
 load-passes rs x k long e =
-    go (firstNo (loadAllChecks (runs rs) x)) (rightly (runs rs) (loadAll x)) (sym (ap (λ (t : ActedAll). t .answer) (on-target rs (loadAll x) long)) ∙ e)
+    go (firstNo (loadAllChecks (runs rs) x)) (rightly (runs rs) (loadAll x))
+    (sym (ap (λ (t : ActedAll). t .answer) (on-target rs (loadAll x) long)) ∙ e)
   where
     go : (n : ℕ) → Rightly (runs rs) (loadTarget n x) → actOn rs (loadTarget n x) .answer ≡ loads k → Passes x
     go zero r q = r .1
@@ -77,7 +82,8 @@ first-load rs long x k cs xs (call {r′ = rs′} d h) = record {
   history = subst (λ (l : List Record). History DoesAll l cs xs) (d .leaves ∙ load-clears rs x k (sym (d .tells)) .1) h;
 }
 
-pub since-load : (x : Inputs) (before cs : List ScreenCall) (told xs : List ScreenAnswer) (k : ℕ) → length before ≡ length told
+pub since-load : (x : Inputs) (before cs : List ScreenCall) (told xs : List ScreenAnswer) (k : ℕ)
+    → length before ≡ length told
     → History DoesAll eightFresh (before ++ (loadAll x ∷ cs)) (told ++ (loads k ∷ xs)) → SinceLoad x cs xs
 since-load x before cs told xs k e h =
     let R = reached eightFresh refl before (loadAll x ∷ cs) told (loads k ∷ xs) e h in
@@ -88,5 +94,6 @@ since-load x before cs told xs k e h =
 pub isolation-since-load : IsolationSinceLoad eightFresh DoesAll
 isolation-since-load i hi x y z before cs before′ ds told xs told′ ys k l m n h j s =
     isolation-from i hi (eightLoaded (sizesIn x)) (eightLoaded (sizesIn y)) refl refl
-    (ap (λ (w : Sizes). at (eightLoaded w) i) z) nobodyRuns nobodyRuns (loaded-idle (sizesIn x)) (loaded-idle (sizesIn y)) cs ds xs ys
+    (ap (λ (w : Sizes). at (eightLoaded w) i) z) nobodyRuns nobodyRuns (loaded-idle (sizesIn x))
+    (loaded-idle (sizesIn y)) cs ds xs ys
     (since-load x before cs told xs k m h .history) (since-load y before′ ds told′ ys l n j .history) s

@@ -93,7 +93,8 @@ served-past s h = go (ltb s 7) refl
 
 -- the rest of a way after its first step
 rest : (k i d : ℕ) → Steps k i (suc d) → Steps (onePast k) i d
-rest k i d S = subst (Steps (onePast k) i) (omega arith) (between k (onePast k) i 1 (suc d) (past-one k (S .from)) S (omega arith))
+rest k i d S = subst (Steps (onePast k) i) (omega arith)
+    (between k (onePast k) i 1 (suc d) (past-one k (S .from)) S (omega arith))
 
 -- ---- the next running screen
 
@@ -104,7 +105,8 @@ pub record First (k d : ℕ) (o : Option ℕ) : Type 0 where
   pub steps-to : Steps k screen way
   pub before : way ≤ d
 
-pub next-first : (f : ℕ) (run : Running) (k i d : ℕ) → Steps k i d → d < f → run i ≡ true → First k d (nextRunningIn f run k)
+pub next-first : (f : ℕ) (run : Running) (k i d : ℕ) → Steps k i d → d < f → run i ≡ true
+    → First k d (nextRunningIn f run k)
 unfolding nextRunningIn
 next-first zero run k i d S h r = absurd (omega arith)
 next-first (suc f) run k i d S h r = go (λ T l. next-first f run (onePast k) i (d - 1) T l r) (run k) refl
@@ -113,18 +115,27 @@ next-first (suc f) run k i d S h r = go (λ T l. next-first f run (onePast k) i 
     at-once (inl p) z = omega arith
     at-once (inr p) z = absurd (omega (arith, S .from))
 
-    further : First (onePast k) (d - 1) (nextRunningIn f run (onePast k)) → (d ≡ 0 → ⊥) → First k d (nextRunningIn f run (onePast k))
+    further : First (onePast k) (d - 1) (nextRunningIn f run (onePast k)) → (d ≡ 0 → ⊥)
+        → First k d (nextRunningIn f run (onePast k))
     further F z = record {
       screen = F .screen;
       way = 1 + F .way;
       found = F .found;
-      steps-to = onward k (onePast k) (F .screen) 1 (F .way) (past-one k (S .from)) (F .steps-to) (omega (arith, F .before, S .few, z));
+      steps-to = onward k (onePast k) (F .screen) 1 (F .way) (past-one k (S .from)) (F .steps-to)
+          (omega (arith, F .before, S .few, z));
       before = omega (arith, F .before, z);
     }
 
     go : (Steps (onePast k) i (d - 1) → d - 1 < f → First (onePast k) (d - 1) (nextRunningIn f run (onePast k)))
         → (b : Bool) → run k ≡ b → First k d (cond b (some k) (nextRunningIn f run (onePast k)))
-    go later true e = record { screen = k; way = 0; found = refl; steps-to = at-first k (S .from); before = omega arith }
+    go later true e = record {
+      screen = k;
+      way = 0;
+      found = refl;
+      steps-to = at-first k
+          (S .from);
+      before = omega arith;
+    }
     go later false e = elim (ℕ-discrete d 0) [
       | yes z ↦ absurd (true-false (sym r ∙ ap run (at-once (S .are) z) ∙ e))
       | no z ↦ (let q : d ≡ suc (d - 1) = omega (arith, z) in

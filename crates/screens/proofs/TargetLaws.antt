@@ -2,7 +2,8 @@
 --     one-past-in      the screen to try first is one of the eight
 --     any-no, any-yes  whether any screen runs
 --     next-runs        the screen that a deal serves is one of the eight, and runs
---     Rightly, rightly what holds of a call's target: a Load's screens are at rest, and what it lends passes 2 to 11; a screen is one of
+--     Rightly, rightly what holds of a call's target: a Load's screens are at rest, and what it lends passes 2 to 11; a
+--     screen is one of
 --                      the eight; a turn is a screen's that runs
 --     target-same      a target goes by who of the eight runs
 -- Assumes nothing.
@@ -22,8 +23,10 @@ use Rattle.formats.specs.Checks.{Check, check, firstNo, buildChecks}
 use Rattle.formats.specs.Inputs.{Inputs}
 use Rattle.formats.proofs.CheckLaws.{firstNo-head, firstNo-tail}
 use Rattle.model.specs.Calls.{Call, start, cancel, read}
-use Rattle.screens.specs.ScreenCalls.{ScreenCall, loadAll, startOn, cancelOn, readOn, deal, Running, onePast, nextRunningIn, nextRunning}
-use Rattle.screens.specs.ScreenCalls.{anyRuns, Target, nobody, everyScreen, screen, turn, loadAllChecks, loadTarget, dealTarget, numbered}
+use Rattle.screens.specs.ScreenCalls.{ScreenCall, loadAll, startOn, cancelOn, readOn, deal, Running, onePast}
+use Rattle.screens.specs.ScreenCalls.{nextRunningIn, nextRunning}
+use Rattle.screens.specs.ScreenCalls.{anyRuns, Target, nobody, everyScreen, screen, turn, loadAllChecks}
+use Rattle.screens.specs.ScreenCalls.{loadTarget, dealTarget, numbered}
 use Rattle.screens.specs.ScreenCalls.{target}
 
 pub one-past-in : (k : ℕ) → k < 8 → onePast k < 8
@@ -64,7 +67,8 @@ unfolding anyRuns
 any-which zero run e = absurd (true-false (sym e))
 any-which (suc n) run e = go (any-which n run) (run n) refl e
   where
-    go : (anyRuns n run ≡ true → (i : ℕ) × (i < n) × (run i ≡ true)) → (b : Bool) → run n ≡ b → (b || anyRuns n run) ≡ true
+    go : (anyRuns n run ≡ true → (i : ℕ) × (i < n) × (run i ≡ true)) → (b : Bool) → run n ≡ b
+        → (b || anyRuns n run) ≡ true
         → (i : ℕ) × (i < suc n) × (run i ≡ true)
     go later true q e = (n, omega arith, q)
     go later false q e = let w = later e in (w .0, omega (arith, w .1), w .2)
@@ -79,7 +83,8 @@ next-runs (suc f) run k i h e = go (next-runs f run (onePast k) i (one-past-in k
     go : (nextRunningIn f run (onePast k) ≡ some i → (i < 8) × (run i ≡ true)) → (b : Bool) → run k ≡ b
         → cond b (some k) (nextRunningIn f run (onePast k)) ≡ some i → (i < 8) × (run i ≡ true)
     go later true q e =
-        let w : k ≡ i = Option·some-injective k i e in (subst (λ (m : ℕ). m < 8) w h, subst (λ (m : ℕ). run m ≡ true) w q)
+        let w : k ≡ i = Option·some-injective k i e in
+        (subst (λ (m : ℕ). m < 8) w h, subst (λ (m : ℕ). run m ≡ true) w q)
     go later false q e = later e
 
 -- ---- targets
@@ -153,7 +158,8 @@ module _ (run run′ : Running) (same : SameRunning run run′) where
   unfolding target
   target-same (loadAll x) =
       ap (λ (b : Bool). loadTarget (firstNo (check 1 (not b)
-      ∷ buildChecks (x .plan) (x .rules) (length (x .nodeTable)) (length (x .stateTable)))) x) (any-same 8 (omega arith))
+      ∷ buildChecks (x .plan) (x .rules) (length (x .nodeTable)) (length (x .stateTable)))) x)
+      (any-same 8 (omega arith))
   target-same (startOn i x vs bs) = refl
   target-same (cancelOn i) = refl
   target-same (readOn i) = refl

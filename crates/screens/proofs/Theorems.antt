@@ -1,16 +1,23 @@
--- What document 02, S-8, asks of eight screens, each sentence by its theorem. Here they are of the model; every form of the calls that
+-- What document 02, S-8, asks of eight screens, each sentence by its theorem. Here they are of the model; every form of
+-- the calls that
 -- refines it has them too.
 --
--- "One deal gives one advance to the next running screen after the one served last, going from 7 back to 0": deal-serves
--- "A deal with no screen running gives 1"; "gives 25, before everything else"; "0 after a Load, else one past the screen served, 0 past 7.
---   A deal tells that number and what the advance tells": screens-demand-3, by the definition of a call's target and of a turn's answer
--- "a screen that stays running is served within eight accepted deals": served-soon; and "while plan, rules and tables are as Load left them"
+-- "One deal gives one advance to the next running screen after the one served last, going from 7 back to 0":
+-- deal-serves
+-- "A deal with no screen running gives 1"; "gives 25, before everything else"; "0 after a Load, else one past the
+-- screen served, 0 past 7.
+--   A deal tells that number and what the advance tells": screens-demand-3, by the definition of a call's target and of
+--   a turn's answer
+-- "a screen that stays running is served within eight accepted deals": served-soon; and "while plan, rules and tables
+-- are as Load left them"
 --   every deal with a screen running is accepted: deal-taken
 -- "no other is served twice between two successive turns of it in one question": turns-apart, between-turns
--- "Between two accepted Loads, .. what a screen reads, and each of its refusals except Load's, must be the same": isolation,
+-- "Between two accepted Loads, .. what a screen reads, and each of its refusals except Load's, must be the same":
+-- isolation,
 --   isolation-since-load
 -- "Load is refused while any screen runs and clears them all": load-waits, load-clears, load-empties
--- "Each screen has a panel book of its own, fed with the accepted Loads, its own calls and its turns as advances": screen-alone,
+-- "Each screen has a panel book of its own, fed with the accepted Loads, its own calls and its turns as advances":
+-- screen-alone,
 --   screens-references, screens-demand-3
 -- A refused call alters nothing, and a refused deal tells no number: refused-alike
 --
@@ -87,9 +94,11 @@ screens-hold = record {
   deal-taken = deal-taken;
 }
 
-module _ {A B : Type 0} (StepA : A → ScreenCall → ScreenAnswer → A → Type 0) (StepB : B → ScreenCall → ScreenAnswer → B → Type 0)
+module _ {A B : Type 0} (StepA : A → ScreenCall → ScreenAnswer → A → Type 0)
+    (StepB : B → ScreenCall → ScreenAnswer → B → Type 0)
     (Seen : A → B → Type 0) where
-  pub screens-hold-of : Refines StepA StepB Seen → (a : A) (b : B) → Seen a b → say.Screens b StepB → say.Screens a StepA
+  pub screens-hold-of : Refines StepA StepB Seen → (a : A) (b : B) → Seen a b → say.Screens b StepB
+      → say.Screens a StepA
   screens-hold-of f a b i S = record {
     demand-3 = λ cs xs h. S .demand-3 cs xs (refines StepA StepB Seen f a b _ _ i h);
     references = λ j l cs xs h. S .references j l cs xs (refines StepA StepB Seen f a b _ _ i h);
@@ -98,8 +107,12 @@ module _ {A B : Type 0} (StepA : A → ScreenCall → ScreenAnswer → A → Typ
     isolation-since-load = λ j l x y z before cs before′ ds told xs told′ ys m n d e h k.
         S .isolation-since-load j l x y z before cs before′ ds told xs told′ ys m n d e
         (refines StepA StepB Seen f a b _ _ i h) (refines StepA StepB Seen f a b _ _ i k);
-    served-soon = λ j k before cs told xs l m e h. S .served-soon j k before cs told xs l m e (refines StepA StepB Seen f a b _ _ i h);
-    turns-apart = λ j k before cs told xs l m e h. S .turns-apart j k before cs told xs l m e (refines StepA StepB Seen f a b _ _ i h);
-    between-turns = λ j k n x before cs told xs e h. S .between-turns j k n x before cs told xs e (refines StepA StepB Seen f a b _ _ i h);
-    deal-taken = λ x before cs told xs k e h. S .deal-taken x before cs told xs k e (refines StepA StepB Seen f a b _ _ i h);
+    served-soon = λ j k before cs told xs l m e h. S .served-soon j k before cs told xs l m e
+        (refines StepA StepB Seen f a b _ _ i h);
+    turns-apart = λ j k before cs told xs l m e h. S .turns-apart j k before cs told xs l m e
+        (refines StepA StepB Seen f a b _ _ i h);
+    between-turns = λ j k n x before cs told xs e h. S .between-turns j k n x before cs told xs e
+        (refines StepA StepB Seen f a b _ _ i h);
+    deal-taken = λ x before cs told xs k e h. S .deal-taken x before cs told xs k e
+        (refines StepA StepB Seen f a b _ _ i h);
   }

@@ -1,4 +1,5 @@
--- "a screen that stays running is served within eight accepted deals, and no other is served twice between two successive turns of it in
+-- "a screen that stays running is served within eight accepted deals, and no other is served twice between two
+-- successive turns of it in
 -- one question": whatever is lent, and whatever the others start or cancel.
 --     nearing          the screens served before screen i lie on the way to it, each farther than the one before
 --     served-soon, turns-apart, between-turns    the sentences, from any place of a history on
@@ -17,17 +18,22 @@ use Rattle.list_laws.specs.Tests.{distinct}
 use Rattle.list_laws.proofs.BoolLaws.{true-false}
 use Rattle.formats.specs.Checks.{firstNo}
 use Rattle.formats.specs.Inputs.{Inputs}
-use Rattle.model.specs.Calls.{Call, start, advance, cancel, read, Answer, refused, parts, more, finished, outcome, isRefused}
+use Rattle.model.specs.Calls.{Call, start, advance, cancel, read, Answer, refused, parts, more, finished, outcome}
+use Rattle.model.specs.Calls.{isRefused}
 use Rattle.reference.specs.OwnAnswers.{Own, refuses, starts, cancels, reads}
-use Rattle.screens.specs.ScreenCalls.{ScreenCall, loadAll, startOn, cancelOn, readOn, deal, ScreenAnswer, one, loads, deals, answerIn}
-use Rattle.screens.specs.ScreenCalls.{Running, nobodyRuns, onePast, servedBy, nextRunningIn, nextRunning, Target, nobody, everyScreen}
-use Rattle.screens.specs.ScreenCalls.{screen, turn, loadAllChecks, loadTarget, dealTarget, numbered, target, turnAnswer}
+use Rattle.screens.specs.ScreenCalls.{ScreenCall, loadAll, startOn, cancelOn, readOn, deal, ScreenAnswer, one}
+use Rattle.screens.specs.ScreenCalls.{loads, deals, answerIn}
+use Rattle.screens.specs.ScreenCalls.{Running, nobodyRuns, onePast, servedBy, nextRunningIn, nextRunning, Target}
+use Rattle.screens.specs.ScreenCalls.{nobody, everyScreen}
+use Rattle.screens.specs.ScreenCalls.{screen, turn, loadAllChecks, loadTarget, dealTarget, numbered, target}
+use Rattle.screens.specs.ScreenCalls.{turnAnswer}
 use Rattle.screens.specs.EightRecords.{DoesAll, eightFresh}
 use Rattle.screens.specs.Projection.{Fed, fed, fedBy, stillRuns, stillRunsBy, followed, runningAfter}
 use Rattle.screens.specs.Turns.{turnsOf, numberAfter, HandedOn, Uncancelled, until}
 use Rattle.screens.specs.Statements.{ServedSoon, TurnsApart, BetweenTurns}
 use Rattle.screens.proofs.TargetLaws.{Rightly, rightly, next-runs}
-use Rattle.screens.proofs.Steps.{Steps, steps, at-first, one-end, onward, between, past-one, served-past, First, next-first, Nearing}
+use Rattle.screens.proofs.Steps.{Steps, steps, at-first, one-end, onward, between, past-one, served-past, First}
+use Rattle.screens.proofs.Steps.{next-first, Nearing}
 use Rattle.screens.proofs.Steps.{nearing-few, nearing-distinct, until-holds}
 use Rattle.screens.proofs.ShapeLaws.{ShapedBy, Shaped, fresh-shaped, shaped-split}
 
@@ -58,18 +64,21 @@ abbrev Premises : ℕ → ℕ → ℕ → List ScreenCall → List ScreenAnswer 
 Premises i o D cs xs = (run : Running) (k lo : ℕ) → Shaped run cs xs → Steps o k lo → lo ≤ D → run i ≡ true
     → HandedOn k cs xs → Uncancelled i cs xs → Nearing o lo D (until i (turnsOf xs))
 
-module _ (i o D : ℕ) (W : Steps o i D) (run run′ : Running) (k lo : ℕ) (a : ScreenAnswer) (cs : List ScreenCall) (xs : List ScreenAnswer)
+module _ (i o D : ℕ) (W : Steps o i D) (run run′ : Running) (k lo : ℕ) (a : ScreenAnswer) (cs : List ScreenCall)
+    (xs : List ScreenAnswer)
     (later : Premises i o D cs xs) (shaped : Shaped run′ cs xs) (S : Steps o k lo) (l : lo ≤ D) (runs : run i ≡ true)
     (on : HandedOn (numberAfter k a) cs xs) (un : Uncancelled i cs xs) where
   -- a call that is no turn
   quietly : (y : Answer) → a ≡ one y → run′ i ≡ true → Nearing o lo D (until i (turnsOf (a ∷ xs)))
   unfolding turnsOf
   quietly y e r =
-      subst (λ (t : ScreenAnswer). HandedOn (numberAfter k t) cs xs → Nearing o lo D (until i (turnsOf (t ∷ xs)))) (sym e)
+      subst (λ (t : ScreenAnswer). HandedOn (numberAfter k t) cs xs → Nearing o lo D (until i (turnsOf (t ∷ xs))))
+      (sym e)
       (λ h. later run′ k lo shaped S l r h un) on
 
   -- a call on screen m
-  screened : (m : ℕ) (d : Call) (b : Bool) → run′ i ≡ stillRunsBy (run i) (fedBy i (cond b (screen m d) (nobody 25)) (answerIn a))
+  screened : (m : ℕ) (d : Call) (b : Bool)
+      → run′ i ≡ stillRunsBy (run i) (fedBy i (cond b (screen m d) (nobody 25)) (answerIn a))
       → ShapedBy (cond b (screen m d) (nobody 25)) a → (i ≡ m → Own d (answerIn a) → stillRuns true (answerIn a) ≡ true)
       → Nearing o lo D (until i (turnsOf (a ∷ xs)))
   unfolding stillRunsBy fedBy
@@ -80,7 +89,8 @@ module _ (i o D : ℕ) (W : Steps o i D) (run run′ : Running) (k lo : ℕ) (a 
   ])
 
   -- a turn of screen s
-  turned : (s : ℕ) (x : Inputs) (e : ℕ) → Steps k s e → e ≤ D - lo → run′ i ≡ stillRunsBy (run i) (fedBy i (turn s x) (answerIn a))
+  turned : (s : ℕ) (x : Inputs) (e : ℕ) → Steps k s e → e ≤ D - lo
+      → run′ i ≡ stillRunsBy (run i) (fedBy i (turn s x) (answerIn a))
       → ShapedBy (turn s x) a → Nearing o lo D (until i (turnsOf (a ∷ xs)))
   unfolding stillRunsBy fedBy turnAnswer until turnsOf
   turned s x e T m now h = go (isRefused (answerIn a)) refl (h .0)
@@ -96,7 +106,8 @@ module _ (i o D : ℕ) (W : Steps o i D) (run run′ : Running) (k lo : ℕ) (a 
 
       far : lo + e < D → Steps o (onePast s) (suc (lo + e))
       far n = let u : lo + e + 1 ≡ suc (lo + e) = omega arith in
-          subst (Steps o (onePast s)) u (onward o s (onePast s) (lo + e) 1 way (past-one s (T .to)) (omega (arith, W .few)))
+          subst (Steps o (onePast s)) u (onward o s (onePast s) (lo + e) 1 way (past-one s (T .to))
+          (omega (arith, W .few)))
 
       other : (i ≡ s → ⊥) → run′ i ≡ true
       other z = now ∙ rw (ne-eqb i s z) runs
@@ -118,8 +129,14 @@ module _ (i o D : ℕ) (W : Steps o i D) (run run′ : Running) (k lo : ℕ) (a 
           (elim (ℕ-discrete i s) [
             | yes z ↦ rw (served-past s (T .to), eq-eqb i s z) tt
             | no z ↦ (let near : lo + e < D = strict z in
-                rw (served-past s (T .to), ne-eqb i s z)
-                (lo + e, omega arith, near, way, later run′ (onePast s) (suc (lo + e)) shaped (far near) (omega arith) (other z) (told p) un))
+                rw (served-past s (T .to), ne-eqb i s z) (
+                  lo + e,
+                  omega arith,
+                  near,
+                  way,
+                  later run′ (onePast s) (suc (lo + e)) shaped (far near) (omega arith)
+                      (other z) (told p) un,
+                ))
           ])
 
   loading : (x : Inputs) (t : Target) → Rightly run t → (n : ℕ) → t ≡ loadTarget n x
@@ -131,7 +148,8 @@ module _ (i o D : ℕ) (W : Steps o i D) (run run′ : Running) (k lo : ℕ) (a 
   loading x t r (suc n) e now h = quietly (refused (suc n)) h (now ∙ runs)
 
 -- a deal serves the next screen that runs
-pub to-turn : (run : Running) (k : ℕ) (x : Inputs) → k < 8 → (s : ℕ) → nextRunningIn 8 run k ≡ some s → target run (deal k x) ≡ turn s x
+pub to-turn : (run : Running) (k : ℕ) (x : Inputs) → k < 8 → (s : ℕ) → nextRunningIn 8 run k ≡ some s
+    → target run (deal k x) ≡ turn s x
 unfolding target numbered nextRunning dealTarget
 to-turn run k x h s e = rw (lt-ltb k 8 h) (ap (λ (t : Option ℕ). dealTarget t x) e)
 
@@ -158,7 +176,8 @@ module _ (i o D : ℕ) (W : Steps o i D) where
       ap (λ (m : ℕ). target run (deal m x)) (on .0) ∙ to-turn run k x (S .to) (F .screen) (F .found) in
       turned i o D W run (followed run (deal j x) a) k lo a cs xs later (s .1) S l r (on .1) (un .1)
       (F .screen) x (F .way) (F .steps-to) (F .before)
-      (ap (λ (t : Target). stillRunsBy (run i) (fedBy i t (answerIn a))) z) (subst (λ (t : Target). ShapedBy t a) z (s .0))
+      (ap (λ (t : Target). stillRunsBy (run i) (fedBy i t (answerIn a))) z)
+      (subst (λ (t : Target). ShapedBy t a) z (s .0))
 
   pub nearing : (cs : List ScreenCall) (xs : List ScreenAnswer) → Premises i o D cs xs
   unfolding until turnsOf
@@ -173,7 +192,8 @@ apart-from : (run : Running) (k i : ℕ) (cs : List ScreenCall) (xs : List Scree
     → Shaped run cs xs → HandedOn k cs xs → Uncancelled i cs xs → distinct (until i (turnsOf xs)) ≡ true
 apart-from run k i cs xs hk hi r s on un =
     let W = steps k i hk hi in
-    nearing-distinct k 0 (W .0) (until i (turnsOf xs)) (nearing i k (W .0) (W .1) cs xs run k 0 s (at-first k hk) (omega arith) r on un)
+    nearing-distinct k 0 (W .0) (until i (turnsOf xs))
+    (nearing i k (W .0) (W .1) cs xs run k 0 s (at-first k hk) (omega arith) r on un)
 
 pub turns-apart : TurnsApart eightFresh DoesAll
 turns-apart i k before cs told xs hi hk e h r on un =
@@ -185,7 +205,8 @@ served-soon i k before cs told xs hi hk e h r on un many =
     let W = steps k i hk hi in
     let s = shaped-split nobodyRuns before cs told xs e (fresh-shaped (before ++ cs) (told ++ xs) h) in
     let few = nearing-few k 0 (W .0) (until i (turnsOf xs)) (omega arith)
-    (nearing i k (W .0) (W .1) cs xs (runningAfter nobodyRuns before told) k 0 s (at-first k hk) (omega arith) r on un) in
+    (nearing i k (W .0) (W .1) cs xs (runningAfter nobodyRuns before told) k 0 s (at-first k hk)
+    (omega arith) r on un) in
     until-holds i 8 (turnsOf xs) (omega (arith, few, W .1 .few)) many
 
 -- ---- between two turns of a screen

@@ -15,7 +15,8 @@ use lib.ListN.{length, getD, set, replicate}
 use Rattle.formats.specs.Inputs.{Inputs, sizesIn}
 use Rattle.model.specs.Calls.{Call, advance, refused, isRunning}
 use Rattle.model.specs.Model.{Record, freshRecord, loadedRecord, act}
-use Rattle.screens.specs.ScreenCalls.{ScreenCall, ScreenAnswer, one, loads, Running, Target, nobody, everyScreen, screen, turn}
+use Rattle.screens.specs.ScreenCalls.{ScreenCall, ScreenAnswer, one, loads, Running, Target, nobody, everyScreen}
+use Rattle.screens.specs.ScreenCalls.{screen, turn}
 use Rattle.screens.specs.ScreenCalls.{target, turnAnswer}
 
 abbrev pub at : List Record → ℕ → Record
@@ -32,7 +33,11 @@ pub record ActedAll : Type 0 where
 unfoldable pub actOn : List Record → Target → ActedAll
 actOn rs (nobody n) = record { answer = one (refused n); records′ = rs }
 actOn rs (everyScreen x) = record { answer = loads 0; records′ = replicate 8 (loadedRecord (sizesIn x)) }
-actOn rs (screen i c) = record { answer = one (act (at rs i) c .answer); records′ = set rs i (act (at rs i) c .record′) }
+actOn rs (screen i c) = record {
+  answer = one (act (at rs i) c .answer);
+  records′ = set rs i
+      (act (at rs i) c .record′);
+}
 actOn rs (turn i x) = record {
   answer = turnAnswer i (act (at rs i) (advance x) .answer);
   records′ = set rs i (act (at rs i) (advance x) .record′);

@@ -3,8 +3,10 @@
 -- "Each screen has a panel book of its own, fed with the accepted Loads, its own calls and its turns as advances."
 --
 -- References == a reference model for each screen; runningIn bs == which screens run by them
--- ScreenConforms bs t a == answer a to a call that is t's, against the reference models bs; referencesAfter bs t a == these then
--- ScreensAgree bs cs xs == the whole list of answers xs to the calls cs against bs: who is served, the number told, 25, Load's and the
+-- ScreenConforms bs t a == answer a to a call that is t's, against the reference models bs; referencesAfter bs t a ==
+--   these then
+-- ScreensAgree bs cs xs == the whole list of answers xs to the calls cs against bs: who is served, the number told, 25,
+--   Load's and the
 --   deal's 1 too
 -- ScreensDemand3 fresh Step == every history from the fresh run of records agrees with eight new reference models
 --
@@ -18,7 +20,8 @@ use Rattle.model.specs.Calls.{load, advance, Answer, refused, isRunning}
 use Rattle.model.specs.History.{History}
 use Rattle.reference.specs.Reference.{Reference, newReference, phase, step}
 use Rattle.reference.specs.Demand3.{Conforms, after}
-use Rattle.screens.specs.ScreenCalls.{ScreenCall, ScreenAnswer, one, loads, answerIn, Running, Target, nobody, everyScreen, screen, turn}
+use Rattle.screens.specs.ScreenCalls.{ScreenCall, ScreenAnswer, one, loads, answerIn, Running, Target, nobody}
+use Rattle.screens.specs.ScreenCalls.{everyScreen, screen, turn}
 use Rattle.screens.specs.ScreenCalls.{target, turnAnswer}
 
 abbrev pub References : Type 0
@@ -32,7 +35,8 @@ put bs i b j = cond (eqb i j) b (bs j)
 
 abbrev pub ScreenConforms : References → Target → ScreenAnswer → Type 0
 ScreenConforms bs (nobody n) a = a ≡ one (refused n)
-ScreenConforms bs (everyScreen x) a = (a ≡ loads 0) × ((i : ℕ) → i < 8 → Conforms (step (bs i) (load x)) Answer.accepted)
+ScreenConforms bs (everyScreen x) a = (a ≡ loads 0) ×
+    ((i : ℕ) → i < 8 → Conforms (step (bs i) (load x)) Answer.accepted)
 ScreenConforms bs (screen i c) a = (a ≡ one (answerIn a)) × Conforms (step (bs i) c) (answerIn a)
 ScreenConforms bs (turn i x) a = (a ≡ turnAnswer i (answerIn a)) × Conforms (step (bs i) (advance x)) (answerIn a)
 

@@ -3,8 +3,10 @@
 -- Fed == a call of a single session and its answer
 -- fedBy i t a == what a call that is t's, with the answer a, is to screen i; none where it is not its
 -- fedTo run i c a == the same of a call of the screens, while run says who runs
--- stillRuns b a == whether a screen runs after the answer a, b before; followed run c a == who runs after a call of the screens
--- project i run cs xs == screen i's calls and answers among the calls cs with the answers xs; run says who runs at first
+-- stillRuns b a == whether a screen runs after the answer a, b before; followed run c a == who runs after a call of the
+--   screens
+-- project i run cs xs == screen i's calls and answers among the calls cs with the answers xs; run says who runs at
+--   first
 -- ownCalls i run cs xs, ownAnswers i run cs xs == its calls, its answers
 -- runningAfter run cs xs == who runs after them
 --
@@ -15,7 +17,8 @@ use mathlib.Core.List.{List, [], _∷_}
 use mathlib.Core.Option.{Option, none, some}
 use lib.Dec.{eqb}
 use Rattle.model.specs.Calls.{Call, load, advance, Answer, refused, parts, more, finished, outcome}
-use Rattle.screens.specs.ScreenCalls.{ScreenCall, ScreenAnswer, answerIn, Running, Target, nobody, everyScreen, screen, turn, target}
+use Rattle.screens.specs.ScreenCalls.{ScreenCall, ScreenAnswer, answerIn, Running, Target, nobody, everyScreen}
+use Rattle.screens.specs.ScreenCalls.{screen, turn, target}
 
 pub record Fed : Type 0 where
   pub call : Call
@@ -24,7 +27,8 @@ pub record Fed : Type 0 where
 abbrev pub fed : Call → Answer → Fed
 fed c a = record { call = c; answer = a }
 
--- "fed with the accepted Loads, its own calls and its turns as advances": refused calls of its own and refused turns too
+-- "fed with the accepted Loads, its own calls and its turns as advances": refused calls of its own and refused turns
+-- too
 unfoldable pub fedBy : ℕ → Target → Answer → Option Fed
 fedBy i (nobody n) a = none
 fedBy i (everyScreen x) a = some (fed (load x) a)

@@ -1,14 +1,17 @@
 -- The calls of eight screens, their answers, and whose call each is.
 --
 -- ScreenCall == "Start, Cancel and Read name a screen"; Load is for all; a deal is handed the screen to try first
--- ScreenAnswer == what a call tells: an answer of a single session, every refusal among them; the screen to try first after a Load; that
+-- ScreenAnswer == what a call tells: an answer of a single session, every refusal among them; the screen to try first
+--   after a Load; that
 --   screen and what the advance tells after a deal
 -- answerIn a == the answer of a single session in it; refuses a == whether it is a refusal
 -- Running == which screens run, by their numbers; nobodyRuns == none
--- onePast i == the screen to try first after one that was served; servedBy k == the screen that was served, from that number
+-- onePast i == the screen to try first after one that was served; servedBy k == the screen that was served, from that
+--   number
 -- nextRunning run k == the first screen that runs from number k on, round from 7 to 0; none where none runs
 -- anyRuns n run == whether one of the screens below n runs
--- Target == whose a call is: nobody's, refused with a number; every screen's, an accepted Load; one screen's; one screen's turn
+-- Target == whose a call is: nobody's, refused with a number; every screen's, an accepted Load; one screen's; one
+--   screen's turn
 -- target run c == whose call c is while run says who runs. The records and the reference models share it
 -- turnAnswer i a == what a deal tells that served screen i, whose advance told a
 --

@@ -1,16 +1,20 @@
--- What document 02, S-8, says of eight screens, over any form of the calls: `Step` is a call's contract, `fresh` the run of eight
+-- What document 02, S-8, says of eight screens, over any form of the calls: `Step` is a call's contract, `fresh` the
+-- run of eight
 -- records before the first call.
 --
 -- ScreenAlone == projection: a history of the eight records, seen by one screen, is a history of a single session
 -- ScreensReferences == a reference model for each screen, fed the accepted Loads, its own calls and its turns
--- Isolation, IsolationSinceLoad == "for the same own calls and turns with the same lent bytes in the same order, what a screen reads, and
+-- Isolation, IsolationSinceLoad == "for the same own calls and turns with the same lent bytes in the same order, what a
+--   screen reads, and
 --   each of its refusals except Load's, must be the same"; a premise on calls, never on answers
--- ServedSoon, TurnsApart, BetweenTurns == "a screen that stays running is served within eight accepted deals, and no other is served twice
+-- ServedSoon, TurnsApart, BetweenTurns == "a screen that stays running is served within eight accepted deals, and no
+--   other is served twice
 --   between two successive turns of it in one question", whatever is lent and whatever the others start or cancel
 -- DealTaken == "While plan, rules and tables are as Load left them" every deal with a screen running is accepted
 -- LoadClears, LoadEmpties, LoadWaits == "Load is refused while any screen runs and clears them all"
 -- RefusedAlike == a refused call alters nothing; a refused deal tells no number
--- DealServes == "One deal gives one advance to the next running screen .., going from 7 back to 0", said without the search
+-- DealServes == "One deal gives one advance to the next running screen .., going from 7 back to 0", said without the
+--   search
 -- Screens fresh Step == those of them that are about every list of calls
 --
 -- One statement about every list of screen calls: ScreensDemand3 (EightReferences). Assumes nothing.
@@ -29,8 +33,10 @@ use Rattle.model.specs.History.{History}
 use Rattle.model.specs.Model.{Record, loadedRecord, Does}
 use Rattle.reference.specs.Reference.{newReference}
 use Rattle.reference.specs.Demand3.{Agrees}
-use Rattle.screens.specs.ScreenCalls.{ScreenCall, loadAll, startOn, cancelOn, readOn, deal, ScreenAnswer, one, loads, deals, answerIn}
-use Rattle.screens.specs.ScreenCalls.{refuses, Running, nobodyRuns, servedBy, anyRuns, Target, nobody, everyScreen, screen, turn, target}
+use Rattle.screens.specs.ScreenCalls.{ScreenCall, loadAll, startOn, cancelOn, readOn, deal, ScreenAnswer, one}
+use Rattle.screens.specs.ScreenCalls.{loads, deals, answerIn}
+use Rattle.screens.specs.ScreenCalls.{refuses, Running, nobodyRuns, servedBy, anyRuns, Target, nobody}
+use Rattle.screens.specs.ScreenCalls.{everyScreen, screen, turn, target}
 use Rattle.screens.specs.EightRecords.{at, runs, actAll, DoesAll}
 use Rattle.screens.specs.Projection.{followed, runningAfter, ownCalls, ownAnswers}
 use Rattle.screens.specs.EightReferences.{ScreensDemand3}
@@ -121,8 +127,10 @@ module _ {Run : Type 0} (fresh : Run) (Step : Run → ScreenCall → ScreenAnswe
       → Agrees newReference (ownCalls i nobodyRuns cs xs) (ownAnswers i nobodyRuns cs xs)
 
   abbrev pub Isolation : Type 0
-  Isolation = (i : ℕ) → i < 8 → (cs ds : List ScreenCall) (xs ys : List ScreenAnswer) → History Step fresh cs xs → History Step fresh ds ys
-      → ownCalls i nobodyRuns cs xs ≡ ownCalls i nobodyRuns ds ys → ownAnswers i nobodyRuns cs xs ≡ ownAnswers i nobodyRuns ds ys
+  Isolation = (i : ℕ) → i < 8 → (cs ds : List ScreenCall) (xs ys : List ScreenAnswer) → History Step fresh cs xs
+      → History Step fresh ds ys
+      → ownCalls i nobodyRuns cs xs ≡ ownCalls i nobodyRuns ds ys
+      → ownAnswers i nobodyRuns cs xs ≡ ownAnswers i nobodyRuns ds ys
 
   -- "Between two accepted Loads": both lists from an accepted Load on, of the same N, S and K
   abbrev pub IsolationSinceLoad : Type 0
@@ -131,11 +139,13 @@ module _ {Run : Type 0} (fresh : Run) (Step : Run → ScreenCall → ScreenAnswe
       → length before ≡ length told → length before′ ≡ length told′
       → History Step fresh (before ++ (loadAll x ∷ cs)) (told ++ (loads k ∷ xs))
       → History Step fresh (before′ ++ (loadAll y ∷ ds)) (told′ ++ (loads l ∷ ys))
-      → ownCalls i nobodyRuns cs xs ≡ ownCalls i nobodyRuns ds ys → ownAnswers i nobodyRuns cs xs ≡ ownAnswers i nobodyRuns ds ys
+      → ownCalls i nobodyRuns cs xs ≡ ownCalls i nobodyRuns ds ys
+      → ownAnswers i nobodyRuns cs xs ≡ ownAnswers i nobodyRuns ds ys
 
   -- from any place of a history on where screen i runs, with any number up to 7 to try first
   abbrev pub FromThere : (ℕ → List ScreenAnswer → Type 0) → Type 0
-  FromThere P = (i k : ℕ) (before cs : List ScreenCall) (told xs : List ScreenAnswer) → i < 8 → k < 8 → length before ≡ length told
+  FromThere P = (i k : ℕ) (before cs : List ScreenCall) (told xs : List ScreenAnswer) → i < 8 → k < 8
+      → length before ≡ length told
       → History Step fresh (before ++ cs) (told ++ xs) → runningAfter nobodyRuns before told i ≡ true
       → HandedOn k cs xs → Uncancelled i cs xs → P i xs
 
@@ -147,13 +157,16 @@ module _ {Run : Type 0} (fresh : Run) (Step : Run → ScreenCall → ScreenAnswe
 
   -- after a turn of screen i that told more, up to its next
   abbrev pub BetweenTurns : Type 0
-  BetweenTurns = (i k n : ℕ) (x : Inputs) (before cs : List ScreenCall) (told xs : List ScreenAnswer) → length before ≡ length told
+  BetweenTurns = (i k n : ℕ) (x : Inputs) (before cs : List ScreenCall) (told xs : List ScreenAnswer)
+      → length before ≡ length told
       → History Step fresh (before ++ (deal k x ∷ cs)) (told ++ (deals n more ∷ xs)) → servedBy n ≡ i
       → HandedOn n cs xs → Uncancelled i cs xs → distinct (until i (turnsOf xs)) ≡ true
 
   abbrev pub DealTaken : Type 0
-  DealTaken = (x : Inputs) (before cs : List ScreenCall) (told xs : List ScreenAnswer) (k : ℕ) → length before ≡ length told
-      → History Step fresh (before ++ (loadAll x ∷ cs)) (told ++ (loads k ∷ xs)) → AsLeft x cs xs → AllTaken nobodyRuns cs xs
+  DealTaken = (x : Inputs) (before cs : List ScreenCall) (told xs : List ScreenAnswer) (k : ℕ)
+      → length before ≡ length told
+      → History Step fresh (before ++ (loadAll x ∷ cs)) (told ++ (loads k ∷ xs)) → AsLeft x cs xs
+      → AllTaken nobodyRuns cs xs
 
   pub record Screens : Type 0 where
     pub demand-3 : ScreensDemand3 fresh Step

@@ -12,7 +12,8 @@ use mathlib.Core.Path.{_≡_}
 use mathlib.Core.Bool.{Bool, true, false, cond}
 use mathlib.Core.List.{List, [], _∷_}
 use lib.Dec.{eqb}
-use Rattle.screens.specs.ScreenCalls.{ScreenCall, loadAll, startOn, cancelOn, readOn, deal, ScreenAnswer, one, loads, deals}
+use Rattle.screens.specs.ScreenCalls.{ScreenCall, loadAll, startOn, cancelOn, readOn, deal, ScreenAnswer, one}
+use Rattle.screens.specs.ScreenCalls.{loads, deals}
 use Rattle.screens.specs.ScreenCalls.{refuses, servedBy}
 
 unfoldable pub turnsOf : List ScreenAnswer → List ℕ
