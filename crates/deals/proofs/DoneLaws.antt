@@ -17,15 +17,18 @@ use borrow.Author.Tests.{lt-ltb, le-ltb, eq-eqb, ne-eqb}
 use Rattle.list_laws.proofs.BoolLaws.{true-false}
 use Rattle.formats.specs.Inputs.{Inputs}
 use Rattle.model.specs.Calls.{Call, start, cancel, read, advance, Answer, refused, isRefused}
-use Rattle.screens.specs.ScreenCalls.{ScreenCall, startOn, cancelOn, readOn, deal, ScreenAnswer, one, deals, answerIn, refuses, Target, nobody}
-use Rattle.screens.specs.ScreenCalls.{screen, turn, nextRunningIn, nextRunning, dealTarget, numbered, target, turnAnswer}
+use Rattle.screens.specs.ScreenCalls.{ScreenCall, startOn, cancelOn, readOn, deal, ScreenAnswer, one, deals, answerIn}
+use Rattle.screens.specs.ScreenCalls.{refuses, Target, nobody}
+use Rattle.screens.specs.ScreenCalls.{screen, turn, nextRunningIn, nextRunning, dealTarget, numbered, target}
+use Rattle.screens.specs.ScreenCalls.{turnAnswer}
 use Rattle.screens.proofs.RecordLaws.{refused-is}
 use Rattle.screens.proofs.TargetLaws.{next-runs}
 use Rattle.screens.proofs.EightLaws.{answer-turn}
 use Rattle.session.specs.declared.state.Session.{Session}
 use Rattle.session.specs.Records.{freshSession}
 use Rattle.session.specs.Promises.{CallDone, answerOn, recordOn}
-use Rattle.deals.specs.OnStructs.{at, runs, runsIn, orEight, found, targetIn, answerOf, structsOf, answerAll, structsAll, OwnDone, Another}
+use Rattle.deals.specs.OnStructs.{at, runs, runsIn, orEight, found, targetIn, answerOf, structsOf, answerAll}
+use Rattle.deals.specs.OnStructs.{structsAll, OwnDone, Another}
 use Rattle.deals.specs.OnStructs.{ScreenDone}
 use Rattle.deals.proofs.FoundLaws.{phases, found-phases}
 
@@ -52,11 +55,13 @@ module _ (ss : List Session) (c : ScreenCall) (l : length ss ≡ 8) where
   answer-by : (t : Target) → targetIn ss c ≡ t → answerAll ss c ≡ answerOf ss t
   unfolding answerAll
   answer-by t e =
-      ap (λ (b : Bool). cond b (answerOf ss (targetIn ss c)) (one (refused 25))) (eq-eqb (length ss) 8 l) ∙ ap (answerOf ss) e
+      ap (λ (b : Bool). cond b (answerOf ss (targetIn ss c)) (one (refused 25))) (eq-eqb (length ss) 8 l)
+      ∙ ap (answerOf ss) e
 
   structs-by : (t : Target) → targetIn ss c ≡ t → structsAll ss c ≡ structsOf ss t
   unfolding structsAll
-  structs-by t e = ap (λ (b : Bool). cond b (structsOf ss (targetIn ss c)) ss) (eq-eqb (length ss) 8 l) ∙ ap (structsOf ss) e
+  structs-by t e = ap (λ (b : Bool). cond b (structsOf ss (targetIn ss c)) ss) (eq-eqb (length ss) 8 l)
+      ∙ ap (structsOf ss) e
 
   pub nobody-done : (n : ℕ) → targetIn ss c ≡ nobody n → ScreenDone ss c (one (refused n)) ss
   unfolding answerOf structsOf
@@ -79,7 +84,8 @@ module _ (ss : List Session) (c : ScreenCall) (l : length ss ≡ 8) where
     kept d a D e =
         let n = refused-is a e in ap (λ (s : Session). set ss i s) (D .unchanged (n .0) (n .1)) ∙ set-at ss i
 
-    pub screen-done : (d : Call) (a : Answer) → targetIn ss c ≡ screen i d → CallDone (at ss i) d a s′ → ScreenDone ss c (one a) (set ss i s′)
+    pub screen-done : (d : Call) (a : Answer) → targetIn ss c ≡ screen i d → CallDone (at ss i) d a s′
+        → ScreenDone ss c (one a) (set ss i s′)
     unfolding answerOf structsOf answerIn
     screen-done d a e D = record {
       tells = ap one (D .tells) ∙ sym (answer-by (screen i d) e);
@@ -90,7 +96,8 @@ module _ (ss : List Session) (c : ScreenCall) (l : length ss ≡ 8) where
       others = λ _ j z. other j (subst (λ (t : Target). Another t j) e z);
     }
 
-    pub turn-done : (x : Inputs) (a : Answer) (b : ScreenAnswer) → targetIn ss c ≡ turn i x → CallDone (at ss i) (advance x) a s′
+    pub turn-done : (x : Inputs) (a : Answer) (b : ScreenAnswer) → targetIn ss c ≡ turn i x
+        → CallDone (at ss i) (advance x) a s′
         → b ≡ turnAnswer i a → ScreenDone ss c b (set ss i s′)
     unfolding answerOf structsOf
     turn-done x a b e D q =
@@ -110,7 +117,8 @@ module _ (ss : List Session) (c : ScreenCall) (l : length ss ≡ 8) where
 abbrev pub Names : List Session → ScreenCall → ℕ → Call → Type 0
 Names ss c i d = targetIn ss c ≡ numbered i (screen i d)
 
-pub names-start : (ss : List Session) (i : ℕ) (x : Inputs) (vs bs : List ℕ) → Names ss (startOn i x vs bs) i (start x vs bs)
+pub names-start : (ss : List Session) (i : ℕ) (x : Inputs) (vs bs : List ℕ)
+    → Names ss (startOn i x vs bs) i (start x vs bs)
 unfolding targetIn target
 names-start ss i x vs bs = refl
 
@@ -134,35 +142,42 @@ pub beyond-screen : (ss : List Session) (c : ScreenCall) (i : ℕ) (d : Call) �
     → ScreenDone ss c (one (refused 25)) ss
 beyond-screen ss c i d e l h = nobody-done ss c l 25 (e ∙ number-out i (screen i d) h)
 
-pub to-screen : (ss : List Session) (c : ScreenCall) (i : ℕ) (d : Call) → Names ss c i d → (a : Answer) (s′ : Session) → length ss ≡ 8 → i ≤ 7
+pub to-screen : (ss : List Session) (c : ScreenCall) (i : ℕ) (d : Call) → Names ss c i d → (a : Answer) (s′ : Session)
+    → length ss ≡ 8 → i ≤ 7
     → CallDone (at ss i) d a s′ → ScreenDone ss c (one a) (set ss i s′)
 to-screen ss c i d e a s′ l h D =
     screen-done ss c l i (omega arith) s′ d a (e ∙ number-in i (screen i d) (omega arith)) D
 
 -- ---- a deal
 
-pub beyond-deal : (ss : List Session) (k : ℕ) (x : Inputs) → length ss ≡ 8 → 7 < k → ScreenDone ss (deal k x) (one (refused 25)) ss
+pub beyond-deal : (ss : List Session) (k : ℕ) (x : Inputs) → length ss ≡ 8 → 7 < k
+    → ScreenDone ss (deal k x) (one (refused 25)) ss
 unfolding targetIn target
 beyond-deal ss k x l h = nobody-done ss (deal k x) l 25 (number-out k (dealTarget (nextRunning (runs ss) k) x) h)
 
 deal-to : (ss : List Session) (k : ℕ) (x : Inputs) (o : Option ℕ) → k < 8 → nextRunningIn 8 (runs ss) k ≡ o
     → targetIn ss (deal k x) ≡ dealTarget o x
 unfolding targetIn target nextRunning
-deal-to ss k x o h e = number-in k (dealTarget (nextRunningIn 8 (runs ss) k) x) h ∙ ap (λ (p : Option ℕ). dealTarget p x) e
+deal-to ss k x o h e = number-in k (dealTarget (nextRunningIn 8 (runs ss) k) x) h
+    ∙ ap (λ (p : Option ℕ). dealTarget p x) e
 
-found-is : (ss : List Session) (k f : ℕ) → k ≤ 7 → f ≡ found (runsIn (phases ss)) k → f ≡ orEight (nextRunningIn 8 (runs ss) k)
+found-is : (ss : List Session) (k f : ℕ) → k ≤ 7 → f ≡ found (runsIn (phases ss)) k
+    → f ≡ orEight (nextRunningIn 8 (runs ss) k)
 found-is ss k f h e = e ∙ found-phases ss k (omega arith)
 
-pub deal-none : (ss : List Session) (k f : ℕ) (x : Inputs) → length ss ≡ 8 → k ≤ 7 → f ≡ found (runsIn (phases ss)) k → 7 < f
+pub deal-none : (ss : List Session) (k f : ℕ) (x : Inputs) → length ss ≡ 8 → k ≤ 7 → f ≡ found (runsIn (phases ss)) k
+    → 7 < f
     → ScreenDone ss (deal k x) (one (refused 1)) ss
 unfolding orEight dealTarget
 deal-none ss k f x l h e big = go (nextRunningIn 8 (runs ss) k) refl (found-is ss k f h e)
   where
-    go : (o : Option ℕ) → nextRunningIn 8 (runs ss) k ≡ o → f ≡ orEight o → ScreenDone ss (deal k x) (one (refused 1)) ss
+    go : (o : Option ℕ) → nextRunningIn 8 (runs ss) k ≡ o → f ≡ orEight o
+        → ScreenDone ss (deal k x) (one (refused 1)) ss
     go none q z = nobody-done ss (deal k x) l 1 (deal-to ss k x none (omega arith) q)
     go (some i) q z = absurd (omega (arith, next-runs 8 (runs ss) k i (omega arith) q .0, z, big))
 
-pub deal-served : (ss : List Session) (k f : ℕ) (x : Inputs) (b : ScreenAnswer) (a : Answer) (s′ : Session) → length ss ≡ 8 → k ≤ 7
+pub deal-served : (ss : List Session) (k f : ℕ) (x : Inputs) (b : ScreenAnswer) (a : Answer) (s′ : Session)
+    → length ss ≡ 8 → k ≤ 7
     → f ≡ found (runsIn (phases ss)) k → f ≤ 7 → b ≡ turnAnswer f a → CallDone (at ss f) (advance x) a s′
     → ScreenDone ss (deal k x) b (set ss f s′)
 unfolding orEight dealTarget
@@ -186,4 +201,5 @@ pub read-done : (ss : List Session) (i : ℕ) (a : Answer) → length ss ≡ 8 �
     → one a ≡ answerAll ss (readOn i)
 unfolding answerOf
 read-done ss i a l h e =
-    ap one e ∙ sym (answer-by ss (readOn i) l (screen i read) (names-read ss i ∙ number-in i (screen i read) (omega arith)))
+    ap one e ∙ sym (answer-by ss (readOn i) l (screen i read)
+    (names-read ss i ∙ number-in i (screen i read) (omega arith)))

@@ -37,7 +37,8 @@ next-on : (run : Running) (l at : ℕ) → run at ≡ false → nextRunningIn (s
 unfolding nextRunningIn
 next-on run l at e = simp e
 
-pub found-here : (run : Running) (k left at : ℕ) → k < 8 → 0 < left → nextRunningIn left run at ≡ nextRunningIn 8 run k → run at ≡ true
+pub found-here : (run : Running) (k left at : ℕ) → k < 8 → 0 < left → nextRunningIn left run at ≡ nextRunningIn 8 run k
+    → run at ≡ true
     → at ≡ found run k
 unfolding orEight
 found-here run k left at h p e t = sym (found-next run k h ∙ ap orEight (sym e ∙ next-here run left at p t))
@@ -48,9 +49,11 @@ found-on run left at e p q t =
     let s : left ≡ suc (left - 1) = omega arith in
     sym (next-on run (left - 1) at t) ∙ ap (λ (m : ℕ). nextRunningIn m run at) (sym s) ∙ q
 
-pub found-nothing : (run : Running) (k left at : ℕ) → k < 8 → left ≡ 0 → nextRunningIn left run at ≡ nextRunningIn 8 run k → 8 ≡ found run k
+pub found-nothing : (run : Running) (k left at : ℕ) → k < 8 → left ≡ 0
+    → nextRunningIn left run at ≡ nextRunningIn 8 run k → 8 ≡ found run k
 unfolding orEight nextRunningIn
-found-nothing run k left at h z e = sym (found-next run k h ∙ ap orEight (sym e ∙ ap (λ (m : ℕ). nextRunningIn m run at) z))
+found-nothing run k left at h z e = sym
+    (found-next run k h ∙ ap orEight (sym e ∙ ap (λ (m : ℕ). nextRunningIn m run at) z))
 
 -- ---- the eight states
 
@@ -71,7 +74,8 @@ phases-at ss (suc (suc (suc (suc (suc (suc (suc zero))))))) h = refl
 phases-at ss (suc (suc (suc (suc (suc (suc (suc (suc i)))))))) h =
     absurd (let z : suc (suc (suc (suc (suc (suc (suc (suc i))))))) < 8 = h in omega arith)
 
-pub found-phases : (ss : List Session) (k : ℕ) → k < 8 → found (runsIn (phases ss)) k ≡ orEight (nextRunningIn 8 (runs ss) k)
+pub found-phases : (ss : List Session) (k : ℕ) → k < 8
+    → found (runsIn (phases ss)) k ≡ orEight (nextRunningIn 8 (runs ss) k)
 found-phases ss k h =
     found-next (runsIn (phases ss)) k h
     ∙ ap orEight (next-same (runsIn (phases ss)) (runs ss)

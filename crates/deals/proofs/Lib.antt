@@ -1,3 +1,4 @@
 pub mod FoundLaws
 pub mod DoneLaws
 pub mod OnRun
+pub mod RunTheorem

@@ -1,4 +1,5 @@
--- What the walks over a run of records share: a function that is lent the run, is given a number, and is lent slices to read.
+-- What the walks over a run of records share: a function that is lent the run, is given a number, and is lent slices to
+-- read.
 --     cooked           a part of a cell behind a reference, at its own type
 --     onRun ls E       the signature: the run behind a `&mut`, the number, what is lent, and the answer's type E
 --     Post             what a walk has to end in
@@ -23,7 +24,8 @@ use prog.Wp.{Heap, Env, Calls, Loops, Wp, afterSeq}
 use ghost.Atoms.{Atoms}
 use contract.Monad.{Fun, Mono, fact}
 use contract.Lifetimes.{Lfts, Shares, toks}
-use types.Kit.{Given, Item, ‵, raw, _⊛_, ⋆, mean, _$_, _∵_, !, qed, move, split, join, use1, use2, fjoin, feqI, suffices, frame, each, assume, done}
+use types.Kit.{Given, Item, ‵, raw, _⊛_, ⋆, mean, _$_, _∵_, !, qed, move, split, join, use1, use2, fjoin, feqI}
+use types.Kit.{suffices, frame, each, assume, done}
 use types.Kit.{Post as Ends, Seq, runs, anyQ, post}
 use types.Part.{Part}
 use types.Run.{Opd, first, branches, skips}
@@ -40,12 +42,14 @@ use denote.Steps.{owned, heard}
 use denote.Triple.Entry.{Args, Vals, onEntry}
 use denote.Triple.End.{all}
 use denote.Triple.Spec.{Meets}
-use denote.Triple.Walked.{says, Stays, stay-slice, stay-none, goes-slice, goes-none, walkOf, ends-at, walked, walk-meets}
+use denote.Triple.Walked.{says, Stays, stay-slice, stay-none, goes-slice, goes-none, walkOf, ends-at, walked}
+use denote.Triple.Walked.{walk-meets}
 use denote.Triple.Clauses.{Ended, Clauses, AtExit, atExit, closing}
 use denote.Exit.{yes}
 use Rattle.session.specs.declared.state.Session.{Session}
 use Rattle.session.proofs.state.Session as T
-use Rattle.in_place.proofs.Lendings.{Lending, slots, stays, goes, kinds, spells, tells, Fitting, fitting, Lasts, Said, Had, Fits, backs}
+use Rattle.in_place.proofs.Lendings.{Lending, slots, stays, goes, kinds, spells, tells, Fitting, fitting, Lasts, Said}
+use Rattle.in_place.proofs.Lendings.{Had, Fits, backs}
 
 -- what the test of the run's length tells
 yes-yes : (b : Bool) → Yes (not (not b)) → b ≡ true
@@ -67,11 +71,13 @@ has ys i e h = subst (λ (n : ℕ). i < n) (sym e) (omega arith)
 
 -- a cell at the raw form of τ is one at τ
 module _ {M : Type 1} {𝓤 : URA M} {H : Heap 𝓤} {A : Atoms 𝓤} {K : Type 0} {W : Given 𝓤 H A} where
-  pub cooked : K → {i : Item 𝓤} {q : Share} {τ : Ty} {b o : ℕ} {v : Val} {back : Val → Item 𝓤} → Part K W i q (rawTy τ) b o v back → Part K W i q τ b o v back
+  pub cooked : K → {i : Item 𝓤} {q : Share} {τ : Ty} {b o : ℕ} {v : Val} {back : Val → Item 𝓤}
+      → Part K W i q (rawTy τ) b o v back → Part K W i q τ b o v back
   cooked t {i} {q} {τ} {b} {o} {v} {back} p = record {
     out = qed W (i ∷ []) ∵ use1 W (‵ (fat q (rawTy τ) b o v) ⊛ raw (every 𝓤 Entry)) (p .out) $ split ! $
         use1 W (‵ (fat q τ b o v)) (W .laws .raw-at q τ b o v) $ frame ! $
-        each ! (λ (u : Val). wand 𝓤 (H .at q τ b o u) (mean 𝓤 H A (back u))) (λ u. assume {P = mean 𝓤 H A (back u)} ! (‵ (fat q τ b o u)) $
+        each ! (λ (u : Val). wand 𝓤 (H .at q τ b o u) (mean 𝓤 H A (back u)))
+        (λ u. assume {P = mean 𝓤 H A (back u)} ! (‵ (fat q τ b o u)) $
         use1 W (‵ (fat q (rawTy τ) b o u)) (W .laws .at-raw q τ b o u) $ move ! (1 ∷ []) $
         use1 W (raw (Entry u)) (allE 𝓤 Entry u) $ move ! (1 ∷ 0 ∷ []) $
         use2 W (back u) (apply∗ 𝓤 (H .at q (rawTy τ) b o u) (mean 𝓤 H A (back u))) $ done !);
@@ -81,13 +87,15 @@ module _ {M : Type 1} {𝓤 : URA M} {H : Heap 𝓤} {A : Atoms 𝓤} {K : Type 
       Entry : Val → SProp 𝓤
       Entry w = wand 𝓤 (H .at q (rawTy τ) b o w) (mean 𝓤 H A (back w))
 
-module _ {M : Type 1} {𝓤 : URA M} {H : Heap 𝓤} {A : Atoms 𝓤} {K : Type 0} {W : Given 𝓤 H A} {Γ : List (Item 𝓤)} {E : Env 𝓤 H} where
+module _ {M : Type 1} {𝓤 : URA M} {H : Heap 𝓤} {A : Atoms 𝓤} {K : Type 0} {W : Given 𝓤 H A} {Γ : List
+    (Item 𝓤)} {E : Env 𝓤 H} where
   -- a constant that is written large: 1944
   pub big-lit : K → {w : Width} {n : ℕ} → FitsIn w n → Opd K W Γ E (intBig w n) (vint w n)
   big-lit t {w} {n} z = record { go = λ Kt h. via 𝓤 (Kt (vint w n)) h (guardI 𝓤 (FitsIn w n) (Kt (vint w n)) z) }
 
 -- an `if` that returns, and what follows it
-module _ {M : Type 1} {𝓤 : URA M} {H : Heap 𝓤} {A : Atoms 𝓤} {K : Type 0} {W : Given 𝓤 H A} {Γ : List (Item 𝓤)} {E : Env 𝓤 H} {C : Calls 𝓤 H} {Λ : Loops 𝓤 H}
+module _ {M : Type 1} {𝓤 : URA M} {H : Heap 𝓤} {A : Atoms 𝓤} {K : Type 0} {W : Given 𝓤 H A} {Γ : List
+    (Item 𝓤)} {E : Env 𝓤 H} {C : Calls 𝓤 H} {Λ : Loops 𝓤 H}
     {q : Ends 𝓤 H} where
   pub unless : K → {c : Operand} {a b : Code} {y : Bool} → Opd K W Γ E c (vbool y)
       → (Yes y → Seq K W Γ (runs C Λ E a (anyQ (afterSeq 𝓤 H (Wp 𝓤 H C Λ E b (post 𝓤 H q)) (post 𝓤 H q)))))
@@ -136,18 +144,25 @@ module _ {n : ℕ} (ls : List (Lending (suc n))) (E : RattleType) where
             ∷ ‵ (E .own r (v ∷ []))
             ∷ []
 
-        pub exits : Given 𝓤 H A → Room T.the-row (length (now (a .0))) → a .1 .0 < 2 ^ 64 → length ys ≡ length (now (a .0))
+        pub exits : Given 𝓤 H A → Room T.the-row (length (now (a .0))) → a .1 .0 < 2 ^ 64
+            → length ys ≡ length (now (a .0))
             → P κs a r (atExit onRun κs a (ys, (tt, ws))) → ent 𝓤 (⋆ 𝓤 H A AtEnd) (Post v)
         exits W room fits same p =
             qed W AtEnd ∵ move ! (4 ∷ []) $
-            use1 W (‵ (Had κs ls (a .1 .1) ws) ⊛ raw (fact 𝓤 (Fits κs ls (a .1 .1) ws))) (backs κs 𝓤 H A W ls (a .1 .1) ws) $ split ! $
+            use1 W (‵ (Had κs ls (a .1 .1) ws) ⊛ raw (fact 𝓤 (Fits κs ls (a .1 .1) ws)))
+            (backs κs 𝓤 H A W ls (a .1 .1) ws) $ split ! $
             move ! (1 ∷ []) $ heard ! (Fits κs ls (a .1 .1) ws) (λ f.
-            suffices ! _ (ends-at 𝓤 H A onRun stayed clauses W ((κs, qs, tt, a, passed κs a), tt) v r (ys, (tt, ws)) (same, (tt, f))) $
+            suffices ! _ (ends-at 𝓤 H A onRun stayed clauses W ((κs, qs, tt, a, passed κs a), tt) v r (ys, (tt, ws))
+            (same, (tt, f))) $
             says ! p $ move ! (3 ∷ 4 ∷ []) $ join ! $ frame ! $
             -- [what is had of the slices; obs; the borrow; the answer]
             move ! (1 ∷ 2 ∷ []) $ fjoin ! $
-            pureI ! (at-slice T.the-row (record { ptr = ptr (a .0); name = name (a .0); now = ys }) (slice-vals (a .0))) (tt, (tt, tt))
-            (ap (λ (m : ℕ). sliceVal (ptr (a .0)) m ∷ []) (sym same), subst (Room T.the-row) (sym same) room) $ fjoin ! $
+            pureI ! (at-slice T.the-row (record { ptr = ptr (a .0); name = name (a .0); now = ys })
+            (slice-vals (a .0))) (tt, (tt, tt)) (
+              ap (λ (m : ℕ). sliceVal (ptr (a .0)) m ∷ []) (sym same),
+              subst (Room T.the-row)
+                  (sym same) room,
+            ) $ fjoin ! $
             owned ! usize (Is usize) (uint-makes 𝓤 H A W w64) (a .1 .0) _ (refl, fits) $ move ! (0 ∷ 2 ∷ []) $ fjoin ! $
             move ! (1 ∷ 0 ∷ []) $ fjoin ! $ frame ! $ done !)
 
@@ -159,8 +174,10 @@ module _ {n : ℕ} (ls : List (Lending (suc n))) (E : RattleType) where
           (run (flat (typesAt (onRun .signature .params) κs) (passed κs a)) (Post κs qs a)))
           → Meets 𝓤 H A (onRun .signature) run (closing 𝓤 H A onRun clauses)
       met run mono walk =
-          walk-meets 𝓤 H A onRun stayed W
-          (goes-slice 𝓤 H A W (suc n) 0 tt (plain (λ _. T.the-row)), (goes-none 𝓤 H A W (suc n) (λ _. usize) yes (λ κs x f. refl), goes 𝓤 H A W ls))
+          walk-meets 𝓤 H A onRun stayed W (
+            goes-slice 𝓤 H A W (suc n) 0 tt (plain (λ _. T.the-row)),
+            (goes-none 𝓤 H A W (suc n) (λ _. usize) yes (λ κs x f. refl), goes 𝓤 H A W ls),
+          )
           clauses run mono
           (walked 𝓤 H A onRun stayed clauses run (λ κs. (slice-vals, (uint-vals w64, spells κs ls)))
           (λ κs. (mut-slice-tells (nameOf (0 ∷ [])) (κs .0) T.the-row, (uint-tells w64, tells κs ls)))

@@ -1,1 +1,2 @@
 pub mod OnStructs
+pub mod ScreensInPlace

@@ -1,10 +1,12 @@
 -- A run of eight structs, and what a call of the screens promises of it.
 --
--- at ss i == screen i's struct; runs ss == which screens run, by their states alone; busy ss == which may not be loaded: running, or no record
+-- at ss i == screen i's struct; runs ss == which screens run, by their states alone; busy ss == which may not be
+--   loaded: running, or no record
 -- runsIn ps == which screens run, by a list of states
 -- found run k == the number of the next running screen from number k on; 8 where none runs, 9 where k is above 7
 -- targetIn ss c == whose call c is: a Load asks for eight records that are at rest, any other call goes by the states
--- answerOf ss t, structsOf ss t == what a call that is t's tells, and the structs after it; answerAll ss c, structsAll ss c == of call c
+-- answerOf ss t, structsOf ss t == what a call that is t's tells, and the structs after it; answerAll ss c, structsAll
+--   ss c == of call c
 -- dealAnswer r == a deal's answer, as it is compared
 -- ScreenDone == the promise
 --
@@ -19,8 +21,10 @@ use lib.ListN.{length, getD, set, replicate}
 use Rattle.formats.specs.Inputs.{sizesIn}
 use Rattle.model.specs.Calls.{load, advance, Answer, refused, more, finished, isRunning}
 use Rattle.model.specs.Model.{loadedRecord}
-use Rattle.screens.specs.ScreenCalls.{ScreenCall, loadAll, startOn, cancelOn, readOn, deal, ScreenAnswer, one, loads, deals, answerIn, refuses}
-use Rattle.screens.specs.ScreenCalls.{Running, nextRunning, Target, nobody, everyScreen, screen, turn, target, turnAnswer}
+use Rattle.screens.specs.ScreenCalls.{ScreenCall, loadAll, startOn, cancelOn, readOn, deal, ScreenAnswer, one, loads}
+use Rattle.screens.specs.ScreenCalls.{deals, answerIn, refuses}
+use Rattle.screens.specs.ScreenCalls.{Running, nextRunning, Target, nobody, everyScreen, screen, turn, target}
+use Rattle.screens.specs.ScreenCalls.{turnAnswer}
 use Rattle.session.specs.declared.state.Phase.{Phase}
 use Rattle.session.specs.declared.state.Phase.the-variants.{Empty}
 use Rattle.session.specs.declared.state.Session.{Session}

@@ -1,5 +1,6 @@
-// Eight screens in place: "Deal takes &mut [Session], picks the next running one, hands it to the by-value advance" (document 01).
-// Start, Cancel and Read of one screen go the same way. Load over eight is not here: it takes and returns the eight by value.
+// Eight screens in place: "Deal takes &mut [Session], picks the next running one, hands it to the by-value advance"
+// (document 01). Start, Cancel and Read of one screen go the same way. Load over eight is not here: it takes and returns
+// the eight by value.
 use session::answers::AdvanceAnswer;
 use session::answers::CallAnswer;
 use session::answers::ReadAnswer;
@@ -46,7 +47,8 @@ fn one_past(i: usize) -> usize
     0
 }
 
-// The next running screen from the first on, going from 7 back to 0; 8 where none runs, 9 where there is no such screen to try first.
+// The next running screen from the first on, going from 7 back to 0; 8 where none runs, 9 where there is no such screen
+// to try first.
 fn next_running(
     p0: Phase,
     p1: Phase,

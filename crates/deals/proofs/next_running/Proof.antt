@@ -15,7 +15,8 @@ use Rattle.deals.proofs.one_past.Reads as one-past-reads
 use Rattle.deals.proofs.is_running.Reads as is-running-reads
 
 abbrev Inv-loop : tie.InvT-loop
-Inv-loop first phases at₀ left₀ at left = (at < 8) × ((left ≤ 8) × (nextRunningIn left (runsIn phases) at ≡ nextRunningIn 8 (runsIn phases) first))
+Inv-loop first phases at₀ left₀ at left = (at < 8) ×
+    ((left ≤ 8) × (nextRunningIn left (runsIn phases) at ≡ nextRunningIn 8 (runsIn phases) first))
 
 abbrev μ-loop : tie.MeasureT-loop
 μ-loop first phases at₀ left₀ at left = left
@@ -35,7 +36,8 @@ is-running-requires c κs = search needs
 returns-2 : tie.Need-returns-2 Inv-loop μ-loop
 returns-2 c =
     let l = c .before .before .before .before .loop in
-    found-here _ _ (l .left) (l .at) (omega arith) (omega arith) (l .inv .1 .1) (sym (c .before .is-running .ensures) ∙ c .if2 .taken)
+    found-here _ _ (l .left) (l .at) (omega arith) (omega arith) (l .inv .1 .1)
+    (sym (c .before .is-running .ensures) ∙ c .if2 .taken)
 
 one-past-requires : tie.Need-one-past-requires Inv-loop μ-loop
 one-past-requires c κs = search needs
@@ -49,8 +51,14 @@ loop-less c = search needs
 loop-again : tie.Need-loop-again Inv-loop μ-loop
 loop-again c =
     let l = c .before .before .before .before .before .loop in
-    let a = c .one-past .ensures in
-    (a .1, (omega arith, rw (a .0) (found-on _ (l .left) (l .at) _ (omega arith) (l .inv .1 .1) (sym (c .before .before .is-running .ensures) ∙ c .before .if2 .left))))
+    let a = c .one-past .ensures in (
+      a .1,
+      (
+        omega arith,
+        rw (a .0) (found-on _ (l .left) (l .at) _ (omega arith) (l .inv .1 .1)
+            (sym (c .before .before .is-running .ensures) ∙ c .before .if2 .left)),
+      ),
+    )
 
 returns-3 : tie.Need-returns-3 Inv-loop μ-loop
 returns-3 c =

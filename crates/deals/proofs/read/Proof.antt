@@ -18,10 +18,12 @@ use ghost.Atoms.{Atoms, sem}
 use contract.Lifetimes.{Lfts, Shares}
 use contract.Monad.{Fun, fact}
 use contract.Running.{givenOf, tables, tablesOf}
-use types.Kit.{Given, ‵, raw, _⊛_, ⋆, some, later, _$_, _∵_, !, qed, by, move, keep, drop, use0, use1, split, join, pick, rewrite, suffices}
+use types.Kit.{Given, ‵, raw, _⊛_, ⋆, some, later, _$_, _∵_, !, qed, by, move, keep, drop, use0, use1, split, join}
+use types.Kit.{pick, rewrite, suffices}
 use types.Kit.{fsplit, fjoin, frame, await, done}
 use types.Part.{whole, sub, look-in, agg}
-use types.Run.{look, look-raw, init, store, forget, stop, hop, fld, from, load, lit, of-opd, bin, and-then, no-more, land, assigns, returns}
+use types.Run.{look, look-raw, init, store, forget, stop, hop, fld, from, load, lit, of-opd, bin, and-then, no-more}
+use types.Run.{land, assigns, returns}
 use types.Run.{enter, alloc1, alloc0, params1, pass1, pass0, free1, free0, returns-within}
 use sound.WpLaws.{FmC, fmOf, WpFn-mono}
 use denote.RattleType.{owns, flat}
@@ -70,16 +72,21 @@ use Rattle.deals.proofs.read.Code as code
 
 -- nothing is had of the run and the number at exit
 abbrev stayed : Stays (this.ended .signature .params) (this.ended .kept)
-stayed = (stay-dropped (shrSliceOf (0 ∷ []) tt (plain (λ _. T.the-row))) yes, (stay-dropped (plain (λ _. usize)) yes, tt))
+stayed = (
+  stay-dropped (shrSliceOf (0 ∷ []) tt (plain (λ _. T.the-row))) yes,
+  (stay-dropped (plain (λ _. usize)) yes, tt),
+)
 
 refused-is : Is E.the-row (Refused 25) (EL.vals E.the-type E′.the-laws (Refused 25))
 refused-is = EL.owes E.the-type E′.the-laws (Refused 25) ((refl, lit< tt), tt)
 
-none-told : (ys : List Session) (k : ℕ) → (length ys ≡ 8 → ⊥) → screens.one (readAnswer (Refused 25)) ≡ answerAll ys (screens.readOn k)
+none-told : (ys : List Session) (k : ℕ) → (length ys ≡ 8 → ⊥)
+    → screens.one (readAnswer (Refused 25)) ≡ answerAll ys (screens.readOn k)
 unfolding readAnswer
 none-told = no-run-read
 
-beyond-told : (ys : List Session) (k : ℕ) → length ys ≡ 8 → 7 < k → screens.one (readAnswer (Refused 25)) ≡ answerAll ys (screens.readOn k)
+beyond-told : (ys : List Session) (k : ℕ) → length ys ≡ 8 → 7 < k
+    → screens.one (readAnswer (Refused 25)) ≡ answerAll ys (screens.readOn k)
 unfolding readAnswer
 beyond-told = no-screen-read
 
@@ -88,7 +95,8 @@ module _ {M : Type 1} (𝓤 : URA M) (H : Heap 𝓤) (A : Atoms 𝓤) (at-mem : 
   abbrev Step : Contract 𝓤
   Step = tripleOf 𝓤 H A step.signature (step.spec 𝓤 H A at-mem run)
 
-module _ {M : Type 1} (𝓤 : URA M) (H : Heap 𝓤) (A : Atoms 𝓤) (W : Given 𝓤 H A) (at-mem : Memory → SProp 𝓤) (run : Routine → Fun 𝓤)
+module _ {M : Type 1} (𝓤 : URA M) (H : Heap 𝓤) (A : Atoms 𝓤) (W : Given 𝓤 H A) (at-mem : Memory → SProp 𝓤)
+    (run : Routine → Fun 𝓤)
     (κs : Lfts 1) (qs : Shares 1) (a : Args this.signature κs) (fits : a .1 .0 < 2 ^ 64) where
   abbrev ys : List Session
   ys = now (a .0)
@@ -108,11 +116,14 @@ module _ {M : Type 1} (𝓤 : URA M) (H : Heap 𝓤) (A : Atoms 𝓤) (W : Given
   abbrev Post : Val → SProp 𝓤
   Post = walkOf 𝓤 H A this.ended stayed (this.clauses 𝓤 H A at-mem run) .post ((κs, qs, tt, a, passed), tt)
 
-  exits : (r : ReadAnswer) (v : Val) → screens.one (readAnswer r) ≡ answerAll ys (screens.readOn k) → ent 𝓤 (⋆ 𝓤 H A (‵ (flft (κs .0) (qs .0)) ∷ ‵ (E.the-row .own r (v ∷ [])) ∷ [])) (Post v)
+  exits : (r : ReadAnswer) (v : Val) → screens.one (readAnswer r) ≡ answerAll ys (screens.readOn k)
+      → ent 𝓤 (⋆ 𝓤 H A (‵ (flft (κs .0) (qs .0)) ∷ ‵ (E.the-row .own r (v ∷ [])) ∷ [])) (Post v)
   exits r v e =
       qed W (‵ (flft (κs .0) (qs .0)) ∷ ‵ (E.the-row .own r (v ∷ [])) ∷ []) ∵
-      suffices ! _ (ends-at 𝓤 H A this.ended stayed (this.clauses 𝓤 H A at-mem run) W ((κs, qs, tt, a, passed), tt) v r (tt, (tt, tt)) (tt, (tt, tt))) $
-      says ! e $ nothing ! $ move ! (1 ∷ 0 ∷ []) $ join ! $ frame ! $ nothing ! $ nothing ! $ fjoin ! $ nothing ! $ fjoin ! $ frame ! $ done !
+      suffices ! _ (ends-at 𝓤 H A this.ended stayed (this.clauses 𝓤 H A at-mem run) W ((κs, qs, tt, a, passed), tt) v r
+      (tt, (tt, tt)) (tt, (tt, tt))) $
+      says ! e $ nothing ! $ move ! (1 ∷ 0 ∷ []) $ join ! $ frame ! $ nothing ! $ nothing ! $ fjoin ! $ nothing ! $
+      fjoin ! $ frame ! $ done !
 
   abbrev given : Args step.signature tt
   given = (at ys k, tt)
@@ -122,7 +133,8 @@ module _ {M : Type 1} (𝓤 : URA M) (H : Heap 𝓤) (A : Atoms 𝓤) (W : Given
 
   goes-step : Is T.the-row (at ys k) (vals (at ys k)) → ent 𝓤 (emp 𝓤) (Step 𝓤 H A at-mem run .pre to-step)
   goes-step g =
-      qed W [] ∵ nothing ! $ owned ! T.the-row (Is T.the-row) (LL.makes T.the-type T′.the-plain 𝓤 H A) (at ys k) _ g $ fjoin ! $ nothing ! $ join ! $ frame ! $ done !
+      qed W [] ∵ nothing ! $ owned ! T.the-row (Is T.the-row) (LL.makes T.the-type T′.the-plain 𝓤 H A)
+      (at ys k) _ g $ fjoin ! $ nothing ! $ join ! $ frame ! $ done !
 
   -- what the call by value says of what it returns
   abbrev Told : ReadAnswer → SProp 𝓤
@@ -134,7 +146,8 @@ module _ {M : Type 1} (𝓤 : URA M) (H : Heap 𝓤) (A : Atoms 𝓤) (W : Given
   said : (r : ReadAnswer) → ent 𝓤 (Told r) (fact 𝓤 (Holds r))
   said r = exE 𝓤 _ (λ ws. snd∗ 𝓤 (sem 𝓤 H A (lasts step.ended tt given ws)) (fact 𝓤 (Holds r)))
 
-  module _ (C : Calls 𝓤 H) (Λ : Loops 𝓤 H) (fm : FmC 𝓤 H (W .laws) C) (known : Triple 𝓤 (C #step) (Step 𝓤 H A at-mem run)) where
+  module _ (C : Calls 𝓤 H) (Λ : Loops 𝓤 H) (fm : FmC 𝓤 H (W .laws) C)
+      (known : Triple 𝓤 (C #step) (Step 𝓤 H A at-mem run)) where
     walk : Room T.the-row (length ys) → ent 𝓤 (onEntry 𝓤 H A this.signature κs qs a passed)
         (WpFn 𝓤 H C Λ code.function (flat (typesAt (this.signature .params) κs) passed) Post)
     walk room =
@@ -142,53 +155,72 @@ module _ {M : Type 1} (𝓤 : URA M) (H : Heap 𝓤) (A : Atoms 𝓤) (W : Given
         split ! $ move ! (2 ∷ []) $ fsplit ! $ fsplit ! $ drop ! $ fsplit ! $ keep ! (1 ∷ 3 ∷ []) $
         -- [the fractured borrow; its token]
         enter ! C Λ code.function (flat (typesAt (this.signature .params) κs) passed) _ $
-        alloc1 ! (λ l₀. alloc1 ! (λ l₁. alloc1 ! (λ l₂. alloc1 ! (λ l₃. alloc1 ! (λ l₄. alloc1 ! (λ l₅. alloc1 ! (λ l₆. alloc1 ! (λ l₇.
-        alloc0 ! $ params1 ! $ pass1 ! (init ! 12 refl (tt, (tt, (record { fits = room .0 }, tt)))) $
+        alloc1 ! (λ l₀. alloc1 ! (λ l₁. alloc1 ! (λ l₂. alloc1 ! (λ l₃. alloc1 ! (λ l₄. alloc1 ! (λ l₅.
+        alloc1 ! (λ l₆. alloc1 ! (λ l₇. alloc0 ! $ params1 ! $
+        pass1 ! (init ! 12 refl (tt, (tt, (record { fits = room .0 }, tt)))) $
         pass1 ! (init ! 10 refl (tt, record { fits = fits })) $ pass0 ! $
         -- eight records?
-        assigns ! (of-opd ! (load ! (from ! (fld ! refl (stop !))) (look-in ! 12 (sub ! 1 refl (whole !))))) (from ! (stop !)) (init ! 6 refl (tt, record { fits = room .0 })) $
-        assigns ! (bin ! (load ! (from ! (stop !)) (look ! 6 refl)) (lit ! tt) tt) (from ! (stop !)) (init ! 4 refl (tt, tt)) $
+        assigns ! (of-opd ! (load ! (from ! (fld ! refl (stop !))) (look-in ! 12 (sub ! 1 refl (whole !)))))
+        (from ! (stop !)) (init ! 6 refl (tt, record { fits = room .0 })) $
+        assigns ! (bin ! (load ! (from ! (stop !)) (look ! 6 refl)) (lit ! tt) tt) (from ! (stop !))
+        (init ! 4 refl (tt, tt)) $
         unless ! (load ! (from ! (stop !)) (look ! 4 refl))
         (λ other.
-        assigns ! (agg ! (and-then ! (lit ! tt) (and-then ! (lit ! tt) (no-more !)))) (from ! (stop !)) (init ! 14 refl (EL.lawful E.the-type E′.the-laws 𝓤 H A W tt .typed (Refused 25) _ refused-is .0)) $
+        assigns ! (agg ! (and-then ! (lit ! tt) (and-then ! (lit ! tt) (no-more !)))) (from ! (stop !))
+        (init ! 14 refl (EL.lawful E.the-type E′.the-laws 𝓤 H A W tt .typed (Refused 25) _ refused-is .0)) $
         returns-within ! Post refl (look ! 14 refl) $
-        forget ! 4 refl $ forget ! 6 refl $ forget ! 10 refl $ forget ! 12 refl $ forget ! 14 refl $ move ! (14 ∷ 15 ∷ []) $ free1 ! $
-        move ! (12 ∷ 13 ∷ []) $ free1 ! $ move ! (10 ∷ 11 ∷ []) $ free1 ! $ move ! (8 ∷ 9 ∷ []) $ free1 ! $ move ! (6 ∷ 7 ∷ []) $ free1 ! $
-        move ! (4 ∷ 5 ∷ []) $ free1 ! $ move ! (2 ∷ 3 ∷ []) $ free1 ! $ move ! (0 ∷ 1 ∷ []) $ free1 ! $ free0 ! $
+        forget ! 4 refl $ forget ! 6 refl $ forget ! 10 refl $ forget ! 12 refl $ forget ! 14 refl $
+        move ! (14 ∷ 15 ∷ []) $ free1 ! $ move ! (12 ∷ 13 ∷ []) $ free1 ! $ move ! (10 ∷ 11 ∷ []) $ free1 ! $
+        move ! (8 ∷ 9 ∷ []) $ free1 ! $ move ! (6 ∷ 7 ∷ []) $ free1 ! $ move ! (4 ∷ 5 ∷ []) $ free1 ! $
+        move ! (2 ∷ 3 ∷ []) $ free1 ! $ move ! (0 ∷ 1 ∷ []) $ free1 ! $ free0 ! $
         owned ! E.the-row (Is E.the-row) (EL.makes E.the-type E′.the-plain 𝓤 H A) (Refused 25) _ refused-is $
         keep ! (2 ∷ 0 ∷ []) $ by ! (exits (Refused 25) _ (none-told ys k (not-eight ys other))))
         (λ same. let eight = is-eight ys same in
-        assigns ! (bin ! (lit ! tt) (load ! (from ! (stop !)) (look ! 10 refl)) tt) (from ! (stop !)) (store ! 4 refl (tt, tt)) $
+        assigns ! (bin ! (lit ! tt) (load ! (from ! (stop !)) (look ! 10 refl)) tt) (from ! (stop !))
+        (store ! 4 refl (tt, tt)) $
         unless ! (load ! (from ! (stop !)) (look ! 4 refl))
         (λ beyond.
-        assigns ! (agg ! (and-then ! (lit ! tt) (and-then ! (lit ! tt) (no-more !)))) (from ! (stop !)) (init ! 14 refl (EL.lawful E.the-type E′.the-laws 𝓤 H A W tt .typed (Refused 25) _ refused-is .0)) $
+        assigns ! (agg ! (and-then ! (lit ! tt) (and-then ! (lit ! tt) (no-more !)))) (from ! (stop !))
+        (init ! 14 refl (EL.lawful E.the-type E′.the-laws 𝓤 H A W tt .typed (Refused 25) _ refused-is .0)) $
         returns-within ! Post refl (look ! 14 refl) $
-        forget ! 4 refl $ forget ! 6 refl $ forget ! 10 refl $ forget ! 12 refl $ forget ! 14 refl $ move ! (14 ∷ 15 ∷ []) $ free1 ! $
-        move ! (12 ∷ 13 ∷ []) $ free1 ! $ move ! (10 ∷ 11 ∷ []) $ free1 ! $ move ! (8 ∷ 9 ∷ []) $ free1 ! $ move ! (6 ∷ 7 ∷ []) $ free1 ! $
-        move ! (4 ∷ 5 ∷ []) $ free1 ! $ move ! (2 ∷ 3 ∷ []) $ free1 ! $ move ! (0 ∷ 1 ∷ []) $ free1 ! $ free0 ! $
+        forget ! 4 refl $ forget ! 6 refl $ forget ! 10 refl $ forget ! 12 refl $ forget ! 14 refl $
+        move ! (14 ∷ 15 ∷ []) $ free1 ! $ move ! (12 ∷ 13 ∷ []) $ free1 ! $ move ! (10 ∷ 11 ∷ []) $ free1 ! $
+        move ! (8 ∷ 9 ∷ []) $ free1 ! $ move ! (6 ∷ 7 ∷ []) $ free1 ! $ move ! (4 ∷ 5 ∷ []) $ free1 ! $
+        move ! (2 ∷ 3 ∷ []) $ free1 ! $ move ! (0 ∷ 1 ∷ []) $ free1 ! $ free0 ! $
         owned ! E.the-row (Is E.the-row) (EL.makes E.the-type E′.the-plain 𝓤 H A) (Refused 25) _ refused-is $
         keep ! (2 ∷ 0 ∷ []) $ by ! (exits (Refused 25) _ (beyond-told ys k eight (ltb→lt 7 k beyond))))
         (λ below. let inside = nltb→le 7 k below in
         -- its record is copied out
-        assigns ! (bin ! (load ! (from ! (stop !)) (look ! 10 refl)) (lit ! tt) (scaled k inside)) (from ! (stop !)) (store ! 6 refl (tt, scaled k inside)) $
-        assigns ! (bin ! (load ! (from ! (fld ! refl (stop !))) (look-in ! 12 (sub ! 0 refl (whole !)))) (load ! (from ! (stop !)) (look ! 6 refl)) tt) (from ! (stop !)) (init ! 2 refl (tt, tt)) $
+        assigns ! (bin ! (load ! (from ! (stop !)) (look ! 10 refl)) (lit ! tt) (scaled k inside)) (from ! (stop !))
+        (store ! 6 refl (tt, scaled k inside)) $
+        assigns ! (bin ! (load ! (from ! (fld ! refl (stop !))) (look-in ! 12 (sub ! 0 refl (whole !))))
+        (load ! (from ! (stop !)) (look ! 6 refl)) tt) (from ! (stop !)) (init ! 2 refl (tt, tt)) $
         rewrite ! 2 (λ (p : ℕ). ‵ (fat fullShare tyPtr l₆ 0 (vptr b p))) (sym (place-is 984 o k)) refl $
         move ! (16 ∷ 17 ∷ []) $
-        looks-slice ! tt T.the-row (Is T.the-row) (shows 𝓤 H A T.the-row) vals (LL.tells T.the-type T′.the-laws) (LL.copy T.the-type T′.the-copy 𝓤 H A W) ys b o (λ q.
-        elem-out ! T.the-row (Is T.the-row) (shows 𝓤 H A T.the-row) vals (LL.tells T.the-type T′.the-laws) q ys k freshSession b o (has ys k eight inside) (λ g.
-        assigns ! (of-opd ! (load ! (from ! (hop ! (look ! 7 refl) (stop !))) (look-raw ! 0 refl))) (from ! (stop !)) (init ! 5 refl (LL.lawful T.the-type T′.the-laws 𝓤 H A W .typed (at ys k) _ g .0)) $
-        assigns ! (of-opd ! (load ! (from ! (stop !)) (look ! 5 refl))) (from ! (stop !)) (init ! 13 refl (LL.lawful T.the-type T′.the-laws 𝓤 H A W .typed (at ys k) _ g .0)) $
-        elem-back ! T.the-row q ys k freshSession (vals (at ys k)) b o (has ys k eight inside) $ shuts-slice ! tt T.the-row q ys b o $
+        looks-slice ! tt T.the-row (Is T.the-row) (shows 𝓤 H A T.the-row) vals (LL.tells T.the-type T′.the-laws)
+        (LL.copy T.the-type T′.the-copy 𝓤 H A W) ys b o (λ q.
+        elem-out ! T.the-row (Is T.the-row) (shows 𝓤 H A T.the-row) vals
+        (LL.tells T.the-type T′.the-laws) q ys k freshSession b o (has ys k eight inside) (λ g.
+        assigns ! (of-opd ! (load ! (from ! (hop ! (look ! 7 refl) (stop !))) (look-raw ! 0 refl))) (from ! (stop !))
+        (init ! 5 refl (LL.lawful T.the-type T′.the-laws 𝓤 H A W .typed (at ys k) _ g .0)) $
+        assigns ! (of-opd ! (load ! (from ! (stop !)) (look ! 5 refl))) (from ! (stop !))
+        (init ! 13 refl (LL.lawful T.the-type T′.the-laws 𝓤 H A W .typed (at ys k) _ g .0)) $
+        elem-back ! T.the-row q ys k freshSession (vals (at ys k)) b o (has ys k eight inside) $
+        shuts-slice ! tt T.the-row q ys b o $
         -- the call by value
         use0 W (raw (Step 𝓤 H A at-mem run .pre to-step)) (goes-step g) $
-        calls-at ! fm (Step 𝓤 H A at-mem run) known to-step (and-then ! (load ! (from ! (stop !)) (look ! 11 refl)) (no-more !)) (λ v.
-        use1 W (later (some (λ (r : ReadAnswer). (‵ ftrue ⊛ ‵ (E.the-row .own r (v ∷ []))) ⊛ raw (Told r)))) (id⊢ 𝓤 _) $ await ! tt $ pick ! (λ r. split ! $ move ! (1 ∷ []) $
-        use1 W (raw (fact 𝓤 (Holds r))) (said r) $ heard ! (Holds r) (λ e. split ! $ drop ! $ peeks ! E.the-row (Is E.the-row) (shows 𝓤 H A E.the-row) r (v ∷ []) (λ is.
-        land ! (from ! (stop !)) (init ! 17 refl (EL.lawful E.the-type E′.the-laws 𝓤 H A W tt .typed r _ is .0)) $ returns ! (look ! 17 refl) $
-        forget ! 3 refl $ forget ! 5 refl $ forget ! 7 refl $ forget ! 9 refl $ forget ! 11 refl $ forget ! 13 refl $ forget ! 15 refl $
-        forget ! 17 refl $ move ! (17 ∷ 18 ∷ []) $ free1 ! $ move ! (15 ∷ 16 ∷ []) $ free1 ! $ move ! (13 ∷ 14 ∷ []) $ free1 ! $
-        move ! (11 ∷ 12 ∷ []) $ free1 ! $ move ! (9 ∷ 10 ∷ []) $ free1 ! $ move ! (7 ∷ 8 ∷ []) $ free1 ! $ move ! (5 ∷ 6 ∷ []) $ free1 ! $
-        move ! (3 ∷ 4 ∷ []) $ free1 ! $ free0 ! $
+        calls-at ! fm (Step 𝓤 H A at-mem run) known to-step
+        (and-then ! (load ! (from ! (stop !)) (look ! 11 refl)) (no-more !)) (λ v.
+        use1 W (later (some (λ (r : ReadAnswer). (‵ ftrue ⊛ ‵ (E.the-row .own r (v ∷ []))) ⊛ raw (Told r))))
+        (id⊢ 𝓤 _) $ await ! tt $ pick ! (λ r. split ! $ move ! (1 ∷ []) $
+        use1 W (raw (fact 𝓤 (Holds r))) (said r) $ heard ! (Holds r)
+        (λ e. split ! $ drop ! $ peeks ! E.the-row (Is E.the-row) (shows 𝓤 H A E.the-row) r (v ∷ []) (λ is.
+        land ! (from ! (stop !)) (init ! 17 refl (EL.lawful E.the-type E′.the-laws 𝓤 H A W tt .typed r _ is .0)) $
+        returns ! (look ! 17 refl) $
+        forget ! 3 refl $ forget ! 5 refl $ forget ! 7 refl $ forget ! 9 refl $ forget ! 11 refl $ forget ! 13 refl $
+        forget ! 15 refl $ forget ! 17 refl $ move ! (17 ∷ 18 ∷ []) $ free1 ! $ move ! (15 ∷ 16 ∷ []) $ free1 ! $
+        move ! (13 ∷ 14 ∷ []) $ free1 ! $ move ! (11 ∷ 12 ∷ []) $ free1 ! $ move ! (9 ∷ 10 ∷ []) $ free1 ! $
+        move ! (7 ∷ 8 ∷ []) $ free1 ! $ move ! (5 ∷ 6 ∷ []) $ free1 ! $ move ! (3 ∷ 4 ∷ []) $ free1 ! $ free0 ! $
         keep ! (1 ∷ 0 ∷ []) $ by ! (exits r v (read-done ys k _ eight inside e))))))))))))))))))
 
 pub read-spec : {M : Type 1} → stated.statement M
@@ -209,5 +241,6 @@ read-spec 𝓤 H 𝓜 𝓖 𝓡 =
     (λ κs. (shr-slice-tells (named 0) (κs .0) T.the-row, (uint-tells w64, tt)))
     (λ κs qs bounds a _ are. via 𝓤 _ (fst∗ 𝓤 _ (emp 𝓤))
     (walk 𝓤 H (𝓖 .A) W (𝓜 .mem) (𝓡 .run) κs qs a (are .1 .0 .1) (𝓣 .C) (𝓣 .Λ) (fmOf 𝓤 H (W .laws) 𝓣)
-    (cited 𝓤 H (Step 𝓤 H (𝓖 .A) (𝓜 .mem) (𝓡 .run)) 𝓜 𝓡 code.env #step step-def.routine code.calls-session·state·Session·read
+    (cited 𝓤 H (Step 𝓤 H (𝓖 .A) (𝓜 .mem) (𝓡 .run)) 𝓜 𝓡 code.env #step step-def.routine
+    code.calls-session·state·Session·read
     (step-thm.met 𝓤 H 𝓜 𝓖 𝓡)) (are .0 .0 .1)))))
