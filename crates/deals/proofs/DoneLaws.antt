@@ -52,13 +52,13 @@ not-eight-done ss c h =
     }
 
 module _ (ss : List Session) (c : ScreenCall) (l : length ss ≡ 8) where
-  answer-by : (t : Target) → targetIn ss c ≡ t → answerAll ss c ≡ answerOf ss t
+  pub answer-by : (t : Target) → targetIn ss c ≡ t → answerAll ss c ≡ answerOf ss t
   unfolding answerAll
   answer-by t e =
       ap (λ (b : Bool). cond b (answerOf ss (targetIn ss c)) (one (refused 25))) (eq-eqb (length ss) 8 l)
       ∙ ap (answerOf ss) e
 
-  structs-by : (t : Target) → targetIn ss c ≡ t → structsAll ss c ≡ structsOf ss t
+  pub structs-by : (t : Target) → targetIn ss c ≡ t → structsAll ss c ≡ structsOf ss t
   unfolding structsAll
   structs-by t e = ap (λ (b : Bool). cond b (structsOf ss (targetIn ss c)) ss) (eq-eqb (length ss) 8 l)
       ∙ ap (structsOf ss) e

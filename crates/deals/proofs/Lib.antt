@@ -1,4 +1,6 @@
 pub mod FoundLaws
+pub mod BusyLaws
 pub mod DoneLaws
+pub mod LoadAllLaws
 pub mod OnRun
 pub mod RunTheorem

@@ -1,7 +1,7 @@
 -- A run of eight structs, and what a call of the screens promises of it.
 --
--- at ss i == screen i's struct; runs ss == which screens run, by their states alone; busy ss == which may not be
---   loaded: running, or no record
+-- at ss i == screen i's struct; runs ss == which screens run, by their states alone
+-- isBusy s, busy ss == whether a screen may not be loaded, and which: it runs, or its struct is no record
 -- runsIn ps == which screens run, by a list of states
 -- found run k == the number of the next running screen from number k on; 8 where none runs, 9 where k is above 7
 -- targetIn ss c == whose call c is: a Load asks for eight records that are at rest, any other call goes by the states
@@ -39,8 +39,11 @@ at ss i = getD ss i freshSession
 abbrev pub runs : List Session → Running
 runs ss i = isRunning (phaseOf (at ss i .head .phase))
 
+abbrev pub isBusy : Session → Bool
+isBusy s = not (valid s) || isRunning (phaseOf (s .head .phase))
+
 abbrev pub busy : List Session → Running
-busy ss i = not (valid (at ss i)) || runs ss i
+busy ss i = isBusy (at ss i)
 
 abbrev pub runsIn : List Phase → Running
 runsIn ps i = isRunning (phaseOf (getD ps i Empty))

@@ -1,6 +1,7 @@
 // Eight screens in place: "Deal takes &mut [Session], picks the next running one, hands it to the by-value advance"
-// (document 01). Start, Cancel and Read of one screen go the same way. Load over eight is not here: it takes and returns
-// the eight by value.
+// (document 01). Start, Cancel and Read of one screen go the same way. Load over eight takes and returns them by value.
+pub mod load;
+
 use session::answers::AdvanceAnswer;
 use session::answers::CallAnswer;
 use session::answers::ReadAnswer;
@@ -26,7 +27,7 @@ pub enum DealAnswer {
 }
 
 // Whether a screen in this state runs.
-fn is_running(p: Phase) -> bool
+pub fn is_running(p: Phase) -> bool
     ensures { λ r. ⌜ r ≡ isRunning (phaseOf p) ⌝ }
 {
     match p {
