@@ -3,8 +3,7 @@
 -- loadAnswer r == its answer, as it is compared: an accepted one tells 0, the screen to try first
 -- loadNumber ss x == the number of the first failing check; 0 where none fails
 -- LoadAllDone == the promise: that of a call of the screens, and the tables in the buffers given, excess untouched; as
---   at
---   entry where it is refused
+--   at entry where it is refused
 --
 -- Assumes nothing.
 use Prim.Native.Nat.{ℕ}

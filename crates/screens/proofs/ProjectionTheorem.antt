@@ -1,6 +1,5 @@
 -- Projection: what a screen is fed is a history of a single session; so each screen has its reference model, and no
--- other screen's
--- calls change its answers.
+-- other screen's calls change its answers.
 --     screen-alone         projection
 --     screens-references   with demand 3 of a single session, for each screen
 --     isolation-from       of two runs of eight records that agree on one screen

@@ -1,7 +1,6 @@
 -- A list of screen calls on plan A, computed: three screens, one cancelled, one refused with 18, a Load refused with 1,
--- a finished answer
--- read after a Cancel and gone after a Load. The premises of the theorems can be met, and their words say what they
--- should.
+-- a finished answer read after a Cancel and gone after a Load. The premises of the theorems can be met, and their words
+-- say what they should.
 --     sample-answers      what each call tells
 --     sample-references   what the reference models of screens 0, 3 and 5 settle of their calls
 --     sample-turns, sample-handed    who was served, and that the number was handed on as told

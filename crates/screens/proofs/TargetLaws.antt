@@ -2,9 +2,8 @@
 --     one-past-in      the screen to try first is one of the eight
 --     any-no, any-yes  whether any screen runs
 --     next-runs        the screen that a deal serves is one of the eight, and runs
---     Rightly, rightly what holds of a call's target: a Load's screens are at rest, and what it lends passes 2 to 11; a
---     screen is one of
---                      the eight; a turn is a screen's that runs
+--     Rightly, rightly what holds of a call's target: a Load's screens are at rest, and what it lends passes 2 to 11;
+--                      a screen is one of the eight; a turn is a screen's that runs
 --     target-same      a target goes by who of the eight runs
 -- Assumes nothing.
 use Prim.Native.Nat.{ℕ, zero, suc, _<_}

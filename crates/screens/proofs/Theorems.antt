@@ -1,24 +1,19 @@
 -- What document 02, S-8, asks of eight screens, each sentence by its theorem. Here they are of the model; every form of
--- the calls that
--- refines it has them too.
+-- the calls that refines it has them too.
 --
 -- "One deal gives one advance to the next running screen after the one served last, going from 7 back to 0":
--- deal-serves
--- "A deal with no screen running gives 1"; "gives 25, before everything else"; "0 after a Load, else one past the
--- screen served, 0 past 7.
---   A deal tells that number and what the advance tells": screens-demand-3, by the definition of a call's target and of
---   a turn's answer
+--   deal-serves
+-- "A deal with no screen running gives 1"; "gives 25, before everything else"; "0 after a Load, else one past the screen
+--   served, 0 past 7. A deal tells that number and what the advance tells": screens-demand-3, by the definition of a
+--   call's target and of a turn's answer
 -- "a screen that stays running is served within eight accepted deals": served-soon; and "while plan, rules and tables
--- are as Load left them"
---   every deal with a screen running is accepted: deal-taken
+--   are as Load left them" every deal with a screen running is accepted: deal-taken
 -- "no other is served twice between two successive turns of it in one question": turns-apart, between-turns
 -- "Between two accepted Loads, .. what a screen reads, and each of its refusals except Load's, must be the same":
--- isolation,
---   isolation-since-load
+--   isolation, isolation-since-load
 -- "Load is refused while any screen runs and clears them all": load-waits, load-clears, load-empties
 -- "Each screen has a panel book of its own, fed with the accepted Loads, its own calls and its turns as advances":
--- screen-alone,
---   screens-references, screens-demand-3
+--   screen-alone, screens-references, screens-demand-3
 -- A refused call alters nothing, and a refused deal tells no number: refused-alike
 --
 --     screens-hold      those about every list of calls, together

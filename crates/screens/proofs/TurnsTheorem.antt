@@ -1,6 +1,5 @@
 -- "a screen that stays running is served within eight accepted deals, and no other is served twice between two
--- successive turns of it in
--- one question": whatever is lent, and whatever the others start or cancel.
+-- successive turns of it in one question": whatever is lent, and whatever the others start or cancel.
 --     nearing          the screens served before screen i lie on the way to it, each farther than the one before
 --     served-soon, turns-apart, between-turns    the sentences, from any place of a history on
 -- Only the shape of answers is used (ShapeLaws). Assumes nothing.

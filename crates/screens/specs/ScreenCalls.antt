@@ -2,8 +2,7 @@
 --
 -- ScreenCall == "Start, Cancel and Read name a screen"; Load is for all; a deal is handed the screen to try first
 -- ScreenAnswer == what a call tells: an answer of a single session, every refusal among them; the screen to try first
---   after a Load; that
---   screen and what the advance tells after a deal
+--   after a Load; that screen and what the advance tells after a deal
 -- answerIn a == the answer of a single session in it; refuses a == whether it is a refusal
 -- Running == which screens run, by their numbers; nobodyRuns == none
 -- onePast i == the screen to try first after one that was served; servedBy k == the screen that was served, from that

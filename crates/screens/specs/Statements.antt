@@ -1,15 +1,13 @@
 -- What document 02, S-8, says of eight screens, over any form of the calls: `Step` is a call's contract, `fresh` the
--- run of eight
--- records before the first call.
+-- run of eight records before the first call.
 --
 -- ScreenAlone == projection: a history of the eight records, seen by one screen, is a history of a single session
 -- ScreensReferences == a reference model for each screen, fed the accepted Loads, its own calls and its turns
 -- Isolation, IsolationSinceLoad == "for the same own calls and turns with the same lent bytes in the same order, what a
---   screen reads, and
---   each of its refusals except Load's, must be the same"; a premise on calls, never on answers
+--   screen reads, and each of its refusals except Load's, must be the same"; a premise on calls, never on answers
 -- ServedSoon, TurnsApart, BetweenTurns == "a screen that stays running is served within eight accepted deals, and no
---   other is served twice
---   between two successive turns of it in one question", whatever is lent and whatever the others start or cancel
+--   other is served twice between two successive turns of it in one question", whatever is lent and whatever the
+--   others start or cancel
 -- DealTaken == "While plan, rules and tables are as Load left them" every deal with a screen running is accepted
 -- LoadClears, LoadEmpties, LoadWaits == "Load is refused while any screen runs and clears them all"
 -- RefusedAlike == a refused call alters nothing; a refused deal tells no number
