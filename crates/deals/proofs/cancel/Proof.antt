@@ -70,6 +70,7 @@ use Rattle.in_place.proofs.InPlace.{vals, spelled}
 use Rattle.deals.proofs.OnRun.{cooked, big-lit, unless, passed, Post, exits, met, is-eight, not-eight, scaled}
 use Rattle.deals.proofs.OnRun.{has}
 use Rattle.deals.proofs.DoneLaws.{not-eight-done, Names, names-cancel, beyond-screen, to-screen}
+use Rattle.deals.proofs.Promised.{cancelPromised as Promised}
 use Rattle.deals.proofs.cancel.Key.{name as #this}
 use Rattle.deals.proofs.cancel as this
 use Rattle.deals.proofs.cancel.Statement as stated
@@ -77,9 +78,6 @@ use Rattle.deals.proofs.cancel.Code as code
 
 abbrev lends : List (Lending 1)
 lends = []
-
-abbrev Promised : (κs : Lfts 1) (a : Args this.signature κs) → CallAnswer → AtExit this.ended κs → Type 0
-Promised κs a r e = ScreenDone (now (a .0)) (screens.cancelOn (a .1 .0)) (screens.one (callAnswer r)) (now (e .0))
 
 told-is : (r : Called) (v : Val) → Is O.the-row r (v ∷ [])
     → Is D.the-row (r .answer) (EL.vals D.the-type D′.the-laws (r .answer))

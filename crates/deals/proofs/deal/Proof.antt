@@ -87,6 +87,7 @@ use Rattle.deals.proofs.OnRun.{cooked, big-lit, unless, passed, Post, e
 use Rattle.deals.proofs.OnRun.{has}
 use Rattle.deals.proofs.FoundLaws.{phases}
 use Rattle.deals.proofs.DoneLaws.{not-eight-done, beyond-deal, deal-none, deal-served}
+use Rattle.deals.proofs.Promised.{dealPromised as Promised}
 use Rattle.deals.proofs.deal.Key.{name as #this}
 use Rattle.deals.proofs.deal as this
 use Rattle.deals.proofs.deal.Statement as stated
@@ -94,11 +95,6 @@ use Rattle.deals.proofs.deal.Code as code
 
 abbrev lends : List (Lending 5)
 lends = shared 1 tt u8 ∷ shared 2 tt u8 ∷ shared 3 tt u16 ∷ shared 4 tt u8 ∷ []
-
-abbrev Promised : (κs : Lfts 5) (a : Args this.signature κs) → DealAnswer → AtExit this.ended κs → Type 0
-Promised κs a r e = ScreenDone (now (a .0))
-    (screens.deal (a .1 .0) (inputsOf (now (a .1 .1 .0)) (now (a .1 .1 .1 .0)) (now (a .1 .1 .1 .1 .0))
-    (now (a .1 .1 .1 .1 .1 .0)))) (dealAnswer r) (now (e .0))
 
 told-is : (r : Advanced) (v : Val) → Is O.the-row r (v ∷ [])
     → Is E.the-row (r .answer) (EL.vals E.the-type E′.the-laws (r .answer))

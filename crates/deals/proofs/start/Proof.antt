@@ -70,6 +70,7 @@ use Rattle.in_place.proofs.InPlace.{vals, spelled}
 use Rattle.deals.proofs.OnRun.{cooked, big-lit, unless, passed, Post, exits, met, is-eight, not-eight, scaled}
 use Rattle.deals.proofs.OnRun.{has}
 use Rattle.deals.proofs.DoneLaws.{not-eight-done, Names, names-start, beyond-screen, to-screen}
+use Rattle.deals.proofs.Promised.{startPromised as Promised}
 use Rattle.deals.proofs.start.Key.{name as #this}
 use Rattle.deals.proofs.start as this
 use Rattle.deals.proofs.start.Statement as stated
@@ -77,12 +78,6 @@ use Rattle.deals.proofs.start.Code as code
 
 abbrev lends : List (Lending 7)
 lends = shared 1 tt u8 ∷ shared 2 tt u8 ∷ shared 3 tt u16 ∷ shared 4 tt u8 ∷ shared 5 tt u16 ∷ shared 6 tt u8 ∷ []
-
-abbrev Promised : (κs : Lfts 7) (a : Args this.signature κs) → StartAnswer → AtExit this.ended κs → Type 0
-Promised κs a r e = ScreenDone (now (a .0))
-    (screens.startOn (a .1 .0) (inputsOf (now (a .1 .1 .0)) (now (a .1 .1 .1 .0)) (now (a .1 .1 .1 .1 .0))
-    (now (a .1 .1 .1 .1 .1 .0))) (now (a .1 .1 .1 .1 .1 .1 .0)) (now (a .1 .1 .1 .1 .1 .1 .1 .0)))
-    (screens.one (startAnswer r)) (now (e .0))
 
 told-is : (r : Started) (v : Val) → Is O.the-row r (v ∷ [])
     → Is D.the-row (r .answer) (EL.vals D.the-type D′.the-laws (r .answer))
