@@ -1,4 +1,5 @@
--- What the contracts over a run of structs promise, as their walks prove it and as the prover reads it off the sources, is
+-- What the contracts over a run of structs promise, as their walks prove it and as the prover reads it off the sources,
+-- is
 -- what the theorem over lists of screen calls takes (`ScreenInPlace`). A contract that promises less is refused by its
 -- walk; a promise that says less is refused here.
 --     dealPromised, startPromised, cancelPromised   the contracts; Read's is the equation that `reads` takes

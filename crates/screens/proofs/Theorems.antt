@@ -3,9 +3,9 @@
 --
 -- "One deal gives one advance to the next running screen after the one served last, going from 7 back to 0":
 --   deal-serves
--- "A deal with no screen running gives 1"; "gives 25, before everything else"; "0 after a Load, else one past the screen
---   served, 0 past 7. A deal tells that number and what the advance tells": screens-demand-3, by the definition of a
---   call's target and of a turn's answer
+-- "A deal with no screen running gives 1"; "gives 25, before everything else"; "0 after a Load, else one past the
+--   screen served, 0 past 7. A deal tells that number and what the advance tells": screens-demand-3, by the definition
+--   of a call's target and of a turn's answer
 -- "a screen that stays running is served within eight accepted deals": served-soon; and "while plan, rules and tables
 --   are as Load left them" every deal with a screen running is accepted: deal-taken
 -- "no other is served twice between two successive turns of it in one question": turns-apart, between-turns

@@ -62,7 +62,8 @@ loop-again c =
     let l = c .before .before .before .before .loop in (
       omega arith,
       any-on _ (l .left) (omega arith)
-          (busy-at (b .args .t1) (l .left - 1) _ (eight b) (omega arith) ∙ sym (c .before .is-busy .ensures) ∙ c .if1 .left)
+          (busy-at (b .args .t1) (l .left - 1) _ (eight b) (omega arith) ∙ sym (c .before .is-busy .ensures)
+          ∙ c .if1 .left)
           (l .inv .1),
     )
 
