@@ -72,7 +72,7 @@ pub fn advance(
     out.answer
 }
 
-// Ends a question: the record is as after a first Load.
+// Ends a question: the record is as after a first Load, but for the last finished answer, which is kept.
 pub fn cancel(s: &mut Session) -> CallAnswer
     ensures { λ r. ⌜ CallDone (now (s .entry)) calls.cancel (callAnswer r) (now (s .exit)) ⌝ }
 {
@@ -82,7 +82,7 @@ pub fn cancel(s: &mut Session) -> CallAnswer
     out.answer
 }
 
-// Tells the root's state, the yes or no, the parts and the links.
+// Tells the last finished answer: the root's state, the yes or no, the parts and the links.
 pub fn read(s: &Session) -> ReadAnswer
     ensures { λ r. ⌜ readAnswer r ≡ answerOn (now (s .entry)) calls.read ⌝ }
 {

@@ -93,11 +93,12 @@ fn answer_of(h: Head, q: u8, links: u32, yes: bool) -> Last
     requires { ⌜ StepArgs h links ⌝ }
     ensures { λ r. ⌜ r ≡ answerOf h q links yes ⌝ }
 {
+    let all = h.links + links;
     let outcome = Outcome {
         state: q,
         yes,
         parts: h.parts,
-        links: h.links + links,
+        links: all,
     };
     Last {
         present: true,
