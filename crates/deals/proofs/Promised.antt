@@ -1,7 +1,6 @@
 -- What the contracts over a run of structs promise, as their walks prove it and as the prover reads it off the sources,
--- is
--- what the theorem over lists of screen calls takes (`ScreenInPlace`). A contract that promises less is refused by its
--- walk; a promise that says less is refused here.
+-- is what the theorem over lists of screen calls takes (`ScreenInPlace`). A contract that promises less is refused by
+-- its walk; a promise that says less is refused here.
 --     dealPromised, startPromised, cancelPromised   the contracts; Read's is the equation that `reads` takes
 --     deal-tied, start-tied, cancel-tied, load-tied
 -- Assumes nothing.
