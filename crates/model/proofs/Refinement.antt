@@ -3,10 +3,9 @@
 --     refines     so histories of the first are histories of the second
 -- Assumes nothing.
 use mathlib.Core.List.{List, [], _∷_}
-use Rattle.model.specs.Calls.{Call, Answer}
 use Rattle.model.specs.History.{History, done, call}
 
-module _ {A B : Type 0} (StepA : A → Call → Answer → A → Type 0) (StepB : B → Call → Answer → B → Type 0) (Seen : A
+module _ {A B Call Answer : Type 0} (StepA : A → Call → Answer → A → Type 0) (StepB : B → Call → Answer → B → Type 0) (Seen : A
     → B → Type 0) where
   -- each step of the first form, seen as one of the second
   abbrev pub Refines : Type 0

@@ -1,0 +1,7 @@
+pub mod FoundLaws
+pub mod BusyLaws
+pub mod DoneLaws
+pub mod LoadAllLaws
+pub mod OnRun
+pub mod Promised
+pub mod RunTheorem

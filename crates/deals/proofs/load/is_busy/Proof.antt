@@ -1,0 +1,27 @@
+-- `deals::load::is_busy` meets its contract.
+-- Assumes nothing.
+use Rattle.deals.proofs.BusyLaws.{busy-broken, busy-valid}
+use native.Mathlib.Omega.{arith}
+use borrow.Author.Needs.{needs}
+use Rattle.deals.proofs.load.is_busy.Statement.{statement}
+use Rattle.deals.proofs.load.is_busy.Tie as tie
+use Rattle.deals.proofs.load.is_busy.Reads as reads
+use Rattle.deals.proofs.load.is_busy.Lts as lts
+use Rattle.deals.proofs.is_running.Reads as is-running-reads
+use Rattle.session.proofs.state.Session.valid.Reads as valid-reads
+
+valid-requires : tie.Need-valid-requires
+valid-requires c κs = search needs
+
+returns : tie.Need-returns
+returns c = busy-broken _ _ (c .before .valid .ensures) (c .if1 .taken)
+
+is-running-requires : tie.Need-is-running-requires
+is-running-requires c κs = search needs
+
+returns-2 : tie.Need-returns-2
+returns-2 c = busy-valid _ _ _ (c .before .before .before .valid .ensures) (c .before .before .if1 .left)
+    (c .is-running .ensures)
+
+pub is-busy-spec : {M : Type 1} → statement M
+is-busy-spec = tie.close (tie.spec valid-requires returns is-running-requires returns-2)

@@ -1,0 +1,64 @@
+-- `deals::told_of` meets its contract.
+-- Assumes nothing.
+use Prim.Native.Nat.{ℕ}
+use mathlib.Core.Path.{sym, ap, _∙_}
+use Rattle.model.specs.Calls.{more, finished}
+use Rattle.session.specs.declared.answers.AdvanceAnswer.{AdvanceAnswer}
+use Rattle.session.specs.Answers.{advanceAnswer}
+use Rattle.screens.specs.ScreenCalls.{deals, turnAnswer}
+use Rattle.deals.specs.OnStructs.{dealAnswer}
+use native.Mathlib.Omega.{arith}
+use borrow.Author.Needs.{needs}
+use Rattle.deals.proofs.told_of.Statement.{statement}
+use Rattle.deals.proofs.told_of.Tie as tie
+use Rattle.deals.proofs.told_of.Reads as reads
+use Rattle.deals.proofs.told_of.Lts as lts
+use Rattle.deals.proofs.one_past.Reads as one-past-reads
+
+one-past-requires : tie.Need-one-past-requires
+one-past-requires c κs = search needs
+
+cast-next : tie.Need-cast-next
+cast-next c = search needs
+
+enum-told : tie.Need-enum-told
+enum-told c = search needs
+
+enum-told-2 : tie.Need-enum-told-2
+enum-told-2 c = search needs
+
+enum-known-answer : tie.Need-enum-known-answer
+enum-known-answer c = search needs
+
+returns : tie.Need-returns
+unfolding dealAnswer turnAnswer advanceAnswer
+returns c =
+    let i = c .before .before .before .args .i in
+    ap (λ (k : ℕ). deals k more) (c .before .before .one-past .ensures .0)
+    ∙ ap (λ (t : AdvanceAnswer). turnAnswer i (advanceAnswer t)) (sym (c .enum-told .given .1))
+
+returns-2 : tie.Need-returns-2
+unfolding dealAnswer turnAnswer advanceAnswer
+returns-2 c =
+    let i = c .before .before .before .args .i in
+    ap (λ (k : ℕ). deals k finished) (c .before .before .one-past .ensures .0)
+    ∙ ap (λ (t : AdvanceAnswer). turnAnswer i (advanceAnswer t)) (sym (c .enum-told2 .given .1))
+
+returns-3 : tie.Need-returns-3
+unfolding dealAnswer turnAnswer advanceAnswer
+returns-3 c =
+    let i = c .before .before .before .before .args .i in
+    ap (λ (t : AdvanceAnswer). turnAnswer i (advanceAnswer t)) (sym (c .before .answer .given .1))
+
+pub told-of-spec : {M : Type 1} → statement M
+told-of-spec =
+    tie.close
+    (tie.spec
+    one-past-requires
+    cast-next
+    enum-told
+    enum-told-2
+    enum-known-answer
+    returns
+    returns-2
+    returns-3)

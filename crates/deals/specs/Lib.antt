@@ -1,0 +1,3 @@
+pub mod OnStructs
+pub mod LoadAll
+pub mod ScreensInPlace

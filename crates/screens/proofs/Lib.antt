@@ -1,0 +1,15 @@
+pub mod RecordLaws
+pub mod TargetLaws
+pub mod EightLaws
+pub mod ProjectionTheorem
+pub mod LoadTheorem
+pub mod ReferencesTheorem
+pub mod Steps
+pub mod ShapeLaws
+pub mod TurnsTheorem
+pub mod SinceLoad
+pub mod LentLaws
+pub mod DealTheorem
+pub mod NextLaws
+pub mod Theorems
+pub mod Sample

@@ -1,0 +1,6 @@
+pub mod ScreenCalls
+pub mod EightRecords
+pub mod Projection
+pub mod EightReferences
+pub mod Turns
+pub mod Statements
