@@ -1,0 +1,2 @@
+pub mod ColourCells
+pub mod AsBuilt
