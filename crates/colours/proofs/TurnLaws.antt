@@ -4,7 +4,7 @@
 --     recolour-all                  after all turns it is the next copy
 --     lands-turn, lands-place what colour c lands on is known in its turn: the lower colour that has the state, or
 --     itself
---     recolour-map, lands-map       a step's copy from the states that it leads to
+--     map-at, recolour-map, lands-map   a step's copy from the states that it leads to
 -- Assumes nothing.
 use Prim.Native.Nat.{ℕ, zero, suc, _+_, _<_}
 use mathlib.Core.Path.{_≡_, refl, sym, ap, ap₂, _∙_}
@@ -90,7 +90,7 @@ pub recolour-map : (f : ℕ → ℕ) (above : List ℕ) → recolour f above ≡
 unfolding recolour
 recolour-map f above = from-map f [] above
 
-map-at : (f : ℕ → ℕ) (xs : List ℕ) (c : ℕ) → c < length xs → getD (map f xs) c 0 ≡ f (getD xs c 0)
+pub map-at : (f : ℕ → ℕ) (xs : List ℕ) (c : ℕ) → c < length xs → getD (map f xs) c 0 ≡ f (getD xs c 0)
 map-at f [] c h = absurd (omega arith)
 map-at f (x ∷ xs) zero h = refl
 map-at f (x ∷ xs) (suc c) h = map-at f xs c (omega arith)
