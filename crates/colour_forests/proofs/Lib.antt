@@ -1,3 +1,4 @@
 pub mod RowCells
 pub mod RowLoop
 pub mod Theorems
+pub mod ColourLoop

@@ -1,6 +1,6 @@
 -- The cells of a row and of the table it is put into.
 --     below-marked, -none, -same, next-root, next-below   the row of a node, by the tests on the way
---     part-put, part-length, part-at                      a colour's table among all numbers
+--     part-put, part-length                               a colour's table among all numbers
 --     put-up, put-jump, put-depth, put-apart              what stands in a table after a row was put into it
 -- Assumes nothing.
 use Prim.Native.Nat.{ℕ, _+_, _-_, _*_, _≤_, _<_}
@@ -47,9 +47,6 @@ module _ (n c : ℕ) (nums : List ℕ) where
   pub part-length : c * (n * 4) + n * 4 ≤ length nums → length (colourPart n c nums) ≡ n * 4
   part-length h =
       length-take-le (n * 4) (drop (c * (n * 4)) nums) (omega (arith, length-drop (c * (n * 4)) nums))
-
-  pub part-at : (i : ℕ) → i < n * 4 → getD (colourPart n c nums) i 0 ≡ getD nums (c * (n * 4) + i) 0
-  part-at i h = getD-take (n * 4) (drop (c * (n * 4)) nums) i 0 h ∙ getD-drop (c * (n * 4)) nums i 0
 
 part-set : (n c : ℕ) (nums : List ℕ) (i j a : ℕ) → j ≡ c * (n * 4) + i → i < n * 4
     → colourPart n c (set nums j a) ≡ set (colourPart n c nums) i a

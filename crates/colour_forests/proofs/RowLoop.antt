@@ -26,8 +26,9 @@ use Rattle.node_tables.specs.inner.DownPass.{byDistances, JumpArgs}
 use Rattle.colour_tables.specs.ColourCells.{colourPart}
 use Rattle.colour_forests.specs.Rows.{rowBelow, nextRow, putRow, BelowArgs, NextArgs, Given}
 use Rattle.colour_forests.specs.Rows.{RowIs, RowsFrom}
+use Rattle.colour_tables.proofs.LayoutLaws.{part-at}
 use Rattle.colour_forests.proofs.RowCells.{below-marked, below-none, below-same, next-root, next-below}
-use Rattle.colour_forests.proofs.RowCells.{part-length, part-at, part-put, put-up, put-jump, put-depth, put-apart}
+use Rattle.colour_forests.proofs.RowCells.{part-length, part-put, put-up, put-jump, put-depth, put-apart}
 
 pub rows-start : (t : Tree) (m : ℕ → Bool) (n c : ℕ) (nums : List ℕ) → RowsFrom t m n c n nums nums
 rows-start t m n c nums = record { rows = λ v a b. absurd (omega arith); kept = λ j a. refl }

@@ -1,5 +1,6 @@
 -- What the pass leaves, in terms of the colours of a tree.
 --     given-lands    parents in the first table and the colours landed on in colour c's make the pass's premise
+--     lands-kept     the colours landed on stay
 --     rows-colour    then its rows are those of colour c as built
 --     other-part     and the tables of all other colours, the first one included, are as they were
 -- Assumes nothing.
@@ -19,11 +20,18 @@ use Rattle.colours.specs.Copies.{landsAt, fallsAt}
 use Rattle.colour_tables.specs.AsBuilt.{ColourRow}
 use Rattle.colour_tables.specs.ColourCells.{colourPart}
 use Rattle.colour_forests.specs.Rows.{Given, RowIs, Apart, RowsFrom}
-use Rattle.colour_forests.proofs.RowCells.{part-at}
+use Rattle.colour_tables.proofs.LayoutLaws.{part-at}
 
 -- the fourth numbers are not written
 lands-apart : (n c v : ℕ) → Apart n c (c * (n * 4) + (v * 4 + 3))
 lands-apart n c v w h = (λ e. omega arith, λ e. omega arith, λ e. omega arith)
+
+pub lands-kept : (t : Tree) (m : ℕ → Bool) (n c i : ℕ) (before after : List ℕ) → RowsFrom t m n c i before after
+    → (v : ℕ) → v < n → sizeCell (colourPart n c after) v ≡ sizeCell (colourPart n c before) v
+lands-kept t m n c i before after R v h =
+    part-at n c after (v * 4 + 3) (omega arith)
+    ∙ R .kept (c * (n * 4) + (v * 4 + 3)) (lands-apart n c v)
+    ∙ sym (part-at n c before (v * 4 + 3) (omega arith))
 
 module _ (k : ℕ) (step : ℕ → ℕ → ℕ) (t : Tree) (c : ℕ) (before after : List ℕ)
     (parents : (v : ℕ) → v + 1 < size t → parentCell before v ≡ parent t v)
@@ -39,9 +47,7 @@ module _ (k : ℕ) (step : ℕ → ℕ → ℕ) (t : Tree) (c : ℕ) (before aft
         parents = r .parents;
         jumps = r .jumps;
         depths = r .depths;
-        lands = part-at (size t) c after (v * 4 + 3) (omega arith)
-            ∙ R .kept (c * (size t * 4) + (v * 4 + 3)) (lands-apart (size t) c v)
-            ∙ sym (part-at (size t) c before (v * 4 + 3) (omega arith)) ∙ landed v h;
+        lands = lands-kept t (fallsAt k step t c) (size t) c 0 before after R v h ∙ landed v h;
       }
 
 -- a number of another colour's table

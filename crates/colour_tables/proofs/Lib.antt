@@ -1,1 +1,2 @@
 pub mod BuiltLaws
+pub mod LayoutLaws

@@ -1,2 +1,3 @@
+pub mod Layout
 pub mod ColourCells
 pub mod AsBuilt
