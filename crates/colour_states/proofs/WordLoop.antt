@@ -66,7 +66,7 @@ module _ (ls st : List ℕ) (s k : ℕ) (e₀ m₀ : List ℕ) (A : WordArgs ls 
         inside = λ c i.
             (let x : getD row c 0 < s = above-below s (stepBy st k t₀) t₀ 0 (keeps t₀) e₀ m₀ (A .given .parents) v b m
             (from t₀ (A .given)) (omega (arith, is₀)) row (row-of t₀ (A .given)) c i in
-            omega (arith, stride k (getD row c 0) s x, A .step-count));
+            omega (arith, stride k (getD row c 0) s x, A .steps-room));
       }
 
       module _ (led : List ℕ) (a : ℕ) (L : RowOf s (λ c. getD st (getD row c 0 * k + a) 0) led) where

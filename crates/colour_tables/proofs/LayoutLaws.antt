@@ -87,7 +87,7 @@ module _ (n : ℕ) (step : ℕ → ℕ → ℕ) (t : Tree) where
   numbers-cells b e zero p h v l = absurd (omega arith)
   numbers-cells b e (suc c) p h v l =
       let at : (j : ℕ) → j < 4
-          → getD (colourPart (size t) (suc c) b) (v * 4 + j) 0 ≡ getD (colourRow n step t (suc c) v) j 0 =
+      → getD (colourPart (size t) (suc c) b) (v * 4 + j) 0 ≡ getD (colourRow n step t (suc c) v) j 0 =
       λ j i. part-at (size t) (suc c) b (v * 4 + j) (omega arith)
       ∙ cells-of-rows n (size t * 4) (colourTable n step t) (λ d q. length-table d) b e (suc c) (v * 4 + j) h (omega arith)
       ∙ table-cell c v j l i in

@@ -40,7 +40,7 @@ pub record WordArgs (ls st : List ℕ) (s k : ℕ) (numbers bytes : List ℕ) : 
   pub few : s ≤ 16
   pub label-most : k ≤ 64
   pub below : (j : ℕ) → getD ls j 0 < k
-  pub step-count : length st ≡ s * k
+  pub steps-room : s * k ≤ length st
   pub step-below : (j : ℕ) → getD st j 0 < s
   pub number-room : s * (length ls * 4) ≤ length numbers
   pub byte-room : length ls * s ≤ length bytes

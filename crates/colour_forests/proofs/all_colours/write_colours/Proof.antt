@@ -18,11 +18,11 @@ abbrev μ-loop : tie.MeasureT-loop
 μ-loop numbers₀ n k c₀ numbers c = k - c
 
 loop-holds : tie.Need-loop-holds Inv-loop μ-loop
-loop-holds c = 
+loop-holds c =
     (omega arith, refl, all-start (c .before .args .n) (c .before .args .k) (c .before .args .numbers .now))
 
 write-colour-requires : tie.Need-write-colour-requires Inv-loop μ-loop
-write-colour-requires c κs = 
+write-colour-requires c κs =
     let i = c .before in
     let a = i .before in
     let s = a .before .before in
@@ -36,7 +36,7 @@ loop-less : tie.Need-loop-less Inv-loop μ-loop
 loop-less c = search needs
 
 loop-again : tie.Need-loop-again Inv-loop μ-loop
-loop-again c = 
+loop-again c =
     let w = c .before .before in
     let i = w .before .before in
     let a = i .before in
@@ -51,7 +51,7 @@ same-length : tie.Need-same-length Inv-loop μ-loop
 same-length c = search needs
 
 returns : tie.Need-returns Inv-loop μ-loop
-returns c = 
+returns c =
     let a = c .before in
     let s = a .before .before in
     all-done (s .args .n) (s .args .k) (s .args .numbers .now) (a .loop .c) (a .loop .numbers) (a .loop .inv .2)
