@@ -1,2 +1,3 @@
 pub mod BuiltLaws
 pub mod LayoutLaws
+pub mod RangeLaws

@@ -23,7 +23,7 @@ use Rattle.colours.specs.Descents.{done, lost, fell, fellAt, fellBy, des
 use Rattle.colours.proofs.DescentLaws.{next-done, next-search, next-outside, fell-lower, descend-next}
 use Rattle.colours.proofs.DescentLaws.{same-after}
 
-fell-inside : (F : Forest) (lands : ℕ → ℕ) (c to l x d k : ℕ) → nextFrom F lands c to l ≡ fell x d k → x < F .nodes
+pub fell-inside : (F : Forest) (lands : ℕ → ℕ) (c to l x d k : ℕ) → nextFrom F lands c to l ≡ fell x d k → x < F .nodes
 unfolding nextFrom fellBy fellAt
 fell-inside F lands c to l x d k e =
     outer (ltb to (seenAt F lands c l)) (ltb (lowestIn F lands c l) (F .nodes)) (climb F (lowestIn F lands c l) to) refl refl e
