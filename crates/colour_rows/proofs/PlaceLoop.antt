@@ -2,6 +2,7 @@
 --     Places, places-start, -turn, -found, -past   the place of q among the first c
 --     place-held, place-free                       what the place tells
 --     frees-turn, frees-found, frees-past          the lowest state that is not there
+--     Seen, seen-..                                the place of q in a whole row
 -- Assumes nothing.
 use Prim.Native.Nat.{ℕ, suc, _+_, _≤_, _<_}
 use mathlib.Core.Path.{_≡_, refl, sym, ap, _∙_}
@@ -107,3 +108,36 @@ module _ (row : List ℕ) (c : ℕ) (few : c ≤ 16) (long : length row ≡ 16) 
             ]),
           ))
       go false e = refl
+
+-- ---- the place in a whole row
+
+module _ (row : List ℕ) (q : ℕ) where
+  -- q is at none of the first i places
+  pub record Seen (i : ℕ) : Type 0 where
+    pub within : i ≤ length row
+    pub rest : placeOf q row ≡ i + placeOf q (drop i row)
+
+  pub seen-start : Seen 0
+  seen-start = record { within = omega arith; rest = omega arith }
+
+  head : (i : ℕ) → i < length row → drop i row ≡ getD row i 0 ∷ drop (suc i) row
+  head i h = drop-cons row i 0 h
+
+  pub seen-next : (i : ℕ) → Seen i → i < length row → (getD row i 0 ≡ q → ⊥) → Seen (i + 1)
+  unfolding placeOf
+  seen-next i S h n =
+      let e : placeOf q (drop i row) ≡ suc (placeOf q (drop (suc i) row)) =
+      ap (placeOf q) (head i h) ∙ rw (ne-eqb q (getD row i 0) (λ z. n (sym z))) in
+      record { within = omega arith; rest = rw (add-one i) (omega (arith, S .rest)) }
+
+  pub seen-found : (i : ℕ) → Seen i → i < length row → getD row i 0 ≡ q → (i ≡ placeOf q row) × (i ≤ length row)
+  unfolding placeOf
+  seen-found i S h e =
+      let z : placeOf q (drop i row) ≡ 0 = ap (placeOf q) (head i h) ∙ rw (eq-eqb q (getD row i 0) (sym e)) in
+      (omega (arith, S .rest), omega arith)
+
+  pub seen-past : (i : ℕ) → Seen i → length row ≤ i → (i ≡ placeOf q row) × (i ≤ length row)
+  unfolding placeOf
+  seen-past i S h =
+      let z : placeOf q (drop i row) ≡ 0 = ap (placeOf q) (drop-of-length-le row h) in
+      (omega (arith, S .rest), omega (arith, S .within))

@@ -61,14 +61,14 @@ module _ (F : Forest) where
           → (climbEnd F (target F m) ms ≡ v) ⊎ Linked (climbEnd F (target F m) ms)
       go s ih = elim (ih (next-inside F v t m (s .next)) (s .more)) [
         | inl q ↦ inr (record {
-            from = v;
-            inside = h;
-            deep = omega (arith, s .deeper);
-            leads = elim (here m (s .next)) [
-              | inl z ↦ inl (q ∙ z)
-              | inr z ↦ inr (q ∙ z)
-            ];
-          })
+          from = v;
+          inside = h;
+          deep = omega (arith, s .deeper);
+          leads = elim (here m (s .next)) [
+            | inl z ↦ inl (q ∙ z)
+            | inr z ↦ inr (q ∙ z)
+          ];
+        })
         | inr q ↦ inr q
       ]
 

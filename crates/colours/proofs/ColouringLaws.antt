@@ -1,6 +1,6 @@
 -- The laws of a colouring, for any number of states and any step.
 --     lowest-free                    the lowest free number is free, nothing below it is, and it is at most the length
---     place-lt, place-at             the colour of a state, and back
+--     place-lt, place-at, place-of   the colour of a state, and back
 --     has-colour                     in a colouring every state has a colour
 --     recolour-colouring             the next copy is a colouring again
 --     lands-state                    the colour that a colour lands on has the state that its state leads to
@@ -20,7 +20,7 @@ use lib.ListN.{length, getD, length-append}
 use borrow.Author.Tests.{eqb-true, eq-eqb}
 use Rattle.list_laws.specs.Tests.{holds, distinct}
 use Rattle.list_laws.proofs.BoolLaws.{true-false}
-use Rattle.list_laws.proofs.TestLaws.{at-holds, distinct-head, distinct-tail, distinct-cons}
+use Rattle.list_laws.proofs.TestLaws.{at-holds, distinct-head, distinct-tail, distinct-cons, distinct-at}
 use Rattle.list_laws.proofs.Choice.{le-or}
 use Rattle.colours.specs.Colouring.{freeFrom, lowestFree, takes, recolourFrom, recolour, placeOf, lands, Colouring}
 use Rattle.colours.proofs.Pigeonhole.{holds-here, holds-later, holds-other, first, cover, full}
@@ -121,6 +121,17 @@ place-le q (x ∷ xs) ys = go (eqb q x) (place-le q xs ys)
         → cond b 0 (suc (placeOf q (xs ++ (q ∷ ys)))) ≤ length (x ∷ xs)
     go true ih = omega arith
     go false ih = omega (arith, ih)
+
+-- of different states: the place of the state at place c is c
+pub place-of : (xs : List ℕ) (c : ℕ) → distinct xs ≡ true → c < length xs → placeOf (getD xs c 0) xs ≡ c
+place-of xs c d h =
+    let q : ℕ = getD xs c 0 in
+    let e : holds q xs ≡ true = at-holds q xs c h refl in
+    let a : getD xs (placeOf q xs) 0 ≡ q = place-at q xs e in
+    let b : placeOf q xs < length xs = place-lt q xs e in
+    le-or (placeOf q xs) c
+    (λ l. le-or c (placeOf q xs) (λ m. omega arith) (λ m. absurd (distinct-at xs (placeOf q xs) c d m h a)))
+    (λ l. absurd (distinct-at xs c (placeOf q xs) d l b (sym a)))
 
 -- ---- the lowest free number
 

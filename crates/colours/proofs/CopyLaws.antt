@@ -1,11 +1,12 @@
 -- The laws of the copies at a tree's nodes.
+--     top-at, top-colour                    the top copy
 --     copy-colouring, copyAbove-colouring   each state has one colour
 --     copyAbove-root, copyAbove-down        the copy above a node: the top copy, or its parent's
 --     copy-recolour                         a copy from the one above
 --     landsAt-state, landsAt-le a colour's state leads to the state of the colour it lands on, which is no higher
 -- Assumes nothing.
 use Prim.Native.Nat.{ℕ, zero, suc, _+_, _≤_, _<_}
-use mathlib.Core.Path.{_≡_, refl, ap}
+use mathlib.Core.Path.{_≡_, refl, sym, ap, _∙_}
 use native.Mathlib.Omega.{arith}
 use lib.ListN.{length, getD}
 use Rattle.list_laws.proofs.TestLaws.{at-distinct}
@@ -14,9 +15,9 @@ use Rattle.trees.specs.Numbering.{parent, depth}
 use Rattle.list_laws.specs.Rows.{tabulate}
 use Rattle.trees.proofs.NodeLaws.{up, depth-root}
 use Rattle.list_laws.proofs.RowLaws.{length-tabulate, getD-tabulate}
-use Rattle.colours.specs.Colouring.{recolour, Colouring}
+use Rattle.colours.specs.Colouring.{recolour, placeOf, Colouring}
 use Rattle.colours.specs.Copies.{topCopy, copyIn, copy, copyAbove, landsAt}
-use Rattle.colours.proofs.ColouringLaws.{recolour-colouring, lands-state, lands-le}
+use Rattle.colours.proofs.ColouringLaws.{place-of, recolour-colouring, lands-state, lands-le}
 
 pub top-at : (n s : ℕ) → s < n → getD (topCopy n) s 0 ≡ s
 unfolding topCopy
@@ -35,6 +36,12 @@ top-colouring n =
         getD-tabulate n (λ s. s) j (omega arith),
       ));
     }
+
+-- in the top copy each state has the colour of its own number
+pub top-colour : (n s : ℕ) → s < n → placeOf s (topCopy n) ≡ s
+top-colour n s h =
+    let C : Colouring n (topCopy n) = top-colouring n in
+    ap (λ (q : ℕ). placeOf q (topCopy n)) (sym (top-at n s h)) ∙ place-of (topCopy n) s (C .once) (omega (arith, C .count))
 
 module _ (n : ℕ) (step : ℕ → ℕ → ℕ) (t : Tree) where
   pub copy-recolour : (v : ℕ) → copy n step t v ≡ recolour (step v) (copyAbove n step t v)
