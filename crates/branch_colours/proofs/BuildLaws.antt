@@ -4,15 +4,17 @@
 --     accepted                 what the checks say of inputs that pass
 --     part-args, parts-filled  N, S and K as read, and the parts as what the writers need
 --     parts-written            what the writers leave is what the build has to write
+--     built-coloured           the buffers afterwards are as built, whatever their excess is
 -- Assumes nothing.
 use Prim.Native.Nat.{ℕ, _+_, _-_, _*_, _≤_, _<_}
 use mathlib.Core.Path.{_≡_, sym, ap, ap₂, _∙_}
 use mathlib.Core.Bool.{Bool, true, false, not}
-use mathlib.Core.List.{List, [], _∷_, _++_}
+use mathlib.Core.List.{List, [], _++_}
 use native.Mathlib.Omega.{arith}
 use native.Mathlib.Nat.{mul-le-mul}
 use lib.Dec.{leb}
 use lib.ListN.{length, take, drop}
+use lib.Seq.{take-at}
 use borrow.Author.Tests.{le-leb, lt-leb, leb-true, not-true, not-false}
 use Rattle.list_laws.specs.Tests.{allBelow}
 use Rattle.list_laws.proofs.BoolLaws.{and-left, and-right}
@@ -27,9 +29,12 @@ use Rattle.formats.proofs.BranchLaws.{BranchPasses, length-branchSteps, step-be
 use Rattle.formats.proofs.InputLaws.{branch-table-passes, branch-table-numbered, label-below}
 use Rattle.formats.proofs.InputAnswers.{last-part}
 use Rattle.colours.specs.Words.{wordStep}
-use Rattle.colour_tables.specs.Layout.{colourNumbersOf, copiesOf, colourNumbersLength, copiesLength}
+use Rattle.colour_tables.specs.Layout.{colourNumbersLength, copiesLength}
 use Rattle.colour_tables.proofs.LayoutLaws.{length-numbers, length-copies}
-use Rattle.branch_colours.specs.Build.{coloursFit, branchColourChecks, builtColourNumbers, builtCopies}
+use Rattle.tables.specs.declared.answers.Building.{Building}
+use Rattle.tables.specs.Answers.{buildingNumber, BuildDone}
+use Rattle.tables.proofs.BuildLaws.{built-lists}
+use Rattle.branch_colours.specs.Build.{coloursFit, branchColourChecks, builtColourNumbers, builtCopies, BranchColoured}
 use Rattle.branch_colours.specs.inner.Filled.{FillArgs, ColoursFilled, Filled, PartArgs, ColoursWritten}
 
 -- ---- check 11
@@ -154,3 +159,24 @@ module _ (p r : List ℕ) (n s k l m : ℕ) (args : PartArgs p r n s k l m) wher
         bytes-are = G .bytes-are ∙ ap (λ (i : ℕ). builtCopies p r ++ drop i b)
             (sym (length-copies (stateCount r) (wordStep (branchAutomaton r) t) t (λ v q h. step-below r R _)));
       }
+
+-- ---- as built
+
+-- whatever the buffers were, an accepted build leaves them as built
+pub built-coloured : (p r numbers bytes numbers′ bytes′ : List ℕ) (answer : Building)
+    → BuildDone (firstNo (branchColourChecks p r (length numbers) (length bytes))) (builtColourNumbers p r) (builtCopies p r)
+    numbers bytes answer numbers′ bytes′
+    → buildingNumber answer ≡ 0 → BranchColoured p r numbers′ bytes′
+built-coloured p r numbers bytes numbers′ bytes′ answer D e =
+    let q = built-lists _ (builtColourNumbers p r) (builtCopies p r) numbers bytes answer numbers′ bytes′ D e in
+    let A : Accepted p r (length numbers) (length bytes) = accepted p r (length numbers) (length bytes) (q .0) in
+    let t : Tree = planTree p in
+    let z : size t ≡ nodeCount p = size-planTree p (A .0) in
+    let s : ℕ = stateCount r in
+    record {
+      accepted = table-passed p r (length numbers) (length bytes) (q .0);
+      numbers-are = rw (q .1) (take-at (builtColourNumbers p r) _ (colourNumbersLength (nodeCount p) s)
+          (length-numbers s (wordStep (branchAutomaton r) t) t ∙ ap (λ (n : ℕ). s * (n * 4)) z));
+      bytes-are = rw (q .2) (take-at (builtCopies p r) _ (copiesLength (nodeCount p) s)
+          (length-copies s (wordStep (branchAutomaton r) t) t (λ v x h. step-below r (A .1) _) ∙ ap (λ (n : ℕ). n * s) z));
+    }

@@ -3,28 +3,25 @@
 --     filled                              what they leave together
 -- Assumes nothing.
 use Prim.Native.Nat.{ℕ, _+_, _-_, _*_, _≤_, _<_}
-use mathlib.Core.Path.{_≡_, refl, sym, ap, _∙_}
+use mathlib.Core.Path.{_≡_, sym, ap, _∙_}
 use mathlib.Core.List.{List, _++_}
 use native.Mathlib.Omega.{arith}
-use lib.ListN.{length, getD, drop, List·getD-append, length-append}
+use lib.ListN.{length, getD, drop, List·getD-append}
 use lib.Seq.{getD-append-add, getD-drop}
 use Rattle.list_laws.proofs.RowLaws.{stride}
 use Rattle.trees.specs.Tree.{Tree, size, kindsOf, labelsOf}
 use Rattle.trees.specs.Tables.{nodeTableOf}
-use Rattle.trees.specs.Numbering.{parent}
 use Rattle.trees.proofs.NodeLaws.{length-labels, length-kinds}
 use Rattle.trees.proofs.PostorderLaws.{tree-postorder}
 use Rattle.formats.specs.Checks.{nodeTableLength}
-use Rattle.node_tables.specs.Cells.{NodeTableArgs, parentCell, sizeCell}
+use Rattle.node_tables.specs.Cells.{NodeTableArgs}
 use Rattle.node_tables.specs.NodeCells.{NodeCells}
 use Rattle.node_tables.proofs.CellLaws.{length-nodeTableOf, take-table, link-cells}
-use Rattle.colours.specs.Copies.{copy, landsAt}
-use Rattle.colour_tables.specs.ColourCells.{colourPart}
 use Rattle.colour_tables.proofs.LayoutLaws.{part-at, numbers-over, copies-over}
 use Rattle.colour_states.specs.Written.{Elsewhere, CopiesFrom}
 use Rattle.colour_states.specs.inner.WordPass.{stepBy, WordGiven, WordsFrom, WordArgs}
 use Rattle.colour_forests.specs.Colours.{Landed, ColoursTo, ColoursArgs}
-use Rattle.branch_colours.specs.inner.Filled.{FillArgs, ColoursFilled, Filled}
+use Rattle.branch_colours.specs.inner.Filled.{FillArgs, Filled}
 
 -- what the build of the node table leaves
 abbrev pub Linked : List ℕ → List ℕ → List ℕ → Type 0

@@ -10,23 +10,22 @@ use mathlib.Core.Bool.{Bool, true, false, cond}
 use mathlib.Core.List.{List}
 use mathlib.Core.Option.{Option, none, some}
 use native.Mathlib.Omega.{arith}
-use lib.Dec.{ltb, eqb}
-use lib.ListN.{length, getD, take, drop}
-use borrow.Author.Tests.{lt-ltb, le-ltb, ltb-true, ltb-false}
+use lib.Dec.{ltb}
+use lib.ListN.{getD}
+use borrow.Author.Tests.{lt-ltb, le-ltb}
 use Rattle.list_laws.proofs.BoolLaws.{true-false}
 use Rattle.trees.specs.Automaton.{WordAutomaton}
 use Rattle.trees.specs.Climb.{andThen}
 use Rattle.formats.specs.Plan.{nodeCount}
-use Rattle.formats.specs.Rules.{stateCount, labelCount, branchMarks, branchAutomaton}
+use Rattle.formats.specs.Rules.{stateCount, branchMarks, branchAutomaton}
 use Rattle.tables.specs.Climbs.{below}
 use Rattle.branches.specs.declared.answers.Reading.{Reading}
-use Rattle.colours.specs.Descents.{Place, Descent, descent, drops, links, descend}
+use Rattle.colours.specs.Descents.{Place, Descent, drops, links, descend}
 use Rattle.colour_tables.specs.ColourCells.{cellTable}
 use Rattle.colour_tables.proofs.RangeLaws.{descend-low}
 use Rattle.descents.specs.declared.descend.Descended.{Descended}
 use Rattle.descents.specs.Descended.{descendedOf}
-use Rattle.branch_descents.specs.declared.answers.Descending.{Descending}
-use Rattle.branch_descents.specs.declared.answers.Descending.the-variants.{Answered, Refused}
+use Rattle.branch_descents.specs.declared.answers.Descending.the-variants.{Refused}
 use Rattle.branch_descents.specs.Question.{startOn, colourIn, Coloured, coloured, colouredOn, colourAnswer}
 use Rattle.branch_descents.specs.inner.Steps.{placeAt, numberedPlace, finishOn}
 

@@ -38,7 +38,7 @@ use Rattle.branches.specs.Promise.{wordOf}
 use Rattle.colours.specs.Colouring.{placeOf, Colouring}
 use Rattle.colours.specs.Copies.{copy, copyAbove}
 use Rattle.colours.specs.Descents.{Place, Descent, drops, links, descend}
-use Rattle.colours.specs.Words.{wordStep, aboveOf, colourAbove, colourHere, withUpper, belowUpper, wordState}
+use Rattle.colours.specs.Words.{wordStep, aboveOf, colourAbove, colourHere, withUpper, belowUpper}
 use Rattle.colours.proofs.ColouringLaws.{place-lt, has-colour}
 use Rattle.colours.proofs.CopyLaws.{top-colour, copyAbove-root, copyAbove-down, copy-colouring, copyAbove-colouring}
 use Rattle.colours.proofs.WordLaws.{WordAnswer}
@@ -49,7 +49,7 @@ use Rattle.colour_tables.specs.Layout.{colourNumbersOf, copiesOf, colourNumbers
 use Rattle.colour_tables.proofs.LayoutLaws.{length-numbers, length-copies, numbers-cells, copies-cells}
 use Rattle.colour_tables.proofs.RangeLaws.{descend-low}
 use Rattle.descents.proofs.Theorems.{upper-built, below-built}
-use Rattle.branch_descents.specs.Question.{colourBuffersFit, startOn, copyRow, colourIn, Coloured, coloured, colouredOn}
+use Rattle.branch_descents.specs.Question.{colourBuffersFit, startOn, copyRow, colourIn, coloured, colouredOn}
 use Rattle.branch_descents.specs.Promise.{BranchColoursBuilt, wordDescent}
 use Rattle.branch_descents.proofs.FitLaws.{are-fits}
 use Rattle.branch_descents.proofs.AnswerLaws.{on-some, below-yes, fromEnd, fromColour, fromPlace}

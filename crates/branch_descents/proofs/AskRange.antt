@@ -29,8 +29,6 @@ use Rattle.colours.specs.Descents.{Place, Descent, drops, links, descend}
 use Rattle.colours.proofs.AgreeLaws.{PlaceIn}
 use Rattle.colour_tables.specs.ColourCells.{cellTable}
 use Rattle.colour_tables.proofs.RangeLaws.{descend-cause, descend-low}
-use Rattle.branch_descents.specs.declared.answers.Descending.{Descending}
-use Rattle.branch_descents.specs.declared.answers.Descending.the-variants.{Answered, Refused}
 use Rattle.branch_descents.specs.Question.{colourBuffersFit, startOn, copyRow, colourIn, Coloured, coloured, colouredOn}
 use Rattle.branch_descents.specs.Question.{colourChecks, colourNumber, colourAnswer, colourAskAnswer}
 use Rattle.branch_descents.specs.OutOfRange.{BranchColoursOutOfRange, parent, colour, start, state}

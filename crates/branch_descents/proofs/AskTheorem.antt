@@ -3,13 +3,11 @@
 --     ask-apart   16 where it is not, so 18 never
 --     ask-done    the whole promise, for whatever answers as colourAskAnswer does
 -- Assumes nothing.
-use Prim.Native.Nat.{ℕ, _+_, _-_, _*_, _≤_, _<_}
+use Prim.Native.Nat.{ℕ, _+_, _-_, _≤_, _<_}
 use mathlib.Core.Path.{_≡_, refl, sym, ap, _∙_, subst}
 use mathlib.Core.Bool.{Bool, true, false}
 use mathlib.Core.List.{List}
-use mathlib.Core.Option.{some}
 use native.Mathlib.Omega.{arith}
-use lib.ListN.{length}
 use Rattle.trees.specs.Tree.{Tree, size}
 use Rattle.trees.specs.Numbering.{sub, AtOrBelow}
 use Rattle.trees.proofs.IntervalLaws.{ancestor-interval, interval-ancestor}
@@ -23,7 +21,6 @@ use Rattle.colours.proofs.Theorems.{links-limit}
 use Rattle.branch_descents.specs.declared.answers.Descending.{Descending}
 use Rattle.branch_descents.specs.declared.answers.Descending.the-variants.{Refused}
 use Rattle.branch_descents.specs.Question.{colourAnswer, colourNumber, colourAskAnswer, descendingNumber}
-use Rattle.branch_descents.specs.OutOfRange.{BranchColoursOutOfRange}
 use Rattle.branch_descents.specs.Promise.{BranchColoursBuilt, DescentAnswer, stateKept, ColourAskDone}
 use Rattle.branch_descents.proofs.AskChecks.{ask-number, ask-16, ask-on, ask-not-below}
 use Rattle.branch_descents.proofs.AskRange.{ask-out-of-range, ask-kept}

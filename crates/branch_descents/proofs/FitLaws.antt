@@ -3,14 +3,13 @@
 --     Fits, fits-are, are-fits                           what a yes says, and back
 -- Assumes nothing.
 use Prim.Native.Nat.{ℕ, _+_, _*_, _≤_, _<_}
-use mathlib.Core.Path.{_≡_, sym, ap, ap₂, _∙_}
+use mathlib.Core.Path.{_≡_}
 use mathlib.Core.Bool.{Bool, true, false, _&&_}
 use mathlib.Core.List.{List}
-use native.Mathlib.Omega.{arith}
 use lib.Dec.{leb, eqb}
 use lib.ListN.{length}
 use borrow.Author.Tests.{leb-true, le-leb, lt-leb, eqb-true, eq-eqb, ne-eqb}
-use Rattle.list_laws.proofs.BoolLaws.{and-left, and-right, and-both}
+use Rattle.list_laws.proofs.BoolLaws.{and-left, and-right}
 use Rattle.formats.specs.Plan.{nodeCount, planLength}
 use Rattle.formats.specs.Rules.{stateCount, labelCount, branchLength}
 use Rattle.formats.specs.Checks.{nodeTableLength}

@@ -11,7 +11,6 @@ use formats::buffers::headers_fit;
 use formats::bytes::read32;
 use node_tables::moves::is_below;
 ghost use mathlib.Core.Path.{_≡_};
-ghost use lib.ListN.{length};
 ghost use Rattle.branches.specs.declared.answers.Reading.the-variants.{WithUpper, BelowUpper};
 ghost use Rattle.branch_descents.specs.Question.{colourBuffersFit, colouredOn, colourAnswer};
 ghost use Rattle.branch_descents.specs.Promise.{ColourAskDone};

@@ -14,8 +14,8 @@ use lib.ListN.{length, getD}
 use Rattle.list_laws.proofs.RowLaws.{stride}
 use Rattle.trees.specs.Tree.{Tree, size}
 use Rattle.trees.specs.Numbering.{parent}
-use Rattle.node_tables.specs.Cells.{parentCell, sizeCell}
-use Rattle.colours.specs.Copies.{landsAt, fallsAt}
+use Rattle.node_tables.specs.Cells.{parentCell}
+use Rattle.colours.specs.Copies.{fallsAt}
 use Rattle.colour_tables.specs.ColourCells.{colourPart}
 use Rattle.colour_tables.specs.AsBuilt.{ColourRow}
 use Rattle.colour_forests.specs.Rows.{Given, Apart, RowsFrom, WriteArgs}

@@ -8,7 +8,7 @@ use mathlib.Core.Path.{_≡_, refl, ap, _∙_}
 use mathlib.Core.List.{List}
 use native.Mathlib.Omega.{arith}
 use lib.ListN.{length, getD, take, drop, set, length-set, length-drop}
-use lib.Seq.{length-take-le, getD-take, getD-drop, getD-set-same, getD-set-other, drop-set-add, take-set-lt}
+use lib.Seq.{length-take-le, getD-set-same, getD-set-other, drop-set-add, take-set-lt}
 use borrow.Author.Tests.{lt-ltb, le-ltb, eq-eqb, ne-eqb}
 use Rattle.node_tables.specs.Cells.{parentCell, jumpCell, depthCell, sizeCell}
 use Rattle.node_tables.specs.inner.DownPass.{byDistances}

@@ -6,16 +6,14 @@
 -- Assumes nothing.
 use Prim.Native.Nat.{ℕ, zero, suc, _+_, _*_, _≤_, _<_}
 use mathlib.Core.Path.{_≡_, refl, sym, ap, _∙_}
-use mathlib.Core.List.{List, [], _∷_, _++_}
+use mathlib.Core.List.{List, _++_}
 use native.Mathlib.Omega.{arith}
-use native.Mathlib.Decide.{ℕ-discrete}
 use lib.ListN.{length, getD, take, drop}
 use lib.Seq.{getD-take, getD-drop}
 use Rattle.list_laws.specs.Rows.{rows}
 use Rattle.list_laws.proofs.RowLaws.{Cell, cell-split, length-rows, getD-rows, rows-over, cells-of-rows}
 use Rattle.trees.specs.Tree.{Tree, size}
 use Rattle.trees.specs.Tables.{nodeTableOf}
-use Rattle.node_tables.specs.Cells.{parentCell, jumpCell, depthCell, sizeCell}
 use Rattle.node_tables.proofs.CellLaws.{length-nodeTableOf}
 use Rattle.colours.specs.Copies.{copy}
 use Rattle.colours.proofs.CopyLaws.{copy-colouring}

@@ -9,21 +9,19 @@ use mathlib.Core.List.{List, [], _∷_}
 use mathlib.Core.Logic.{_⊎_, inl, inr}
 use mathlib.Core.Option.{Option, none, some}
 use native.Mathlib.Omega.{arith}
-use native.Mathlib.Nat.{le-refl}
 use lib.Dec.{ltb}
 use lib.ListN.{length}
 use borrow.Author.Tests.{ltb-true, ltb-false}
 use Rattle.list_laws.proofs.Choice.{le-or}
-use Rattle.trees.specs.Climb.{Forest, Move, byJump, toParent, target, nextMove, andThen, climb, climbEnd, carry}
+use Rattle.trees.specs.Climb.{Forest, Move, target, nextMove, andThen, climb, climbEnd, carry}
 use Rattle.trees.specs.LinkOutOfRange.{LinkOutOfRange, parent-outside}
 use Rattle.trees.proofs.MoveLaws.{none-some, next-inside, next-starts}
-use Rattle.trees.proofs.CarryLaws.{carried}
 use Rattle.trees.proofs.ClimbLaws.{Split, climb-cons}
-use Rattle.trees.proofs.LinkRangeLaws.{Failed, carried-none}
+use Rattle.trees.proofs.LinkRangeLaws.{carried-none}
 use Rattle.marks.specs.Marks.{bit}
 use Rattle.colours.specs.Descents.{ColourTable, Place, seenAt, lowestIn, nextFrom, seen, nextDrop}
 use Rattle.colours.specs.Descents.{Next, done, lost, fell, fellAt, fellBy, Descent, withSearch, afterNext, descend}
-use Rattle.colours.proofs.DescentLaws.{next-done, next-search, next-outside, fell-lower}
+use Rattle.colours.proofs.DescentLaws.{next-done, next-search, fell-lower}
 use Rattle.colour_tables.specs.OutOfRange.{ColourOutOfRange, link, level}
 
 -- ---- one climb

@@ -1,8 +1,6 @@
 // The sets that those of a row lead to, one step down.
 use crate::bits::preimage;
 ghost use Prim.Native.Nat.{_≤_};
-ghost use lib.ListN.{length, getD};
-ghost use Rattle.colours.specs.StateSets.{setOf, member};
 ghost use Rattle.set_steps.specs.Sets.{ImageArgs, LedBy};
 
 // The preimages of the first k sets of a row by `ups`.

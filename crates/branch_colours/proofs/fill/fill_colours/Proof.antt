@@ -1,7 +1,6 @@
 -- `fill_colours` meets its contract: its three writers, one after the other. Assumes nothing.
 use mathlib.Core.Path.{refl, _∙_}
 use Rattle.branch_colours.proofs.FillLaws.{node-args, word-args, colour-args, filled}
-use native.Mathlib.Omega.{arith}
 use borrow.Author.Needs.{needs}
 use Rattle.branch_colours.proofs.fill.fill_colours.Statement.{statement}
 use Rattle.branch_colours.proofs.fill.fill_colours.Tie as tie

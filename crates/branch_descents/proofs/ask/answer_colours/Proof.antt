@@ -1,7 +1,6 @@
 -- `answer_colours` meets its contract: each way out cites the law of its answer. Assumes nothing.
 use Prim.Native.Nat.{_+_, _*_, _≤_, _<_}
-use mathlib.Core.Path.{_≡_, sym, _∙_}
-use mathlib.Core.Bool.{true}
+use mathlib.Core.Path.{_≡_, _∙_}
 use native.Mathlib.Nat.{mul-le-mul}
 use lib.ListN.{length, length-drop}
 use borrow.Author.Tests.{not-true, not-false}

@@ -4,7 +4,6 @@ use Rattle.colours.specs.Descents.{Place, descend}
 use Rattle.colour_tables.specs.ColourCells.{cellTable}
 use Rattle.descents.specs.Descended.{descendedOf}
 use Rattle.branch_descents.proofs.StepLaws.{place-top, place-node}
-use native.Mathlib.Omega.{arith}
 use borrow.Author.Needs.{needs}
 use Rattle.branch_descents.proofs.steps.descend_to.Statement.{statement}
 use Rattle.branch_descents.proofs.steps.descend_to.Tie as tie

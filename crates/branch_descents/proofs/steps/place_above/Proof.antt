@@ -1,6 +1,5 @@
 -- `place_above` meets its contract, by the way each test went. Assumes nothing.
 use Rattle.branch_descents.proofs.StepLaws.{place-root, place-outside, place-parent}
-use native.Mathlib.Omega.{arith}
 use borrow.Author.Needs.{needs}
 use Rattle.branch_descents.proofs.steps.place_above.Statement.{statement}
 use Rattle.branch_descents.proofs.steps.place_above.Tie as tie

@@ -1,6 +1,5 @@
 -- `start_place` meets its contract, reading by reading. Assumes nothing.
 use Rattle.branch_descents.proofs.StepLaws.{place-here}
-use native.Mathlib.Omega.{arith}
 use borrow.Author.Needs.{needs}
 use Rattle.branch_descents.proofs.steps.start_place.Statement.{statement}
 use Rattle.branch_descents.proofs.steps.start_place.Tie as tie

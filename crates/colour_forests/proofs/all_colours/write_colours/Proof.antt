@@ -1,5 +1,5 @@
 -- `write_colours` meets its contract: the tables of the colours below c are written. Assumes nothing.
-use Prim.Native.Nat.{ℕ, _-_, _<_}
+use Prim.Native.Nat.{_-_, _<_}
 use mathlib.Core.Path.{_≡_, refl}
 use lib.ListN.{length}
 use Rattle.colour_forests.proofs.ColourLoop.{AllColours, all-start, all-args, all-next, all-done}

@@ -2,7 +2,6 @@
 use Prim.Native.Nat.{_-_}
 use lib.ListN.{length}
 use Rattle.colour_rows.proofs.PlaceLoop.{Seen, seen-start, seen-next, seen-found, seen-past}
-use native.Mathlib.Omega.{arith}
 use borrow.Author.Needs.{needs}
 use Rattle.colour_rows.proofs.places.place_of.Statement.{statement}
 use Rattle.colour_rows.proofs.places.place_of.Tie as tie

@@ -1,6 +1,6 @@
-use Prim.Native.Nat.{ℕ, _+_, _-_, _*_, _≤_, _<_, max}
+use Prim.Native.Nat.{_+_, _-_, _*_, _≤_, _<_, max}
 use mathlib.Core.Path.{_≡_, refl}
-use lib.ListN.{length, getD, length-set}
+use lib.ListN.{length, length-set}
 use native.Mathlib.Nat.{mul-le-mul-right}
 use Rattle.colour_states.specs.inner.Rows.{LandedTo}
 use Rattle.colour_states.proofs.RowLoop.{land-in, land-start, land-next, land-all}

@@ -1,6 +1,6 @@
-use Prim.Native.Nat.{ℕ, _+_, _-_, _*_, _≤_, _<_}
+use Prim.Native.Nat.{_-_, _≤_}
 use mathlib.Core.Path.{_≡_, refl}
-use lib.ListN.{length, getD, length-set}
+use lib.ListN.{length, length-set}
 use Rattle.colour_states.specs.inner.Rows.{PutTo}
 use Rattle.colour_states.proofs.RowLoop.{put-start, put-next, put-all}
 use native.Mathlib.Omega.{arith}

@@ -1,6 +1,6 @@
-use Prim.Native.Nat.{ℕ, _+_, _-_, _*_, _≤_, _<_}
-use mathlib.Core.Path.{_≡_, refl}
-use lib.ListN.{length, getD, length-set}
+use Prim.Native.Nat.{_+_, _-_, _≤_}
+use mathlib.Core.Path.{refl}
+use lib.ListN.{getD}
 use Rattle.colour_states.specs.inner.Rows.{RowOf}
 use Rattle.colour_states.proofs.RowLoop.{row-start, row-next, row-all}
 use native.Mathlib.Omega.{arith}

@@ -1,6 +1,5 @@
 -- `bit_of` meets its contract: a shift and a mask tell membership. Assumes nothing.
 use Rattle.set_steps.proofs.BitLaws.{bit-is}
-use native.Mathlib.Omega.{arith}
 use borrow.Author.Needs.{needs}
 use Rattle.set_steps.proofs.bits.bit_of.Statement.{statement}
 use Rattle.set_steps.proofs.bits.bit_of.Tie as tie

@@ -1,9 +1,8 @@
 -- `preimage` meets its contract: r is the preimage among the first i states. Assumes nothing.
-use Prim.Native.Nat.{ℕ, _+_, _-_, _*_, _^_, _≤_, _<_}
-use mathlib.Core.Path.{_≡_, refl, sym, ap, _∙_}
+use Prim.Native.Nat.{ℕ, _-_, _^_, _≤_, _<_}
+use mathlib.Core.Path.{_≡_, ap, _∙_}
 use lib.Dec.{lit<}
 use lib.ListN.{length, getD}
-use Rattle.marks.specs.Marks.{bit}
 use Rattle.colours.specs.StateSets.{setOf, member}
 use Rattle.set_steps.proofs.BitLaws.{image-start, image-next}
 use native.Mathlib.Omega.{arith}

@@ -1,6 +1,5 @@
 -- `with_bit` meets its contract: past all members a union is a sum. Assumes nothing.
 use Rattle.set_steps.proofs.BitLaws.{joined, bound}
-use native.Mathlib.Omega.{arith}
 use borrow.Author.Needs.{needs}
 use Rattle.set_steps.proofs.bits.with_bit.Statement.{statement}
 use Rattle.set_steps.proofs.bits.with_bit.Tie as tie
