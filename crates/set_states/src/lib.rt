@@ -1,0 +1,2 @@
+// The states that lead from a node to its parent: what a step down over sets of states reads.
+pub mod ups;
