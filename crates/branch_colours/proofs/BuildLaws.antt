@@ -22,7 +22,8 @@ use Rattle.trees.specs.Tree.{Tree, size}
 use Rattle.formats.specs.Plan.{nodeCount, labelsIn, kindsIn, planTree}
 use Rattle.formats.specs.Rules.{stateCount, labelCount, branchSteps, branchAutomaton}
 use Rattle.formats.specs.Checks.{firstNo, branchTableChecks}
-use Rattle.formats.proofs.CheckLaws.{firstNo-none, firstNo-yes, firstNo-no, firstNo-head, firstNo-append-left, firstNo-append-right}
+use Rattle.formats.proofs.CheckLaws.{firstNo-none, firstNo-yes, firstNo-no, firstNo-head, firstNo-append-left}
+use Rattle.formats.proofs.CheckLaws.{firstNo-append-right}
 use Rattle.formats.proofs.PlanLaws.{PlanPasses, length-labelsIn, kinds-planTree, labels-planTree, size-planTree}
 use Rattle.formats.proofs.PlanLaws.{labels-part, kinds-part}
 use Rattle.formats.proofs.BranchLaws.{BranchPasses, length-branchSteps, step-below, steps-part}
@@ -34,7 +35,8 @@ use Rattle.colour_tables.proofs.LayoutLaws.{length-numbers, length-copies}
 use Rattle.tables.specs.declared.answers.Building.{Building}
 use Rattle.tables.specs.Answers.{buildingNumber, BuildDone}
 use Rattle.tables.proofs.BuildLaws.{built-lists}
-use Rattle.branch_colours.specs.Build.{coloursFit, branchColourChecks, builtColourNumbers, builtCopies, BranchColoured}
+use Rattle.branch_colours.specs.Build.{coloursFit, branchColourChecks, builtColourNumbers, builtCopies}
+use Rattle.branch_colours.specs.Build.{BranchColoured}
 use Rattle.branch_colours.specs.inner.Filled.{FillArgs, ColoursFilled, Filled, PartArgs, ColoursWritten}
 
 -- ---- check 11

@@ -3,7 +3,8 @@
 -- coloursFit n s numbers bytes == buffers of these lengths have room for n nodes and s colours
 -- branchColourChecks p r numbers bytes == 2 to 10, then 11; the last two are the lengths of the buffers
 -- builtColourNumbers p r, builtCopies p r == the numbers and the bytes that the build writes
--- BranchColoured p r numbers bytes == plan and branch table pass 2 to 10 and both buffers begin with what the build writes
+-- BranchColoured p r numbers bytes == plan and branch table pass 2 to 10 and both buffers begin with what the build
+--   writes
 --
 -- "a short one gives 11 in the build". The colours of a branch table are its states' own: S of them.
 -- Assumes nothing.

@@ -37,7 +37,8 @@ fn check_branch_colours(plan: &[u8], branch: &[u8], numbers: usize, bytes: usize
     0
 }
 
-// Writes the tables of colours of a plan and a branch table, or answers the first check of 2 to 11 that fails and alters nothing.
+// Writes the tables of colours of a plan and a branch table, or answers the first check of 2 to 11 that fails and
+// alters nothing.
 pub fn build_branch_colours(
     plan: &[u8],
     branch: &[u8],

@@ -1,4 +1,5 @@
-// The tables of colours of a plan and a branch table: the plan's node table, the states of the colours and what they land on,
+// The tables of colours of a plan and a branch table: the plan's node table, the states of the colours and what they
+// land on,
 // and then each colour's own table.
 use colour_forests::all_colours::write_colours;
 use colour_states::words::write_words;
@@ -25,7 +26,8 @@ fn fill_colours(
     write_colours(numbers, labels.len(), s);
 }
 
-// The same from a plan of n nodes and a branch table of s states and k labels: labels, kinds and steps are handed on as parts.
+// The same from a plan of n nodes and a branch table of s states and k labels: labels, kinds and steps are handed on
+// as parts.
 pub fn write_branch_colours(
     plan: &[u8],
     branch: &[u8],

@@ -1,6 +1,7 @@
 -- A branch question by colours on tables as built.
 --     fits-built   17 passes
---     descent-built, on-built   the answer is the word automaton's, with the drops and links of the descent by the tree's own
+--     descent-built, on-built the answer is the word automaton's, with the drops and links of the descent by the
+--       tree's own
 --       colours
 -- Assumes nothing.
 use Prim.Native.Nat.{ℕ, _+_, _*_, _≤_, _<_}

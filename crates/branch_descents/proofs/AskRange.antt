@@ -1,5 +1,6 @@
 -- 18 and its cause.
---     on-cause           where there is no answer, a value leads outside the plan or the states, does not rise or leads to no fall
+--     on-cause where there is no answer, a value leads outside the plan or the states, does not rise or leads to no
+--       fall
 --     ask-out-of-range   so it is where 18 is answered
 --     ask-kept           an answer's state is below S, and yes is its mark, whatever is lent
 -- Assumes nothing.
@@ -29,7 +30,8 @@ use Rattle.colours.specs.Descents.{Place, Descent, drops, links, descend}
 use Rattle.colours.proofs.AgreeLaws.{PlaceIn}
 use Rattle.colour_tables.specs.ColourCells.{cellTable}
 use Rattle.colour_tables.proofs.RangeLaws.{descend-cause, descend-low}
-use Rattle.branch_descents.specs.Question.{colourBuffersFit, startOn, copyRow, colourIn, Coloured, coloured, colouredOn}
+use Rattle.branch_descents.specs.Question.{colourBuffersFit, startOn, copyRow, colourIn, Coloured, coloured}
+use Rattle.branch_descents.specs.Question.{colouredOn}
 use Rattle.branch_descents.specs.Question.{colourChecks, colourNumber, colourAnswer, colourAskAnswer}
 use Rattle.branch_descents.specs.OutOfRange.{BranchColoursOutOfRange, parent, colour, start, state}
 use Rattle.branch_descents.specs.Promise.{stateKept}

@@ -1,8 +1,10 @@
 -- What a branch question by colours promises, on every input and on tables as built.
 --
--- BranchColoursBuilt p r nodeTable numbers bytes == node table and tables of colours are as built from plan and branch table
+-- BranchColoursBuilt p r nodeTable numbers bytes == node table and tables of colours are as built from plan and branch
+--   table
 -- wordDescent reading B t u l == the descent of a reading by the tree's own colours
--- DescentAnswer reading p r u l answer == the answer is the word automaton's, with the drops and links of that descent: at most S - 1 drops,
+-- DescentAnswer reading p r u l answer == the answer is the word automaton's, with the drops and links of that
+--   descent: at most S - 1 drops,
 --   and at most 45 links for each
 -- dropsTold answer, linksTold answer == the drops and the links of an answer, 0 of a refusal
 -- ColourAskDone reading .. == the promise of a branch question by colours
@@ -41,7 +43,8 @@ abbrev pub wordDescent : Reading → WordAutomaton → Tree → ℕ → ℕ → 
 wordDescent WithUpper B t u l = withUpper B t u l
 wordDescent BelowUpper B t u l = belowUpper B t u l
 
--- "On tables as built from what is lent, a branch answer by colours is that of the climb, for either reading of the word, and its drops,
+-- "On tables as built from what is lent, a branch answer by colours is that of the climb, for either reading of the
+-- word, and its drops,
 -- the places on the path where the colour falls, are at most S-1."
 pub record DescentAnswer (reading : Reading) (p r : List ℕ) (u l : ℕ) (answer : Descending) : Type 0 where
   pub way : Descent
@@ -68,7 +71,8 @@ pub record ColourAskDone (reading : Reading) (p r nodeTable numbers bytes : List
       → (descendingNumber answer ≡ 16) ↔ (isInSubtreeOn nodeTable u l ≡ false)
   -- 18 only where a value leads outside the plan or the states, does not rise or leads to no fall
   pub out-of-range : descendingNumber answer ≡ 18 → BranchColoursOutOfRange p r nodeTable numbers bytes
-  -- on tables as built and two nodes of the plan: the word automaton's answer where the lower node is at or below the upper ..
+  -- on tables as built and two nodes of the plan: the word automaton's answer where the lower node is at or below the
+  -- upper ..
   pub built : BranchColoursBuilt p r nodeTable numbers bytes → u < nodeCount p → l < nodeCount p → AtOrBelow (planTree p) u l
       → DescentAnswer reading p r u l answer
   -- .. and 16 where it is not: 18 never

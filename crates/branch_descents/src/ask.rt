@@ -1,4 +1,5 @@
-// The branch question by colours: the state after the word down to the lower node, whether it is marked, the drops on the way and
+// The branch question by colours: the state after the word down to the lower node, whether it is marked, the drops on
+// the way and
 // the links of the searches for them.
 use crate::answers::Descending;
 use crate::steps::descend_to;
@@ -85,7 +86,8 @@ fn answer_colours(
     )
 }
 
-// A branch question by colours in either reading. It takes N, S and K from the lent headers and asks 17, 13, 16 and 18 in this
+// A branch question by colours in either reading. It takes N, S and K from the lent headers and asks 17, 13, 16 and 18
+// in this
 // order.
 fn ask(
     reading: Reading,

@@ -1,5 +1,7 @@
-// The steps of a branch question by colours: the copy in which its word begins, the colour of state 0 there, the way down, and
-// the state at its end. A copy is the number of its node; the top copy is n; a number above n means that a value read led
+// The steps of a branch question by colours: the copy in which its word begins, the colour of state 0 there, the way
+// down, and
+// the state at its end. A copy is the number of its node; the top copy is n; a number above n means that a value read
+// led
 // outside the plan.
 use crate::answers::Descending;
 use branches::answers::Reading;
@@ -14,7 +16,8 @@ ghost use Rattle.colour_tables.specs.ColourCells.{cellTable};
 ghost use Rattle.descents.specs.Descended.{descendedOf};
 ghost use Rattle.branches.specs.declared.answers.Reading.the-variants.{WithUpper};
 ghost use Rattle.branch_descents.specs.Question.{startOn, colourIn};
-ghost use Rattle.branch_descents.specs.inner.Steps.{placeAt, numberedPlace, finishOn, StartArgs, RowArgs, WayArgs, EndArgs};
+ghost use Rattle.branch_descents.specs.inner.Steps.{placeAt, numberedPlace, finishOn, StartArgs, RowArgs};
+ghost use Rattle.branch_descents.specs.inner.Steps.{WayArgs, EndArgs};
 
 // The copy above node u: its parent's, or the top copy above the root.
 fn place_above(node_table: &[u16], n: usize, u: usize) -> usize

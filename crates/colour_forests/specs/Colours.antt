@@ -1,8 +1,10 @@
 -- The tables of all colours above the lowest, written one after the other.
 --
--- Landed k step t numbers == the first table has the parents of t, and the fourth numbers of the others what their colours
+-- Landed k step t numbers == the first table has the parents of t, and the fourth numbers of the others what their
+--   colours
 --   land on
--- ColoursTo k step t c before after == the tables of the colours 1, .. c - 1 are those of t's colours, and neither the first
+-- ColoursTo k step t c before after == the tables of the colours 1, .. c - 1 are those of t's colours, and neither the
+--   first
 --   table nor what follows that of colour k - 1 is changed
 -- ColoursArgs numbers n k == what writing them needs
 --

@@ -1,5 +1,7 @@
-// A colour's table, from the root down: each node's row from its parent's. The first table of the numbers is the plan's own
-// node table; colour c's follows after c of the same length, and its fourth numbers, the colours landed on, are there already.
+// A colour's table, from the root down: each node's row from its parent's. The first table of the numbers is the
+// plan's own
+// node table; colour c's follows after c of the same length, and its fourth numbers, the colours landed on, are there
+// already.
 use node_tables::moves::parent_at;
 use node_tables::moves::size_at;
 ghost use mathlib.Core.Path.{_≡_};
@@ -8,7 +10,8 @@ ghost use Prim.Native.Nat.{ℕ, _+_, _≤_};
 ghost use lib.ListN.{length};
 ghost use Rattle.trees.specs.Tree.{Tree};
 ghost use Rattle.node_tables.specs.inner.DownPass.{byDistances, JumpArgs};
-ghost use Rattle.colour_forests.specs.Rows.{rowBelow, nextRow, putRow, BelowArgs, NextArgs, WriteArgs, Given, RowsFrom};
+ghost use Rattle.colour_forests.specs.Rows.{rowBelow, nextRow, putRow, BelowArgs, NextArgs, WriteArgs, Given};
+ghost use Rattle.colour_forests.specs.Rows.{RowsFrom};
 
 // A node's parent, jump and depth.
 pub struct Row {

@@ -12,7 +12,8 @@ use Rattle.trees.specs.Tree.{Tree, size, labelAt}
 use Rattle.trees.proofs.NodeLaws.{length-labels}
 use Rattle.colour_states.specs.inner.Rows.{RowOf, aboveCell, AboveArgs, TurnArgs, Turned}
 use Rattle.colour_states.specs.inner.WordPass.{LedArgs, stepBy, WordGiven, WordsFrom, WordArgs}
-use Rattle.colour_states.proofs.CopyLoop.{copies-start, copies-next, above-is, above-below, above-in, place-in, led-is}
+use Rattle.colour_states.proofs.CopyLoop.{copies-start, copies-next, above-is, above-below, above-in, place-in}
+use Rattle.colour_states.proofs.CopyLoop.{led-is}
 
 -- the nodes from v on are done, for every tree that was given
 abbrev pub Words : List ℕ → List ℕ → ℕ → ℕ → List ℕ → List ℕ → ℕ → List ℕ → List ℕ → Type 0

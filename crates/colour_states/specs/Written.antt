@@ -1,7 +1,8 @@
 -- What the pass over the states leaves.
 --
 -- Elsewhere n k j == number j is none of the landings: the fourth numbers of the tables of colours 1, .. k - 1
--- CopiesFrom k step t base i .. == the nodes from i on have their copies, k bytes each from `base` on, and their colours'
+-- CopiesFrom k step t base i .. == the nodes from i on have their copies, k bytes each from `base` on, and their
+--   colours'
 --   landings, and no other byte and no other number is changed
 --
 -- Any count k of states and any steps: for words and for sets alike.

@@ -2,7 +2,8 @@
 --
 -- colourRow n step t c v == node v's four numbers in colour c's table: parent, jump and depth among the nodes where the
 --   colour falls, and the colour it lands on
--- colourTable n step t c == colour c's table; that of the lowest colour, which never falls, is the plan's own node table
+-- colourTable n step t c == colour c's table; that of the lowest colour, which never falls, is the plan's own node
+--   table
 -- colourNumbersOf n step t == the numbers: the tables of the n colours, one after the other
 -- copiesOf n step t == the bytes: for each node its n states, in the order of their colours
 -- colourNumbersLength m n, copiesLength m n == how many these are, of m nodes and n colours

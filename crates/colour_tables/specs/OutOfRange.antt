@@ -1,6 +1,7 @@
 -- Values of the tables of colours that lead outside the plan, or not upward, or to no fall.
 --
--- ColourOutOfRange n k T == such a value of the tables T of n nodes and k colours: what stops a descent. Tables as built have
+-- ColourOutOfRange n k T == such a value of the tables T of n nodes and k colours: what stops a descent. Tables as
+--   built have
 --   none: on them every descent ends (proofs/Theorems of crate descents)
 --
 -- "18 means that a value read leads outside the plan, the states or the labels, or a climb doesn't rise."

@@ -22,7 +22,8 @@ use Rattle.list_laws.specs.Tests.{holds, distinct}
 use Rattle.list_laws.proofs.BoolLaws.{true-false}
 use Rattle.list_laws.proofs.TestLaws.{at-holds, distinct-head, distinct-tail, distinct-cons, distinct-at}
 use Rattle.list_laws.proofs.Choice.{le-or}
-use Rattle.colours.specs.Colouring.{freeFrom, lowestFree, takes, recolourFrom, recolour, placeOf, lands, Colouring}
+use Rattle.colours.specs.Colouring.{freeFrom, lowestFree, takes, recolourFrom, recolour, placeOf, lands}
+use Rattle.colours.specs.Colouring.{Colouring}
 use Rattle.colours.proofs.Pigeonhole.{holds-here, holds-later, holds-other, first, cover, full}
 
 -- ---- one element more at the end

@@ -23,7 +23,8 @@ use Rattle.marks.specs.Marks.{marksIn, marksAt, lowestAt}
 use Rattle.marks.proofs.MarkLaws.{marksAt-is, marks-at, lowest-in}
 use Rattle.marks.proofs.NextMark.{NextMark, next-mark, next-mark-few}
 use Rattle.colours.specs.Copies.{landsAt, fallsAt, colourDown, dropsDown}
-use Rattle.colours.specs.Descents.{ColourTable, Place, seenAt, lowestIn, nextFrom, seen, lowestOf, Next, done, lost, fell, fellAt, fellBy, nextDrop}
+use Rattle.colours.specs.Descents.{ColourTable, Place, seenAt, lowestIn, nextFrom, seen, lowestOf, Next, done}
+use Rattle.colours.specs.Descents.{lost, fell, fellAt, fellBy, nextDrop}
 use Rattle.colours.specs.Descents.{Descent, descent, sum, withSearch, afterNext, descend, colourTableOf}
 use Rattle.colours.proofs.PathLaws.{colour-le, drops-le, colour-kept, next-drop}
 

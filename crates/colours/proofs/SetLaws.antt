@@ -30,7 +30,8 @@ use Rattle.trees.proofs.TreeClimbs.{below-root}
 use Rattle.colours.specs.Colouring.{placeOf, Colouring}
 use Rattle.colours.specs.Copies.{copyIn, copy, stateDown, colourDown}
 use Rattle.colours.specs.Descents.{Descent, descent, descend}
-use Rattle.colours.specs.StateSets.{setOf, member, setStep, setCount, setTable, setColour, setAt, tried, afterTrial}
+use Rattle.colours.specs.StateSets.{setOf, member, setStep, setCount, setTable, setColour, setAt, tried}
+use Rattle.colours.specs.StateSets.{afterTrial}
 use Rattle.colours.specs.StateSets.{tryFrom}
 use Rattle.colours.proofs.ColouringLaws.{place-lt, place-at, has-colour}
 use Rattle.colours.proofs.CopyLaws.{copy-colouring}

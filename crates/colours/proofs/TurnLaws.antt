@@ -15,7 +15,8 @@ use lib.ListN.{length, getD, take, drop, take-append-drop}
 use lib.Seq.{take-suc, take-length, length-take-le}
 use Rattle.list_laws.specs.Tests.{holds}
 use Rattle.colours.specs.Colouring.{takes, recolourFrom, recolour, placeOf, lands}
-use Rattle.colours.proofs.ColouringLaws.{place-left, place-last, place-kept, place-none, takes-held, length-recolour}
+use Rattle.colours.proofs.ColouringLaws.{place-left, place-last, place-kept, place-none, takes-held}
+use Rattle.colours.proofs.ColouringLaws.{length-recolour}
 
 module _ (f : ℕ → ℕ) where
   from-snoc : (taken xs : List ℕ) (s : ℕ)

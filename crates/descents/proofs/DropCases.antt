@@ -1,7 +1,8 @@
 -- What the functions of a drop read, and what they tell of it.
 --     seen-fell, seen-kept, lowest-fell, lowest-kept   one node's numbers
 --     search-inside, search-few a search ends among the nodes, in at most as many links as its start is deep
---     gives-done, gives-outside, gives-stuck, gives-high, gives-fell what is answered of the next drop, by the tests on the
+--     gives-done, gives-outside, gives-stuck, gives-high, gives-fell what is answered of the next drop, by the tests
+--       on the
 --     way
 -- Assumes nothing.
 use Prim.Native.Nat.{ℕ, _+_, _≤_, _<_}

@@ -1,7 +1,8 @@
 -- A descent on the colours' numbers, whatever they hold, as the code gives it.
 --
 -- startPlace top z == where it begins: the copy of node z, or the top copy
--- DescendArgs n c nums z l == n nodes within the limit, z and l among them, colour c among 16, and room for the tables up
+-- DescendArgs n c nums z l == n nodes within the limit, z and l among them, colour c among 16, and room for the tables
+--   up
 --   to colour c's
 -- descendedOf o == the answer for a descent o; not ok where there is none
 --

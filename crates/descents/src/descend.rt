@@ -1,4 +1,5 @@
-// From drop to drop down a path, by the tables of all colours: one after the other, each with four numbers for each node.
+// From drop to drop down a path, by the tables of all colours: one after the other, each with four numbers for each
+// node.
 use crate::drops::Dropping;
 use crate::drops::next_drop;
 use crate::drops::seen_at;

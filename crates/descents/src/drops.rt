@@ -1,4 +1,5 @@
-// The next drop of one colour, by its table: four numbers for each node, the parent, jump and depth among the nodes where
+// The next drop of one colour, by its table: four numbers for each node, the parent, jump and depth among the nodes
+// where
 // the colour falls, and the colour that it lands on at the node.
 use crate::search::search;
 use node_tables::moves::depth_at;

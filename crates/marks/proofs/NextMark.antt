@@ -26,7 +26,8 @@ use Rattle.marks.specs.Ascents.{rise}
 use Rattle.marks.specs.Marks.{bit, marksIn, marksAbove, marksAt, markedUp, lowestAt, markedForest}
 use Rattle.marks.proofs.JumpLaws.{rise-depth}
 use Rattle.marks.proofs.Climbs.{Climbed, climb-up}
-use Rattle.marks.proofs.MarkLaws.{bit-le, marks-split, marks-at, marks-one, marks-mono, marksAt-is, marksAbove-le}
+use Rattle.marks.proofs.MarkLaws.{bit-le, marks-split, marks-at, marks-one, marks-mono, marksAt-is}
+use Rattle.marks.proofs.MarkLaws.{marksAbove-le}
 use Rattle.marks.proofs.MarkLaws.{MarkedUp, marked-up, marks-ascend, Lowest, lowest}
 
 module _ (t : Tree) (m : ℕ → Bool) where

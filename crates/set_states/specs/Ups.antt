@@ -4,7 +4,8 @@
 -- FromArgs inner s base stride == the places base + q * stride are inside
 -- UpArgs ls b inn st s k v == node v is below the root: parent, label, sibling and rule are inside their lists
 --
--- nearValue (crate tables, Maps) is the state at the parent, by labels ls, node table b, inner states inn and state table st.
+-- nearValue (crate tables, Maps) is the state at the parent, by labels ls, node table b, inner states inn and state
+-- table st.
 -- Assumes nothing.
 use Prim.Native.Nat.{ℕ, _+_, _-_, _*_, _≤_, _<_}
 use mathlib.Core.Path.{_≡_}

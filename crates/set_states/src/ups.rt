@@ -1,4 +1,5 @@
-// For each state at a node the state that follows at its parent, with the plan's labels and the run's states beside the path.
+// For each state at a node the state that follows at its parent, with the plan's labels and the run's states beside
+// the path.
 use node_tables::moves::parent_at;
 use node_tables::moves::size_at;
 ghost use Prim.Native.Nat.{_+_, _*_};

@@ -1,7 +1,8 @@
 -- The next drop on lent numbers, as the code gives it.
 --
 -- droppingOf o == the answer for the next drop o
--- NextDone n table c to l r == r is the next drop by colour c's table; a drop's node is one of the n and its links are few
+-- NextDone n table c to l r == r is the next drop by colour c's table; a drop's node is one of the n and its links are
+--   few
 -- DropDone n nums c z l r == the same by the numbers of all colours, from the copy z
 --
 -- Assumes nothing.

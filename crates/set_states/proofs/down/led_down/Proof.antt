@@ -16,7 +16,8 @@ add-if1 c = search needs
 returns : tie.Need-returns
 returns c =
     let s = c .before .before .before .before .before in
-    down-root (s .args .row) (s .args .labels .now) (s .args .numbers .now) (s .args .inner .now) (s .args .bytes .now) (s .args .n) (s .args .s) (s .args .k) (s .args .count) (s .args .v) (s .pre) (c .if1 .taken)
+    down-root (s .args .row) (s .args .labels .now) (s .args .numbers .now) (s .args .inner .now)
+    (s .args .bytes .now) (s .args .n) (s .args .s) (s .args .k) (s .args .count) (s .args .v) (s .pre) (c .if1 .taken)
 
 ups-of-requires : tie.Need-ups-of-requires
 ups-of-requires c κs = c .before .before .before .before .before .pre .ups (c .if1 .left)
@@ -30,19 +31,25 @@ slice-aggregate-led-by-set : tie.Need-slice-aggregate-led-by-set
 slice-aggregate-led-by-set c =
     let u = c .before in
     let s = u .before .before .before .before .before .before in
-    sym (count-is (s .args .row) (s .args .labels .now) (s .args .numbers .now) (s .args .inner .now) (s .args .bytes .now) (s .args .n) (s .args .s) (s .args .k) (s .args .count) (s .args .v) (s .pre) (u .before .if1 .left) (u .ups-of .result) (u .ups-of .ensures))
+    sym (count-is (s .args .row) (s .args .labels .now) (s .args .numbers .now) (s .args .inner .now)
+    (s .args .bytes .now) (s .args .n) (s .args .s) (s .args .k) (s .args .count) (s .args .v) (s .pre)
+    (u .before .if1 .left) (u .ups-of .result) (u .ups-of .ensures))
 
 led-by-set-requires : tie.Need-led-by-set-requires
 led-by-set-requires c κs =
     let u = c .before in
     let s = u .before .before .before .before .before .before in
-    image-args (s .args .row) (s .args .labels .now) (s .args .numbers .now) (s .args .inner .now) (s .args .bytes .now) (s .args .n) (s .args .s) (s .args .k) (s .args .count) (s .args .v) (s .pre) (u .before .if1 .left) (u .ups-of .result) (u .ups-of .ensures)
+    image-args (s .args .row) (s .args .labels .now) (s .args .numbers .now) (s .args .inner .now)
+    (s .args .bytes .now) (s .args .n) (s .args .s) (s .args .k) (s .args .count) (s .args .v) (s .pre)
+    (u .before .if1 .left) (u .ups-of .result) (u .ups-of .ensures)
 
 returns-2 : tie.Need-returns-2
 returns-2 c =
     let u = c .before .before in
     let s = u .before .before .before .before .before .before in
-    down-led (s .args .row) (s .args .labels .now) (s .args .numbers .now) (s .args .inner .now) (s .args .bytes .now) (s .args .n) (s .args .s) (s .args .k) (s .args .count) (s .args .v) (s .pre) (u .before .if1 .left) (u .ups-of .result) (u .ups-of .ensures) (c .led-by-set .result) (c .led-by-set .ensures)
+    down-led (s .args .row) (s .args .labels .now) (s .args .numbers .now) (s .args .inner .now) (s .args .bytes .now)
+    (s .args .n) (s .args .s) (s .args .k) (s .args .count) (s .args .v) (s .pre) (u .before .if1 .left)
+    (u .ups-of .result) (u .ups-of .ensures) (c .led-by-set .result) (c .led-by-set .ensures)
 
 pub led-down-spec : {M : Type 1} → statement M
 led-down-spec =

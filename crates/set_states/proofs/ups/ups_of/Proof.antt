@@ -1,7 +1,8 @@
 -- `ups_of` meets its contract, for a right child and for a left one. Assumes nothing.
 use Prim.Native.Nat.{_-_, _<_}
 use mathlib.Core.Path.{refl, _∙_}
-use Rattle.set_states.proofs.UpLaws.{ups-right, ups-left, place-small, place-in, state-in, label-in, sums, right-args, left-args}
+use Rattle.set_states.proofs.UpLaws.{ups-right, ups-left, place-small, place-in, state-in, label-in, sums}
+use Rattle.set_states.proofs.UpLaws.{right-args, left-args}
 use native.Mathlib.Omega.{arith}
 use borrow.Author.Needs.{needs}
 use Rattle.set_states.proofs.ups.ups_of.Statement.{statement}
@@ -58,28 +59,46 @@ mul-x : tie.Need-mul-x
 mul-x c =
     let p = c .before .before .before in
     let s = p .before .before .before .before .before in
-    omega (arith, place-small (s .args .labels .now) (s .args .numbers .now) (s .args .inner .now) (s .args .bytes .now) (s .args .s) (s .args .k) (s .args .v) (s .pre) (p .parent-at .result) (p .parent-at .ensures) (s .args .v - c .size-at .result) (right c))
+    omega (
+      arith,
+      place-small (s .args .labels .now) (s .args .numbers .now) (s .args .inner .now)
+          (s .args .bytes .now) (s .args .s) (s .args .k) (s .args .v) (s .pre) (p .parent-at .result)
+          (p .parent-at .ensures) (s .args .v - c .size-at .result) (right c),
+    )
 
 shared-slice-read-x : tie.Need-shared-slice-read-x
 shared-slice-read-x c =
     let z = c .before in
     let p = z .before .before .before in
     let s = p .before .before .before .before .before in
-    place-in (s .args .labels .now) (s .args .numbers .now) (s .args .inner .now) (s .args .bytes .now) (s .args .s) (s .args .k) (s .args .v) (s .pre) (p .parent-at .result) (p .parent-at .ensures) (s .args .v - z .size-at .result) (right z)
+    place-in (s .args .labels .now) (s .args .numbers .now) (s .args .inner .now) (s .args .bytes .now) (s .args .s)
+    (s .args .k) (s .args .v) (s .pre) (p .parent-at .result) (p .parent-at .ensures)
+    (s .args .v - z .size-at .result) (right z)
 
 cast-x : tie.Need-cast-x
 cast-x c =
     let z = c .before in
     let p = z .before .before .before in
     let s = p .before .before .before .before .before in
-    omega (arith, state-in (s .args .labels .now) (s .args .numbers .now) (s .args .inner .now) (s .args .bytes .now) (s .args .s) (s .args .k) (s .args .v) (s .pre) (p .parent-at .result) (p .parent-at .ensures) (s .args .v - z .size-at .result) (right z), s .pre .few)
+    omega (
+      arith,
+      state-in (s .args .labels .now) (s .args .numbers .now) (s .args .inner .now) (s .args .bytes .now)
+          (s .args .s) (s .args .k) (s .args .v) (s .pre) (p .parent-at .result) (p .parent-at .ensures)
+          (s .args .v - z .size-at .result) (right z),
+      s .pre .few,
+    )
 
 mul-ups-from : tie.Need-mul-ups-from
 mul-ups-from c =
     let z = c .before in
     let p = z .before .before .before in
     let s = p .before .before .before .before .before in
-    omega (arith, sums (s .args .labels .now) (s .args .numbers .now) (s .args .inner .now) (s .args .bytes .now) (s .args .s) (s .args .k) (s .args .v) (s .pre) (p .parent-at .result) (p .parent-at .ensures) (s .args .v - z .size-at .result) (right z) .0)
+    omega (
+      arith,
+      sums (s .args .labels .now) (s .args .numbers .now) (s .args .inner .now) (s .args .bytes .now)
+          (s .args .s) (s .args .k) (s .args .v) (s .pre) (p .parent-at .result) (p .parent-at .ensures)
+          (s .args .v - z .size-at .result) (right z) .0,
+    )
 
 add-ups-from : tie.Need-add-ups-from
 add-ups-from c =
@@ -88,8 +107,12 @@ add-ups-from c =
     let s = p .before .before .before .before .before in
     omega (
       arith,
-      sums (s .args .labels .now) (s .args .numbers .now) (s .args .inner .now) (s .args .bytes .now) (s .args .s) (s .args .k) (s .args .v) (s .pre) (p .parent-at .result) (p .parent-at .ensures) (s .args .v - z .size-at .result) (right z) .0,
-      label-in (s .args .labels .now) (s .args .numbers .now) (s .args .inner .now) (s .args .bytes .now) (s .args .s) (s .args .k) (s .args .v) (s .pre) (p .parent-at .result) (p .parent-at .ensures) (s .args .v - z .size-at .result) (right z),
+      sums (s .args .labels .now) (s .args .numbers .now) (s .args .inner .now) (s .args .bytes .now) (s .args .s)
+          (s .args .k) (s .args .v) (s .pre) (p .parent-at .result) (p .parent-at .ensures)
+          (s .args .v - z .size-at .result) (right z) .0,
+      label-in (s .args .labels .now) (s .args .numbers .now) (s .args .inner .now) (s .args .bytes .now) (s .args .s)
+          (s .args .k) (s .args .v) (s .pre) (p .parent-at .result) (p .parent-at .ensures)
+          (s .args .v - z .size-at .result) (right z),
       s .pre .labels,
     )
 
@@ -98,21 +121,29 @@ mul-ups-from-2 c =
     let z = c .before in
     let p = z .before .before .before in
     let s = p .before .before .before .before .before in
-    omega (arith, sums (s .args .labels .now) (s .args .numbers .now) (s .args .inner .now) (s .args .bytes .now) (s .args .s) (s .args .k) (s .args .v) (s .pre) (p .parent-at .result) (p .parent-at .ensures) (s .args .v - z .size-at .result) (right z) .1)
+    omega (
+      arith,
+      sums (s .args .labels .now) (s .args .numbers .now) (s .args .inner .now) (s .args .bytes .now)
+          (s .args .s) (s .args .k) (s .args .v) (s .pre) (p .parent-at .result) (p .parent-at .ensures)
+          (s .args .v - z .size-at .result) (right z) .1,
+    )
 
 ups-from-requires : tie.Need-ups-from-requires
 ups-from-requires c κs =
     let z = c .before in
     let p = z .before .before .before in
     let s = p .before .before .before .before .before in
-    right-args (s .args .labels .now) (s .args .numbers .now) (s .args .inner .now) (s .args .bytes .now) (s .args .s) (s .args .k) (s .args .v) (s .pre) (p .parent-at .result) (p .parent-at .ensures) (s .args .v - z .size-at .result) (right z)
+    right-args (s .args .labels .now) (s .args .numbers .now) (s .args .inner .now) (s .args .bytes .now) (s .args .s)
+    (s .args .k) (s .args .v) (s .pre) (p .parent-at .result) (p .parent-at .ensures)
+    (s .args .v - z .size-at .result) (right z)
 
 returns : tie.Need-returns
 returns c =
     let z = c .before .before in
     let p = z .before .before .before in
     let s = p .before .before .before .before .before in
-    ups-right (s .args .labels .now) (s .args .numbers .now) (s .args .inner .now) (s .args .bytes .now) (s .args .s) (s .args .k)
+    ups-right (s .args .labels .now) (s .args .numbers .now) (s .args .inner .now) (s .args .bytes .now) (s .args .s)
+    (s .args .k)
     (s .args .v) (p .parent-at .result) _ (p .parent-at .ensures) refl (c .ups-from .result) (z .before .if1 .taken)
     (z .size-at .result) (z .size-at .ensures) (c .ups-from .ensures)
 
@@ -127,56 +158,91 @@ mul-y c =
     let e = c in
     let p = e .before .before in
     let s = p .before .before .before .before .before in
-    omega (arith, place-small (s .args .labels .now) (s .args .numbers .now) (s .args .inner .now) (s .args .bytes .now) (s .args .s) (s .args .k) (s .args .v) (s .pre) (p .parent-at .result) (p .parent-at .ensures) (p .parent-at .result - 1) (left e))
+    omega (
+      arith,
+      place-small (s .args .labels .now) (s .args .numbers .now) (s .args .inner .now)
+          (s .args .bytes .now) (s .args .s) (s .args .k) (s .args .v) (s .pre) (p .parent-at .result)
+          (p .parent-at .ensures) (p .parent-at .result - 1) (left e),
+    )
 
 shared-slice-read-y : tie.Need-shared-slice-read-y
 shared-slice-read-y c =
     let e = c .before in
     let p = e .before .before in
     let s = p .before .before .before .before .before in
-    place-in (s .args .labels .now) (s .args .numbers .now) (s .args .inner .now) (s .args .bytes .now) (s .args .s) (s .args .k) (s .args .v) (s .pre) (p .parent-at .result) (p .parent-at .ensures) (p .parent-at .result - 1) (left e)
+    place-in (s .args .labels .now) (s .args .numbers .now) (s .args .inner .now) (s .args .bytes .now) (s .args .s)
+    (s .args .k) (s .args .v) (s .pre) (p .parent-at .result) (p .parent-at .ensures) (p .parent-at .result - 1)
+    (left e)
 
 cast-y : tie.Need-cast-y
 cast-y c =
     let e = c .before in
     let p = e .before .before in
     let s = p .before .before .before .before .before in
-    omega (arith, state-in (s .args .labels .now) (s .args .numbers .now) (s .args .inner .now) (s .args .bytes .now) (s .args .s) (s .args .k) (s .args .v) (s .pre) (p .parent-at .result) (p .parent-at .ensures) (p .parent-at .result - 1) (left e), s .pre .few)
+    omega (
+      arith,
+      state-in (s .args .labels .now) (s .args .numbers .now) (s .args .inner .now) (s .args .bytes .now)
+          (s .args .s) (s .args .k) (s .args .v) (s .pre) (p .parent-at .result) (p .parent-at .ensures)
+          (p .parent-at .result - 1) (left e),
+      s .pre .few,
+    )
 
 mul-ups-from-3 : tie.Need-mul-ups-from-3
 mul-ups-from-3 c =
     let e = c .before in
     let p = e .before .before in
     let s = p .before .before .before .before .before in
-    omega (arith, sums (s .args .labels .now) (s .args .numbers .now) (s .args .inner .now) (s .args .bytes .now) (s .args .s) (s .args .k) (s .args .v) (s .pre) (p .parent-at .result) (p .parent-at .ensures) (p .parent-at .result - 1) (left e) .2)
+    omega (
+      arith,
+      sums (s .args .labels .now) (s .args .numbers .now) (s .args .inner .now) (s .args .bytes .now)
+          (s .args .s) (s .args .k) (s .args .v) (s .pre) (p .parent-at .result) (p .parent-at .ensures)
+          (p .parent-at .result - 1) (left e) .2,
+    )
 
 add-ups-from-2 : tie.Need-add-ups-from-2
 add-ups-from-2 c =
     let e = c .before in
     let p = e .before .before in
     let s = p .before .before .before .before .before in
-    omega (arith, sums (s .args .labels .now) (s .args .numbers .now) (s .args .inner .now) (s .args .bytes .now) (s .args .s) (s .args .k) (s .args .v) (s .pre) (p .parent-at .result) (p .parent-at .ensures) (p .parent-at .result - 1) (left e) .2, state-in (s .args .labels .now) (s .args .numbers .now) (s .args .inner .now) (s .args .bytes .now) (s .args .s) (s .args .k) (s .args .v) (s .pre) (p .parent-at .result) (p .parent-at .ensures) (p .parent-at .result - 1) (left e), s .pre .few)
+    omega (
+      arith,
+      sums (s .args .labels .now) (s .args .numbers .now) (s .args .inner .now) (s .args .bytes .now)
+          (s .args .s) (s .args .k) (s .args .v) (s .pre) (p .parent-at .result) (p .parent-at .ensures)
+          (p .parent-at .result - 1) (left e) .2,
+      state-in (s .args .labels .now) (s .args .numbers .now)
+          (s .args .inner .now) (s .args .bytes .now) (s .args .s) (s .args .k) (s .args .v) (s .pre) (p .parent-at .result)
+          (p .parent-at .ensures) (p .parent-at .result - 1) (left e),
+      s .pre .few,
+    )
 
 mul-ups-from-4 : tie.Need-mul-ups-from-4
 mul-ups-from-4 c =
     let e = c .before in
     let p = e .before .before in
     let s = p .before .before .before .before .before in
-    omega (arith, sums (s .args .labels .now) (s .args .numbers .now) (s .args .inner .now) (s .args .bytes .now) (s .args .s) (s .args .k) (s .args .v) (s .pre) (p .parent-at .result) (p .parent-at .ensures) (p .parent-at .result - 1) (left e) .3)
+    omega (
+      arith,
+      sums (s .args .labels .now) (s .args .numbers .now) (s .args .inner .now) (s .args .bytes .now)
+          (s .args .s) (s .args .k) (s .args .v) (s .pre) (p .parent-at .result) (p .parent-at .ensures)
+          (p .parent-at .result - 1) (left e) .3,
+    )
 
 ups-from-requires-2 : tie.Need-ups-from-requires-2
 ups-from-requires-2 c κs =
     let e = c .before in
     let p = e .before .before in
     let s = p .before .before .before .before .before in
-    left-args (s .args .labels .now) (s .args .numbers .now) (s .args .inner .now) (s .args .bytes .now) (s .args .s) (s .args .k) (s .args .v) (s .pre) (p .parent-at .result) (p .parent-at .ensures) (p .parent-at .result - 1) (left e)
+    left-args (s .args .labels .now) (s .args .numbers .now) (s .args .inner .now) (s .args .bytes .now) (s .args .s)
+    (s .args .k) (s .args .v) (s .pre) (p .parent-at .result) (p .parent-at .ensures) (p .parent-at .result - 1)
+    (left e)
 
 returns-2 : tie.Need-returns-2
 returns-2 c =
     let e = c .before .before in
     let p = e .before .before in
     let s = p .before .before .before .before .before in
-    ups-left (s .args .labels .now) (s .args .numbers .now) (s .args .inner .now) (s .args .bytes .now) (s .args .s) (s .args .k)
+    ups-left (s .args .labels .now) (s .args .numbers .now) (s .args .inner .now) (s .args .bytes .now) (s .args .s)
+    (s .args .k)
     (s .args .v) (p .parent-at .result) _ (p .parent-at .ensures) refl (c .ups-from2 .result) (e .if1 .left)
     (c .ups-from2 .ensures)
 
