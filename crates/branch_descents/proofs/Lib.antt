@@ -1,0 +1,7 @@
+pub mod StepLaws
+pub mod FitLaws
+pub mod AskChecks
+pub mod AnswerLaws
+pub mod AskRange
+pub mod AskBuilt
+pub mod AskTheorem

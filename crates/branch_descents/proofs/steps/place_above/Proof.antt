@@ -1,0 +1,39 @@
+-- `place_above` meets its contract, by the way each test went. Assumes nothing.
+use Rattle.branch_descents.proofs.StepLaws.{place-root, place-outside, place-parent}
+use borrow.Author.Needs.{needs}
+use Rattle.branch_descents.proofs.steps.place_above.Statement.{statement}
+use Rattle.branch_descents.proofs.steps.place_above.Tie as tie
+use Rattle.branch_descents.proofs.steps.place_above.Reads as reads
+use Rattle.branch_descents.proofs.steps.place_above.Lts as lts
+use Rattle.node_tables.proofs.moves.parent_at.Reads as parent-at-reads
+
+add-if1 : tie.Need-add-if1
+add-if1 c = search needs
+
+returns : tie.Need-returns
+returns c =
+    let g = c .before .before .args in place-root (g .n) (g .node-table .now) (g .u) (c .if1 .taken)
+
+parent-at-requires : tie.Need-parent-at-requires
+parent-at-requires c κs = search needs
+
+add-result : tie.Need-add-result
+add-result c = search needs
+
+returns-2 : tie.Need-returns-2
+returns-2 c =
+    let m = c .before in
+    let s = m .before .before .before in
+    place-outside (s .args .n) (s .args .node-table .now) (s .args .u) (m .parent-at .result) (m .parent-at .ensures)
+    (m .before .if1 .left) (c .if2 .taken)
+
+returns-3 : tie.Need-returns-3
+returns-3 c =
+    let m = c .before in
+    let s = m .before .before .before in
+    place-parent (s .args .n) (s .args .node-table .now) (s .args .u) (m .parent-at .result) (m .parent-at .ensures)
+    (m .before .if1 .left) (c .if2 .left)
+
+pub place-above-spec : {M : Type 1} → statement M
+place-above-spec =
+    tie.close (tie.spec add-if1 returns parent-at-requires add-result returns-2 returns-3)

@@ -1,0 +1,80 @@
+-- What a branch question by colours promises, on every input and on tables as built.
+--
+-- BranchColoursBuilt p r nodeTable numbers bytes == node table and tables of colours are as built from plan and branch
+--   table
+-- wordDescent reading B t u l == the descent of a reading by the tree's own colours
+-- DescentAnswer reading p r u l answer == the answer is the word automaton's, with the drops and links of that
+--   descent: at most S - 1 drops,
+--   and at most 45 links for each
+-- dropsTold answer, linksTold answer == the drops and the links of an answer, 0 of a refusal
+-- ColourAskDone reading .. == the promise of a branch question by colours
+--
+-- Assumes nothing.
+use Prim.Native.Nat.{ℕ, _-_, _*_, _≤_, _<_}
+use mathlib.Core.Path.{_≡_}
+use mathlib.Core.Bool.{true, false}
+use mathlib.Core.List.{List}
+use mathlib.Core.Logic.{_↔_}
+use mathlib.Core.Option.{Option, some}
+use lib.ListN.{length}
+use Rattle.trees.specs.Tree.{Tree}
+use Rattle.trees.specs.Automaton.{WordAutomaton, wordRun}
+use Rattle.trees.specs.Numbering.{AtOrBelow}
+use Rattle.formats.specs.Plan.{nodeCount, planTree}
+use Rattle.formats.specs.Rules.{stateCount, branchAutomaton}
+use Rattle.formats.specs.Built.{nodeTablePart, builtNodeTable}
+use Rattle.node_tables.specs.Cells.{isInSubtreeOn}
+use Rattle.branches.specs.declared.answers.Reading.{Reading}
+use Rattle.branches.specs.declared.answers.Reading.the-variants.{WithUpper, BelowUpper}
+use Rattle.branches.specs.Promise.{wordOf}
+use Rattle.colours.specs.Descents.{Descent, drops, links}
+use Rattle.colours.specs.Words.{withUpper, belowUpper}
+use Rattle.branch_colours.specs.Build.{BranchColoured}
+use Rattle.branch_descents.specs.declared.answers.Descending.{Descending}
+use Rattle.branch_descents.specs.declared.answers.Descending.the-variants.{Answered, Refused}
+use Rattle.branch_descents.specs.Question.{colourBuffersFit, colourNumber, colourAskAnswer, descendingNumber}
+use Rattle.branch_descents.specs.OutOfRange.{BranchColoursOutOfRange}
+
+pub record BranchColoursBuilt (p r nodeTable numbers bytes : List ℕ) : Type 0 where
+  pub coloured : BranchColoured p r numbers bytes
+  pub links : nodeTablePart (nodeCount p) nodeTable ≡ builtNodeTable p
+
+abbrev pub wordDescent : Reading → WordAutomaton → Tree → ℕ → ℕ → Option Descent
+wordDescent WithUpper B t u l = withUpper B t u l
+wordDescent BelowUpper B t u l = belowUpper B t u l
+
+-- "On tables as built from what is lent, a branch answer by colours is that of the climb, for either reading of the
+-- word, and its drops,
+-- the places on the path where the colour falls, are at most S-1."
+pub record DescentAnswer (reading : Reading) (p r : List ℕ) (u l : ℕ) (answer : Descending) : Type 0 where
+  pub way : Descent
+  pub found : wordDescent reading (branchAutomaton r) (planTree p) u l ≡ some way
+  pub is : answer
+      ≡ Answered (wordRun (branchAutomaton r) 0 (wordOf reading (planTree p) u l))
+      (branchAutomaton r .accepting (wordRun (branchAutomaton r) 0 (wordOf reading (planTree p) u l)))
+      (drops way) (links way)
+  pub falls : drops way ≤ stateCount r - 1
+  pub few : links way ≤ drops way * 45
+
+abbrev pub stateKept : List ℕ → Descending → Type 0
+stateKept r (Answered state marked drops links) = (state < stateCount r) × (marked ≡ branchAutomaton r .accepting state)
+stateKept r (Refused n) = Unit {0}
+
+pub record ColourAskDone (reading : Reading) (p r nodeTable numbers bytes : List ℕ) (u l : ℕ) (answer : Descending) : Type 0 where
+  -- on every input: the first failing check of 17, 13, 16 and 18, or the named result
+  pub result : answer ≡ colourAskAnswer reading p r nodeTable numbers bytes u l
+  pub number : descendingNumber answer ≡ colourNumber reading p r nodeTable numbers bytes u l
+  -- an answer's state is below S, and yes is its mark
+  pub properties : stateKept r answer
+  -- where 17 and 13 pass, 16 exactly when the lent size says so
+  pub not-below : colourBuffersFit p r (length nodeTable) (length numbers) (length bytes) ≡ true → u < nodeCount p → l < nodeCount p
+      → (descendingNumber answer ≡ 16) ↔ (isInSubtreeOn nodeTable u l ≡ false)
+  -- 18 only where a value leads outside the plan or the states, does not rise or leads to no fall
+  pub out-of-range : descendingNumber answer ≡ 18 → BranchColoursOutOfRange p r nodeTable numbers bytes
+  -- on tables as built and two nodes of the plan: the word automaton's answer where the lower node is at or below the
+  -- upper ..
+  pub built : BranchColoursBuilt p r nodeTable numbers bytes → u < nodeCount p → l < nodeCount p → AtOrBelow (planTree p) u l
+      → DescentAnswer reading p r u l answer
+  -- .. and 16 where it is not: 18 never
+  pub apart : BranchColoursBuilt p r nodeTable numbers bytes → u < nodeCount p → l < nodeCount p → (AtOrBelow (planTree p) u l → ⊥)
+      → answer ≡ Refused 16

@@ -1,0 +1,4 @@
+pub mod RowCells
+pub mod RowLoop
+pub mod Theorems
+pub mod ColourLoop

@@ -1,0 +1,98 @@
+-- `next_row` meets its contract: the part that it hands on is the colour's table. Assumes nothing.
+use Prim.Native.Nat.{ℕ, _+_, _-_, _*_}
+use mathlib.Core.Path.{_≡_, sym, ap, ap₂, _∙_}
+use mathlib.Core.List.{List}
+use native.Mathlib.Omega.{arith}
+use lib.ListN.{take, drop}
+use Rattle.colour_tables.specs.ColourCells.{colourPart}
+use Rattle.colour_forests.specs.Rows.{rowBelow}
+use Rattle.colour_forests.proofs.RowCells.{next-root, next-below}
+use borrow.Author.Needs.{needs}
+use Rattle.colour_forests.proofs.rows.next_row.Statement.{statement}
+use Rattle.colour_forests.proofs.rows.next_row.Tie as tie
+use Rattle.colour_forests.proofs.rows.next_row.Reads as reads
+use Rattle.colour_forests.proofs.rows.next_row.Lts as lts
+use Rattle.colour_forests.proofs.rows.row_below.Reads as row-below-reads
+use Rattle.node_tables.proofs.moves.parent_at.Reads as parent-at-reads
+
+add-if1 : tie.Need-add-if1
+add-if1 c = search needs
+
+cast-t10 : tie.Need-cast-t10
+cast-t10 c = search needs
+
+cast-t11 : tie.Need-cast-t11
+cast-t11 c = search needs
+
+part-is : (s : tie.Start) → let g = s .args in
+    take (g .c * (g .n * 4) + g .n * 4 - g .c * (g .n * 4)) (drop (g .c * (g .n * 4)) (g .nums .now))
+    ≡ colourPart (g .n) (g .c) (g .nums .now)
+part-is s =
+    let g = s .args in
+    let e : g .c * (g .n * 4) + g .n * 4 - g .c * (g .n * 4) ≡ g .n * 4 = omega arith in
+    ap (λ (k : ℕ). take k (drop (g .c * (g .n * 4)) (g .nums .now))) e
+
+returns : tie.Need-returns
+returns c =
+    let g = c .before .before .args in
+    sym (next-root (g .nums .now) (g .n) (g .c) (g .v) (c .if1 .taken))
+
+parent-at-requires : tie.Need-parent-at-requires
+parent-at-requires c κs = search needs
+
+mul-size : tie.Need-mul-size
+mul-size c = search needs
+
+mul-from : tie.Need-mul-from
+mul-from c = search needs
+
+add-row-below : tie.Need-add-row-below
+add-row-below c = search needs
+
+mul-row-below : tie.Need-mul-row-below
+mul-row-below c = search needs
+
+sub-row-below : tie.Need-sub-row-below
+sub-row-below c = search needs
+
+part-row-below-start : tie.Need-part-row-below-start
+part-row-below-start c = search needs
+
+part-row-below-end : tie.Need-part-row-below-end
+part-row-below-end c = search needs
+
+row-below-requires : tie.Need-row-below-requires
+row-below-requires c κs =
+    let m = c .before in
+    let e = m .before in
+    let s = e .before .before in
+    rw (part-is s, m .parent-at .ensures) (s .pre .below (e .if1 .left))
+
+returns-2 : tie.Need-returns-2
+returns-2 c =
+    let m = c .before .before in
+    let e = m .before in
+    let s = e .before .before in
+    let g = s .args in
+    c .row-below .ensures
+    ∙ ap₂ (λ (b : List ℕ) (p : ℕ). rowBelow b (g .c) (g .v) p) (part-is s) (m .parent-at .ensures)
+    ∙ sym (next-below (g .nums .now) (g .n) (g .c) (g .v) (e .if1 .left))
+
+pub next-row-spec : {M : Type 1} → statement M
+next-row-spec =
+    tie.close
+    (tie.spec
+    add-if1
+    cast-t10
+    cast-t11
+    returns
+    parent-at-requires
+    mul-size
+    mul-from
+    add-row-below
+    mul-row-below
+    sub-row-below
+    part-row-below-start
+    part-row-below-end
+    row-below-requires
+    returns-2)

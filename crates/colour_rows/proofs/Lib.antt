@@ -1,0 +1,2 @@
+pub mod PlaceLoop
+pub mod TurnLoop

@@ -1,0 +1,3 @@
+pub mod RowLoop
+pub mod CopyLoop
+pub mod WordLoop

@@ -1,0 +1,71 @@
+use mathlib.Core.Path.{sym}
+use lib.ListN.{length, take}
+use lib.Seq.{length-take-le}
+use mathlib.Core.Path.{_≡_}
+use Rattle.colour_states.proofs.RowLoop.{turned-copy}
+use native.Mathlib.Omega.{arith}
+use borrow.Author.Needs.{needs}
+use Rattle.colour_states.proofs.copies.put_copy.Statement.{statement}
+use Rattle.colour_states.proofs.copies.put_copy.Tie as tie
+use Rattle.colour_states.proofs.copies.put_copy.Reads as reads
+use Rattle.colour_states.proofs.copies.put_copy.Lts as lts
+use Rattle.colour_rows.proofs.turns.take_in_turn.Reads as take-in-turn-reads
+use Rattle.colour_states.proofs.copies.put_lands.Reads as put-lands-reads
+use Rattle.colour_states.proofs.copies.put_row.Reads as put-row-reads
+
+prefix : (c : tie.After-led) → let g = c .before .before .before .args in length (take (g .k) (g .t1)) ≡ g .k
+prefix c =
+    let s = c .before .before .before in
+    length-take-le (s .args .k) (s .args .t1) (omega (arith, s .pre .long, s .pre .few))
+
+array-share-prefix-led : tie.Need-array-share-prefix-led
+array-share-prefix-led c = search needs
+
+slice-aggregate-take-in-turn : tie.Need-slice-aggregate-take-in-turn
+slice-aggregate-take-in-turn c = sym (prefix c)
+
+take-in-turn-requires : tie.Need-take-in-turn-requires
+take-in-turn-requires c κs = record { few = omega (arith, prefix c, c .before .before .before .pre .few) }
+
+mul-put-row : tie.Need-mul-put-row
+mul-put-row c = search needs
+
+add-put-row : tie.Need-add-put-row
+add-put-row c = search needs
+
+put-row-requires : tie.Need-put-row-requires
+put-row-requires c κs = search needs
+
+put-lands-requires : tie.Need-put-lands-requires
+put-lands-requires c κs = search needs
+
+same-length : tie.Need-same-length
+same-length c = search needs
+
+same-length-2 : tie.Need-same-length-2
+same-length-2 c = search needs
+
+returns : tie.Need-returns
+returns c =
+    let l = c .before .before in
+    let r = l .before .before .before .before in
+    let m = r .before .before .before .before in
+    let s = m .before .before .before .before in
+    turned-copy (s .args .t1) (s .args .n) (s .args .base) (s .args .k) (s .args .v) (m .take-in-turn .result)
+    (m .take-in-turn .ensures) (s .pre .long) (s .pre .few) (s .args .bytes .now) (s .args .numbers .now) _ _
+    (r .put-row .ensures) (l .put-lands .ensures)
+
+pub put-copy-spec : {M : Type 1} → statement M
+put-copy-spec =
+    tie.close
+    (tie.spec
+    array-share-prefix-led
+    slice-aggregate-take-in-turn
+    take-in-turn-requires
+    mul-put-row
+    add-put-row
+    put-row-requires
+    put-lands-requires
+    same-length
+    same-length-2
+    returns)

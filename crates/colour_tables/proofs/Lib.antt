@@ -1,0 +1,3 @@
+pub mod BuiltLaws
+pub mod LayoutLaws
+pub mod RangeLaws

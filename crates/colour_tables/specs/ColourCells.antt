@@ -1,0 +1,22 @@
+-- The cells of the colours' numbers: one table after the other, each with four 16-bit numbers for each node.
+--
+-- colourPart n c nums == colour c's table of n nodes among the numbers, after those of the lower colours
+-- cellTable n nums == what the numbers say of each colour: parent, jump and depth of a node among the nodes where the
+--   colour falls, and as its fourth number the colour that it lands on
+--
+-- The lowest colour never falls: its table is the plan's own node table, and no question reads it.
+-- Assumes nothing.
+use Prim.Native.Nat.{ℕ, _*_}
+use mathlib.Core.List.{List}
+use lib.ListN.{take, drop}
+use Rattle.node_tables.specs.Cells.{sizeCell, cellForest}
+use Rattle.colours.specs.Descents.{ColourTable}
+
+abbrev pub colourPart : ℕ → ℕ → List ℕ → List ℕ
+colourPart n c nums = take (n * 4) (drop (c * (n * 4)) nums)
+
+abbrev pub cellTable : ℕ → List ℕ → ColourTable
+cellTable n nums = record {
+  forest = λ c. cellForest n (colourPart n c nums);
+  lands = λ c v. sizeCell (colourPart n c nums) v;
+}

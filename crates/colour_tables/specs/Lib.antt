@@ -1,0 +1,4 @@
+pub mod Layout
+pub mod ColourCells
+pub mod AsBuilt
+pub mod OutOfRange

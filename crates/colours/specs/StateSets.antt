@@ -1,0 +1,74 @@
+-- Climbs by colours over sets of states: the instance for rule tables.
+--
+-- setOf n p == the number of the set of those of n states that p tells: 2 to the power k for each member k
+-- member T k == whether state k is in the set numbered T
+-- setStep A t v T == the states at node v that lead into the set T at its parent; into the root's copy nothing
+--   changes, so the root's own copy is the top copy
+-- setColour A t c x == the colour of the set {x} in the copy of node c
+-- setAt A t w d == the set that a descent d to node w ends with
+-- Tried == the target state that was found, and the links of each search of all trials
+-- tryTargets A t c w q == the target states at node c in rising order, until the set that one leads down to at w
+--   holds q; none (18) where a descent has none
+--
+-- Assumes nothing.
+use Prim.Native.Nat.{ℕ, zero, suc, _+_, _*_, _/_, _%_, _^_}
+use mathlib.Core.Bool.{Bool, cond}
+use mathlib.Core.List.{List, _++_}
+use mathlib.Core.Option.{Option, none, some}
+use lib.Dec.{eqb}
+use lib.ListN.{getD}
+use Rattle.trees.specs.Tree.{Tree, size}
+use Rattle.trees.specs.Automaton.{Automaton}
+use Rattle.trees.specs.Climb.{andThen}
+use Rattle.trees.specs.Tables.{stepUp}
+use Rattle.marks.specs.Marks.{bit}
+use Rattle.colours.specs.Colouring.{placeOf}
+use Rattle.colours.specs.Copies.{copy}
+use Rattle.colours.specs.Descents.{ColourTable, Descent, descend, colourTableOf}
+
+-- "sets of states, numbered by adding 2 to the power k for each member k"
+unfoldable pub setOf : ℕ → (ℕ → Bool) → ℕ
+setOf zero p = 0
+setOf (suc n) p = bit (p n) * 2 ^ n + setOf n p
+
+unfoldable pub member : ℕ → ℕ → Bool
+member T k = eqb (T / 2 ^ k % 2) 1
+
+-- "a step down takes a set to the states at the child that lead into it"
+unfoldable pub setStep : Automaton → Tree → ℕ → ℕ → ℕ
+setStep A t v T = cond (eqb (v + 1) (size t)) T (setOf (A .states) (λ s. member T (stepUp A t v s)))
+
+abbrev pub setCount : Automaton → ℕ
+setCount A = 2 ^ A .states
+
+abbrev pub setTable : Automaton → Tree → ColourTable
+setTable A t = colourTableOf (setCount A) (setStep A t) t
+
+unfoldable pub setColour : Automaton → Tree → ℕ → ℕ → ℕ
+setColour A t c x = placeOf (2 ^ x) (copy (setCount A) (setStep A t) t c)
+
+unfoldable pub setAt : Automaton → Tree → ℕ → Descent → ℕ
+setAt A t w d = getD (copy (setCount A) (setStep A t) t w) (d .colour) 0
+
+pub record Tried : Type 0 where
+  pub state : ℕ
+  pub searches : List ℕ
+
+abbrev pub tried : ℕ → List ℕ → Tried
+tried x ls = record { state = x; searches = ls }
+
+abbrev pub afterTrial : List ℕ → Option Tried → Option Tried
+afterTrial ls none = none
+afterTrial ls (some r) = some (tried (r .state) (ls ++ r .searches))
+
+-- from target state x on, f of them
+unfoldable pub tryFrom : Automaton → Tree → ℕ → ℕ → ℕ → ℕ → ℕ → Option Tried
+tryFrom A t c w q zero x = none
+tryFrom A t c w q (suc f) x =
+    let later = tryFrom A t c w q f (suc x) in
+    andThen (descend (setTable A t) (setColour A t c x) (some c) w (setColour A t c x)) (λ d.
+    cond (member (setAt A t w d) q) (some (tried x (d .searches))) (afterTrial (d .searches) later))
+
+-- "the state its climb gives is found by trying target states in rising order up to it"
+unfoldable pub tryTargets : Automaton → Tree → ℕ → ℕ → ℕ → Option Tried
+tryTargets A t c w q = tryFrom A t c w q (A .states) 0

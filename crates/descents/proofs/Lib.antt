@@ -1,0 +1,4 @@
+pub mod SearchLoop
+pub mod DropCases
+pub mod DescendLoop
+pub mod Theorems

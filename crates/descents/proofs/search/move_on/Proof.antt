@@ -1,0 +1,49 @@
+-- `move_on` meets its contract, by the move that `next_move` tells. Assumes nothing.
+use mathlib.Core.Path.{sym, _∙_}
+use borrow.Author.Needs.{needs}
+use Rattle.trees.specs.Climb.{Forest, nextMove}
+use Rattle.node_tables.specs.Cells.{cellForest}
+use Rattle.descents.proofs.SearchLoop.{gives-jump, gives-parent, gives-stuck}
+use Rattle.descents.proofs.search.move_on.Statement.{statement}
+use Rattle.descents.proofs.search.move_on.Tie as tie
+
+abbrev forest : tie.Start → Forest
+forest s = cellForest (s .args .n) (s .args .nums .now)
+
+next-move-requires : tie.Need-next-move-requires
+next-move-requires c κs = search needs
+
+enum-known-j : tie.Need-enum-known-j
+enum-known-j c = search needs
+
+enum-known-p : tie.Need-enum-known-p
+enum-known-p c = search needs
+
+enum-told : tie.Need-enum-told
+enum-told c = search needs
+
+returns : tie.Need-returns
+returns c =
+    let m = c .before .before .before in
+    let s = m .before .before in
+    gives-jump (forest s) (nextMove (forest s) (s .args .v) (s .args .to)) (c .before .j .given .0 .0)
+    (sym (c .before .j .given .1) ∙ m .next-move .ensures)
+
+returns-2 : tie.Need-returns-2
+returns-2 c =
+    let m = c .before .before .before in
+    let s = m .before .before in
+    gives-parent (forest s) (nextMove (forest s) (s .args .v) (s .args .to)) (c .before .p .given .0 .0)
+    (sym (c .before .p .given .1) ∙ m .next-move .ensures)
+
+returns-3 : tie.Need-returns-3
+returns-3 c =
+    let m = c .before .before in
+    let s = m .before .before in
+    gives-stuck (forest s) (nextMove (forest s) (s .args .v) (s .args .to))
+    (sym (c .enum-told .given .1) ∙ m .next-move .ensures)
+
+pub move-on-spec : {M : Type 1} → statement M
+move-on-spec =
+    tie.close
+    (tie.spec next-move-requires enum-known-j enum-known-p enum-told returns returns-2 returns-3)

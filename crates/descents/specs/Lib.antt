@@ -1,0 +1,2 @@
+pub mod Descended
+pub mod inner

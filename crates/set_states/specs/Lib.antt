@@ -1,0 +1,2 @@
+pub mod Ups
+pub mod Down

@@ -1,0 +1,16 @@
+-- `bit_of` meets its contract: a shift and a mask tell membership. Assumes nothing.
+use Rattle.set_steps.proofs.BitLaws.{bit-is}
+use borrow.Author.Needs.{needs}
+use Rattle.set_steps.proofs.bits.bit_of.Statement.{statement}
+use Rattle.set_steps.proofs.bits.bit_of.Tie as tie
+use Rattle.set_steps.proofs.bits.bit_of.Reads as reads
+use Rattle.set_steps.proofs.bits.bit_of.Lts as lts
+
+shr-result : tie.Need-shr-result
+shr-result c = search needs
+
+returns : tie.Need-returns
+returns c = bit-is (c .args .t) (c .args .k)
+
+pub bit-of-spec : {M : Type 1} → statement M
+bit-of-spec = tie.close (tie.spec shr-result returns)
