@@ -42,7 +42,7 @@ static void on_tables_as_built(const struct asked *q, const uint64_t *counts) {
 uint32_t try_count(struct input *in) {
     struct lent open = lend(in, 2), plan = lend(in, 1), rules = lend(in, 1), nodes = lend(in, 2), states = lend(in, 1);
     struct asked q = {open, plan, rules, nodes, states};
-    struct lent counts = lend_filled(take(in, 2), 8, 0x77);
+    struct lent counts = lend_filled(take(in, 2) % 1024, 8, 0x77); /* fewer than a room holds */
     uint32_t out[2] = {UNSET, UNSET};
     uint32_t answer = whatif_count(LENT(q.plan), LENT(q.rules), LENT(q.nodes), LENT(q.states), LENT(q.open),
                                    LENT(counts), &out[0], &out[1]);

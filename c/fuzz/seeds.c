@@ -229,7 +229,8 @@ static void panel(const struct plan *p, const struct question *list) {
     for (int i = 0; i < 12; i++)
         step(DO_ADVANCE);
     step(DO_READ), step(DO_ALTER), put(3, 1), put(0, 2), put(states[0], 1);
-    step(DO_START), changes(list), step(DO_READ), step(DO_CANCEL), step(DO_READ), step(DO_LOAD), step(DO_READ), end();
+    step(DO_START), changes(list), step(DO_READ), step(DO_CANCEL), step(DO_READ), step(DO_LOAD), step(DO_READ);
+    step(DO_START), changes(list), end();
 }
 
 static void question(const struct plan *p, const struct question *list, const char *which) {

@@ -25,7 +25,7 @@ fn every_byte() {
             assert!(beside.all_calls(record, random));
             for place in 0..RECORD_BYTES {
                 // every value where the counts stand
-                let adds = if (place < 13 || place >= 967) && m == 3 {
+                let adds = if !(13..967).contains(&place) && m == 3 {
                     (1..=255).collect()
                 } else {
                     vec![1, 255, random.between(2, 254)]
