@@ -328,7 +328,9 @@ uint32_t whatif_load(uint8_t *record, size_t record_len, const uint8_t *plan, si
  * Lent:    the record, altered; the plan, the rule table, both tables and the list, read. The plan need not be that of
  *          the Load, but N, S and K are: plan and rule table have the length that these need, the tables at least.
  *          nodes_len and labels_len are equal, 0 to 64. A node may be listed several times: its last entry holds, and
- *          all is told as of the list with that entry alone. A node listed with the label it has is still a change.
+ *          all is told as of the list with that entry alone. A node that ends with the label it has in the plan lent
+ *          here is no change: it counts neither for the parts nor for their ceiling, 4m - 2 for the m nodes that are
+ *          left and 1 where none is. The record keeps the list whole.
  * Written: *parts, the number of parts, 1 to WHATIF_MAX_PARTS; the record. An earlier question is forgotten.
  * Answers: WHATIF_ACCEPTED, or the first of 1, 17, 12, 13, 14, 18; 12, 13 and 14 are put to the whole list as listed.
  *          18 is given exactly when the plan and the rule table do not pass 2 to 10 or name another N, S or K than the

@@ -18,10 +18,24 @@ static struct session fresh(struct input *in) {
     return one;
 }
 
+/* Of an accepted list, the nodes whose last entry is not the label that they have in the plan. */
+static size_t left_of(const struct session *s, const struct lent *listed, const struct lent *labels) {
+    const uint16_t *nodes = listed->at;
+    const uint8_t *plan = s->plan.at, *to = labels->at;
+    size_t count = 0;
+    for (size_t i = 0; i < listed->count; i++) {
+        size_t later = i + 1;
+        while (later < listed->count && nodes[later] != nodes[i])
+            later++;
+        count += later == listed->count && to[i] != plan[12 + nodes[i]];
+    }
+    return count;
+}
+
 /* A question on tables as built: as many advances as parts, and the answer of a fresh run. */
-static void finish(struct session *s, size_t listed, uint32_t parts, uint32_t state, uint32_t yes) {
+static void finish(struct session *s, size_t left, uint32_t parts, uint32_t state, uint32_t yes) {
     struct answer read;
-    sure(parts <= (listed == 0 ? 1 : 4 * listed - 2), "m changes have at most 4m - 2 parts");
+    sure(parts <= (left == 0 ? 1 : 4 * left - 2), "m changes that are left have at most 4m - 2 parts");
     for (uint32_t i = 1, finished = 0; i <= parts; i++) {
         sure(advance(s, &finished) == WHATIF_ACCEPTED, "an advance on tables as built is accepted");
         sure(finished == (i == parts), "it is finished at the last part");
@@ -45,7 +59,7 @@ uint32_t try_question(struct input *in) {
     uint32_t answer = start(&s, &listed, &labels, &parts);
     sure(answer == run, "Start and a fresh run refuse a list alike");
     if (answer == WHATIF_ACCEPTED)
-        finish(&s, listed.count, parts, state, yes);
+        finish(&s, left_of(&s, &listed, &labels), parts, state, yes);
     return answer;
 }
 

@@ -113,6 +113,6 @@ def line(plan, rules, changes):
     for node, label in changes:
         labels[node] = label
     state = rules.run(plan, labels)
-    members = plan.ready([node for node, label in changes])
+    members = plan.ready([node for node, label in changes if labels[node] != plan.labels[node]])
     links = sum(plan.part_links(node, members) for node in members)
     return b'%d %s %d %d\n' % (state, b'yes' if rules.marks[state] else b'no', len(members), links)

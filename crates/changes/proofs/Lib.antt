@@ -7,3 +7,5 @@ pub mod LayCases
 pub mod ChangedLaws
 pub mod Theorems
 pub mod PlanOver
+pub mod DifferingLaws
+pub mod LastDifferingLaws

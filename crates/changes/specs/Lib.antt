@@ -1,4 +1,5 @@
 pub mod Entries
 pub mod LayOver
 pub mod ChangedPlan
+pub mod Differing
 pub mod inner

@@ -1,34 +1,45 @@
--- What is claimed of lists of changes (document 02, S-4 and S-12), each proved by citing what is below.
+-- What is claimed of lists of changes (document 02, S-4, S-5 and S-12), each proved by citing what is below.
 --     superseding, laying-over, nothing-else    what the two operations are, said without their definitions
 --     changed-by, repeats-..                    a list with repeats is as good as its superseded form
+--     left-out, left, as-before, fewer-parts, either-way    changes that change nothing
 --     associative, empty, itself, swapped       the laws of laying over; associative-call .. swapped-call with the call's numbers
 --     twice-changed, still-a-plan, on-a-changed-plan    plans and questions
 -- Where each word of a statement is defined: README, *Reading order*; docs/NAMES.md.
 -- Assumes nothing.
-use Prim.Native.Nat.{ℕ}
-use mathlib.Core.Path.{_≡_}
-use mathlib.Core.Bool.{Bool, true}
-use mathlib.Core.List.{List, []}
+use Prim.Native.Nat.{ℕ, _≤_, _<_}
+use mathlib.Core.Path.{_≡_, sym, _∙_}
+use mathlib.Core.Bool.{Bool, true, false}
+use mathlib.Core.List.{List, [], _∷_}
 use mathlib.Core.Logic.{_↔_}
 use mathlib.Core.Option.{orElse}
-use lib.ListN.{replicate}
+use lib.ListN.{length, getD, replicate}
 use Rattle.trees.specs.Changes.{changed}
-use Rattle.formats.specs.Plan.{nodeCount}
+use Rattle.list_laws.specs.Tests.{holds}
+use Rattle.formats.specs.Plan.{nodeCount, planTree}
 use Rattle.formats.specs.Rules.{labelCount}
 use Rattle.formats.specs.Checks.{firstNo, listChecks, ruleTableChecks}
-use Rattle.formats.specs.Inputs.{Inputs}
+use Rattle.formats.specs.Inputs.{Inputs, Sizes, stateTableBuilt}
 use Rattle.formats.specs.inner.InnerChecks.{listsFit}
 use Rattle.formats.proofs.PlanLaws.{PlanPasses}
+use Rattle.formats.proofs.InputsLaws.{Built}
 use Rattle.changes.specs.Entries.{Entry, entries, nodesListed, labelsListed, lastLabel, superseded, laidOver, RisingNodes}
 use Rattle.changes.specs.LayOver.{laid, layNumber}
 use Rattle.changes.specs.ChangedPlan.{changedPlan}
+use Rattle.changes.specs.Differing.{differing, differs}
+use Rattle.changes.proofs.DifferingLaws.{differing-is, unlisted-same}
+use Rattle.ready.specs.Members.{roots}
+use Rattle.ready.specs.Parts.{partsOf, lastState}
 use Rattle.changes.proofs.LaidLaws.{superseded-only, laid-rises, laid-labels, laid-only, over-assoc, over-empty, over-self}
 use Rattle.changes.proofs.LaidLaws.{over-swap, Apart}
 use Rattle.changes.proofs.ChangedLaws.{changed-superseded}
 use Rattle.changes.proofs.Theorems.{LeftFirst, RightFirst, lay-assoc, lay-empty, lay-self, lay-swap}
 use Rattle.changes.proofs.PlanOver.{plan-over, plan-passes}
 use Rattle.model.specs.Calls.{Answer}
+use Rattle.reference.specs.Reference.{Question, rootsOf, partCount, givenBy}
 use Rattle.reference.specs.Undisturbed.{EveryOutcome}
+use Rattle.reference.proofs.FreshLaws.{whole-state, whole-before}
+use Rattle.reference.proofs.Ceilings.{parts-never-rise}
+use Rattle.reference.proofs.Controls.{inputsFive, withLeft, withListed, links-either-way}
 use Rattle.reference.proofs.QuestionTheorem.{CleanOutcomes}
 use Rattle.reference.proofs.OverTheorem.{Tells, question-over}
 use Rattle.session.specs.Records.{freshSession}
@@ -66,6 +77,34 @@ repeats-in-place = superseded-in-place
 
 repeats-on-record-bytes : Superseded (replicate 967 0) Exports
 repeats-on-record-bytes = superseded-exported
+
+-- ---- S-5
+
+-- "A listed node whose label equals the plan's is left out of W from now on, after superseding.": what is not left has the label that it had
+left-out : (ls vs bs : List ℕ) (v : ℕ) → holds v (differing ls vs bs) ≡ false → getD (changed ls vs bs) v 0 ≡ getD ls v 0
+left-out = unlisted-same
+
+-- and what is left was listed, and its label, as changed, is another
+left : (ls vs bs : List ℕ) (v : ℕ) → length vs ≡ length bs → v < length ls → holds v (differing ls vs bs) ≡ differs ls vs bs v
+left = differing-is
+
+-- "On tables as built the answer is as before": the last part, the plan's root, has the state that it has with all listed nodes in W
+as-before : (z : Sizes) (q : Question) → Built z (q .inputs) → stateTableBuilt z (q .inputs) ≡ true
+    → lastState (partsOf (givenBy z q (q .inputs)) (rootsOf q)) 0
+    ≡ lastState (partsOf (givenBy z q (q .inputs)) (roots (planTree (q .inputs .plan)) (q .nodes))) 0
+as-before z q B e = whole-state z q B e ∙ sym (whole-before z q B e)
+
+-- "parts and advances needed never rise": of what every form tells, few and never-more of CleanOutcomes (Main, finished-answers)
+fewer-parts : (q : Question) → partCount q ≤ length (roots (planTree (q .inputs .plan)) (q .nodes))
+fewer-parts = parts-never-rise
+
+-- "links may go either way": parts and links with all listed nodes in W, and with those that are left
+either-way :
+    (withListed (inputsFive (0 ∷ 0 ∷ 0 ∷ 1 ∷ 0 ∷ [])) (2 ∷ 3 ∷ []) ≡ 3 ∷ 0 ∷ [])
+    × (withLeft (inputsFive (0 ∷ 0 ∷ 0 ∷ 1 ∷ 0 ∷ [])) (2 ∷ 3 ∷ []) (1 ∷ 1 ∷ []) ≡ 2 ∷ 1 ∷ [])
+    × (withListed (inputsFive (0 ∷ 1 ∷ 1 ∷ 0 ∷ 0 ∷ [])) (2 ∷ []) ≡ 2 ∷ 1 ∷ [])
+    × (withLeft (inputsFive (0 ∷ 1 ∷ 1 ∷ 0 ∷ 0 ∷ [])) (2 ∷ []) (1 ∷ []) ≡ 1 ∷ 0 ∷ [])
+either-way = links-either-way
 
 -- ---- S-12
 

@@ -113,8 +113,8 @@ order = outcome-order
 sample :
     row [] [] 1 ∷ row (0 ∷ []) (0 ∷ []) 2 ∷ row (0 ∷ 2 ∷ []) (0 ∷ 0 ∷ []) 3 ∷ row (0 ∷ 3 ∷ []) (0 ∷ 1 ∷ []) 5
     ∷ row (4 ∷ []) (0 ∷ []) 2 ∷ row (6 ∷ []) (0 ∷ []) 1
-    ∷ startRow (7 ∷ []) (0 ∷ []) ∷ startRow (0 ∷ []) (2 ∷ []) ∷ row (0 ∷ 0 ∷ []) (0 ∷ 1 ∷ []) 2 ∷ []
+    ∷ startRow (7 ∷ []) (0 ∷ []) ∷ startRow (0 ∷ []) (2 ∷ []) ∷ row (0 ∷ 0 ∷ []) (0 ∷ 1 ∷ []) 1 ∷ []
     ≡ some (outcomeAnswer 1 true 1 0) ∷ some (outcomeAnswer 0 false 2 1) ∷ some (outcomeAnswer 1 true 3 0) ∷ some (outcomeAnswer 0 false 5 0)
     ∷ some (outcomeAnswer 0 false 2 1) ∷ some (outcomeAnswer 1 true 1 0)
-    ∷ some (refused 13) ∷ some (refused 14) ∷ some (outcomeAnswer 1 true 2 1) ∷ []
+    ∷ some (refused 13) ∷ some (refused 14) ∷ some (outcomeAnswer 1 true 1 0) ∷ []
 sample = sample-rows

@@ -173,27 +173,27 @@ module _ (z : Sizes) (y : Inputs) (vs bs : List ℕ) (x : Inputs) (F : SettledIn
     map-below = λ v q h l. state-table-small (v * (z .s + 1) + (1 + q));
   }
 
-  module _ (ps : List Part) (H : Handled (z .s) (rootsIn y vs) ps) (l : length ps < length (rootsIn y vs)) where
+  module _ (ws : List ℕ) (ps : List Part) (H : Handled (z .s) (rootsIn y ws) ps) (l : length ps < length (rootsIn y ws)) where
     -- the roots are those of the parts before, the next one, and the rest
-    cut : nodesOf ps ++ (nextRoot (rootsIn y vs) ps ∷ drop (suc (length ps)) (rootsIn y vs)) ≡ rootsIn y vs
+    cut : nodesOf ps ++ (nextRoot (rootsIn y ws) ps ∷ drop (suc (length ps)) (rootsIn y ws)) ≡ rootsIn y ws
     cut =
-        ap₂ (λ (a b : List ℕ). a ++ b) (H .nodes) (sym (drop-cons (rootsIn y vs) (length ps) 0 l))
-        ∙ take-append-drop (length ps) (rootsIn y vs)
+        ap₂ (λ (a b : List ℕ). a ++ b) (H .nodes) (sym (drop-cons (rootsIn y ws) (length ps) 0 l))
+        ∙ take-append-drop (length ps) (rootsIn y ws)
 
-    advance-fact : partOn (viewBy z x) (take (length ps) (rootsIn y vs)) (statesOf ps) vs bs (nextRoot (rootsIn y vs) ps)
-        ≡ some (reachedBy (partOf (givenOf z y x vs bs) (rootsIn y vs) ps (nextRoot (rootsIn y vs) ps)))
+    advance-fact : partOn (viewBy z x) (take (length ps) (rootsIn y ws)) (statesOf ps) vs bs (nextRoot (rootsIn y ws) ps)
+        ≡ some (reachedBy (partOf (givenOf z y x vs bs) (rootsIn y ws) ps (nextRoot (rootsIn y ws) ps)))
     unfolding partOf givenOf roots
     advance-fact =
-        ap (λ (es : List ℕ). partOn (viewBy z x) es (statesOf ps) vs bs (nextRoot (rootsIn y vs) ps)) (sym (H .nodes))
-        ∙ part-theorem.part-built (viewBy z x) (givenOf z y x vs bs) reads (λ v. holds v vs) (rootsIn y vs) members ps (nextRoot (rootsIn y vs) ps)
-        (drop (suc (length ps)) (rootsIn y vs)) cut (states-small (z .s) ps s-pos (H .states)) vs bs
+        ap (λ (es : List ℕ). partOn (viewBy z x) es (statesOf ps) vs bs (nextRoot (rootsIn y ws) ps)) (sym (H .nodes))
+        ∙ part-theorem.part-built (viewBy z x) (givenOf z y x vs bs) reads (λ v. holds v ws) (rootsIn y ws) members ps (nextRoot (rootsIn y ws) ps)
+        (drop (suc (length ps)) (rootsIn y ws)) cut (states-small (z .s) ps s-pos (H .states)) vs bs
         (ap (λ (ls : List ℕ). changed ls vs bs) (sym (labels-planTree (y .plan) pp)))
       where
-        members : Members (λ v. holds v vs) (planTree (y .plan)) (rootsIn y vs)
-        members = list-members (λ v. holds v vs) (planTree (y .plan))
+        members : Members (λ v. holds v ws) (planTree (y .plan)) (rootsIn y ws)
+        members = list-members (λ v. holds v ws) (planTree (y .plan))
 
 pub layers : Layers
 layers = record {
   roots-are = roots-fact;
-  part-built = λ z y vs bs x ps F H l. advance-fact z y vs bs x F ps H l;
+  part-built = λ z y vs bs x ws ps F H l. advance-fact z y vs bs x F ws ps H l;
 }

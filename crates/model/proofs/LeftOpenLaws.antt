@@ -25,7 +25,7 @@ use Rattle.questions.proofs.PartRange.{part-out-of-range}
 use Rattle.formats.specs.Inputs.{Inputs, inputsOf, sameNodeInputs, usedNodeTable, namesSizes, nodeTableBuilt, statesBelow}
 use Rattle.model.specs.Calls.{Call, load, start, advance, cancel, read, refused, more, finished, Phase}
 use Rattle.model.specs.Refusals.{refusal}
-use Rattle.model.specs.Model.{Record, stageOf, acted, rootsIn, started, stepped, advanceWith, partNext, marksBy}
+use Rattle.model.specs.Model.{Record, stageOf, acted, leftIn, rootsIn, started, stepped, advanceWith, partNext, marksBy}
 use Rattle.model.specs.Model.{viewBy, proceeds, unless, act}
 use Rattle.model.specs.PartInputs.{givenOf}
 use Rattle.model.specs.LeftOpen.{Usable, ruleGives, AdvanceProperties}
@@ -71,11 +71,12 @@ start-usable r x vs bs other e b =
       nodeTable = start-built (stageOf r) x vs bs e;
       stateTable = b;
       listed = start-list (stageOf r) x vs bs e;
+      left = leftIn x vs bs;
       ready = refl;
       before = refl;
       states = refl;
       below = refl;
-      next = some-root x vs;
+      next = some-root x (leftIn x vs bs);
     })
 
 -- ---- advance
@@ -101,12 +102,12 @@ module _ (r : Record) (x : Inputs) where
         room = advance-fits (stageOf r) x e;
         listed = U .listed;
       } in
-      let H : Handled (r .sizes .s) (rootsIn x (r .nodes)) ps = record {
+      let H : Handled (r .sizes .s) (rootsIn x (U .left)) ps = record {
         nodes = U .before ∙ ap₂ (λ (i : ℕ) (l : List ℕ). take i l) (sym n) (U .ready);
         states = subst (λ (l : List ℕ). allBelow (r .sizes .s) l ≡ true) (sym (U .states)) (U .below);
       } in
-      let l : length ps < length (rootsIn x (r .nodes)) = omega (arith, n, U .next, ap length (U .ready)) in
-      rw (← U .states, U .ready, length-states ps) (layers .part-built (r .sizes) x (r .nodes) (r .labels) x ps F H l)
+      let l : length ps < length (rootsIn x (U .left)) = omega (arith, n, U .next, ap length (U .ready)) in
+      rw (← U .states, U .ready, length-states ps) (layers .part-built (r .sizes) x (r .nodes) (r .labels) x (U .left) ps F H l)
 
   bounded : (y : Reached) → partNext r x ≡ some y → (y .state < r .sizes .s) × (y .links ≤ r .sizes .n)
   bounded y e =

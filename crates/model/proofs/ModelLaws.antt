@@ -3,10 +3,11 @@
 --     before-numbered, start-before    Start's checks before 18
 --     start-list, start-sound, start-built    a Start that no check refuses has a list that passes 12 to 14, and sound inputs
 --     advance-fits     an advance that no check refuses has room: check 17
+--     left-below, left-most    of a list that passes 12 to 14 what is left in W does
 --     some-root        there is always a part: the plan's root
 --     marks-built      the accept marks by the record's S and K are the rule table's
 -- Assumes nothing.
-use Prim.Native.Nat.{ℕ, _+_, _-_, _*_, _<_}
+use Prim.Native.Nat.{ℕ, _+_, _-_, _*_, _≤_, _<_}
 use mathlib.Core.Path.{_≡_, refl, sym, ap, ap₂, _∙_}
 use mathlib.Core.Bool.{true}
 use mathlib.Core.List.{List, [], _∷_}
@@ -14,20 +15,21 @@ use native.Mathlib.Omega.{arith}
 use lib.ListN.{length, take, drop}
 use Rattle.trees.specs.Tree.{size}
 use Rattle.trees.proofs.NodeLaws.{size-pos}
-use Rattle.list_laws.specs.Tests.{holds}
-use Rattle.formats.specs.Plan.{planTree}
+use Rattle.list_laws.specs.Tests.{allBelow, holds}
+use Rattle.formats.specs.Plan.{planTree, labelsIn}
 use Rattle.formats.specs.Rules.{ruleMarks}
 use Rattle.formats.specs.Checks.{check, firstNo, listChecks}
 use Rattle.formats.specs.Inputs.{Inputs, Sizes, fits, nodeTableBuilt, stateTableBuilt, sound}
 use Rattle.list_laws.proofs.BoolLaws.{and-left}
 use Rattle.formats.proofs.CheckLaws.{Numbered, firstNo-head, firstNo-tail, firstNo-append-left, firstNo-append-right}
-use Rattle.formats.proofs.InputLaws.{list-numbered}
+use Rattle.formats.proofs.InputLaws.{ListPasses, list-passes, list-numbered}
+use Rattle.changes.proofs.DifferingLaws.{differing-below, differing-most}
 use Rattle.formats.proofs.InputsLaws.{Built}
 use Rattle.ready.specs.Members.{roots}
 use Rattle.ready.proofs.ListLaws.{list-last}
 use Rattle.model.specs.Calls.{load, start, advance, Phase, mayLoad, mayStart, isRunning}
 use Rattle.model.specs.Refusals.{Stage, stage, checksBefore18, refusal}
-use Rattle.model.specs.Model.{rootsIn, marksBy}
+use Rattle.model.specs.Model.{leftIn, rootsIn, marksBy}
 use Rattle.model.proofs.ResultLaws.{length-more}
 
 -- "Load is allowed unless running"
@@ -64,6 +66,16 @@ unfolding refusal
 advance-fits t x e =
     firstNo-head 17 (fits (t .sizes) x) [] (omega arith)
     (firstNo-tail 1 (isRunning (t .phase)) (check 17 (fits (t .sizes) x) ∷ []) (omega arith) e)
+
+module _ (x : Inputs) (n k : ℕ) (vs bs : List ℕ) (e : firstNo (listChecks n k vs bs) ≡ 0) where
+  passes : ListPasses n k vs bs
+  passes = list-passes n k vs bs e
+
+  pub left-below : allBelow n (leftIn x vs bs) ≡ true
+  left-below = differing-below n (labelsIn (x .plan)) vs bs (passes .lengths) (passes .nodes-below)
+
+  pub left-most : length (leftIn x vs bs) ≤ 64
+  left-most = omega (arith, differing-most (labelsIn (x .plan)) vs bs (passes .lengths), passes .most)
 
 pub some-root : (y : Inputs) (vs : List ℕ) → 0 < length (rootsIn y vs)
 unfolding roots

@@ -1,7 +1,7 @@
 -- What holds of an advance whatever its inputs: the properties of what document 01 leaves to the program.
 --
 -- Usable r x ps == "plan and rules name the record's N, S and K and, like the 16-bit numbers, are .. as built, but run states and maps
---   are any bytes below S"; the record's roots are the plan's, and ps the parts handled so far
+--   are any bytes below S"; the record's roots are the plan's for some W, and ps the parts handled so far
 -- ruleGives r x ps == the state and links that the rule of document 01 gives for the next part
 -- AdvanceProperties r x a r′ == of an advance's: one state more, below S, and the links of one climb; 18 only where a value leads out of
 --   range; on usable tables the rule's, never 18
@@ -31,7 +31,8 @@ pub record Usable (r : Record) (x : Inputs) (ps : List Part) : Type 0 where
   pub nodeTable : nodeTableBuilt (r .sizes) x ≡ true
   pub stateTable : statesBelow (r .sizes) x ≡ true
   pub listed : firstNo (listChecks (r .sizes .n) (r .sizes .k) (r .nodes) (r .labels)) ≡ 0
-  pub ready : r .roots ≡ rootsIn x (r .nodes)
+  pub left : List ℕ
+  pub ready : r .roots ≡ rootsIn x left
   pub before : nodesOf ps ≡ take (length (r .states)) (r .roots)
   pub states : statesOf ps ≡ r .states
   pub below : allBelow (r .sizes .s) (r .states) ≡ true

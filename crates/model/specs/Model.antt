@@ -2,7 +2,8 @@
 --
 -- Record == document 01's session record
 -- freshRecord == that of a fresh session; loadedRecord z == that after a first Load
--- rootsIn x vs == the roots of the parts of the list vs, on the plan of the inputs x, rising
+-- leftIn x vs bs == the nodes that the list, vs to bs, leaves in W on the plan of the inputs x
+-- rootsIn x vs == the roots of the parts of the nodes vs, on the plan of the inputs x, rising
 -- stageOf r == its stage, as the refusals ask for it
 -- act r c == a call on a record: the answer and the record then
 -- Does r c a r′ == the same as a relation
@@ -16,7 +17,8 @@ use mathlib.Core.List.{List, [], _∷_, _++_}
 use mathlib.Core.Option.{Option, none, some}
 use lib.Dec.{eqb}
 use lib.ListN.{length, getD, take, drop}
-use Rattle.formats.specs.Plan.{planTree}
+use Rattle.formats.specs.Plan.{planTree, labelsIn}
+use Rattle.changes.specs.Differing.{differing}
 use Rattle.ready.specs.Members.{roots}
 use Rattle.tables.specs.declared.answers.Reached.{Reached}
 use Rattle.tables.specs.Climbs.{View, viewOf}
@@ -69,6 +71,10 @@ marksBy z x = take (z .s) (drop (20 + z .k + z .s * z .k * z .s) (x .rules))
 
 -- ---- Start: "running", no part state, no link
 
+-- document 02, S-5: "A listed node whose label equals the plan's is left out of W", the plan that Start is lent
+abbrev pub leftIn : Inputs → List ℕ → List ℕ → List ℕ
+leftIn x vs bs = differing (labelsIn (x .plan)) vs bs
+
 abbrev pub rootsIn : Inputs → List ℕ → List ℕ
 rootsIn x vs = roots (planTree (x .plan)) vs
 
@@ -117,7 +123,8 @@ outcomeOf r =
 
 unfoldable pub proceeds : Record → Call → Acted
 proceeds r (load x) = acted Answer.accepted (loadedRecord (sizesIn x))
-proceeds r (start x vs bs) = acted (parts (length (rootsIn x vs))) (started (r .sizes) vs bs (rootsIn x vs))
+proceeds r (start x vs bs) =
+    acted (parts (length (rootsIn x (leftIn x vs bs)))) (started (r .sizes) vs bs (rootsIn x (leftIn x vs bs)))
 proceeds r (advance x) = advanceWith r x (partNext r x)
 proceeds r cancel = acted Answer.accepted (loadedRecord (r .sizes))
 proceeds r read = acted (outcomeOf r) r

@@ -116,7 +116,7 @@ module _ (n s k : ℕ) (plan rules nodeTable stateTable roots states vs bs : Lis
       ≡ some (reached (partState G roots ps (getD roots (length states) 0)) (partLinks (G .tree) roots (getD roots (length states) 0)))
   unfolding partGiven members.roots
   by-rule G ps A =
-      let w : ℕ → Bool = λ v. holds v vs in
+      let w : ℕ → Bool = λ v. holds v (A .listed) in
       let M : Members w (G .tree) roots = rw (A .ready) (list-members w (G .tree)) in
       let v = getD roots (length states) 0 in
       rw (A .fits)

@@ -4,7 +4,7 @@
 -- rootedNumber r, numberFor o == document 01's number of an answer: 18 where there is no result, else 0
 -- RootsDone n nodeTable vs r == the promise of roots
 -- Reads X G == what is lent, X, is as G has it: the 16-bit numbers those of the tree, run states and maps any bytes below S
--- Asked .. G ps == a part asked for as "Parts of a question" has it: the roots are the ready set's, ps the parts before
+-- Asked .. G ps == a part asked for as "Parts of a question" has it: the roots are the ready set's of any W, ps the parts before
 -- PartDone .. r == the promise of part
 --
 -- Assumes nothing.
@@ -83,7 +83,9 @@ pub record Asked (n s k : ℕ) (plan rules nodeTable stateTable roots states vs 
   pub fits : partFits n s k plan rules nodeTable stateTable roots states vs bs ≡ true
   pub reads : Reads (viewIn n s k plan rules nodeTable stateTable) G
   pub labels : G .labels ≡ changed (labelsOf (G .tree)) vs bs
-  pub ready : roots ≡ members.roots (G .tree) vs
+  -- W: not the list, of which nodes may have been left out (document 02, S-5)
+  pub listed : List ℕ
+  pub ready : roots ≡ members.roots (G .tree) listed
   pub before : nodesOf ps ≡ take (length states) roots
   pub states-are : statesOf ps ≡ states
   pub below : (v : ℕ) → stateOf ps v < s

@@ -7,3 +7,4 @@ pub mod ClosedForm
 pub mod PartsRun
 pub mod ListLaws
 pub mod PartitionLaws
+pub mod MonotoneLaws

@@ -34,15 +34,14 @@ use Rattle.model.specs.Calls.{advance, more, finished, Phase, isRunning}
 use Rattle.model.specs.Refusals.{stage, refusal}
 use Rattle.model.specs.PartInputs.{givenOf}
 use Rattle.reference.specs.Reference.{Settlement, clean, byRule, byProgram, Question, State, settled, phase}
-use Rattle.reference.specs.Reference.{inState, rootsOf, partCount, givenBy, longer, advanced, goesOn, otherStates}
+use Rattle.reference.specs.Reference.{inState, leftOf, rootsOf, partCount, givenBy, longer, advanced, goesOn, otherStates}
 use Rattle.reference.specs.Reference.{mayAdvanceWith, byAnswer, advancingByProgram, advancingByRule, advancing}
 use Rattle.reference.specs.Reference.{proceed}
 use Rattle.model.specs.Model.{Record, acted, viewBy, marksBy, stepped, advanceWith, partNext, proceeds}
-use Rattle.model.proofs.ModelLaws.{advance-fits, marks-built}
+use Rattle.model.proofs.ModelLaws.{advance-fits, left-below, marks-built}
 use Rattle.model.proofs.Facts.{reachedBy, nextRoot, Layers}
 use Rattle.model.proofs.ResultLaws.{length-states, states-more, length-more, last-more, links-more, below-more}
 use Rattle.model.proofs.ResultLaws.{from-more}
-use Rattle.formats.proofs.InputLaws.{list-passes}
 use Rattle.formats.proofs.InputsLaws.{Built, Same, plan-of, node-table-built, same-node-inputs, same-inputs-nodes}
 use Rattle.formats.proofs.InputsLaws.{same-state-table}
 use Rattle.reference.proofs.FreshLaws.{part-state, given-same, sound-below}
@@ -88,7 +87,7 @@ module _ (r : Record) (z : Sizes) (q : Question) (x : Inputs) (sizes : r .sizes 
       (r .labels) (q .labels) sizes (p .roots) (p .states) (p .nodes) (p .labels)
       ∙ ap (λ (n : ℕ). partOn (viewBy z x) (take n (rootsOf q)) (statesOf ps) (q .nodes) (q .labels)
       (getD (rootsOf q) n 0)) (length-states ps)
-      ∙ L .part-built z (q .inputs) (q .nodes) (q .labels) x ps
+      ∙ L .part-built z (q .inputs) (q .nodes) (q .labels) x (leftOf q) ps
       (record {
         built = p .built;
         same = other-same z q x o;
@@ -170,7 +169,7 @@ module _ (L : Layers) (r : Record) (z : Sizes) (q : Question) (x : Inputs) (i : 
   root-inside ps p =
       let B : Built z (q .inputs) = node-table-built z (q .inputs) (p .built) in
       let least : z .n - 1 + 1 ≡ z .n = omega (arith, B .n-is, plan-of z (q .inputs) B .least) in
-      let R = L .roots-are z (q .inputs) (q .nodes) (p .built) (list-passes (z .n) (z .k) (q .nodes) (q .labels) (p .listed) .nodes-below) in
+      let R = L .roots-are z (q .inputs) (leftOf q) (p .built) (left-below (q .inputs) (z .n) (z .k) (q .nodes) (q .labels) (p .listed)) in
       rw (p .roots)
       (below-entry (z .n) (rootsOf q)
       (subst (λ (n : ℕ). AllBelow n (rootsOf q)) least (to-below (z .n - 1) (rootsOf q) (R .to))) (length (r .states)) (i .holds .1))

@@ -1,7 +1,8 @@
 -- Ceilings on what the calls tell of a clean question.
 --     part-links        the links of one part are at most three for each binary digit of the plan's height
 --     question-links    those of a question, for each of its parts
---     ready-count       at most 4 m - 2 parts for m listed nodes, and 1 where none is listed
+--     ready-count       at most 4 m - 2 parts for the m nodes of W, and 1 where it has none
+--     parts-never-rise  no more parts than if no listed node were left out
 -- Assumes nothing.
 use Prim.Native.Nat.{ℕ, _-_, _*_, _≤_, _<_}
 use mathlib.Core.Path.{_≡_, refl}
@@ -30,6 +31,10 @@ use Rattle.ready.proofs.ListLaws.{list-members}
 use Rattle.questions.specs.Promises.{RootsAre}
 use Rattle.formats.specs.Inputs.{Inputs, Sizes, nodeTableBuilt}
 use Rattle.model.specs.Model.{rootsIn}
+use Rattle.formats.specs.Plan.{planTree, labelsIn}
+use Rattle.changes.proofs.DifferingLaws.{differing-listed}
+use Rattle.ready.proofs.MonotoneLaws.{roots-mono}
+use Rattle.reference.specs.Reference.{Question, leftOf, partCount}
 use Rattle.model.proofs.Facts.{Layers}
 
 -- ---- links
@@ -92,3 +97,9 @@ pub ready-count : Layers → (z : Sizes) (x : Inputs) (vs : List ℕ) → nodeTa
 ready-count L z x vs h b =
     let R : RootsAre (z .n) (length vs) (rootsIn x vs) = L .roots-are z x vs h b in
     record { one = R .one; few = λ l. omega (arith, R .few (omega arith)) }
+
+-- document 02, S-5: "parts and advances needed never rise"
+pub parts-never-rise : (q : Question) → partCount q ≤ length (roots (planTree (q .inputs .plan)) (q .nodes))
+parts-never-rise q =
+    roots-mono (planTree (q .inputs .plan)) (leftOf q) (q .nodes)
+    (differing-listed (labelsIn (q .inputs .plan)) (q .nodes) (q .labels))

@@ -8,14 +8,17 @@ use mathlib.Core.Path.{_≡_, refl}
 use mathlib.Core.Bool.{Bool, true, false}
 use mathlib.Core.List.{List, [], _∷_, _++_}
 use mathlib.Core.Option.{Option, none, some}
-use lib.ListN.{set, replicate}
+use lib.ListN.{length, set, replicate}
 use Rattle.formats.specs.Built.{builtNodeTable, builtStateTable}
 use Rattle.formats.specs.Inputs.{Inputs, inputsOf, sound}
 use Rattle.model.specs.Calls.{Call, load, start, advance, cancel, read, Answer, refused, parts, more, finished}
 use Rattle.model.specs.Calls.{outcomeAnswer}
 use Rattle.changes.specs.Entries.{entries, nodesListed, labelsListed, put, putAll, superseded, laidOver}
 use Rattle.changes.specs.ChangedPlan.{changedPlan}
-use Rattle.reference.specs.Reference.{newReference, asked, freshAnswer}
+use Rattle.reference.specs.Reference.{newReference, asked, leftOf, rootsOf, freshAnswer}
+use Rattle.formats.specs.Plan.{planTree}
+use Rattle.ready.specs.Members.{roots}
+use Rattle.ready.specs.Parts.{questionLinks}
 use Rattle.reference.specs.AgreementTest.{agreed}
 use Rattle.reference.proofs.Sample.{computing, planA, tableA, loadA, inputsA, Seen, seen, asking, row}
 
@@ -74,10 +77,18 @@ clean-list = refl
 
 -- "Plan, rules and tables are the panel's to alter or exchange": plan A was loaded and plan B is
 -- asked on its own tables, with a changing excess. Start's 18 is not tied to Load's plan
-pub exchanged-plan : seen (onNode0 (longerBy inputsB (5 ∷ [])) (longerBy inputsB (7 ∷ 8 ∷ 9 ∷ [])) inputsB)
+pub exchanged-plan :
+    seen (load loadA ∷ start (longerBy inputsB (5 ∷ [])) (0 ∷ []) (1 ∷ []) ∷ advance (longerBy inputsB (7 ∷ 8 ∷ 9 ∷ [])) ∷ advance inputsB
+    ∷ read ∷ [])
     ≡ all (some Answer.accepted ∷ some (parts 2) ∷ some more ∷ some finished ∷ some (outcomeAnswer 1 true 2 2) ∷ [])
-unfolding seen onNode0 inputsA inputsB
+unfolding seen loadA inputsA inputsB
 exchanged-plan = refl
+
+-- which label is no change is told by Start's plan: 0 is node 0's label in plan B, not in plan A, which was loaded
+pub own-label-at-start : seen (onNode0 inputsB inputsB inputsB)
+    ≡ all (some Answer.accepted ∷ some (parts 1) ∷ some finished ∷ some (refused 1) ∷ some (outcomeAnswer 1 true 1 0) ∷ [])
+unfolding seen onNode0 inputsA inputsB
+own-label-at-start = refl
 
 -- "lent the same, excess aside"
 pub changed-excess : seen (onNode0 (longerBy inputsA (5 ∷ [])) (longerBy inputsA (7 ∷ 8 ∷ 9 ∷ [])) inputsA)
@@ -282,6 +293,40 @@ unfolding changedA inputsA computing entries nodesListed labelsListed put putAll
 parts-differ = (refl, refl)
 
 -- a node listed twice: what Reads tell is that of its last entry, whatever the first one says
-pub last-entry : (row (0 ∷ 0 ∷ []) (0 ∷ 1 ∷ []) 2 ≡ row (0 ∷ []) (1 ∷ []) 2) × (row (0 ∷ 0 ∷ []) (1 ∷ 0 ∷ []) 2 ≡ row (0 ∷ []) (0 ∷ []) 2)
+pub last-entry : (row (0 ∷ 0 ∷ []) (0 ∷ 1 ∷ []) 1 ≡ row (0 ∷ []) (1 ∷ []) 1) × (row (0 ∷ 0 ∷ []) (1 ∷ 0 ∷ []) 2 ≡ row (0 ∷ []) (0 ∷ []) 2)
 unfolding row
 last-entry = (refl, refl)
+
+-- ---- changes that change nothing (document 02, S-5)
+
+-- the parts and links of a question, and those that it would have with all listed nodes in W
+abbrev pub withLeft : Inputs → List ℕ → List ℕ → List ℕ
+withLeft x vs bs = let ms = rootsOf (asked x vs bs) in length ms ∷ questionLinks (planTree (x .plan)) ms ∷ []
+
+abbrev pub withListed : Inputs → List ℕ → List ℕ
+withListed x vs = let ms = roots (planTree (x .plan)) vs in length ms ∷ questionLinks (planTree (x .plan)) ms ∷ []
+
+-- plans of five nodes, kinds 0 0 0 1 1
+unfoldable pub planFive : List ℕ → List ℕ
+planFive ls = 5 ∷ 0 ∷ 0 ∷ 0 ∷ 12 ∷ 0 ∷ 0 ∷ 0 ∷ 17 ∷ 0 ∷ 0 ∷ 0 ∷ (ls ++ (0 ∷ 0 ∷ 0 ∷ 1 ∷ 1 ∷ []))
+
+unfoldable pub inputsFive : List ℕ → Inputs
+unfolding planFive tableA computing
+inputsFive ls = inputsOf (planFive ls) tableA (builtNodeTable (planFive ls)) (builtStateTable (planFive ls) tableA)
+
+-- "links may go either way": labels 0 0 0 1 0 with 2 to 1 and 3 to 1, its own label, have a link more than without S-5, and fewer parts; labels
+-- 0 1 1 0 0 with 2 to 1, its own, have one less
+pub links-either-way :
+    (withListed (inputsFive (0 ∷ 0 ∷ 0 ∷ 1 ∷ 0 ∷ [])) (2 ∷ 3 ∷ []) ≡ 3 ∷ 0 ∷ [])
+    × (withLeft (inputsFive (0 ∷ 0 ∷ 0 ∷ 1 ∷ 0 ∷ [])) (2 ∷ 3 ∷ []) (1 ∷ 1 ∷ []) ≡ 2 ∷ 1 ∷ [])
+    × (withListed (inputsFive (0 ∷ 1 ∷ 1 ∷ 0 ∷ 0 ∷ [])) (2 ∷ []) ≡ 2 ∷ 1 ∷ [])
+    × (withLeft (inputsFive (0 ∷ 1 ∷ 1 ∷ 0 ∷ 0 ∷ [])) (2 ∷ []) (1 ∷ []) ≡ 1 ∷ 0 ∷ [])
+unfolding inputsFive planFive computing
+links-either-way = (refl, refl, refl, refl)
+
+-- a node that is left out may still root a part: node 5 of plan A, with its own label, is the common ancestor of 3 and 4
+pub left-out-rooting :
+    (rootsOf (asked inputsA (3 ∷ 4 ∷ 5 ∷ []) (1 ∷ 0 ∷ 0 ∷ [])) ≡ 3 ∷ 4 ∷ 5 ∷ 6 ∷ [])
+    × (leftOf (asked inputsA (3 ∷ 4 ∷ 5 ∷ []) (1 ∷ 0 ∷ 0 ∷ [])) ≡ 3 ∷ 4 ∷ [])
+unfolding inputsA computing
+left-out-rooting = (refl, refl)

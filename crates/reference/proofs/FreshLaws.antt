@@ -4,6 +4,7 @@
 --     part-below       whatever the bytes, the state of a part is below S
 --     given-same       the rule reads no more of the inputs than the state table in use
 --     whole-state      the last part has the root state of a fresh run on Start's plan with the listed labels changed
+--     whole-before     so had the last of the parts of all listed nodes: "On tables as built the answer is as before" (document 02, S-5)
 --     whole-links      the links in all are the moves of the parts' climbs
 -- Assumes nothing.
 use Prim.Native.Nat.{ℕ, zero, suc, _+_, _-_, _*_, _<_}
@@ -12,10 +13,9 @@ use mathlib.Core.Bool.{Bool, true, false, cond}
 use mathlib.Core.List.{List, [], _∷_, _++_, List·Memᴰ, List·Memᴰ·head, List·Memᴰ·tail, List·Memᴰ·cases-cons}
 use mathlib.Core.List.{List·Memᴰ·not-nil, Memᴰ·append-right}
 use mathlib.Core.Logic.{inl, inr}
-use native.Mathlib.Decide.{decLt}
 use native.Mathlib.Omega.{arith}
 use lib.Dec.{eqb}
-use lib.ListN.{length, getD, take, List·getD-eq-default}
+use lib.ListN.{length, getD, take}
 use lib.Seq.{take-all}
 use borrow.Author.Tests.{eq-eqb, ne-eqb}
 use Rattle.trees.specs.Tree.{Tree, size, kindsOf, kindAt, labelsOf, labelAt}
@@ -34,12 +34,14 @@ use Rattle.trees.proofs.RunLaws.{state-below}
 use Rattle.list_laws.specs.Tests.{allBelow, holds}
 use Rattle.formats.specs.Plan.{planTree, labelsIn, kindsIn}
 use Rattle.formats.specs.Rules.{ruleAutomaton}
+use Rattle.list_laws.proofs.BoolLaws.{true-false}
 use Rattle.list_laws.proofs.TestLaws.{at-allBelow, sameList-true}
 use Rattle.formats.proofs.PlanLaws.{labels-as-kinds, kinds-planTree, labels-planTree}
 use Rattle.formats.proofs.RuleLaws.{RulesPass, leaf-state-below, inner-state-below}
-use Rattle.runs.proofs.ListedLaws.{label-changed, label-unlisted, length-changed}
+use Rattle.runs.proofs.ListedLaws.{length-changed}
+use Rattle.changes.proofs.DifferingLaws.{unlisted-same, differing-listed}
 use Rattle.ready.specs.Ready.{leftChild, rightChild}
-use Rattle.ready.specs.Members.{roots, Rising}
+use Rattle.ready.specs.Members.{readyList, roots, Rising}
 use Rattle.ready.specs.Parts.{Given, Part, anyBelow, stateOf, climbedState, innerState, partState, partOf, partsFrom}
 use Rattle.ready.specs.Parts.{partsOf, lastState, allLinks, questionLinks}
 use Rattle.ready.proofs.ChangedRun.{Changes}
@@ -50,7 +52,7 @@ use Rattle.ready.proofs.BelowLaws.{rising-above}
 use Rattle.ready.proofs.ListLaws.{list-members, list-last, list-rising}
 use Rattle.formats.specs.Inputs.{Inputs, Sizes, usedStateTable, stateTableBuilt, statesBelow}
 use Rattle.model.specs.PartInputs.{givenOf}
-use Rattle.reference.specs.Reference.{Question, rootsOf, changedTree, givenBy}
+use Rattle.reference.specs.Reference.{Question, leftOf, rootsOf, changedTree, givenBy}
 use Rattle.ready.specs.Parts.{nodesOf}
 use Rattle.model.proofs.ResultLaws.{last-more, from-more, from-nodes, from-links}
 use Rattle.formats.proofs.InputsLaws.{Built, plan-of, rules-of}
@@ -150,9 +152,6 @@ module _ (z : Sizes) (q : Question) (B : Built z (q .inputs)) where
   abbrev u : Tree
   u = changedTree q
 
-  abbrev w : ℕ → Bool
-  w v = holds v (q .nodes)
-
   inside-rules : StaysInside A
   inside-rules = rules-inside (q .inputs .rules) (rules-of z (q .inputs) B)
 
@@ -175,21 +174,22 @@ module _ (z : Sizes) (q : Question) (B : Built z (q .inputs)) where
   u-labels : labelsOf u ≡ changed (labelsIn (q .inputs .plan)) (q .nodes) (q .labels)
   u-labels = treeOf-labels (kindsIn (q .inputs .plan)) _ labels-length (plan-of z (q .inputs) B .postorder)
 
-  same-label : (v : ℕ) → w v ≡ false → labelAt t v ≡ labelAt u v
-  same-label v e = elim (decLt v (length (labelsIn (q .inputs .plan)))) [
-    | yes h ↦ ap (λ (l : List ℕ). getD l v 0) (labels-planTree (q .inputs .plan) (plan-of z (q .inputs) B))
-        ∙ sym (ap (λ (l : List ℕ). getD l v 0) u-labels
-        ∙ label-changed (labelsIn (q .inputs .plan)) (q .nodes) (q .labels) v h
-        ∙ label-unlisted (getD (labelsIn (q .inputs .plan)) v 0) (q .nodes) (q .labels) v e)
-    | no h ↦ ap (λ (l : List ℕ). getD l v 0) (labels-planTree (q .inputs .plan) (plan-of z (q .inputs) B))
-        ∙ List·getD-eq-default (labelsIn (q .inputs .plan)) 0 {n = v} (omega arith)
-        ∙ sym (ap (λ (l : List ℕ). getD l v 0) u-labels
-        ∙ List·getD-eq-default (changed (labelsIn (q .inputs .plan)) (q .nodes) (q .labels)) 0 {n = v}
-        (omega (arith, length-changed (labelsIn (q .inputs .plan)) (q .nodes) (q .labels))))
-  ]
+  -- a node that is not left in W keeps its label
+  left-same : (v : ℕ) → holds v (leftOf q) ≡ false → labelAt t v ≡ labelAt u v
+  left-same v e =
+      ap (λ (l : List ℕ). getD l v 0) (labels-planTree (q .inputs .plan) (plan-of z (q .inputs) B))
+      ∙ sym (ap (λ (l : List ℕ). getD l v 0) u-labels ∙ unlisted-same (labelsIn (q .inputs .plan)) (q .nodes) (q .labels) v e)
 
-  changes : Changes w t u
-  changes = record { kinds = kinds-planTree (q .inputs .plan) (plan-of z (q .inputs) B) ∙ sym u-kinds; labels = same-label }
+  -- so does one that is not listed
+  listed-same : (v : ℕ) → holds v (q .nodes) ≡ false → labelAt t v ≡ labelAt u v
+  listed-same v e = left-same v (go (holds v (leftOf q)) refl)
+    where
+      go : (b : Bool) → holds v (leftOf q) ≡ b → b ≡ false
+      go true h = absurd (true-false (sym (differing-listed (labelsIn (q .inputs .plan)) (q .nodes) (q .labels) v h) ∙ e))
+      go false h = refl
+
+  changes : (w : ℕ → Bool) → ((v : ℕ) → w v ≡ false → labelAt t v ≡ labelAt u v) → Changes w t u
+  changes w same = record { kinds = kinds-planTree (q .inputs .plan) (plan-of z (q .inputs) B) ∙ sym u-kinds; labels = same }
 
   -- ---- on the state table that Load writes
 
@@ -222,33 +222,43 @@ module _ (z : Sizes) (q : Question) (B : Built z (q .inputs)) where
     abbrev G : Given
     G = givenBy z q (q .inputs)
 
-    abbrev ms : List ℕ
-    ms = rootsOf q
+    -- over the ready set of any W that lacks no node whose label is another
+    module _ (w : ℕ → Bool) (same : (v : ℕ) → w v ≡ false → labelAt t v ≡ labelAt u v) where
+      abbrev ms : List ℕ
+      ms = readyList w t
 
-    all-right : (x : ℕ) → List·Memᴰ x ms → stateOf (partsOf G ms) x ≡ state A (sub u x)
-    unfolding givenOf roots
-    all-right x m = parts-right G u given-run inside-rules w changes ms (list-members w t) x m
+      all-right : (x : ℕ) → List·Memᴰ x ms → stateOf (partsOf G ms) x ≡ state A (sub u x)
+      unfolding givenOf
+      all-right x m = parts-right G u given-run inside-rules w (changes w same) ms (list-members w t) x m
 
-    pub whole-state : lastState (partsOf G ms) 0 ≡ state A u
-    unfolding partsOf partOf roots
-    whole-state =
-        let v : ℕ = size t - 1 in
-        let top : v + 1 ≡ size t = omega (arith, size-pos t) in
-        let L : (l : List ℕ) × (ms ≡ l ++ (v ∷ [])) = list-last w t v top in
-        let ps : List Part = partsFrom G ms [] (L .0) in
-        let p : Part = partOf G ms ps v in
-        let split : partsOf G ms ≡ ps ++ (p ∷ []) = ap (partsFrom G ms []) (L .1) ∙ from-more G ms [] (L .0) v in
-        let away : List·Memᴰ v (nodesOf ps) → ⊥ = λ m.
-        rising-end (L .0) v 0 (subst (λ (k : List ℕ). Rising 0 k) (L .1) (list-rising w t))
-        (subst (λ (k : List ℕ). List·Memᴰ v k) (from-nodes G ms [] (L .0)) m) in
-        let member : List·Memᴰ v ms = subst (λ (k : List ℕ). List·Memᴰ v k) (sym (L .1))
-        (Memᴰ·append-right (L .0) (List·Memᴰ·head refl)) in
-        let end : v + 1 ≡ size u = top ∙ same-count t u (changes .kinds) in
-        ap (λ (k : List Part). lastState k 0) split
-        ∙ last-more ps p 0
-        ∙ sym (ap (λ (k : List Part). stateOf k v) split ∙ state-last ps p away)
-        ∙ all-right v member
-        ∙ ap (state A) (sub-root u v end)
+      whole : lastState (partsOf G ms) 0 ≡ state A u
+      unfolding partsOf partOf
+      whole =
+          let v : ℕ = size t - 1 in
+          let top : v + 1 ≡ size t = omega (arith, size-pos t) in
+          let L : (l : List ℕ) × (ms ≡ l ++ (v ∷ [])) = list-last w t v top in
+          let ps : List Part = partsFrom G ms [] (L .0) in
+          let p : Part = partOf G ms ps v in
+          let split : partsOf G ms ≡ ps ++ (p ∷ []) = ap (partsFrom G ms []) (L .1) ∙ from-more G ms [] (L .0) v in
+          let away : List·Memᴰ v (nodesOf ps) → ⊥ = λ m.
+          rising-end (L .0) v 0 (subst (λ (k : List ℕ). Rising 0 k) (L .1) (list-rising w t))
+          (subst (λ (k : List ℕ). List·Memᴰ v k) (from-nodes G ms [] (L .0)) m) in
+          let member : List·Memᴰ v ms = subst (λ (k : List ℕ). List·Memᴰ v k) (sym (L .1))
+          (Memᴰ·append-right (L .0) (List·Memᴰ·head refl)) in
+          let end : v + 1 ≡ size u = top ∙ same-count t u (changes w same .kinds) in
+          ap (λ (k : List Part). lastState k 0) split
+          ∙ last-more ps p 0
+          ∙ sym (ap (λ (k : List Part). stateOf k v) split ∙ state-last ps p away)
+          ∙ all-right v member
+          ∙ ap (state A) (sub-root u v end)
+
+    pub whole-state : lastState (partsOf G (rootsOf q)) 0 ≡ state A u
+    unfolding roots
+    whole-state = whole (λ v. holds v (leftOf q)) left-same
+
+    pub whole-before : lastState (partsOf G (roots t (q .nodes))) 0 ≡ state A u
+    unfolding roots
+    whole-before = whole (λ v. holds v (q .nodes)) listed-same
 
   pub whole-links : (x : Inputs) → allLinks (partsOf (givenBy z q x) (rootsOf q)) ≡ questionLinks t (rootsOf q)
   unfolding partsOf questionLinks givenOf allLinks

@@ -1,14 +1,17 @@
 -- The order of a list of changes does not matter to the reference model.
---     roots-order      the roots of the parts go by the listed nodes alone
+--     roots-order      the roots of the parts go by the nodes alone
+--     last-order, left-order    where no node is listed twice, each has the same last label, and the same nodes are left in W
 --     start-order      nor does the refusal of a Start
 --     parts-order, fresh-order    the number of parts, and the answer of a clean question
 -- A permutation is mathlib's `List·Permᴰ`, of the list of entries (node, label).
 -- Assumes nothing.
-use Prim.Native.Nat.{ℕ, zero, suc}
+use Prim.Native.Nat.{ℕ, zero, suc, _<_}
 use mathlib.Core.Path.{_≡_, refl, sym, ap, ap₂, _∙_, fun-ext}
-use mathlib.Core.Bool.{Bool, true, cond}
+use mathlib.Core.Bool.{Bool, true, false, cond}
 use mathlib.Core.List.{List, [], _∷_, _++_, zip, List·Permᴰ}
-use lib.ListN.{length}
+use mathlib.Core.Option.{Option, none, some}
+use native.Mathlib.Omega.{arith}
+use lib.ListN.{length, getD, replicate, length-replicate}
 use Rattle.trees.specs.Tree.{Tree}
 use Rattle.trees.specs.Changes.{changed}
 use Rattle.trees.specs.Postorder.{treeOf}
@@ -20,9 +23,12 @@ use Rattle.formats.specs.Checks.{Check, check, firstNo, listChecks}
 use Rattle.formats.proofs.CheckLaws.{Numbered, firstNo-append-zero, firstNo-append-suc}
 use Rattle.formats.proofs.InputLaws.{list-numbered}
 use Rattle.runs.proofs.OrderLaws.{keys-zip, keys-perm, holds-perm, changed-order, list-order}
-use Rattle.changes.specs.Entries.{entries, superseded}
-use Rattle.changes.proofs.EntryLaws.{nodes-entries}
-use Rattle.changes.proofs.ChangedLaws.{same-count}
+use Rattle.list_laws.proofs.BoolLaws.{true-false}
+use Rattle.changes.specs.Entries.{entries, lastLabel}
+use Rattle.changes.specs.Differing.{differing}
+use Rattle.changes.proofs.EntryLaws.{nodes-entries, listed-holds, isSome}
+use Rattle.changes.proofs.ChangedLaws.{labelOr, changed-label}
+use Rattle.changes.proofs.DifferingLaws.{differing-same}
 use Rattle.ready.specs.Members.{readyList, roots}
 use Rattle.ready.specs.Parts.{questionLinks}
 use Rattle.formats.specs.Inputs.{Inputs, fits, sound}
@@ -38,16 +44,32 @@ same-append xs ys zs p q e = go (firstNo ys) refl
     go zero f = firstNo-append-zero xs zs p (e ∙ f) ∙ sym (firstNo-append-zero ys zs q f)
     go (suc n) f = firstNo-append-suc xs zs n (e ∙ f) ∙ sym (firstNo-append-suc ys zs n f)
 
+-- two labels, or none, that are there alike and the same before one default
+same-option : (o p : Option ℕ) (d : ℕ) → isSome o ≡ isSome p → labelOr o d ≡ labelOr p d → o ≡ p
+same-option none none d i e = refl
+same-option none (some y) d i e = absurd (true-false (sym i))
+same-option (some x) none d i e = absurd (true-false i)
+same-option (some x) (some y) d i e = ap some e
+
 module _ (vs bs ws cs : List ℕ) (g : length vs ≡ length bs) (h : length ws ≡ length cs)
     (d : List·Permᴰ (zip vs bs) (zip ws cs)) where
   same-nodes : (v : ℕ) → holds v vs ≡ holds v ws
   same-nodes v = sym (ap (holds v) (keys-zip vs bs g)) ∙ holds-perm v (keys-perm d) ∙ ap (holds v) (keys-zip ws cs h)
 
-  -- as many nodes after superseding
-  pub count-order : length (superseded (entries vs bs)) ≡ length (superseded (entries ws cs))
-  count-order =
-      same-count (entries vs bs) (entries ws cs) (λ v.
-      ap (holds v) (nodes-entries vs bs g) ∙ same-nodes v ∙ sym (ap (holds v) (nodes-entries ws cs h)))
+  -- the last labels, by the labels that the two lists make of zeros
+  pub last-order : distinct vs ≡ true → (v : ℕ) → lastLabel v (entries vs bs) ≡ lastLabel v (entries ws cs)
+  last-order u v =
+      let zeros : List ℕ = replicate (suc v) 0 in
+      let long : v < length zeros = omega (arith, length-replicate {A = ℕ} (suc v) 0) in
+      same-option (lastLabel v (entries vs bs)) (lastLabel v (entries ws cs)) (getD zeros v 0)
+      (sym (listed-holds v (entries vs bs)) ∙ ap (holds v) (nodes-entries vs bs g) ∙ same-nodes v
+      ∙ sym (ap (holds v) (nodes-entries ws cs h)) ∙ listed-holds v (entries ws cs))
+      (sym (changed-label zeros vs bs v long) ∙ ap (λ (l : List ℕ). getD l v 0) (changed-order vs bs ws cs g h d u zeros)
+      ∙ changed-label zeros ws cs v long)
+
+  -- the nodes that are left in W
+  pub left-order : distinct vs ≡ true → (ls : List ℕ) → differing ls vs bs ≡ differing ls ws cs
+  left-order u ls = differing-same ls vs bs ws cs (last-order u)
 
   pub roots-order : (t : Tree) → roots t vs ≡ roots t ws
   unfolding roots
@@ -64,14 +86,15 @@ module _ (vs bs ws cs : List ℕ) (g : length vs ≡ length bs) (h : length ws �
   -- two questions on the same inputs
   module _ (q k : Question) (same : q .inputs ≡ k .inputs) (qv : q .nodes ≡ vs) (qb : q .labels ≡ bs) (kv : k .nodes ≡ ws)
       (kb : k .labels ≡ cs) where
-    roots-same : rootsOf q ≡ rootsOf k
-    roots-same =
-        ap₂ (λ (x : Inputs) (l : List ℕ). roots (planTree (x .plan)) l) same qv
-        ∙ roots-order (planTree (k .inputs .plan))
-        ∙ ap (roots (planTree (k .inputs .plan))) (sym kv)
+    roots-same : distinct vs ≡ true → rootsOf q ≡ rootsOf k
+    roots-same u =
+        ap₂ (λ (l m : List ℕ). roots (planTree (q .inputs .plan)) (differing (labelsIn (q .inputs .plan)) l m)) qv qb
+        ∙ ap (roots (planTree (q .inputs .plan))) (left-order u (labelsIn (q .inputs .plan)))
+        ∙ ap (λ (x : Inputs). roots (planTree (x .plan)) (differing (labelsIn (x .plan)) ws cs)) same
+        ∙ sym (ap₂ (λ (l m : List ℕ). roots (planTree (k .inputs .plan)) (differing (labelsIn (k .inputs .plan)) l m)) kv kb)
 
-    pub parts-order : partCount q ≡ partCount k
-    parts-order = ap length roots-same
+    pub parts-order : distinct vs ≡ true → partCount q ≡ partCount k
+    parts-order u = ap length (roots-same u)
 
     labels-same : distinct vs ≡ true
         → changed (labelsIn (q .inputs .plan)) (q .nodes) (q .labels) ≡ changed (labelsIn (k .inputs .plan)) (k .nodes)
@@ -92,4 +115,4 @@ module _ (vs bs ws cs : List ℕ) (g : length vs ≡ length bs) (h : length ws �
         (partCount q) (questionLinks (planTree (q .inputs .plan)) (rootsOf q))) same (tree-same u)
         ∙ ap₂ (λ (x : Inputs) (ms : List ℕ). outcomeAnswer (state (ruleAutomaton (k .inputs .rules)) (changedTree k))
         (accepts (ruleAutomaton (k .inputs .rules)) (changedTree k))
-        (length ms) (questionLinks (planTree (x .plan)) ms)) same roots-same
+        (length ms) (questionLinks (planTree (x .plan)) ms)) same (roots-same u)

@@ -56,4 +56,4 @@ pub advance-few : (r : Record) (x : Inputs) (a : Answer) (r′ : Record) (ps : L
     → refusal (stageOf r) (advance x) ≡ 0 → Usable r x ps → r′ .links ≤ r .links + 3 * digits (height (planTree (x .plan)))
 advance-few r x a r′ ps A e U =
     let g : r′ .links ≡ r .links + ruleGives r x ps .links = ap (λ (q : Record). q .links) (A .rule ps e U .1) ∙ counted r x (ruleGives r x ps) in
-    omega (arith, g, links-at (planTree (x .plan)) (r .nodes) (r .roots) (length (r .states)) (U .ready) (U .next))
+    omega (arith, g, links-at (planTree (x .plan)) (U .left) (r .roots) (length (r .states)) (U .ready) (U .next))

@@ -17,42 +17,39 @@ use lib.ListN.{length}
 use Rattle.trees.specs.Tree.{height}
 use Rattle.trees.specs.Climb.{digits}
 use Rattle.list_laws.specs.Tests.{distinct}
-use Rattle.formats.specs.Plan.{planTree}
+use Rattle.formats.specs.Plan.{planTree, labelsIn}
 use Rattle.list_laws.proofs.BoolLaws.{true-false}
-use Rattle.formats.specs.Checks.{firstNo, listChecks}
-use Rattle.formats.proofs.InputLaws.{list-passes}
-use Rattle.changes.specs.Entries.{entries, superseded}
-use Rattle.changes.proofs.EntryLaws.{length-nodes}
-use Rattle.changes.proofs.ChangedLaws.{superseded-list}
-use Rattle.formats.specs.Inputs.{Inputs, Sizes, nodeTableBuilt}
+use Rattle.changes.specs.Differing.{differing}
+use Rattle.ready.specs.Members.{roots}
+use Rattle.formats.specs.Inputs.{Inputs, Sizes}
 use Rattle.model.specs.Calls.{Call, start, Answer, refused, parts, more, finished, outcome, onOutcome, isRefused}
 use Rattle.model.specs.Refusals.{stage, refusal}
 use Rattle.model.specs.Sound.{Sound}
-use Rattle.reference.specs.Reference.{Question, State, Reference, phase, inState}
+use Rattle.reference.specs.Reference.{Question, State, Reference, phase, inState, leftOf}
 use Rattle.reference.specs.Reference.{newReference, step, decided, proceed, partCount, freshAnswer, asked, starting}
 use Rattle.reference.specs.Demand3.{Conforms, after, Agrees}
 use Rattle.model.specs.History.{History}
 use Rattle.model.specs.Model.{freshRecord, Does}
 use Rattle.reference.specs.Undisturbed.{advances, finishedAfter, referenceAt, Undisturbed, OutcomeHas}
-use Rattle.reference.specs.Superseding.{supersededNodes, supersededLabels}
 use Rattle.reference.specs.Undisturbed.{EveryOutcome, OnlyOutcome}
 use Rattle.model.proofs.Facts.{Layers}
 use Rattle.reference.proofs.StartSimulation.{some-part}
-use Rattle.model.proofs.ModelLaws.{start-list, start-sound, start-built}
+use Rattle.model.proofs.ModelLaws.{start-list, start-sound, start-built, left-below}
 use Rattle.model.proofs.SoundLaws.{sound-yes}
 use Rattle.reference.proofs.Demand3Theorem.{demand-3}
 use Rattle.model.proofs.Refinement.{Refines, refines}
-use Rattle.reference.proofs.Ceilings.{Few, ready-count, question-links}
+use Rattle.reference.proofs.Ceilings.{Few, ready-count, parts-never-rise, question-links}
 use Rattle.reference.proofs.UndisturbedLaws.{going, UndisturbedFrom, agrees-split, undisturbed}
-use Rattle.reference.proofs.OrderLaws.{count-order, parts-order, fresh-order}
-use Rattle.reference.proofs.SupersedingLaws.{parts-superseded}
+use Rattle.reference.proofs.OrderLaws.{left-order, roots-order, parts-order, fresh-order}
 
 -- n is what Start told, ys are the answers of the calls after it
 pub record CleanOutcomes (x : Inputs) (vs bs : List ℕ) (n : ℕ) (ys : List Answer) : Type 0 where
   -- Start tells the size of the ready set
   pub parts-are : n ≡ partCount (asked x vs bs)
-  -- at most 4 m - 2 parts for m changes, 1 for none; of a list with repeats "m counts its nodes" after superseding
-  pub few : Few (length (superseded (entries vs bs))) n
+  -- "the ceiling of 4m-2 uses the m that is left, with 1 part when none is": m counts the nodes whose label, after superseding, is not the plan's
+  pub few : Few (length (differing (labelsIn (x .plan)) vs bs)) n
+  -- "parts and advances needed never rise": no more than with all listed nodes in W
+  pub never-more : n ≤ length (roots (planTree (x .plan)) vs)
   -- finished by exactly as many accepted advances as there are parts
   pub exact : (m : ℕ) → finishedAfter ys ≡ some m → m ≡ n
   pub unfinished : finishedAfter ys ≡ none → advances ys < n
@@ -129,18 +126,7 @@ few-links d a h (y ∷ ys) o = (one y (o .0), few-links d a h ys (o .1))
 fresh-few : (q : Question) → linksIn (freshAnswer q) ≤ partsIn
     (freshAnswer q) * (3 * digits (height (planTree (q .inputs .plan))))
 unfolding linksIn partsIn freshAnswer
-fresh-few q = question-links (planTree (q .inputs .plan)) (q .nodes)
-
--- ---- the parts, by the list after superseding
-
-few-superseded : Layers → (z : Sizes) (x : Inputs) (vs bs : List ℕ) → nodeTableBuilt z x ≡ true
-    → firstNo (listChecks (z .n) (z .k) vs bs) ≡ 0 → Few (length (superseded (entries vs bs))) (partCount (asked x vs bs))
-few-superseded L z x vs bs built passes =
-    let us = supersededNodes vs bs in
-    let l = list-passes (z .n) (z .k) us (supersededLabels vs bs) (superseded-list (z .n) (z .k) vs bs passes) in
-    subst (λ (m : ℕ). Few m (partCount (asked x vs bs))) (length-nodes (superseded (entries vs bs)))
-    (subst (Few (length us)) (sym (parts-superseded x vs bs (list-passes (z .n) (z .k) vs bs passes .lengths)))
-    (ready-count L z x us built (l .nodes-below)))
+fresh-few q = question-links (planTree (q .inputs .plan)) (leftOf q)
 
 -- ---- the statements
 
@@ -165,9 +151,10 @@ module _ (L : Layers) (cs : List Call) (xs : List Answer) (x : Inputs) (vs bs : 
             (subst (λ (b : Reference). Agrees b ds ys) (B .1) (A .1)) alone in
             record {
               parts-are = B .0;
-              few = subst (Few (length (superseded (entries vs bs)))) (sym (B .0))
-                  (few-superseded L sizesBefore x vs bs (start-built (stage (phase s) sizesBefore) x vs bs p)
-                  (start-list (stage (phase s) sizesBefore) x vs bs p));
+              few = subst (Few (length (differing (labelsIn (x .plan)) vs bs))) (sym (B .0))
+                  (ready-count L sizesBefore x (differing (labelsIn (x .plan)) vs bs) (start-built (stage (phase s) sizesBefore) x vs bs p)
+                  (left-below x (sizesBefore .n) (sizesBefore .k) vs bs (start-list (stage (phase s) sizesBefore) x vs bs p)));
+              never-more = omega (arith, B .0, parts-never-rise (asked x vs bs));
               exact = λ m e. omega (arith, K .exact m e, B .0);
               unfinished = λ e. omega (arith, K .unfinished e, B .0);
               most = omega (arith, K .most, B .0);
@@ -183,8 +170,9 @@ pub outcome-order : (x : Inputs) (vs bs ws cs : List ℕ) → length vs ≡ leng
     → distinct vs ≡ true → (n : ℕ) (ys : List Answer) → CleanOutcomes x vs bs n ys → CleanOutcomes x ws cs n ys
 outcome-order x vs bs ws cs g h d u n ys T = record {
   parts-are = T .parts-are ∙ parts-order vs bs ws cs g h d (asked x vs bs) (asked x ws cs) refl refl refl refl
-      refl;
-  few = subst (λ (m : ℕ). Few m n) (count-order vs bs ws cs g h d) (T .few);
+      refl u;
+  few = subst (λ (l : List ℕ). Few (length l) n) (left-order vs bs ws cs g h d u (labelsIn (x .plan))) (T .few);
+  never-more = omega (arith, T .never-more, ap length (roots-order vs bs ws cs g h d (planTree (x .plan))));
   exact = T .exact;
   unfinished = T .unfinished;
   most = T .most;

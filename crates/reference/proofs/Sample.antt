@@ -45,6 +45,8 @@ use Rattle.model.specs.Model.{idle, freshRecord, started, stepped, advanceWith,
 use Rattle.model.specs.Model.{act}
 use Rattle.reference.specs.AgreementTest.{answersOf, flag, code, sameAnswer, conforms, agreed, settledIn}
 use Rattle.reference.specs.AgreementTest.{settledAnswers}
+use Rattle.changes.specs.Entries.{entries, nodesListed, put, putAll, superseded}
+use Rattle.changes.specs.Differing.{changing, differing}
 
 unfoldable pub computing : ℕ
 unfolding split sub parent depth isPostorder treeOf changed jumpIn jump nextMove climbIn climb walk tabulate
@@ -58,7 +60,7 @@ unfolding split sub parent depth isPostorder treeOf changed jumpIn jump nextMove
     newReference inState givenOf longer freshAnswer ruleAnswer starting
     advanced goesOn otherStates mayAdvanceWith byAnswer advancingByProgram advancingByRule advancing isOutcome reading proceed decided step
     idle freshRecord started stepped advanceWith lastOf proceeds unless act answersOf flag code sameAnswer
-    conforms agreed settledIn settledAnswers
+    conforms agreed settledIn settledAnswers entries nodesListed put putAll superseded changing differing
 computing = 0
 
 -- "Plan A: N 7, labels 1 1 1 0 1 0 1, kinds 0 0 1 0 0 1 1"
@@ -127,9 +129,9 @@ startRow vs bs = closing (seen (load loadA ∷ start inputsA vs bs ∷ []) .says
 pub sample-rows :
     row [] [] 1 ∷ row (0 ∷ []) (0 ∷ []) 2 ∷ row (0 ∷ 2 ∷ []) (0 ∷ 0 ∷ []) 3 ∷ row (0 ∷ 3 ∷ []) (0 ∷ 1 ∷ []) 5
     ∷ row (4 ∷ []) (0 ∷ []) 2 ∷ row (6 ∷ []) (0 ∷ []) 1
-    ∷ startRow (7 ∷ []) (0 ∷ []) ∷ startRow (0 ∷ []) (2 ∷ []) ∷ row (0 ∷ 0 ∷ []) (0 ∷ 1 ∷ []) 2 ∷ []
+    ∷ startRow (7 ∷ []) (0 ∷ []) ∷ startRow (0 ∷ []) (2 ∷ []) ∷ row (0 ∷ 0 ∷ []) (0 ∷ 1 ∷ []) 1 ∷ []
     ≡ some (outcomeAnswer 1 true 1 0) ∷ some (outcomeAnswer 0 false 2 1) ∷ some (outcomeAnswer 1 true 3 0) ∷ some (outcomeAnswer 0 false 5 0)
     ∷ some (outcomeAnswer 0 false 2 1) ∷ some (outcomeAnswer 1 true 1 0)
-    ∷ some (refused 13) ∷ some (refused 14) ∷ some (outcomeAnswer 1 true 2 1) ∷ []
+    ∷ some (refused 13) ∷ some (refused 14) ∷ some (outcomeAnswer 1 true 1 0) ∷ []
 unfolding row startRow
 sample-rows = refl

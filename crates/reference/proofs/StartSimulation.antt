@@ -12,20 +12,20 @@ use Rattle.ready.specs.Parts.{partsFrom, allLinks}
 use Rattle.formats.specs.Inputs.{Inputs, Sizes, nodeTableBuilt, stateTableBuilt, sound}
 use Rattle.model.specs.Calls.{start}
 use Rattle.model.specs.Refusals.{stage, refusal}
-use Rattle.model.specs.Model.{Record, rootsIn, started, proceeds}
+use Rattle.model.specs.Model.{Record, leftIn, rootsIn, started, proceeds}
 use Rattle.model.proofs.ModelLaws.{some-root, start-list, start-sound, start-built}
-use Rattle.reference.specs.Reference.{Question, State, phase, inState, partCount, proceed, asked, starting}
+use Rattle.reference.specs.Reference.{Question, State, phase, inState, leftOf, partCount, proceed, asked, starting}
 use Rattle.reference.proofs.Relation.{Parted, Rel}
 use Rattle.reference.proofs.Simulation.{Sim, referenceOf, Simulates, by-refusal, does}
 
 -- there is always a part: the plan's root
 pub some-part : (q : Question) → 0 < partCount q
-some-part q = some-root (q .inputs) (q .nodes)
+some-part q = some-root (q .inputs) (leftOf q)
 
 module _ (r : Record) (s : State) (z : Sizes) (x : Inputs) (vs bs : List ℕ) (i : Rel r (referenceOf s z))
     (h : refusal (stage (phase s) z) (start x vs bs) ≡ 0) where
   abbrev begun : Record
-  begun = started (r .sizes) vs bs (rootsIn x vs)
+  begun = started (r .sizes) vs bs (rootsIn x (leftIn x vs bs))
 
   parted-first : Parted begun z (asked x vs bs) []
   unfolding started allBelow

@@ -1,12 +1,12 @@
 -- "with repeats the answer is that of the list after superseding" (document 02, S-4).
---     roots-superseded    the roots of the parts are those of the superseded list
+--     roots-superseded    the same nodes are left in W, and so the parts have the same roots
 --     parts-superseded, fresh-superseded    so are the number of parts and the answer of a clean question
 --     refusal-superseded  a Start whose list passes 12 to 14 is refused as with its list superseded
 --     act-superseded      one call
 --     superseding-tells   every answer of every list of calls, whatever is lent
 -- Assumes nothing.
 use Prim.Native.Nat.{ℕ, zero, suc}
-use mathlib.Core.Path.{_≡_, refl, sym, ap, ap₂, _∙_, fun-ext}
+use mathlib.Core.Path.{_≡_, refl, sym, ap, ap₂, _∙_}
 use mathlib.Core.Bool.{Bool, true, false, cond}
 use mathlib.Core.List.{List, [], _∷_, _++_}
 use mathlib.Core.Option.{Option, none, some}
@@ -18,15 +18,16 @@ use Rattle.trees.specs.Tree.{Tree}
 use Rattle.trees.specs.Changes.{changed}
 use Rattle.trees.specs.Postorder.{treeOf}
 use Rattle.trees.specs.Automaton.{state, accepts}
-use Rattle.list_laws.specs.Tests.{holds}
 use Rattle.formats.specs.Plan.{planTree, labelsIn, kindsIn}
 use Rattle.formats.specs.Rules.{ruleAutomaton}
 use Rattle.formats.specs.Checks.{check, firstNo, listChecks}
 use Rattle.formats.specs.Inputs.{Inputs, Sizes, sizesIn, fits, sound}
-use Rattle.formats.proofs.InputLaws.{list-passes, list-numbered}
+use Rattle.formats.proofs.InputLaws.{list-numbered}
 use Rattle.changes.specs.Entries.{entries, nodesListed, labelsListed, superseded, putAll}
-use Rattle.changes.proofs.ChangedLaws.{changed-superseded, holds-superseded, superseded-list}
-use Rattle.ready.specs.Members.{readyList, roots}
+use Rattle.changes.specs.Differing.{differing}
+use Rattle.changes.proofs.ChangedLaws.{changed-superseded, superseded-list}
+use Rattle.changes.proofs.DifferingLaws.{differing-superseded}
+use Rattle.ready.specs.Members.{roots}
 use Rattle.ready.specs.Parts.{questionLinks}
 use Rattle.tables.specs.declared.answers.Reached.{Reached}
 use Rattle.tables.specs.Climbs.{View}
@@ -34,7 +35,7 @@ use Rattle.questions.specs.Part.{labelOn, partOn}
 use Rattle.model.specs.Calls.{Call, load, start, advance, cancel, read, Answer, parts, more, finished, outcomeAnswer, mayStart}
 use Rattle.model.specs.Calls.{Phase}
 use Rattle.model.specs.Refusals.{Stage, refusal}
-use Rattle.model.specs.Model.{Record, stageOf, Acted, acted, idle, freshRecord, viewBy, rootsIn, started, stepped, advanceWith}
+use Rattle.model.specs.Model.{Record, stageOf, Acted, acted, idle, freshRecord, viewBy, leftIn, rootsIn, started, stepped, advanceWith}
 use Rattle.model.specs.Model.{marksBy, partNext, proceeds, unless, act}
 use Rattle.model.proofs.ModelLaws.{start-list}
 use Rattle.reference.specs.Reference.{asked, partCount, freshAnswer}
@@ -44,13 +45,14 @@ use Rattle.reference.proofs.OrderLaws.{same-append}
 
 -- ---- a question
 
-pub roots-superseded : (t : Tree) (vs bs : List ℕ) → length vs ≡ length bs → roots t vs ≡ roots t (supersededNodes vs bs)
-unfolding roots
-roots-superseded t vs bs h = ap (λ (w : ℕ → Bool). readyList w t) (fun-ext (λ v. holds-superseded v vs bs h))
+-- the same nodes are left in W, so the parts have the same roots
+pub roots-superseded : (t : Tree) (ls vs bs : List ℕ)
+    → roots t (differing ls vs bs) ≡ roots t (differing ls (supersededNodes vs bs) (supersededLabels vs bs))
+roots-superseded t ls vs bs = ap (roots t) (differing-superseded ls vs bs)
 
-module _ (x : Inputs) (vs bs : List ℕ) (h : length vs ≡ length bs) where
+module _ (x : Inputs) (vs bs : List ℕ) where
   pub parts-superseded : partCount (asked x vs bs) ≡ partCount (asked x (supersededNodes vs bs) (supersededLabels vs bs))
-  parts-superseded = ap length (roots-superseded (planTree (x .plan)) vs bs h)
+  parts-superseded = ap length (roots-superseded (planTree (x .plan)) (labelsIn (x .plan)) vs bs)
 
   tree-superseded : treeOf (kindsIn (x .plan)) (changed (labelsIn (x .plan)) vs bs)
       ≡ treeOf (kindsIn (x .plan)) (changed (labelsIn (x .plan)) (supersededNodes vs bs) (supersededLabels vs bs))
@@ -60,7 +62,7 @@ module _ (x : Inputs) (vs bs : List ℕ) (h : length vs ≡ length bs) where
   unfolding freshAnswer
   fresh-superseded =
       ap₂ (λ (t : Tree) (ms : List ℕ). outcomeAnswer (state (ruleAutomaton (x .rules)) t) (accepts (ruleAutomaton (x .rules)) t)
-      (length ms) (questionLinks (planTree (x .plan)) ms)) tree-superseded (roots-superseded (planTree (x .plan)) vs bs h)
+      (length ms) (questionLinks (planTree (x .plan)) ms)) tree-superseded (roots-superseded (planTree (x .plan)) (labelsIn (x .plan)) vs bs)
 
 -- ---- the refusal of a Start
 
@@ -124,13 +126,12 @@ module _ (r : Record) (x : Inputs) (vs bs : List ℕ) where
   number : ℕ
   number = firstNo (listChecks (r .sizes .n) (r .sizes .k) vs bs)
 
-  start-roots : length vs ≡ length bs
-      → proceeds (supersededRecord r) (start x (supersededNodes vs bs) (supersededLabels vs bs)) ≡ superseding (proceeds r (start x vs bs))
+  start-roots : proceeds (supersededRecord r) (start x (supersededNodes vs bs) (supersededLabels vs bs)) ≡ superseding (proceeds r (start x vs bs))
   unfolding proceeds
-  start-roots h =
+  start-roots =
       ap (λ (ms : List ℕ). acted (parts (length ms)) (started (r .sizes) (supersededNodes vs bs) (supersededLabels vs bs) ms))
-      (sym (roots-superseded (planTree (x .plan)) vs bs h))
-      ∙ ap (acted (parts (length (rootsIn x vs)))) (sym (started-superseded (r .sizes) vs bs (rootsIn x vs)))
+      (sym (roots-superseded (planTree (x .plan)) (labelsIn (x .plan)) vs bs))
+      ∙ ap (acted (parts (length (rootsIn x (leftIn x vs bs))))) (sym (started-superseded (r .sizes) vs bs (rootsIn x (leftIn x vs bs))))
 
   start-superseded : act (supersededRecord r) (supersede (stageOf r) (start x vs bs)) ≡ superseding (act r (start x vs bs))
   unfolding act number
@@ -141,7 +142,7 @@ module _ (r : Record) (x : Inputs) (vs bs : List ℕ) where
         (refusal-superseded (stageOf r) x vs bs e)
         ∙ unless-superseded (refusal (stageOf r) (start x vs bs)) r (start x vs bs)
         (start x (supersededNodes vs bs) (supersededLabels vs bs))
-        (start-roots (list-passes (r .sizes .n) (r .sizes .k) vs bs e .lengths))
+        start-roots
     | no e ↦ ap (λ (b : Bool). act (supersededRecord r) (cond b (start x (supersededNodes vs bs) (supersededLabels vs bs)) (start x vs bs)))
         (ne-eqb number 0 e)
         ∙ refused-superseded (refusal (stageOf r) (start x vs bs)) r (start x vs bs) (λ z. e (start-list (stageOf r) x vs bs z))

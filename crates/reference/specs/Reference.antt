@@ -16,7 +16,8 @@ use mathlib.Core.List.{List, [], _∷_, _++_}
 use lib.Dec.{eqb}
 use lib.ListN.{length, getD}
 use Rattle.trees.specs.Tree.{Tree}
-use Rattle.formats.specs.Plan.{planTree}
+use Rattle.formats.specs.Plan.{planTree, labelsIn}
+use Rattle.changes.specs.Differing.{differing}
 use Rattle.formats.specs.Rules.{ruleAutomaton}
 use Rattle.runs.specs.FreshRun as fresh-run
 use Rattle.ready.specs.Members.{roots}
@@ -75,9 +76,13 @@ inState b s = record { state = s; sizes = b .sizes }
 
 -- ---- what a question's Start settles
 
+-- document 02, S-5: "A listed node whose label equals the plan's is left out of W from now on, after superseding": what is left, by Start's plan
+abbrev pub leftOf : Question → List ℕ
+leftOf q = differing (labelsIn (q .inputs .plan)) (q .nodes) (q .labels)
+
 -- the roots of the parts, rising
 abbrev pub rootsOf : Question → List ℕ
-rootsOf q = roots (planTree (q .inputs .plan)) (q .nodes)
+rootsOf q = roots (planTree (q .inputs .plan)) (leftOf q)
 
 abbrev pub partCount : Question → ℕ
 partCount q = length (rootsOf q)

@@ -25,9 +25,9 @@ use Rattle.formats.specs.Inputs.{Inputs, Sizes, sizesIn}
 use Rattle.model.specs.Calls as calls
 use Rattle.model.specs.Calls.{Call, load, start, advance, cancel, read, mayLoad, mayStart, isRunning}
 use Rattle.model.specs.Refusals.{refusal}
-use Rattle.model.specs.Model.{stageOf, Record, idle, freshRecord, loadedRecord, viewBy, marksBy, rootsIn, started}
+use Rattle.model.specs.Model.{stageOf, Record, idle, freshRecord, loadedRecord, viewBy, marksBy, leftIn, rootsIn, started}
 use Rattle.model.specs.Model.{stepped, advanceWith, partNext, acted, proceeds, unless, act}
-use Rattle.model.proofs.ModelLaws.{some-root, start-list, start-built}
+use Rattle.model.proofs.ModelLaws.{some-root, left-below, left-most, start-list, start-built}
 use Rattle.model.proofs.LayersHold.{layers}
 use Rattle.model.proofs.ResultLaws.{below-more}
 use Rattle.session.specs.declared.state.Phase.the-variants.{Empty}
@@ -187,11 +187,16 @@ module _ (r : Record) (H : Holds r) where
     unfolding refusal
     sized-is = start-sized (r .phase) r (firstNo-head 1 (mayStart (r .phase)) _ (omega arith) e) H
 
-    start-holds : Holds (started (r .sizes) vs bs (rootsIn x vs))
+    -- the nodes that are left in W
+    abbrev left : List ℕ
+    left = leftIn x vs bs
+
+    start-holds : Holds (started (r .sizes) vs bs (rootsIn x left))
     unfolding started
     start-holds =
-        let R : RootsAre (r .sizes .n) (length vs) (rootsIn x vs) =
-        layers .roots-are (r .sizes) x vs (start-built (stageOf r) x vs bs e) (list-is .nodes-below) in
+        let L = start-list (stageOf r) x vs bs e in
+        let R : RootsAre (r .sizes .n) (length left) (rootsIn x left) =
+        layers .roots-are (r .sizes) x left (start-built (stageOf r) x vs bs e) (left-below x (r .sizes .n) (r .sizes .k) vs bs L) in
         record {
           sizes = sized-is;
           asked = record {
@@ -199,13 +204,13 @@ module _ (r : Record) (H : Holds r) where
             same = sym (list-is .lengths);
             nodes-below = list-is .nodes-below;
             labels-below = list-is .labels-below;
-            some-part = omega (arith, some-root x vs);
-            few-parts = few-roots (r .sizes .n) (length vs) (rootsIn x vs) R (list-is .most);
-            rises = rises-is (r .sizes .n - 1) (rootsIn x vs) (R .to);
+            some-part = omega (arith, some-root x left);
+            few-parts = few-roots (r .sizes .n) (length left) (rootsIn x left) R (left-most x (r .sizes .n) (r .sizes .k) vs bs L);
+            rises = rises-is (r .sizes .n - 1) (rootsIn x left) (R .to);
             states-below = nil-below (r .sizes .s);
             few-links = omega arith;
           };
-          handled = omega (arith, some-root x vs);
+          handled = omega (arith, some-root x left);
           no-yes = refl;
         }
 

@@ -2,23 +2,29 @@
 --     start-1, start-17, start-list, start-18, start-yes
 --     start-limits, start-headers, start-room, start-listed, start-count     what the calls below ask
 -- Assumes nothing.
-use Prim.Native.Nat.{ℕ, zero, suc, _*_, _≤_}
+use Prim.Native.Nat.{ℕ, zero, suc, _+_, _*_, _≤_}
 use mathlib.Core.Path.{_≡_, refl, sym, ap, _∙_}
-use mathlib.Core.Bool.{Bool, true, false, not, _&&_}
+use mathlib.Core.Bool.{Bool, true, false, cond, not, _&&_}
 use mathlib.Core.List.{List, [], _∷_, _++_}
 use mathlib.Core.Option.{some}
 use native.Mathlib.Omega.{arith}
-use lib.ListN.{length, take}
+use lib.Dec.{eqb, leb}
+use lib.ListN.{length, take, drop}
 use lib.Seq.{length-take-le}
-use borrow.Author.Tests.{not-true, not-false}
-use Rattle.formats.specs.Plan.{planTree}
+use borrow.Author.Tests.{not-true, not-false, eq-eqb, le-leb}
+use Rattle.list_laws.specs.Tests.{allBelow}
+use Rattle.formats.specs.Plan.{planTree, labelsIn}
 use Rattle.formats.specs.Checks.{Check, check, firstNo, listChecks}
 use Rattle.formats.specs.Rules.{ruleLength}
 use Rattle.formats.specs.Buffers.{buffersFit, LimitArgs}
-use Rattle.list_laws.proofs.BoolLaws.{and-left, and-right}
+use Rattle.list_laws.proofs.BoolLaws.{and-both, and-left, and-right}
 use Rattle.formats.proofs.CheckLaws.{firstNo-yes, firstNo-no, firstNo-none, firstNo-append-zero, firstNo-append-no}
 use Rattle.formats.proofs.InputLaws.{ListPasses, list-passes, list-numbered}
-use Rattle.formats.proofs.InputsLaws.{node-table-built}
+use Rattle.formats.proofs.InputsLaws.{Built, node-table-built}
+use Rattle.changes.specs.inner.LastDiffering.{lastDiffering, givenDiffering}
+use Rattle.changes.proofs.LastDifferingLaws.{last-same, last-most, last-below}
+use Rattle.ready.specs.Members.{roots}
+use Rattle.ready.proofs.MonotoneLaws.{roots-same}
 use Rattle.formats.proofs.BufferLaws.{Lengths, lengths-are}
 use Rattle.questions.specs.declared.roots.Rooted.{Rooted}
 use Rattle.questions.specs.RootsAnswers.{rootedOf}
@@ -28,8 +34,8 @@ use Rattle.formats.specs.Inputs.{Inputs, fits, nodeTableBuilt, sound}
 use Rattle.model.specs.Calls as calls
 use Rattle.model.specs.Calls.{Call, start, mayStart}
 use Rattle.model.specs.Refusals.{refusal, stage}
-use Rattle.model.specs.Model.{rootsIn, started, proceeds}
-use Rattle.model.proofs.ModelLaws.{start-built}
+use Rattle.model.specs.Model.{leftIn, rootsIn, started, proceeds}
+use Rattle.model.proofs.ModelLaws.{start-built, left-below, left-most}
 use Rattle.model.proofs.LayersHold.{tree-size, cells, layers}
 use Rattle.session.specs.declared.state.Session.{Session}
 use Rattle.session.specs.declared.answers.StartAnswer.the-variants.{Parts, Refused as NotStarted}
@@ -37,7 +43,7 @@ use Rattle.session.specs.Records.{phaseOf, phaseTo, sizesOf, recordOf, s
 use Rattle.session.specs.Answers.{startAnswer}
 use Rattle.session.specs.Promises.{CallDone}
 use Rattle.session.specs.inner.Shapes.{Shaped, HeaderArgs}
-use Rattle.session.specs.inner.Steps.{ListArgs, startedOf}
+use Rattle.session.specs.inner.Steps.{ListArgs, RootsArgs, startedOf}
 use Rattle.session.proofs.Holds.{Sized, holds-of}
 use Rattle.session.proofs.ActLaws.{few-roots, start-sized}
 use Rattle.session.proofs.CallLaws.{unless-done, refused-done, proceeds-done}
@@ -100,8 +106,8 @@ module _ (s : Session) (h : Shaped s) (x : Inputs) (vs bs : List ℕ) (b : Bool)
             lengths-are (s .head .sizes .n) (s .head .sizes .s) (ruleLength (s .head .sizes .s) (s .head .sizes .k)) (length (x .plan)) (length (x .rules)) (length (x .nodeTable)) (length (x .stateTable))
             (sym fit ∙ not-false f yes)
 
-        pub start-room : s .head .sizes .n * 4 ≤ length (x .nodeTable)
-        start-room = lengths .node-table-room
+        pub start-room : RootsArgs (s .head .sizes .n) (x .plan) (x .nodeTable)
+        start-room = record { most = sized .nodes-most; labels = omega (arith, lengths .plan-is); numbers = lengths .node-table-room }
 
         pub start-headers : HeaderArgs (x .plan) (x .rules)
         start-headers = record { plan-head = omega (arith, lengths .plan-is); rules-head = omega (arith, lengths .table-is) }
@@ -144,19 +150,47 @@ module _ (s : Session) (h : Shaped s) (x : Inputs) (vs bs : List ℕ) (b : Bool)
                 node-table = start-built (stage (phaseOf (s .head .phase)) (sizesOf s)) x vs bs no-refusal
 
                 cut : length (take (s .head .sizes .n * 4) (x .nodeTable)) ≡ s .head .sizes .n * 4
-                cut = length-take-le (s .head .sizes .n * 4) (x .nodeTable) start-room
+                cut = length-take-le (s .head .sizes .n * 4) (x .nodeTable) (start-room .numbers)
 
-                module _ (R : Rooted) (D : RootsDone (s .head .sizes .n) (take (s .head .sizes .n * 4) (x .nodeTable)) vs R) where
+                B : Built (sizesOf s) x
+                B = node-table-built (sizesOf s) x node-table
+
+                -- the nodes that the code leaves in W: those of the definition, in the order of their last entries
+                abbrev ws : List ℕ
+                ws = givenDiffering (take (s .head .sizes .n) (drop 12 (x .plan))) vs bs
+
+                left-is : ws ≡ lastDiffering (labelsIn (x .plan)) vs bs
+                left-is =
+                    ap (λ (b : Bool). cond b (lastDiffering (take (s .head .sizes .n) (drop 12 (x .plan))) vs bs) [])
+                    (and-both (eqb (length vs) (length bs)) (leb (length vs) 64) (eq-eqb (length vs) (length bs) (list-is .lengths))
+                    (le-leb (length vs) 64 (list-is .most)))
+                    ∙ ap (λ (n : ℕ). lastDiffering (take n (drop 12 (x .plan))) vs bs) (sym (B .n-is))
+
+                left-few : length ws ≤ 64
+                left-few = omega (arith, ap length left-is, last-most (labelsIn (x .plan)) vs bs, list-is .most)
+
+                left-inside : allBelow (s .head .sizes .n) ws ≡ true
+                left-inside =
+                    ap (allBelow (s .head .sizes .n)) left-is
+                    ∙ last-below (s .head .sizes .n) (labelsIn (x .plan)) vs bs (list-is .nodes-below)
+
+                same-roots : roots (planTree (x .plan)) ws ≡ rootsIn x (leftIn x vs bs)
+                same-roots =
+                    ap (roots (planTree (x .plan))) left-is
+                    ∙ roots-same (planTree (x .plan)) (lastDiffering (labelsIn (x .plan)) vs bs) (leftIn x vs bs)
+                    (λ u. last-same (labelsIn (x .plan)) vs bs u (list-is .lengths))
+
+                module _ (R : Rooted) (D : RootsDone (s .head .sizes .n) (take (s .head .sizes .n * 4) (x .nodeTable)) ws R) where
                   -- on a node table as built the roots are found, and are the ready set's
-                  found : R ≡ rootedOf (some (rootsIn x vs))
+                  found : R ≡ rootedOf (some (rootsIn x (leftIn x vs bs)))
                   found =
-                      let B = node-table-built (sizesOf s) x node-table in
                       D .built (planTree (x .plan)) (cells (sizesOf s) x B) (tree-size (sizesOf s) x B)
-                      (sym (fit-all (s .head .sizes .n) (length (take (s .head .sizes .n * 4) (x .nodeTable))) vs (sized .nodes-least) (sized .nodes-most) (omega (arith, cut))
-                      (list-is .most))
-                      ∙ list-is .nodes-below)
+                      (sym (fit-all (s .head .sizes .n) (length (take (s .head .sizes .n * 4) (x .nodeTable))) ws (sized .nodes-least)
+                      (sized .nodes-most) (omega (arith, cut)) left-few)
+                      ∙ left-inside)
+                      ∙ ap (λ (l : List ℕ). rootedOf (some l)) same-roots
 
-                  count-is : R .count ≡ length (rootsIn x vs)
+                  count-is : R .count ≡ length (rootsIn x (leftIn x vs bs))
                   count-is = ap (λ (z : Rooted). z .count) found
 
                   pub start-count : R .count ≤ 254
@@ -164,15 +198,17 @@ module _ (s : Session) (h : Shaped s) (x : Inputs) (vs bs : List ℕ) (b : Bool)
                       omega (
                         arith,
                         count-is,
-                        few-roots (s .head .sizes .n) (length vs) (rootsIn x vs)
-                            (layers .roots-are (sizesOf s) x vs node-table (list-is .nodes-below)) (list-is .most),
+                        few-roots (s .head .sizes .n) (length (leftIn x vs bs)) (rootsIn x (leftIn x vs bs))
+                            (layers .roots-are (sizesOf s) x (leftIn x vs bs) node-table
+                            (left-below x (s .head .sizes .n) (s .head .sizes .k) vs bs (sym list ∙ none-fails)))
+                            (left-most x (s .head .sizes .n) (s .head .sizes .k) vs bs (sym list ∙ none-fails)),
                       )
 
                   pub start-yes : (t : Session) → t ≡ startedOf (s .head .sizes) vs bs (R .count) (R .nodes)
                       → CallDone s C (startAnswer (Parts (R .count))) t
                   unfolding startAnswer proceeds started sessionOf phaseTo recordOf
                   start-yes t e =
-                      let l : R .nodes ≡ padded 254 (rootsIn x vs) = ap (λ (z : Rooted). z .nodes) found in
+                      let l : R .nodes ≡ padded 254 (rootsIn x (leftIn x vs bs)) = ap (λ (z : Rooted). z .nodes) found in
                       proceeds-done s C h v no-refusal (calls.Answer.parts (R .count)) t (ap calls.Answer.parts count-is)
                       (e ∙ ap (λ (i : ℕ). startedOf (s .head .sizes) vs bs i (R .nodes)) count-is
-                      ∙ ap (λ (z : List ℕ). startedOf (s .head .sizes) vs bs (length (rootsIn x vs)) z) l)
+                      ∙ ap (λ (z : List ℕ). startedOf (s .head .sizes) vs bs (length (rootsIn x (leftIn x vs bs))) z) l)

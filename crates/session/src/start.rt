@@ -1,4 +1,5 @@
-// Start: checks 1, 17, 12 to 14 and 18, then the roots of the parts. On sound tables they are always found.
+// Start: checks 1, 17, 12 to 14 and 18, then the roots of the parts. On sound tables they are always found. The list stays whole in the
+// record; only the roots are those of the nodes that change.
 use crate::answers::StartAnswer;
 use crate::answers::Started;
 use crate::fill::padded_labels;
@@ -10,15 +11,21 @@ use crate::state::Head;
 use crate::state::Phase;
 use crate::state::Session;
 use crate::state::Sizes;
+use changes::differing::differing;
 use formats::buffers::rule_buffers_fit;
 use formats::lists::check_list;
+use questions::roots::Rooted;
 use questions::roots::roots;
+ghost use Prim.Native.Nat.{_*_};
 ghost use mathlib.Core.Path.{_≡_};
+ghost use lib.ListN.{take, drop};
+ghost use Rattle.changes.specs.inner.LastDiffering.{givenDiffering};
+ghost use Rattle.questions.specs.Promises.{RootsDone};
 ghost use Rattle.model.specs.Calls as calls;
 ghost use Rattle.session.specs.Answers.{startAnswer};
 ghost use Rattle.session.specs.Promises.{CallDone};
 ghost use Rattle.formats.specs.Inputs.{inputsOf};
-ghost use Rattle.session.specs.inner.Steps.{ListArgs, startedOf};
+ghost use Rattle.session.specs.inner.Steps.{ListArgs, RootsArgs, startedOf};
 
 // A running session with its question and no part handled. Nothing of an earlier question is left.
 fn started(sizes: Sizes, nodes: &[u16], labels: &[u8], parts: u8, roots: [u16; 254]) -> Session
@@ -45,6 +52,19 @@ fn started(sizes: Sizes, nodes: &[u16], labels: &[u8], parts: u8, roots: [u16; 2
         roots,
         states,
     }
+}
+
+// The roots of the parts of the listed nodes whose label, after superseding, is not the plan's. The others are no change.
+fn roots_left(n: usize, plan: &[u8], node_table: &[u16], nodes: &[u16], labels: &[u8]) -> Rooted
+    requires { ⌜ RootsArgs n (now plan) (now «node_table») ⌝ }
+    ensures { λ r. ⌜
+        RootsDone n (take (n * 4) (now («node_table» .entry)))
+        (givenDiffering (take n (drop 12 (now (plan .entry)))) (now (nodes .entry)) (now (labels .entry))) r ⌝ }
+{
+    let left = differing(&plan[12..12 + n], nodes, labels);
+    let m = left.count;
+    let kept = left.nodes;
+    roots(n, &node_table[..n * 4], &kept[..m])
 }
 
 impl Session {
@@ -103,7 +123,7 @@ impl Session {
                 session: self,
             };
         }
-        let found = roots(n, &node_table[..n * 4], nodes);
+        let found = roots_left(n, plan, node_table, nodes, labels);
         let parts = found.count as u8;
         let roots = found.nodes;
         let session = started(h.sizes, nodes, labels, parts, roots);

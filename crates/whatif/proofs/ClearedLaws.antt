@@ -16,7 +16,7 @@ use Rattle.formats.specs.Checks.{Check, check, firstNo, listChecks}
 use Rattle.formats.proofs.CheckLaws.{Numbered, firstNo-yes, firstNo-none, firstNo-append-zero, firstNo-append-suc}
 use Rattle.list_laws.proofs.BoolLaws.{and-both, and-left, true-false}
 use Rattle.list_laws.proofs.TestLaws.{sameList-is}
-use Rattle.formats.proofs.InputLaws.{list-passes, list-numbered}
+use Rattle.formats.proofs.InputLaws.{list-numbered}
 use Rattle.formats.specs.Built.{builtNodeTable, builtStateTable}
 use Rattle.tables.specs.Answers.{written}
 use Rattle.ready.specs.Parts.{Part}
@@ -25,7 +25,8 @@ use Rattle.formats.specs.Inputs.{sameInputs, nodeTableBuilt, stateTableBuilt, s
 use Rattle.model.specs.Calls.{Call, load, start, advance, read, Answer, refused, accepted, more, finished, Phase}
 use Rattle.model.specs.Calls.{isRunning, isAnswered, mayStart, isRefused, onRefused}
 use Rattle.model.specs.Refusals.{refusal, stage}
-use Rattle.model.specs.Model.{stageOf, Record, idle, freshRecord, act}
+use Rattle.model.specs.Model.{stageOf, Record, leftIn, idle, freshRecord, act}
+use Rattle.model.proofs.ModelLaws.{left-below, left-most}
 use Rattle.reference.specs.Reference.{Question, State, Reference, settled, phase, newReference, inState, step, decided}
 use Rattle.reference.specs.Reference.{proceed, reading, partCount, freshAnswer, asked, longer, advanced, goesOn}
 use Rattle.reference.specs.Reference.{advancingByRule, advancing}
@@ -192,9 +193,10 @@ module _ (y : Inputs) (passed : refusal (stage (phase (newReference .state)) (ne
       let G = settled-follows s (referenceOf State.loaded (sizesIn y)) F (start (loaded y) vs bs) _ _ w in
       let l = and-left (nodeTableBuilt (sizesIn y) (loaded y)) (stateTableBuilt (sizesIn y) (loaded y))
       (written-sound (stage p (newReference .sizes)) y passed) in
-      let k = list-passes (sizesIn y .n) (sizesIn y .k) vs bs e in
-      let few : partCount q ≤ 254 = few-parts (length vs) (partCount q) (ready-count layers (sizesIn y) (loaded y) vs l (k .nodes-below))
-      (k .most) in
+      let left = leftIn (loaded y) vs bs in
+      let few : partCount q ≤ 254 = few-parts (length left) (partCount q)
+      (ready-count layers (sizesIn y) (loaded y) left l (left-below (loaded y) (sizesIn y .n) (sizesIn y .k) vs bs e))
+      (left-most (loaded y) (sizesIn y .n) (sizesIn y .k) vs bs e) in
       ap (λ (t : Answer). afterStart t (finishedIn mostParts (recordOn s (start (loaded y) vs bs)) (loaded y))) a
       ∙ finish-clean (sizesIn y) (loaded y) (written-fits (stage p (newReference .sizes)) y passed) mostParts
       (recordOn s (start (loaded y) vs bs)) q 0 [] refl G (some-part q) (omega arith)

@@ -86,7 +86,7 @@ refusedText d = refusedWord ++ (49 ∷ d ∷ 10 ∷ [])
 refusedText1 : ℕ → List ℕ
 refusedText1 d = refusedWord ++ (d ∷ 10 ∷ [])
 
--- "1 yes 1 0", "0 no 2 1", "1 yes 3 0", "0 no 5 0", "0 no 2 1", "1 yes 1 0", "refused 13", "refused 14", "1 yes 2 1"
+-- "1 yes 1 0", "0 no 2 1", "1 yes 3 0", "0 no 5 0", "0 no 2 1", "1 yes 1 0", "refused 13", "refused 14", "1 yes 1 0"
 linesA : List ℕ
 unfolding outcomeText refusedText
 linesA =
@@ -96,7 +96,7 @@ linesA =
     ++ (outcomeText 48 (32 ∷ 110 ∷ 111 ∷ 32 ∷ []) 53 48
     ++ (outcomeText 48 (32 ∷ 110 ∷ 111 ∷ 32 ∷ []) 50 49
     ++ (outcomeText 49 (32 ∷ 121 ∷ 101 ∷ 115 ∷ 32 ∷ []) 49 48
-    ++ (refusedText 51 ++ (refusedText 52 ++ outcomeText 49 (32 ∷ 121 ∷ 101 ∷ 115 ∷ 32 ∷ []) 50 49)))))))
+    ++ (refusedText 51 ++ (refusedText 52 ++ outcomeText 49 (32 ∷ 121 ∷ 101 ∷ 115 ∷ 32 ∷ []) 49 48)))))))
 
 sample-lines : linesBy (questionLine planA tableA) [] questionsA ≡ linesA
 unfolding computing planA tableA questionsA linesA linesBy lineAfter openAfter questionLine nodesIn labelsIn answerBy lineOf decimal

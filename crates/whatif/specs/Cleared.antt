@@ -1,7 +1,8 @@
 -- What a question's answer is by the definitions alone, with no session.
 --
 -- answerTo p r vs bs == of the changes vs to bs on the plan p and the rules r: the number of the first check of 12 to 14 that fails, or the
---   state and the yes or no of a run on the changed plan, the parts, and as links the moves of their climbs
+--   state and the yes or no of a run on the changed plan, the parts, and as links the moves of their climbs; W is the nodes whose label
+--   changes
 -- Cleared s x == the session s is the one that an accepted Load left, and x is what it was given, with the tables that it wrote
 --
 -- That the program's calls tell this answer is proofs/Theorems.
@@ -19,6 +20,7 @@ use Rattle.formats.specs.Rules.{labelCount, ruleAutomaton}
 use Rattle.formats.specs.Checks.{firstNo, listChecks}
 use Rattle.formats.specs.Built.{builtNodeTable, builtStateTable}
 use Rattle.tables.specs.Answers.{written}
+use Rattle.changes.specs.Differing.{differing}
 use Rattle.ready.specs.Members.{roots}
 use Rattle.ready.specs.Parts.{questionLinks}
 use Rattle.formats.specs.Inputs.{Inputs}
@@ -34,7 +36,7 @@ changedPlan p vs bs = treeOf (kindsIn p) (changed (labelsIn p) vs bs)
 unfoldable pub answerBy : ℕ → List ℕ → List ℕ → List ℕ → List ℕ → Answer
 answerBy zero p r vs bs =
     outcomeAnswer (state (ruleAutomaton r) (changedPlan p vs bs)) (accepts (ruleAutomaton r) (changedPlan p vs bs))
-    (length (roots (planTree p) vs)) (questionLinks (planTree p) (roots (planTree p) vs))
+    (length (roots (planTree p) (differing (labelsIn p) vs bs))) (questionLinks (planTree p) (roots (planTree p) (differing (labelsIn p) vs bs)))
 answerBy (suc n) p r vs bs = refused (suc n)
 
 abbrev pub answerTo : List ℕ → List ℕ → List ℕ → List ℕ → Answer

@@ -38,7 +38,7 @@ pub fn each<T>(random: &mut Random, mut of: impl FnMut(Vec<Case>, &mut Random) -
 /// Nodes and their labels.
 pub type List = (Vec<u16>, Vec<u8>);
 
-/// Nodes from anywhere.
+/// Nodes from anywhere, each with a label that it has not, where there is one: so each is a change.
 pub fn list(case: &Case, m: usize, random: &mut Random) -> List {
     let mut nodes: Vec<u16> = Vec::new();
     while nodes.len() < m {
@@ -47,5 +47,6 @@ pub fn list(case: &Case, m: usize, random: &mut Random) -> List {
             nodes.push(v);
         }
     }
-    (nodes, random.bytes_below(m, case.k))
+    let labels = case.other_labels(&nodes, random);
+    (nodes, labels)
 }

@@ -112,6 +112,12 @@ impl Case {
         &self.plan[12..12 + self.n]
     }
 
+    /// For each node a label that it has not, where the table has another: each is a change.
+    pub fn other_labels(&self, nodes: &[u16], random: &mut Random) -> Vec<u8> {
+        let mut other = |v: u16| self.labels()[v as usize] as usize + 1 + random.below((self.k - 1).max(1));
+        nodes.iter().map(|&v| (other(v) % self.k) as u8).collect()
+    }
+
     /// A list of `m` different nodes, at most N, with a label for each: anywhere, near each other, or on few paths.
     pub fn list(&self, m: usize, random: &mut Random) -> (Vec<u16>, Vec<u8>) {
         let m = m.min(self.n);

@@ -10,7 +10,7 @@ use reference::mistakes::{making, Mistake};
 const SEEDS: std::ops::Range<u64> = 1..201;
 
 /// A mistake, and the rounds that must notice it.
-const NOTICED: [(Mistake, &[&str]); 40] = [
+const NOTICED: [(Mistake, &[&str]); 42] = [
     (Mistake::ChildrenExchanged, &["builds", "fresh runs", "questions", "other bytes", "call lists"]),
     (Mistake::SiblingFromOldRun, &["questions", "other bytes", "damaged lends", "call lists"]),
     (Mistake::ClimbToTheRoot, &["questions", "other bytes", "damaged lends", "call lists"]),
@@ -40,6 +40,8 @@ const NOTICED: [(Mistake, &[&str]); 40] = [
     (Mistake::FirstTapHolds, &["fresh runs", "questions", "call lists"]),
     (Mistake::UpperUnderLower, &["laying over"]),
     (Mistake::EntriesRemain, &["laying over"]),
+    (Mistake::OwnLabelListed, &["questions", "call lists"]),
+    (Mistake::EntriesCompared, &["questions", "call lists"]),
     (Mistake::TailsFree, &["damaged records", "call lists"]),
     (Mistake::NodeTableIsNoCause, &["damaged lends"]),
     (Mistake::NamesNotAsked, &["call lists"]),

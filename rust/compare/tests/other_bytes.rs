@@ -47,7 +47,7 @@ fn which_bytes_are_read() {
         let root = 4 * 4;
         other.state_table[root..].fill(2 - state);
         other.state_table[0] = state;
-        assert_eq!(panel.start(&lent, &[0], &[0], random), Answer::Parts(2));
+        assert_eq!(panel.start(&lent, &[0], &[1 - case.labels()[0]], random), Answer::Parts(2));
         let (_, told) = panel.finish(&other, random);
         assert_eq!(told.links, 1);
         let rule = |p: u8, a: u8, q: u8| case.rules[20 + 2 + (p as usize * 2 + a as usize) * 3 + q as usize];
@@ -63,7 +63,8 @@ fn clean_then_firm() {
     for turn in 0..100 {
         let case = Case::new(SHAPES[turn % 6], 20, 4, 3, random);
         let lent = Lent::built(&case, random);
-        let (nodes, labels) = case.list(4, random);
+        let (nodes, _) = case.list(4, random);
+        let labels = case.other_labels(&nodes, random);
         let mut panel = Panel::loaded(&lent, random);
         panel.start(&lent, &nodes, &labels, random);
         // as long as only 17 comes between, it is clean

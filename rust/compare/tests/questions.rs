@@ -8,7 +8,6 @@ use compare::random::Random;
 use compare::rounds::questions::Asked;
 use compare::shapes::{self, Shape, DEEPEST, SHAPES};
 use reference::panel::{Answer, Call};
-use reference::ready::by_marks;
 
 #[test]
 fn every_set_of_nodes_of_small_trees() {
@@ -83,12 +82,12 @@ fn as_many_parts_as_there_can_be() {
     for m in 1..=64 {
         let mut nodes = listed[..m].to_vec();
         random.shuffle(&mut nodes);
-        let labels = random.bytes_below(m, 3);
+        let labels = asked.case.other_labels(&nodes, random);
         assert_eq!(asked.ask(&nodes, &labels, random).parts as usize, 4 * m - 2);
     }
 }
 
-/// "Listing a node with the label it already has is still a change."
+/// "A listed node whose label equals the plan's is left out of W from now on": nothing is rechecked but the root.
 #[test]
 fn labels_that_are_there_already() {
     let random = &mut Random::new(1205);
@@ -99,8 +98,28 @@ fn labels_that_are_there_already() {
         let labels: Vec<u8> = nodes.iter().map(|&v| asked.case.labels()[v as usize]).collect();
         let unchanged = asked.ask(&[], &[], random);
         let told = asked.ask(&nodes, &labels, random);
-        assert_eq!((told.state, told.yes), (unchanged.state, unchanged.yes));
-        assert_eq!(told.parts as usize, by_marks(&asked.tree, &nodes).len());
+        assert_eq!(told, unchanged);
+        assert_eq!((told.parts, told.links), (1, 0));
+        // and beside nodes that change they count for nothing; a first entry for a node does not hold
+        let (mut more, mut others) = (nodes.clone(), asked.case.other_labels(&nodes, random));
+        more.extend(&nodes[1..]);
+        others.extend(&labels[1..]);
+        assert_eq!(asked.ask(&more, &others, random), asked.ask(&nodes[..1], &others[..1], random));
+    }
+}
+
+/// "links may go either way": kinds 0 0 0 1 1, parts and links.
+#[test]
+fn links_go_either_way() {
+    let random = &mut Random::new(1210);
+    let rules = reference::sample::table_a();
+    for (own, nodes, labels, parts, links) in
+        [([0, 0, 0, 1, 0], &[2, 3][..], &[1, 1][..], 2, 1), ([0, 1, 1, 0, 0], &[2][..], &[1][..], 1, 0)]
+    {
+        let plan = reference::write::plan(&own, &[0, 0, 0, 1, 1]);
+        let case = Case { n: 5, s: 2, k: 2, plan, rules: rules.clone(), branch: vec![] };
+        let told = Asked::new(case, random).ask(nodes, labels, random);
+        assert_eq!((told.parts, told.links), (parts, links));
     }
 }
 

@@ -95,7 +95,8 @@ fn in_place(case: &Case, m: usize, random: &mut Random) {
         session::start(&mut record, &case.plan, &case.rules, &node_table, &state_table, &nodes, &labels)
     );
     let mut roots = [0; 254];
-    assert_eq!(layers::roots(case.n, &node_table, &nodes, &mut roots), parts as usize);
+    let left = reference::lists::differing(case.labels(), &nodes, &labels);
+    assert_eq!(layers::roots(case.n, &node_table, &left, &mut roots), parts as usize);
     let roots = &roots[..parts as usize];
     let (sizes, mut states, mut links) = ((case.n, case.s, case.k), Vec::new(), 0);
     for _ in 0..parts {

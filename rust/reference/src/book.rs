@@ -193,6 +193,12 @@ impl Book {
     }
 }
 
+/// "A listed node whose label equals the plan's is left out of W .., after superseding": by the labels before and after.
+fn left(before: &[u8], after: &[u8], nodes: &[u16]) -> Vec<u16> {
+    let differs = |&&v: &&u16| before[v as usize] != after[v as usize];
+    nodes.iter().filter(|v| differs(v) || made(Mistake::OwnLabelListed)).copied().collect()
+}
+
 impl Start {
     /// Lends that fit; none where they are not sound. "Sound means that plan and rules pass 2 to 10 with that N, S and K
     /// and the tables, excess aside, are what Load writes from them." Nothing asks whether it is the plan of the Load.
@@ -207,7 +213,8 @@ impl Start {
             return None;
         }
         let tree = Tree::of(&plan);
-        let (changed, roots) = (changed(plan.labels, nodes, labels), by_marks(&tree, nodes));
+        let changed = changed(plan.labels, nodes, labels);
+        let roots = by_marks(&tree, &left(plan.labels, &changed, nodes));
         let (nodes, labels) = (nodes.to_vec(), labels.to_vec());
         let (plan, rules) = (lends.plan.to_vec(), lends.rules.to_vec());
         Some(Start { nodes, labels, plan, rules, node_table, state_table, tree, changed, roots })

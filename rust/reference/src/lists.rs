@@ -1,4 +1,5 @@
-//! Lists of changes laid over one another (document 02, S-4), by a map from nodes to labels.
+//! Lists of changes laid over one another (document 02, S-4), and what a list leaves in W (S-5), by a map from nodes to
+//! labels.
 
 use crate::fresh::MAX_CHANGES;
 use crate::mistakes::{made, Mistake};
@@ -26,4 +27,18 @@ pub fn lay_over(lower: (&[u16], &[u8]), upper: (&[u16], &[u8]), room: (usize, us
         return Err(11);
     }
     Ok(laid.into_iter().collect())
+}
+
+/// "A listed node whose label equals the plan's is left out of W from now on, after superseding": the nodes that are left,
+/// rising. `own` are the plan's labels.
+pub fn differing(own: &[u8], nodes: &[u16], labels: &[u8]) -> Vec<u16> {
+    let mut last = BTreeMap::new();
+    for (&v, &a) in nodes.iter().zip(labels) {
+        let counts = a != own[v as usize] || !made(Mistake::EntriesCompared);
+        if counts {
+            last.insert(v, a);
+        }
+    }
+    let stays = |v: u16, a: u8| a != own[v as usize] || made(Mistake::OwnLabelListed);
+    last.into_iter().filter(|&(v, a)| stays(v, a)).map(|(v, _)| v).collect()
 }

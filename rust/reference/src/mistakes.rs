@@ -57,6 +57,10 @@ pub enum Mistake {
     UpperUnderLower,
     /// 22 counts the entries of both lists, not the nodes that remain.
     EntriesRemain,
+    /// A listed node whose label is the plan's stays in W.
+    OwnLabelListed,
+    /// What changes nothing is told entry by entry, before superseding.
+    EntriesCompared,
     /// Unused entries of a record may be anything.
     TailsFree,
     /// A link that leads outside the plan or does not rise is no cause for 18.

@@ -31,7 +31,7 @@ pub const ROWS: [Row; 9] = [
     row(&[6], &[0], told(1, true, 1, 0)),
     row(&[7], &[0], Err(13)),
     row(&[0], &[2], Err(14)),
-    row(&[0, 0], &[0, 1], told(1, true, 2, 1)),
+    row(&[0, 0], &[0, 1], told(1, true, 1, 0)),
 ];
 
 const fn row(nodes: &'static [u16], labels: &'static [u8], told: Result<Told, u32>) -> Row {

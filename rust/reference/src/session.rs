@@ -3,6 +3,7 @@
 use crate::formats::number;
 use crate::fresh::check_list;
 use crate::lent::View;
+use crate::lists::differing;
 use crate::mistakes::{made, unless, Mistake};
 use crate::panel::{Answer, Call, Lends, Phase, Sizes, Told};
 use crate::record::Record;
@@ -51,14 +52,16 @@ impl Record {
         }
     }
 
-    /// 17, 12 to 14, 18. It tells the number of parts; nothing of an earlier question stays.
+    /// 17, 12 to 14, 18. It tells the number of parts; nothing of an earlier question stays. The list is kept whole; the
+    /// roots are those of the nodes that change.
     fn start(self, lends: Lends, nodes: &[u16], labels: &[u8]) -> Result<After, u32> {
         self.sizes.fit(&lends)?;
         check_list(nodes, labels, self.sizes.n, self.sizes.k)?;
         if !sound(self.sizes, &lends) {
             return Err(18);
         }
-        let roots = View::new(self.sizes, &lends).roots(nodes);
+        let left = differing(&lends.plan[12..12 + self.sizes.n], nodes, labels);
+        let roots = View::new(self.sizes, &lends).roots(&left);
         let answer = Answer::Parts(roots.len() as u32);
         let record = Record {
             phase: Phase::Running,

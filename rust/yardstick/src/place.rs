@@ -65,7 +65,8 @@ impl Session {
         let lent = self.lent(lends)?;
         list(nodes, labels, lent.n, lent.k)?;
         lent.sound(lends.plan, lends.rules, lends.node_table, lends.state_table)?;
-        let roots = lent.roots(nodes)?;
+        let (left, count) = lent.left(nodes, labels);
+        let roots = lent.roots(&left[..count])?;
         let roots = roots.as_slice();
         *self = Session::loaded(self.n, self.s, self.k);
         self.phase = RUNNING;

@@ -55,7 +55,8 @@ pub fn start(
     let lent = Lent::new((head.n, head.s, head.k), plan, rules, node_table, state_table)?;
     list(nodes, labels, head.n, head.k)?;
     lent.sound(plan, rules, node_table, state_table)?;
-    let roots = lent.roots(nodes)?;
+    let (left, count) = lent.left(nodes, labels);
+    let roots = lent.roots(&left[..count])?;
     let roots = roots.as_slice();
     record[0] = RUNNING;
     record[YES] = 0;

@@ -10,6 +10,7 @@ use crate::random::Random;
 use reference::book::Standing;
 use reference::formats::{read_plan, read_rules};
 use reference::fresh::changed;
+use reference::lists::differing;
 use reference::panel::{Answer, Told};
 use reference::ready::{by_marks, closure};
 use reference::tables::run;
@@ -21,6 +22,7 @@ pub fn round(random: &mut Random, counts: &mut Counts) {
     for _ in 0..2 {
         let m = *random.pick(&[0, 1, 2, 3, 5, 8, 16, 64]);
         asked.both_ways(m, random, counts);
+        asked.own_labels(m, random, counts);
     }
 }
 
@@ -51,6 +53,22 @@ impl Asked {
         counts.add(format!("changes: {}", if nodes.len() < m { "all nodes".to_string() } else { m.to_string() }));
     }
 
+    /// A question in which most nodes, after superseding, have their own label.
+    pub fn own_labels(&mut self, m: usize, random: &mut Random, counts: &mut Counts) {
+        let (mut nodes, mut labels) = self.case.list(m, random);
+        if random.below(2) == 0 {
+            repeat_nodes(&mut nodes, &mut labels, self.case.k, random);
+        }
+        for (v, a) in nodes.iter().zip(&mut labels) {
+            if random.below(4) > 0 {
+                *a = self.case.labels()[*v as usize];
+            }
+        }
+        self.ask(&nodes, &labels, random);
+        let left = differing(self.case.labels(), &nodes, &labels).len();
+        counts.add(format!("left of {}: {}", m, if left == 0 { "none" } else { "some" }));
+    }
+
     /// With nodes listed again the answer is that of the list after superseding.
     pub fn repeated(&mut self, mut nodes: Vec<u16>, mut labels: Vec<u8>, random: &mut Random) {
         repeat_nodes(&mut nodes, &mut labels, self.case.k, random);
@@ -62,7 +80,13 @@ impl Asked {
 
     /// A whole question; every part's state is the changed run's at its root, and its root is the ready set's.
     pub fn ask(&mut self, nodes: &[u16], labels: &[u8], random: &mut Random) -> Told {
-        let members = if self.case.n < 80 { closure(&self.tree, nodes) } else { by_marks(&self.tree, nodes) };
+        let plan = read_plan(&self.case.plan).unwrap();
+        let labels_then = changed(plan.labels, nodes, labels);
+        // "A listed node whose label equals the plan's is left out of W"
+        let differs = |v: usize| plan.labels[v] != labels_then[v];
+        let left: BTreeSet<u16> = nodes.iter().copied().filter(|&v| differs(v as usize)).collect();
+        let left: Vec<u16> = left.into_iter().collect();
+        let members = if self.case.n < 80 { closure(&self.tree, &left) } else { by_marks(&self.tree, &left) };
         let parts = members.len() as u32;
         assert_eq!(self.panel.start(&self.lent, nodes, labels, random), Answer::Parts(parts));
         assert_eq!(self.panel.says().states, [], "no state yet");
@@ -72,15 +96,13 @@ impl Asked {
         let record = self.panel.says();
         assert!(record.roots.iter().map(|&v| v as usize).eq(members.iter().copied()));
         assert_eq!((&record.nodes[..], &record.labels[..]), (nodes, labels), "the changes as listed");
-        let plan = read_plan(&self.case.plan).unwrap();
-        let labels_then = changed(plan.labels, nodes, labels);
         let states = run(plan.kinds, &labels_then, &read_rules(&self.case.rules).unwrap());
         assert!(members.iter().map(|&v| states[v]).eq(record.states), "the states at the roots");
         let deepest = *self.tree.depth.iter().max().unwrap();
         let digits = usize::BITS - deepest.leading_zeros();
         assert!(told.links <= 3 * digits * parts);
-        let listed: BTreeSet<u16> = nodes.iter().copied().collect();
-        assert!(parts as usize <= if listed.is_empty() { 1 } else { 4 * listed.len() - 2 });
+        assert!(parts as usize <= if left.is_empty() { 1 } else { 4 * left.len() - 2 });
+        assert!(parts as usize <= by_marks(&self.tree, nodes).len(), "parts never rise");
         told
     }
 }

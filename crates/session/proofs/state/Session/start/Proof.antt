@@ -1,9 +1,7 @@
 -- `session::state::Session::start` meets its contract. Each return cites the law of its answer.
 -- Assumes nothing.
-use Prim.Native.Nat.{_*_}
-use lib.Seq.{length-take-le}
 use Rattle.formats.specs.Inputs.{Inputs, inputsOf}
-use mathlib.Core.Path.{_≡_, sym}
+use mathlib.Core.Path.{_≡_}
 use mathlib.Core.Bool.{_&&_}
 use Rattle.model.specs.Calls.{mayStart}
 use Rattle.session.specs.Records.{phaseOf, valid}
@@ -91,31 +89,19 @@ returns-4 c =
     (e .if1 .left) _ (k .rule-buffers-fit .ensures) (t .if2 .left) _ (l .check-list .ensures) (u .if3 .left) _ (w .tables-sound .ensures)
     (c .if4 .taken)
 
-mul-roots : tie.Need-mul-roots
-mul-roots c =
-    let e = c .before .before .before .before .before .before .before .before .before in
-    let m = e .before in
-    omega (
-      arith,
-      start-limits (of m .args .t1) (shape (of m)) (lent (of m)) (of m .args .nodes .now) (of m .args .labels .now) _
-          (may m) (e .if1 .left) .most,
-    )
-
-slice-aggregate-roots : tie.Need-slice-aggregate-roots
-slice-aggregate-roots c =
-    let t = c .before .before .before .before .before in
+roots-left-requires : tie.Need-roots-left-requires
+roots-left-requires c κs =
+    let t = c .before .before .before .before in
     let k = t .before in
     let e = k .before .before .before .before in
     let m = e .before in
-    let h =
     start-room (of m .args .t1) (shape (of m)) (lent (of m)) (of m .args .nodes .now) (of m .args .labels .now) _
-    (may m) (e .if1 .left) _ (k .rule-buffers-fit .ensures) (t .if2 .left) in
-    sym (length-take-le (of m .args .t1 .head .sizes .n * 4) (of m .args .node-table .now) h)
+    (may m) (e .if1 .left) _ (k .rule-buffers-fit .ensures) (t .if2 .left)
 
 cast-parts : tie.Need-cast-parts
 cast-parts c =
     let r = c .before in
-    let o = r .before .before in
+    let o = r .before in
     let w = o .before in
     let u = w .before in
     let l = u .before in
@@ -128,13 +114,13 @@ cast-parts c =
       start-count (of m .args .t1) (shape (of m)) (lent (of m)) (of m .args .nodes .now) (of m .args .labels .now) _
           (may m)
           (e .if1 .left) _ (k .rule-buffers-fit .ensures) (t .if2 .left) _ (l .check-list .ensures) (u .if3 .left) _
-          (w .tables-sound .ensures) (o .if4 .left) _ (r .roots .ensures),
+          (w .tables-sound .ensures) (o .if4 .left) _ (r .roots-left .ensures),
     )
 
 started-requires : tie.Need-started-requires
 started-requires c κs =
     let r = c .before .before in
-    let o = r .before .before in
+    let o = r .before in
     let w = o .before in
     let u = w .before in
     let l = u .before in
@@ -149,7 +135,7 @@ started-requires c κs =
 returns-5 : tie.Need-returns-5
 returns-5 c =
     let r = c .before .before .before in
-    let o = r .before .before in
+    let o = r .before in
     let w = o .before in
     let u = w .before in
     let l = u .before in
@@ -160,7 +146,7 @@ returns-5 c =
     start-yes (of m .args .t1) (shape (of m)) (lent (of m)) (of m .args .nodes .now) (of m .args .labels .now) _
     (may m)
     (e .if1 .left) _ (k .rule-buffers-fit .ensures) (t .if2 .left) _ (l .check-list .ensures) (u .if3 .left) _ (w .tables-sound .ensures)
-    (o .if4 .left) _ (r .roots .ensures) _ (c .started .ensures)
+    (o .if4 .left) _ (r .roots-left .ensures) _ (c .started .ensures)
 
 pub start-spec : {M : Type 1} → statement M
 start-spec =
@@ -178,9 +164,7 @@ start-spec =
     returns-3
     tables-sound-requires
     returns-4
-    mul-roots
-    slice-aggregate-roots
-    (λ c κs. search needs)
+    roots-left-requires
     cast-parts
     started-requires
     returns-5)

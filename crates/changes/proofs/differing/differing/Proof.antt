@@ -1,0 +1,87 @@
+-- `changes::differing::differing` meets its contract. Assumes nothing.
+use mathlib.Core.Path.{_≡_, sym, _∙_}
+use borrow.Author.Tests.{not-true, not-false}
+use Prim.Native.Nat.{_-_}
+use lib.ListN.{length}
+use Rattle.changes.proofs.LastDifferingLaws.{KeepLoop, keep-start, keep-args, keep-again, keep-done, none-done}
+use Rattle.changes.proofs.LastDifferingLaws.{all-done}
+use native.Mathlib.Omega.{arith}
+use borrow.Author.Needs.{needs}
+use Rattle.changes.proofs.differing.differing.Statement.{statement}
+use Rattle.changes.proofs.differing.differing.Tie as tie
+use Rattle.changes.proofs.differing.differing.Reads as reads
+use Rattle.changes.proofs.differing.differing.Lts as lts
+use Rattle.changes.proofs.differing.keep.Reads as keep-reads
+use Rattle.changes.proofs.differing.none_left.Reads as none-left-reads
+use Rattle.formats.proofs.lists.lists_fit.Reads as lists-fit-reads
+
+abbrev Inv-loop : tie.InvT-loop
+Inv-loop labels nodes changes t₀ i₀ t i = KeepLoop labels nodes changes t i
+
+abbrev μ-loop : tie.MeasureT-loop
+μ-loop labels nodes changes t₀ i₀ t i = length nodes - i
+
+none-left-requires : tie.Need-none-left-requires Inv-loop μ-loop
+none-left-requires c κs = search needs
+
+lists-fit-requires : tie.Need-lists-fit-requires Inv-loop μ-loop
+lists-fit-requires c κs = search needs
+
+returns : tie.Need-returns Inv-loop μ-loop
+returns c =
+    let a = c .before .before .before .before .before .before .args in
+    none-done (a .labels .now) (a .nodes .now) (a .changes .now)
+    (sym (c .before .lists-fit .ensures) ∙ not-true _ (c .if1 .taken)) _
+    (c .before .before .none-left .ensures)
+
+loop-holds : tie.Need-loop-holds Inv-loop μ-loop
+loop-holds c =
+    let a = c .before .before .before .before .before .before .args in
+    keep-start (a .labels .now) (a .nodes .now) (a .changes .now)
+    (sym (c .before .lists-fit .ensures) ∙ not-false _ (c .if1 .left)) _
+    (c .before .before .none-left .ensures)
+
+keep-requires : tie.Need-keep-requires Inv-loop μ-loop
+keep-requires c κs =
+    let a = c .before .before .before .before .before .before .before .before .args in
+    let l = c .before .loop in
+    keep-args (a .labels .now) (a .nodes .now) (a .changes .now) (l .t) (l .i) (l .inv)
+    (c .loop-test .taken)
+
+add-i : tie.Need-add-i Inv-loop μ-loop
+add-i c = search needs
+
+loop-less : tie.Need-loop-less Inv-loop μ-loop
+loop-less c = search needs
+
+loop-again : tie.Need-loop-again Inv-loop μ-loop
+loop-again c =
+    let a = c .before .before .before .before .before .before .before .before .before .args in
+    let l = c .before .before .loop in
+    keep-again (a .labels .now) (a .nodes .now) (a .changes .now) (l .t) (l .i) (l .inv) (c .before .loop-test .taken) _
+    (c .keep .ensures)
+
+returns-2 : tie.Need-returns-2 Inv-loop μ-loop
+returns-2 c =
+    let a = c .before .before .before .before .before .before .before .before .args in
+    let l = c .before .loop in
+    let e = c .before .before in
+    all-done (a .labels .now) (a .nodes .now) (a .changes .now)
+    (sym (e .before .lists-fit .ensures) ∙ not-false _ (e .if1 .left)) _
+    (keep-done (a .labels .now) (a .nodes .now) (a .changes .now) (l .t) (l .i) (l .inv) (c .loop-test .left))
+
+pub differing-spec : {M : Type 1} → statement M
+differing-spec =
+    tie.close
+    (tie.spec
+    Inv-loop
+    μ-loop
+    none-left-requires
+    lists-fit-requires
+    returns
+    loop-holds
+    keep-requires
+    add-i
+    loop-less
+    loop-again
+    returns-2)

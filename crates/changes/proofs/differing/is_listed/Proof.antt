@@ -1,0 +1,56 @@
+-- `changes::differing::is_listed` meets its contract. The loop's invariant: the running answer or that of the numbers
+-- to come is the answer for all. Assumes nothing.
+use Prim.Native.Nat.{_-_, _≤_}
+use mathlib.Core.Path.{_≡_, refl, sym, _∙_}
+use mathlib.Core.Bool.{_||_}
+use lib.ListN.{length, drop}
+use Rattle.list_laws.specs.Tests.{holds}
+use Rattle.list_laws.proofs.LoopLaws.{holds-iteration, holds-end}
+use native.Mathlib.Omega.{arith}
+use borrow.Author.Needs.{needs}
+use Rattle.changes.proofs.differing.is_listed.Statement.{statement}
+use Rattle.changes.proofs.differing.is_listed.Tie as tie
+
+abbrev Inv-loop : tie.InvT-loop
+Inv-loop v nodes found₀ i₀ found i = (i ≤ length nodes) × ((found || holds v (drop i nodes)) ≡ holds v nodes)
+
+abbrev μ-loop : tie.MeasureT-loop
+μ-loop v nodes found₀ i₀ found i = length nodes - i
+
+loop-holds : tie.Need-loop-holds Inv-loop μ-loop
+loop-holds c = (omega arith, refl)
+
+mul-found : tie.Need-mul-found Inv-loop μ-loop
+mul-found c = search needs
+
+shared-slice-read-found : tie.Need-shared-slice-read-found Inv-loop μ-loop
+shared-slice-read-found c = search needs
+
+add-i : tie.Need-add-i Inv-loop μ-loop
+add-i c = search needs
+
+loop-less : tie.Need-loop-less Inv-loop μ-loop
+loop-less c = search needs
+
+loop-again : tie.Need-loop-again Inv-loop μ-loop
+loop-again c =
+    let l = c .before .before .loop in
+    let a = c .before .before .before .args in
+    (omega arith, holds-iteration (a .nodes .now) (l .i) (a .v) (l .found) (c .before .loop-test .taken) ∙ l .inv .1)
+
+returns : tie.Need-returns Inv-loop μ-loop
+returns c = sym (holds-end _ _ _ _ (c .loop-test .left)) ∙ c .before .loop .inv .1
+
+pub is-listed-spec : {M : Type 1} → statement M
+is-listed-spec =
+    tie.close
+    (tie.spec
+    Inv-loop
+    μ-loop
+    loop-holds
+    mul-found
+    shared-slice-read-found
+    add-i
+    loop-less
+    loop-again
+    returns)
