@@ -57,6 +57,45 @@ static void ask(const struct question *q) {
     printf("%u %s %u %u\n", state, yes ? "yes" : "no", told_parts, links);
 }
 
+/* Read tells these four values, in whatever state. */
+static void reads(uint32_t state, uint32_t yes, uint32_t parts, uint32_t links) {
+    uint32_t out[4] = {77, 77, 77, 77};
+    if (whatif_read(record, sizeof record, out, out + 1, out + 2, out + 3) != WHATIF_ACCEPTED || out[0] != state ||
+        out[1] != yes || out[2] != parts || out[3] != links)
+        printf("the Read tells something ELSE\n");
+}
+
+/* Read is refused, and tells nothing. */
+static void reads_nothing(void) {
+    uint32_t out[4] = {77, 77, 77, 77};
+    if (whatif_read(record, sizeof record, out, out + 1, out + 2, out + 3) != WHATIF_REFUSED_SESSION_STATE ||
+        out[0] != 77 || out[1] != 77 || out[2] != 77 || out[3] != 77)
+        printf("a Read without an answer was NOT refused\n");
+}
+
+/* The last finished answer, of 0->0 3->1, through a Start, an advance, a Cancel and a refused Load; a Load empties it. */
+static void survives(void) {
+    uint32_t parts = 0, finished = 0;
+    const struct question *q = &questions[3];
+    whatif_start_lent(record, sizeof record, &lent, q->nodes, q->labels, q->m, &parts);
+    while (!finished && whatif_advance_lent(record, sizeof record, &lent, &finished) == WHATIF_ACCEPTED)
+        ;
+    reads(0, 0, 5, 0);
+    whatif_start_lent(record, sizeof record, &lent, questions[1].nodes, questions[1].labels, 1, &parts);
+    tells(WHATIF_RUNNING, 2, 0);
+    reads(0, 0, 5, 0);
+    whatif_advance_lent(record, sizeof record, &lent, &finished);
+    reads(0, 0, 5, 0);
+    whatif_cancel(record, sizeof record);
+    tells(WHATIF_LOADED, 0, 0);
+    reads(0, 0, 5, 0);
+    whatif_load(record, sizeof record, NULL, 0, NULL, 0, NULL, 0, NULL, 0);
+    reads(0, 0, 5, 0);
+    whatif_load(record, sizeof record, plan, sizeof plan, rules, sizeof rules, node_table, lent.node_table_len,
+                state_table, lent.state_table_len);
+    reads_nothing();
+}
+
 /* Start makes the full check: 18 with one value altered, the last of its table too; and none afterwards. */
 static void altered(void) {
     uint8_t before[WHATIF_RECORD_BYTES];
@@ -85,9 +124,11 @@ int main(void) {
     if (answer != WHATIF_ACCEPTED)
         return 1;
     tells(WHATIF_LOADED, 0, 0);
+    reads_nothing();
     altered();
     for (size_t i = 0; i < QUESTIONS; i++)
         ask(&questions[i]);
+    survives();
     /* a record of another length, as another layout version has, and bytes without a state */
     if (whatif_session_state(record, sizeof record - 1) != WHATIF_NO_STATE || whatif_parts(record, sizeof record + 8))
         printf("another length is taken for a RECORD\n");

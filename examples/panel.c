@@ -1,5 +1,6 @@
 /*
- * A trainer's walk at the panel: Load, Start, Cancel, Start, advances with a progress bar, Read, and one refusal.
+ * A trainer's walk at the panel: Load, Start, Cancel, Start, advances with a progress bar, Read, one refusal; then another
+ * Start and a Cancel, after which Read brings the earlier result back.
  * Build it with: cc examples/panel.c $(PKG_CONFIG_PATH=build pkg-config --cflags --libs whatif), after tools/archive.
  */
 #include "whatif.h"
@@ -84,5 +85,11 @@ int main(void) {
     /* the plan has no node 7; a refused call changes nothing, so the answer is still there */
     if (start((const uint16_t[]){7}, (const uint8_t[]){0}, 1))
         return 1;
+    if (!tell())
+        return 1;
+    /* a question that is started and cancelled leaves the last finished answer, too */
+    if (!start((const uint16_t[]){4}, (const uint8_t[]){0}, 1) || !accepted(whatif_cancel(record, sizeof record)))
+        return 1;
+    printf("cancelled\n");
     return tell() ? 0 : 1;
 }

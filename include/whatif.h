@@ -71,8 +71,8 @@ extern "C" {
 /* Bytes of a session's record, and the version of its layout. All zero is a fresh session. Records of different layout
  * versions differ in length: a record that was kept is one of this version where it has WHATIF_RECORD_BYTES bytes, and
  * one of another length is refused with 1. */
-#define WHATIF_RECORD_BYTES 967u
-#define WHATIF_RECORD_LAYOUT 1u
+#define WHATIF_RECORD_BYTES 975u
+#define WHATIF_RECORD_LAYOUT 2u
 
 /* Answers. The numbers are fixed for good. */
 enum whatif_answer {
@@ -300,13 +300,16 @@ uint32_t whatif_lay_over(const uint16_t *lower_nodes, size_t lower_nodes_len, co
  * than the fresh run's; but every call ends, and none reads or writes outside what is lent. After the last advance the
  * answer stands in the record, and nothing that is lent can alter it.
  *
+ * The last finished answer stays in the record, whatever is started, cancelled or refused afterwards, until the next
+ * question is finished or a Load is accepted: a panel may show it again after a Cancel.
+ *
  * A session is empty, loaded, running or answered:
  *
  *     whatif_load     unless running         then loaded
  *     whatif_start    loaded or answered     then running
  *     whatif_advance  running                then running, after the last part answered
  *     whatif_cancel   running                then loaded
- *     whatif_read     answered               then answered
+ *     whatif_read     in every state, once an answer is there; the state stays
  *
  * Any other call gets 1. So does a record that breaks its layout, or that has another length, as those of another
  * layout version have. whatif_session_state, below, helps to tell which it was.
@@ -315,7 +318,7 @@ uint32_t whatif_lay_over(const uint16_t *lower_nodes, size_t lower_nodes_len, co
 /*
  * Load: begins with a plan, and writes its tables as whatif_build does.
  * Lent:    the record, altered; the plan and the rule table, read; node_table and state_table, written.
- * Written: both tables as by whatif_build; the record, exactly as after a first Load of that plan.
+ * Written: both tables as by whatif_build; the record, exactly as after a first Load of that plan: no answer is there.
  * Answers: WHATIF_ACCEPTED, or the first of 1, 2, 3, 4, 5, 6, 7, 8, 9, 10, 11. Refused, the record and both buffers are
  *          as they were.
  */
@@ -331,7 +334,8 @@ uint32_t whatif_load(uint8_t *record, size_t record_len, const uint8_t *plan, si
  *          all is told as of the list with that entry alone. A node that ends with the label it has in the plan lent
  *          here is no change: it counts neither for the parts nor for their ceiling, 4m - 2 for the m nodes that are
  *          left and 1 where none is. The record keeps the list whole.
- * Written: *parts, the number of parts, 1 to WHATIF_MAX_PARTS; the record. An earlier question is forgotten.
+ * Written: *parts, the number of parts, 1 to WHATIF_MAX_PARTS; the record. An earlier question is forgotten, the last
+ *          finished answer kept.
  * Answers: WHATIF_ACCEPTED, or the first of 1, 17, 12, 13, 14, 18; 12, 13 and 14 are put to the whole list as listed.
  *          18 is given exactly when the plan and the rule table do not pass 2 to 10 or name another N, S or K than the
  *          record, or the tables, excess aside, are not what whatif_build writes from them. So a Start reads all that is
@@ -346,7 +350,8 @@ uint32_t whatif_start(uint8_t *record, size_t record_len, const uint8_t *plan, s
  * Advance: handles the next part of the question.
  * Lent:    the record, altered; the plan, the rule table and both tables, read: as at Start, if the answer is to be
  *          that of a fresh run.
- * Written: *finished, 1 where that was the last part, else 0; the record.
+ * Written: *finished, 1 where that was the last part, else 0; the record. After the last part the answer is there, in the
+ *          place of an earlier one.
  * Answers: WHATIF_ACCEPTED, or the first of 1, 17, 18. 18 is never given where all is as at Start and as built. It
  *          leaves the question as it was: with the right tables the next advance goes on. Refused, the record and
  *          *finished are as they were.
@@ -358,24 +363,26 @@ uint32_t whatif_advance(uint8_t *record, size_t record_len, const uint8_t *plan,
 /*
  * Cancel: drops the question.
  * Lent:    the record, altered.
- * Written: the record, exactly as after a first Load.
+ * Written: the record, as after a first Load in all but the last finished answer, which is kept.
  * Answers: WHATIF_ACCEPTED, or the first of 1. Refused, the record is as it was.
  */
 uint32_t whatif_cancel(uint8_t *record, size_t record_len);
 
 /*
- * Read: tells the answer.
+ * Read: tells the last finished answer, in every state.
  * Lent:    the record, read.
  * Written: *state, the root's state; *yes, 1 where it is accepted, else 0; *parts, the number of parts; *links, the
  *          moves of their climbs.
- * Answers: WHATIF_ACCEPTED, or the first of 1. Refused, the four are as they were.
+ * Answers: WHATIF_ACCEPTED, or the first of 1, where no question was finished since the last accepted Load. Refused, the
+ *          four are as they were.
  */
 uint32_t whatif_read(const uint8_t *record, size_t record_len, uint32_t *state, uint32_t *yes, uint32_t *parts,
                      uint32_t *links);
 
 /* What a record tells. These read single bytes of it, as LAYOUT.md places them. Bytes of another length, or without a
  * state, have WHATIF_NO_STATE and no parts; nothing else is tested. So a refusal 1 means: the call may not be made in the
- * state that is told; or there is none; or, where the call may be made in it, other bytes of the record are broken. */
+ * state that is told, or, of a Read, there is no answer yet; or there is no state; or, where the call may be made in it,
+ * other bytes of the record are broken. */
 enum whatif_state {
     WHATIF_EMPTY = 0,
     WHATIF_LOADED = 1,

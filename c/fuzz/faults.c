@@ -5,6 +5,7 @@
 #include "whatif.h"
 
 #include <stdlib.h>
+#include <string.h>
 
 #define PLAN_RULES const uint8_t *plan, size_t plan_len, const uint8_t *rules, size_t rules_len
 #define WRITTEN uint16_t *nodes, size_t nodes_len, uint8_t *states, size_t states_len
@@ -73,6 +74,8 @@ uint32_t __wrap_whatif_start(uint8_t *record, size_t record_len, PLAN_RULES, REA
         record[141] ^= 1;
     if (laid(21) && answer == 0) /* 18 on what the build writes */
         return 18;
+    if (laid(22) && answer == 0) /* the last finished answer is emptied */
+        memset(record + 967, 0, 8);
     return answer;
 }
 
@@ -80,6 +83,8 @@ uint32_t __wrap_whatif_cancel(uint8_t *record, size_t record_len) {
     uint32_t answer = __real_whatif_cancel(record, record_len);
     if (laid(10) && answer == 0) /* the question stays */
         record[0] = 2;
+    if (laid(23) && answer == 0) /* the last finished answer is emptied */
+        memset(record + 967, 0, 8);
     return answer;
 }
 

@@ -179,6 +179,15 @@ static void on_records(const struct plan *p, const struct question *list) {
     begin(READ, p->name, ""), put(BEFORE, 1), bytes(record, sizeof record), end();
     begin(LOAD, p->name, "-answered"), put(BEFORE, 1), bytes(record, sizeof record), plan_and_rules(p);
     lengths(p, p->s), end();
+    begin(START, p->name, "-answered"), put(BEFORE, 1), changes(list), bytes(record, sizeof record), plan_and_rules(p);
+    tables(p, p->s), end();
+    must(whatif_start(record, sizeof record, PLAN(p), RULES(p), nodes, numbers_len, states, bytes_len, list->nodes,
+                      list->m, list->labels, list->m, &parts) == 0);
+    begin(CANCEL, p->name, "-with-answer"), put(BEFORE, 1), bytes(record, sizeof record), end();
+    begin(ADVANCE, p->name, "-with-answer"), put(BEFORE, 1), bytes(record, sizeof record);
+    plan_and_rules(p), tables(p, p->s), end();
+    must(whatif_cancel(record, sizeof record) == 0);
+    begin(READ, p->name, "-cancelled"), put(BEFORE, 1), bytes(record, sizeof record), end();
 }
 
 static void start_with(const char *which, const struct question *list, size_t labels, const uint8_t *record) {
@@ -207,7 +216,8 @@ static void refused_starts(void) {
 
 static void step(enum step which) { put(which, 1); }
 
-/* Load, Start, some advances, Cancel, Start, the first state byte altered to 1, advances, Read. */
+/* Load, Start, some advances, Cancel, Start, the first state byte altered to 1, advances, Read; the byte altered back, Start,
+ * Read, Cancel, Read, Load, Read. */
 static void panel(const struct plan *p, const struct question *list) {
     begin(PANEL, p->name, ""), put(BEFORE, 1), plan_and_rules(p);
     step(DO_LOAD), step(DO_START), changes(list);
@@ -217,7 +227,8 @@ static void panel(const struct plan *p, const struct question *list) {
     step(DO_ALTER), put(3, 1), put(0, 2), put(1, 1);
     for (int i = 0; i < 12; i++)
         step(DO_ADVANCE);
-    step(DO_READ), end();
+    step(DO_READ), step(DO_ALTER), put(3, 1), put(0, 2), put(states[0], 1);
+    step(DO_START), changes(list), step(DO_READ), step(DO_CANCEL), step(DO_READ), step(DO_LOAD), step(DO_READ), end();
 }
 
 static void question(const struct plan *p, const struct question *list, const char *which) {

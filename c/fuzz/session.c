@@ -6,17 +6,32 @@
 
 #include <string.h>
 
+/* What Read answers now, with its four values. */
+struct last {
+    uint32_t answer, out[4];
+};
+
+static struct last last_of(const struct session *s) {
+    struct last last = {0, {UNSET, UNSET, UNSET, UNSET}};
+    last.answer = whatif_read(LENT(s->record), &last.out[0], &last.out[1], &last.out[2], &last.out[3]);
+    return last;
+}
+
+/* An accepted call kept the last finished answer, or that there is none. */
+static void kept(const struct session *s, const struct last *before) {
+    struct last now = last_of(s);
+    sure(memcmp(&now, before, sizeof now) == 0, "the last finished answer is kept");
+}
+
 /*
- * The record allows exactly the calls of its phase, and so does not break its layout. Load is asked with nothing lent,
+ * The record allows exactly the calls of its phase, Read aside, and so does not break its layout. Load is asked with nothing lent,
  * which is refused with 2 where it may be made; Cancel is asked of a copy.
  */
 static void allows(const struct session *s, enum phase phase) {
     uint8_t copy[WHATIF_RECORD_BYTES];
-    uint32_t a, b, c, d;
     uint32_t loaded = whatif_load(LENT(s->record), NULL, 0, NULL, 0, NULL, 0, NULL, 0);
     sure(loaded == (phase == RUNNING ? 1 : 2), "the record allows Load unless running");
-    uint32_t read = whatif_read(LENT(s->record), &a, &b, &c, &d);
-    sure(read == (phase == ANSWERED ? 0 : 1), "the record allows Read once answered");
+    sure(phase != ANSWERED || last_of(s).answer == 0, "the record allows Read once answered");
     memcpy(copy, s->record.at, sizeof copy);
     uint32_t cancelled = whatif_cancel(copy, sizeof copy);
     sure(cancelled == (phase == RUNNING ? 0 : 1), "the record allows Cancel while running");
@@ -47,6 +62,7 @@ uint32_t load(struct session *s) {
         keep(&s->states);
         uint32_t checked = whatif_check(LENT(s->plan), LENT(s->rules), LENT(s->nodes), LENT(s->states), &yes);
         sure(checked == WHATIF_ACCEPTED && yes == 1, "a full check after Load says yes");
+        sure(last_of(s).answer == WHATIF_REFUSED_SESSION_STATE, "after Load there is no answer to read");
     }
     done(s, answer, LOADED);
     return answer;
@@ -64,6 +80,7 @@ static int sound(const struct session *s) {
 
 uint32_t start(struct session *s, struct lent *listed, struct lent *labels, uint32_t *parts) {
     *parts = UNSET;
+    struct last before = last_of(s);
     uint32_t answer = whatif_start(LENT(s->record), LENT(s->plan), LENT(s->rules), LENT(s->nodes), LENT(s->states),
                                    LENT(*listed), LENT(*labels), parts);
     held(listed, 0, "the listed nodes stay");
@@ -72,22 +89,30 @@ uint32_t start(struct session *s, struct lent *listed, struct lent *labels, uint
     sure(answer != WHATIF_ACCEPTED || (*parts >= 1 && *parts <= WHATIF_MAX_PARTS), "there are 1 to 254 parts");
     sure(answer != WHATIF_ACCEPTED || sound(s), "an accepted Start was lent what the build writes");
     sure(answer != WHATIF_REFUSED_LENT_VALUE || !sound(s), "a Start is refused with 18 on nothing that the build writes");
+    if (answer == WHATIF_ACCEPTED)
+        kept(s, &before);
     done(s, answer, RUNNING);
     return answer;
 }
 
 uint32_t advance(struct session *s, uint32_t *finished) {
     *finished = UNSET;
+    struct last before = last_of(s);
     uint32_t answer =
         whatif_advance(LENT(s->record), LENT(s->plan), LENT(s->rules), LENT(s->nodes), LENT(s->states), finished);
     told(answer, finished, 1);
     sure(answer != WHATIF_ACCEPTED || *finished <= 1, "an advance tells more or finished");
+    if (answer == WHATIF_ACCEPTED && *finished == 0)
+        kept(s, &before);
     done(s, answer, *finished == 1 ? ANSWERED : RUNNING);
     return answer;
 }
 
 uint32_t cancel(struct session *s) {
+    struct last before = last_of(s);
     uint32_t answer = whatif_cancel(LENT(s->record));
+    if (answer == WHATIF_ACCEPTED)
+        kept(s, &before);
     done(s, answer, LOADED);
     return answer;
 }
@@ -99,7 +124,7 @@ uint32_t tell(struct session *s, struct answer *read) {
     held(&s->record, 0, "Read leaves the record");
     int fits = out[0] < WHATIF_MAX_STATES && out[1] <= 1 && out[2] >= 1 && out[2] <= WHATIF_MAX_PARTS;
     sure(answer != WHATIF_ACCEPTED || fits, "Read tells a state, yes or no, and 1 to 254 parts");
-    done(s, answer, ANSWERED);
+    done(s, answer, (enum phase)whatif_session_state(LENT(s->record)));
     *read = (struct answer){out[0], out[1], out[2], out[3]};
     return answer;
 }

@@ -17,7 +17,8 @@ struct answer {
     uint32_t state, yes, parts, links;
 };
 
-/* A refused call has altered nothing. After an accepted one the record allows exactly the calls of its phase. */
+/* A refused call has altered nothing. After an accepted one the record allows exactly the calls of its phase, and Read in any:
+ * Start, Cancel and an advance that does not finish keep what it answers, Load empties it. */
 uint32_t load(struct session *s);
 uint32_t start(struct session *s, struct lent *listed, struct lent *labels, uint32_t *parts);
 uint32_t advance(struct session *s, uint32_t *finished);

@@ -3,7 +3,16 @@
 #include "session.h"
 #include "whatif.h"
 
+#include <string.h>
+
 #define MOST_STEPS 60
+
+/* A session's phase, and whether there is a finished answer, and which. */
+struct walk {
+    enum phase phase;
+    int answered;
+    struct answer last;
+};
 
 /* A fresh session with the plan and the rules of the input, and tables of the length that these name. */
 static struct session fresh(struct input *in) {
@@ -82,15 +91,17 @@ static uint32_t start_from(struct session *s, struct input *in) {
     return answer;
 }
 
-/* One call: its answer, and the phase after it. It is refused with 1 exactly where the phase forbids it. */
-static uint32_t step(struct session *s, enum phase *phase, struct input *in) {
+/* One call: its answer, and the phase after it. It is refused with 1 exactly where the phase forbids it, Read where there is no
+ * finished answer. */
+static uint32_t step(struct session *s, struct walk *walk, struct input *in) {
     struct answer read;
     uint32_t answer, finished = 0;
-    enum phase was = *phase, next;
+    enum phase was = walk->phase, next;
     int allowed;
     switch (take(in, 1) % (DO_ADVANCE + 2)) {
     case DO_LOAD:
         answer = load(s), next = LOADED, allowed = was != RUNNING;
+        walk->answered &= answer != WHATIF_ACCEPTED;
         break;
     case DO_START:
         answer = start_from(s, in), next = RUNNING, allowed = was == LOADED || was == ANSWERED;
@@ -99,7 +110,8 @@ static uint32_t step(struct session *s, enum phase *phase, struct input *in) {
         answer = cancel(s), next = LOADED, allowed = was == RUNNING;
         break;
     case DO_READ:
-        answer = tell(s, &read), next = ANSWERED, allowed = was == ANSWERED;
+        answer = tell(s, &read), next = was, allowed = walk->answered;
+        sure(!allowed || memcmp(&read, &walk->last, sizeof read) == 0, "Read tells the last finished answer");
         break;
     case DO_ALTER:
         alter(s, in);
@@ -109,15 +121,19 @@ static uint32_t step(struct session *s, enum phase *phase, struct input *in) {
     }
     sure((answer == WHATIF_REFUSED_SESSION_STATE) == !allowed, "1 exactly where the session's state forbids the call");
     if (answer == WHATIF_ACCEPTED)
-        *phase = next;
+        walk->phase = next;
+    if (finished == 1) {
+        sure(tell(s, &walk->last) == WHATIF_ACCEPTED, "a finished question may be read");
+        walk->answered = 1;
+    }
     return answer;
 }
 
 uint32_t try_panel(struct input *in) {
     struct session s = fresh(in);
-    enum phase phase = EMPTY;
+    struct walk walk = {EMPTY, 0, {0, 0, 0, 0}};
     uint32_t answer = WHATIF_ACCEPTED;
     for (size_t i = 0; i < MOST_STEPS && in->left > 0; i++)
-        answer = step(&s, &phase, in);
+        answer = step(&s, &walk, in);
     return answer;
 }

@@ -11,12 +11,12 @@ use lib.ListN.{length, getD}
 use Rattle.tables.specs.declared.answers.Reached.{Reached}
 use Rattle.formats.specs.Inputs.{Inputs}
 use Rattle.model.specs.Calls.{Call, load, start, advance, cancel, read, Answer, more, finished}
-use Rattle.model.specs.Calls.{outcomeAnswer}
+use Rattle.model.specs.Calls.{Outcome, outcomeAnswer}
 use Rattle.model.specs.Calls.{Phase}
 use Rattle.model.specs.Refusals.{refusal}
 use Rattle.model.specs.Model.{stageOf}
-use Rattle.model.specs.Model.{Record, Acted, acted, stepped, marksBy, lastOf, proceeds, unless, act}
-use Rattle.model.specs.Model.{advanceWith}
+use Rattle.model.specs.Model.{Record, Acted, acted, stepped, marksBy, proceeds, unless, act}
+use Rattle.model.specs.Model.{advanceWith, lastAnswer}
 use Rattle.capi_session.specs.SessionExported.{answerNumber, partsOf, finishedOf, Places, answeredPlaces}
 use Rattle.capi_session.specs.DecodedAnswers.{decodedDone, decodedStart, decodedAdvance, decodedRead}
 
@@ -83,10 +83,15 @@ module _ (r : Record) where
   reading q s p l true = refl
   reading q s p l false = refl
 
+  reading-last : (q : Places) (o : Option Outcome) → ReadDecoded q (lastAnswer o)
+  unfolding decodedRead answerNumber answeredPlaces
+  reading-last q none = refl
+  reading-last q (some o) = reading q (o .state) (o .parts) (o .links) (o .yes)
+
   pub decoded-read : (q : Places) → ReadDecoded q (act r read .answer)
   unfolding act unless proceeds decodedRead answerNumber answeredPlaces
   decoded-read q = go (refusal (stageOf r) read)
     where
       go : (n : ℕ) → ReadDecoded q (unless n r read .answer)
-      go zero = reading q (lastOf (r .states) 0) (length (r .roots)) (r .links) (r .yes)
+      go zero = reading-last q (r .last)
       go (suc n) = refl

@@ -3,7 +3,7 @@
 --     step-is            a call on the bytes of a struct
 --     exports-is         the same of an exported function, its number and values decoded (DecodedAnswers)
 --     exported-refines   each call on bytes refines the session's call
---     fresh-held         967 zeros are the fresh record
+--     fresh-held         975 zeros are the fresh record
 --     record-stays       every record that a call leaves is one again
 -- Assumes nothing.
 use Prim.Native.Nat.{ℕ, zero, suc}
@@ -16,11 +16,11 @@ use lib.ListN.{length, getD, replicate}
 use Rattle.list_laws.proofs.BoolLaws.{and-left}
 use Rattle.tables.specs.declared.answers.Reached.{Reached}
 use Rattle.formats.specs.Inputs.{Inputs}
-use Rattle.model.specs.Calls.{Call, load, start, advance, cancel, read, Answer, more, finished, Phase}
+use Rattle.model.specs.Calls.{Call, load, start, advance, cancel, read, Answer, Outcome, more, finished, Phase}
 use Rattle.model.specs.Refusals.{refusal}
 use Rattle.model.specs.Model.{stageOf}
 use Rattle.model.specs.Model.{Record, Acted, acted, stepped, marksBy, freshRecord, proceeds, unless, act}
-use Rattle.model.specs.Model.{advanceWith, Does}
+use Rattle.model.specs.Model.{advanceWith, lastAnswer, Does}
 use Rattle.model.proofs.Refinement.{Refines}
 use Rattle.session.specs.declared.state.Session.{Session}
 use Rattle.session.specs.Records.{recordOf, sessionOf, valid, freshSession}
@@ -68,13 +68,19 @@ module _ (r : Record) where
       (acted finished (stepped r Phase.answered y (eqb (getD (marksBy (r .sizes) x) (y .state) 0) 1)))
       (acted more (stepped r Phase.running y false)) refl refl
 
+  -- Read leaves the record, whatever it answers
+  on-read : (o : Option Outcome) → Settled r (acted (lastAnswer o) r)
+  unfolding unlessRefused
+  on-read none = refl
+  on-read (some o) = refl
+
   on-call : (c : Call) → Settled r (proceeds r c)
   unfolding proceeds unlessRefused
   on-call (load x) = refl
   on-call (start x vs bs) = refl
   on-call (advance x) = on-advance x _
   on-call cancel = refl
-  on-call read = refl
+  on-call read = on-read (r .last)
 
   settled : (c : Call) → Settled r (act r c)
   unfolding act unless unlessRefused
@@ -164,7 +170,7 @@ pub exported-refines : Refines Exports Does Held
 exported-refines b b′ r c a h e =
     step-is (h .struct) r (h .seen) c a b′ (exports-is (h .struct) r (h .seen) c a b b′ (h .bytes) e)
 
-pub fresh-held : Held (replicate 967 0) freshRecord
+pub fresh-held : Held (replicate 975 0) freshRecord
 fresh-held = record { struct = freshSession; bytes = sym fresh-bytes; seen = fresh-seen }
 
 -- ---- every record that a call leaves is a record again

@@ -58,7 +58,7 @@ pub extern "C" fn whatif_load(
     store_done(out, rec)
 }
 
-// Cancel: the question is forgotten.
+// Cancel: the question is forgotten, the last finished answer kept.
 #[no_mangle]
 pub extern "C" fn whatif_cancel(rec: &mut [u8]) -> u32
     ensures { λ r. ⌜ CallExported (now (rec .entry)) calls.cancel r (now (rec .exit)) ⌝ }
@@ -190,7 +190,7 @@ fn tell_read(
     }
 }
 
-// Read: the answer of a finished question.
+// Read: the last finished answer.
 #[no_mangle]
 pub extern "C" fn whatif_read(
     rec: &[u8],

@@ -4,4 +4,5 @@ pub mod Main
 pub mod Lists
 pub mod BrokenBytes
 pub mod QuestionForms
+pub mod Kept
 pub mod ProvedToo

@@ -36,7 +36,7 @@ use Rattle.changes.proofs.Theorems.{LeftFirst, RightFirst, lay-assoc, lay-empty
 use Rattle.changes.proofs.PlanOver.{plan-over, plan-passes}
 use Rattle.model.specs.Calls.{Answer}
 use Rattle.reference.specs.Reference.{Question, rootsOf, partCount, givenBy}
-use Rattle.reference.specs.Undisturbed.{EveryOutcome}
+use Rattle.reference.specs.Undisturbed.{EveryOutcomeAfter}
 use Rattle.reference.proofs.FreshLaws.{whole-state, whole-before}
 use Rattle.reference.proofs.Ceilings.{parts-never-rise}
 use Rattle.reference.proofs.Controls.{inputsFive, withLeft, withListed, links-either-way}
@@ -75,7 +75,7 @@ repeats-by-value = superseded-by-value
 repeats-in-place : Superseded freshSession CallInPlace
 repeats-in-place = superseded-in-place
 
-repeats-on-record-bytes : Superseded (replicate 967 0) Exports
+repeats-on-record-bytes : Superseded (replicate 975 0) Exports
 repeats-on-record-bytes = superseded-exported
 
 -- ---- S-5
@@ -156,5 +156,5 @@ still-a-plan = plan-passes
 on-a-changed-plan : (x y : Inputs) (vs bs us cs : List ℕ) → PlanPasses (x .plan) → y .plan ≡ changedPlan (x .plan) vs bs → y .rules ≡ x .rules
     → (n m : ℕ) (ys zs : List Answer) → CleanOutcomes y us cs n ys
     → CleanOutcomes x (nodesListed (laidOver (entries vs bs) (entries us cs))) (labelsListed (laidOver (entries vs bs) (entries us cs))) m zs
-    → (q : ℕ) × (b : Bool) × EveryOutcome (Tells q b) ys × EveryOutcome (Tells q b) zs
+    → (q : ℕ) × (b : Bool) × EveryOutcomeAfter (Tells q b) ys × EveryOutcomeAfter (Tells q b) zs
 on-a-changed-plan = question-over

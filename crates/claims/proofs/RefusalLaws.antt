@@ -6,23 +6,23 @@
 use Prim.Native.Nat.{ℕ, zero, suc}
 use mathlib.Core.Path.{_≡_, refl, sym, ap, _∙_, subst}
 use mathlib.Core.Bool.{Bool, true, false, cond}
-use mathlib.Core.List.{List}
+use mathlib.Core.List.{List, [], _∷_}
 use mathlib.Core.Logic.{_↔_}
 use mathlib.Core.Option.{Option, none, some}
 use native.Mathlib.Omega.{arith}
 use lib.Dec.{eqb}
 use lib.ListN.{length, getD}
 use Rattle.list_laws.proofs.BoolLaws.{true-false}
-use Rattle.formats.specs.Checks.{firstNo}
+use Rattle.formats.specs.Checks.{check, firstNo}
 use Rattle.formats.specs.Inputs.{Inputs}
 use Rattle.tables.specs.declared.answers.Building.{Building}
 use Rattle.tables.specs.Answers.{written, buildingNumber, BuildDone}
 use Rattle.tables.specs.declared.answers.Reached.{Reached}
-use Rattle.model.specs.Calls.{Call, load, start, advance, cancel, read, Answer, refused, more, finished, isRefused, Phase}
+use Rattle.model.specs.Calls.{Call, load, start, advance, cancel, read, Answer, refused, more, finished, Outcome, isRefused, isSome, Phase}
 use Rattle.model.specs.Refusals.{checksBefore18, refusal}
 use Rattle.model.specs.Sound.{Sound}
 use Rattle.model.proofs.SoundLaws.{start-18}
-use Rattle.model.specs.Model.{Record, Acted, acted, stageOf, marksBy, stepped, advanceWith, proceeds, unless, act}
+use Rattle.model.specs.Model.{Record, Acted, acted, stageOf, marksBy, stepped, advanceWith, lastAnswer, proceeds, unless, act}
 use Rattle.session.specs.declared.state.Session.{Session}
 use Rattle.session.specs.Records.{recordOf, valid}
 use Rattle.session.specs.Promises.{answerOn, refusalOn, CallDone, LoadDone}
@@ -50,13 +50,19 @@ on-advance r x (some y) e =
 abbrev Advance18 : Call → Answer → Type 0
 Advance18 c a = (x : Inputs) × (c ≡ advance x) × (a ≡ refused 18)
 
-on-call : (r : Record) (c : Call) → isRefused (proceeds r c .answer) ≡ true → Advance18 c (proceeds r c .answer)
-unfolding proceeds
-on-call r (load x) e = absurd (true-false (sym e))
-on-call r (start x vs bs) e = absurd (true-false (sym e))
-on-call r (advance x) e = (x, refl, on-advance r x _ e)
-on-call r cancel e = absurd (true-false (sym e))
-on-call r read e = absurd (true-false (sym e))
+-- a Read whose check passes has an answer to tell
+on-read : (o : Option Outcome) → firstNo (check 1 (isSome o) ∷ []) ≡ 0 → isRefused (lastAnswer o) ≡ true → ⊥
+unfolding firstNo
+on-read none h e = omega arith
+on-read (some o) h e = true-false (sym e)
+
+on-call : (r : Record) (c : Call) → refusal (stageOf r) c ≡ 0 → isRefused (proceeds r c .answer) ≡ true → Advance18 c (proceeds r c .answer)
+unfolding refusal proceeds
+on-call r (load x) h e = absurd (true-false (sym e))
+on-call r (start x vs bs) h e = absurd (true-false (sym e))
+on-call r (advance x) h e = (x, refl, on-advance r x _ e)
+on-call r cancel h e = absurd (true-false (sym e))
+on-call r read h e = absurd (on-read (r .last) h e)
 
 -- ---- a call by value: b is whether its record is valid, m the number of its first failing check
 
@@ -67,12 +73,12 @@ module _ (r : Record) (c : Call) where
   numbered true (suc m) n e = ap refused e
   numbered false m n e = ap refused e
 
-  eighteen : (b : Bool) (m : ℕ) → cond b m 1 ≡ 0 → isRefused (cond b (unless m r c .answer) (refused 1)) ≡ true
+  eighteen : (b : Bool) (m : ℕ) → refusal (stageOf r) c ≡ m → cond b m 1 ≡ 0 → isRefused (cond b (unless m r c .answer) (refused 1)) ≡ true
       → Advance18 c (cond b (unless m r c .answer) (refused 1))
   unfolding unless
-  eighteen true zero e f = on-call r c f
-  eighteen true (suc m) e f = absurd (omega arith)
-  eighteen false m e f = absurd (omega arith)
+  eighteen true zero i e f = on-call r c i f
+  eighteen true (suc m) i e f = absurd (omega arith)
+  eighteen false m i e f = absurd (omega arith)
 
 module _ (s : Session) (c : Call) (a : Answer) (s′ : Session) where
   by-answer : a ≡ answerOn s c → ((n : ℕ) → a ≡ refused n → s′ ≡ s) → RefusedInOrder s c a s′
@@ -81,7 +87,7 @@ module _ (s : Session) (c : Call) (a : Answer) (s′ : Session) where
     by-number = λ n h. e ∙ numbered (recordOf s) c (valid s) (refusal (stageOf (recordOf s)) c) n h;
     unaltered = u;
     else-accepted = λ h f.
-        let i = eighteen (recordOf s) c (valid s) (refusal (stageOf (recordOf s)) c) h (sym (ap isRefused e) ∙ f) in
+        let i = eighteen (recordOf s) c (valid s) (refusal (stageOf (recordOf s)) c) refl h (sym (ap isRefused e) ∙ f) in
         (i .0, i .1, e ∙ i .2);
   }
 

@@ -9,7 +9,7 @@
 -- Assumes nothing.
 use Prim.Native.Nat.{ℕ, _+_, _-_, _*_, _≤_, _<_}
 use mathlib.Core.Path.{_≡_, refl, sym, ap, ap₂, _∙_}
-use mathlib.Core.Bool.{true}
+use mathlib.Core.Bool.{Bool, true}
 use mathlib.Core.List.{List, [], _∷_}
 use native.Mathlib.Omega.{arith}
 use lib.ListN.{length, take, drop}
@@ -33,9 +33,9 @@ use Rattle.model.specs.Model.{leftIn, rootsIn, marksBy}
 use Rattle.model.proofs.ResultLaws.{length-more}
 
 -- "Load is allowed unless running"
-pub load-running : (z : Sizes) (x : Inputs) → refusal (stage Phase.running z) (load x) ≡ 1
+pub load-running : (z : Sizes) (l : Bool) (x : Inputs) → refusal (stage Phase.running z l) (load x) ≡ 1
 unfolding refusal firstNo mayLoad
-load-running z x = refl
+load-running z l x = refl
 
 module _ (t : Stage) (x : Inputs) (vs bs : List ℕ) where
   pub before-numbered : Numbered (checksBefore18 t x vs bs)

@@ -8,12 +8,14 @@
 -- onAdvance m f d a == m of more, f of finished; d of any other answer
 -- isRefused a == whether an answer is a refusal
 -- Phase == which of the four states a session is in
--- mayLoad .. isAnswered == in which states a call may be made
+-- mayLoad, mayStart, isRunning == in which states a call may be made; Read goes by whether an answer is there
+-- isSome o == whether an option holds something
 --
 -- Assumes nothing.
 use Prim.Native.Nat.{ℕ}
 use mathlib.Core.Bool.{Bool, true, false}
 use mathlib.Core.List.{List}
+use mathlib.Core.Option.{Option, none, some}
 use Rattle.formats.specs.Inputs.{Inputs}
 
 pub data Call : Type 0 where
@@ -85,7 +87,8 @@ pub data Phase : Type 0 where
   running : Phase
   answered : Phase
 
--- "Load is allowed unless running; Start in loaded or answered; advance and Cancel in running; Read in answered."
+-- "Load is allowed unless running; Start in loaded or answered; advance and Cancel in running"; Read, by document 02 (S-1), "in every state
+-- once such an answer is there"
 unfoldable pub mayLoad : Phase → Bool
 mayLoad empty = true
 mayLoad loaded = true
@@ -104,8 +107,6 @@ isRunning loaded = false
 isRunning running = true
 isRunning answered = false
 
-unfoldable pub isAnswered : Phase → Bool
-isAnswered empty = false
-isAnswered loaded = false
-isAnswered running = false
-isAnswered answered = true
+abbrev pub isSome : {A : Type 0} → Option A → Bool
+isSome none = false
+isSome (some a) = true

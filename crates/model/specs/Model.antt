@@ -2,6 +2,8 @@
 --
 -- Record == document 01's session record
 -- freshRecord == that of a fresh session; loadedRecord z == that after a first Load
+-- withLast o r == the record r with o as its last finished answer; lastThen p o l == that answer after an advance that ends in state p: o where
+--   it finished, else l as before
 -- leftIn x vs bs == the nodes that the list, vs to bs, leaves in W on the plan of the inputs x
 -- rootsIn x vs == the roots of the parts of the nodes vs, on the plan of the inputs x, rising
 -- stageOf r == its stage, as the refusals ask for it
@@ -25,11 +27,11 @@ use Rattle.tables.specs.Climbs.{View, viewOf}
 use Rattle.questions.specs.Part.{partOn}
 use Rattle.formats.specs.Inputs.{Inputs, Sizes, sizesIn, usedNodeTable, usedStateTable}
 use Rattle.model.specs.Calls.{Call, load, start, advance, cancel, read, Answer, refused, parts, more, finished}
-use Rattle.model.specs.Calls.{outcome, Phase}
+use Rattle.model.specs.Calls.{Outcome, outcome, Phase, isSome}
 use Rattle.model.specs.Refusals.{Stage, stage, refusal}
 
 -- "The record holds which of the four states it is in, N, S, K, the changes as listed, the root nodes of the parts, the states of parts
--- handled so far and their number, the links so far and, once answered, the yes or no"
+-- handled so far and their number, the links so far and, once answered, the yes or no"; "gains the last finished answer" (02, S-1)
 pub record Record : Type 0 where
   pub phase : Phase
   pub sizes : Sizes
@@ -39,10 +41,11 @@ pub record Record : Type 0 where
   pub states : List ℕ
   pub links : ℕ
   pub yes : Bool
+  pub last : Option Outcome
 
 -- what the checks ask of it
 abbrev pub stageOf : Record → Stage
-stageOf r = stage (r .phase) (r .sizes)
+stageOf r = stage (r .phase) (r .sizes) (isSome (r .last))
 
 pub record Acted : Type 0 where
   pub answer : Answer
@@ -52,14 +55,29 @@ abbrev pub acted : Answer → Record → Acted
 acted a r = record { answer = a; record′ = r }
 
 unfoldable pub idle : Phase → Sizes → Record
-idle p z = record { phase = p; sizes = z; nodes = []; labels = []; roots = []; states = []; links = 0; yes = false }
+idle p z =
+    record { phase = p; sizes = z; nodes = []; labels = []; roots = []; states = []; links = 0; yes = false; last = none }
 
 unfoldable pub freshRecord : Record
 freshRecord = idle Phase.empty (record { n = 0; s = 0; k = 0 })
 
--- "Load and Cancel end in loaded with the record exactly as after a first Load of that plan."
+-- "Load and Cancel end in loaded with the record exactly as after a first Load of that plan." Of Cancel document 02 (S-1): "it equals it in
+-- all but that answer"
 abbrev pub loadedRecord : Sizes → Record
 loadedRecord z = idle Phase.loaded z
+
+abbrev pub withLast : Option Outcome → Record → Record
+withLast o r = record {
+  phase = r .phase;
+  sizes = r .sizes;
+  nodes = r .nodes;
+  labels = r .labels;
+  roots = r .roots;
+  states = r .states;
+  links = r .links;
+  yes = r .yes;
+  last = o;
+}
 
 -- what the calls read of the inputs: by the record's N, S and K, excess aside
 abbrev pub viewBy : Sizes → Inputs → View
@@ -80,9 +98,16 @@ rootsIn x vs = roots (planTree (x .plan)) vs
 
 unfoldable pub started : Sizes → List ℕ → List ℕ → List ℕ → Record
 started z vs bs rs =
-    record { phase = Phase.running; sizes = z; nodes = vs; labels = bs; roots = rs; states = []; links = 0; yes = false }
+    record { phase = Phase.running; sizes = z; nodes = vs; labels = bs; roots = rs; states = []; links = 0; yes = false; last = none }
 
 -- ---- advance: one more part state, and its links
+
+-- "the last finished answer, filled by the advance that finishes"
+abbrev pub lastThen : Phase → Outcome → Option Outcome → Option Outcome
+lastThen Phase.empty o l = l
+lastThen Phase.loaded o l = l
+lastThen Phase.running o l = l
+lastThen Phase.answered o l = some o
 
 unfoldable pub stepped : Record → Phase → Reached → Bool → Record
 stepped r p x y = record {
@@ -94,6 +119,7 @@ stepped r p x y = record {
   states = r .states ++ (x .state ∷ []);
   links = r .links + x .links;
   yes = y;
+  last = lastThen p (record { state = x .state; yes = y; parts = length (r .roots); links = r .links + x .links }) (r .last);
 }
 
 unfoldable pub advanceWith : Record → Inputs → Option Reached → Acted
@@ -109,25 +135,31 @@ partNext r x =
     partOn (viewBy (r .sizes) x) (take (length (r .states)) (r .roots)) (r .states) (r .nodes) (r .labels)
     (getD (r .roots) (length (r .states)) 0)
 
--- ---- Read
+-- ---- Read: the last finished answer; where there is none, check 1 refuses it
+
+abbrev pub lastAnswer : Option Outcome → Answer
+lastAnswer none = refused 1
+lastAnswer (some o) = outcome o
+
+-- an answered record's own outcome: its last finished answer is that one
 
 unfoldable pub lastOf : List ℕ → ℕ → ℕ
 lastOf [] q = q
 lastOf (x ∷ xs) q = lastOf xs x
 
-abbrev pub outcomeOf : Record → Answer
-outcomeOf r =
-    outcome (record { state = lastOf (r .states) 0; yes = r .yes; parts = length (r .roots); links = r .links })
+abbrev pub outcomeOf : Record → Outcome
+outcomeOf r = record { state = lastOf (r .states) 0; yes = r .yes; parts = length (r .roots); links = r .links }
 
 -- ---- the calls
 
 unfoldable pub proceeds : Record → Call → Acted
 proceeds r (load x) = acted Answer.accepted (loadedRecord (sizesIn x))
 proceeds r (start x vs bs) =
-    acted (parts (length (rootsIn x (leftIn x vs bs)))) (started (r .sizes) vs bs (rootsIn x (leftIn x vs bs)))
+    acted (parts (length (rootsIn x (leftIn x vs bs))))
+    (withLast (r .last) (started (r .sizes) vs bs (rootsIn x (leftIn x vs bs))))
 proceeds r (advance x) = advanceWith r x (partNext r x)
-proceeds r cancel = acted Answer.accepted (loadedRecord (r .sizes))
-proceeds r read = acted (outcomeOf r) r
+proceeds r cancel = acted Answer.accepted (withLast (r .last) (loadedRecord (r .sizes)))
+proceeds r read = acted (lastAnswer (r .last)) r
 
 -- "The first no gives its number; nothing else is returned and nothing is altered."
 unfoldable pub unless : ℕ → Record → Call → Acted

@@ -11,6 +11,7 @@ use session::state::Phase;
 use session::state::Session;
 use session::state::Sizes;
 use session::state::idle;
+use session::state::no_last;
 ghost use mathlib.Core.Path.{_≡_};
 ghost use Rattle.session.specs.Answers.{callAnswer, startAnswer, readAnswer};
 ghost use Rattle.formats.specs.Inputs.{inputsOf};
@@ -37,7 +38,8 @@ fn loaded(n: u16, s: u8, k: u8) -> Session
     ensures { λ r. ⌜ r ≡ loadedWith n s k ⌝ }
 {
     let sizes = Sizes { n, s, k };
-    idle(Phase::Loaded, sizes)
+    let last = no_last();
+    idle(Phase::Loaded, sizes, last)
 }
 
 // As many parts as Start tells; 0 where it is refused.

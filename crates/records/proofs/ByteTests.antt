@@ -1,11 +1,12 @@
 -- The tests of bytes as the code makes them, and the struct's bytes as the code writes them, against their definitions.
 --     laid-short, laid-test       laidOut
 --     valid-not, valid-test       validBytes
---     encode-other, encode-done   encode on a buffer of another length, and of 967 bytes
---     head-written                13 stores in a row
+--     encode-other, encode-done   encode on a buffer of another length, and of 975 bytes
+--     head-written, last-written  13 stores in a row, and eight
 --     part-written                a part of a buffer that is written behind what is written
---     record-written              the first 13 bytes and the four parts behind them
---     head-read, record-read      the fields as the code reads them
+--     record-written              the first 13 bytes and the five parts behind them
+--     head-read, last-read, record-read
+--                                 the fields as the code reads them
 -- Assumes nothing.
 use Prim.Native.Nat.{ℕ, _+_, _*_}
 use mathlib.Core.Path.{_≡_, refl, sym, ap, _∙_}
@@ -20,30 +21,31 @@ use Rattle.list_laws.proofs.BoolLaws.{and-left}
 use Rattle.formats.specs.Bytes.{le16, le32}
 use Rattle.session.specs.declared.state.Phase.{Phase}
 use Rattle.session.specs.declared.state.Head.{Head}
+use Rattle.session.specs.declared.state.Last.{Last}
 use Rattle.session.specs.declared.state.Session.{Session}
 use Rattle.session.specs.Records.{valid}
 use Rattle.records.proofs.NumberLaws.{bytes16-length}
-use Rattle.records.specs.Layout.{numbers16, bytes16, phaseByte, phaseAt, yesByte, headBytes, encoded}
-use Rattle.records.specs.Layout.{run, decodedHead, decoded, laidOut, validBytes, InTypes}
+use Rattle.records.specs.Layout.{numbers16, bytes16, phaseByte, phaseAt, yesByte, headBytes, lastBytes, encoded}
+use Rattle.records.specs.Layout.{run, decodedHead, decodedLast, decoded, flagsFit, laidOut, validBytes, InTypes}
 
 module _ (b : List ℕ) where
-  pub laid-short : (length b ≡ 967 → ⊥) → false ≡ laidOut b
+  pub laid-short : (length b ≡ 975 → ⊥) → false ≡ laidOut b
   unfolding laidOut
-  laid-short h = rw (ne-eqb (length b) 967 h)
+  laid-short h = rw (ne-eqb (length b) 975 h)
 
-  pub laid-test : length b ≡ 967 → (leb (getD b 0 0) 3 && leb (getD b 1 0) 1) ≡ laidOut b
+  pub laid-test : length b ≡ 975 → flagsFit b ≡ laidOut b
   unfolding laidOut
-  laid-test h = rw (eq-eqb (length b) 967 h)
+  laid-test h = rw (eq-eqb (length b) 975 h)
 
-  pub laid-length : laidOut b ≡ true → length b ≡ 967
+  pub laid-length : laidOut b ≡ true → length b ≡ 975
   unfolding laidOut
-  laid-length e = eqb-true (length b) 967 (and-left (eqb (length b) 967) (leb (getD b 0 0) 3 && leb (getD b 1 0) 1) e)
+  laid-length e = eqb-true (length b) 975 (and-left (eqb (length b) 975) (flagsFit b) e)
 
   pub valid-not : (r : Bool) → r ≡ laidOut b → not r ≡ true → false ≡ validBytes b
   unfolding validBytes
   valid-not r e f = rw (← e, not-true r f)
 
-  pub valid-laid : (r : Bool) → r ≡ laidOut b → not r ≡ false → length b ≡ 967
+  pub valid-laid : (r : Bool) → r ≡ laidOut b → not r ≡ false → length b ≡ 975
   valid-laid r e f = laid-length (sym e ∙ not-false r f)
 
   pub valid-test : (r q : Bool) (s : Session) → r ≡ laidOut b → not r ≡ false → s ≡ decoded b → q ≡ valid s
@@ -52,12 +54,12 @@ module _ (b : List ℕ) where
   valid-test r q s e f g h = rw (← e, not-false r f, ← g) h
 
 module _ (out : List ℕ) (s : Session) where
-  pub encode-other : (length out ≡ 967 → ⊥) → out ≡ cond (eqb (length out) 967) (encoded s) out
-  encode-other h = rw (ne-eqb (length out) 967 h)
+  pub encode-other : (length out ≡ 975 → ⊥) → out ≡ cond (eqb (length out) 975) (encoded s) out
+  encode-other h = rw (ne-eqb (length out) 975 h)
 
-  pub encode-done : (after : List ℕ) → length out ≡ 967 → after ≡ encoded s
-      → after ≡ cond (eqb (length out) 967) (encoded s) out
-  encode-done after h e = rw (eq-eqb (length out) 967 h) e
+  pub encode-done : (after : List ℕ) → length out ≡ 975 → after ≡ encoded s
+      → after ≡ cond (eqb (length out) 975) (encoded s) out
+  encode-done after h e = rw (eq-eqb (length out) 975 h) e
 
 sets-all : (out vs : List ℕ) → length out ≡ length vs → sets out 0 vs ≡ vs
 sets-all out vs e =
@@ -68,6 +70,10 @@ sets-all out vs e =
 pub head-written : (out : List ℕ) (h : Head) (p y : ℕ) → length out ≡ 13 → p ≡ phaseByte (h .phase)
     → y ≡ yesByte (h .yes) → sets out 0 (p ∷ y ∷ drop 2 (headBytes h)) ≡ headBytes h
 head-written out h p y e f g = rw (← f, ← g) (sets-all out (p ∷ y ∷ drop 2 (headBytes h)) e)
+
+pub last-written : (out : List ℕ) (l : Last) (f y : ℕ) → length out ≡ 8 → f ≡ yesByte (l .present)
+    → y ≡ yesByte (l .outcome .yes) → sets out 0 (f ∷ l .outcome .state ∷ y ∷ drop 3 (lastBytes l)) ≡ lastBytes l
+last-written out l f y e g h = rw (← g, ← h) (sets-all out (f ∷ l .outcome .state ∷ y ∷ drop 3 (lastBytes l)) e)
 
 -- p stands before place a; k bytes ys go behind it
 pub part-written : (x p o ys : List ℕ) (a k : ℕ) → x ≡ p ++ drop a o → length p ≡ a
@@ -82,14 +88,14 @@ put a k x ys = take a x ++ (ys ++ drop k (drop a x))
 joined : (p q : List ℕ) (a b : ℕ) → length p ≡ a → length q ≡ b → length (p ++ q) ≡ a + b
 joined p q a b e f = rw (length-append, e, f)
 
-regrouped : (h n l r t : List ℕ) → (((h ++ n) ++ l) ++ r) ++ t ≡ h ++ (n ++ (l ++ (r ++ t)))
-regrouped h n l r t = simp append-assoc
+regrouped : (h n l r t w : List ℕ) → ((((h ++ n) ++ l) ++ r) ++ t) ++ w ≡ h ++ (n ++ (l ++ (r ++ (t ++ w))))
+regrouped h n l r t w = simp append-assoc
 
-pub record-written : (o : List ℕ) (s : Session) (h n l r t : List ℕ) → length o ≡ 967 → InTypes s → h ≡ headBytes (s .head)
-    → n ≡ bytes16 (s .nodes) → l ≡ s .labels → r ≡ bytes16 (s .roots) → t ≡ s .states
-    → put 713 254 (put 205 508 (put 141 64 (put 13 128 (h ++ drop 13 o) n) l) r) t ≡ encoded s
+pub record-written : (o : List ℕ) (s : Session) (h n l r t w : List ℕ) → length o ≡ 975 → InTypes s → h ≡ headBytes (s .head)
+    → n ≡ bytes16 (s .nodes) → l ≡ s .labels → r ≡ bytes16 (s .roots) → t ≡ s .states → w ≡ lastBytes (s .head .last)
+    → put 967 8 (put 713 254 (put 205 508 (put 141 64 (put 13 128 (h ++ drop 13 o) n) l) r) t) w ≡ encoded s
 unfolding encoded
-record-written o s h n l r t e z eh en el er et =
+record-written o s h n l r t w e z eh en el er et ew =
     let lh : length h ≡ 13 = ap length eh in
     let ln : length n ≡ 128 = ap length en ∙ (bytes16-length (s .nodes) ∙ ap (λ (k : ℕ). 2 * k) (z .nodes-length)) in
     let ll : length l ≡ 64 = ap length el ∙ z .labels-length in
@@ -101,11 +107,22 @@ record-written o s h n l r t e z eh en el er et =
     let l₃ = joined ((h ++ n) ++ l) r 205 508 l₂ lr in
     let y = put 205 508 (put 141 64 (put 13 128 (h ++ drop 13 o) n) l) r in
     let x₄ = part-written y (((h ++ n) ++ l) ++ r) o t 713 254 x₃ l₃ in
-    x₄
-    ∙ (ap (λ (u : List ℕ). ((((h ++ n) ++ l) ++ r) ++ t) ++ u) (drop-of-length-le o {i = 967} (omega arith))
-    ∙ (append-nil ((((h ++ n) ++ l) ++ r) ++ t) ∙ (regrouped h n l r t ∙ rw (eh, en, el, er, et))))
+    let lt : length t ≡ 254 = ap length et ∙ z .states-length in
+    let l₄ = joined (((h ++ n) ++ l) ++ r) t 713 254 l₃ lt in
+    let x₅ = part-written (put 713 254 y t) ((((h ++ n) ++ l) ++ r) ++ t) o w 967 8 x₄ l₄ in
+    x₅
+    ∙ (ap (λ (u : List ℕ). (((((h ++ n) ++ l) ++ r) ++ t) ++ w) ++ u) (drop-of-length-le o {i = 975} (omega arith))
+    ∙ (append-nil (((((h ++ n) ++ l) ++ r) ++ t) ++ w) ∙ (regrouped h n l r t w ∙ rw (eh, en, el, er, et, ew))))
 
-pub head-read : (b : List ℕ) (p : Phase) (n links : ℕ) → p ≡ phaseAt (getD b 0 0) → n ≡ le16 b 4 → links ≡ le32 b 9
+pub last-read : (t : List ℕ) (links : ℕ) → links ≡ le32 t 4
+    → _≡_ {A = Last} (record {
+      present = eqb (getD t 0 0) 1;
+      outcome = record { state = getD t 1 0; yes = eqb (getD t 2 0) 1; parts = getD t 3 0; links = links };
+    }) (decodedLast t)
+last-read t links e = cc
+
+pub head-read : (b : List ℕ) (p : Phase) (n links : ℕ) (l : Last) → p ≡ phaseAt (getD b 0 0) → n ≡ le16 b 4 → links ≡ le32 b 9
+    → l ≡ decodedLast (run 967 8 b)
     → _≡_ {A = Head} (record {
       phase = p;
       yes = eqb (getD b 1 0) 1;
@@ -114,8 +131,9 @@ pub head-read : (b : List ℕ) (p : Phase) (n links : ℕ) → p ≡ phaseAt (ge
       parts = getD b 7 0;
       handled = getD b 8 0;
       links = links;
+      last = l;
     }) (decodedHead b)
-head-read b p n links e f g = cc
+head-read b p n links l e f g h = cc
 
 pub record-read : (b : List ℕ) (h : Head) (nodes labels roots states : List ℕ) → h ≡ decodedHead b
     → nodes ≡ numbers16 (run 13 128 b) → labels ≡ run 141 64 b → roots ≡ numbers16 (run 205 508 b) → states ≡ run 713 254 b

@@ -2,7 +2,9 @@
 --     behind, first-run       a run behind a list, and a run that is the list
 --     run-then                a run, and what stands behind it
 --     firsts-then             the bytes from a place on, one by one, and what stands behind them
---     head-same               a record's first bytes, field by field
+--     head-same, last-same    a record's first bytes, and its last eight, field by field
+--     run-at                  a byte of a run
+--     firsts-all              all bytes, one by one
 --     cons-fits, append-fits, run-fits, le32-fit
 --                             lists of bytes below 256
 --     phase-again, yes-again  the state of its number, the yes or no of its number; phase-number, yes-number: and back
@@ -10,12 +12,12 @@
 use Prim.Native.Nat.{ℕ, zero, suc, _+_, _≤_, _<_}
 use mathlib.Core.Path.{_≡_, refl, sym, ap, _∙_}
 use mathlib.Core.Bool.{Bool, true, false}
-use mathlib.Core.List.{List, [], _∷_, _++_}
+use mathlib.Core.List.{List, [], _∷_, _++_, append-nil}
 use native.Mathlib.Nat.{add-zero, add-suc, suc-add}
 use native.Mathlib.Omega.{arith}
 use lib.Dec.{eqb}
-use lib.ListN.{length, getD, take, drop, take-append-drop}
-use lib.Seq.{take-at, drop-append-add, drop-drop, getD-drop, drop-cons}
+use lib.ListN.{length, getD, take, drop, take-append-drop, drop-of-length-le}
+use lib.Seq.{take-at, drop-append-add, drop-drop, getD-drop, getD-take, drop-cons}
 use Rattle.formats.specs.Bytes.{le32Bytes}
 use Rattle.session.specs.declared.state.Phase.{Phase}
 use Rattle.session.specs.declared.state.Phase.the-variants.{Empty, Loaded, Running, Answered}
@@ -49,6 +51,18 @@ firsts-then b (suc n) i h =
 pub head-same : (a b m q h : ℕ) (p y p′ y′ : ℕ) (u v u′ v′ : List ℕ) → p ≡ p′ → y ≡ y′ → u ≡ u′ → v ≡ v′
     → p ∷ y ∷ a ∷ b ∷ (u ++ (m ∷ q ∷ h ∷ v)) ≡ p′ ∷ y′ ∷ a ∷ b ∷ (u′ ++ (m ∷ q ∷ h ∷ v′))
 head-same a b m q h p y p′ y′ u v u′ v′ e f g i = cc
+
+pub last-same : (s p : ℕ) (f y f′ y′ : ℕ) (v v′ : List ℕ) → f ≡ f′ → y ≡ y′ → v ≡ v′
+    → f ∷ s ∷ y ∷ p ∷ v ≡ f′ ∷ s ∷ y′ ∷ p ∷ v′
+last-same s p f y f′ y′ v v′ e g i = cc
+
+pub run-at : (b : List ℕ) (a n i : ℕ) → i < n → getD (run a n b) i 0 ≡ getD b (a + i) 0
+run-at b a n i h = getD-take n (drop a b) i 0 h ∙ getD-drop a b i 0
+
+pub firsts-all : (b : List ℕ) (n : ℕ) → length b ≡ n → b ≡ firsts n 0 b
+firsts-all b n e =
+    firsts-then b n 0 (omega arith)
+    ∙ (ap (λ (t : List ℕ). firsts n 0 b ++ t) (drop-of-length-le b {i = 0 + n} (omega arith)) ∙ append-nil (firsts n 0 b))
 
 pub cons-fits : (x : ℕ) (l : List ℕ) → x < 256 → Bytes l → Bytes (x ∷ l)
 cons-fits x l h f zero = h

@@ -1,13 +1,13 @@
 -- The record's bytes and the bytes' record are each other's.
 --     decode-encode       the struct of a struct's bytes is the struct, whatever its types allow
 --     encode-decode       the bytes of the struct of a record are the record; encode-laid: of any bytes that are laid out
---     encoded-length      967 bytes, each below 256 (encoded-bytes)
---     fresh-bytes         a fresh session's bytes are 967 zeros, and fresh-valid: they are a record
+--     encoded-length      975 bytes, each below 256 (encoded-bytes)
+--     fresh-bytes         a fresh session's bytes are 975 zeros, and fresh-valid: they are a record
 --     encoded-valid       the bytes of a valid struct are a record
 --     decoded-valid       the struct of a record is valid
 --     decoded-types       what types say holds of the struct of bytes
 -- Assumes nothing.
-use Prim.Native.Nat.{ℕ, _*_, _/_, _%_, _≤_}
+use Prim.Native.Nat.{ℕ, _+_, _*_, _/_, _%_, _≤_, _<_}
 use mathlib.Core.Path.{_≡_, refl, sym, ap, _∙_}
 use mathlib.Core.Bool.{true, _&&_}
 use mathlib.Core.List.{List, _++_}
@@ -21,12 +21,13 @@ use Rattle.formats.proofs.ByteLaws.{bytes-number, number-bytes}
 use Rattle.list_laws.proofs.SliceLaws.{length-part}
 use Rattle.list_laws.proofs.BoolLaws.{and-left, and-right, and-both}
 use Rattle.session.specs.declared.state.Session.{Session}
-use Rattle.session.specs.Records.{zeroFrom, noQuestion, validIn, valid, freshSession}
-use Rattle.records.specs.Layout.{numbers16, bytes16, phaseByte, yesByte, headBytes, restBytes, encoded}
-use Rattle.records.specs.Layout.{run, decodedHead, decoded, laidOut, validBytes, InTypes, Bytes}
+use Rattle.session.specs.declared.state.Last.{Last}
+use Rattle.session.specs.Records.{zeroFrom, noQuestion, isNone, validIn, valid, freshSession}
+use Rattle.records.specs.Layout.{numbers16, bytes16, phaseByte, yesByte, headBytes, lastBytes, restBytes, encoded}
+use Rattle.records.specs.Layout.{run, decodedHead, decodedLast, decoded, flagsFit, laidOut, validBytes, InTypes, Bytes}
 use Rattle.records.proofs.NumberLaws.{bytes-two, two-bytes, bytes16-length, numbers16-length}
 use Rattle.records.proofs.NumberLaws.{numbers-bytes, bytes-numbers, bytes16-fit, numbers16-fit}
-use Rattle.records.proofs.RunLaws.{behind, first-run, run-then, firsts, firsts-then, head-same}
+use Rattle.records.proofs.RunLaws.{behind, first-run, run-then, run-at, firsts, firsts-then, firsts-all, head-same, last-same}
 use Rattle.records.proofs.RunLaws.{cons-fits, append-fits, run-fits, le32-fit}
 use Rattle.records.proofs.RunLaws.{phase-again, yes-again, phase-most, yes-most, phase-number, yes-number}
 use Rattle.records.proofs.ByteTests.{laid-length, record-read}
@@ -40,42 +41,70 @@ module _ (s : Session) (t : InTypes s) where
   roots-long : length (bytes16 (s .roots)) ≡ 508
   roots-long = bytes16-length (s .roots) ∙ ap (λ (k : ℕ). 2 * k) (t .roots-length)
 
-  pub encoded-length : length (encoded s) ≡ 967
+  pub encoded-length : length (encoded s) ≡ 975
   unfolding encoded
   encoded-length =
       let e = nodes-long in
       let f = roots-long in
+      let l = t .labels-length in
+      let r = t .states-length in
       simp length-append (omega arith)
+
+  -- what stands behind the head, the nodes, the labels and the roots
+  abbrev tail : List ℕ
+  tail = s .states ++ lastBytes (s .head .last)
 
   encoded-nodes : run 13 128 (encoded s) ≡ bytes16 (s .nodes)
   unfolding encoded
   encoded-nodes =
       behind (headBytes (s .head)) (restBytes s) 13 0 128 refl
-      ∙ first-run (bytes16 (s .nodes)) (s .labels ++ (bytes16 (s .roots) ++ s .states)) 128 nodes-long
+      ∙ first-run (bytes16 (s .nodes)) (s .labels ++ (bytes16 (s .roots) ++ tail)) 128 nodes-long
 
   encoded-labels : run 141 64 (encoded s) ≡ s .labels
   unfolding encoded
   encoded-labels =
       behind (headBytes (s .head)) (restBytes s) 13 128 64 refl
-      ∙ behind (bytes16 (s .nodes)) (s .labels ++ (bytes16 (s .roots) ++ s .states)) 128 0 64 nodes-long
-      ∙ first-run (s .labels) (bytes16 (s .roots) ++ s .states) 64 (t .labels-length)
+      ∙ behind (bytes16 (s .nodes)) (s .labels ++ (bytes16 (s .roots) ++ tail)) 128 0 64 nodes-long
+      ∙ first-run (s .labels) (bytes16 (s .roots) ++ tail) 64 (t .labels-length)
 
   encoded-roots : run 205 508 (encoded s) ≡ bytes16 (s .roots)
   unfolding encoded
   encoded-roots =
       behind (headBytes (s .head)) (restBytes s) 13 192 508 refl
-      ∙ behind (bytes16 (s .nodes)) (s .labels ++ (bytes16 (s .roots) ++ s .states)) 128 64 508 nodes-long
-      ∙ behind (s .labels) (bytes16 (s .roots) ++ s .states) 64 0 508 (t .labels-length)
-      ∙ first-run (bytes16 (s .roots)) (s .states) 508 roots-long
+      ∙ behind (bytes16 (s .nodes)) (s .labels ++ (bytes16 (s .roots) ++ tail)) 128 64 508 nodes-long
+      ∙ behind (s .labels) (bytes16 (s .roots) ++ tail) 64 0 508 (t .labels-length)
+      ∙ first-run (bytes16 (s .roots)) tail 508 roots-long
 
   encoded-states : run 713 254 (encoded s) ≡ s .states
   unfolding encoded
   encoded-states =
       behind (headBytes (s .head)) (restBytes s) 13 700 254 refl
-      ∙ behind (bytes16 (s .nodes)) (s .labels ++ (bytes16 (s .roots) ++ s .states)) 128 572 254 nodes-long
-      ∙ behind (s .labels) (bytes16 (s .roots) ++ s .states) 64 508 254 (t .labels-length)
-      ∙ behind (bytes16 (s .roots)) (s .states) 508 0 254 roots-long
-      ∙ take-all 254 (s .states) (omega (arith, t .states-length))
+      ∙ behind (bytes16 (s .nodes)) (s .labels ++ (bytes16 (s .roots) ++ tail)) 128 572 254 nodes-long
+      ∙ behind (s .labels) (bytes16 (s .roots) ++ tail) 64 508 254 (t .labels-length)
+      ∙ behind (bytes16 (s .roots)) tail 508 0 254 roots-long
+      ∙ first-run (s .states) (lastBytes (s .head .last)) 254 (t .states-length)
+
+  encoded-last : run 967 8 (encoded s) ≡ lastBytes (s .head .last)
+  unfolding encoded
+  encoded-last =
+      behind (headBytes (s .head)) (restBytes s) 13 954 8 refl
+      ∙ behind (bytes16 (s .nodes)) (s .labels ++ (bytes16 (s .roots) ++ tail)) 128 826 8 nodes-long
+      ∙ behind (s .labels) (bytes16 (s .roots) ++ tail) 64 762 8 (t .labels-length)
+      ∙ behind (bytes16 (s .roots)) tail 508 254 8 roots-long
+      ∙ behind (s .states) (lastBytes (s .head .last)) 254 0 8 (t .states-length)
+
+  -- a byte of the answer that is kept
+  last-at : (i : ℕ) → i < 8 → getD (encoded s) (967 + i) 0 ≡ getD (lastBytes (s .head .last)) i 0
+  last-at i h = sym (run-at (encoded s) 967 8 i h) ∙ ap (λ (l : List ℕ). getD l i 0) encoded-last
+
+  last-read-again : decodedLast (run 967 8 (encoded s)) ≡ s .head .last
+  last-read-again =
+      ap decodedLast encoded-last
+      ∙ rw (
+        yes-again (s .head .last .present),
+        yes-again (s .head .last .outcome .yes),
+        bytes-number (s .head .last .outcome .links) (t .last-links-fit),
+      )
 
   -- the numbers of the head, read where they were written
   head-read : decodedHead (encoded s) ≡ s .head
@@ -86,6 +115,7 @@ module _ (s : Session) (t : InTypes s) where
         yes-again (s .head .yes),
         bytes-two (s .head .sizes .n) (t .n-fits),
         bytes-number (s .head .links) (t .links-fit),
+        last-read-again,
       )
 
   pub decode-encode : decoded (encoded s) ≡ s
@@ -99,8 +129,15 @@ module _ (s : Session) (t : InTypes s) where
   encoded-laid : laidOut (encoded s) ≡ true
   unfolding laidOut encoded
   encoded-laid =
-      rw (eq-eqb (length (encoded s)) 967 encoded-length, le-leb (phaseByte (s .head .phase)) 3 (phase-most (s .head .phase)))
-      (le-leb (yesByte (s .head .yes)) 1 (yes-most (s .head .yes)))
+      rw (
+        eq-eqb (length (encoded s)) 975 encoded-length,
+        le-leb (phaseByte (s .head .phase)) 3 (phase-most (s .head .phase)),
+        le-leb (yesByte (s .head .yes)) 1 (yes-most (s .head .yes)),
+        last-at 0 (omega arith),
+        last-at 2 (omega arith),
+        le-leb (yesByte (s .head .last .present)) 1 (yes-most (s .head .last .present)),
+      )
+      (le-leb (yesByte (s .head .last .outcome .yes)) 1 (yes-most (s .head .last .outcome .yes)))
 
   pub encoded-valid : valid s ≡ true → validBytes (encoded s) ≡ true
   unfolding validBytes
@@ -119,18 +156,34 @@ module _ (s : Session) (t : InTypes s) where
       (cons-fits (s .head .parts) (drop 8 (headBytes (s .head))) (t .parts-fit)
       (cons-fits (s .head .handled) (drop 9 (headBytes (s .head))) (t .handled-fits) (le32-fit (s .head .links))))))))))
 
+  last-bytes-fit : Bytes (lastBytes (s .head .last))
+  last-bytes-fit =
+      let l = s .head .last in
+      cons-fits (yesByte (l .present)) (drop 1 (lastBytes l)) (omega (arith, yes-most (l .present)))
+      (cons-fits (l .outcome .state) (drop 2 (lastBytes l)) (t .last-state-fits)
+      (cons-fits (yesByte (l .outcome .yes)) (drop 3 (lastBytes l)) (omega (arith, yes-most (l .outcome .yes)))
+      (cons-fits (l .outcome .parts) (drop 4 (lastBytes l)) (t .last-parts-fit) (le32-fit (l .outcome .links)))))
+
   pub encoded-bytes : Bytes (encoded s)
   unfolding encoded
   encoded-bytes =
       append-fits (headBytes (s .head)) (restBytes s) head-fits
-      (append-fits (bytes16 (s .nodes)) (s .labels ++ (bytes16 (s .roots) ++ s .states)) (bytes16-fit (s .nodes))
-      (append-fits (s .labels) (bytes16 (s .roots) ++ s .states) (t .labels-fit)
-      (append-fits (bytes16 (s .roots)) (s .states) (bytes16-fit (s .roots)) (t .states-fit))))
+      (append-fits (bytes16 (s .nodes)) (s .labels ++ (bytes16 (s .roots) ++ tail)) (bytes16-fit (s .nodes))
+      (append-fits (s .labels) (bytes16 (s .roots) ++ tail) (t .labels-fit)
+      (append-fits (bytes16 (s .roots)) tail (bytes16-fit (s .roots))
+      (append-fits (s .states) (lastBytes (s .head .last)) (t .states-fit) last-bytes-fit))))
 
 -- ---- the bytes of the struct of bytes
 
 module _ (b : List ℕ) where
-  module _ (long : length b ≡ 967) (fits : Bytes b) where
+  module _ (long : length b ≡ 975) (fits : Bytes b) where
+    -- the bytes of the answer that is kept
+    kept-length : length (run 967 8 b) ≡ 8
+    kept-length = length-part b 967 8 (omega arith)
+
+    kept-fits : Bytes (run 967 8 b)
+    kept-fits = run-fits b 967 8 fits
+
     pub decoded-types : InTypes (decoded b)
     unfolding decoded
     decoded-types = record {
@@ -141,6 +194,9 @@ module _ (b : List ℕ) where
       parts-fit = fits 7;
       handled-fits = fits 8;
       links-fit = omega (arith, fits 9, fits 10, fits 11, fits 12);
+      last-state-fits = kept-fits 1;
+      last-parts-fit = kept-fits 3;
+      last-links-fit = omega (arith, kept-fits 4, kept-fits 5, kept-fits 6, kept-fits 7);
       nodes-length = numbers16-length (run 13 128 b) 64 (length-part b 13 128 (omega arith));
       labels-length = length-part b 141 64 (omega arith);
       roots-length = numbers16-length (run 205 508 b) 254 (length-part b 205 508 (omega arith));
@@ -158,13 +214,25 @@ module _ (b : List ℕ) where
         (two-bytes (getD b 4 0) (getD b 5 0) (fits 4) (fits 5))
         (number-bytes (getD b 9 0) (getD b 10 0) (getD b 11 0) (getD b 12 0) (fits 9) (fits 10) (fits 11) (fits 12))
 
-    rest-again : restBytes (decoded b) ≡ drop 13 b
+    last-again : getD b 967 0 ≤ 1 → getD b 969 0 ≤ 1 → lastBytes (decodedLast (run 967 8 b)) ≡ drop 967 b
+    unfolding firsts
+    last-again p y =
+        let r = run 967 8 b in
+        let e : getD r 0 0 ≤ 1 = rw (run-at b 967 8 0 (omega arith)) p in
+        let f : getD r 2 0 ≤ 1 = rw (run-at b 967 8 2 (omega arith)) y in
+        last-same _ _ _ _ _ _ _ _ (yes-number (getD r 0 0) e) (yes-number (getD r 2 0) f)
+        (number-bytes (getD r 4 0) (getD r 5 0) (getD r 6 0) (getD r 7 0) (kept-fits 4) (kept-fits 5) (kept-fits 6) (kept-fits 7))
+        ∙ sym (firsts-all r 8 kept-length)
+        ∙ take-all 8 (drop 967 b) (simp length-drop (omega arith))
+
+    rest-again : lastBytes (decodedLast (run 967 8 b)) ≡ drop 967 b → restBytes (decoded b) ≡ drop 13 b
     unfolding decoded
-    rest-again =
+    rest-again l =
         rw (
+          l,
           bytes-numbers (run 13 128 b) 64 (length-part b 13 128 (omega arith)) (run-fits b 13 128 fits),
           bytes-numbers (run 205 508 b) 254 (length-part b 205 508 (omega arith)) (run-fits b 205 508 fits),
-          take-all 254 (drop 713 b) (simp length-drop (omega arith)),
+          run-then b 713 254,
           run-then b 205 508,
           run-then b 141 64,
         )
@@ -173,11 +241,17 @@ module _ (b : List ℕ) where
     pub encode-laid : laidOut b ≡ true → encoded (decoded b) ≡ b
     unfolding laidOut encoded
     encode-laid e =
-        let q = and-right (eqb (length b) 967) (leb (getD b 0 0) 3 && leb (getD b 1 0) 1) e in
-        let p = leb-true (getD b 0 0) 3 (and-left (leb (getD b 0 0) 3) (leb (getD b 1 0) 1) q) in
-        let y = leb-true (getD b 1 0) 1 (and-right (leb (getD b 0 0) 3) (leb (getD b 1 0) 1) q) in
+        let own = leb (getD b 0 0) 3 && leb (getD b 1 0) 1 in
+        let kept = leb (getD b 967 0) 1 && leb (getD b 969 0) 1 in
+        let q = and-right (eqb (length b) 975) (flagsFit b) e in
+        let o = and-left own kept q in
+        let w = and-right own kept q in
+        let p = leb-true (getD b 0 0) 3 (and-left (leb (getD b 0 0) 3) (leb (getD b 1 0) 1) o) in
+        let y = leb-true (getD b 1 0) 1 (and-right (leb (getD b 0 0) 3) (leb (getD b 1 0) 1) o) in
+        let i = leb-true (getD b 967 0) 1 (and-left (leb (getD b 967 0) 1) (leb (getD b 969 0) 1) w) in
+        let j = leb-true (getD b 969 0) 1 (and-right (leb (getD b 967 0) 1) (leb (getD b 969 0) 1) w) in
         ap (λ (h : List ℕ). h ++ restBytes (decoded b)) (head-again p y)
-        ∙ ap (λ (r : List ℕ). firsts 13 0 b ++ r) rest-again
+        ∙ ap (λ (r : List ℕ). firsts 13 0 b ++ r) (rest-again (last-again i j))
         ∙ sym (firsts-then b 13 0 (omega arith))
 
   pub encode-decode : validBytes b ≡ true → Bytes b → encoded (decoded b) ≡ b
@@ -192,10 +266,10 @@ module _ (b : List ℕ) where
 
 -- ---- a fresh record
 
-pub fresh-bytes : encoded freshSession ≡ replicate 967 0
+pub fresh-bytes : encoded freshSession ≡ replicate 975 0
 unfolding encoded bytes16
 fresh-bytes = refl
 
-pub fresh-valid : validBytes (replicate 967 0) ≡ true
-unfolding validBytes laidOut decoded numbers16 valid validIn noQuestion zeroFrom allBelow
+pub fresh-valid : validBytes (replicate 975 0) ≡ true
+unfolding validBytes laidOut decoded numbers16 valid validIn noQuestion isNone zeroFrom allBelow
 fresh-valid = refl

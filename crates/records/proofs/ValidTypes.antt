@@ -5,6 +5,7 @@
 use Prim.Native.Nat.{ℕ, _-_, _≤_, _<_}
 use mathlib.Core.Path.{_≡_, refl, sym, subst}
 use mathlib.Core.Bool.{true}
+use mathlib.Core.Option.{Option, none, some}
 use mathlib.Core.List.{List, [], _∷_, _++_}
 use native.Mathlib.Omega.{arith}
 use lib.Dec.{ltb}
@@ -15,10 +16,12 @@ use Rattle.list_laws.proofs.TestLaws.{allBelow-all, allBelow-le, at-allBelow}
 use Rattle.model.specs.Calls as calls
 use Rattle.model.specs.Model.{Record, idle, freshRecord}
 use Rattle.session.specs.declared.state.Session.{Session}
-use Rattle.session.specs.Records.{sessionOf, recordOf, padded, valid}
+use Rattle.session.specs.declared.state.Last.{Last}
+use Rattle.session.specs.Records.{sessionOf, recordOf, lastTo, padded, valid}
 use Rattle.session.specs.inner.Shapes.{Shaped}
 use Rattle.session.proofs.PadLaws.{zero-replicate, length-padded}
-use Rattle.session.proofs.Holds.{Sized, Asked, Holds, HoldsIn, holds-of, struct-is}
+use Rattle.session.proofs.Holds.{Sized, Asked, Holds, HoldsIn, holds-of, last-fits, struct-is}
+use Rattle.session.proofs.LastLaws.{LastFits}
 use Rattle.session.proofs.ActLaws.{rises-below}
 use Rattle.records.specs.Layout.{InTypes}
 
@@ -51,10 +54,24 @@ record Small (r : Record) : Type 0 where
   roots-small : allBelow 65536 (r .roots) ≡ true
   states-small : allBelow 256 (r .states) ≡ true
 
+-- and of its last finished answer
+record LastSmall (l : Last) : Type 0 where
+  state-small : l .outcome .state < 256
+  parts-small : l .outcome .parts < 256
+  links-small : l .outcome .links < 4294967296
+
+last-small : (s : ℕ) (o : Option calls.Outcome) → s < 256 → LastFits s o → LastSmall (lastTo o)
+last-small s none h f = record { state-small = omega arith; parts-small = omega arith; links-small = omega arith }
+last-small s (some o) h f = record {
+  state-small = omega (arith, f .state);
+  parts-small = omega (arith, f .few-parts);
+  links-small = omega (arith, f .few-parts, f .few-links);
+}
+
 module _ (r : Record) where
-  small-types : Small r → InTypes (sessionOf r)
+  small-types : Small r → LastSmall (lastTo (r .last)) → InTypes (sessionOf r)
   unfolding sessionOf
-  small-types z = record {
+  small-types z l = record {
     n-fits = z .n-small;
     s-fits = z .s-small;
     k-fits = z .k-small;
@@ -62,6 +79,9 @@ module _ (r : Record) where
     parts-fit = omega (arith, z .few-roots);
     handled-fits = omega (arith, z .few-states);
     links-fit = z .links-small;
+    last-state-fits = l .state-small;
+    last-parts-fit = l .parts-small;
+    last-links-fit = l .links-small;
     nodes-length = length-padded 64 (r .nodes) (z .few);
     labels-length = length-padded 64 (r .labels) (z .few-labels);
     roots-length = length-padded 254 (r .roots) (z .few-roots);
@@ -107,7 +127,7 @@ module _ (r : Record) where
         states-small = refl;
       })
   small-in calls.Phase.loaded e =
-      subst (λ (t : Record). Small t) (sym (e .1))
+      subst (λ (t : Record). Small t) (sym (e .2))
       (record {
         n-small = omega (arith, e .0 .nodes-most);
         s-small = omega (arith, e .0 .states-most);
@@ -126,7 +146,9 @@ module _ (r : Record) where
   small-in calls.Phase.answered g = asked-small (g .sizes) (g .asked) (omega (arith, g .handled))
 
   pub record-types : Holds r → InTypes (sessionOf r)
-  record-types h = small-types (small-in (r .phase) h)
+  record-types h =
+      let z = small-in (r .phase) h in
+      small-types z (last-small (r .sizes .s) (r .last) (z .s-small) (last-fits (r .phase) r h))
 
 pub valid-types : (s : Session) → Shaped s → valid s ≡ true → InTypes s
 valid-types s h v = subst (λ (t : Session). InTypes t) (struct-is s h v) (record-types (recordOf s) (holds-of s h v))

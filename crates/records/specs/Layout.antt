@@ -1,4 +1,4 @@
--- The session's record as bytes, layout version 1. A fresh record is 967 zero bytes; later versions append.
+-- The session's record as bytes, layout version 2. A fresh record is 975 zero bytes; later versions append.
 --
 --     offset  bytes   holds
 --          0      1   state: 0 empty, 1 loaded, 2 running, 3 answered
@@ -14,13 +14,20 @@
 --        141     64   labels as listed, 64 bytes
 --        205    508   roots of the parts, 254 numbers of two bytes
 --        713    254   states of the parts, 254 bytes
+--        967      1   1 where a finished answer is kept, else 0
+--        968      1   its state
+--        969      1   its yes or no: 1 or 0
+--        970      1   how many parts it has
+--        971      4   its links
 --
 -- numbers16 b == the 16-bit numbers that b holds, two bytes each; an odd byte at the end is left out
 -- bytes16 l == the bytes of the numbers l, two each
--- encoded s == the bytes of a struct: those of its head, headBytes, the first 13, and restBytes s
+-- lastBytes l == the eight bytes of a finished answer, or of none
+-- encoded s == the bytes of a struct: those of its head, headBytes, the first 13, and restBytes s, whose last eight are lastBytes
 -- decoded b == the struct of bytes, decodedHead b its head, each field read at its offset; a byte past the end counts 0, a state above 3 as
---   answered, and only 1 as yes
--- laidOut b == whether there are 967 bytes, the state is at most 3 and the yes or no at most 1
+--   answered, and only 1 as yes, or as an answer that is kept
+-- decodedLast t == the finished answer of eight bytes
+-- laidOut b == whether there are 975 bytes, the state is at most 3, and both yes or no and whether an answer is kept are at most 1
 -- validBytes b == whether b is a record: laid out, and its struct is valid (crate session, Records)
 -- InTypes s == what the struct's types say of its fields; Bytes b == what the type of bytes says of theirs
 --
@@ -38,11 +45,12 @@ use Rattle.formats.specs.Bytes.{le16, le16Bytes, le32, le32Bytes}
 use Rattle.session.specs.declared.state.Phase.{Phase}
 use Rattle.session.specs.declared.state.Phase.the-variants.{Empty, Loaded, Running, Answered}
 use Rattle.session.specs.declared.state.Head.{Head}
+use Rattle.session.specs.declared.state.Last.{Last}
 use Rattle.session.specs.declared.state.Session.{Session}
 use Rattle.session.specs.Records.{valid}
 
 abbrev pub recordLength : ℕ
-recordLength = 967
+recordLength = 975
 
 -- ---- numbers of two bytes
 
@@ -77,8 +85,13 @@ headBytes h =
     phaseByte (h .phase) ∷ yesByte (h .yes) ∷ h .sizes .s ∷ h .sizes .k
     ∷ (le16Bytes (h .sizes .n) ++ (h .m ∷ h .parts ∷ h .handled ∷ le32Bytes (h .links)))
 
+abbrev pub lastBytes : Last → List ℕ
+lastBytes l =
+    yesByte (l .present) ∷ l .outcome .state ∷ yesByte (l .outcome .yes) ∷ l .outcome .parts ∷ le32Bytes (l .outcome .links)
+
 abbrev pub restBytes : Session → List ℕ
-restBytes s = bytes16 (s .nodes) ++ (s .labels ++ (bytes16 (s .roots) ++ s .states))
+restBytes s =
+    bytes16 (s .nodes) ++ (s .labels ++ (bytes16 (s .roots) ++ (s .states ++ lastBytes (s .head .last))))
 
 unfoldable pub encoded : Session → List ℕ
 encoded s = headBytes (s .head) ++ restBytes s
@@ -89,6 +102,12 @@ encoded s = headBytes (s .head) ++ restBytes s
 abbrev pub run : ℕ → ℕ → List ℕ → List ℕ
 run at n b = take n (drop at b)
 
+abbrev pub decodedLast : List ℕ → Last
+decodedLast t = record {
+  present = eqb (getD t 0 0) 1;
+  outcome = record { state = getD t 1 0; yes = eqb (getD t 2 0) 1; parts = getD t 3 0; links = le32 t 4 };
+}
+
 abbrev pub decodedHead : List ℕ → Head
 decodedHead b = record {
   phase = phaseAt (getD b 0 0);
@@ -98,6 +117,7 @@ decodedHead b = record {
   parts = getD b 7 0;
   handled = getD b 8 0;
   links = le32 b 9;
+  last = decodedLast (run 967 8 b);
 }
 
 unfoldable pub decoded : List ℕ → Session
@@ -111,8 +131,11 @@ decoded b = record {
 
 -- ---- tests
 
+abbrev pub flagsFit : List ℕ → Bool
+flagsFit b = (leb (getD b 0 0) 3 && leb (getD b 1 0) 1) && (leb (getD b 967 0) 1 && leb (getD b 969 0) 1)
+
 unfoldable pub laidOut : List ℕ → Bool
-laidOut b = eqb (length b) recordLength && (leb (getD b 0 0) 3 && leb (getD b 1 0) 1)
+laidOut b = eqb (length b) recordLength && flagsFit b
 
 unfoldable pub validBytes : List ℕ → Bool
 validBytes b = laidOut b && valid (decoded b)
@@ -127,6 +150,9 @@ pub record InTypes (s : Session) : Type 0 where
   pub parts-fit : s .head .parts < 256
   pub handled-fits : s .head .handled < 256
   pub links-fit : s .head .links < 4294967296
+  pub last-state-fits : s .head .last .outcome .state < 256
+  pub last-parts-fit : s .head .last .outcome .parts < 256
+  pub last-links-fit : s .head .last .outcome .links < 4294967296
   pub nodes-length : length (s .nodes) ≡ 64
   pub labels-length : length (s .labels) ≡ 64
   pub roots-length : length (s .roots) ≡ 254

@@ -4,7 +4,9 @@ use crate::numbers::get_numbers;
 use crate::numbers::number16;
 use crate::numbers::number32;
 use crate::numbers::put_numbers;
+use session::answers::Outcome;
 use session::state::Head;
+use session::state::Last;
 use session::state::Phase;
 use session::state::Session;
 use session::state::Sizes;
@@ -12,8 +14,8 @@ ghost use mathlib.Core.Path.{_≡_};
 ghost use mathlib.Core.Bool.{cond};
 ghost use lib.Dec.{eqb};
 ghost use lib.ListN.{length};
-ghost use Rattle.records.specs.Layout.{recordLength, phaseByte, phaseAt, yesByte, headBytes, encoded};
-ghost use Rattle.records.specs.Layout.{decodedHead, decoded, laidOut, validBytes};
+ghost use Rattle.records.specs.Layout.{recordLength, phaseByte, phaseAt, yesByte, headBytes, lastBytes, encoded};
+ghost use Rattle.records.specs.Layout.{decodedHead, decodedLast, decoded, laidOut, validBytes};
 
 // The number of a state.
 fn phase_byte(phase: Phase) -> u8
@@ -50,7 +52,24 @@ fn yes_byte(yes: bool) -> u8
     if yes { 1 } else { 0 }
 }
 
-// The head of a record's first 13 bytes.
+// The finished answer of a record's last eight bytes.
+fn decode_last(bytes: &[u8]) -> Last
+    requires { ⌜ length (now bytes) ≡ 8 ⌝ }
+    ensures { λ r. ⌜ r ≡ decodedLast (now (bytes .entry)) ⌝ }
+{
+    let outcome = Outcome {
+        state: bytes[1],
+        yes: bytes[2] == 1,
+        parts: bytes[3],
+        links: number32(bytes, 4),
+    };
+    Last {
+        present: bytes[0] == 1,
+        outcome,
+    }
+}
+
+// The head of a record's first 13 bytes and of its last eight.
 fn decode_head(bytes: &[u8]) -> Head
     requires { ⌜ length (now bytes) ≡ recordLength ⌝ }
     ensures { λ r. ⌜ r ≡ decodedHead (now (bytes .entry)) ⌝ }
@@ -68,15 +87,15 @@ fn decode_head(bytes: &[u8]) -> Head
         parts: bytes[7],
         handled: bytes[8],
         links: number32(bytes, 9),
+        last: decode_last(&bytes[967..975]),
     }
 }
 
-// The struct of 967 bytes.
+// The struct of 975 bytes.
 pub fn decode(bytes: &[u8]) -> Session
     requires { ⌜ length (now bytes) ≡ recordLength ⌝ }
     ensures { λ r. ⌜ r ≡ decoded (now (bytes .entry)) ⌝ }
 {
-    let head = decode_head(bytes);
     let mut nodes = [0u16; 64];
     get_numbers(&bytes[13..141], &mut nodes);
     let mut labels = [0u8; 64];
@@ -85,6 +104,7 @@ pub fn decode(bytes: &[u8]) -> Session
     get_numbers(&bytes[205..713], &mut roots);
     let mut states = [0u8; 254];
     copy_bytes(&bytes[713..967], &mut states);
+    let head = decode_head(bytes);
     Session {
         head,
         nodes,
@@ -115,12 +135,28 @@ fn put_head(h: Head, out: &mut [u8])
     out[12] = (h.links / 16777216 % 256) as u8;
 }
 
-// The bytes of a record. A buffer that has not 967 bytes is left as it is.
+// The last eight bytes of a record.
+fn put_last(l: Last, out: &mut [u8])
+    requires { ⌜ length (now out) ≡ 8 ⌝ }
+    ensures { λ _. ⌜ now (out .exit) ≡ lastBytes l ⌝ }
+{
+    let o = l.outcome;
+    out[0] = yes_byte(l.present);
+    out[1] = o.state;
+    out[2] = yes_byte(o.yes);
+    out[3] = o.parts;
+    out[4] = (o.links % 256) as u8;
+    out[5] = (o.links / 256 % 256) as u8;
+    out[6] = (o.links / 65536 % 256) as u8;
+    out[7] = (o.links / 16777216 % 256) as u8;
+}
+
+// The bytes of a record. A buffer that has not 975 bytes is left as it is.
 pub fn encode(rec: Session, out: &mut [u8])
     ensures { λ _. ⌜
         now (out .exit) ≡ cond (eqb (length (now (out .entry))) recordLength) (encoded rec) (now (out .entry)) ⌝ }
 {
-    if out.len() != 967 {
+    if out.len() != 975 {
         return;
     }
     put_head(rec.head, &mut out[..13]);
@@ -128,16 +164,19 @@ pub fn encode(rec: Session, out: &mut [u8])
     copy_bytes(&rec.labels, &mut out[141..205]);
     put_numbers(&rec.roots, &mut out[205..713]);
     copy_bytes(&rec.states, &mut out[713..967]);
+    put_last(rec.head.last, &mut out[967..975]);
 }
 
-// Whether there are 967 bytes, the state is at most 3 and the yes or no at most 1.
+// Whether there are 975 bytes, the state is at most 3, and both yes or no and whether an answer is kept are at most 1.
 pub fn laid_out(bytes: &[u8]) -> bool
     ensures { λ r. ⌜ r ≡ laidOut (now (bytes .entry)) ⌝ }
 {
-    if bytes.len() != 967 {
+    if bytes.len() != 975 {
         return false;
     }
-    (bytes[0] <= 3) & (bytes[1] <= 1)
+    let own = (bytes[0] <= 3) & (bytes[1] <= 1);
+    let kept = (bytes[967] <= 1) & (bytes[969] <= 1);
+    own & kept
 }
 
 // Whether bytes are a record.

@@ -19,7 +19,7 @@ use Rattle.formats.specs.Checks.{check, firstNo}
 use Rattle.list_laws.proofs.BoolLaws.{true-false, and-both, and-left, and-right}
 use Rattle.formats.proofs.CheckLaws.{firstNo-head, firstNo-tail}
 use Rattle.tables.specs.declared.answers.Reached.{Reached}
-use Rattle.ready.specs.Parts.{Given, Part, part, partOf, partsFrom, statesOf}
+use Rattle.ready.specs.Parts.{Given, Part, part, partOf, partsFrom, statesOf, lastState}
 use Rattle.ready.proofs.PartsRun.{nodes-more}
 use Rattle.questions.specs.Part.{partOn}
 use Rattle.questions.specs.OutOfRange.{PartOutOfRange}
@@ -30,13 +30,13 @@ use Rattle.questions.proofs.PartBounds.{part-bounded}
 use Rattle.trees.proofs.MoveLaws.{none-some}
 use Rattle.ready.proofs.PartsRun.{nodes-more}
 use Rattle.formats.specs.Inputs.{Inputs, Sizes, fits, sameNodeInputs, sameInputs, statesBelow}
-use Rattle.model.specs.Calls.{advance, more, finished, Phase, isRunning}
+use Rattle.model.specs.Calls.{advance, more, finished, Outcome, outcome, outcomeAnswer, Phase, isRunning, isSome}
 use Rattle.model.specs.Refusals.{stage, refusal}
 use Rattle.model.specs.PartInputs.{givenOf}
 use Rattle.reference.specs.Reference.{Settlement, clean, byRule, byProgram, Question, State, settled, phase}
 use Rattle.reference.specs.Reference.{inState, leftOf, rootsOf, partCount, givenBy, longer, advanced, goesOn, otherStates}
 use Rattle.reference.specs.Reference.{mayAdvanceWith, byAnswer, advancingByProgram, advancingByRule, advancing}
-use Rattle.reference.specs.Reference.{proceed}
+use Rattle.reference.specs.Reference.{proceed, finishedWith, ruleAnswer}
 use Rattle.model.specs.Model.{Record, acted, viewBy, marksBy, stepped, advanceWith, partNext, proceeds}
 use Rattle.model.proofs.ModelLaws.{advance-fits, left-below, marks-built}
 use Rattle.model.proofs.Facts.{reachedBy, nextRoot, Layers}
@@ -46,9 +46,8 @@ use Rattle.formats.proofs.InputsLaws.{Built, Same, plan-of, node-table-built, s
 use Rattle.formats.proofs.InputsLaws.{same-state-table}
 use Rattle.reference.proofs.FreshLaws.{part-state, given-same, sound-below}
 use Rattle.reference.proofs.CauseLaws.{advance-cause}
-use Rattle.reference.proofs.Relation.{Parted, Counted, Cleanly, SomeParted, SettledAs, Unended, Marked, Ended}
-use Rattle.reference.proofs.Relation.{Rel}
-use Rattle.reference.proofs.Simulation.{Sim, referenceOf, Simulates, some-number, by-refusal, does}
+use Rattle.reference.proofs.Relation.{Parted, Counted, Cleanly, SomeParted, SettledAs, Unended, Told, Rel}
+use Rattle.reference.proofs.Simulation.{Sim, referenceOf, Simulates, some-number, by-refusal, does, outcome-same, rule-fresh}
 
 -- ---- other bytes
 
@@ -131,7 +130,8 @@ parted-more r z q ps p l y b f m k tr = record {
 
 -- ---- one advance
 
-module _ (L : Layers) (r : Record) (z : Sizes) (q : Question) (x : Inputs) (i : Rel r (referenceOf (State.running q) z))
+module _ (L : Layers) (r : Record) (z : Sizes) (l : Option Question) (q : Question) (x : Inputs)
+    (i : Rel r (referenceOf (State.running q) z l))
     (room : fits z x ≡ true) where
   abbrev rule : Part
   rule = ruled r z q x (i .sizes) (q .results)
@@ -190,11 +190,12 @@ module _ (L : Layers) (r : Record) (z : Sizes) (q : Question) (x : Inputs) (i : 
   -- an advance that goes on as always, to settlement k
   goes-on : (k : Settlement) → Counted r z q → otherStates z q x ≡ true
       → ((s : Record) → Counted s z (onward k) → SettledAs s z (onward k) k)
-      → ((s : Record) → Marked s (onward k) → suc (q .count) ≡ partCount q → Ended s (onward k) k)
-      → Sim (goesOn (referenceOf (State.running q) z) (onward k)) (advanceWith r x (partNext r x))
-  unfolding goesOn advanceWith inState phase advanced stepped longer
+      → ((s : Record) (e : Outcome) → Counted s z (onward k) → outcome e ≡ ruleAnswer (onward k) → suc (q .count) ≡ partCount q
+      → Told e (onward k) k)
+      → Sim (goesOn (referenceOf (State.running q) z l) (onward k)) (advanceWith r x (partNext r x))
+  unfolding goesOn advanceWith inState finishedWith phase advanced stepped longer ruleAnswer
   goes-on k c o stands ends =
-      subst (λ (y : Option Reached). Sim (goesOn (referenceOf (State.running q) z) (onward k)) (advanceWith r x y))
+      subst (λ (y : Option Reached). Sim (goesOn (referenceOf (State.running q) z l) (onward k)) (advanceWith r x y))
       (sym (part-next r z q x (i .sizes) L (q .results) (c .parted) left-over o room))
       (go (eqb (suc (q .count)) (partCount q)) (eqb (suc (length (r .states))) (length (r .roots)))
       (ap₂ (λ (m n : ℕ). eqb (suc m) n) (ap length (c .parted .states) ∙ length-states (q .results)
@@ -209,7 +210,7 @@ module _ (L : Layers) (r : Record) (z : Sizes) (q : Question) (x : Inputs) (i : 
       yes : Bool
       yes = eqb (getD (marksBy (r .sizes) x) (rule .state) 0) 1
 
-      marked : Marked (stepped r Phase.answered (reachedBy rule) yes) (onward k)
+      marked : yes ≡ ruleAutomaton (q .inputs .rules) .accepting (lastState (longer z q x) 0)
       marked =
           let same : Same z (q .inputs) x = same-node-inputs z (q .inputs) x (other-same z q x o) in
           let B : Built z (q .inputs) = node-table-built z (q .inputs) (c .parted .built) in
@@ -217,10 +218,16 @@ module _ (L : Layers) (r : Record) (z : Sizes) (q : Question) (x : Inputs) (i : 
           (ap (λ (y : Sizes). marksBy y x) (i .sizes) ∙ marks-built z (q .inputs) x B (same .rules))
           ∙ ap (ruleAutomaton (q .inputs .rules) .accepting) (sym (last-more (q .results) rule 0))
 
+      -- the outcome that is kept: what the rule gave
+      by-the-rule : outcomeAnswer (rule .state) yes (length (r .roots)) (r .links + rule .links) ≡ ruleAnswer (onward k)
+      by-the-rule =
+          outcome-same _ _ _ _ _ _ _ _ (sym (last-more (q .results) rule 0)) marked (ap length (c .parted .roots))
+          (ap (λ (n : ℕ). n + rule .links) (c .links) ∙ sym (links-more (q .results) rule))
+
       go : (b d : Bool) → d ≡ b → eqb (suc (q .count)) (partCount q) ≡ b
           → eqb (suc (length (r .states))) (length (r .roots)) ≡ d
-          → Sim (cond b (settled finished (referenceOf (State.answered (onward k)) z))
-          (settled more (referenceOf (State.running (onward k)) z)))
+          → Sim (cond b (settled finished (referenceOf State.answered z (some (onward k))))
+          (settled more (referenceOf (State.running (onward k)) z l)))
           (cond d (acted finished (stepped r Phase.answered (reachedBy rule) yes))
           (acted more (stepped r Phase.running (reachedBy rule) false)))
       go true true e g h = (
@@ -228,11 +235,8 @@ module _ (L : Layers) (r : Record) (z : Sizes) (q : Question) (x : Inputs) (i : 
         record {
           phases = refl;
           sizes = i .sizes;
-          holds = (
-            stands _ (counted-next c left-over Phase.answered yes k),
-            ends _ marked
-                (eqb-true (suc (q .count)) (partCount q) g),
-          );
+          holds = tt;
+          lasts = ends _ _ (counted-next c left-over Phase.answered yes k) by-the-rule (eqb-true (suc (q .count)) (partCount q) g);
         },
       )
       go false false e g h = (
@@ -244,14 +248,15 @@ module _ (L : Layers) (r : Record) (z : Sizes) (q : Question) (x : Inputs) (i : 
             stands _ (counted-next c left-over Phase.running false k),
             unended-next (reachedBy rule) Phase.running false k (longer z q x) h (c .parted .roots),
           );
+          lasts = i .lasts;
         },
       )
       go true false e g h = absurd (true-false (sym e))
       go false true e g h = absurd (true-false e)
 
   -- left to the program, save that other bytes never get 18
-  advance-by-program : SomeParted r z q → Sim (advancingByProgram (referenceOf (State.running q) z) x q) (advanceWith r x (partNext r x))
-  unfolding advancingByProgram advanceWith mayAdvanceWith byAnswer advanced inState phase stepped
+  advance-by-program : SomeParted r z q → Sim (advancingByProgram (referenceOf (State.running q) z l) x q) (advanceWith r x (partNext r x))
+  unfolding advancingByProgram advanceWith mayAdvanceWith byAnswer advanced inState finishedWith phase stepped
   advance-by-program (ps, p) = go (partNext r x) refl
     where
       unended : length ps < partCount q
@@ -271,7 +276,7 @@ module _ (L : Layers) (r : Record) (z : Sizes) (q : Question) (x : Inputs) (i : 
         parted-more r z q ps p unended y (part-low r z q x (i .sizes) y e) f m byProgram [],
       )
 
-      go : (y : Option Reached) → partNext r x ≡ y → Sim (advancingByProgram (referenceOf (State.running q) z) x q) (advanceWith r x y)
+      go : (y : Option Reached) → partNext r x ≡ y → Sim (advancingByProgram (referenceOf (State.running q) z l) x q) (advanceWith r x y)
       go none e = (
         advance-cause z x (q .nodes) (q .labels) (r .states) (otherStates z q x) (not-other e (otherStates z q x) refl) (states-low ps p)
             (cause-of ps p e),
@@ -280,31 +285,31 @@ module _ (L : Layers) (r : Record) (z : Sizes) (q : Question) (x : Inputs) (i : 
       go (some y) e = then (eqb (suc (length (r .states))) (length (r .roots))) refl
         where
           then : (b : Bool) → eqb (suc (length (r .states))) (length (r .roots)) ≡ b
-              → Sim (advancingByProgram (referenceOf (State.running q) z) x q)
+              → Sim (advancingByProgram (referenceOf (State.running q) z l) x q)
               (cond b (acted finished (stepped r Phase.answered y (eqb (getD (marksBy (r .sizes) x) (y .state) 0) 1)))
               (acted more (stepped r Phase.running y false)))
-          then true g =
-              (refl, record { phases = refl; sizes = i .sizes; holds = (parted y Phase.answered _ e, tt) })
+          then true g = (refl, record { phases = refl; sizes = i .sizes; holds = tt; lasts = tt })
           then false g = (
             refl,
             record {
               phases = refl;
               sizes = i .sizes;
               holds = (parted y Phase.running false e, unended-next y Phase.running false byProgram [] g (p .roots));
+              lasts = i .lasts;
             },
           )
 
   counted-some : Counted r z q → SomeParted r z q
   counted-some c = (q .results, c .parted)
 
-  advance-by-rule : Counted r z q → Sim (advancingByRule (referenceOf (State.running q) z) x q) (advanceWith r x (partNext r x))
+  advance-by-rule : Counted r z q → Sim (advancingByRule (referenceOf (State.running q) z l) x q) (advanceWith r x (partNext r x))
   unfolding advancingByRule
   advance-by-rule c = go (otherStates z q x) refl
     where
       go : (b : Bool) → otherStates z q x ≡ b
-          → Sim (cond b (goesOn (referenceOf (State.running q) z) (onward byRule)) (advancingByProgram (referenceOf (State.running q) z) x q))
+          → Sim (cond b (goesOn (referenceOf (State.running q) z l) (onward byRule)) (advancingByProgram (referenceOf (State.running q) z l) x q))
           (advanceWith r x (partNext r x))
-      go true o = goes-on byRule c o (λ s d. d) (λ s m e. m)
+      go true o = goes-on byRule c o (λ s d. d) (λ s e d m n. m)
       go false o = advance-by-program (counted-some c)
 
   -- given as at Start: the results go on with the same state table
@@ -327,7 +332,7 @@ module _ (L : Layers) (r : Record) (z : Sizes) (q : Question) (x : Inputs) (i : 
       v = nextRoot (rootsOf q) (q .results)
 
   advance-as : (k : Settlement) → SettledAs r z q k
-      → Sim (advancing (referenceOf (State.running q) z) x q k) (advanceWith r x (partNext r x))
+      → Sim (advancing (referenceOf (State.running q) z l) x q k) (advanceWith r x (partNext r x))
   unfolding advancing statesBelow advanced
   advance-as clean s = go (sameInputs z (q .inputs) x) refl
     where
@@ -339,29 +344,29 @@ module _ (L : Layers) (r : Record) (z : Sizes) (q : Question) (x : Inputs) (i : 
           omega (arith, b, n)
 
       go : (b : Bool) → sameInputs z (q .inputs) x ≡ b
-          → Sim (cond b (goesOn (referenceOf (State.running q) z) (onward clean)) (advancingByRule (referenceOf (State.running q) z) x q))
+          → Sim (cond b (goesOn (referenceOf (State.running q) z l) (onward clean)) (advancingByRule (referenceOf (State.running q) z l) x q))
           (advanceWith r x (partNext r x))
       go true e =
           let low : statesBelow z x ≡ true =
           ap (allBelow (z .s)) (sym (same-state-table z (q .inputs) x e))
           ∙ sound-below z q (node-table-built z (q .inputs) (s .0 .parted .built)) (s .1 .stateTable) in
           goes-on clean (s .0) (is-other z q x (same-inputs-nodes z (q .inputs) x e) low)
-          (λ y d. (d, cleanly-next (s .0) (s .1) e left-over)) (λ y m n. (m, n))
+          (λ y d. (d, cleanly-next (s .0) (s .1) e left-over))
+          (λ y o d m n. m ∙ rule-fresh y z (onward clean) d (cleanly-next (s .0) (s .1) e left-over) n)
       go false e = advance-by-rule (s .0)
   advance-as byRule s = advance-by-rule s
   advance-as byProgram s = advance-by-program s
 
-advance-at : (L : Layers) (r : Record) (s : State) (z : Sizes) (x : Inputs) → Rel r (referenceOf s z)
-    → refusal (stage (phase s) z) (advance x) ≡ 0
-    → Sim (proceed (referenceOf s z) s (advance x)) (proceeds r (advance x))
+advance-at : (L : Layers) (r : Record) (s : State) (z : Sizes) (l : Option Question) (x : Inputs) → Rel r (referenceOf s z l)
+    → refusal (stage (phase s) z (isSome l)) (advance x) ≡ 0
+    → Sim (proceed (referenceOf s z l) s (advance x)) (proceeds r (advance x))
 unfolding refusal phase firstNo isRunning proceed proceeds
-advance-at L r State.empty z x i h = absurd (some-number h)
-advance-at L r State.loaded z x i h = absurd (some-number h)
-advance-at L r (State.running q) z x i h =
-    advance-as L r z q x i (advance-fits (stage Phase.running z) x h) (q .settlement) (i .holds .0)
-advance-at L r (State.answered q) z x i h = absurd (some-number h)
+advance-at L r State.empty z l x i h = absurd (some-number h)
+advance-at L r State.loaded z l x i h = absurd (some-number h)
+advance-at L r (State.running q) z l x i h =
+    advance-as L r z l q x i (advance-fits (stage Phase.running z (isSome l)) x h) (q .settlement) (i .holds .0)
+advance-at L r State.answered z l x i h = absurd (some-number h)
 
 pub on-advance : Layers → (x : Inputs) → Simulates (advance x)
 on-advance L x r r′ b a i d =
-    does r r′ b (advance x) a d (by-refusal r (b .state) (b .sizes) (advance x) i
-    (advance-at L r (b .state) (b .sizes) x i))
+    does r r′ b (advance x) a d (by-refusal r b (advance x) i (advance-at L r (b .state) (b .sizes) (b .last) x i))

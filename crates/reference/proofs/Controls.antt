@@ -163,7 +163,7 @@ pub wrong-state : seen (read ∷ cancel ∷ load loadA ∷ advance inputsA ∷ s
     ≡ all (some (refused 1) ∷ some (refused 1) ∷ some Answer.accepted ∷ some (refused 1) ∷ some (parts 1)
     ∷ some (refused 1)
     ∷ some (refused 1) ∷ some Answer.accepted ∷ some (parts 1) ∷ some finished ∷ some (outcomeAnswer 1 true 1 0)
-    ∷ some (parts 1) ∷ some (refused 1) ∷ [])
+    ∷ some (parts 1) ∷ some (outcomeAnswer 1 true 1 0) ∷ [])
 unfolding seen loadA inputsA
 wrong-state = refl
 

@@ -17,16 +17,16 @@ use Rattle.reference.proofs.Simulation.{Simulates, on-load, on-cancel, 
 use Rattle.reference.proofs.StartSimulation.{on-start}
 use Rattle.reference.proofs.AdvanceSimulation.{on-advance}
 
-simulates : Layers → (c : Call) → Simulates c
+pub simulates : Layers → (c : Call) → Simulates c
 simulates L (load x) = on-load x
 simulates L (start x vs bs) = on-start x vs bs
 simulates L (advance x) = on-advance L x
 simulates L cancel = on-cancel
 simulates L read = on-read
 
-at-first : Rel freshRecord newReference
+pub at-first : Rel freshRecord newReference
 unfolding freshRecord newReference idle phase
-at-first = record { phases = refl; sizes = refl; holds = tt }
+at-first = record { phases = refl; sizes = refl; holds = tt; lasts = tt }
 
 agrees-from : Layers → (r : Record) (b : Reference) (cs : List Call) (xs : List Answer) → Rel r b → History Does r cs xs
     → Agrees b cs xs

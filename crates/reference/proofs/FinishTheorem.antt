@@ -8,6 +8,7 @@ use Prim.Native.Nat.{ℕ, zero, suc, _+_, _-_, _*_, _≤_, _<_}
 use mathlib.Core.Path.{_≡_, refl, sym, ap, ap₂, _∙_, subst}
 use mathlib.Core.Bool.{Bool, true, false, cond, _&&_}
 use mathlib.Core.List.{List, [], _∷_, _++_}
+use mathlib.Core.Option.{Option}
 use native.Mathlib.Omega.{arith}
 use lib.Dec.{eqb, leb}
 use lib.ListN.{length, take, replicate, length-take}
@@ -20,22 +21,24 @@ use Rattle.formats.specs.Checks.{check, firstNo, listChecks, nodeTableLength, s
 use Rattle.formats.specs.Inputs.{Inputs, Sizes, fits, usedNodeTable, usedStateTable, sameInputs}
 use Rattle.formats.proofs.CheckLaws.{firstNo-head, firstNo-tail}
 use Rattle.formats.proofs.InputsLaws.{Same, same-node-inputs, same-inputs-nodes, same-state-table}
-use Rattle.model.specs.Calls.{Call, start, advance, read, Answer, refused, parts, more, finished, isRefused, isRunning, isAnswered, mayStart, Phase}
+use Rattle.model.specs.Calls.{Call, start, advance, read, Answer, refused, parts, more, finished, onAdvance, isRunning, mayStart, Phase}
+use Rattle.model.specs.Calls.{isSome}
 use Rattle.model.specs.Refusals.{Stage, stage, refusal}
 use Rattle.model.specs.History.{History}
 use Rattle.model.specs.Model.{freshRecord, Does}
 use Rattle.model.proofs.Facts.{Layers}
 use Rattle.model.proofs.ModelLaws.{start-before}
 use Rattle.model.proofs.Refinement.{Refines, refines}
-use Rattle.reference.specs.Reference.{clean, Question, State, Reference, settled, phase, inState, newReference, step, decided, proceed}
-use Rattle.reference.specs.Reference.{longer, advanced, goesOn, advancingByRule, advancing, reading, partCount, freshAnswer, asked, starting}
+use Rattle.reference.specs.Reference.{clean, Question, State, Reference, settled, stageOf, phase, inState, newReference, step, decided, proceed}
+use Rattle.reference.specs.Reference.{longer, advanced, goesOn, advancingByRule, advancing, reading, readingLast, finishedWith, partCount}
+use Rattle.reference.specs.Reference.{freshAnswer, asked, starting}
 use Rattle.reference.specs.Demand3.{Conforms, after, Agrees}
 use Rattle.reference.specs.Undisturbed.{referenceAt}
 use Rattle.reference.specs.Finished.{advancesOf, AllSame, toTheEnd, QuestionsFinish}
 use Rattle.reference.proofs.StartSimulation.{some-part}
 use Rattle.reference.proofs.Demand3Theorem.{demand-3}
 use Rattle.reference.proofs.QuestionTheorem.{passed, begun}
-use Rattle.reference.proofs.UndisturbedLaws.{at, going, over, Iteration, waits, goes, ends, iteration, agrees-split}
+use Rattle.reference.proofs.UndisturbedLaws.{at, going, over, Iteration, waits, looks, goes, ends, iteration, agrees-split}
 
 -- ---- check 17
 
@@ -69,44 +72,49 @@ start-fits t x vs bs e =
 
 -- ---- one advance, one Read
 
-module _ (z : Sizes) (q : Question) (c : ℕ) (tr : List Part) where
-  no-refusal : (x : Inputs) → fits z x ≡ true → refusal (stage (phase (State.running (at q c tr))) z) (advance x) ≡ 0
+module _ (z : Sizes) (o : Option Question) (q : Question) (c : ℕ) (tr : List Part) where
+  no-refusal : (x : Inputs) → fits z x ≡ true → refusal (stage (phase (State.running (at q c tr))) z (isSome o)) (advance x) ≡ 0
   unfolding refusal firstNo phase isRunning
   no-refusal x f = rw f
 
-  -- what goes on is no refusal
-  not-on : (k : Question) (n : ℕ) → Conforms (goesOn (going z q c tr) k) (refused n) → ⊥
-  unfolding goesOn
-  not-on k n e = go (eqb (k .count) (partCount k)) e
-    where
-      go : (b : Bool) → Conforms (cond b (settled finished (inState (going z q c tr) (State.answered k)))
-          (settled more (inState (going z q c tr) (State.running k)))) (refused n) → ⊥
-      go true e = true-false (ap isRefused e)
-      go false e = true-false (ap isRefused e)
+  -- more or finished
+  abbrev on : Answer → Bool
+  on a = onAdvance true true false a
 
-  not-refused : (x : Inputs) (n : ℕ) → fits z x ≡ true → sameInputs z (q .inputs) x ≡ true
-      → Conforms (step (going z q c tr) (advance x)) (refused n) → ⊥
+  -- what goes on tells nothing else
+  not-on : (k : Question) (a : Answer) → on a ≡ false → Conforms (goesOn (going z o q c tr) k) a → ⊥
+  unfolding goesOn
+  not-on k a h e = go (eqb (k .count) (partCount k)) e
+    where
+      go : (b : Bool) → Conforms (cond b (settled finished (finishedWith (going z o q c tr) k))
+          (settled more (inState (going z o q c tr) (State.running k)))) a → ⊥
+      go true e = true-false (sym (ap on e) ∙ h)
+      go false e = true-false (sym (ap on e) ∙ h)
+
+  told-on : (x : Inputs) (a : Answer) → on a ≡ false → fits z x ≡ true → sameInputs z (q .inputs) x ≡ true
+      → Conforms (step (going z o q c tr) (advance x)) a → ⊥
   unfolding step decided proceed advancing
-  not-refused x n f s e = go (refusal (stage (phase (State.running (at q c tr))) z) (advance x)) (no-refusal x f) e
+  told-on x a i f s e = go (refusal (stage (phase (State.running (at q c tr))) z (isSome o)) (advance x)) (no-refusal x f) e
     where
       both : (b : Bool) → b ≡ true
-          → Conforms (cond b (goesOn (going z q c tr) (advanced (at q c tr) clean (longer z (at q c tr) x)))
-          (advancingByRule (going z q c tr) x (at q c tr))) (refused n) → ⊥
-      both true h e = not-on (advanced (at q c tr) clean (longer z (at q c tr) x)) n e
+          → Conforms (cond b (goesOn (going z o q c tr) (advanced (at q c tr) clean (longer z (at q c tr) x)))
+          (advancingByRule (going z o q c tr) x (at q c tr))) a → ⊥
+      both true h e = not-on (advanced (at q c tr) clean (longer z (at q c tr) x)) a i e
       both false h e = true-false (sym h)
 
-      go : (m : ℕ) → m ≡ 0 → Conforms (decided m (going z q c tr) (advance x)) (refused n) → ⊥
+      go : (m : ℕ) → m ≡ 0 → Conforms (decided m (going z o q c tr) (advance x)) a → ⊥
       go zero h e = both (sameInputs z (q .inputs) x) s e
       go (suc m) h e = absurd (omega arith)
 
-  -- the Read after the last
+-- the Read after the last
+module _ (z : Sizes) (q : Question) (c : ℕ) (tr : List Part) where
   read-told : (a : Answer) → Conforms (step (over z q c tr) read) a → a ≡ freshAnswer q
-  unfolding step decided proceed refusal phase firstNo isAnswered reading freshAnswer
+  unfolding step decided proceed refusal phase firstNo reading readingLast freshAnswer
   read-told a e = e
 
 -- ---- to the end
 
-module _ (z : Sizes) (q : Question) (f : fits z (q .inputs) ≡ true) where
+module _ (z : Sizes) (o : Option Question) (q : Question) (f : fits z (q .inputs) ≡ true) where
   read-last : (c : ℕ) (tr : List Part) (ys : List Answer) → Agrees (over z q c tr) (read ∷ []) ys → ys ≡ freshAnswer q ∷ []
   read-last c tr [] h = absurd h
   read-last c tr (a ∷ []) h = ap (λ (x : Answer). x ∷ []) (read-told z q c tr a (h .0))
@@ -130,19 +138,18 @@ module _ (z : Sizes) (q : Question) (f : fits z (q .inputs) ≡ true) where
   ended (w ∷ ws) c tr ys e h = absurd (omega arith)
 
   pub to-the-end : (ws : List Inputs) (c : ℕ) (tr : List Part) → c < partCount q → c + length ws ≡ partCount q → AllSame z (q .inputs) ws
-      → (ys : List Answer) → Agrees (going z q c tr) (advancesOf ws ++ (read ∷ [])) ys → ys ≡ toTheEnd (length ws) (freshAnswer q)
+      → (ys : List Answer) → Agrees (going z o q c tr) (advancesOf ws ++ (read ∷ [])) ys → ys ≡ toTheEnd (length ws) (freshAnswer q)
   to-the-end [] c tr l n s ys h = absurd (omega arith)
   to-the-end (w ∷ ws) c tr l n s [] h = absurd h
   to-the-end (w ∷ ws) c tr l n s (a ∷ ys) h =
-      turn (λ d ps i j g. to-the-end ws d ps i j (s .1) ys g) (iteration z q c tr l (advance w) a (h .0) (λ e. s .0))
+      turn (λ d ps i j g. to-the-end ws d ps i j (s .1) ys g) (iteration z o q c tr l (advance w) a (h .0) (λ e. s .0))
     where
       turn : ((d : ℕ) (ps : List Part) → d < partCount q → d + length ws ≡ partCount q
-          → Agrees (going z q d ps) (advancesOf ws ++ (read ∷ [])) ys → ys ≡ toTheEnd (length ws) (freshAnswer q))
-          → Iteration z q c tr a (after (step (going z q c tr) (advance w)) a)
+          → Agrees (going z o q d ps) (advancesOf ws ++ (read ∷ [])) ys → ys ≡ toTheEnd (length ws) (freshAnswer q))
+          → Iteration z o q c tr a (after (step (going z o q c tr) (advance w)) a)
           → (a ∷ ys) ≡ toTheEnd (suc (length ws)) (freshAnswer q)
-      turn later (waits m e d) =
-          absurd (not-refused z q c tr w m (same-fits z (q .inputs) w f (s .0)) (s .0)
-          (subst (λ (x : Answer). Conforms (step (going z q c tr) (advance w)) x) e (h .0)))
+      turn later (waits m e d) = absurd (told-on z o q c tr w a (ap (on z o q c tr) e) (same-fits z (q .inputs) w f (s .0)) (s .0) (h .0))
+      turn later (looks m e d) = absurd (told-on z o q c tr w a (ap (on z o q c tr) e) (same-fits z (q .inputs) w f (s .0)) (s .0) (h .0))
       turn later (goes ps e m d) =
           ap₂ (λ (x : Answer) (l : List Answer). x ∷ l) e (later (suc c) ps m (omega (arith, n))
           (subst (λ (b : Reference). Agrees b (advancesOf ws ++ (read ∷ [])) ys) d (h .1)))
@@ -156,13 +163,13 @@ module _ (z : Sizes) (q : Question) (f : fits z (q .inputs) ≡ true) where
 
 pub questions-finish : Layers → QuestionsFinish freshRecord Does
 questions-finish L cs xs x vs bs n ws ys same count alike h =
-    let z : Sizes = referenceAt newReference cs xs .sizes in
-    let s : State = referenceAt newReference cs xs .state in
+    let b : Reference = referenceAt newReference cs xs in
+    let z : Sizes = b .sizes in
     let A = agrees-split newReference cs (start x vs bs ∷ (advancesOf ws ++ (read ∷ []))) xs (parts n ∷ ys) same (demand-3 L _ _ h) in
-    let p = passed z s x vs bs n (A .0) in
-    let B = begun z s x vs bs n (A .0) in
-    let f : fits z x ≡ true = start-fits (stage (phase s) z) x vs bs p in
-    to-the-end z (asked x vs bs) f ws 0 [] (some-part (asked x vs bs)) (omega (arith, count, B .0)) alike ys
+    let p = passed b x vs bs n (A .0) in
+    let B = begun b x vs bs n (A .0) in
+    let f : fits z x ≡ true = start-fits (stageOf b) x vs bs p in
+    to-the-end z (b .last) (asked x vs bs) f ws 0 [] (some-part (asked x vs bs)) (omega (arith, count, B .0)) alike ys
     (subst (λ (b : Reference). Agrees b (advancesOf ws ++ (read ∷ [])) ys) (B .1) (A .1))
     ∙ ap (λ (m : ℕ). toTheEnd m (freshAnswer (asked x vs bs))) count
 

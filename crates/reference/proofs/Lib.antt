@@ -16,6 +16,10 @@ pub mod AgreementTestLaws
 pub mod Theorems
 pub mod Sample
 pub mod Controls
+pub mod LastControls
 pub mod OwnAnswersLaws
+pub mod ReadingLaws
 pub mod FinishTheorem
+pub mod LastingTheorem
+pub mod AnewTheorem
 pub mod PartCeiling

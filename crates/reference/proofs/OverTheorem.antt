@@ -21,9 +21,10 @@ use Rattle.changes.specs.Entries.{Entry, entries, nodesListed, labelsListed, la
 use Rattle.changes.specs.ChangedPlan.{changedPlan}
 use Rattle.changes.proofs.ChangedLaws.{changed-over}
 use Rattle.changes.proofs.PlanOver.{labels-changed, kinds-changed}
-use Rattle.model.specs.Calls.{Answer, Outcome, refused, parts, more, finished, outcome, outcomeAnswer, onOutcome}
+use Rattle.model.specs.Calls.{Answer, Outcome, outcome, outcomeAnswer, onOutcome}
 use Rattle.reference.specs.Reference.{asked, freshAnswer}
-use Rattle.reference.specs.Undisturbed.{OutcomeHas, EveryOutcome, OnlyOutcome}
+use Rattle.reference.specs.Undisturbed.{EveryOutcomeAfter, OnlyOutcomeAfter}
+use Rattle.reference.proofs.UndisturbedLaws.{after-map}
 use Rattle.reference.proofs.QuestionTheorem.{CleanOutcomes}
 
 -- what a Read tells first: this state, and this yes or no
@@ -36,21 +37,14 @@ told-first q b p l o e = (
   ap (λ (a : Answer). onOutcome (λ (r : Outcome). r .yes) false a) e,
 )
 
-every-first : (q : ℕ) (b : Bool) (p l : ℕ) (ys : List Answer) → OnlyOutcome (outcomeAnswer q b p l) ys → EveryOutcome (Tells q b) ys
-every-first q b p l [] o = tt
-every-first q b p l (y ∷ ys) o = (one y (o .0), every-first q b p l ys (o .1))
-  where
-    one : (y : Answer) → OutcomeHas (λ r. outcome r ≡ outcomeAnswer q b p l) y → OutcomeHas (Tells q b) y
-    one (refused n) e = tt
-    one Answer.accepted e = tt
-    one (parts k) e = tt
-    one more e = tt
-    one finished e = tt
-    one (outcome r) e = told-first q b p l r e
+every-first : (q : ℕ) (b : Bool) (p l : ℕ) (ys : List Answer) → OnlyOutcomeAfter (outcomeAnswer q b p l) ys
+    → EveryOutcomeAfter (Tells q b) ys
+every-first q b p l ys only =
+    after-map (λ (o : Outcome). outcome o ≡ outcomeAnswer q b p l) (Tells q b) (λ o e. told-first q b p l o e) ys only
 
--- of an undisturbed question every Read tells the fresh run's state and yes or no
+-- of an undisturbed question every Read after its finish tells the fresh run's state and yes or no
 pub read-tells : (x : Inputs) (vs bs : List ℕ) (n : ℕ) (ys : List Answer) → CleanOutcomes x vs bs n ys
-    → EveryOutcome (Tells (rootState (x .plan) (x .rules) vs bs) (rootAccepted (x .plan) (x .rules) vs bs)) ys
+    → EveryOutcomeAfter (Tells (rootState (x .plan) (x .rules) vs bs) (rootAccepted (x .plan) (x .rules) vs bs)) ys
 unfolding freshAnswer
 read-tells x vs bs n ys C =
     every-first (rootState (x .plan) (x .rules) vs bs) (rootAccepted (x .plan) (x .rules) vs bs) _ _ ys (C .only)
@@ -77,13 +71,13 @@ module _ (x y : Inputs) (vs bs us cs : List ℕ) (passes : PlanPasses (x .plan))
   -- plan itself, each on tables built from its own plan and left alone": what Reads tell of the one and of the other
   pub question-over : (n m : ℕ) (ys zs : List Answer) → CleanOutcomes y us cs n ys
       → CleanOutcomes x (nodesListed over) (labelsListed over) m zs
-      → (q : ℕ) × (b : Bool) × EveryOutcome (Tells q b) ys × EveryOutcome (Tells q b) zs
+      → (q : ℕ) × (b : Bool) × EveryOutcomeAfter (Tells q b) ys × EveryOutcomeAfter (Tells q b) zs
   question-over n m ys zs C D =
       let q = rootState (x .plan) (x .rules) (nodesListed over) (labelsListed over) in
       let b = rootAccepted (x .plan) (x .rules) (nodesListed over) (labelsListed over) in (
         q,
         b,
-        subst (λ (t : ℕ). EveryOutcome (Tells t b) ys) state-over
-            (subst (λ (t : Bool). EveryOutcome (Tells (rootState (y .plan) (y .rules) us cs) t) ys) yes-over (read-tells y us cs n ys C)),
+        subst (λ (t : ℕ). EveryOutcomeAfter (Tells t b) ys) state-over
+            (subst (λ (t : Bool). EveryOutcomeAfter (Tells (rootState (y .plan) (y .rules) us cs) t) ys) yes-over (read-tells y us cs n ys C)),
         read-tells x (nodesListed over) (labelsListed over) m zs D,
       )

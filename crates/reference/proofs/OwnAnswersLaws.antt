@@ -1,50 +1,37 @@
 -- Controls against a reference model that takes too much: what it allows is the call's own kind of answer.
 --     own-answers      of every state, call and answer
---     read-outcome     a Read of an answered question is told an outcome, and no refusal
+--     read-outcome     a Read once a question has finished is told an outcome, and no refusal, whatever the state
 --     wrong-kinds      on plan A, computed: Start told more, an advance told parts, a Read refused are turned down
 -- Assumes nothing.
 use Prim.Native.Nat.{ℕ, zero, suc}
 use mathlib.Core.Path.{_≡_, refl, sym, subst}
 use mathlib.Core.Bool.{Bool, true, false, cond}
 use mathlib.Core.List.{List, [], _∷_}
+use mathlib.Core.Option.{Option, none, some}
 use lib.Dec.{eqb}
 use Rattle.list_laws.proofs.BoolLaws.{true-false}
 use Rattle.formats.specs.Checks.{firstNo}
 use Rattle.formats.specs.Inputs.{Inputs, Sizes, sameInputs}
 use Rattle.model.specs.Calls.{Call, load, start, advance, cancel, read, Answer, refused, parts, more, finished, Outcome, outcome}
-use Rattle.model.specs.Calls.{outcomeAnswer, isAnswered}
+use Rattle.model.specs.Calls.{outcomeAnswer}
 use Rattle.model.specs.Refusals.{refusal}
-use Rattle.reference.specs.Reference.{Settlement, clean, byRule, byProgram, Question, State, Reference, Reply, settled, stageOf, phase}
+use Rattle.reference.specs.Reference.{Settlement, clean, byRule, byProgram, Question, State, Reference, Reply, settled, stageOf}
 use Rattle.reference.specs.Reference.{inState, goesOn, longer, advanced, otherStates, mayAdvanceWith, advancingByProgram}
-use Rattle.reference.specs.Reference.{advancingByRule, advancing, partCount, freshAnswer, ruleAnswer, asked, starting}
-use Rattle.reference.specs.Reference.{isOutcome, reading, proceed, decided, step}
+use Rattle.reference.specs.Reference.{advancingByRule, advancing, partCount, asked, starting}
+use Rattle.reference.specs.Reference.{readingLast, finishedWith, proceed, decided, step}
 use Rattle.reference.specs.Demand3.{Conforms}
 use Rattle.reference.specs.OwnAnswers.{Own, refuses, loads, starts, goes-on, finishes, cancels, reads}
+use Rattle.reference.proofs.ReadingLaws.{reading-outcome}
 use Rattle.reference.proofs.Simulation.{referenceOf}
 use Rattle.reference.proofs.Sample.{inputsA}
 use Rattle.reference.proofs.Controls.{otherLabel, judgedStart, judgedAdvance, judgedUnsettled}
 
--- ---- a Read
+-- ---- a Read: in every state, once an answer is there
 
-pub outcome-only : (a : Answer) → isOutcome a ≡ true → (o : Outcome) × (a ≡ outcome o)
-unfolding isOutcome
-outcome-only (refused n) e = absurd (true-false (sym e))
-outcome-only Answer.accepted e = absurd (true-false (sym e))
-outcome-only (parts p) e = absurd (true-false (sym e))
-outcome-only more e = absurd (true-false (sym e))
-outcome-only finished e = absurd (true-false (sym e))
-outcome-only (outcome o) e = (o, refl)
-
-reading-outcome : (b : Reference) (q : Question) (k : Settlement) (a : Answer) → Conforms (reading b q k) a → (o : Outcome) × (a ≡ outcome o)
-unfolding reading freshAnswer ruleAnswer
-reading-outcome b q clean a e = (_, e)
-reading-outcome b q byRule a e = (_, e)
-reading-outcome b q byProgram a e = outcome-only a e
-
-pub read-outcome : (z : Sizes) (q : Question) (a : Answer) → Conforms (step (referenceOf (State.answered q) z) read) a
+pub read-outcome : (s : State) (z : Sizes) (q : Question) (a : Answer) → Conforms (step (referenceOf s z (some q)) read) a
     → (o : Outcome) × (a ≡ outcome o)
-unfolding step decided proceed refusal phase firstNo isAnswered
-read-outcome z q a e = reading-outcome (referenceOf (State.answered q) z) q (q .settlement) a e
+unfolding step decided proceed refusal firstNo readingLast
+read-outcome s z q a e = reading-outcome (referenceOf s z (some q)) q (q .settlement) a e
 
 -- ---- an advance
 
@@ -69,7 +56,7 @@ either c a false r s f g e = g e
 module _ (b : Reference) (x : Inputs) (q : Question) (a : Answer) where
   onward : (k : Question) → Conforms (goesOn b k) a → Own (advance x) a
   unfolding goesOn
-  onward k = either (advance x) a (eqb (k .count) (partCount k)) (settled finished (inState b (State.answered k))) (settled more (inState b (State.running k)))
+  onward k = either (advance x) a (eqb (k .count) (partCount k)) (settled finished (finishedWith b k)) (settled more (inState b (State.running k)))
       (λ e. is (advance x) a finished e finishes) (λ e. is (advance x) a more e goes-on)
 
   by-program : Conforms (advancingByProgram b x q) a → Own (advance x) a
@@ -94,6 +81,11 @@ module _ (b : Reference) (a : Answer) where
   no : (c : Call) (n : ℕ) → a ≡ refused n → Own c a
   no c n e = is c a (refused n) e (refuses n)
 
+  last-own : (l : Option Question) → Conforms (readingLast b l) a → Own read a
+  unfolding readingLast
+  last-own none e = no read 1 e
+  last-own (some q) e = let o = reading-outcome b q (q .settlement) a e in is read a (outcome (o .0)) (o .1) (reads (o .0))
+
   proceed-own : (s : State) (c : Call) → Conforms (proceed b s c) a → Own c a
   unfolding proceed starting
   proceed-own s (load x) e = is (load x) a Answer.accepted e loads
@@ -101,13 +93,9 @@ module _ (b : Reference) (a : Answer) where
   proceed-own State.empty (advance x) e = no (advance x) 1 e
   proceed-own State.loaded (advance x) e = no (advance x) 1 e
   proceed-own (State.running q) (advance x) e = advance-own b x q a (q .settlement) e
-  proceed-own (State.answered q) (advance x) e = no (advance x) 1 e
+  proceed-own State.answered (advance x) e = no (advance x) 1 e
   proceed-own s cancel e = is cancel a Answer.accepted e cancels
-  proceed-own State.empty read e = no read 1 e
-  proceed-own State.loaded read e = no read 1 e
-  proceed-own (State.running q) read e = no read 1 e
-  proceed-own (State.answered q) read e =
-      let o = reading-outcome b q (q .settlement) a e in is read a (outcome (o .0)) (o .1) (reads (o .0))
+  proceed-own s read e = last-own (b .last) e
 
   pub own-answers : (c : Call) → Conforms (step b c) a → Own c a
   unfolding step decided

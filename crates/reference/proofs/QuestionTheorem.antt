@@ -1,6 +1,6 @@
 -- The further statements of demand 3, about what the calls tell of one question.
 --     CleanOutcomes       of a question that Start accepted and that was undisturbed: the parts that Start told, after how many
---                         accepted advances finished is told, what Reads tell, ceilings
+--                         accepted advances finished is told, what Reads tell after that, ceilings
 --     QuestionAnswered    an accepted Start had sound inputs; and the question's outcomes where it is undisturbed
 --     question-answered   it holds in every history from a fresh record
 --     questions-of        and passes on to every form of the calls
@@ -22,16 +22,16 @@ use Rattle.list_laws.proofs.BoolLaws.{true-false}
 use Rattle.changes.specs.Differing.{differing}
 use Rattle.ready.specs.Members.{roots}
 use Rattle.formats.specs.Inputs.{Inputs, Sizes}
-use Rattle.model.specs.Calls.{Call, start, Answer, refused, parts, more, finished, outcome, onOutcome, isRefused}
-use Rattle.model.specs.Refusals.{stage, refusal}
+use Rattle.model.specs.Calls.{Call, start, Answer, refused, parts, Outcome, outcome, onOutcome, isRefused}
+use Rattle.model.specs.Refusals.{refusal}
 use Rattle.model.specs.Sound.{Sound}
-use Rattle.reference.specs.Reference.{Question, State, Reference, phase, inState, leftOf}
+use Rattle.reference.specs.Reference.{Question, Reference, stageOf, inState, leftOf}
 use Rattle.reference.specs.Reference.{newReference, step, decided, proceed, partCount, freshAnswer, asked, starting}
 use Rattle.reference.specs.Demand3.{Conforms, after, Agrees}
 use Rattle.model.specs.History.{History}
 use Rattle.model.specs.Model.{freshRecord, Does}
-use Rattle.reference.specs.Undisturbed.{advances, finishedAfter, referenceAt, Undisturbed, OutcomeHas}
-use Rattle.reference.specs.Undisturbed.{EveryOutcome, OnlyOutcome}
+use Rattle.reference.specs.Undisturbed.{advances, finishedAfter, referenceAt, Undisturbed}
+use Rattle.reference.specs.Undisturbed.{EveryOutcomeAfter, OnlyOutcomeAfter}
 use Rattle.model.proofs.Facts.{Layers}
 use Rattle.reference.proofs.StartSimulation.{some-part}
 use Rattle.model.proofs.ModelLaws.{start-list, start-sound, start-built, left-below}
@@ -39,7 +39,7 @@ use Rattle.model.proofs.SoundLaws.{sound-yes}
 use Rattle.reference.proofs.Demand3Theorem.{demand-3}
 use Rattle.model.proofs.Refinement.{Refines, refines}
 use Rattle.reference.proofs.Ceilings.{Few, ready-count, parts-never-rise, question-links}
-use Rattle.reference.proofs.UndisturbedLaws.{going, UndisturbedFrom, agrees-split, undisturbed}
+use Rattle.reference.proofs.UndisturbedLaws.{going, UndisturbedFrom, agrees-split, undisturbed, after-map}
 use Rattle.reference.proofs.OrderLaws.{left-order, roots-order, parts-order, fresh-order}
 
 -- n is what Start told, ys are the answers of the calls after it
@@ -54,10 +54,10 @@ pub record CleanOutcomes (x : Inputs) (vs bs : List ℕ) (n : ℕ) (ys : List An
   pub exact : (m : ℕ) → finishedAfter ys ≡ some m → m ≡ n
   pub unfinished : finishedAfter ys ≡ none → advances ys < n
   pub most : advances ys ≤ n
-  -- Read tells the fresh run's state and yes or no, the parts, and the moves of their climbs
-  pub only : OnlyOutcome (freshAnswer (asked x vs bs)) ys
+  -- once it is finished Read tells the fresh run's state and yes or no, the parts, and the moves of their climbs
+  pub only : OnlyOutcomeAfter (freshAnswer (asked x vs bs)) ys
   -- at most three links for each binary digit of the plan's height, for each part told
-  pub links : EveryOutcome (λ o. o .links ≤ o .parts * (3 * digits (height (planTree (x .plan))))) ys
+  pub links : EveryOutcomeAfter (λ o. o .links ≤ o .parts * (3 * digits (height (planTree (x .plan))))) ys
 
 -- a question that Start accepted for the sizes z: ds and ys are the calls and answers after it
 pub record QuestionAnswered (z : Sizes) (x : Inputs) (vs bs : List ℕ) (n : ℕ) (ds : List Call) (ys : List Answer) : Type 0 where
@@ -74,17 +74,14 @@ QuestionsAnswered fresh Step = (cs : List Call) (xs : List Answer) (x : Inputs) 
 
 -- ---- the Start
 
-module _ (z : Sizes) (s : State) (x : Inputs) (vs bs : List ℕ) (n : ℕ) where
-  abbrev pub b : Reference
-  b = record { state = s; sizes = z }
-
+module _ (b : Reference) (x : Inputs) (vs bs : List ℕ) (n : ℕ) where
   parts-in : (m : ℕ) → parts n ≡ parts m → n ≡ m
   parts-in m e = cc
 
   -- no check refused it
-  pub passed : Conforms (step b (start x vs bs)) (parts n) → refusal (stage (phase s) z) (start x vs bs) ≡ 0
+  pub passed : Conforms (step b (start x vs bs)) (parts n) → refusal (stageOf b) (start x vs bs) ≡ 0
   unfolding step decided
-  passed e = go (refusal (stage (phase s) z) (start x vs bs)) e
+  passed e = go (refusal (stageOf b) (start x vs bs)) e
     where
       go : (m : ℕ) → Conforms (decided m b (start x vs bs)) (parts n) → m ≡ 0
       go zero e = refl
@@ -92,12 +89,12 @@ module _ (z : Sizes) (s : State) (x : Inputs) (vs bs : List ℕ) (n : ℕ) where
 
   -- n is the number of parts, and the question runs
   pub begun : Conforms (step b (start x vs bs)) (parts n)
-      → (n ≡ partCount (asked x vs bs)) × (after (step b (start x vs bs)) (parts n) ≡ going z (asked x vs bs) 0 [])
+      → (n ≡ partCount (asked x vs bs)) × (after (step b (start x vs bs)) (parts n) ≡ going (b .sizes) (b .last) (asked x vs bs) 0 [])
   unfolding step decided proceed starting inState
-  begun = go (refusal (stage (phase s) z) (start x vs bs))
+  begun = go (refusal (stageOf b) (start x vs bs))
     where
       go : (m : ℕ) → Conforms (decided m b (start x vs bs)) (parts n)
-          → (n ≡ partCount (asked x vs bs)) × (after (decided m b (start x vs bs)) (parts n) ≡ going z (asked x vs bs) 0 [])
+          → (n ≡ partCount (asked x vs bs)) × (after (decided m b (start x vs bs)) (parts n) ≡ going (b .sizes) (b .last) (asked x vs bs) 0 [])
       go zero e = (parts-in (partCount (asked x vs bs)) e, refl)
       go (suc m) e = absurd (true-false (sym (ap isRefused e)))
 
@@ -109,19 +106,12 @@ linksIn a = onOutcome (λ o. o .links) 0 a
 partsIn : Answer → ℕ
 partsIn a = onOutcome (λ o. o .parts) 0 a
 
-few-links : (d : ℕ) (a : Answer) → linksIn a ≤ partsIn a * d → (ys : List Answer) → OnlyOutcome a ys
-    → EveryOutcome (λ o. o .links ≤ o .parts * d) ys
+few-links : (d : ℕ) (a : Answer) → linksIn a ≤ partsIn a * d → (ys : List Answer) → OnlyOutcomeAfter a ys
+    → EveryOutcomeAfter (λ o. o .links ≤ o .parts * d) ys
 unfolding linksIn partsIn
-few-links d a h [] o = tt
-few-links d a h (y ∷ ys) o = (one y (o .0), few-links d a h ys (o .1))
-  where
-    one : (y : Answer) → OutcomeHas (λ r. outcome r ≡ a) y → OutcomeHas (λ r. r .links ≤ r .parts * d) y
-    one (refused n) e = tt
-    one Answer.accepted e = tt
-    one (parts p) e = tt
-    one more e = tt
-    one finished e = tt
-    one (outcome r) e = subst (λ (c : Answer). linksIn c ≤ partsIn c * d) (sym e) h
+few-links d a h ys only =
+    after-map (λ (o : Outcome). outcome o ≡ a) (λ (o : Outcome). o .links ≤ o .parts * d)
+    (λ o e. subst (λ (c : Answer). linksIn c ≤ partsIn c * d) (sym e) h) ys only
 
 fresh-few : (q : Question) → linksIn (freshAnswer q) ≤ partsIn
     (freshAnswer q) * (3 * digits (height (planTree (q .inputs .plan))))
@@ -139,21 +129,21 @@ module _ (L : Layers) (cs : List Call) (xs : List Answer) (x : Inputs) (vs bs : 
   pub question-answered : length cs ≡ length xs
       → History Does freshRecord (cs ++ (start x vs bs ∷ ds)) (xs ++ (parts n ∷ ys)) → QuestionAnswered sizesBefore x vs bs n ds ys
   question-answered same h =
-      let s : State = referenceAt newReference cs xs .state in
+      let b : Reference = referenceAt newReference cs xs in
       let A = agrees-split newReference cs (start x vs bs ∷ ds) xs (parts n ∷ ys) same (demand-3 L _ _ h) in
-      let p = passed sizesBefore s x vs bs n (A .0) in
-      let B = begun sizesBefore s x vs bs n (A .0) in
+      let p = passed b x vs bs n (A .0) in
+      let B = begun b x vs bs n (A .0) in
       record {
-        started-sound = sound-yes sizesBefore x (start-sound (stage (phase s) sizesBefore) x vs bs p);
+        started-sound = sound-yes sizesBefore x (start-sound (stageOf b) x vs bs p);
         outcomes = λ alone.
             let K : UndisturbedFrom (asked x vs bs) 0 ys =
-            undisturbed sizesBefore (asked x vs bs) 0 [] (some-part (asked x vs bs)) ds ys
+            undisturbed sizesBefore (b .last) (asked x vs bs) 0 [] (some-part (asked x vs bs)) ds ys
             (subst (λ (b : Reference). Agrees b ds ys) (B .1) (A .1)) alone in
             record {
               parts-are = B .0;
               few = subst (Few (length (differing (labelsIn (x .plan)) vs bs))) (sym (B .0))
-                  (ready-count L sizesBefore x (differing (labelsIn (x .plan)) vs bs) (start-built (stage (phase s) sizesBefore) x vs bs p)
-                  (left-below x (sizesBefore .n) (sizesBefore .k) vs bs (start-list (stage (phase s) sizesBefore) x vs bs p)));
+                  (ready-count L sizesBefore x (differing (labelsIn (x .plan)) vs bs) (start-built (stageOf b) x vs bs p)
+                  (left-below x (sizesBefore .n) (sizesBefore .k) vs bs (start-list (stageOf b) x vs bs p)));
               never-more = omega (arith, B .0, parts-never-rise (asked x vs bs));
               exact = λ m e. omega (arith, K .exact m e, B .0);
               unfinished = λ e. omega (arith, K .unfinished e, B .0);
@@ -177,7 +167,7 @@ outcome-order x vs bs ws cs g h d u n ys T = record {
   unfinished = T .unfinished;
   most = T .most;
   only =
-      subst (λ (a : Answer). OnlyOutcome a ys)
+      subst (λ (a : Answer). OnlyOutcomeAfter a ys)
       (fresh-order vs bs ws cs g h d (asked x vs bs) (asked x ws cs) refl refl refl refl refl u) (T .only);
   links = T .links;
 }

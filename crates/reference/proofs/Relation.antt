@@ -4,7 +4,9 @@
 --     Counted r q        its states and links are the reference model's results, one for each count
 --     Cleanly z q        the state table of Start is as built, and the results were worked out on it
 --     SettledAs r z q k  what holds of a question of settlement k
---     Unended, Ended     a running question has a part left; an answered one the yes or no of its last state
+--     Unended            a running question has a part left
+--     Told o q k         outcome o is that of a finished question of settlement k, as far as it is settled
+--     Lasts o l          the last finished answer is the last finished question's
 --     Rel r b            record and reference model agree
 -- Of a question left to the program SettledAs has only that some parts are handled: enough for "never 18" on other bytes, and for 18
 -- only with a cause.
@@ -13,13 +15,14 @@ use Prim.Native.Nat.{_<_}
 use mathlib.Core.Path.{_≡_}
 use mathlib.Core.Bool.{true}
 use mathlib.Core.List.{List, []}
+use mathlib.Core.Option.{Option, none, some}
 use lib.ListN.{length, take}
-use Rattle.formats.specs.Rules.{ruleAutomaton}
 use Rattle.formats.specs.Checks.{firstNo, listChecks}
-use Rattle.ready.specs.Parts.{Part, partsFrom, lastState, allLinks}
+use Rattle.ready.specs.Parts.{Part, partsFrom, allLinks}
 use Rattle.formats.specs.Inputs.{Sizes, nodeTableBuilt, stateTableBuilt}
+use Rattle.model.specs.Calls.{Outcome, outcome}
 use Rattle.reference.specs.Reference.{Settlement, clean, byRule, byProgram, Question, State, Reference, phase}
-use Rattle.reference.specs.Reference.{rootsOf, partCount, givenBy}
+use Rattle.reference.specs.Reference.{rootsOf, partCount, givenBy, freshAnswer, ruleAnswer}
 use Rattle.model.specs.Model.{Record}
 use Rattle.ready.specs.Parts.{statesOf}
 use Rattle.model.proofs.Facts.{Handled}
@@ -54,22 +57,26 @@ SettledAs r z q byProgram = SomeParted r z q
 abbrev pub Unended : Record → Question → Type 0
 Unended r q = length (r .states) < partCount q
 
--- the yes or no of the last state
-abbrev pub Marked : Record → Question → Type 0
-Marked r q = r .yes ≡ ruleAutomaton (q .inputs .rules) .accepting (lastState (q .results) 0)
+-- proved once, at the finish
+abbrev pub Told : Outcome → Question → Settlement → Type 0
+Told o q clean = outcome o ≡ freshAnswer q
+Told o q byRule = outcome o ≡ ruleAnswer q
+Told o q byProgram = Unit {0}
 
-abbrev pub Ended : Record → Question → Settlement → Type 0
-Ended r q clean = Marked r q × (q .count ≡ partCount q)
-Ended r q byRule = Marked r q
-Ended r q byProgram = Unit {0}
+abbrev pub Lasts : Option Outcome → Option Question → Type 0
+Lasts none none = Unit {0}
+Lasts none (some q) = ⊥
+Lasts (some o) none = ⊥
+Lasts (some o) (some q) = Told o q (q .settlement)
 
 abbrev pub Holds : Record → Sizes → State → Type 0
 Holds r z State.empty = Unit {0}
 Holds r z State.loaded = Unit {0}
 Holds r z (State.running q) = SettledAs r z q (q .settlement) × Unended r q
-Holds r z (State.answered q) = SettledAs r z q (q .settlement) × Ended r q (q .settlement)
+Holds r z State.answered = Unit {0}
 
 pub record Rel (r : Record) (b : Reference) : Type 0 where
   pub phases : r .phase ≡ phase (b .state)
   pub sizes : r .sizes ≡ b .sizes
   pub holds : Holds r (b .sizes) (b .state)
+  pub lasts : Lasts (r .last) (b .last)

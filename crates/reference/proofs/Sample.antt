@@ -32,16 +32,16 @@ use Rattle.questions.specs.Part.{forkOn, partOn}
 use Rattle.formats.specs.Inputs.{Inputs, fits, sameNodeInputs, sameInputs, namesSizes, nodeTableBuilt, stateTableBuilt}
 use Rattle.formats.specs.Inputs.{sound, statesBelow}
 use Rattle.model.specs.Calls.{Call, load, start, advance, read, Answer, refused, outcomeAnswer, mayLoad, mayStart}
-use Rattle.model.specs.Calls.{isRunning, isAnswered}
+use Rattle.model.specs.Calls.{isRunning}
 use Rattle.model.specs.Refusals.{refusal}
 use Rattle.model.specs.PartInputs.{givenOf}
 use Rattle.reference.specs.Reference.{phase, newReference, inState, longer, freshAnswer, ruleAnswer}
 use Rattle.reference.specs.Reference.{starting, advanced, goesOn, otherStates}
 use Rattle.reference.specs.Reference.{mayAdvanceWith, byAnswer, advancingByProgram, advancingByRule, advancing}
-use Rattle.reference.specs.Reference.{isOutcome, reading, proceed, decided, step}
+use Rattle.reference.specs.Reference.{isOutcome, reading, readingLast, finishedWith, proceed, decided, step}
 use Rattle.reference.specs.Causes.{isChildless, isFlat, strays, isApart, nodeTableCause, nodeCause, rulesCause, cause}
 use Rattle.reference.specs.Causes.{advanceCause}
-use Rattle.model.specs.Model.{idle, freshRecord, started, stepped, advanceWith, lastOf, proceeds, unless}
+use Rattle.model.specs.Model.{idle, freshRecord, started, stepped, advanceWith, proceeds, unless}
 use Rattle.model.specs.Model.{act}
 use Rattle.reference.specs.AgreementTest.{answersOf, flag, code, sameAnswer, conforms, agreed, settledIn}
 use Rattle.reference.specs.AgreementTest.{settledAnswers}
@@ -55,11 +55,12 @@ unfolding split sub parent depth isPostorder treeOf changed jumpIn jump nextMove
     lastBelow moveState climbMoves climbedLinks innerLinks partLinks sumOf questionLinks stateOf climbedState
     innerState partState partOf partsFrom partsOf lastState allLinks below runOn ruleOn siblingOn parentOn moveOn
     climbOn lastFound labelOn climbFrom runReached ownReached joinOn innerOn leafOn forkOn partOn fits sameNodeInputs
-    sameInputs namesSizes nodeTableBuilt stateTableBuilt sound statesBelow mayLoad mayStart isRunning isAnswered refusal phase
+    sameInputs namesSizes nodeTableBuilt stateTableBuilt sound statesBelow mayLoad mayStart isRunning refusal phase
     isChildless isFlat strays isApart nodeTableCause nodeCause rulesCause cause advanceCause
     newReference inState givenOf longer freshAnswer ruleAnswer starting
-    advanced goesOn otherStates mayAdvanceWith byAnswer advancingByProgram advancingByRule advancing isOutcome reading proceed decided step
-    idle freshRecord started stepped advanceWith lastOf proceeds unless act answersOf flag code sameAnswer
+    advanced goesOn otherStates mayAdvanceWith byAnswer advancingByProgram advancingByRule advancing isOutcome reading
+    readingLast finishedWith proceed decided step
+    idle freshRecord started stepped advanceWith proceeds unless act answersOf flag code sameAnswer
     conforms agreed settledIn settledAnswers entries nodesListed put putAll superseded changing differing
 computing = 0
 

@@ -2,12 +2,14 @@
 --     Sim n k          answer and record of k against the reference model's reply n
 --     by-refusal       the refusals are one definition, so what is left is a call that no check refuses
 --     on-load, on-cancel, on-read     these three
+--     outcome-same, rule-fresh        what a question's outcome is at its finish
 -- Not here: Start (StartSimulation) and advance (AdvanceSimulation).
 -- Assumes nothing.
 use Prim.Native.Nat.{ℕ, zero, suc}
 use mathlib.Core.Path.{_≡_, refl, sym, ap, ap₂, _∙_}
 use mathlib.Core.Bool.{Bool}
 use mathlib.Core.List.{List, []}
+use mathlib.Core.Option.{Option, none, some}
 use native.Mathlib.Omega.{arith}
 use lib.ListN.{length}
 use lib.Seq.{take-all}
@@ -16,25 +18,23 @@ use Rattle.formats.specs.Rules.{ruleAutomaton}
 use Rattle.formats.specs.Checks.{firstNo}
 use Rattle.ready.specs.Parts.{Part, partsFrom, partsOf, lastState, allLinks}
 use Rattle.formats.specs.Inputs.{Inputs, Sizes, sizesIn}
-use Rattle.model.specs.Calls.{Call, load, cancel, read, Answer, refused, outcomeAnswer, Phase, isRunning}
-use Rattle.model.specs.Calls.{isAnswered}
+use Rattle.model.specs.Calls.{Call, load, cancel, read, Answer, refused, Outcome, outcome, outcomeAnswer, Phase, isRunning, isSome}
 use Rattle.model.specs.Refusals.{stage, refusal}
 use Rattle.reference.specs.Reference.{Settlement, clean, byRule, byProgram, Question, State, Reference, Reply}
 use Rattle.reference.specs.Reference.{phase, inState, stageOf, step, decided, proceed, rootsOf, partCount}
-use Rattle.reference.specs.Reference.{changedTree, givenBy, freshAnswer, ruleAnswer, reading, isOutcome}
+use Rattle.reference.specs.Reference.{changedTree, givenBy, freshAnswer, ruleAnswer, reading, readingLast, isOutcome}
 use Rattle.reference.specs.Demand3.{Conforms, after}
 use Rattle.model.specs.Model.{Record, stageOf as recordStage, Acted, acted, idle, act, unless, proceeds, Does}
-use Rattle.model.specs.Model.{outcomeOf, lastOf}
-use Rattle.model.proofs.ResultLaws.{last-states}
+use Rattle.model.specs.Model.{lastAnswer}
 use Rattle.formats.proofs.InputsLaws.{node-table-built}
 use Rattle.reference.proofs.FreshLaws.{whole-state, whole-links}
-use Rattle.reference.proofs.Relation.{Counted, Cleanly, SettledAs, Marked, Ended, Rel}
+use Rattle.reference.proofs.Relation.{Counted, Cleanly, Told, Lasts, Rel}
 
 abbrev pub Sim : Reply → Acted → Type 0
 Sim n k = Conforms n (k .answer) × Rel (k .record′) (after n (k .answer))
 
-abbrev pub referenceOf : State → Sizes → Reference
-referenceOf s z = record { state = s; sizes = z }
+abbrev pub referenceOf : State → Sizes → Option Question → Reference
+referenceOf s z l = record { state = s; sizes = z; last = l }
 
 -- a call conforms, and record and reference model stay related
 abbrev pub Simulates : Call → Type 0
@@ -44,14 +44,22 @@ Simulates c = (r r′ : Record) (b : Reference) (a : Answer) → Rel r b → Doe
 pub some-number : {n : ℕ} → suc n ≡ 0 → ⊥
 some-number e = omega arith
 
-pub by-refusal : (r : Record) (s : State) (z : Sizes) (c : Call) → Rel r (referenceOf s z)
-    → (refusal (stage (phase s) z) c ≡ 0 → Sim (proceed (referenceOf s z) s c) (proceeds r c)) → Sim (step (referenceOf s z) c) (act r c)
+-- an answer is there in both or in neither
+some-lasts : (o : Option Outcome) (l : Option Question) → Lasts o l → isSome o ≡ isSome l
+some-lasts none none h = refl
+some-lasts none (some q) h = absurd h
+some-lasts (some o) none h = absurd h
+some-lasts (some o) (some q) h = refl
+
+pub by-refusal : (r : Record) (b : Reference) (c : Call) → Rel r b
+    → (refusal (stageOf b) c ≡ 0 → Sim (proceed b (b .state) c) (proceeds r c)) → Sim (step b c) (act r c)
 unfolding step act decided unless
-by-refusal r s z c i f =
-    go (refusal (recordStage r) c) (refusal (stage (phase s) z) c)
-    (ap₂ (λ (p : Phase) (y : Sizes). refusal (stage p y) c) (i .phases) (i .sizes)) refl
+by-refusal r b c i f =
+    go (refusal (recordStage r) c) (refusal (stageOf b) c)
+    (ap₂ (λ (p : Phase) (y : Sizes). refusal (stage p y (isSome (r .last))) c) (i .phases) (i .sizes)
+    ∙ ap (λ (l : Bool). refusal (stage (phase (b .state)) (b .sizes) l) c) (some-lasts (r .last) (b .last) (i .lasts))) refl
   where
-    go : (m n : ℕ) → m ≡ n → refusal (stage (phase s) z) c ≡ n → Sim (decided n (referenceOf s z) c) (unless m r c)
+    go : (m n : ℕ) → m ≡ n → refusal (stageOf b) c ≡ n → Sim (decided n b c) (unless m r c)
     go zero zero e h = f h
     go zero (suc n) e h = absurd (some-number (sym e))
     go (suc m) zero e h = absurd (some-number e)
@@ -65,40 +73,27 @@ does r r′ b c a d h = rw (d .tells, d .leaves) h
 
 pub on-load : (x : Inputs) → Simulates (load x)
 unfolding proceed proceeds phase idle
-on-load x r r′ b a i d = does r r′ b (load x) a d (by-refusal r (b .state) (b .sizes) (load x) i ok)
+on-load x r r′ b a i d = does r r′ b (load x) a d (by-refusal r b (load x) i ok)
   where
     ok : refusal (stageOf b) (load x) ≡ 0 → Sim (proceed b (b .state) (load x)) (proceeds r (load x))
-    ok h = (refl, record { phases = refl; sizes = refl; holds = tt })
+    ok h = (refl, record { phases = refl; sizes = refl; holds = tt; lasts = tt })
 
-cancel-at : (r : Record) (s : State) (z : Sizes) → Rel r (referenceOf s z) → refusal (stage (phase s) z) cancel ≡ 0
-    → Sim (proceed (referenceOf s z) s cancel) (proceeds r cancel)
-unfolding refusal phase firstNo isRunning proceed proceeds inState idle
-cancel-at r State.empty z i h = absurd (some-number h)
-cancel-at r State.loaded z i h = absurd (some-number h)
-cancel-at r (State.running q) z i h =
-    (refl, record { phases = refl; sizes = i .sizes; holds = tt })
-cancel-at r (State.answered q) z i h = absurd (some-number h)
-
+-- "it equals it in all but that answer": the last finished answer is kept
 pub on-cancel : Simulates cancel
-on-cancel r r′ b a i d =
-    does r r′ b cancel a d (by-refusal r (b .state) (b .sizes) cancel i (cancel-at r (b .state) (b .sizes) i))
+unfolding proceed proceeds inState phase idle
+on-cancel r r′ b a i d = does r r′ b cancel a d (by-refusal r b cancel i ok)
+  where
+    ok : refusal (stageOf b) cancel ≡ 0 → Sim (proceed b (b .state) cancel) (proceeds r cancel)
+    ok h = (refl, record { phases = refl; sizes = i .sizes; holds = tt; lasts = i .lasts })
 
--- ---- Read
+-- ---- the outcome of a question, at its finish
 
-outcome-same : (q q′ : ℕ) (y y′ : Bool) (p p′ l l′ : ℕ) → q ≡ q′ → y ≡ y′ → p ≡ p′ → l ≡ l′
+pub outcome-same : (q q′ : ℕ) (y y′ : Bool) (p p′ l l′ : ℕ) → q ≡ q′ → y ≡ y′ → p ≡ p′ → l ≡ l′
     → outcomeAnswer q y p l ≡ outcomeAnswer q′ y′ p′ l′
 outcome-same q q′ y y′ p p′ l l′ e f g h = cc
 
--- a question that is counted: what the rule gave
-tells-rule : (r : Record) (z : Sizes) (q : Question) → Counted r z q → Marked r q → outcomeOf r ≡ ruleAnswer q
-unfolding ruleAnswer
-tells-rule r z q c m =
-    outcome-same _ _ _ _ _ _ _ _
-    (ap (λ (l : List ℕ). lastOf l 0) (c .parted .states) ∙ last-states (q .results) 0) m (ap length (c .parted .roots))
-    (c .links)
-
 -- a clean one: all parts on the state table that Load writes
-rule-fresh : (r : Record) (z : Sizes) (q : Question) → Counted r z q → Cleanly z q → q .count ≡ partCount q
+pub rule-fresh : (r : Record) (z : Sizes) (q : Question) → Counted r z q → Cleanly z q → q .count ≡ partCount q
     → ruleAnswer q ≡ freshAnswer q
 unfolding ruleAnswer freshAnswer partsOf
 rule-fresh r z q c k e =
@@ -114,22 +109,22 @@ rule-fresh r z q c k e =
     s : lastState (q .results) 0 ≡ state (ruleAutomaton (q .inputs .rules)) (changedTree q)
     s = ap (λ (l : List Part). lastState l 0) whole ∙ whole-state z q (node-table-built z (q .inputs) (c .parted .built)) (k .stateTable)
 
-read-as : (r : Record) (z : Sizes) (q : Question) (k : Settlement) → SettledAs r z q k → Ended r q k
-    → Rel r (referenceOf (State.answered q) z)
-    → Sim (reading (referenceOf (State.answered q) z) q k) (acted (outcomeOf r) r)
-unfolding reading isOutcome
-read-as r z q clean s e i = (tells-rule r z q (s .0) (e .0) ∙ rule-fresh r z q (s .0) (s .1) (e .1), i)
-read-as r z q byRule s e i = (tells-rule r z q s e, i)
-read-as r z q byProgram s e i = (refl, i)
+-- ---- Read: the last finished answer
 
-read-at : (r : Record) (s : State) (z : Sizes) → Rel r (referenceOf s z) → refusal (stage (phase s) z) read ≡ 0
-    → Sim (proceed (referenceOf s z) s read) (proceeds r read)
-unfolding refusal phase firstNo isAnswered proceed proceeds
-read-at r State.empty z i h = absurd (some-number h)
-read-at r State.loaded z i h = absurd (some-number h)
-read-at r (State.running q) z i h = absurd (some-number h)
-read-at r (State.answered q) z i h = read-as r z q (q .settlement) (i .holds .0) (i .holds .1) i
+module _ (r : Record) (b : Reference) (i : Rel r b) where
+  read-as : (o : Outcome) (q : Question) (k : Settlement) → Told o q k → Sim (reading b q k) (acted (outcome o) r)
+  unfolding reading isOutcome
+  read-as o q clean e = (e, i)
+  read-as o q byRule e = (e, i)
+  read-as o q byProgram e = (refl, i)
+
+  read-last : (o : Option Outcome) (l : Option Question) → Lasts o l → Sim (readingLast b l) (acted (lastAnswer o) r)
+  unfolding readingLast
+  read-last none none e = (refl, i)
+  read-last none (some q) e = absurd e
+  read-last (some o) none e = absurd e
+  read-last (some o) (some q) e = read-as o q (q .settlement) e
 
 pub on-read : Simulates read
-on-read r r′ b a i d = does r r′ b read a d
-    (by-refusal r (b .state) (b .sizes) read i (read-at r (b .state) (b .sizes) i))
+unfolding proceed proceeds
+on-read r r′ b a i d = does r r′ b read a d (by-refusal r b read i (λ h. read-last r b i (r .last) (b .last) (i .lasts)))

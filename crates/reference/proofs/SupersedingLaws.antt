@@ -33,10 +33,10 @@ use Rattle.tables.specs.declared.answers.Reached.{Reached}
 use Rattle.tables.specs.Climbs.{View}
 use Rattle.questions.specs.Part.{labelOn, partOn}
 use Rattle.model.specs.Calls.{Call, load, start, advance, cancel, read, Answer, parts, more, finished, outcomeAnswer, mayStart}
-use Rattle.model.specs.Calls.{Phase}
+use Rattle.model.specs.Calls.{Outcome, Phase}
 use Rattle.model.specs.Refusals.{Stage, refusal}
 use Rattle.model.specs.Model.{Record, stageOf, Acted, acted, idle, freshRecord, viewBy, leftIn, rootsIn, started, stepped, advanceWith}
-use Rattle.model.specs.Model.{marksBy, partNext, proceeds, unless, act}
+use Rattle.model.specs.Model.{withLast, loadedRecord, marksBy, partNext, proceeds, unless, act}
 use Rattle.model.proofs.ModelLaws.{start-list}
 use Rattle.reference.specs.Reference.{asked, partCount, freshAnswer}
 use Rattle.reference.specs.AgreementTest.{answersOf}
@@ -105,10 +105,14 @@ idle-superseded : (p : Phase) (z : Sizes) → supersededRecord (idle p z) ≡ id
 unfolding idle superseded putAll entries nodesListed labelsListed
 idle-superseded p z = refl
 
-started-superseded : (z : Sizes) (vs bs rs : List ℕ)
-    → supersededRecord (started z vs bs rs) ≡ started z (supersededNodes vs bs) (supersededLabels vs bs) rs
+cancelled-superseded : (z : Sizes) (o : Option Outcome) → supersededRecord (withLast o (loadedRecord z)) ≡ withLast o (loadedRecord z)
+unfolding idle superseded putAll entries nodesListed labelsListed
+cancelled-superseded z o = refl
+
+started-superseded : (z : Sizes) (o : Option Outcome) (vs bs rs : List ℕ)
+    → supersededRecord (withLast o (started z vs bs rs)) ≡ withLast o (started z (supersededNodes vs bs) (supersededLabels vs bs) rs)
 unfolding started
-started-superseded z vs bs rs = refl
+started-superseded z o vs bs rs = refl
 
 unless-superseded : (n : ℕ) (r : Record) (c d : Call) → proceeds (supersededRecord r) d ≡ superseding (proceeds r c)
     → unless n (supersededRecord r) d ≡ superseding (unless n r c)
@@ -129,9 +133,11 @@ module _ (r : Record) (x : Inputs) (vs bs : List ℕ) where
   start-roots : proceeds (supersededRecord r) (start x (supersededNodes vs bs) (supersededLabels vs bs)) ≡ superseding (proceeds r (start x vs bs))
   unfolding proceeds
   start-roots =
-      ap (λ (ms : List ℕ). acted (parts (length ms)) (started (r .sizes) (supersededNodes vs bs) (supersededLabels vs bs) ms))
+      ap (λ (ms : List ℕ).
+      acted (parts (length ms)) (withLast (r .last) (started (r .sizes) (supersededNodes vs bs) (supersededLabels vs bs) ms)))
       (sym (roots-superseded (planTree (x .plan)) (labelsIn (x .plan)) vs bs))
-      ∙ ap (acted (parts (length (rootsIn x (leftIn x vs bs))))) (sym (started-superseded (r .sizes) vs bs (rootsIn x (leftIn x vs bs))))
+      ∙ ap (acted (parts (length (rootsIn x (leftIn x vs bs)))))
+      (sym (started-superseded (r .sizes) (r .last) vs bs (rootsIn x (leftIn x vs bs))))
 
   start-superseded : act (supersededRecord r) (supersede (stageOf r) (start x vs bs)) ≡ superseding (act r (start x vs bs))
   unfolding act number
@@ -161,7 +167,7 @@ act-superseded r (advance x) =
     (getD (r .roots) (length (r .states)) 0)) ∙ advance-superseded r x (partNext r x))
 act-superseded r cancel =
     unless-superseded (refusal (stageOf r) cancel) r cancel cancel
-    (ap (acted Answer.accepted) (sym (idle-superseded Phase.loaded (r .sizes))))
+    (ap (acted Answer.accepted) (sym (cancelled-superseded (r .sizes) (r .last))))
 act-superseded r read = unless-superseded (refusal (stageOf r) read) r read read refl
 
 -- ---- every list of calls

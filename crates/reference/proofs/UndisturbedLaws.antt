@@ -1,9 +1,11 @@
 -- A clean question that is undisturbed, call by call and for whole lists.
 --     at q c tr            question q, clean, with c accepted advances counted
---     Iteration, turn           one call while it runs: refused, or an advance; finished exactly at the number of parts
+--     Iteration, iteration      one call while it runs: refused, a Read of an earlier answer, or an advance; finished exactly at the number
+--                               of parts
 --     Rest, rest           one call once it is answered: refused, or a Read that tells the fresh run's answer
 --     agrees-split         a list of calls in two parts
---     UndisturbedFrom, undisturbed    a whole list: the advances it takes to finish, and what Reads tell
+--     UndisturbedFrom, undisturbed    a whole list: the advances it takes to finish, and what Reads tell after that
+--     every-map, after-map      what holds of every outcome
 -- Assumes nothing.
 use Prim.Native.Nat.{ℕ, zero, suc, _+_, _≤_, _<_}
 use mathlib.Core.Path.{_≡_, refl, sym, ap, _∙_, subst}
@@ -19,32 +21,34 @@ use Rattle.list_laws.proofs.BoolLaws.{true-false}
 use Rattle.ready.specs.Parts.{Part}
 use Rattle.trees.proofs.MoveLaws.{none-some}
 use Rattle.formats.specs.Inputs.{Inputs, Sizes, sameInputs}
-use Rattle.model.specs.Calls.{Call, load, start, advance, cancel, read, Answer, refused, parts, more, finished, outcome}
-use Rattle.model.specs.Calls.{Phase, mayLoad, mayStart, isRunning, isAnswered, isRefused}
+use Rattle.model.specs.Calls.{Call, load, start, advance, cancel, read, Answer, refused, parts, more, finished, Outcome, outcome}
+use Rattle.model.specs.Calls.{Phase, mayLoad, mayStart, isRunning, isRefused, isSome}
 use Rattle.model.specs.Refusals.{stage, refusal}
 use Rattle.reference.specs.Reference.{clean, byRule, Question, State, Reference, settled}
 use Rattle.reference.specs.Reference.{phase, inState, step, decided, proceed, partCount, freshAnswer}
 use Rattle.reference.specs.Reference.{starting, longer, advanced, goesOn}
 use Rattle.reference.specs.Reference.{otherStates, byAnswer, advancingByProgram, advancingByRule, advancing}
-use Rattle.reference.specs.Reference.{reading}
+use Rattle.reference.specs.Reference.{reading, readingLast, finishedWith}
 use Rattle.reference.specs.Demand3.{Conforms, after, Agrees}
 use Rattle.reference.specs.Undisturbed.{advances, oneMore, finishedAfter, referenceAt, UndisturbedBy, Undisturbed}
-use Rattle.reference.specs.Undisturbed.{OnlyOutcome}
+use Rattle.reference.specs.Undisturbed.{OutcomeHas, EveryOutcome, EveryOutcomeAfter, OnlyOutcome, OnlyOutcomeAfter}
+use Rattle.reference.proofs.ReadingLaws.{reading-outcome, reading-stays}
 use Rattle.reference.proofs.Simulation.{referenceOf}
 
 abbrev pub at : Question → ℕ → List Part → Question
 at q c tr = record { nodes = q .nodes; labels = q .labels; inputs = q .inputs; count = c; settlement = clean; results = tr }
 
--- ---- while it runs
+-- ---- while it runs; o is the last question that finished before
 
-module _ (z : Sizes) (q : Question) (c : ℕ) (tr : List Part) where
+module _ (z : Sizes) (o : Option Question) (q : Question) (c : ℕ) (tr : List Part) where
   abbrev pub going : Reference
-  going = referenceOf (State.running (at q c tr)) z
+  going = referenceOf (State.running (at q c tr)) z o
 
   pub data Iteration (a : Answer) (b : Reference) : Type 0 where
     waits : (n : ℕ) → a ≡ refused n → b ≡ going → Iteration a b
-    goes : (ps : List Part) → a ≡ more → suc c < partCount q → b ≡ referenceOf (State.running (at q (suc c) ps)) z → Iteration a b
-    ends : (ps : List Part) → a ≡ finished → suc c ≡ partCount q → b ≡ referenceOf (State.answered (at q (suc c) ps)) z
+    looks : (e : Outcome) → a ≡ outcome e → b ≡ going → Iteration a b
+    goes : (ps : List Part) → a ≡ more → suc c < partCount q → b ≡ referenceOf (State.running (at q (suc c) ps)) z o → Iteration a b
+    ends : (ps : List Part) → a ≡ finished → suc c ≡ partCount q → b ≡ referenceOf State.answered z (some (at q (suc c) ps))
         → Iteration a b
 
   abbrev Iterated : Call → Answer → Type 0
@@ -52,25 +56,25 @@ module _ (z : Sizes) (q : Question) (c : ℕ) (tr : List Part) where
 
   iteration-goes-on : c < partCount q → (ps : List Part) (a : Answer) → Conforms (goesOn going (at q (suc c) ps)) a
       → Iteration a (after (goesOn going (at q (suc c) ps)) a)
-  unfolding goesOn inState
+  unfolding goesOn inState finishedWith
   iteration-goes-on l ps a e = go (eqb (suc c) (partCount q)) refl e
     where
       go : (b : Bool) → eqb (suc c) (partCount q) ≡ b
-          → Conforms (cond b (settled finished (referenceOf (State.answered (at q (suc c) ps)) z))
-          (settled more (referenceOf (State.running (at q (suc c) ps)) z))) a
-          → Iteration a (after (cond b (settled finished (referenceOf (State.answered (at q (suc c) ps)) z))
-          (settled more (referenceOf (State.running (at q (suc c) ps)) z))) a)
+          → Conforms (cond b (settled finished (referenceOf State.answered z (some (at q (suc c) ps))))
+          (settled more (referenceOf (State.running (at q (suc c) ps)) z o))) a
+          → Iteration a (after (cond b (settled finished (referenceOf State.answered z (some (at q (suc c) ps))))
+          (settled more (referenceOf (State.running (at q (suc c) ps)) z o))) a)
       go true h e = ends ps e (eqb-true (suc c) (partCount q) h) refl
       go false h e = goes ps e (let n : suc c ≡ partCount q → ⊥ = eqb-false (suc c) (partCount q) h in
           omega (arith, n, l)) refl
 
   -- an answer more or finished is no refusal
   not-on : (k : Question) (n : ℕ) → Conforms (goesOn going k) (refused n) → ⊥
-  unfolding goesOn inState
+  unfolding goesOn inState finishedWith
   not-on k n e = go (eqb (k .count) (partCount k)) e
     where
-      go : (b : Bool) → Conforms (cond b (settled finished (referenceOf (State.answered k) z))
-          (settled more (referenceOf (State.running k) z))) (refused n) → ⊥
+      go : (b : Bool) → Conforms (cond b (settled finished (referenceOf State.answered z (some k)))
+          (settled more (referenceOf (State.running k) z o))) (refused n) → ⊥
       go true e = true-false (ap isRefused e)
       go false e = true-false (ap isRefused e)
 
@@ -94,11 +98,11 @@ module _ (z : Sizes) (q : Question) (c : ℕ) (tr : List Part) where
   iteration-other x (parts p) h e f = absurd (true-false (sym (f refl) ∙ h))
   iteration-other x more h e f = absurd (true-false (sym (f refl) ∙ h))
   iteration-other x finished h e f = absurd (true-false (sym (f refl) ∙ h))
-  iteration-other x (outcome o) h e f = absurd (true-false (sym (f refl) ∙ h))
+  iteration-other x (outcome w) h e f = absurd (true-false (sym (f refl) ∙ h))
 
   iteration-advance : c < partCount q → (x : Inputs) (a : Answer) → Iterated (advance x) a
   unfolding step decided proceed advancing advanced
-  iteration-advance l x a e f = go (refusal (stage (phase (State.running (at q c tr))) z) (advance x)) e
+  iteration-advance l x a e f = go (refusal (stage (phase (State.running (at q c tr))) z (isSome o)) (advance x)) e
     where
       both : (b : Bool) → sameInputs z (q .inputs) x ≡ b
           → Conforms (cond b (goesOn going (at q (suc c) (longer z (at q c tr) x))) (advancingByRule going x (at q c tr))) a
@@ -111,20 +115,31 @@ module _ (z : Sizes) (q : Question) (c : ℕ) (tr : List Part) where
       go zero e = both (sameInputs z (q .inputs) x) refl e
       go (suc n) e = waits (suc n) e refl
 
+  -- a Read tells of the question before, or is refused
+  iteration-read : (w : Option Question) (a : Answer) → Conforms (readingLast going w) a → Iteration a (after (readingLast going w) a)
+  unfolding readingLast
+  iteration-read none a e = waits 1 e refl
+  iteration-read (some k) a e =
+      let w = reading-outcome going k (k .settlement) a e in looks (w .0) (w .1) (reading-stays going k (k .settlement) a)
+
   -- one call while the question runs
   pub iteration : c < partCount q → (k : Call) (a : Answer) → Iterated k a
-  unfolding step decided proceed refusal phase firstNo mayLoad mayStart isRunning isAnswered inState
+  unfolding step decided proceed refusal phase firstNo mayLoad mayStart isRunning inState
   iteration l (load x) a e f = waits 1 e refl
   iteration l (start x vs bs) a e f = waits 1 e refl
   iteration l (advance x) a e f = iteration-advance l x a e f
   iteration l cancel a e f = absurd (true-false (sym f ∙ ap isRefused e))
-  iteration l read a e f = waits 1 e refl
+  iteration l read a e f = go (refusal (stage Phase.running z (isSome o)) read) e
+    where
+      go : (n : ℕ) → Conforms (decided n going read) a → Iteration a (after (decided n going read) a)
+      go zero e = iteration-read o a e
+      go (suc n) e = waits (suc n) e refl
 
 -- ---- once it is answered
 
 module _ (z : Sizes) (q : Question) (c : ℕ) (tr : List Part) where
   abbrev pub over : Reference
-  over = referenceOf (State.answered (at q c tr)) z
+  over = referenceOf State.answered z (some (at q c tr))
 
   pub data Rest (a : Answer) (b : Reference) : Type 0 where
     rests : (n : ℕ) → a ≡ refused n → b ≡ over → Rest a b
@@ -134,13 +149,13 @@ module _ (z : Sizes) (q : Question) (c : ℕ) (tr : List Part) where
   Rested k a = Conforms (step over k) a → UndisturbedBy z (q .inputs) k a → Rest a (after (step over k) a)
 
   pub rest : (k : Call) (a : Answer) → Rested k a
-  unfolding step decided proceed starting refusal phase firstNo isRunning isAnswered reading freshAnswer
-  rest (load x) a e f = go (refusal (stage Phase.answered z) (load x)) e
+  unfolding step decided proceed starting refusal phase firstNo isRunning reading readingLast freshAnswer
+  rest (load x) a e f = go (refusal (stage Phase.answered z true) (load x)) e
     where
       go : (n : ℕ) → Conforms (decided n over (load x)) a → Rest a (after (decided n over (load x)) a)
       go zero e = absurd (true-false (sym f ∙ ap isRefused e))
       go (suc n) e = rests (suc n) e refl
-  rest (start x vs bs) a e f = go (refusal (stage Phase.answered z) (start x vs bs)) e
+  rest (start x vs bs) a e f = go (refusal (stage Phase.answered z true) (start x vs bs)) e
     where
       go : (n : ℕ) → Conforms (decided n over (start x vs bs)) a → Rest a (after (decided n over (start x vs bs)) a)
       go zero e = absurd (true-false (sym f ∙ ap isRefused e))
@@ -164,7 +179,7 @@ pub record UndisturbedFrom (q : Question) (c : ℕ) (xs : List Answer) : Type 0 
   pub exact : (m : ℕ) → finishedAfter xs ≡ some m → c + m ≡ partCount q
   pub unfinished : finishedAfter xs ≡ none → c + advances xs < partCount q
   pub most : c + advances xs ≤ partCount q
-  pub only : OnlyOutcome (freshAnswer q) xs
+  pub only : OnlyOutcomeAfter (freshAnswer q) xs
 
 more-after : (o : Option ℕ) (m : ℕ) → oneMore o ≡ some m → (n : ℕ) × (o ≡ some n) × (suc n ≡ m)
 more-after none m e = absurd (none-some e)
@@ -194,22 +209,26 @@ resting z q c tr (k ∷ cs) (a ∷ xs) h f =
         let r = later (subst (λ (b : Reference). Agrees b cs xs) d (h .1)) in
         subst (λ (x : Answer). (advances (x ∷ xs) ≡ 0) × OnlyOutcome (freshAnswer q) (x ∷ xs)) (sym e) (r .0, (refl, r .1))
 
-pub undisturbed : (z : Sizes) (q : Question) (c : ℕ) (tr : List Part) → c < partCount q
+pub undisturbed : (z : Sizes) (o : Option Question) (q : Question) (c : ℕ) (tr : List Part) → c < partCount q
     → (cs : List Call) (xs : List Answer)
-    → Agrees (going z q c tr) cs xs → Undisturbed z (q .inputs) cs xs → UndisturbedFrom q c xs
-undisturbed z q c tr l [] [] h f =
+    → Agrees (going z o q c tr) cs xs → Undisturbed z (q .inputs) cs xs → UndisturbedFrom q c xs
+undisturbed z o q c tr l [] [] h f =
     record { exact = λ m e. absurd (none-some e); unfinished = λ e. omega arith; most = omega arith; only = tt }
-undisturbed z q c tr l [] (a ∷ xs) h f = absurd h
-undisturbed z q c tr l (k ∷ cs) [] h f = absurd h
-undisturbed z q c tr l (k ∷ cs) (a ∷ xs) h f =
-    go (λ i ps m g. undisturbed z q i ps m cs xs g (f .1)) (iteration z q c tr l k a (h .0) (f .0))
+undisturbed z o q c tr l [] (a ∷ xs) h f = absurd h
+undisturbed z o q c tr l (k ∷ cs) [] h f = absurd h
+undisturbed z o q c tr l (k ∷ cs) (a ∷ xs) h f =
+    go (λ i ps m g. undisturbed z o q i ps m cs xs g (f .1)) (iteration z o q c tr l k a (h .0) (f .0))
   where
-    go : ((i : ℕ) (ps : List Part) → i < partCount q → Agrees (going z q i ps) cs xs → UndisturbedFrom q i xs)
-        → Iteration z q c tr a (after (step (going z q c tr) k) a) → UndisturbedFrom q c (a ∷ xs)
+    go : ((i : ℕ) (ps : List Part) → i < partCount q → Agrees (going z o q i ps) cs xs → UndisturbedFrom q i xs)
+        → Iteration z o q c tr a (after (step (going z o q c tr) k) a) → UndisturbedFrom q c (a ∷ xs)
     go later (waits n e d) =
         let A : UndisturbedFrom q c xs = later c tr l (subst (λ (b : Reference). Agrees b cs xs) d (h .1)) in
         subst (λ (x : Answer). UndisturbedFrom q c (x ∷ xs)) (sym e)
-        (record { exact = A .exact; unfinished = A .unfinished; most = A .most; only = (tt, A .only) })
+        (record { exact = A .exact; unfinished = A .unfinished; most = A .most; only = A .only })
+    go later (looks w e d) =
+        let A : UndisturbedFrom q c xs = later c tr l (subst (λ (b : Reference). Agrees b cs xs) d (h .1)) in
+        subst (λ (x : Answer). UndisturbedFrom q c (x ∷ xs)) (sym e)
+        (record { exact = A .exact; unfinished = A .unfinished; most = A .most; only = A .only })
     go later (goes ps e m d) =
         let A : UndisturbedFrom q (suc c) xs = later (suc c) ps m (subst (λ (b : Reference). Agrees b cs xs) d (h .1)) in
         subst (λ (x : Answer). UndisturbedFrom q c (x ∷ xs)) (sym e)
@@ -217,7 +236,7 @@ undisturbed z q c tr l (k ∷ cs) (a ∷ xs) h f =
           exact = λ j i. let n = more-after (finishedAfter xs) j i in omega (arith, A .exact (n .0) (n .1), n .2);
           unfinished = λ i. omega (arith, A .unfinished (more-none (finishedAfter xs) i));
           most = omega (arith, A .most);
-          only = (tt, A .only);
+          only = A .only;
         })
     go later (ends ps e m d) =
         let r = resting z q (suc c) ps cs xs (subst (λ (b : Reference). Agrees b cs xs) d (h .1)) (f .1) in
@@ -226,5 +245,29 @@ undisturbed z q c tr l (k ∷ cs) (a ∷ xs) h f =
           exact = λ j i. omega (arith, Option·some-injective 1 j i, m);
           unfinished = λ i. absurd (none-some (sym i));
           most = omega (arith, r .0, m);
-          only = (tt, r .1);
+          only = r .1;
         })
+
+-- ---- what holds of every outcome
+
+module _ (P Q : Outcome → Type 0) (f : (o : Outcome) → P o → Q o) where
+  has-map : (y : Answer) → OutcomeHas P y → OutcomeHas Q y
+  has-map (refused n) e = tt
+  has-map Answer.accepted e = tt
+  has-map (parts p) e = tt
+  has-map more e = tt
+  has-map finished e = tt
+  has-map (outcome o) e = f o e
+
+  pub every-map : (ys : List Answer) → EveryOutcome P ys → EveryOutcome Q ys
+  every-map [] h = tt
+  every-map (y ∷ ys) h = (has-map y (h .0), every-map ys (h .1))
+
+  pub after-map : (ys : List Answer) → EveryOutcomeAfter P ys → EveryOutcomeAfter Q ys
+  after-map [] h = tt
+  after-map (refused n ∷ ys) h = after-map ys h
+  after-map (Answer.accepted ∷ ys) h = after-map ys h
+  after-map (parts p ∷ ys) h = after-map ys h
+  after-map (more ∷ ys) h = after-map ys h
+  after-map (finished ∷ ys) h = every-map ys h
+  after-map (outcome o ∷ ys) h = after-map ys h

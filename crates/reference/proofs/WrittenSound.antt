@@ -8,6 +8,7 @@ use Prim.Native.Nat.{ℕ, _+_, _≤_}
 use mathlib.Core.Path.{_≡_, refl, ap, _∙_}
 use mathlib.Core.Bool.{true, _&&_}
 use mathlib.Core.List.{List, [], _∷_, _++_}
+use mathlib.Core.Option.{Option}
 use native.Mathlib.Omega.{arith}
 use lib.Dec.{leb, eqb}
 use lib.ListN.{length, drop, length-append}
@@ -27,10 +28,10 @@ use Rattle.tables.specs.Answers.{written}
 use Rattle.node_tables.proofs.CellLaws.{length-nodeTableOf}
 use Rattle.formats.specs.Inputs.{Inputs, sizesIn, fits, usedNodeTable, usedStateTable, nodeTableBuilt, stateTableBuilt}
 use Rattle.formats.specs.Inputs.{sound}
-use Rattle.model.specs.Calls.{load, start, parts, mayLoad, mayStart}
+use Rattle.model.specs.Calls.{load, start, parts, mayLoad, mayStart, isSome}
 use Rattle.model.specs.Refusals.{Stage, stage, checksBefore18, refusal}
 use Rattle.model.proofs.ModelLaws.{before-numbered}
-use Rattle.reference.specs.Reference.{State, settled, phase, inState, step}
+use Rattle.reference.specs.Reference.{Question, State, settled, phase, inState, step}
 use Rattle.reference.specs.Reference.{decided, proceed, partCount, asked, starting}
 use Rattle.formats.proofs.InputsLaws.{built-node-table}
 use Rattle.reference.proofs.FreshLaws.{rules-inside, length-stateTableOf}
@@ -135,17 +136,17 @@ pub written-fits : (t : Stage) (x : Inputs) → refusal t (load x) ≡ 0 → fit
 written-fits t x e = passed-fits x (load-passes t x e)
 
 -- so a Start on what an accepted Load left is accepted with any list that passes 12 to 14, and tells its parts
-pub start-written : (t : Stage) (x : Inputs) (s : State) (vs bs : List ℕ) → refusal t (load x) ≡ 0
+pub start-written : (t : Stage) (x : Inputs) (s : State) (o : Option Question) (vs bs : List ℕ) → refusal t (load x) ≡ 0
     → mayStart (phase s) ≡ true
     → firstNo (listChecks (sizesIn x .n) (sizesIn x .k) vs bs) ≡ 0
-    → step (referenceOf s (sizesIn x)) (start (loaded x) vs bs)
+    → step (referenceOf s (sizesIn x) o) (start (loaded x) vs bs)
     ≡ settled (parts (partCount (asked (loaded x) vs bs)))
-    (referenceOf (State.running (asked (loaded x) vs bs)) (sizesIn x))
+    (referenceOf (State.running (asked (loaded x) vs bs)) (sizesIn x) o)
 unfolding step decided refusal proceed starting inState
-start-written t x s vs bs e m l =
-    ap (λ (n : ℕ). decided n (referenceOf s (sizesIn x)) (start (loaded x) vs bs))
-    (firstNo-append-zero (checksBefore18 (stage (phase s) (sizesIn x)) (loaded x) vs bs) (check 18 (sound (sizesIn x) (loaded x)) ∷ [])
-    (before-numbered (stage (phase s) (sizesIn x)) (loaded x) vs bs)
+start-written t x s o vs bs e m l =
+    ap (λ (n : ℕ). decided n (referenceOf s (sizesIn x) o) (start (loaded x) vs bs))
+    (firstNo-append-zero (checksBefore18 (stage (phase s) (sizesIn x) (isSome o)) (loaded x) vs bs) (check 18 (sound (sizesIn x) (loaded x)) ∷ [])
+    (before-numbered (stage (phase s) (sizesIn x) (isSome o)) (loaded x) vs bs)
     (firstNo-yes 1 (mayStart (phase s))
     (check 17 (fits (sizesIn x) (loaded x)) ∷ listChecks (sizesIn x .n) (sizesIn x .k) vs bs) m
     ∙ firstNo-yes 17 (fits (sizesIn x) (loaded x)) (listChecks (sizesIn x .n) (sizesIn x .k) vs bs)

@@ -6,3 +6,4 @@ pub mod AgreementTest
 pub mod Superseding
 pub mod OwnAnswers
 pub mod Finished
+pub mod Lasting

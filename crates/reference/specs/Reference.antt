@@ -4,7 +4,8 @@
 --   byRule: plan, rules and node table as at Start, the state table's bytes below S, so that "Parts of a question" settles them; byProgram:
 --   neither. byRule and byProgram come of advances alone
 -- Question == "its list, what its Start lent, a count, and whether it is clean"; the results of its parts, by the rule on the inputs given
--- Reference == "the session's state, N, S and K of the last accepted Load", and the question; stageOf b == what the checks ask of it
+-- Reference == "the session's state, N, S and K of the last accepted Load", the question, and the last that finished, as it was at its
+--   finish; stageOf b == what the checks ask of it
 -- Reply == its reply to a call: settled without the program's answer, or unsettled, left to the program and fed its answer
 -- step b c == the lines of "The panel book"
 --
@@ -13,6 +14,7 @@
 use Prim.Native.Nat.{ℕ, zero, suc}
 use mathlib.Core.Bool.{Bool, true, false, cond, not, _&&_}
 use mathlib.Core.List.{List, [], _∷_, _++_}
+use mathlib.Core.Option.{Option, none, some}
 use lib.Dec.{eqb}
 use lib.ListN.{length, getD}
 use Rattle.trees.specs.Tree.{Tree}
@@ -24,7 +26,7 @@ use Rattle.ready.specs.Members.{roots}
 use Rattle.ready.specs.Parts.{Given, Part, partOf, lastState, allLinks, questionLinks}
 use Rattle.formats.specs.Inputs.{Inputs, Sizes, sizesIn, sameNodeInputs, sameInputs, statesBelow}
 use Rattle.model.specs.Calls.{Call, load, start, advance, cancel, read, Answer, refused, parts, more, finished}
-use Rattle.model.specs.Calls.{outcomeAnswer, onRefused, onAdvance, onOutcome, Phase}
+use Rattle.model.specs.Calls.{outcomeAnswer, onRefused, onAdvance, onOutcome, Phase, isSome}
 use Rattle.model.specs.Refusals.{Stage, stage, refusal}
 use Rattle.model.specs.PartInputs.{givenOf}
 use Rattle.reference.specs.Causes.{advanceCause}
@@ -46,11 +48,14 @@ pub data State : Type 0 where
   empty : State
   loaded : State
   running : Question → State
-  answered : Question → State
+  answered : State
 
+-- "The session record, and the panel book of demand 3 with it, gains the last finished answer .. The book keeps with it whether its question
+-- was clean at its finish" (02, S-1): the question itself is kept, and its settlement with it
 pub record Reference : Type 0 where
   pub state : State
   pub sizes : Sizes
+  pub last : Option Question
 
 pub data Reply : Type 0 where
   settled : Answer → Reference → Reply
@@ -61,18 +66,22 @@ unfoldable pub phase : State → Phase
 phase State.empty = Phase.empty
 phase State.loaded = Phase.loaded
 phase (State.running q) = Phase.running
-phase (State.answered q) = Phase.answered
+phase State.answered = Phase.answered
 
 -- what the checks ask of it
 abbrev pub stageOf : Reference → Stage
-stageOf b = stage (phase (b .state)) (b .sizes)
+stageOf b = stage (phase (b .state)) (b .sizes) (isSome (b .last))
 
 -- "It starts empty"
 unfoldable pub newReference : Reference
-newReference = record { state = State.empty; sizes = record { n = 0; s = 0; k = 0 } }
+newReference = record { state = State.empty; sizes = record { n = 0; s = 0; k = 0 }; last = none }
 
 unfoldable pub inState : Reference → State → Reference
-inState b s = record { state = s; sizes = b .sizes }
+inState b s = record { state = s; sizes = b .sizes; last = b .last }
+
+-- "filled by the advance that finishes"
+unfoldable pub finishedWith : Reference → Question → Reference
+finishedWith b q = record { state = State.answered; sizes = b .sizes; last = some q }
 
 -- ---- what a question's Start settles
 
@@ -131,7 +140,7 @@ advanced q k ps =
 -- "the count rises by one. At the number of parts it tells finished and the state is answered; until then it tells more."
 unfoldable pub goesOn : Reference → Question → Reply
 goesOn b q =
-    cond (eqb (q .count) (partCount q)) (settled finished (inState b (State.answered q))) (settled more (inState b (State.running q)))
+    cond (eqb (q .count) (partCount q)) (settled finished (finishedWith b q)) (settled more (inState b (State.running q)))
 
 -- "Where plan and rules name the record's N, S and K and, like the 16-bit numbers, are as at Start and as built, but run states and
 -- maps are any bytes below S, an advance goes on as always and stores and counts what this rule gives on those bytes."
@@ -147,7 +156,7 @@ mayAdvanceWith usable caused a =
 
 -- "an accepted advance makes the question unclean, and its more or finished gives the state"
 unfoldable pub byAnswer : Reference → Question → Answer → Reference
-byAnswer b q a = onAdvance (inState b (State.running q)) (inState b (State.answered q)) b a
+byAnswer b q a = onAdvance (inState b (State.running q)) (finishedWith b q) b a
 
 unfoldable pub advancingByProgram : Reference → Inputs → Question → Reply
 advancingByProgram b x q =
@@ -164,7 +173,8 @@ advancing b x q clean =
 advancing b x q byRule = advancingByRule b x q
 advancing b x q byProgram = advancingByProgram b x q
 
--- ---- Read
+-- ---- Read: "if so, Read tells in every state what 01 has for that question, whatever was started or cancelled since; if not, what Read
+-- tells is left to the program as far as 01 leaves it"
 
 unfoldable pub isOutcome : Answer → Bool
 isOutcome a = onOutcome (λ o. true) false a
@@ -174,21 +184,23 @@ reading b q clean = settled (freshAnswer q) b
 reading b q byRule = settled (ruleAnswer q) b
 reading b q byProgram = unsettled isOutcome (λ a. b)
 
+-- of the last finished question; where there is none, check 1 refuses
+unfoldable pub readingLast : Reference → Option Question → Reply
+readingLast b none = settled (refused 1) b
+readingLast b (some q) = reading b q (q .settlement)
+
 -- ---- the step
 
 -- a call that no check refuses, an advance's 18 apart; the states in which it may not be made do not come here
 unfoldable pub proceed : Reference → State → Call → Reply
-proceed b s (load x) = settled Answer.accepted (record { state = State.loaded; sizes = sizesIn x })
+proceed b s (load x) = settled Answer.accepted (record { state = State.loaded; sizes = sizesIn x; last = none })
 proceed b s (start x vs bs) = starting b (asked x vs bs)
 proceed b State.empty (advance x) = settled (refused 1) b
 proceed b State.loaded (advance x) = settled (refused 1) b
 proceed b (State.running q) (advance x) = advancing b x q (q .settlement)
-proceed b (State.answered q) (advance x) = settled (refused 1) b
+proceed b State.answered (advance x) = settled (refused 1) b
 proceed b s cancel = settled Answer.accepted (inState b State.loaded)
-proceed b State.empty read = settled (refused 1) b
-proceed b State.loaded read = settled (refused 1) b
-proceed b (State.running q) read = settled (refused 1) b
-proceed b (State.answered q) read = reading b q (q .settlement)
+proceed b s read = readingLast b (b .last)
 
 -- "One of the next section's checks, 18 apart, says no: the first such number; the book stays." Start's 18 is such a check now
 unfoldable pub decided : ℕ → Reference → Call → Reply

@@ -47,4 +47,5 @@ supersededRecord r = record {
   states = r .states;
   links = r .links;
   yes = r .yes;
+  last = r .last;
 }

@@ -5,6 +5,8 @@
 -- referenceAt b cs xs == the reference model after the calls cs with the answers xs
 -- Undisturbed z y cs xs == every accepted call of cs is an advance given the same as y, excess aside, or a Read
 -- OutcomeHas P a == where a is what a Read tells, that has P; EveryOutcome P xs == of all answers xs; OnlyOutcome a xs == each is a
+-- EveryOutcomeAfter P xs, OnlyOutcomeAfter a xs == the same of the answers after the first that tells finished: a Read before it tells of an
+--   earlier question
 --
 -- Assumes nothing.
 use Prim.Native.Nat.{ℕ, suc}
@@ -61,3 +63,15 @@ EveryOutcome P (a ∷ xs) = OutcomeHas P a × EveryOutcome P xs
 
 abbrev pub OnlyOutcome : Answer → List Answer → Type 0
 OnlyOutcome a xs = EveryOutcome (λ o. outcome o ≡ a) xs
+
+abbrev pub EveryOutcomeAfter : (Outcome → Type 0) → List Answer → Type 0
+EveryOutcomeAfter P [] = Unit {0}
+EveryOutcomeAfter P (refused n ∷ xs) = EveryOutcomeAfter P xs
+EveryOutcomeAfter P (Answer.accepted ∷ xs) = EveryOutcomeAfter P xs
+EveryOutcomeAfter P (parts p ∷ xs) = EveryOutcomeAfter P xs
+EveryOutcomeAfter P (more ∷ xs) = EveryOutcomeAfter P xs
+EveryOutcomeAfter P (finished ∷ xs) = EveryOutcome P xs
+EveryOutcomeAfter P (outcome o ∷ xs) = EveryOutcomeAfter P xs
+
+abbrev pub OnlyOutcomeAfter : Answer → List Answer → Type 0
+OnlyOutcomeAfter a xs = EveryOutcomeAfter (λ o. outcome o ≡ a) xs

@@ -10,7 +10,7 @@ use mathlib.Core.List.{List, [], _∷_, _++_}
 use mathlib.Core.Option.{Option, none, some}
 use native.Mathlib.Omega.{arith}
 use lib.Dec.{leb, ltb, eqb}
-use lib.ListN.{length, getD, length-append}
+use lib.ListN.{length, getD, length-append, replicate, List·getD-append}
 use borrow.Author.Tests.{le-leb, lt-ltb, ltb-true, eq-eqb, eqb-true, eqb-false}
 use Rattle.list_laws.specs.Tests.{allBelow}
 use Rattle.list_laws.proofs.BoolLaws.{and-both, and-left, and-right, true-false}
@@ -25,7 +25,8 @@ use Rattle.formats.specs.Inputs.{Inputs, Sizes, sizesIn}
 use Rattle.model.specs.Calls as calls
 use Rattle.model.specs.Calls.{Call, load, start, advance, cancel, read, mayLoad, mayStart, isRunning}
 use Rattle.model.specs.Refusals.{refusal}
-use Rattle.model.specs.Model.{stageOf, Record, idle, freshRecord, loadedRecord, viewBy, marksBy, leftIn, rootsIn, started}
+use Rattle.model.specs.Model.{stageOf, Record, idle, freshRecord, loadedRecord, withLast, outcomeOf, lastOf, viewBy, marksBy, leftIn}
+use Rattle.model.specs.Model.{rootsIn, started}
 use Rattle.model.specs.Model.{stepped, advanceWith, partNext, acted, proceeds, unless, act}
 use Rattle.model.proofs.ModelLaws.{some-root, left-below, left-most, start-list, start-built}
 use Rattle.model.proofs.LayersHold.{layers}
@@ -34,10 +35,12 @@ use Rattle.session.specs.declared.state.Phase.the-variants.{Empty}
 use Rattle.session.specs.declared.state.Session.{Session}
 use Rattle.session.specs.Records.{phaseTo, recordOf, sessionOf, padded, zeroFrom, risesTo}
 use Rattle.session.specs.Records.{sizesFit, noQuestion, listFits, partsFit, questionFits, validIn, valid}
+use Rattle.session.specs.Records.{lastTo, lastIsOwn}
 use Rattle.session.specs.inner.Shapes.{Shaped}
 use Rattle.session.proofs.PadLaws.{take-padded, take-padded-by, zero-padded, zero-padded-by, zero-replicate}
 use Rattle.session.proofs.RecordLaws.{Listed, record-of-struct, struct-shaped}
-use Rattle.session.proofs.Holds.{Sized, Asked, Going, HoldsIn, Holds, holds-of}
+use Rattle.session.proofs.LastLaws.{last-is, last-append, none-yes, last-yes, flag-yes}
+use Rattle.session.proofs.Holds.{Sized, Asked, Going, Ended, HoldsIn, Holds, holds-of, last-fits}
 
 -- ---- the struct of a record that holds
 
@@ -52,7 +55,7 @@ module _ (r : Record) where
       subst (λ (t : Record). Listed t) (sym e)
       (record { few = omega arith; same = refl; few-parts = omega arith; few-handled = omega arith })
   listed-in calls.Phase.loaded e =
-      subst (λ (t : Record). Listed t) (sym (e .1))
+      subst (λ (t : Record). Listed t) (sym (e .2))
       (record { few = omega arith; same = refl; few-parts = omega arith; few-handled = omega arith })
   listed-in calls.Phase.running G = listed-some (G .asked) (omega (arith, G .handled))
   listed-in calls.Phase.answered E = listed-some (E .asked) (omega (arith, E .handled))
@@ -93,27 +96,45 @@ module _ (r : Record) where
       and-both _ _ (sizes-yes z)
       (and-both _ _ (list-yes A) (and-both _ _ (parts-yes A) (le-leb (length (r .states)) (length (r .roots)) h)))
 
-none-yes : (p : calls.Phase) (z : Sizes) → noQuestion (sessionOf (idle p z)) ≡ true
+idle-yes : (p : calls.Phase) (z : Sizes) (o : Option calls.Outcome) → noQuestion (sessionOf (withLast o (idle p z))) ≡ true
 unfolding noQuestion sessionOf idle zeroFrom
-none-yes p z =
+idle-yes p z o =
     let a : allBelow 1 (padded 64 []) ≡ true = zero-replicate 64 in
     let b : allBelow 1 (padded 254 []) ≡ true = zero-replicate 254 in
     rw (a, b)
 
+-- the last state of a list, where the test reads it in the array
+last-at : (l : List ℕ) → 1 ≤ length l → getD (padded 254 l) (length l - 1) 0 ≡ lastOf l 0
+last-at l h =
+    List·getD-append l (replicate (254 - length l) 0) 0 (length l - 1) (omega arith) ∙ sym (last-is l 0 (length l - 1) (omega arith))
+
 module _ (r : Record) where
+  own-yes : Ended r → lastIsOwn (sessionOf r) ≡ true
+  unfolding lastIsOwn sessionOf
+  own-yes E =
+      let h : 1 ≤ length (r .states) = omega (arith, E .handled, E .asked .some-part) in
+      let k : length (r .states) ≤ 254 = omega (arith, E .handled, E .asked .few-parts) in
+      rw (E .own)
+      (and-both _ _ (within-both r 1 254 (length (r .states)) h k)
+      (and-both _ _ (eq-eqb (lastOf (r .states) 0) _ (sym (last-at (r .states) h)))
+      (and-both _ _ (flag-yes (r .yes))
+      (and-both _ _ (eq-eqb (length (r .roots)) (length (r .roots)) refl) (eq-eqb (r .links) (r .links) refl)))))
+
   valid-in : (p : calls.Phase) → HoldsIn p r → validIn (phaseTo p) (sessionOf r) ≡ true
   unfolding phaseTo validIn freshRecord sessionOf idle
   valid-in calls.Phase.empty e = subst (λ (t : Record). validIn Empty (sessionOf t) ≡ true) (sym e)
-      (none-yes calls.Phase.empty (record { n = 0; s = 0; k = 0 }))
+      (and-both _ _ none-yes (idle-yes calls.Phase.empty (record { n = 0; s = 0; k = 0 }) none))
   valid-in calls.Phase.loaded e =
       and-both _ _ (sizes-yes r (e .0))
-      (subst (λ (t : Record). noQuestion (sessionOf t) ≡ true) (sym (e .1)) (none-yes calls.Phase.loaded (r .sizes)))
+      (and-both _ _ (last-yes (r .sizes .s) (r .last) (e .1))
+      (subst (λ (t : Record). noQuestion (sessionOf t) ≡ true) (sym (e .2)) (idle-yes calls.Phase.loaded (r .sizes) (r .last))))
   valid-in calls.Phase.running G =
       and-both _ _ (question-yes r (G .sizes) (G .asked) (omega (arith, G .handled)))
-      (and-both _ _ (lt-ltb (length (r .states)) (length (r .roots)) (G .handled)) (ap not (G .no-yes)))
+      (and-both _ _ (last-yes (r .sizes .s) (r .last) (G .last))
+      (and-both _ _ (lt-ltb (length (r .states)) (length (r .roots)) (G .handled)) (ap not (G .no-yes))))
   valid-in calls.Phase.answered E =
       and-both _ _ (question-yes r (E .sizes) (E .asked) (omega (arith, E .handled)))
-      (eq-eqb (length (r .states)) (length (r .roots)) (E .handled))
+      (and-both _ _ (own-yes E) (eq-eqb (length (r .states)) (length (r .roots)) (E .handled)))
 
   pub holds-valid : Holds r → valid (sessionOf r) ≡ true
   unfolding valid sessionOf
@@ -176,6 +197,7 @@ module _ (r : Record) (H : Holds r) where
           labels-least = b .1 .labels-least;
           labels-most = b .1 .labels-most;
         },
+        tt,
         refl,
       )
 
@@ -191,7 +213,7 @@ module _ (r : Record) (H : Holds r) where
     abbrev left : List ℕ
     left = leftIn x vs bs
 
-    start-holds : Holds (started (r .sizes) vs bs (rootsIn x left))
+    start-holds : Holds (withLast (r .last) (started (r .sizes) vs bs (rootsIn x left)))
     unfolding started
     start-holds =
         let L = start-list (stageOf r) x vs bs e in
@@ -212,6 +234,7 @@ module _ (r : Record) (H : Holds r) where
           };
           handled = omega (arith, some-root x left);
           no-yes = refl;
+          last = last-fits (r .phase) r H;
         }
 
   module _ (x : Inputs) (e : refusal (stageOf r) (advance x) ≡ 0) where
@@ -252,6 +275,9 @@ module _ (r : Record) (H : Holds r) where
             sizes = going .sizes;
             asked = stepped-asked calls.Phase.answered w;
             handled = omega (arith, l, eqb-true (suc (length (r .states))) (length (r .roots)) t);
+            own = ap (λ (q : ℕ).
+                some (record { state = q; yes = w; parts = length (r .roots); links = r .links + y .links }))
+                (sym (last-append (r .states) 0 (y .state)));
           }
       advance-holds false t w =
           let l : length (r .states ++ (y .state ∷ [])) ≡ length (r .states) + 1 = length-append (r .states)
@@ -263,6 +289,7 @@ module _ (r : Record) (H : Holds r) where
             asked = stepped-asked calls.Phase.running false;
             handled = omega (arith, l, n, going .handled);
             no-yes = refl;
+            last = going .last;
           }
 
     part-holds : (o : Option Reached) → partNext r x ≡ o → Holds (advanceWith r x o .record′)
@@ -272,9 +299,10 @@ module _ (r : Record) (H : Holds r) where
         advance-holds y q (eqb (suc (length (r .states))) (length (r .roots))) refl
         (eqb (getD (marksBy (r .sizes) x) (y .state) 0) 1)
 
-  cancel-holds : refusal (stageOf r) cancel ≡ 0 → Holds (loadedRecord (r .sizes))
+  cancel-holds : refusal (stageOf r) cancel ≡ 0 → Holds (withLast (r .last) (loadedRecord (r .sizes)))
   unfolding refusal idle
-  cancel-holds f = (running-is (r .phase) r (firstNo-head 1 (isRunning (r .phase)) _ (omega arith) f) H .sizes, refl)
+  cancel-holds f =
+      let G = running-is (r .phase) r (firstNo-head 1 (isRunning (r .phase)) _ (omega arith) f) H in (G .sizes, G .last, refl)
 
   proceeds-holds : (c : Call) → refusal (stageOf r) c ≡ 0 → Holds (proceeds r c .record′)
   unfolding proceeds

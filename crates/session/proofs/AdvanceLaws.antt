@@ -30,18 +30,19 @@ use Rattle.questions.proofs.PartBounds.{part-bounded}
 use Rattle.formats.specs.Inputs.{Inputs, fits}
 use Rattle.model.specs.Calls as calls
 use Rattle.model.specs.Calls.{Call, advance, isRunning}
-use Rattle.model.specs.Refusals.{refusal, stage}
-use Rattle.model.specs.Model.{Acted, acted, viewBy, stepped, advanceWith, partNext, proceeds}
+use Rattle.model.specs.Refusals.{refusal}
+use Rattle.model.specs.Model.{Acted, acted, viewBy, lastThen, stepped, advanceWith, partNext, proceeds}
 use Rattle.session.specs.declared.state.Phase.{Phase}
 use Rattle.session.specs.declared.state.Phase.the-variants.{Running, Answered}
+use Rattle.session.specs.declared.state.Last.{Last}
 use Rattle.session.specs.declared.state.Session.{Session}
 use Rattle.session.specs.declared.answers.AdvanceAnswer.the-variants.{More, Finished, Refused as NotAdvanced}
 use Rattle.session.specs.declared.answers.AdvanceStep.{AdvanceStep}
-use Rattle.session.specs.Records.{phaseOf, phaseTo, sizesOf, recordOf, sessionOf, whole, valid}
+use Rattle.session.specs.Records.{phaseOf, phaseTo, sizesOf, stageIn, lastIn, lastTo, recordOf, sessionOf, whole, valid}
 use Rattle.session.specs.Answers.{advanceAnswer}
 use Rattle.session.specs.Promises.{CallDone}
 use Rattle.session.specs.inner.Shapes.{Shaped}
-use Rattle.session.specs.inner.Steps.{NextArgs, HandleArgs, markedIn, steppedHead, stepBy, stepOn, StepFound}
+use Rattle.session.specs.inner.Steps.{NextArgs, HandleArgs, markedIn, steppedHead, answerOf, finishedHead, stepBy, stepOn, StepFound}
 use Rattle.session.proofs.PadLaws.{padded-take, padded-more}
 use Rattle.session.proofs.RecordLaws.{Tails}
 use Rattle.session.proofs.Holds.{Sized, Going, holds-of, tails-of, struct-is}
@@ -60,11 +61,15 @@ module _ (s : Session) (h : Shaped s) (T : Tails s) where
     length-take-le (s .head .handled) (s .states) (omega (arith, h .states, T .few-handled)),
   )
 
-  stepped-struct : s .head .handled < 254 → (p : calls.Phase) (y : Reached) (b : Bool)
-      → sessionOf (stepped (recordOf s) p y b) ≡ whole (steppedHead (s .head) (phaseTo p) (y .links) b) (s .nodes) (s .labels) (s .roots)
+  -- o is the last finished answer then
+  stepped-struct : s .head .handled < 254 → (p : calls.Phase) (y : Reached) (b : Bool) (o : Last)
+      → lastTo (lastThen p (record { state = y .state; yes = b; parts = s .head .parts; links = s .head .links + y .links })
+      (lastIn (s .head .last))) ≡ o
+      → sessionOf (stepped (recordOf s) p y b)
+      ≡ whole (steppedHead (s .head) (phaseTo p) (y .links) b o) (s .nodes) (s .labels) (s .roots)
       (set (s .states) (s .head .handled) (y .state))
   unfolding sessionOf stepped recordOf
-  stepped-struct k p y b =
+  stepped-struct k p y b o e =
       let more = padded-more 254 (s .head .handled) (s .states) (y .state) (h .states) k (T .states-end) in
       rw (
         more .1,
@@ -75,6 +80,7 @@ module _ (s : Session) (h : Shaped s) (T : Tails s) where
         padded-take 64 (s .head .m) (s .nodes) (h .nodes) (T .nodes-end),
         padded-take 64 (s .head .m) (s .labels) (h .labels) (T .labels-end),
         padded-take 254 (s .head .parts) (s .roots) (h .roots) (T .roots-end),
+        e,
       )
 
 module _ (s : Session) (h : Shaped s) (x : Inputs) (b : Bool) (may : b ≡ (valid s && isRunning (phaseOf (s .head .phase)))) where
@@ -133,11 +139,11 @@ module _ (s : Session) (h : Shaped s) (x : Inputs) (b : Bool) (may : b ≡ (vali
         cond d
         (record {
           answer = Finished;
-          head = steppedHead h Answered (y .links) (markedIn (h .sizes .s) (h .sizes .k) (x .rules) (y .state));
+          head = finishedHead h (y .state) (y .links) (markedIn (h .sizes .s) (h .sizes .k) (x .rules) (y .state));
           stored = true;
           state = y .state;
         })
-        (record { answer = More; head = steppedHead h Running (y .links) false; stored = true; state = y .state })
+        (record { answer = More; head = steppedHead h Running (y .links) false (h .last); stored = true; state = y .state })
 
     abbrev byModel : Reached → Bool → Acted
     byModel y d =
@@ -150,15 +156,16 @@ module _ (s : Session) (h : Shaped s) (x : Inputs) (b : Bool) (may : b ≡ (vali
     unfolding advanceAnswer phaseTo
     same-step y true = (
       refl,
-      sym (stepped-struct s h T few-handled calls.Phase.answered y (markedIn (s .head .sizes .s) (s .head .sizes .k) (x .rules) (y .state))),
+      sym (stepped-struct s h T few-handled calls.Phase.answered y (markedIn (s .head .sizes .s) (s .head .sizes .k) (x .rules) (y .state))
+          (answerOf (s .head) (y .state) (y .links) (markedIn (s .head .sizes .s) (s .head .sizes .k) (x .rules) (y .state))) refl),
     )
-    same-step y false = (refl, sym (stepped-struct s h T few-handled calls.Phase.running y false))
+    same-step y false = (refl, sym (stepped-struct s h T few-handled calls.Phase.running y false (s .head .last) (T .last-end)))
 
     last-same : eqb (suc (length (recordOf s .states))) (length (recordOf s .roots)) ≡ eqb (s .head .handled + 1) (s .head .parts)
     unfolding recordOf
     last-same = rw (L .2, L .3, add-one (s .head .handled))
 
-    on : refusal (stage (phaseOf (s .head .phase)) (sizesOf s)) C ≡ firstNo (check 17 (fits (sizesOf s) x) ∷ [])
+    on : refusal (stageIn s) C ≡ firstNo (check 17 (fits (sizesOf s) x) ∷ [])
     unfolding refusal
     on = firstNo-yes 1 (isRunning (phaseOf (s .head .phase))) (check 17 (fits (sizesOf s) x) ∷ []) r
 
@@ -173,7 +180,7 @@ module _ (s : Session) (h : Shaped s) (x : Inputs) (b : Bool) (may : b ≡ (vali
       advance-17 g = refused-done s C h v 16 (on ∙ firstNo-no 17 (fits (sizesOf s) x) [] (fits-is ∙ not-true f g))
 
       module _ (yes : not f ≡ false) where
-        no-refusal : refusal (stage (phaseOf (s .head .phase)) (sizesOf s)) C ≡ 0
+        no-refusal : refusal (stageIn s) C ≡ 0
         unfolding firstNo
         no-refusal = on ∙ firstNo-yes 17 (fits (sizesOf s) x) [] (fits-is ∙ not-false f yes)
 

@@ -18,13 +18,13 @@ use Rattle.formats.proofs.CheckLaws.{firstNo-no, firstNo-head}
 use Rattle.formats.specs.Inputs.{Inputs, fits}
 use Rattle.model.specs.Calls as calls
 use Rattle.model.specs.Calls.{Call, load, start, advance, cancel, read, Answer, refused, isRunning}
-use Rattle.model.specs.Refusals.{refusal, stage}
+use Rattle.model.specs.Refusals.{refusal}
 use Rattle.model.specs.Model.{stageOf, Acted, proceeds, unless, act}
 use Rattle.model.specs.LeftOpen.{LeftOpen}
 use Rattle.model.proofs.LeftOpenLaws.{refused-unchanged, advance-properties}
 use Rattle.session.specs.declared.state.Phase.{Phase}
 use Rattle.session.specs.declared.state.Session.{Session}
-use Rattle.session.specs.Records.{phaseOf, sizesOf, recordOf, sessionOf, valid}
+use Rattle.session.specs.Records.{phaseOf, sizesOf, stageIn, recordOf, sessionOf, valid}
 use Rattle.session.specs.Promises.{CallDone, answerOn, recordOn}
 use Rattle.session.specs.inner.Shapes.{Shaped}
 use Rattle.session.proofs.Holds.{holds-of, struct-is}
@@ -67,21 +67,21 @@ module _ (s : Session) (c : Call) where
       properties = λ w. subst (λ (b : Answer). LeftOpen (recordOf s) c b (act (recordOf s) c .record′)) (sym f) (properties-of s h v c);
     }
 
-    act-refused : (n : ℕ) → refusal (stage (phaseOf (s .head .phase)) (sizesOf s)) c ≡ suc n
+    act-refused : (n : ℕ) → refusal (stageIn s) c ≡ suc n
         → (refused (suc n) ≡ act (recordOf s) c .answer) × (recordOf s ≡ act (recordOf s) c .record′)
     unfolding act unless recordOf
     act-refused n e = (rw e, rw e)
 
-    pub refused-done : (n : ℕ) → refusal (stage (phaseOf (s .head .phase)) (sizesOf s)) c ≡ suc n → CallDone s c (refused (suc n)) s
+    pub refused-done : (n : ℕ) → refusal (stageIn s) c ≡ suc n → CallDone s c (refused (suc n)) s
     refused-done n e =
         let a = act-refused n e in
         model-done (refused (suc n)) s (a .0) (sym (struct-is s h v) ∙ ap sessionOf (a .1))
 
-    act-proceeds : refusal (stage (phaseOf (s .head .phase)) (sizesOf s)) c ≡ 0 → proceeds (recordOf s) c ≡ act (recordOf s) c
+    act-proceeds : refusal (stageIn s) c ≡ 0 → proceeds (recordOf s) c ≡ act (recordOf s) c
     unfolding act unless recordOf
     act-proceeds e = rw e
 
-    pub proceeds-done : refusal (stage (phaseOf (s .head .phase)) (sizesOf s)) c ≡ 0 → (a : Answer) (t : Session)
+    pub proceeds-done : refusal (stageIn s) c ≡ 0 → (a : Answer) (t : Session)
         → a ≡ proceeds (recordOf s) c .answer
         → t ≡ sessionOf (proceeds (recordOf s) c .record′) → CallDone s c a t
     proceeds-done e a t f g =
@@ -89,7 +89,7 @@ module _ (s : Session) (c : Call) where
 
   -- check 1 says no
   pub unless-done : Shaped s → (b : Bool) (cs : List Check)
-      → refusal (stage (phaseOf (s .head .phase)) (sizesOf s)) c ≡ firstNo (check 1 b ∷ cs)
+      → refusal (stageIn s) c ≡ firstNo (check 1 b ∷ cs)
       → (valid s && b) ≡ false → CallDone s c (refused 1) s
   unless-done h b cs e f = go (valid s) refl f
     where

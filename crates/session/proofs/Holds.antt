@@ -1,13 +1,16 @@
 -- What is true of every record that a session can have, in each state.
 --     Sized z              N, S and K in their limits
 -- Asked r a question's lists: as Start checks them, its roots as they are found, the states and links so far
---     Holds r              in empty the fresh record, in loaded that after a first Load, in running and answered a question
+--     Holds r              in empty the fresh record, in loaded that after a first Load but for the last finished answer, in running and
+--                          answered a question; in answered that answer is its own
+--     last-fits            that answer, if there is one, is of some question on S states
 --     holds-of             a struct that passes its conditions has such a record
 --     tails-of, struct-is  and is the struct of that record
 -- Assumes nothing.
 use Prim.Native.Nat.{ℕ, _-_, _*_, _≤_, _<_}
-use mathlib.Core.Path.{_≡_, refl}
+use mathlib.Core.Path.{_≡_, refl, sym, ap, _∙_, subst}
 use mathlib.Core.Bool.{true, false, _&&_}
+use mathlib.Core.Option.{Option, none, some}
 use native.Mathlib.Omega.{arith}
 use lib.ListN.{length, take}
 use lib.Seq.{length-take-le}
@@ -16,14 +19,16 @@ use Rattle.list_laws.specs.Tests.{allBelow}
 use Rattle.formats.proofs.PlanLaws.{within-low, within-high}
 use Rattle.formats.specs.Inputs.{Sizes}
 use Rattle.model.specs.Calls as calls
-use Rattle.model.specs.Model.{Record, idle, freshRecord, loadedRecord}
+use Rattle.model.specs.Model.{Record, idle, freshRecord, loadedRecord, withLast, outcomeOf}
 use Rattle.trees.proofs.MoveLaws.{both}
 use Rattle.session.specs.declared.state.Phase.{Phase}
 use Rattle.session.specs.declared.state.Phase.the-variants.{Empty, Loaded, Running, Answered}
 use Rattle.session.specs.declared.state.Session.{Session}
 use Rattle.session.specs.Records.{phaseOf, sizesOf, recordOf, sessionOf, zeroFrom, risesTo}
 use Rattle.session.specs.Records.{sizesFit, noQuestion, listFits, partsFit, questionFits, validIn, valid}
+use Rattle.session.specs.Records.{lastIn, lastTo, noLast, isNone, lastFits}
 use Rattle.session.specs.inner.Shapes.{Shaped}
+use Rattle.session.proofs.LastLaws.{LastFits, Own, last-below, none-is, none-back, present-back, last-of, last-back, own-of, own-last}
 use Rattle.session.proofs.RecordLaws.{Tails, struct-of-record}
 
 pub record Sized (z : Sizes) : Type 0 where
@@ -50,20 +55,40 @@ pub record Going (r : Record) : Type 0 where
   pub asked : Asked r
   pub handled : length (r .states) < length (r .roots)
   pub no-yes : r .yes ≡ false
+  pub last : LastFits (r .sizes .s) (r .last)
 
 pub record Ended (r : Record) : Type 0 where
   pub sizes : Sized (r .sizes)
   pub asked : Asked r
   pub handled : length (r .states) ≡ length (r .roots)
+  pub own : r .last ≡ some (outcomeOf r)
 
 abbrev pub HoldsIn : calls.Phase → Record → Type 0
 HoldsIn calls.Phase.empty r = r ≡ freshRecord
-HoldsIn calls.Phase.loaded r = Sized (r .sizes) × (r ≡ loadedRecord (r .sizes))
+HoldsIn calls.Phase.loaded r = Sized (r .sizes) × LastFits (r .sizes .s) (r .last) × (r ≡ withLast (r .last) (loadedRecord (r .sizes)))
 HoldsIn calls.Phase.running r = Going r
 HoldsIn calls.Phase.answered r = Ended r
 
 abbrev pub Holds : Record → Type 0
 Holds r = HoldsIn (r .phase) r
+
+-- an answered record's own is of a question on S states
+ended-last : (r : Record) → Ended r → LastFits (r .sizes .s) (r .last)
+ended-last r E =
+    subst (LastFits (r .sizes .s)) (sym (E .own))
+    (record {
+      state = last-below (r .sizes .s) (r .states) 0 (E .asked .states-below) (omega (arith, E .handled, E .asked .some-part));
+      some-part = E .asked .some-part;
+      few-parts = E .asked .few-parts;
+      few-links = omega (arith, E .asked .few-links, E .handled);
+    })
+
+pub last-fits : (p : calls.Phase) (r : Record) → HoldsIn p r → LastFits (r .sizes .s) (r .last)
+unfolding freshRecord idle
+last-fits calls.Phase.empty r H = subst (λ (t : Record). LastFits (t .sizes .s) (t .last)) (sym H) tt
+last-fits calls.Phase.loaded r H = H .1
+last-fits calls.Phase.running r H = H .last
+last-fits calls.Phase.answered r H = ended-last r H
 
 -- ---- what the conditions say, by name
 
@@ -191,6 +216,7 @@ module _ (s : Session) where
     n-is : s .head .sizes .n ≡ 0
     s-is : s .head .sizes .s ≡ 0
     k-is : s .head .sizes .k ≡ 0
+    last : isNone (s .head .last) ≡ true
     none : Nothing s
 
   record Questions : Type 0 where
@@ -204,16 +230,21 @@ module _ (s : Session) where
       let a = both _ _ e in
       let b = both _ _ (a .1) in
       let c = both _ _ (b .1) in
+      let d = both _ _ (c .1) in
       record {
         n-is = eqb-true (s .head .sizes .n) 0 (a .0);
         s-is = eqb-true (s .head .sizes .s) 0 (b .0);
         k-is = eqb-true (s .head .sizes .k) 0 (c .0);
-        none = nothing-of (c .1);
+        last = d .0;
+        none = nothing-of (d .1);
       }
 
-  loaded-of : validIn Loaded s ≡ true → Sized (sizesOf s) × Nothing s
+  loaded-of : validIn Loaded s ≡ true → Sized (sizesOf s) × (lastFits (s .head .sizes .s) (s .head .last) ≡ true) × Nothing s
   unfolding validIn
-  loaded-of e = let a = both _ _ e in (sized-of (a .0), nothing-of (a .1))
+  loaded-of e =
+      let a = both _ _ e in
+      let b = both _ _ (a .1) in
+      (sized-of (a .0), b .0, nothing-of (b .1))
 
   questions-of : questionFits s ≡ true → Questions
   unfolding questionFits
@@ -224,26 +255,34 @@ module _ (s : Session) where
       record { sizes = sized-of (a .0); list = list-of (b .0); parts = parts-of (c .0) }
 
   running-of : validIn Running s ≡ true → Questions × (s .head .handled < s .head .parts) × (s .head .yes ≡ false)
+      × (lastFits (s .head .sizes .s) (s .head .last) ≡ true)
   unfolding validIn
   running-of e =
       let a = both _ _ e in
-      let b = both _ _ (a .1) in
-      (questions-of (a .0), ltb-true (s .head .handled) (s .head .parts) (b .0), not-true (s .head .yes) (b .1))
+      let c = both _ _ (a .1) in
+      let b = both _ _ (c .1) in
+      (questions-of (a .0), ltb-true (s .head .handled) (s .head .parts) (b .0), not-true (s .head .yes) (b .1), c .0)
 
-  answered-of : validIn Answered s ≡ true → Questions × (s .head .handled ≡ s .head .parts)
+  answered-of : validIn Answered s ≡ true → Questions × (s .head .handled ≡ s .head .parts) × Own s
   unfolding validIn
-  answered-of e = let a = both _ _ e in (questions-of (a .0), eqb-true (s .head .handled) (s .head .parts) (a .1))
+  answered-of e =
+      let a = both _ _ e in
+      let b = both _ _ (a .1) in
+      (questions-of (a .0), eqb-true (s .head .handled) (s .head .parts) (b .1), own-of s (b .0))
 
   holds-in : Shaped s → (p : Phase) → s .head .phase ≡ p → validIn p s ≡ true → HoldsIn (phaseOf p) (recordOf s)
   unfolding phaseOf recordOf freshRecord idle
   holds-in h Empty q e =
       let E = empties-of e in
       let N = E .none in
-      rw (q, E .n-is, E .s-is, E .k-is, N .no-yes, N .m-is, N .parts-is, N .handled-is, N .links-is)
+      rw (none-is (s .head .last) (E .last), q, E .n-is, E .s-is, E .k-is, N .no-yes, N .m-is, N .parts-is, N .handled-is, N .links-is)
   holds-in h Loaded q e =
       let a = loaded-of e in
-      let N = a .1 in
-      (a .0, rw (q, N .no-yes, N .m-is, N .parts-is, N .handled-is, N .links-is))
+      let N = a .2 in (
+        a .0,
+        last-of (s .head .sizes .s) (s .head .last) (a .1),
+        rw (q, N .no-yes, N .m-is, N .parts-is, N .handled-is, N .links-is),
+      )
   holds-in h Running q e =
       let a = running-of e in
       let t = handled-of h (a .0 .parts) (omega (arith, a .1)) in
@@ -252,6 +291,7 @@ module _ (s : Session) where
         asked = asked-of h (a .0 .list) (a .0 .parts) (omega (arith, a .1));
         handled = omega (arith, a .1, t .0, t .1);
         no-yes = a .2;
+        last = last-of (s .head .sizes .s) (s .head .last) (a .3);
       }
   holds-in h Answered q e =
       let a = answered-of e in
@@ -260,6 +300,7 @@ module _ (s : Session) where
         sizes = a .0 .sizes;
         asked = asked-of h (a .0 .list) (a .0 .parts) (omega (arith, a .1));
         handled = omega (arith, a .1, t .0, t .1);
+        own = own-last s (a .2) (t .0) (t .1);
       }
 
   pub holds-of : Shaped s → valid s ≡ true → Holds (recordOf s)
@@ -268,8 +309,8 @@ module _ (s : Session) where
 
   -- ---- and the struct again
 
-  tails-none : Nothing s → Tails s
-  tails-none N = record {
+  tails-none : Nothing s → lastTo (lastIn (s .head .last)) ≡ s .head .last → Tails s
+  tails-none N e = record {
     few = omega (arith, N .m-is);
     few-parts = omega (arith, N .parts-is);
     few-handled = omega (arith, N .handled-is);
@@ -277,10 +318,11 @@ module _ (s : Session) where
     labels-end = rw (N .m-is) (N .labels-end);
     roots-end = rw (N .parts-is) (N .roots-end);
     states-end = rw (N .handled-is) (N .states-end);
+    last-end = e;
   }
 
-  tails-some : ListFits s → PartsFit s → s .head .handled ≤ s .head .parts → Tails s
-  tails-some l p c = record {
+  tails-some : ListFits s → PartsFit s → s .head .handled ≤ s .head .parts → lastTo (lastIn (s .head .last)) ≡ s .head .last → Tails s
+  tails-some l p c e = record {
     few = l .few;
     few-parts = p .few-parts;
     few-handled = omega (arith, p .few-parts);
@@ -288,13 +330,18 @@ module _ (s : Session) where
     labels-end = l .labels-end;
     roots-end = p .roots-end;
     states-end = p .states-end;
+    last-end = e;
   }
 
   tails-in : (p : Phase) → validIn p s ≡ true → Tails s
-  tails-in Empty e = tails-none (empties-of e .none)
-  tails-in Loaded e = tails-none (loaded-of e .1)
-  tails-in Running e = let a = running-of e in tails-some (a .0 .list) (a .0 .parts) (omega (arith, a .1))
-  tails-in Answered e = let a = answered-of e in tails-some (a .0 .list) (a .0 .parts) (omega (arith, a .1))
+  tails-in Empty e = let a = empties-of e in tails-none (a .none) (none-back (s .head .last) (a .last))
+  tails-in Loaded e = let a = loaded-of e in tails-none (a .2) (last-back (s .head .sizes .s) (s .head .last) (a .1))
+  tails-in Running e =
+      let a = running-of e in
+      tails-some (a .0 .list) (a .0 .parts) (omega (arith, a .1)) (last-back (s .head .sizes .s) (s .head .last) (a .3))
+  tails-in Answered e =
+      let a = answered-of e in
+      tails-some (a .0 .list) (a .0 .parts) (omega (arith, a .1)) (present-back (s .head .last) (a .2 .present))
 
   pub tails-of : valid s ≡ true → Tails s
   unfolding valid

@@ -3,6 +3,7 @@ pub mod AdvanceLaws
 pub mod CallLaws
 pub mod CancelLaws
 pub mod Holds
+pub mod LastLaws
 pub mod LoadLaws
 pub mod PadLaws
 pub mod ReadLaws

@@ -23,21 +23,28 @@ use Rattle.tables.specs.Answers.{buildingNumber, buildAnswer, written, BuildDon
 use Rattle.formats.specs.Inputs.{Inputs}
 use Rattle.model.specs.Calls as calls
 use Rattle.model.specs.Calls.{load, mayLoad}
-use Rattle.model.specs.Refusals.{refusal, stage}
-use Rattle.model.specs.Model.{proceeds}
+use Rattle.model.specs.Refusals.{refusal}
+use Rattle.model.specs.Model.{idle, proceeds}
+use Rattle.session.specs.declared.state.Phase.the-variants.{Loaded}
+use Rattle.session.specs.declared.state.Last.{Last}
 use Rattle.session.specs.declared.state.Session.{Session}
 use Rattle.session.specs.declared.answers.CallAnswer.the-variants.{Accepted, Refused as NotDone}
-use Rattle.session.specs.Records.{phaseOf, sizesOf, recordOf, sessionOf, valid}
+use Rattle.session.specs.Records.{phaseOf, phaseTo, stageIn, recordOf, sessionOf, idleSession, noLast, valid}
 use Rattle.session.specs.Answers.{callAnswer}
 use Rattle.session.specs.Promises.{CallDone, LoadDone, refusalOn}
-use Rattle.session.specs.inner.Shapes.{Shaped, Headers, loadedBy, loadedFrom}
+use Rattle.session.specs.inner.Shapes.{Shaped, Headers, loadedFrom}
 use Rattle.session.proofs.CallLaws.{unless-done, refused-done, proceeds-done}
 
 -- N, S and K as they were read
-pub loaded-same : (plan rules : List ℕ) (n s k : ℕ) (t : Session) → t ≡ sessionOf (loadedBy n s k) → n ≡ nodeCount plan
-    → s ≡ stateCount rules
-    → k ≡ labelCount rules → t ≡ sessionOf (loadedFrom plan rules)
-loaded-same plan rules n s k t e a b c = rw (← a, ← b, ← c) e
+abbrev loadedOf : ℕ → ℕ → ℕ → Last → Session
+loadedOf n s k o = idleSession Loaded (record { n = n; s = s; k = k }) o
+
+pub loaded-same : (plan rules : List ℕ) (n s k : ℕ) (o : Last) (t : Session) → t ≡ loadedOf n s k o → o ≡ noLast
+    → n ≡ nodeCount plan → s ≡ stateCount rules → k ≡ labelCount rules → t ≡ sessionOf (loadedFrom plan rules)
+unfolding sessionOf idle phaseTo
+loaded-same plan rules n s k o t e f a b c =
+    e ∙ ap (loadedOf n s k) f ∙ ap (λ (i : ℕ). loadedOf i s k noLast) a ∙ ap (λ (i : ℕ). loadedOf (nodeCount plan) i k noLast) b
+    ∙ ap (λ (i : ℕ). loadedOf (nodeCount plan) (stateCount rules) i noLast) c
 
 module _ (s : Session) (h : Shaped s) (x : Inputs) (b : Bool) (may : b ≡ (valid s && mayLoad (phaseOf (s .head .phase)))) where
   abbrev checks : List Check
@@ -70,7 +77,7 @@ module _ (s : Session) (h : Shaped s) (x : Inputs) (b : Bool) (may : b ≡ (vali
     v : valid s ≡ true
     v = and-left (valid s) (mayLoad (phaseOf (s .head .phase))) passes
 
-    on : refusal (stage (phaseOf (s .head .phase)) (sizesOf s)) (load x) ≡ firstNo checks
+    on : refusal (stageIn s) (load x) ≡ firstNo checks
     unfolding refusal
     on = firstNo-yes 1 (mayLoad (phaseOf (s .head .phase))) checks (and-right (valid s) (mayLoad (phaseOf (s .head .phase))) passes)
 

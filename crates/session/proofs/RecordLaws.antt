@@ -1,5 +1,5 @@
 -- Structs and records: the one from the other, and back.
---     Tails s              the counts are within the arrays, and the arrays are zero from there on
+--     Tails s              the counts are within the arrays, the arrays are zero from there on, and so is an answer that is not there
 --     struct-of-record     the struct of the record of a struct with such arrays is that struct
 --     Listed r             lists that fit the arrays
 --     record-of-struct     the record of the struct of a record with such lists is that record
@@ -16,9 +16,10 @@ use Rattle.model.specs.Model.{Record}
 use Rattle.session.specs.declared.state.Phase.{Phase}
 use Rattle.session.specs.declared.state.Phase.the-variants.{Empty, Loaded, Running, Answered}
 use Rattle.session.specs.declared.state.Session.{Session}
-use Rattle.session.specs.Records.{phaseOf, phaseTo, recordOf, sessionOf, zeroFrom}
+use Rattle.session.specs.Records.{phaseOf, phaseTo, recordOf, sessionOf, lastIn, lastTo, zeroFrom}
 use Rattle.session.specs.inner.Shapes.{Shaped}
 use Rattle.session.proofs.PadLaws.{length-padded, take-padded, take-padded-by, padded-take}
+use Rattle.session.proofs.LastLaws.{last-in-to}
 
 pub phase-to-of : (p : Phase) → phaseTo (phaseOf p) ≡ p
 unfolding phaseTo phaseOf
@@ -42,6 +43,7 @@ pub record Tails (s : Session) : Type 0 where
   pub labels-end : zeroFrom (s .head .m) (s .labels) ≡ true
   pub roots-end : zeroFrom (s .head .parts) (s .roots) ≡ true
   pub states-end : zeroFrom (s .head .handled) (s .states) ≡ true
+  pub last-end : lastTo (lastIn (s .head .last)) ≡ s .head .last
 
 pub struct-of-record : (s : Session) → Shaped s → Tails s → sessionOf (recordOf s) ≡ s
 unfolding sessionOf recordOf
@@ -60,6 +62,7 @@ struct-of-record s h t =
       padded-take 64 (s .head .m) (s .labels) (h .labels) (t .labels-end),
       padded-take 254 (s .head .parts) (s .roots) (h .roots) (t .roots-end),
       padded-take 254 (s .head .handled) (s .states) (h .states) (t .states-end),
+      t .last-end,
     )
 
 pub record Listed (r : Record) : Type 0 where
@@ -78,6 +81,7 @@ module _ (r : Record) (L : Listed r) where
         take-padded-by 64 (r .labels) (length (r .nodes)) (L .same),
         take-padded 254 (r .roots),
         take-padded 254 (r .states),
+        last-in-to (r .last),
       )
 
   pub struct-shaped : Shaped (sessionOf r)

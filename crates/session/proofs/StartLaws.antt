@@ -33,18 +33,19 @@ use Rattle.questions.proofs.FitLaws.{fit-all}
 use Rattle.formats.specs.Inputs.{Inputs, fits, nodeTableBuilt, sound}
 use Rattle.model.specs.Calls as calls
 use Rattle.model.specs.Calls.{Call, start, mayStart}
-use Rattle.model.specs.Refusals.{refusal, stage}
+use Rattle.model.specs.Refusals.{refusal}
 use Rattle.model.specs.Model.{leftIn, rootsIn, started, proceeds}
 use Rattle.model.proofs.ModelLaws.{start-built, left-below, left-most}
 use Rattle.model.proofs.LayersHold.{tree-size, cells, layers}
+use Rattle.session.specs.declared.state.Last.{Last}
 use Rattle.session.specs.declared.state.Session.{Session}
 use Rattle.session.specs.declared.answers.StartAnswer.the-variants.{Parts, Refused as NotStarted}
-use Rattle.session.specs.Records.{phaseOf, phaseTo, sizesOf, recordOf, sessionOf, padded, valid}
+use Rattle.session.specs.Records.{phaseOf, phaseTo, sizesOf, stageIn, recordOf, sessionOf, padded, valid}
 use Rattle.session.specs.Answers.{startAnswer}
 use Rattle.session.specs.Promises.{CallDone}
 use Rattle.session.specs.inner.Shapes.{Shaped, HeaderArgs}
 use Rattle.session.specs.inner.Steps.{ListArgs, RootsArgs, startedOf}
-use Rattle.session.proofs.Holds.{Sized, holds-of}
+use Rattle.session.proofs.Holds.{Sized, holds-of, tails-of}
 use Rattle.session.proofs.ActLaws.{few-roots, start-sized}
 use Rattle.session.proofs.CallLaws.{unless-done, refused-done, proceeds-done}
 
@@ -84,7 +85,7 @@ module _ (s : Session) (h : Shaped s) (x : Inputs) (vs bs : List ℕ) (b : Bool)
     start-limits = record { most = sized .nodes-most; few = sized .states-most; labels = sized .labels-most }
 
     -- past check 1
-    on : refusal (stage (phaseOf (s .head .phase)) (sizesOf s)) C ≡ firstNo (check 17 (fits (sizesOf s) x) ∷ (list-checks ++ last))
+    on : refusal (stageIn s) C ≡ firstNo (check 17 (fits (sizesOf s) x) ∷ (list-checks ++ last))
     unfolding refusal
     on = firstNo-yes 1 (mayStart (phaseOf (s .head .phase))) (check 17 (fits (sizesOf s) x) ∷ (list-checks ++ last)) m
 
@@ -112,7 +113,7 @@ module _ (s : Session) (h : Shaped s) (x : Inputs) (vs bs : List ℕ) (b : Bool)
         pub start-headers : HeaderArgs (x .plan) (x .rules)
         start-headers = record { plan-head = omega (arith, lengths .plan-is); rules-head = omega (arith, lengths .table-is) }
 
-        onward : refusal (stage (phaseOf (s .head .phase)) (sizesOf s)) C ≡ firstNo (list-checks ++ last)
+        onward : refusal (stageIn s) C ≡ firstNo (list-checks ++ last)
         onward = on ∙ firstNo-yes 17 (fits (sizesOf s) x) (list-checks ++ last) (fits-is ∙ not-false f yes)
 
         module _ (q : ℕ) (list : q ≡ firstNo list-checks) where
@@ -120,7 +121,7 @@ module _ (s : Session) (h : Shaped s) (x : Inputs) (vs bs : List ℕ) (b : Bool)
           unfolding startAnswer
           start-list g = go q (onward ∙ firstNo-append-no list-checks last (λ z. g (list ∙ z)) ∙ sym list) g
             where
-              go : (n : ℕ) → refusal (stage (phaseOf (s .head .phase)) (sizesOf s)) C ≡ n → (n ≡ 0 → ⊥)
+              go : (n : ℕ) → refusal (stageIn s) C ≡ n → (n ≡ 0 → ⊥)
                   → CallDone s C (calls.Answer.refused n) s
               go zero e i = absurd (i refl)
               go (suc n) e i = refused-done s C h v n e
@@ -132,7 +133,7 @@ module _ (s : Session) (h : Shaped s) (x : Inputs) (vs bs : List ℕ) (b : Bool)
             pub start-listed : ListArgs vs bs
             start-listed = record { few = list-is .most; few-labels = omega (arith, list-is .most, list-is .lengths) }
 
-            at-last : refusal (stage (phaseOf (s .head .phase)) (sizesOf s)) C ≡ firstNo last
+            at-last : refusal (stageIn s) C ≡ firstNo last
             at-last =
                 onward
                 ∙ firstNo-append-zero list-checks last (list-numbered (s .head .sizes .n) (s .head .sizes .k) vs bs) (sym list ∙ none-fails)
@@ -143,11 +144,11 @@ module _ (s : Session) (h : Shaped s) (x : Inputs) (vs bs : List ℕ) (b : Bool)
               start-18 g = refused-done s C h v 17 (at-last ∙ firstNo-no 18 (sound (sizesOf s) x) [] (sym full ∙ not-true w g))
 
               module _ (checked : not w ≡ false) where
-                no-refusal : refusal (stage (phaseOf (s .head .phase)) (sizesOf s)) C ≡ 0
+                no-refusal : refusal (stageIn s) C ≡ 0
                 no-refusal = at-last ∙ firstNo-yes 18 (sound (sizesOf s) x) [] (sym full ∙ not-false w checked) ∙ firstNo-none
 
                 node-table : nodeTableBuilt (sizesOf s) x ≡ true
-                node-table = start-built (stage (phaseOf (s .head .phase)) (sizesOf s)) x vs bs no-refusal
+                node-table = start-built (stageIn s) x vs bs no-refusal
 
                 cut : length (take (s .head .sizes .n * 4) (x .nodeTable)) ≡ s .head .sizes .n * 4
                 cut = length-take-le (s .head .sizes .n * 4) (x .nodeTable) (start-room .numbers)
@@ -204,11 +205,13 @@ module _ (s : Session) (h : Shaped s) (x : Inputs) (vs bs : List ℕ) (b : Bool)
                             (left-most x (s .head .sizes .n) (s .head .sizes .k) vs bs (sym list ∙ none-fails)),
                       )
 
-                  pub start-yes : (t : Session) → t ≡ startedOf (s .head .sizes) vs bs (R .count) (R .nodes)
+                  pub start-yes : (t : Session) → t ≡ startedOf (s .head .sizes) (s .head .last) vs bs (R .count) (R .nodes)
                       → CallDone s C (startAnswer (Parts (R .count))) t
                   unfolding startAnswer proceeds started sessionOf phaseTo recordOf
                   start-yes t e =
                       let l : R .nodes ≡ padded 254 (rootsIn x (leftIn x vs bs)) = ap (λ (z : Rooted). z .nodes) found in
                       proceeds-done s C h v no-refusal (calls.Answer.parts (R .count)) t (ap calls.Answer.parts count-is)
-                      (e ∙ ap (λ (i : ℕ). startedOf (s .head .sizes) vs bs i (R .nodes)) count-is
-                      ∙ ap (λ (z : List ℕ). startedOf (s .head .sizes) vs bs (length (rootsIn x (leftIn x vs bs))) z) l)
+                      (e ∙ ap (λ (i : ℕ). startedOf (s .head .sizes) (s .head .last) vs bs i (R .nodes)) count-is
+                      ∙ ap (λ (z : List ℕ). startedOf (s .head .sizes) (s .head .last) vs bs (length (rootsIn x (leftIn x vs bs))) z) l
+                      ∙ ap (λ (o : Last). startedOf (s .head .sizes) o vs bs (length (rootsIn x (leftIn x vs bs)))
+                      (padded 254 (rootsIn x (leftIn x vs bs)))) (sym (tails-of s v .last-end)))

@@ -15,6 +15,7 @@ use borrow.Author.Tests.{eq-eqb, ne-eqb}
 use Rattle.list_laws.proofs.BoolLaws.{true-false}
 use Rattle.model.specs.Calls.{Call}
 use Rattle.session.specs.declared.state.Phase.the-variants.{Running, Answered}
+use Rattle.session.specs.declared.state.Last.{Last}
 use Rattle.session.specs.declared.state.Head.{Head}
 use Rattle.session.specs.declared.state.Session.{Session}
 use Rattle.session.specs.declared.answers.AdvanceAnswer.the-variants.{More, Finished, Refused as NotAdvanced}
@@ -22,7 +23,7 @@ use Rattle.session.specs.declared.answers.AdvanceStep.{AdvanceStep}
 use Rattle.session.specs.Records.{whole}
 use Rattle.session.specs.Answers.{advanceAnswer}
 use Rattle.session.specs.Promises.{CallDone}
-use Rattle.session.specs.inner.Steps.{markedIn, steppedHead, stepBy, refusedStep, StepFound}
+use Rattle.session.specs.inner.Steps.{markedIn, steppedHead, answerOf, stepBy, refusedStep, StepFound}
 
 -- the mark of a state, where the code reads it
 pub mark-at : (rules : List ℕ) (s k p q : ℕ) → p ≡ s * k * s → q < s
@@ -32,13 +33,13 @@ mark-at rules s k p q e h =
 
 -- the last part, and any other
 module _ (h : Head) (rules : List ℕ) (q l : ℕ) (t : Head) where
-  pub handled-last : h .handled + 1 ≡ h .parts → (y : Bool) → t ≡ steppedHead h Answered l y
-      → y ≡ markedIn (h .sizes .s) (h .sizes .k) rules q
+  pub handled-last : h .handled + 1 ≡ h .parts → (y : Bool) (o : Last) → t ≡ steppedHead h Answered l y o
+      → y ≡ markedIn (h .sizes .s) (h .sizes .k) rules q → o ≡ answerOf h q l y
       → _≡_ {A = AdvanceStep} (record { answer = Finished; head = t; stored = true; state = q }) (stepBy h rules q l)
   unfolding stepBy
-  handled-last e y f g = rw (eq-eqb (h .handled + 1) (h .parts) e, f, g)
+  handled-last e y o f g i = rw (eq-eqb (h .handled + 1) (h .parts) e, f, i, g)
 
-  pub handled-more : (h .handled + 1 ≡ h .parts → ⊥) → t ≡ steppedHead h Running l false
+  pub handled-more : (h .handled + 1 ≡ h .parts → ⊥) → t ≡ steppedHead h Running l false (h .last)
       → _≡_ {A = AdvanceStep} (record { answer = More; head = t; stored = true; state = q }) (stepBy h rules q l)
   unfolding stepBy
   handled-more e f = rw (ne-eqb (h .handled + 1) (h .parts) e, f)

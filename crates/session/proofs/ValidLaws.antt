@@ -2,11 +2,11 @@
 -- Assumes nothing.
 use Prim.Native.Nat.{ℕ, _-_, _*_, _≤_, _<_}
 use mathlib.Core.Path.{_≡_, refl, sym, ap, _∙_}
-use mathlib.Core.Bool.{Bool, true, false, not, _&&_}
+use mathlib.Core.Bool.{Bool, true, false, cond, not, _&&_}
 use mathlib.Core.List.{List}
 use native.Mathlib.Omega.{arith}
 use lib.Dec.{leb, ltb, eqb}
-use lib.ListN.{length, take, drop, length-drop}
+use lib.ListN.{length, getD, take, drop, length-drop}
 use lib.Seq.{take-all}
 use borrow.Author.Tests.{le-leb, lt-leb, not-true, not-false}
 use Rattle.list_laws.specs.Tests.{allBelow}
@@ -14,11 +14,13 @@ use Rattle.formats.specs.Limits.{within}
 use Rattle.formats.proofs.PlanLaws.{within-low}
 use Rattle.list_laws.proofs.BoolLaws.{and-yes, and-assoc}
 use Rattle.session.specs.declared.state.Sizes.{Sizes}
+use Rattle.session.specs.declared.state.Last.{Last}
 use Rattle.session.specs.declared.state.Session.{Session}
 use Rattle.list_laws.proofs.BoolLaws.{and-left, and-no-right}
 use Rattle.session.specs.declared.state.Phase.{Phase}
 use Rattle.session.specs.declared.state.Phase.the-variants.{Empty, Loaded, Running, Answered}
 use Rattle.session.specs.Records.{sizesFit, noQuestion, listFits, partsFit, questionFits, zeroFrom, risesTo, validIn, valid}
+use Rattle.session.specs.Records.{isNone, lastFits, sameFlag, lastIsOwn}
 use Rattle.session.specs.inner.Shapes.{PartsShaped}
 
 pub sizes-test : (z : Sizes)
@@ -33,6 +35,50 @@ pub question-test : (s : Session) (a b c d : Bool) → a ≡ allBelow 1 (s .node
     (s .head .links) 0 && a && b && c && d) ≡ noQuestion s
 unfolding noQuestion zeroFrom
 question-test s a b c d e f g h = rw (e, f, g, h) (simp and-assoc)
+
+-- ---- the last finished answer
+
+pub none-test : (l : Last)
+    → (not (l .present) && not (l .outcome .yes) && eqb (l .outcome .state) 0 && eqb (l .outcome .parts) 0 && eqb (l .outcome .links) 0)
+    ≡ isNone l
+unfolding isNone
+none-test l = simp and-assoc
+
+pub last-absent : (s : ℕ) (l : Last) (b : Bool) → not (l .present) ≡ true → b ≡ isNone l → b ≡ lastFits s l
+unfolding lastFits
+last-absent s l b e f =
+    f ∙ ap (λ (p : Bool). cond p (ltb (l .outcome .state) s && (within 1 254 (l .outcome .parts) && leb (l .outcome .links) (65535 * l .outcome .parts)))
+    (isNone l)) (sym (not-true (l .present) e))
+
+pub last-test : (s : ℕ) (l : Last) → not (l .present) ≡ false
+    → (ltb (l .outcome .state) s && ltb 0 (l .outcome .parts) && leb (l .outcome .parts) 254 && leb (l .outcome .links) (65535 * l .outcome .parts))
+    ≡ lastFits s l
+unfolding lastFits
+last-test s l e = rw (not-false (l .present) e) (simp and-assoc)
+
+module _ (s : Session) where
+  pub own-few : s .head .handled < 1 → false ≡ lastIsOwn s
+  unfolding lastIsOwn
+  own-few h = rw (lt-leb 1 (s .head .handled) h)
+
+  pub own-many : 254 < s .head .handled → false ≡ lastIsOwn s
+  unfolding lastIsOwn
+  own-many h = rw (lt-leb (s .head .handled) 254 h, le-leb 1 (s .head .handled) (omega arith))
+
+  pub own-test : 1 ≤ s .head .handled → s .head .handled ≤ 254 → (c : Bool) → c ≡ sameFlag (s .head .last .outcome .yes) (s .head .yes)
+      → (s .head .last .present && eqb (s .head .last .outcome .state) (getD (s .states) (s .head .handled - 1) 0) && c
+      && eqb (s .head .last .outcome .parts) (s .head .parts) && eqb (s .head .last .outcome .links) (s .head .links)) ≡ lastIsOwn s
+  unfolding lastIsOwn
+  own-test g h c e = rw (le-leb 1 (s .head .handled) g, le-leb (s .head .handled) 254 h, e) (simp and-assoc)
+
+-- two yes or no
+pub flag-true : (a b : Bool) → a ≡ true → b ≡ sameFlag a b
+unfolding sameFlag
+flag-true a b e = rw e
+
+pub flag-false : (a b : Bool) → a ≡ false → not b ≡ sameFlag a b
+unfolding sameFlag
+flag-false a b e = rw e
 
 -- what `&l[i..]` is
 rest : (l : List ℕ) (i : ℕ) → take (length l - i) (drop i l) ≡ drop i l
@@ -116,23 +162,25 @@ module _ (s : Session) where
 
   -- ---- by state
 
-  pub empty-test : (a : Bool) → a ≡ noQuestion s
-      → (eqb (s .head .sizes .n) 0 && eqb (s .head .sizes .s) 0 && eqb (s .head .sizes .k) 0 && a) ≡ validIn Empty s
+  pub empty-test : (c a : Bool) → c ≡ isNone (s .head .last) → a ≡ noQuestion s
+      → (eqb (s .head .sizes .n) 0 && eqb (s .head .sizes .s) 0 && eqb (s .head .sizes .k) 0 && c && a) ≡ validIn Empty s
   unfolding validIn
-  empty-test a e = rw e (simp and-assoc)
+  empty-test c a e f = rw (e, f) (simp and-assoc)
 
-  pub loaded-test : (a b : Bool) → a ≡ sizesFit (s .head .sizes) → b ≡ noQuestion s → (a && b) ≡ validIn Loaded s
+  pub loaded-test : (a c b : Bool) → a ≡ sizesFit (s .head .sizes) → c ≡ lastFits (s .head .sizes .s) (s .head .last)
+      → b ≡ noQuestion s → (a && c && b) ≡ validIn Loaded s
   unfolding validIn
-  loaded-test a b e f = rw (e, f)
+  loaded-test a c b e f g = rw (e, f, g) (simp and-assoc)
 
-  pub running-test : (b : Bool) → b ≡ questionFits s
-      → (b && ltb (s .head .handled) (s .head .parts) && not (s .head .yes)) ≡ validIn Running s
+  pub running-test : (b c : Bool) → b ≡ questionFits s → c ≡ lastFits (s .head .sizes .s) (s .head .last)
+      → (b && c && ltb (s .head .handled) (s .head .parts) && not (s .head .yes)) ≡ validIn Running s
   unfolding validIn
-  running-test b e = rw e (and-assoc (questionFits s) (ltb (s .head .handled) (s .head .parts)) (not (s .head .yes)))
+  running-test b c e f = rw (e, f) (simp and-assoc)
 
-  pub answered-test : (b : Bool) → b ≡ questionFits s → (b && eqb (s .head .handled) (s .head .parts)) ≡ validIn Answered s
+  pub answered-test : (b c : Bool) → b ≡ questionFits s → c ≡ lastIsOwn s
+      → (b && c && eqb (s .head .handled) (s .head .parts)) ≡ validIn Answered s
   unfolding validIn
-  answered-test b e = rw e
+  answered-test b c e f = rw (e, f) (simp and-assoc)
 
   pub phase-test : (p : Phase) (a : Bool) → a ≡ validIn p s → s .head .phase ≡ p → a ≡ valid s
   unfolding valid

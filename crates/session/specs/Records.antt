@@ -4,22 +4,28 @@
 -- sessionOf r == the struct of a record: "unused entries are zero"
 -- valid s == whether a struct can be a session's: the conditions of docs/LAYOUT.md, all that can be said without plan and rules
 -- whole h nodes labels roots states == the struct of a head and four arrays
--- idleSession p z == a struct in state p, of N, S and K as in z, with no question
+-- idleSession p z l == a struct in state p, of N, S and K as in z, with no question and the last finished answer l
+-- noLast == no finished answer; lastIn l, lastTo o == the answer that a struct's Last holds, and the Last that holds it
+-- stageIn s == what the checks ask of a struct
 -- LimitsAre n s k m == the session's constants have the limits' values
 -- freshSession == "a fresh session is made with nothing given": all zero
 --
 -- Assumes nothing.
 use Prim.Native.Nat.{ℕ, _-_, _*_}
 use mathlib.Core.Path.{_≡_}
-use mathlib.Core.Bool.{Bool, false, not, _&&_}
+use mathlib.Core.Bool.{Bool, true, false, cond, not, _&&_}
 use mathlib.Core.List.{List, [], _∷_, _++_}
+use mathlib.Core.Option.{Option, none, some}
 use lib.Dec.{leb, ltb, eqb}
-use lib.ListN.{length, take, drop, replicate}
+use lib.ListN.{length, getD, take, drop, replicate}
 use Rattle.list_laws.specs.Tests.{allBelow}
 use Rattle.formats.specs.Limits.{nodeLimit, stateLimit, labelLimit, changeLimit, within}
 use Rattle.formats.specs.Inputs.{Sizes}
 use Rattle.model.specs.Calls as calls
+use Rattle.model.specs.Refusals.{Stage, stage}
 use Rattle.model.specs.Model.{Record}
+use Rattle.session.specs.declared.answers.Outcome.{Outcome}
+use Rattle.session.specs.declared.state.Last.{Last}
 use Rattle.session.specs.declared.state.Phase.{Phase}
 use Rattle.session.specs.declared.state.Phase.the-variants.{Empty, Loaded, Running, Answered}
 use Rattle.session.specs.declared.state.Sizes.{Sizes as HeadSizes}
@@ -41,6 +47,27 @@ phaseTo calls.Phase.answered = Answered
 abbrev pub sizesOf : Session → Sizes
 sizesOf s = record { n = s .head .sizes .n; s = s .head .sizes .s; k = s .head .sizes .k }
 
+-- ---- the last finished answer
+
+abbrev pub outcomeIn : Outcome → calls.Outcome
+outcomeIn o = record { state = o .state; yes = o .yes; parts = o .parts; links = o .links }
+
+abbrev pub lastIn : Last → Option calls.Outcome
+lastIn l = cond (l .present) (some (outcomeIn (l .outcome))) none
+
+abbrev pub noLast : Last
+noLast = record { present = false; outcome = record { state = 0; yes = false; parts = 0; links = 0 } }
+
+abbrev pub lastTo : Option calls.Outcome → Last
+lastTo none = noLast
+lastTo (some o) =
+    record { present = true; outcome = record { state = o .state; yes = o .yes; parts = o .parts; links = o .links } }
+
+abbrev pub stageIn : Session → Stage
+stageIn s = stage (phaseOf (s .head .phase)) (sizesOf s) (calls.isSome (lastIn (s .head .last)))
+
+-- ---- the record of a struct, and the struct of a record
+
 unfoldable pub recordOf : Session → Record
 recordOf s = record {
   phase = phaseOf (s .head .phase);
@@ -51,6 +78,7 @@ recordOf s = record {
   states = take (s .head .handled) (s .states);
   links = s .head .links;
   yes = s .head .yes;
+  last = lastIn (s .head .last);
 }
 
 -- a list in an array of w entries, the rest zero
@@ -67,6 +95,7 @@ sessionOf r = record {
     parts = length (r .roots);
     handled = length (r .states);
     links = r .links;
+    last = lastTo (r .last);
   };
   nodes = padded 64 (r .nodes);
   labels = padded 64 (r .labels);
@@ -77,13 +106,13 @@ sessionOf r = record {
 abbrev pub whole : Head → List ℕ → List ℕ → List ℕ → List ℕ → Session
 whole h nodes labels roots states = record { head = h; nodes = nodes; labels = labels; roots = roots; states = states }
 
-abbrev pub idleSession : Phase → HeadSizes → Session
-idleSession p z =
-    whole (record { phase = p; yes = false; sizes = z; m = 0; parts = 0; handled = 0; links = 0 })
+abbrev pub idleSession : Phase → HeadSizes → Last → Session
+idleSession p z l =
+    whole (record { phase = p; yes = false; sizes = z; m = 0; parts = 0; handled = 0; links = 0; last = l })
     (replicate 64 0) (replicate 64 0) (replicate 254 0) (replicate 254 0)
 
 abbrev pub freshSession : Session
-freshSession = idleSession Empty (record { n = 0; s = 0; k = 0 })
+freshSession = idleSession Empty (record { n = 0; s = 0; k = 0 }) noLast
 
 -- ---- the limits
 
@@ -133,13 +162,41 @@ unfoldable pub questionFits : Session → Bool
 questionFits s =
     sizesFit (s .head .sizes) && (listFits s && (partsFit s && leb (s .head .handled) (s .head .parts)))
 
+-- no finished answer: all zero
+unfoldable pub isNone : Last → Bool
+isNone l =
+    not (l .present)
+    && (not (l .outcome .yes) && (eqb (l .outcome .state) 0 && (eqb (l .outcome .parts) 0 && eqb (l .outcome .links) 0)))
+
+-- none, or an answer of some question on S states
+unfoldable pub lastFits : ℕ → Last → Bool
+lastFits s l =
+    cond (l .present)
+    (ltb (l .outcome .state) s && (within 1 254 (l .outcome .parts) && leb (l .outcome .links) (65535 * l .outcome .parts)))
+    (isNone l)
+
+-- two yes or no are the same
+unfoldable pub sameFlag : Bool → Bool → Bool
+sameFlag a b = cond a b (not b)
+
+-- the record's own: the state of the last part handled, its yes or no, its parts and links
+unfoldable pub lastIsOwn : Session → Bool
+lastIsOwn s =
+    within 1 254 (s .head .handled)
+    && (s .head .last .present && (eqb (s .head .last .outcome .state) (getD (s .states) (s .head .handled - 1) 0)
+    && (sameFlag (s .head .last .outcome .yes) (s .head .yes)
+    && (eqb (s .head .last .outcome .parts) (s .head .parts) && eqb (s .head .last .outcome .links) (s .head .links)))))
+
 -- in each state
 unfoldable pub validIn : Phase → Session → Bool
 validIn Empty s =
-    eqb (s .head .sizes .n) 0 && (eqb (s .head .sizes .s) 0 && (eqb (s .head .sizes .k) 0 && noQuestion s))
-validIn Loaded s = sizesFit (s .head .sizes) && noQuestion s
-validIn Running s = questionFits s && (ltb (s .head .handled) (s .head .parts) && not (s .head .yes))
-validIn Answered s = questionFits s && eqb (s .head .handled) (s .head .parts)
+    eqb (s .head .sizes .n) 0
+    && (eqb (s .head .sizes .s) 0 && (eqb (s .head .sizes .k) 0 && (isNone (s .head .last) && noQuestion s)))
+validIn Loaded s = sizesFit (s .head .sizes) && (lastFits (s .head .sizes .s) (s .head .last) && noQuestion s)
+validIn Running s =
+    questionFits s
+    && (lastFits (s .head .sizes .s) (s .head .last) && (ltb (s .head .handled) (s .head .parts) && not (s .head .yes)))
+validIn Answered s = questionFits s && (lastIsOwn s && eqb (s .head .handled) (s .head .parts))
 
 unfoldable pub valid : Session → Bool
 valid s = validIn (s .head .phase) s

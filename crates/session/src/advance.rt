@@ -2,9 +2,11 @@
 use crate::answers::AdvanceAnswer;
 use crate::answers::AdvanceStep;
 use crate::answers::Advanced;
+use crate::answers::Outcome;
 use crate::may::allowed;
 use crate::may::may_advance;
 use crate::state::Head;
+use crate::state::Last;
 use crate::state::Phase;
 use crate::state::Session;
 use formats::buffers::rule_buffers_fit;
@@ -22,7 +24,7 @@ ghost use Rattle.session.specs.Records.{whole};
 ghost use Rattle.session.specs.inner.Shapes.{Shaped};
 ghost use Rattle.formats.specs.Inputs.{inputsOf};
 ghost use Rattle.session.specs.inner.Steps.{NextArgs, StepArgs, MarkArgs, HandleArgs, markedIn, steppedHead, stepBy};
-ghost use Rattle.session.specs.inner.Steps.{refusedStep, StepFound};
+ghost use Rattle.session.specs.inner.Steps.{answerOf, refusedStep, StepFound};
 
 // The part that comes next: with the record's lists, without the zeros behind them.
 fn next_part<'a>(
@@ -68,10 +70,10 @@ fn is_marked(rules: &[u8], s: usize, k: usize, q: usize) -> bool
     rules[20 + k + inner_count(s, k) + q] == 1
 }
 
-// A head with one more part handled.
-fn stepped(h: Head, phase: Phase, links: u32, yes: bool) -> Head
+// A head with one more part handled, and the last finished answer as given.
+fn stepped(h: Head, phase: Phase, links: u32, yes: bool, last: Last) -> Head
     requires { ⌜ StepArgs h links ⌝ }
-    ensures { λ r. ⌜ r ≡ steppedHead h phase links yes ⌝ }
+    ensures { λ r. ⌜ r ≡ steppedHead h phase links yes last ⌝ }
 {
     let sizes = h.sizes;
     Head {
@@ -82,17 +84,37 @@ fn stepped(h: Head, phase: Phase, links: u32, yes: bool) -> Head
         parts: h.parts,
         handled: h.handled + 1,
         links: h.links + links,
+        last,
     }
 }
 
-// One more part, of state q: more, or finished at the last part, with its yes or no by the rules lent now.
+// The answer of a head whose last part has state q and these links.
+fn answer_of(h: Head, q: u8, links: u32, yes: bool) -> Last
+    requires { ⌜ StepArgs h links ⌝ }
+    ensures { λ r. ⌜ r ≡ answerOf h q links yes ⌝ }
+{
+    let all = h.links + links;
+    let outcome = Outcome {
+        state: q,
+        yes,
+        parts: h.parts,
+        links: all,
+    };
+    Last {
+        present: true,
+        outcome,
+    }
+}
+
+// One more part, of state q: more, or finished at the last part, with its yes or no by the rules lent now; that alone is a new answer.
 fn handled(h: Head, rules: &[u8], q: u8, links: u32) -> AdvanceStep
     requires { ⌜ HandleArgs h (now rules) q links ⌝ }
     ensures { λ r. ⌜ r ≡ stepBy h (now (rules .entry)) q links ⌝ }
 {
     if h.handled + 1 == h.parts {
         let yes = is_marked(rules, h.sizes.s as usize, h.sizes.k as usize, q as usize);
-        let head = stepped(h, Phase::Answered, links, yes);
+        let last = answer_of(h, q, links, yes);
+        let head = stepped(h, Phase::Answered, links, yes, last);
         return AdvanceStep {
             answer: AdvanceAnswer::Finished,
             head,
@@ -100,7 +122,8 @@ fn handled(h: Head, rules: &[u8], q: u8, links: u32) -> AdvanceStep
             state: q,
         };
     }
-    let head = stepped(h, Phase::Running, links, false);
+    let last = h.last;
+    let head = stepped(h, Phase::Running, links, false, last);
     AdvanceStep {
         answer: AdvanceAnswer::More,
         head,

@@ -10,7 +10,7 @@ ghost use Rattle.session.specs.Answers.{callAnswer};
 ghost use Rattle.session.specs.Promises.{CallDone};
 
 impl Session {
-    // Ends a question: the record is as after a first Load.
+    // Ends a question: the record is as after a first Load, but for the last finished answer, which is kept.
     pub fn cancel(self) -> Called
         ensures { λ r. ⌜ CallDone self calls.cancel (callAnswer (r .answer)) (r .session) ⌝ }
     {
@@ -23,7 +23,7 @@ impl Session {
                 session: self,
             };
         }
-        let session = loaded(h.sizes);
+        let session = loaded(h.sizes, h.last);
         Called {
             answer: CallAnswer::Accepted,
             session,

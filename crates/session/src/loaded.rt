@@ -1,18 +1,21 @@
-// The record after a first Load.
+// The record after a first Load, and that after Cancel: "it equals it in all but that answer".
+use crate::state::Last;
 use crate::state::Phase;
 use crate::state::Session;
 use crate::state::Sizes;
 use crate::state::idle;
+use crate::state::no_last;
 use formats::bytes::read32;
 ghost use mathlib.Core.Path.{_≡_};
-ghost use Rattle.session.specs.Records.{sessionOf};
-ghost use Rattle.session.specs.inner.Shapes.{loadedBy, loadedFrom, Headers};
+ghost use Rattle.session.specs.Records.{sessionOf, idleSession};
+ghost use Rattle.session.specs.declared.state.Phase.the-variants.{Loaded};
+ghost use Rattle.session.specs.inner.Shapes.{loadedFrom, Headers};
 
-// A loaded session of N, S and K, with no question.
-pub fn loaded(sizes: Sizes) -> Session
-    ensures { λ r. ⌜ r ≡ sessionOf (loadedBy (sizes .n) (sizes .s) (sizes .k)) ⌝ }
+// A loaded session of N, S and K, with no question, and the last finished answer as given.
+pub fn loaded(sizes: Sizes, last: Last) -> Session
+    ensures { λ r. ⌜ r ≡ idleSession Loaded sizes last ⌝ }
 {
-    idle(Phase::Loaded, sizes)
+    idle(Phase::Loaded, sizes, last)
 }
 
 // A session that is loaded with a plan and rules that pass their checks.
@@ -28,5 +31,6 @@ pub fn loaded_from(plan: &[u8], rules: &[u8]) -> Session
         s: s as u8,
         k: k as u8,
     };
-    loaded(sizes)
+    let last = no_last();
+    loaded(sizes, last)
 }

@@ -1,12 +1,12 @@
 // Check 1: which calls may be made.
-//     may_load, may_start, may_advance, may_read   the states that allow a call
-//     allowed                                      and the record can be a session's
+//     may_load, may_start, may_advance   the states that allow a call; Read goes by whether an answer is there
+//     allowed                            and the record can be a session's
 use crate::state::Head;
 use crate::state::Phase;
 use crate::valid::fits;
 ghost use mathlib.Core.Path.{_≡_};
 ghost use mathlib.Core.Bool.{_&&_};
-ghost use Rattle.model.specs.Calls.{mayLoad, mayStart, isRunning, isAnswered};
+ghost use Rattle.model.specs.Calls.{mayLoad, mayStart, isRunning};
 ghost use Rattle.session.specs.Records.{phaseOf, whole, valid};
 
 // Load: unless running.
@@ -45,20 +45,8 @@ pub fn may_advance(phase: Phase) -> bool
     }
 }
 
-// Read: in answered.
-pub fn may_read(phase: Phase) -> bool
-    ensures { λ r. ⌜ r ≡ isAnswered (phaseOf phase) ⌝ }
-{
-    match phase {
-        Phase::Empty => false,
-        Phase::Loaded => false,
-        Phase::Running => false,
-        Phase::Answered => true,
-    }
-}
-
-// Check 1 of a call that the record's state allows or not. The record is given as its head and its four arrays, lent; it is tested
-// only where the state allows the call.
+// Check 1 of a call that the record's state, or for Read its last finished answer, allows or not. The record is given as its head and its
+// four arrays, lent; it is tested only where the call is allowed.
 pub fn allowed<'a>(
     may: bool,
     h: Head,

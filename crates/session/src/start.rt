@@ -8,6 +8,7 @@ use crate::may::allowed;
 use crate::may::may_start;
 use crate::soundness::tables_sound;
 use crate::state::Head;
+use crate::state::Last;
 use crate::state::Phase;
 use crate::state::Session;
 use crate::state::Sizes;
@@ -27,10 +28,17 @@ ghost use Rattle.session.specs.Promises.{CallDone};
 ghost use Rattle.formats.specs.Inputs.{inputsOf};
 ghost use Rattle.session.specs.inner.Steps.{ListArgs, RootsArgs, startedOf};
 
-// A running session with its question and no part handled. Nothing of an earlier question is left.
-fn started(sizes: Sizes, nodes: &[u16], labels: &[u8], parts: u8, roots: [u16; 254]) -> Session
+// A running session with its question and no part handled. Nothing of an earlier question is left, but the last finished answer.
+fn started(
+    sizes: Sizes,
+    last: Last,
+    nodes: &[u16],
+    labels: &[u8],
+    parts: u8,
+    roots: [u16; 254],
+) -> Session
     requires { ⌜ ListArgs (now nodes) (now labels) ⌝ }
-    ensures { λ r. ⌜ r ≡ startedOf sizes (now (nodes .entry)) (now (labels .entry)) parts roots ⌝ }
+    ensures { λ r. ⌜ r ≡ startedOf sizes last (now (nodes .entry)) (now (labels .entry)) parts roots ⌝ }
 {
     let states = [0u8; 254];
     let listed = padded_nodes(nodes);
@@ -44,6 +52,7 @@ fn started(sizes: Sizes, nodes: &[u16], labels: &[u8], parts: u8, roots: [u16; 2
         parts,
         handled: 0,
         links: 0,
+        last,
     };
     Session {
         head,
@@ -126,7 +135,7 @@ impl Session {
         let found = roots_left(n, plan, node_table, nodes, labels);
         let parts = found.count as u8;
         let roots = found.nodes;
-        let session = started(h.sizes, nodes, labels, parts, roots);
+        let session = started(h.sizes, h.last, nodes, labels, parts, roots);
         Started {
             answer: StartAnswer::Parts(parts),
             session,

@@ -1,11 +1,13 @@
 // The session's record, its limits and the fresh one.
 //     Phase     which of the four states a session is in
 //     Sizes     N, S and K
+//     Last      the last finished answer
 //     Head      the record without its arrays. What a later version adds to the record stands here
 //     Session   the record
+use crate::answers::Outcome;
 use formats::limits;
 ghost use mathlib.Core.Path.{_≡_};
-ghost use Rattle.session.specs.Records.{LimitsAre, freshSession, idleSession};
+ghost use Rattle.session.specs.Records.{LimitsAre, freshSession, idleSession, noLast};
 
 // Which of the four states a session is in.
 pub enum Phase {
@@ -22,8 +24,15 @@ pub struct Sizes {
     pub k: u8,
 }
 
+// The last finished answer, and whether there is one; all zero where there is none.
+pub struct Last {
+    pub present: bool,
+    pub outcome: Outcome,
+}
+
 // The record without its arrays: the state, the yes or no once answered, N, S and K, how many changes are listed, how many parts there are,
-// how many are handled, and the links so far. Tests take it beside the lent arrays, so that the record is not copied for them.
+// how many are handled, the links so far, and the last finished answer. Tests take it beside the lent arrays, so that the record is not
+// copied for them.
 pub struct Head {
     pub phase: Phase,
     pub yes: bool,
@@ -32,6 +41,7 @@ pub struct Head {
     pub parts: u8,
     pub handled: u8,
     pub links: u32,
+    pub last: Last,
 }
 
 // The session's record: its head, the changes as listed, the roots of the parts and the states of the parts handled so far.
@@ -65,13 +75,30 @@ impl Session {
           ⌜ LimitsAre n s k m ⌝ }
     {
         let sizes = Sizes { n: 0, s: 0, k: 0 };
-        idle(Phase::Empty, sizes)
+        let last = no_last();
+        idle(Phase::Empty, sizes, last)
     }
 }
 
-// A session with no question.
-pub fn idle(phase: Phase, sizes: Sizes) -> Session
-    ensures { λ r. ⌜ r ≡ idleSession phase sizes ⌝ }
+// No finished answer.
+pub fn no_last() -> Last
+    ensures { λ r. ⌜ r ≡ noLast ⌝ }
+{
+    let outcome = Outcome {
+        state: 0,
+        yes: false,
+        parts: 0,
+        links: 0,
+    };
+    Last {
+        present: false,
+        outcome,
+    }
+}
+
+// A session with no question, and the last finished answer as given.
+pub fn idle(phase: Phase, sizes: Sizes, last: Last) -> Session
+    ensures { λ r. ⌜ r ≡ idleSession phase sizes last ⌝ }
 {
     let head = Head {
         phase,
@@ -81,6 +108,7 @@ pub fn idle(phase: Phase, sizes: Sizes) -> Session
         parts: 0,
         handled: 0,
         links: 0,
+        last,
     };
     Session {
         head,

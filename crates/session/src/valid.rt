@@ -2,10 +2,12 @@
 // The record is given as its head and its four arrays, lent: as arrays, so that their lengths are constants.
 // `list_fits` and `parts_fit` test parts of them, and take slices.
 //     sizes_fit, no_question, list_fits, parts_fit, question_fits   parts of the conditions
+//     is_none, last_fits, last_is_own                               those of the last finished answer
 //     fits                                                          all of them
 use crate::lists::below;
 use crate::lists::rises_to;
 use crate::state::Head;
+use crate::state::Last;
 use crate::state::Phase;
 use crate::state::Session;
 use crate::state::Sizes;
@@ -13,7 +15,9 @@ use formats::rules::all_below;
 ghost use mathlib.Core.Path.{_≡_};
 ghost use mathlib.Core.List.{List};
 ghost use Prim.Native.Nat.{ℕ};
+ghost use lib.ListN.{length};
 ghost use Rattle.session.specs.Records.{whole, sizesFit, noQuestion, listFits, partsFit, questionFits, valid};
+ghost use Rattle.session.specs.Records.{isNone, lastFits, sameFlag, lastIsOwn};
 ghost use Rattle.session.specs.inner.Shapes.{ListShaped, PartsShaped};
 
 // N, S and K in their limits.
@@ -94,6 +98,52 @@ fn question_fits(
     list_fits(h, nodes, labels) & parts_fit(h, roots, states)
 }
 
+// No finished answer: all of it is zero.
+fn is_none(l: Last) -> bool
+    ensures { λ r. ⌜ r ≡ isNone l ⌝ }
+{
+    let o = l.outcome;
+    !l.present & !o.yes & (o.state == 0) & (o.parts == 0) & (o.links == 0)
+}
+
+// The last finished answer: none, or with a state below S, parts in their limits, and few links.
+fn last_fits(s: u8, l: Last) -> bool
+    ensures { λ r. ⌜ r ≡ lastFits s l ⌝ }
+{
+    if !l.present {
+        return is_none(l);
+    }
+    let o = l.outcome;
+    (o.state < s) & (0 < o.parts) & (o.parts <= 254) & (o.links <= 65535 * (o.parts as u32))
+}
+
+// Whether two yes or no are the same.
+fn same_flag(a: bool, b: bool) -> bool
+    ensures { λ r. ⌜ r ≡ sameFlag a b ⌝ }
+{
+    if a {
+        return b;
+    }
+    !b
+}
+
+// The last finished answer is the record's own, of all its parts.
+fn last_is_own(h: Head, states: &[u8]) -> bool
+    requires { ⌜ length (now states) ≡ 254 ⌝ }
+    ensures { λ r. ⌜ ((vs bs rs : List ℕ) → r ≡ lastIsOwn (whole h vs bs rs (now (states .entry)))) ⌝ }
+{
+    if h.handled < 1 {
+        return false;
+    }
+    if 254 < h.handled {
+        return false;
+    }
+    let o = h.last.outcome;
+    let at = h.handled as usize - 1;
+    let alike = same_flag(o.yes, h.yes);
+    h.last.present & (o.state == states[at]) & alike & (o.parts == h.parts) & (o.links == h.links)
+}
+
 // The record is valid, by its state.
 pub fn fits<'a>(
     h: Head,
@@ -109,14 +159,23 @@ pub fn fits<'a>(
     match phase {
         Phase::Empty => {
             let none = (h.sizes.n == 0) & (h.sizes.s == 0) & (h.sizes.k == 0);
-            none & no_question(h, nodes, labels, roots, states)
+            none & is_none(h.last) & no_question(h, nodes, labels, roots, states)
         }
-        Phase::Loaded => sizes_fit(h.sizes) & no_question(h, nodes, labels, roots, states),
+        Phase::Loaded => {
+            sizes_fit(h.sizes)
+                & last_fits(h.sizes.s, h.last)
+                & no_question(h, nodes, labels, roots, states)
+        }
         Phase::Running => {
-            question_fits(h, nodes, labels, roots, states) & (h.handled < h.parts) & !h.yes
+            question_fits(h, nodes, labels, roots, states)
+                & last_fits(h.sizes.s, h.last)
+                & (h.handled < h.parts)
+                & !h.yes
         }
         Phase::Answered => {
-            question_fits(h, nodes, labels, roots, states) & (h.handled == h.parts)
+            question_fits(h, nodes, labels, roots, states)
+                & last_is_own(h, states)
+                & (h.handled == h.parts)
         }
     }
 }

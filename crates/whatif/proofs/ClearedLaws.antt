@@ -8,6 +8,7 @@ use Prim.Native.Nat.{ℕ, zero, suc, _+_, _≤_, _<_}
 use mathlib.Core.Path.{_≡_, refl, sym, ap, _∙_, subst}
 use mathlib.Core.Bool.{Bool, true, false, cond}
 use mathlib.Core.List.{List, [], _∷_, _++_}
+use mathlib.Core.Option.{none}
 use native.Mathlib.Omega.{arith}
 use lib.Dec.{eqb}
 use lib.ListN.{length}
@@ -23,13 +24,13 @@ use Rattle.ready.specs.Parts.{Part}
 use Rattle.formats.specs.Inputs.{Inputs, Sizes, sizesIn, fits, usedNodeTable, usedStateTable, sameNodeInputs}
 use Rattle.formats.specs.Inputs.{sameInputs, nodeTableBuilt, stateTableBuilt, sound, inputsOf}
 use Rattle.model.specs.Calls.{Call, load, start, advance, read, Answer, refused, accepted, more, finished, Phase}
-use Rattle.model.specs.Calls.{isRunning, isAnswered, mayStart, isRefused, onRefused}
+use Rattle.model.specs.Calls.{isRunning, mayStart, isRefused, onRefused}
 use Rattle.model.specs.Refusals.{refusal, stage}
 use Rattle.model.specs.Model.{stageOf, Record, leftIn, idle, freshRecord, act}
 use Rattle.model.proofs.ModelLaws.{left-below, left-most}
 use Rattle.reference.specs.Reference.{Question, State, Reference, settled, phase, newReference, inState, step, decided}
 use Rattle.reference.specs.Reference.{proceed, reading, partCount, freshAnswer, asked, longer, advanced, goesOn}
-use Rattle.reference.specs.Reference.{advancingByRule, advancing}
+use Rattle.reference.specs.Reference.{advancingByRule, advancing, readingLast, finishedWith, stageOf as referenceStage}
 use Rattle.reference.specs.Demand3.{Conforms, after, Agrees}
 use Rattle.reference.specs.AgreementTest.{answersOf}
 use Rattle.reference.proofs.Theorems.{model-agrees}
@@ -96,27 +97,27 @@ module _ (z : Sizes) (x : Inputs) (long : fits z x ≡ true) where
       and-both _ _ (and-both _ _ (sameList-is (x .plan) (x .plan) refl) (and-both _ _ (sameList-is (x .rules) (x .rules) refl)
       (sameList-is (usedNodeTable z x) (usedNodeTable z x) refl))) (sameList-is (usedStateTable z x) (usedStateTable z x) refl)
 
-  advance-allowed : refusal (stage Phase.running z) (advance x) ≡ 0
+  advance-allowed : refusal (stage Phase.running z false) (advance x) ≡ 0
   unfolding refusal isRunning firstNo
   advance-allowed = firstNo-yes 17 (fits z x) [] long
 
   -- an advance goes on
   advance-step : (q : Question) (c : ℕ) (tr : List Part) → q .inputs ≡ x
-      → step (going z q c tr) (advance x) ≡ goesOn (going z q c tr) (at q (suc c) (longer z (at q c tr) x))
+      → step (going z none q c tr) (advance x) ≡ goesOn (going z none q c tr) (at q (suc c) (longer z (at q c tr) x))
   unfolding step decided phase proceed advancing advanced
   advance-step q c tr e =
-      ap (λ (n : ℕ). decided n (going z q c tr) (advance x)) advance-allowed
-      ∙ ap (λ (b : Bool). cond b (goesOn (going z q c tr) (at q (suc c) (longer z (at q c tr) x))) (advancingByRule (going z q c tr) x (at q c tr)))
+      ap (λ (n : ℕ). decided n (going z none q c tr) (advance x)) advance-allowed
+      ∙ ap (λ (b : Bool). cond b (goesOn (going z none q c tr) (at q (suc c) (longer z (at q c tr) x))) (advancingByRule (going z none q c tr) x (at q c tr)))
       (subst (λ (y : Inputs). sameInputs z y x ≡ true) (sym e) same)
 
   -- a Read tells the fresh run's answer
   read-step : (q : Question) (c : ℕ) (tr : List Part) → step (over z q c tr) read ≡ settled (freshAnswer q) (over z q c tr)
-  unfolding step decided phase proceed reading refusal firstNo isAnswered freshAnswer
+  unfolding step decided phase proceed reading readingLast refusal firstNo freshAnswer
   read-step q c tr = refl
 
-  finish-clean : (f : ℕ) (s : Session) (q : Question) (c : ℕ) (tr : List Part) → q .inputs ≡ x → Follows s (going z q c tr)
+  finish-clean : (f : ℕ) (s : Session) (q : Question) (c : ℕ) (tr : List Part) → q .inputs ≡ x → Follows s (going z none q c tr)
       → c < partCount q → partCount q ≤ c + f → finishedIn f s x ≡ freshAnswer q
-  unfolding goesOn inState finishedIn afterAdvance
+  unfolding goesOn inState finishedWith finishedIn afterAdvance
   finish-clean zero s q c tr e F l m = absurd (omega arith)
   finish-clean (suc f) s q c tr e F l m =
       go (λ G. finish-clean f (recordOn s (advance x)) q (suc c) (longer z (at q c tr) x) e G)
@@ -129,22 +130,22 @@ module _ (z : Sizes) (x : Inputs) (long : fits z x ≡ true) where
       goal a = afterAdvance a (answerOn (recordOn s (advance x)) read) (finishedIn f (recordOn s (advance x)) x) ≡ freshAnswer q
 
       onward : (b : Bool) → eqb (suc c) (partCount q) ≡ b
-          → step (going z q c tr) (advance x)
-          ≡ cond b (settled finished (over z q (suc c) ps)) (settled more (going z q (suc c) ps))
+          → step (going z none q c tr) (advance x)
+          ≡ cond b (settled finished (over z q (suc c) ps)) (settled more (going z none q (suc c) ps))
       onward b h = advance-step q c tr e ∙ ap (λ (t : Bool). cond t (settled finished (over z q (suc c) ps))
-          (settled more (going z q (suc c) ps))) h
+          (settled more (going z none q (suc c) ps))) h
 
-      go : (Follows (recordOn s (advance x)) (going z q (suc c) ps) → suc c < partCount q → partCount q ≤ suc c + f
+      go : (Follows (recordOn s (advance x)) (going z none q (suc c) ps) → suc c < partCount q → partCount q ≤ suc c + f
           → finishedIn f (recordOn s (advance x)) x ≡ freshAnswer q)
           → (b : Bool) → eqb (suc c) (partCount q) ≡ b → finishedIn (suc f) s x ≡ freshAnswer q
       go later true h =
-          let G = settled-follows s (going z q c tr) F (advance x) finished _ (onward true h) in
-          subst goal (sym (settled-answer s (going z q c tr) F (advance x) finished _ (onward true h)))
+          let G = settled-follows s (going z none q c tr) F (advance x) finished _ (onward true h) in
+          subst goal (sym (settled-answer s (going z none q c tr) F (advance x) finished _ (onward true h)))
           (settled-answer (recordOn s (advance x)) (over z q (suc c) ps) G read (freshAnswer q) _ (read-step q (suc c) ps))
       go later false h =
-          let G = settled-follows s (going z q c tr) F (advance x) more _ (onward false h) in
+          let G = settled-follows s (going z none q c tr) F (advance x) more _ (onward false h) in
           let n : suc c ≡ partCount q → ⊥ = eqb-false (suc c) (partCount q) h in
-          subst goal (sym (settled-answer s (going z q c tr) F (advance x) more _ (onward false h)))
+          subst goal (sym (settled-answer s (going z none q c tr) F (advance x) more _ (onward false h)))
           (later G (omega (arith, n)) (omega arith))
 
 -- ---- from the Load on
@@ -160,18 +161,18 @@ few-parts : (m p : ℕ) → Few m p → m ≤ 64 → p ≤ 254
 few-parts zero p h l = omega (arith, h .one refl)
 few-parts (suc m) p h l = omega (arith, h .few (omega arith))
 
-module _ (y : Inputs) (passed : refusal (stage (phase (newReference .state)) (newReference .sizes)) (load y) ≡ 0) (s : Session)
-    (F : Follows s (referenceOf State.loaded (sizesIn y))) (vs bs : List ℕ) where
-  start-number : refusal (stage Phase.loaded (sizesIn y)) (start (loaded y) vs bs) ≡ firstNo (listChecks (sizesIn y .n) (sizesIn y .k) vs bs)
+module _ (y : Inputs) (passed : refusal (referenceStage newReference) (load y) ≡ 0) (s : Session)
+    (F : Follows s (referenceOf State.loaded (sizesIn y) none)) (vs bs : List ℕ) where
+  start-number : refusal (stage Phase.loaded (sizesIn y) false) (start (loaded y) vs bs) ≡ firstNo (listChecks (sizesIn y .n) (sizesIn y .k) vs bs)
   unfolding refusal mayStart
   start-number =
       let list = listChecks (sizesIn y .n) (sizesIn y .k) vs bs in
       let last = check 18 (sound (sizesIn y) (loaded y)) ∷ [] in
       firstNo-yes 1 true (check 17 (fits (sizesIn y) (loaded y)) ∷ (list ++ last)) refl
       ∙ firstNo-yes 17 (fits (sizesIn y) (loaded y)) (list ++ last)
-      (written-fits (stage (phase (newReference .state)) (newReference .sizes)) y passed)
+      (written-fits (referenceStage newReference) y passed)
       ∙ last-passes list last (list-numbered (sizesIn y .n) (sizesIn y .k) vs bs)
-      (firstNo-yes 18 (sound (sizesIn y) (loaded y)) [] (written-sound (stage (phase (newReference .state)) (newReference .sizes)) y passed)
+      (firstNo-yes 18 (sound (sizesIn y) (loaded y)) [] (written-sound (referenceStage newReference) y passed)
       ∙ firstNo-none)
 
   answer-refused : (n : ℕ) → firstNo (listChecks (sizesIn y .n) (sizesIn y .k) vs bs) ≡ suc n
@@ -179,26 +180,25 @@ module _ (y : Inputs) (passed : refusal (stage (phase (newReference .state)) (ne
   unfolding askedOn afterStart step decided phase
   answer-refused n e =
       ap (λ (a : Answer). afterStart a (finishedIn mostParts (recordOn s (start (loaded y) vs bs)) (loaded y)))
-      (settled-answer s (referenceOf State.loaded (sizesIn y)) F (start (loaded y) vs bs) (refused (suc n)) (referenceOf State.loaded (sizesIn y))
-      (ap (λ (k : ℕ). decided k (referenceOf State.loaded (sizesIn y)) (start (loaded y) vs bs)) (start-number ∙ e)))
+      (settled-answer s (referenceOf State.loaded (sizesIn y) none) F (start (loaded y) vs bs) (refused (suc n)) (referenceOf State.loaded (sizesIn y) none)
+      (ap (λ (k : ℕ). decided k (referenceOf State.loaded (sizesIn y) none) (start (loaded y) vs bs)) (start-number ∙ e)))
 
   answer-clean : firstNo (listChecks (sizesIn y .n) (sizesIn y .k) vs bs) ≡ 0
       → askedOn s (loaded y) vs bs ≡ freshAnswer (asked (loaded y) vs bs)
   unfolding askedOn afterStart sound phase mayStart
   answer-clean e =
-      let p = phase (newReference .state) in
       let q = asked (loaded y) vs bs in
-      let w = start-written (stage p (newReference .sizes)) y State.loaded vs bs passed refl e in
-      let a = settled-answer s (referenceOf State.loaded (sizesIn y)) F (start (loaded y) vs bs) _ _ w in
-      let G = settled-follows s (referenceOf State.loaded (sizesIn y)) F (start (loaded y) vs bs) _ _ w in
+      let w = start-written (referenceStage newReference) y State.loaded none vs bs passed refl e in
+      let a = settled-answer s (referenceOf State.loaded (sizesIn y) none) F (start (loaded y) vs bs) _ _ w in
+      let G = settled-follows s (referenceOf State.loaded (sizesIn y) none) F (start (loaded y) vs bs) _ _ w in
       let l = and-left (nodeTableBuilt (sizesIn y) (loaded y)) (stateTableBuilt (sizesIn y) (loaded y))
-      (written-sound (stage p (newReference .sizes)) y passed) in
+      (written-sound (referenceStage newReference) y passed) in
       let left = leftIn (loaded y) vs bs in
       let few : partCount q ≤ 254 = few-parts (length left) (partCount q)
       (ready-count layers (sizesIn y) (loaded y) left l (left-below (loaded y) (sizesIn y .n) (sizesIn y .k) vs bs e))
       (left-most (loaded y) (sizesIn y .n) (sizesIn y .k) vs bs e) in
       ap (λ (t : Answer). afterStart t (finishedIn mostParts (recordOn s (start (loaded y) vs bs)) (loaded y))) a
-      ∙ finish-clean (sizesIn y) (loaded y) (written-fits (stage p (newReference .sizes)) y passed) mostParts
+      ∙ finish-clean (sizesIn y) (loaded y) (written-fits (referenceStage newReference) y passed) mostParts
       (recordOn s (start (loaded y) vs bs)) q 0 [] refl G (some-part q) (omega arith)
 
   result : askedOn s (loaded y) vs bs ≡ answerTo (y .plan) (y .rules) vs bs
@@ -213,10 +213,10 @@ module _ (y : Inputs) (passed : refusal (stage (phase (newReference .state)) (ne
 -- ---- the theorem
 
 -- an accepted Load passed its checks, and leaves the session and the reference model loaded
-pub load-passed : (y : Inputs) → answerOn freshSession (load y) ≡ accepted → refusal (stage (phase (newReference .state)) (newReference .sizes)) (load y) ≡ 0
+pub load-passed : (y : Inputs) → answerOn freshSession (load y) ≡ accepted → refusal (referenceStage newReference) (load y) ≡ 0
 unfolding step decided
 load-passed y e =
-    go (refusal (stage (phase (newReference .state)) (newReference .sizes)) (load y))
+    go (refusal (referenceStage newReference) (load y))
     (subst (λ (a : Answer). Conforms (step newReference (load y)) a) e (conforms freshSession newReference fresh-follows (load y)))
   where
     go : (n : ℕ) → Conforms (decided n newReference (load y)) accepted → n ≡ 0
@@ -225,21 +225,21 @@ load-passed y e =
 
 -- a refused one failed the check of that number
 pub load-number : (y : Inputs) (n : ℕ) → answerOn freshSession (load y) ≡ refused n
-    → (n ≡ refusal (stage (phase (newReference .state)) (newReference .sizes)) (load y)) × (n ≡ 0 → ⊥)
+    → (n ≡ refusal (referenceStage newReference) (load y)) × (n ≡ 0 → ⊥)
 unfolding step decided proceed
 load-number y n e =
-    go (refusal (stage (phase (newReference .state)) (newReference .sizes)) (load y))
+    go (refusal (referenceStage newReference) (load y))
     (subst (λ (a : Answer). Conforms (step newReference (load y)) a) e (conforms freshSession newReference fresh-follows (load y)))
   where
     go : (k : ℕ) → Conforms (decided k newReference (load y)) (refused n) → (n ≡ k) × (n ≡ 0 → ⊥)
     go zero h = absurd (true-false (ap isRefused h))
     go (suc k) h = let i : n ≡ suc k = ap (onRefused (λ (m : ℕ). m) 0) h in (i, λ z. omega arith)
 
-load-follows : (y : Inputs) → refusal (stage (phase (newReference .state)) (newReference .sizes)) (load y) ≡ 0
-    → Follows (recordOn freshSession (load y)) (referenceOf State.loaded (sizesIn y))
+load-follows : (y : Inputs) → refusal (referenceStage newReference) (load y) ≡ 0
+    → Follows (recordOn freshSession (load y)) (referenceOf State.loaded (sizesIn y) none)
 unfolding step decided proceed
 load-follows y e =
-    settled-follows freshSession newReference fresh-follows (load y) accepted (referenceOf State.loaded (sizesIn y))
+    settled-follows freshSession newReference fresh-follows (load y) accepted (referenceOf State.loaded (sizesIn y) none)
     (ap (λ (n : ℕ). decided n newReference (load y)) e)
 
 same-given : (p p′ r r′ n n′ b b′ : List ℕ) → p′ ≡ p → r′ ≡ r → n′ ≡ n → b′ ≡ b → inputsOf p r n b ≡ inputsOf p′ r′ n′ b′
@@ -254,7 +254,7 @@ unfolding loaded
 cleared-answer s x vs bs C =
     let y = C .lent in
     let passed = load-passed y (C .taken) in
-    let F = subst (λ (t : Session). Follows t (referenceOf State.loaded (sizesIn y))) (sym (C .session)) (load-follows y passed) in
+    let F = subst (λ (t : Session). Follows t (referenceOf State.loaded (sizesIn y) none)) (sym (C .session)) (load-follows y passed) in
     subst (λ (t : Inputs). askedOn s t vs bs ≡ answerTo (t .plan) (t .rules) vs bs) (given-is s x C) (result y passed s F vs bs)
 
 -- ---- an accepted Load of a fresh session clears it

@@ -28,8 +28,8 @@ use Rattle.formats.proofs.CheckLaws.{firstNo-yes, firstNo-append-no}
 use Rattle.formats.proofs.PlanLaws.{product-most}
 use Rattle.formats.proofs.InputLaws.{rule-table-passes, passes-build, build-table}
 use Rattle.model.specs.Calls.{load, Phase, mayLoad, refused, accepted}
-use Rattle.model.specs.Refusals.{refusal, stage}
-use Rattle.reference.specs.Reference.{phase, newReference}
+use Rattle.model.specs.Refusals.{refusal}
+use Rattle.reference.specs.Reference.{phase, newReference, stageOf as referenceStage}
 use Rattle.session.specs.declared.state.Session.{Session}
 use Rattle.session.specs.declared.answers.CallAnswer.{CallAnswer}
 use Rattle.session.specs.declared.answers.CallAnswer.the-variants.{Accepted, Refused}
@@ -165,7 +165,7 @@ room-enough p r h = go (firstNo (ruleTableChecks p r)) refl
         (λ z. omega (arith, e, z))
 
 module _ (p r n b : List ℕ) where
-  load-refusal : refusal (stage (phase (newReference .state)) (newReference .sizes)) (load (inputsOf p r n b))
+  load-refusal : refusal (referenceStage newReference) (load (inputsOf p r n b))
       ≡ firstNo (buildChecks p r (length n) (length b))
   unfolding refusal phase newReference mayLoad
   load-refusal = firstNo-yes 1 true (buildChecks p r (length n) (length b)) refl

@@ -32,6 +32,14 @@ fn small_plans() {
         "Read told Some(Firm)",
         "Read told Some(Loose)",
         "Read refused 1 None",
+        "Read refused 1 in Empty",
+        "Read refused 1 in Loaded",
+        "Read refused 1 in Running",
+        "Read told in Loaded",
+        "Read told in Running",
+        "Read told in Answered",
+        "Read beside a question that stands otherwise",
+        "an unclean finish replaces a clean answer",
         "18 in a clean question",
         "18, then restored and still clean",
         "Clean to Firm",
@@ -114,6 +122,52 @@ fn refused_calls_between() {
         }
         assert_eq!(panel.book.standing(), Some(Standing::Clean));
         assert!(matches!(panel.call(&Call::Read, random), Answer::Told(_)));
+    }
+}
+
+/// "Read is allowed in every state once such an answer is there, and gives 1 otherwise"; and a question that is started
+/// with an answer kept is answered call by call as in a new session, Reads before its finish apart.
+#[test]
+fn the_answer_lasts() {
+    let random = &mut Random::new(1506);
+    for turn in 0..150 {
+        let leaves = random.between(2, 40);
+        let case = Case::new(SHAPES[turn % 6], leaves, 4, 4, random);
+        let lent = Lent::built(&case, random);
+        let (mut panel, mut anew) = (Panel::loaded(&lent, random), Panel::loaded(&lent, random));
+        let read = |panel: &mut Panel, random: &mut Random| panel.call(&Call::Read, random);
+        assert_eq!(read(&mut panel, random), Answer::Refused(1));
+        let (nodes, labels) = case.list(4, random);
+        panel.start(&lent, &nodes, &labels, random);
+        assert_eq!(read(&mut panel, random), Answer::Refused(1));
+        let first = Answer::Told(panel.finish(&lent, random).1);
+        let mut short = lent.clone();
+        short.plan.pop();
+        for _ in 0..3 {
+            let (nodes, labels) = case.list(random.between(0, 5), random);
+            let parts = panel.start(&lent, &nodes, &labels, random);
+            assert!(matches!(parts, Answer::Parts(_)));
+            assert_eq!(anew.start(&lent, &nodes, &labels, random), parts);
+            assert_eq!(read(&mut panel, random), first);
+            while panel.says().states.len() + 1 < panel.says().roots.len() && random.below(4) > 0 {
+                assert_eq!(panel.advance(&lent, random), anew.advance(&lent, random));
+                assert_eq!(read(&mut panel, random), first);
+            }
+            assert!(matches!(panel.call(&Call::Load(short.lends()), random), Answer::Refused(1)));
+            assert_eq!([&mut panel, &mut anew].map(|one| one.call(&Call::Cancel, random)), [Answer::Accepted; 2]);
+            assert!(matches!(panel.call(&Call::Load(short.lends()), random), Answer::Refused(_)));
+            assert_eq!(read(&mut panel, random), first);
+            assert_eq!(read(&mut anew, random), Answer::Refused(1));
+        }
+        let (nodes, labels) = case.list(3, random);
+        let parts = panel.start(&lent, &nodes, &labels, random);
+        assert_eq!(anew.start(&lent, &nodes, &labels, random), parts);
+        let second = panel.finish(&lent, random);
+        assert_eq!(anew.finish(&lent, random), second);
+        assert!(panel.record == anew.record, "nothing of the earlier answer is left");
+        assert_eq!(panel.call(&Call::Load(lent.lends()), random), Answer::Accepted);
+        assert_eq!(read(&mut panel, random), Answer::Refused(1));
+        assert_eq!(panel.left, 0, "all of it is settled");
     }
 }
 

@@ -6,7 +6,7 @@ use compare::inputs::Case;
 use compare::random::Random;
 use compare::rounds::damaged_records::{altered, any_bytes, made_up, Beside};
 use compare::shapes::{self, Shape};
-use reference::panel::{Phase, Sizes};
+use reference::panel::{Phase, Sizes, Told};
 use reference::record::{Record, RECORD_BYTES};
 
 /// One byte changed, at every place.
@@ -17,15 +17,19 @@ fn every_byte() {
         let (shape, s, k) = (Shape::Uniform, random.between(2, 16), random.between(2, 64));
         let beside = Beside::new(Case::new(shape, leaves, s, k, random), m, random);
         let records = beside.records(random);
+        let kept = beside.with_an_answer(random);
         let last = records.len() - 1;
         let (mut valid, mut broken) = (0, 0);
-        for at in [0, 1, 2, 3.min(last), last - 1, last] {
-            let record = &records[at];
+        let chosen = [0, 1, 2, 3.min(last), last - 1, last].map(|at| &records[at]);
+        for record in chosen.into_iter().chain([&kept[0], &kept[kept.len() - 1]]) {
             assert!(beside.all_calls(record, random));
             for place in 0..RECORD_BYTES {
                 // every value where the counts stand
-                let adds =
-                    if place < 13 && m == 3 { (1..=255).collect() } else { vec![1, 255, random.between(2, 254)] };
+                let adds = if (place < 13 || place >= 967) && m == 3 {
+                    (1..=255).collect()
+                } else {
+                    vec![1, 255, random.between(2, 254)]
+                };
                 for add in adds {
                     let mut other = record.clone();
                     other[place] = other[place].wrapping_add(add as u8);
@@ -48,21 +52,22 @@ fn several_bytes() {
     for _ in 0..150 {
         let (leaves, m) = (random.between(1, 60), random.between(0, 12));
         let beside = Beside::new(Case::new(Shape::Bushy, leaves, 4, 4, random), m, random);
-        for record in beside.records(random) {
+        for record in beside.records(random).iter().chain(&beside.with_an_answer(random)) {
             for _ in 0..20 {
-                beside.count("altered", &altered(&record, random), random, counts);
+                beside.count("altered", &altered(record, random), random, counts);
             }
         }
     }
     assert!(counts.of("altered, a session's") > 500 && counts.of("altered, broken") > 5_000, "{}", counts);
 }
 
+/// Those of layout version 1, of 967 bytes, are among them.
 #[test]
 fn other_lengths() {
     let random = &mut Random::new(1603);
     let beside = Beside::new(Case::new(Shape::Zigzag, 12, 3, 3, random), 4, random);
-    for record in beside.records(random) {
-        for len in [0, 1, 13, 713, 966, 968, 1_000, 2 * 967] {
+    for record in beside.records(random).iter().chain(&beside.with_an_answer(random)) {
+        for len in [0, 1, 13, 713, 966, 967, 968, 974, 976, 1_000, 2 * 975] {
             let mut other = record.clone();
             other.resize(len, 0);
             assert!(!beside.all_calls(&other, random), "{} bytes", len);
@@ -105,8 +110,8 @@ fn the_limits() {
         ),
         (
             "links of an answered session",
-            Record { links: 65_535 * answered.roots.len() as u32, ..answered.clone() },
-            Record { links: 65_535 * answered.roots.len() as u32 + 1, ..answered.clone() },
+            with_its_answer(Record { links: 65_535 * answered.roots.len() as u32, ..answered.clone() }),
+            with_its_answer(Record { links: 65_535 * answered.roots.len() as u32 + 1, ..answered.clone() }),
         ),
         ("a yes before the end", running.clone(), Record { yes: true, ..running.clone() }),
         ("a state", running.clone(), Record { states: vec![3; running.states.len()], ..running.clone() }),
@@ -127,6 +132,53 @@ fn the_limits() {
     for (n, s, k) in [(1, 1, 1), (65_535, 16, 64), (2, 16, 64)] {
         assert!(beside.all_calls(&Record::loaded(Sizes { n, s, k }).bytes(), random));
     }
+}
+
+/// An answered record keeps its own answer.
+fn with_its_answer(record: Record) -> Record {
+    Record { last: record.answer(), ..record }
+}
+
+/// The bounds of the answer that is kept, in every state.
+#[test]
+fn the_limits_of_a_kept_answer() {
+    let random = &mut Random::new(1607);
+    let beside = Beside::new(Case::new(Shape::Balanced, 32, 3, 3, random), 5, random);
+    let records = beside.records(random);
+    let [loaded, running] = [1, 4].map(|at| Record::of(&records[at]).unwrap());
+    let answered = Record::of(records.last().unwrap()).unwrap();
+    let told = |state, parts, links| Some(Told { state, yes: true, parts, links });
+    for record in [loaded, running] {
+        let mut is = |last, valid| {
+            let bytes = Record { last, ..record.clone() }.bytes();
+            assert_eq!(beside.all_calls(&bytes, random), valid, "{:?}", last);
+        };
+        for last in [None, told(2, 1, 65_535), told(0, 254, 65_535 * 254), told(0, 1, 0)] {
+            is(last, true);
+        }
+        for last in [told(3, 1, 0), told(0, 0, 0), told(0, 255, 0), told(0, 1, 65_536), told(0, 254, 65_535 * 254 + 1)]
+        {
+            is(last, false);
+        }
+        // neither there nor not, and values of an answer that is not there
+        for (place, to) in [(967, 2), (967, 255), (968, 1), (969, 1), (970, 1), (971, 1), (974, 1)] {
+            let mut bytes = record.bytes();
+            bytes[place] = to;
+            assert!(!beside.all_calls(&bytes, random), "byte {}", place);
+        }
+    }
+    // in answered it is the record's own answer, in empty there is none
+    let own = answered.answer().unwrap();
+    for last in [
+        None,
+        Some(Told { state: (own.state + 1) % 3, ..own }),
+        Some(Told { yes: !own.yes, ..own }),
+        Some(Told { parts: own.parts - 1, ..own }),
+        Some(Told { links: own.links + 1, ..own }),
+    ] {
+        assert!(!beside.all_calls(&Record { last, ..answered.clone() }.bytes(), random), "{:?}", last);
+    }
+    assert!(!beside.all_calls(&Record { last: told(0, 1, 0), ..Record::fresh() }.bytes(), random));
 }
 
 #[test]

@@ -10,7 +10,7 @@ use reference::mistakes::{making, Mistake};
 const SEEDS: std::ops::Range<u64> = 1..201;
 
 /// A mistake, and the rounds that must notice it.
-const NOTICED: [(Mistake, &[&str]); 42] = [
+const NOTICED: [(Mistake, &[&str]); 47] = [
     (Mistake::ChildrenExchanged, &["builds", "fresh runs", "questions", "other bytes", "call lists"]),
     (Mistake::SiblingFromOldRun, &["questions", "other bytes", "damaged lends", "call lists"]),
     (Mistake::ClimbToTheRoot, &["questions", "other bytes", "damaged lends", "call lists"]),
@@ -27,6 +27,11 @@ const NOTICED: [(Mistake, &[&str]); 42] = [
     (Mistake::CleanForEver, &["other bytes", "call lists"]),
     (Mistake::FinishedEarly, &["questions", "call lists"]),
     (Mistake::LinksKept, &["questions", "call lists"]),
+    (Mistake::CancelEmpties, &["damaged records", "session refusals", "call lists"]),
+    (Mistake::StartEmpties, &["damaged records", "session refusals", "questions", "call lists"]),
+    (Mistake::LoadKeeps, &["damaged records", "call lists"]),
+    (Mistake::LastCleanByRunning, &["call lists"]),
+    (Mistake::LastFree, &["damaged records", "call lists"]),
     (
         Mistake::NumbersCut,
         &["refusals", "branch questions", "session refusals", "call lists", "merges", "planner files"],

@@ -8,6 +8,7 @@ use compare::random::Random;
 use compare::rounds::questions::Asked;
 use compare::shapes::{self, Shape, DEEPEST, SHAPES};
 use reference::panel::{Answer, Call};
+use reference::record::RECORD_BYTES;
 
 #[test]
 fn every_set_of_nodes_of_small_trees() {
@@ -149,7 +150,7 @@ fn limits_of_the_list() {
     assert!(matches!(panel.call(&Call::Read, random), Answer::Told(_)));
 }
 
-/// The three records that docs/LAYOUT.md shows: after Load, after Start of 0→0, after two advances.
+/// The records that docs/LAYOUT.md shows: after Load, after Start of 0→0, after two advances, after Start and Cancel.
 #[test]
 fn the_records_of_the_layout_page() {
     let random = &mut Random::new(1209);
@@ -157,9 +158,10 @@ fn the_records_of_the_layout_page() {
     let shown = |row: &str| -> Vec<u8> {
         let line = page.lines().find(|line| line.starts_with(row)).expect("a row of the page");
         let cells: Vec<Vec<u8>> = line.split('|').skip(2).map(hex).collect();
-        let mut record = vec![0; 967];
+        let mut record = vec![0; RECORD_BYTES];
         record[..13].copy_from_slice(&cells[0]);
         record[205..205 + cells[1].len()].copy_from_slice(&cells[1]);
+        record[967..967 + cells[2].len()].copy_from_slice(&cells[2]);
         record
     };
     let (plan, rules) = inputs::sample();
@@ -170,6 +172,9 @@ fn the_records_of_the_layout_page() {
     assert!(panel.record == shown("| after Start |"));
     panel.finish(&lent, random);
     assert!(panel.record == shown("| after two advances |"));
+    panel.start(&lent, &[0], &[0], random);
+    panel.call(&Call::Cancel, random);
+    assert!(panel.record == shown("| after Start and Cancel |"));
 }
 
 /// The bytes of a cell: pairs of digits in backticks, or nothing.

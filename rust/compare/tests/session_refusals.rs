@@ -36,7 +36,7 @@ fn every_kind_of_damage_before_start() {
         let mut scene = Scene::new(random);
         scene.unsound(turn % DAMAGES, random);
         let start = Call::Start(scene.lent.lends(), &scene.nodes, &scene.labels);
-        for record in [&scene.records[1], &scene.records[3]] {
+        for record in [&scene.records[1], &scene.records[3], &scene.records[4]] {
             let done = sides::call(record, &start, random);
             assert_eq!(done.answer, Answer::Refused(18), "kind {}", turn % DAMAGES);
             assert!(done.record == *record, "nothing is altered");
@@ -52,18 +52,23 @@ fn states() {
         let scene = Scene::new(random);
         let lends = scene.lent.lends();
         let calls = [
-            (Call::Load(lends), [true, true, false, true]),
-            (Call::Start(lends, &scene.nodes, &scene.labels), [false, true, false, true]),
-            (Call::Advance(lends), [false, false, true, false]),
-            (Call::Cancel, [false, false, true, false]),
-            (Call::Read, [false, false, false, true]),
+            (Call::Load(lends), [true, true, false, true, true, false]),
+            (Call::Start(lends, &scene.nodes, &scene.labels), [false, true, false, true, true, false]),
+            (Call::Advance(lends), [false, false, true, false, false, true]),
+            (Call::Cancel, [false, false, true, false, false, true]),
+            (Call::Read, [false, false, false, true, true, true]),
         ];
         for (call, allowed) in calls {
             for (record, allowed) in scene.records.iter().zip(allowed) {
                 let done = sides::call(record, &call, random);
                 assert_eq!(done.answer == Answer::Refused(1), !allowed);
-                if let Call::Load(_) | Call::Cancel = call {
+                if let Call::Load(_) = call {
                     assert!(!allowed || done.record == scene.records[1], "as after a first Load");
+                }
+                if let Call::Cancel = call {
+                    let mut first = scene.records[1].clone();
+                    first[967..].copy_from_slice(&record[967..]);
+                    assert!(!allowed || done.record == first, "as after a first Load in all but the answer kept");
                 }
                 if let Call::Read = call {
                     assert!(done.record == *record, "Read alters nothing");
@@ -73,13 +78,14 @@ fn states() {
     }
 }
 
-/// A refused Load or Start in answered leaves the old answer; a Start from answered forgets all of it.
+/// A refused call leaves the answer, and so do Start and Cancel; an accepted Load empties it. Of the question itself a Start
+/// from answered forgets all.
 #[test]
-fn the_answer_stays_until_a_start_is_accepted() {
+fn the_answer_stays_until_a_load_is_accepted() {
     let random = &mut Random::new(1705);
     for _ in 0..60 {
         let scene = Scene::new(random);
-        let [_, loaded, _, answered] = &scene.records;
+        let [_, loaded, _, answered, loaded_with, running_with] = &scene.records;
         let told = sides::call(answered, &Call::Read, random).answer;
         let short = Lent { plan: scene.lent.plan[..11].to_vec(), ..scene.lent.clone() };
         for call in [
@@ -93,10 +99,21 @@ fn the_answer_stays_until_a_start_is_accepted() {
             assert!(matches!(done.answer, Answer::Refused(_)));
             assert_eq!(sides::call(&done.record, &Call::Read, random).answer, told);
         }
+        for record in [loaded_with, running_with] {
+            assert_eq!(sides::call(record, &Call::Read, random).answer, told);
+        }
         let start = Call::Start(scene.lent.lends(), &scene.nodes, &scene.labels);
         let again = sides::call(answered, &start, random).record;
-        assert!(again == sides::call(loaded, &start, random).record);
+        assert!(again == sides::call(loaded_with, &start, random).record);
+        assert_eq!(sides::call(&again, &Call::Read, random).answer, told);
+        assert!(again[..967] == sides::call(loaded, &start, random).record[..967]);
         let record = Record::of(&again).unwrap();
         assert_eq!((record.states, record.links, record.yes), (vec![], 0, false));
+        let load = Call::Load(scene.lent.lends());
+        for record in [answered, loaded_with] {
+            let done = sides::call(record, &load, random);
+            assert_eq!(done.answer, Answer::Accepted);
+            assert_eq!(sides::call(&done.record, &Call::Read, random).answer, Answer::Refused(1));
+        }
     }
 }

@@ -8,6 +8,7 @@ use compare::random::Random;
 use compare::shapes::Shape;
 use compare::sides;
 use reference::panel::{Answer, Call};
+use reference::record::RECORD_BYTES;
 
 /// What must be noticed when it is added to a number: cut to 8, 16, 24 or 31 bits it is nothing.
 const ADDED: [u32; 4] = [1 << 8, 1 << 16, 1 << 24, 1 << 31];
@@ -53,7 +54,7 @@ fn every_call(kind: Kind, good: &Case, case: &Case, wanted: u32, random: &mut Ra
     if kind == Kind::Rules {
         assert_eq!(calls::fresh_run(&case.plan, &case.rules, &[], &[], random), Err(wanted));
         let lent = Lent { plan: case.plan.clone(), rules: case.rules.clone(), node_table, state_table };
-        let answer = sides::call(&[0; 967], &Call::Load(lent.lends()), random).answer;
+        let answer = sides::call(&[0; RECORD_BYTES], &Call::Load(lent.lends()), random).answer;
         assert_eq!(answer, Answer::Refused(wanted));
         return;
     }

@@ -6,6 +6,7 @@ use compare::inputs::Case;
 use compare::random::Random;
 use compare::shapes::SHAPES;
 use reference::branch::{on_tables, Reading};
+use reference::record::RECORD_BYTES;
 use yardstick::layers;
 use yardstick::place::{Lends, Session};
 use yardstick::session;
@@ -84,7 +85,7 @@ fn refusals_and_fresh_runs() {
 /// The session in place, roots and parts alone give what the session on bytes gives, which `call_lists` compares.
 fn in_place(case: &Case, m: usize, random: &mut Random) {
     let (mut node_table, mut state_table) = (vec![0; case.node_table_len()], vec![0; case.state_table_len()]);
-    let mut record = [0u8; 967];
+    let mut record = [0u8; RECORD_BYTES];
     session::load(&mut record, &case.plan, &case.rules, &mut node_table, &mut state_table).unwrap();
     let (nodes, labels) = case.list(m, random);
     let lends = Lends { plan: &case.plan, rules: &case.rules, node_table: &node_table, state_table: &state_table };

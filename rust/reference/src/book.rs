@@ -6,6 +6,9 @@
 //! what Parts of a question and the closing words on 18 below settle": where plan, rules and node table are as at Start,
 //! a question is `Firm` while the bytes lent with each accepted advance are below S. The rule settles it then, and never
 //! with 18. Elsewhere 18 is allowed where what is lent gives a cause for it.
+//!
+//! "The session record, and the panel book of demand 3 with it, gains the last finished answer": the book keeps the
+//! finished question, whole, so that "whether its question was clean at its finish" is kept with it.
 
 use crate::causes;
 use crate::formats::{read_plan, read_rules};
@@ -20,12 +23,14 @@ use crate::tree::Tree;
 use std::rc::Rc;
 
 /// "It starts empty and holds the session's state, N, S and K of the last accepted Load, and of the question its list,
-/// what its Start lent, a count, and whether it is clean".
+/// what its Start lent, a count, and whether it is clean"; and the last finished question.
 #[derive(Clone)]
 pub struct Book {
     phase: Phase,
     sizes: Sizes,
+    /// The question that is running.
     question: Option<Question>,
+    last: Option<Question>,
 }
 
 #[derive(Clone, Copy, Debug, PartialEq, Eq)]
@@ -69,7 +74,7 @@ pub enum Next {
 
 impl Default for Book {
     fn default() -> Book {
-        Book { phase: Phase::Empty, sizes: Sizes::NONE, question: None }
+        Book { phase: Phase::Empty, sizes: Sizes::NONE, question: None, last: None }
     }
 }
 
@@ -82,9 +87,15 @@ impl Book {
         self.sizes
     }
 
-    /// How the question stands, if there is one.
+    /// How the question stands, if there is one: the running one, or, in answered, the one that is answered.
     pub fn standing(&self) -> Option<Standing> {
-        self.question.as_ref().map(|question| question.standing)
+        let answered = self.last.as_ref().filter(|_| self.phase == Phase::Answered);
+        self.question.as_ref().or(answered).map(|question| question.standing)
+    }
+
+    /// How the last finished question stood at its finish, if there is one.
+    pub fn last_standing(&self) -> Option<Standing> {
+        self.last.as_ref().map(|question| question.standing)
     }
 
     pub fn next(&self, call: &Call) -> Next {
@@ -92,8 +103,8 @@ impl Book {
             return Next::Settled(Answer::Refused(number), self.clone());
         }
         match *call {
-            Call::Load(lends) => Next::Settled(Answer::Accepted, self.loaded(named(&lends))),
-            Call::Cancel => Next::Settled(Answer::Accepted, self.loaded(self.sizes)),
+            Call::Load(lends) => Next::Settled(Answer::Accepted, Book::loaded(named(&lends), None)),
+            Call::Cancel => Next::Settled(Answer::Accepted, Book::loaded(self.sizes, self.last.clone())),
             Call::Start(lends, nodes, labels) => self.start(lends, nodes, labels),
             Call::Advance(lends) => self.advance(&lends),
             Call::Read => self.read(),
@@ -103,7 +114,7 @@ impl Book {
     /// "One of the next section's checks, 18 apart, says no: the first such number; the book stays." Start's 18 is one
     /// of them, and comes last: `start`.
     fn first_no(&self, call: &Call) -> Result<(), u32> {
-        self.phase.allows(call)?;
+        self.phase.allows(call, self.last.is_some())?;
         match *call {
             Call::Load(lends) => {
                 crate::build_checks(lends.plan, lends.rules, lends.node_table.len(), lends.state_table.len())
@@ -117,13 +128,18 @@ impl Book {
         }
     }
 
-    /// "Load, Cancel: loaded, no question."
-    fn loaded(&self, sizes: Sizes) -> Book {
-        Book { phase: Phase::Loaded, sizes, question: None }
+    /// "Load, Cancel: loaded, no question." The finished one is "emptied by an accepted Load".
+    fn loaded(sizes: Sizes, last: Option<Question>) -> Book {
+        Book { phase: Phase::Loaded, sizes, question: None, last }
     }
 
-    fn with(&self, phase: Phase, question: Question) -> Book {
-        Book { phase, sizes: self.sizes, question: Some(question) }
+    fn running(&self, question: Question) -> Book {
+        Book { phase: Phase::Running, sizes: self.sizes, question: Some(question), last: self.last.clone() }
+    }
+
+    /// "Filled by the advance that finishes", whatever was there.
+    fn answered(&self, question: Question) -> Book {
+        Book { phase: Phase::Answered, sizes: self.sizes, question: None, last: Some(question) }
     }
 
     /// "Start: running, count 0, clean if sound; clean, it tells the number of parts." 18 exactly where it is not sound.
@@ -134,7 +150,7 @@ impl Book {
         };
         let parts = start.roots.len() as u32;
         let question = Question { start: Rc::new(start), count: 0, standing: Standing::Clean, parts: vec![] };
-        Next::Settled(Answer::Parts(parts), self.with(Phase::Running, question))
+        Next::Settled(Answer::Parts(parts), self.running(question))
     }
 
     fn advance(&self, lends: &Lends) -> Next {
@@ -155,9 +171,9 @@ impl Book {
         let part = question.start.on(lends.state_table, |given| given.part(roots, &question.parts, v));
         question.parts.push(part);
         if last {
-            Next::Settled(Answer::Finished, self.with(Phase::Answered, question))
+            Next::Settled(Answer::Finished, self.answered(question))
         } else {
-            Next::Settled(Answer::More, self.with(Phase::Running, question))
+            Next::Settled(Answer::More, self.running(question))
         }
     }
 
@@ -166,7 +182,7 @@ impl Book {
     fn advance_left(&self, question: &Question, lends: &Lends, usable: bool) -> Next {
         let after =
             Question { standing: Standing::Loose, count: question.count + 1, parts: vec![], ..question.clone() };
-        let [more, finished] = [Phase::Running, Phase::Answered].map(|phase| self.with(phase, after.clone()));
+        let (more, finished) = (self.running(after.clone()), self.answered(after));
         let start = &question.start;
         let caused = !usable && causes::anywhere(self.sizes, lends, &start.nodes, &start.labels);
         let as_is = self.clone();
@@ -178,9 +194,13 @@ impl Book {
         }))
     }
 
+    /// "If so, Read tells in every state what 01 has for that question, whatever was started or cancelled since; if not,
+    /// what Read tells is left to the program as far as 01 leaves it."
     fn read(&self) -> Next {
-        let question = self.question.as_ref().expect("answered");
+        let question = self.last.as_ref().expect("finished");
+        let running_clean = self.question.as_ref().map(|running| running.standing) == Some(Standing::Clean);
         let told = match question.standing {
+            _ if running_clean && made(Mistake::LastCleanByRunning) => question.start.fresh_answer(),
             Standing::Clean => question.start.fresh_answer(),
             Standing::Firm => question.start.rule_answer(&question.parts),
             Standing::Loose => {

@@ -37,6 +37,16 @@ pub enum Mistake {
     FinishedEarly,
     /// A Start goes on counting the links of the question before.
     LinksKept,
+    /// Cancel empties the last finished answer.
+    CancelEmpties,
+    /// Start empties it.
+    StartEmpties,
+    /// An accepted Load keeps it.
+    LoadKeeps,
+    /// Whether the last finished question was clean is asked of the running one.
+    LastCleanByRunning,
+    /// In answered the last finished answer may be another than the record's own.
+    LastFree,
     /// Numbers of 32 bits are cut to 16.
     NumbersCut,
     /// The nodes of a branch question are cut to 16 bits.

@@ -38,7 +38,8 @@ pub struct Told {
     pub links: u32,
 }
 
-/// "Load is allowed unless running; Start in loaded or answered; advance and Cancel in running; Read in answered."
+/// "Load is allowed unless running; Start in loaded or answered; advance and Cancel in running"; Read, whatever the state,
+/// once a finished answer is there.
 #[derive(Clone, Copy, Debug, PartialEq, Eq)]
 pub enum Phase {
     Empty,
@@ -71,13 +72,13 @@ impl Sizes {
 }
 
 impl Phase {
-    /// "may it be made in this state? 1"
-    pub fn allows(self, call: &Call) -> Result<(), u32> {
+    /// "may it be made in this state? 1"; `last` is whether a finished answer is there.
+    pub fn allows(self, call: &Call, last: bool) -> Result<(), u32> {
         let allowed = match call {
             Call::Load(_) => self != Phase::Running,
             Call::Start(..) => self == Phase::Loaded || self == Phase::Answered,
             Call::Advance(_) | Call::Cancel => self == Phase::Running,
-            Call::Read => self == Phase::Answered,
+            Call::Read => last,
         };
         if allowed {
             Ok(())

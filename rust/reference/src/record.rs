@@ -15,15 +15,20 @@
 //! | 141 | 64 | their labels |
 //! | 205 | 508 | the roots of the parts, two bytes each |
 //! | 713 | 254 | the states of the parts handled |
+//! | 967 | 1 | 1 where an answer is kept, else 0 |
+//! | 968 | 1 | its state |
+//! | 969 | 1 | its yes 1, its no 0 |
+//! | 970 | 1 | its parts |
+//! | 971 | 4 | its links |
 //!
-//! Numbers of more than one byte are little-endian, and unused entries are zero.
+//! Numbers of more than one byte are little-endian, and unused entries are zero; so is all of an answer that is not there.
 
 use crate::formats::{MAX_LABELS, MAX_STATES};
 use crate::fresh::MAX_CHANGES;
 use crate::mistakes::{made, Mistake};
-use crate::panel::{Phase, Sizes};
+use crate::panel::{Phase, Sizes, Told};
 
-pub const RECORD_BYTES: usize = 967;
+pub const RECORD_BYTES: usize = 975;
 /// 4 × 64 - 2.
 pub const MAX_PARTS: usize = 254;
 
@@ -37,6 +42,8 @@ pub struct Record {
     pub labels: Vec<u8>,
     pub roots: Vec<u16>,
     pub states: Vec<u8>,
+    /// The last finished answer.
+    pub last: Option<Told>,
 }
 
 impl Record {
@@ -44,14 +51,25 @@ impl Record {
         Record::idle(Phase::Empty, Sizes::NONE)
     }
 
-    /// "Load and Cancel end in loaded with the record exactly as after a first Load of that plan."
+    /// "Load .. end[s] in loaded with the record exactly as after a first Load of that plan."
     pub fn loaded(sizes: Sizes) -> Record {
         Record::idle(Phase::Loaded, sizes)
     }
 
+    /// "Loaded after Cancel .. equals it in all but that answer".
+    pub fn loaded_with(sizes: Sizes, last: Option<Told>) -> Record {
+        Record { last, ..Record::loaded(sizes) }
+    }
+
     fn idle(phase: Phase, sizes: Sizes) -> Record {
         let (nodes, labels, roots, states) = (vec![], vec![], vec![], vec![]);
-        Record { phase, yes: false, sizes, links: 0, nodes, labels, roots, states }
+        Record { phase, yes: false, sizes, links: 0, nodes, labels, roots, states, last: None }
+    }
+
+    /// What the record of an answered question has of its answer.
+    pub fn answer(&self) -> Option<Told> {
+        let state = *self.states.last()? as u32;
+        Some(Told { state, yes: self.yes, parts: self.roots.len() as u32, links: self.links })
     }
 
     pub fn bytes(&self) -> Vec<u8> {
@@ -67,7 +85,8 @@ impl Record {
             (doubled(&self.nodes), 141),
             (self.labels.clone(), 205),
             (doubled(&self.roots), 713),
-            (self.states.clone(), RECORD_BYTES),
+            (self.states.clone(), 967),
+            (self.last.map_or(vec![], |last| last_bytes(&last).to_vec()), RECORD_BYTES),
         ] {
             bytes.extend(list);
             assert!(bytes.len() <= end);
@@ -95,8 +114,9 @@ impl Record {
             labels: bytes[141..141 + m].to_vec(),
             roots: (0..parts).map(|i| word(bytes, 205 + 2 * i)).collect(),
             states: bytes[713..713 + handled].to_vec(),
+            last: last_of(&bytes[967..]),
         };
-        // bytes that no record has: entries in use no more, a yes of 2
+        // bytes that no record has: entries in use no more, a yes of 2, values of an answer that is not there
         if (record.bytes() == bytes || made(Mistake::TailsFree)) && record.holds() {
             Some(record)
         } else {
@@ -108,10 +128,27 @@ impl Record {
     fn holds(&self) -> bool {
         match self.phase {
             Phase::Empty => *self == Record::fresh(),
-            Phase::Loaded => self.sizes_hold() && *self == Record::loaded(self.sizes),
-            Phase::Running => self.question_holds() && self.states.len() < self.roots.len() && !self.yes,
-            Phase::Answered => self.question_holds() && self.states.len() == self.roots.len(),
+            Phase::Loaded => {
+                self.sizes_hold() && self.last_holds() && *self == Record::loaded_with(self.sizes, self.last)
+            }
+            Phase::Running => {
+                self.question_holds() && self.last_holds() && self.states.len() < self.roots.len() && !self.yes
+            }
+            Phase::Answered => {
+                let own = self.last == self.answer() || made(Mistake::LastFree) && self.last_holds();
+                self.question_holds() && self.states.len() == self.roots.len() && own
+            }
         }
+    }
+
+    /// An answer that is kept is one that a question on these S states can have.
+    fn last_holds(&self) -> bool {
+        self.last.map_or(true, |last| {
+            let parts = last.parts as usize;
+            (last.state as usize) < self.sizes.s
+                && (1..=MAX_PARTS).contains(&parts)
+                && last.links as usize <= 65_535 * parts
+        })
     }
 
     fn sizes_hold(&self) -> bool {
@@ -129,6 +166,18 @@ impl Record {
             && self.states.iter().all(|&q| (q as usize) < s)
             && self.links as usize <= 65_535 * self.states.len()
     }
+}
+
+fn last_bytes(last: &Told) -> [u8; 8] {
+    let [a, b, c, d] = last.links.to_le_bytes();
+    [1, last.state as u8, last.yes as u8, last.parts as u8, a, b, c, d]
+}
+
+/// Any bytes but a 0 at first are taken for an answer: `bytes` then tells whether they are one.
+fn last_of(bytes: &[u8]) -> Option<Told> {
+    let links = u32::from_le_bytes(bytes[4..8].try_into().unwrap());
+    let told = Told { state: bytes[1] as u32, yes: bytes[2] == 1, parts: bytes[3] as u32, links };
+    Some(told).filter(|_| bytes[0] != 0)
 }
 
 fn word(bytes: &[u8], at: usize) -> u16 {

@@ -5,7 +5,7 @@ use crate::fresh::check_list;
 use crate::lent::View;
 use crate::lists::differing;
 use crate::mistakes::{made, unless, Mistake};
-use crate::panel::{Answer, Call, Lends, Phase, Sizes, Told};
+use crate::panel::{Answer, Call, Lends, Phase, Sizes};
 use crate::record::Record;
 use crate::tables::Tables;
 use crate::{build, check};
@@ -38,22 +38,28 @@ type After = (Answer, Record, Option<Tables>);
 
 impl Record {
     fn after(self, call: &Call) -> Result<After, u32> {
-        self.phase.allows(call)?;
+        self.phase.allows(call, self.last.is_some())?;
         match *call {
-            Call::Load(lends) => load(lends),
+            Call::Load(lends) => self.load(lends),
             Call::Start(lends, nodes, labels) => self.start(lends, nodes, labels),
             Call::Advance(lends) => self.advance(lends),
-            Call::Cancel => Ok((Answer::Accepted, Record::loaded(self.sizes), None)),
-            Call::Read => {
-                let state = self.states[self.states.len() - 1] as u32;
-                let told = Told { state, yes: self.yes, parts: self.roots.len() as u32, links: self.links };
-                Ok((Answer::Told(told), self, None))
+            Call::Cancel => {
+                let last = self.last.filter(|_| !made(Mistake::CancelEmpties));
+                Ok((Answer::Accepted, Record::loaded_with(self.sizes, last), None))
             }
+            Call::Read => Ok((Answer::Told(self.last.expect("it is there")), self, None)),
         }
     }
 
-    /// 17, 12 to 14, 18. It tells the number of parts; nothing of an earlier question stays. The list is kept whole; the
-    /// roots are those of the nodes that change.
+    /// 2 to 11. "Emptied by an accepted Load."
+    fn load(self, lends: Lends) -> Result<After, u32> {
+        let tables = build(lends.plan, lends.rules, lends.node_table.len(), lends.state_table.len())?;
+        let last = self.last.filter(|_| made(Mistake::LoadKeeps));
+        Ok((Answer::Accepted, Record::loaded_with(named(&lends), last), Some(tables)))
+    }
+
+    /// 17, 12 to 14, 18. It tells the number of parts; of earlier questions the last finished answer alone stays. The list is
+    /// kept whole; the roots are those of the nodes that change.
     fn start(self, lends: Lends, nodes: &[u16], labels: &[u8]) -> Result<After, u32> {
         self.sizes.fit(&lends)?;
         check_list(nodes, labels, self.sizes.n, self.sizes.k)?;
@@ -69,12 +75,12 @@ impl Record {
             nodes: nodes.to_vec(),
             labels: labels.to_vec(),
             roots: roots.iter().map(|&v| v as u16).collect(),
-            ..Record::loaded(self.sizes)
+            ..Record::loaded_with(self.sizes, self.last.filter(|_| !made(Mistake::StartEmpties)))
         };
         Ok((answer, record, None))
     }
 
-    /// 17, 18. One more state, and its links.
+    /// 17, 18. One more state, and its links. "Filled by the advance that finishes."
     fn advance(mut self, lends: Lends) -> Result<After, u32> {
         self.sizes.fit(&lends)?;
         let view = View::new(self.sizes, &lends);
@@ -88,14 +94,9 @@ impl Record {
         }
         self.phase = Phase::Answered;
         self.yes = view.accepts(part.state);
+        self.last = self.answer();
         Ok((Answer::Finished, self, None))
     }
-}
-
-/// 2 to 11.
-fn load(lends: Lends) -> Result<After, u32> {
-    let tables = build(lends.plan, lends.rules, lends.node_table.len(), lends.state_table.len())?;
-    Ok((Answer::Accepted, Record::loaded(named(&lends)), Some(tables)))
 }
 
 /// "Start shall make the full check of what is lent", with the record's N, S and K. Nothing asks whether it is the plan

@@ -69,10 +69,8 @@ impl Panel<'_> {
                 self.start(&changes)
             }
             ["advance"] | ["advance", _] => self.advance().map_err(plain),
-            ["cancel"] => {
-                self.session.cancel().map(|()| "the session is loaded, as after load".to_string()).map_err(plain)
-            }
-            ["read"] => self.session.read().map(|answer| sentences::answer(&answer)).map_err(plain),
+            ["cancel"] => self.session.cancel().map(|()| self.cancelled()).map_err(plain),
+            ["read"] => self.read(state),
             _ => {
                 let forms = "'load', 'start NODE->LABEL ..', 'start none', 'advance [TIMES|all]', 'cancel' or 'read'";
                 return Err(line.wrong(format!("a line of a script is {}", forms)));
@@ -106,6 +104,22 @@ impl Panel<'_> {
         let progress = self.session.advance(&lent(self.input, &self.tables))?;
         let told = if progress == Progress::More { "more" } else { "finished" };
         Ok(format!("part {} of {}, {}", self.session.parts_done(), self.session.parts(), told))
+    }
+
+    /// The last finished answer, in whatever state.
+    fn read(&self, state: Option<State>) -> Result<String, Failure> {
+        self.session.read().map(|answer| sentences::answer(&answer)).map_err(|refusal| match state {
+            Some(State::Loaded) | Some(State::Running) => {
+                Failure::Refused(format!("{} (no question is finished since load)", refusal))
+            }
+            other => in_state(refusal, other),
+        })
+    }
+
+    /// An earlier question's answer stays.
+    fn cancelled(&self) -> String {
+        let kept = if self.session.read().is_ok() { ", with the last answer kept" } else { "" };
+        format!("the session is loaded, as after load{}", kept)
     }
 
     /// N, S and K, once the headers are known to be there.

@@ -3,11 +3,11 @@
 use crate::sizes::RECORD_BYTES;
 use crate::{accepted, slices, Refusal};
 
-/// A panel session: its record of 967 bytes, and nothing else. Plan, rule table and tables are lent with each call.
+/// A panel session: its record of 975 bytes, and nothing else. Plan, rule table and tables are lent with each call.
 ///
 /// The states are empty, loaded, running and answered. `load` may be called unless running, `start` in loaded or
-/// answered, `advance` and `cancel` in running, `read` in answered; else the call is refused with
-/// [`Refusal::SessionState`].
+/// answered, `advance` and `cancel` in running, `read` in every state once a question was finished since the last
+/// accepted `load`; else the call is refused with [`Refusal::SessionState`].
 ///
 /// ```
 /// use whatif::{Lent, Progress, Refusal, Session, State};
@@ -37,6 +37,14 @@ use crate::{accepted, slices, Refusal};
 /// let refused = session.start(&lent, &[7], &[0]);
 /// assert_eq!(refused, Err(Refusal::Node));
 /// assert_eq!(session.read(), Ok(answer));
+///
+/// // the last finished answer survives another question's start and cancel; an accepted load empties it
+/// session.start(&lent, &[4], &[0])?;
+/// assert_eq!((session.state(), session.read()), (Some(State::Running), Ok(answer)));
+/// session.cancel()?;
+/// assert_eq!((session.state(), session.read()), (Some(State::Loaded), Ok(answer)));
+/// session.load(&plan, &rules, &mut node_table, &mut state_table)?;
+/// assert_eq!(session.read(), Err(Refusal::SessionState));
 /// # Ok(())
 /// # }
 /// ```
@@ -103,9 +111,9 @@ impl Session {
     /// [`Refusal::SessionState`] by every call.
     ///
     /// ```
-    /// let mut broken = whatif::Session::from_bytes([9; 967]);
+    /// let mut broken = whatif::Session::from_bytes([9; 975]);
     /// assert_eq!(broken.cancel(), Err(whatif::Refusal::SessionState));
-    /// assert_eq!(broken.as_bytes(), &[9; 967]);
+    /// assert_eq!(broken.as_bytes(), &[9; 975]);
     /// ```
     pub const fn from_bytes(record: [u8; RECORD_BYTES]) -> Session {
         Session { record }
@@ -116,8 +124,8 @@ impl Session {
         &self.record
     }
 
-    /// Writes the tables as [`build`](crate::build) does. The session is loaded then, as after a first Load.
-    /// Refused with 1, then 2 to 11.
+    /// Writes the tables as [`build`](crate::build) does. The session is loaded then, as after a first Load, and has no
+    /// answer. Refused with 1, then 2 to 11.
     pub fn load(
         &mut self,
         plan: &[u8],
@@ -128,7 +136,8 @@ impl Session {
         accepted(slices::load(&mut self.record, plan, rules, node_table, state_table))
     }
 
-    /// Puts a question: node `nodes[i]` takes `labels[i]`. Tells the number of its parts; the session is running then.
+    /// Puts a question: node `nodes[i]` takes `labels[i]`. Tells the number of its parts; the session is running then, and
+    /// keeps an earlier question's answer.
     /// Refused with 1, 17, 12, 13, 14, 18 (in this order); 18 exactly when plan and rules do not pass 2 to 10 or name
     /// other counts than those loaded, or the tables are not what Load writes from them.
     pub fn start(&mut self, lent: &Lent<'_>, nodes: &[u16], labels: &[u8]) -> Result<u32, Refusal> {
@@ -138,7 +147,8 @@ impl Session {
         Ok(parts)
     }
 
-    /// Handles the next part. The session is answered after the last one. Refused with 1, 17, 18.
+    /// Handles the next part. The session is answered after the last one, with this answer in the place of an earlier one.
+    /// Refused with 1, 17, 18.
     pub fn advance(&mut self, lent: &Lent<'_>) -> Result<Progress, Refusal> {
         let Lent { plan, rules, node_table, state_table } = *lent;
         let mut finished = 0;
@@ -146,7 +156,8 @@ impl Session {
         Ok(if finished == 1 { Progress::Finished } else { Progress::More })
     }
 
-    /// Drops the question. The session is loaded then, as after a first Load. Refused with 1.
+    /// Drops the question. The session is loaded then, as after a first Load, but for an earlier question's answer, which
+    /// stays. Refused with 1.
     ///
     /// ```
     /// assert_eq!(whatif::Session::new().cancel(), Err(whatif::Refusal::SessionState));
@@ -155,7 +166,7 @@ impl Session {
         accepted(slices::cancel(&mut self.record))
     }
 
-    /// The answer. Refused with 1.
+    /// The last finished answer, in every state. Refused with 1 where none was finished since the last accepted `load`.
     pub fn read(&self) -> Result<Answer, Refusal> {
         let mut told = [0; 4];
         accepted(slices::read(&self.record, &mut told))?;
@@ -171,7 +182,7 @@ impl Session {
     /// ```
     /// use whatif::{Session, State};
     /// assert_eq!(Session::new().state(), Some(State::Empty));
-    /// assert_eq!(Session::from_bytes([9; 967]).state(), None);
+    /// assert_eq!(Session::from_bytes([9; 975]).state(), None);
     /// ```
     pub const fn state(&self) -> Option<State> {
         match self.record[0] {

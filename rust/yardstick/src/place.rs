@@ -21,6 +21,7 @@ pub struct Session {
     labels: [u8; 64],
     roots: [u16; 254],
     states: [u8; 254],
+    last: Option<Answered>,
 }
 
 /// What a call is lent.
@@ -49,6 +50,7 @@ impl Session {
             labels: [0; 64],
             roots: [0; 254],
             states: [0; 254],
+            last: None,
         }
     }
 
@@ -68,7 +70,7 @@ impl Session {
         let (left, count) = lent.left(nodes, labels);
         let roots = lent.roots(&left[..count])?;
         let roots = roots.as_slice();
-        *self = Session::loaded(self.n, self.s, self.k);
+        *self = Session { last: self.last, ..Session::loaded(self.n, self.s, self.k) };
         self.phase = RUNNING;
         self.m = nodes.len() as u8;
         self.parts = roots.len() as u8;
@@ -95,16 +97,22 @@ impl Session {
         if finished {
             self.phase = ANSWERED;
             self.yes = lent.marks[state as usize] == 1;
+            self.last = Some(self.answer());
         }
         Ok(finished)
     }
 
     pub fn read(&self) -> Result<Answered, u32> {
-        if self.phase != ANSWERED || !self.valid() {
+        if !self.valid() {
             return Err(1);
         }
+        self.last.ok_or(1)
+    }
+
+    /// The answer of an answered session.
+    fn answer(&self) -> Answered {
         let state = self.states[self.handled as usize - 1];
-        Ok(Answered { state, yes: self.yes, parts: self.parts as u32, links: self.links })
+        Answered { state, yes: self.yes, parts: self.parts as u32, links: self.links }
     }
 
     pub fn links(&self) -> u32 {
@@ -116,11 +124,18 @@ impl Session {
         let sized = self.n >= 1 && (1..=16).contains(&self.s) && (1..=64).contains(&self.k);
         sized
             && match self.phase {
-                LOADED => self.no_question(),
-                RUNNING => !self.yes && self.handled < self.parts && self.question(),
-                ANSWERED => self.handled == self.parts && self.question(),
+                LOADED => self.no_question() && self.last(),
+                RUNNING => !self.yes && self.handled < self.parts && self.question() && self.last(),
+                ANSWERED => self.handled == self.parts && self.question() && self.last == Some(self.answer()),
                 _ => false,
             }
+    }
+
+    fn last(&self) -> bool {
+        let possible = |last: Answered| {
+            last.state < self.s && (1..=254).contains(&last.parts) && last.links <= 65_535 * last.parts
+        };
+        self.last.map_or(true, possible)
     }
 
     fn no_question(&self) -> bool {

@@ -1,6 +1,6 @@
 //! The session record as bytes: where things stand, and whether the bytes can be a session's.
 
-pub const RECORD_BYTES: usize = 967;
+pub const RECORD_BYTES: usize = 975;
 
 pub const YES: usize = 1;
 pub const M: usize = 6;
@@ -11,6 +11,8 @@ pub const NODES: usize = 13;
 pub const LABELS: usize = 141;
 pub const ROOTS: usize = 205;
 pub const STATES: usize = 713;
+/// The last finished answer: whether there is one, its state, its yes or no, its parts, its links.
+pub const LAST: usize = 967;
 
 pub const EMPTY: u8 = 0;
 pub const LOADED: u8 = 1;
@@ -50,9 +52,17 @@ pub fn head(record: &[u8]) -> Result<Head, u32> {
     let sized = head.n >= 1 && (1..=16).contains(&head.s) && (1..=64).contains(&head.k);
     let valid = match head.phase {
         EMPTY => zero(&record[1..]),
-        LOADED => sized && record[YES] == 0 && zero(&record[M..]),
-        RUNNING => sized && record[YES] == 0 && head.handled < head.parts && question(record, &head),
-        ANSWERED => sized && record[YES] <= 1 && head.handled == head.parts && question(record, &head),
+        LOADED => sized && record[YES] == 0 && zero(&record[M..LAST]) && last(record, &head),
+        RUNNING => {
+            sized && record[YES] == 0 && head.handled < head.parts && question(record, &head) && last(record, &head)
+        }
+        ANSWERED => {
+            sized
+                && record[YES] <= 1
+                && head.handled == head.parts
+                && question(record, &head)
+                && record[LAST..] == answer(record, &head)
+        }
         _ => false,
     };
     if valid {
@@ -69,7 +79,7 @@ fn question(record: &[u8; RECORD_BYTES], head: &Head) -> bool {
     let (nodes, no_nodes) = record[NODES..LABELS].split_at(2 * head.m);
     let (labels, no_labels) = record[LABELS..ROOTS].split_at(head.m);
     let (roots, no_roots) = record[ROOTS..STATES].split_at(2 * head.parts);
-    let (states, no_states) = record[STATES..].split_at(head.handled);
+    let (states, no_states) = record[STATES..LAST].split_at(head.handled);
     let words = |bytes: &[u8]| -> u16 { bytes.chunks_exact(2).map(|b| word(b, 0)).fold(0, u16::max) };
     let greatest = |bytes: &[u8]| bytes.iter().copied().fold(0, u8::max);
     let rising = roots.windows(4).step_by(2).fold(true, |ok, b| ok & (word(b, 0) < word(b, 2)));
@@ -82,6 +92,22 @@ fn question(record: &[u8; RECORD_BYTES], head: &Head) -> bool {
         && zero(no_labels)
         && zero(no_roots)
         && zero(no_states)
+}
+
+fn last(record: &[u8; RECORD_BYTES], head: &Head) -> bool {
+    let [there, state, yes, parts, links @ ..]: [u8; 8] = record[LAST..].try_into().unwrap();
+    let links = u32::from_le_bytes(links) as usize;
+    match there {
+        0 => zero(&record[LAST..]),
+        1 => (state as usize) < head.s && yes <= 1 && (1..=254).contains(&parts) && links <= 65_535 * parts as usize,
+        _ => false,
+    }
+}
+
+/// The answer of an answered record, as its last eight bytes have it.
+pub fn answer(record: &[u8], head: &Head) -> [u8; 8] {
+    let [a, b, c, d] = head.links.to_le_bytes();
+    [1, record[STATES + head.handled - 1], record[YES], head.parts as u8, a, b, c, d]
 }
 
 fn zero(bytes: &[u8]) -> bool {

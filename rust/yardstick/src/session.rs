@@ -3,8 +3,8 @@
 use crate::checks::number;
 use crate::fresh::list;
 use crate::question::Lent;
-use crate::record::{self, word, Head, ANSWERED, HANDLED, LABELS, LINKS, LOADED, M, NODES, PARTS, RUNNING, STATES};
-use crate::record::{ROOTS, YES};
+use crate::record::{self, word, Head, ANSWERED, HANDLED, LABELS, LAST, LINKS, LOADED, M, NODES, PARTS, RUNNING};
+use crate::record::{ROOTS, STATES, YES};
 use crate::rules::build;
 
 #[derive(Clone, Copy, Debug, PartialEq, Eq)]
@@ -60,7 +60,7 @@ pub fn start(
     let roots = roots.as_slice();
     record[0] = RUNNING;
     record[YES] = 0;
-    record[M..].fill(0);
+    record[M..LAST].fill(0);
     record[M] = nodes.len() as u8;
     record[PARTS] = roots.len() as u8;
     put_words(&mut record[NODES..], nodes);
@@ -97,6 +97,9 @@ pub fn advance(
     if finished {
         record[0] = ANSWERED;
         record[YES] = u8::from(lent.marks[state as usize] == 1);
+        let head = Head { handled: head.parts, links: head.links + links, ..head };
+        let answer = record::answer(record, &head);
+        record[LAST..].copy_from_slice(&answer);
     }
     Ok(finished)
 }
@@ -104,12 +107,15 @@ pub fn advance(
 pub fn cancel(record: &mut [u8]) -> Result<(), u32> {
     made_in(record, &[RUNNING])?;
     record[0] = LOADED;
-    record[M..].fill(0);
+    record[M..LAST].fill(0);
     Ok(())
 }
 
 pub fn read(record: &[u8]) -> Result<Answered, u32> {
-    let head = made_in(record, &[ANSWERED])?;
-    let state = record[STATES + head.handled - 1];
-    Ok(Answered { state, yes: record[YES] == 1, parts: head.parts as u32, links: head.links })
+    record::head(record)?;
+    if record[LAST] == 0 {
+        return Err(1);
+    }
+    let links = u32::from_le_bytes(record[LAST + 4..].try_into().unwrap());
+    Ok(Answered { state: record[LAST + 1], yes: record[LAST + 2] == 1, parts: record[LAST + 3] as u32, links })
 }

@@ -2,12 +2,13 @@
 --
 -- ListArgs vs bs == two lists of one length that fit the record
 -- RootsArgs n plan nodeTable == the plan's labels and the node table are whole
--- startedOf z vs bs parts roots == a session of sizes z in running with this question and no part handled
+-- startedOf z o vs bs parts roots == a session of sizes z in running with this question, no part handled, and the last finished answer o
 -- NextArgs s == the counts are within the arrays
 -- StepArgs h l == there is room for one more state, and the links fit
 -- marksIn s k rules == the accept marks by S and K; markedIn s k rules q == whether that of state q is 1; MarkArgs rules s k q == the
 --   rules' length is exact, and q is a state
--- steppedHead h p l y == head h in state p with one more part handled, of l links, and the yes or no y
+-- steppedHead h p l y o == head h in state p with one more part handled, of l links, the yes or no y and the last finished answer o
+-- answerOf h q l y == the answer of a head whose last part has state q and l links
 -- stepBy h rules q l == the step of an advance where the part's state is q and its links are l; HandleArgs what it asks
 -- refusedStep h n == the step of a refusal
 -- stepOn s t == the record that step t makes of s
@@ -26,6 +27,7 @@ use Rattle.session.specs.declared.state.Phase.the-variants.{Running, Ans
 use Rattle.session.specs.declared.answers.AdvanceAnswer.the-variants.{More, Finished, Refused as NotAdvanced}
 use Rattle.session.specs.declared.answers.AdvanceStep.{AdvanceStep}
 use Rattle.session.specs.declared.state.Sizes.{Sizes}
+use Rattle.session.specs.declared.state.Last.{Last}
 use Rattle.session.specs.declared.state.Head.{Head}
 use Rattle.session.specs.declared.state.Session.{Session}
 use Rattle.session.specs.Records.{whole, padded}
@@ -42,9 +44,9 @@ pub record RootsArgs (n : ℕ) (plan nodeTable : List ℕ) : Type 0 where
   pub labels : 12 + n ≤ length plan
   pub numbers : n * 4 ≤ length nodeTable
 
-abbrev pub startedOf : Sizes → List ℕ → List ℕ → ℕ → List ℕ → Session
-startedOf z vs bs parts roots =
-    whole (record { phase = Running; yes = false; sizes = z; m = length vs; parts = parts; handled = 0; links = 0 })
+abbrev pub startedOf : Sizes → Last → List ℕ → List ℕ → ℕ → List ℕ → Session
+startedOf z o vs bs parts roots =
+    whole (record { phase = Running; yes = false; sizes = z; m = length vs; parts = parts; handled = 0; links = 0; last = o })
     (padded 64 vs) (padded 64 bs) roots (replicate 254 0)
 
 pub record NextArgs (s : Session) : Type 0 where
@@ -73,8 +75,8 @@ pub record HandleArgs (h : Head) (rules : List ℕ) (q l : ℕ) : Type 0 where
   pub marks : MarkArgs rules (h .sizes .s) (h .sizes .k) q
   pub step : StepArgs h l
 
-abbrev pub steppedHead : Head → Phase → ℕ → Bool → Head
-steppedHead h p l y = record {
+abbrev pub steppedHead : Head → Phase → ℕ → Bool → Last → Head
+steppedHead h p l y o = record {
   phase = p;
   yes = y;
   sizes = h .sizes;
@@ -82,13 +84,22 @@ steppedHead h p l y = record {
   parts = h .parts;
   handled = h .handled + 1;
   links = h .links + l;
+  last = o;
 }
+
+-- "filled by the advance that finishes"
+abbrev pub answerOf : Head → ℕ → ℕ → Bool → Last
+answerOf h q l y =
+    record { present = true; outcome = record { state = q; yes = y; parts = h .parts; links = h .links + l } }
+
+abbrev pub finishedHead : Head → ℕ → ℕ → Bool → Head
+finishedHead h q l y = steppedHead h Answered l y (answerOf h q l y)
 
 unfoldable pub stepBy : Head → List ℕ → ℕ → ℕ → AdvanceStep
 stepBy h rules q l =
     cond (eqb (h .handled + 1) (h .parts))
-    (record { answer = Finished; head = steppedHead h Answered l (markedIn (h .sizes .s) (h .sizes .k) rules q); stored = true; state = q })
-    (record { answer = More; head = steppedHead h Running l false; stored = true; state = q })
+    (record { answer = Finished; head = finishedHead h q l (markedIn (h .sizes .s) (h .sizes .k) rules q); stored = true; state = q })
+    (record { answer = More; head = steppedHead h Running l false (h .last); stored = true; state = q })
 
 abbrev pub refusedStep : Head → ℕ → AdvanceStep
 refusedStep h n = record { answer = NotAdvanced n; head = h; stored = false; state = 0 }

@@ -83,8 +83,8 @@ impl World<'_> {
     fn turn(&mut self, session: &mut Session, random: &mut Random) {
         let usual = match session.panel.book.phase() {
             Phase::Empty => 0,
-            Phase::Loaded => 1,
-            Phase::Running => 2,
+            Phase::Loaded => *random.pick(&[1, 1, 1, 4]),
+            Phase::Running => *random.pick(&[2, 2, 2, 2, 2, 2, 2, 4]),
             Phase::Answered => *random.pick(&[4, 1]),
         };
         match if random.below(8) == 0 { random.below(6) } else { usual } {
@@ -97,8 +97,13 @@ impl World<'_> {
             }
             4 => {
                 let answer = session.panel.call(&Call::Read, random);
-                let standing = session.panel.book.standing().filter(|_| matches!(answer, Answer::Told(_)));
+                let book = &session.panel.book;
+                let standing = book.last_standing();
                 self.counts.add(format!("Read {} {:?}", name(answer), standing));
+                self.counts.add(format!("Read {} in {:?}", name(answer), book.phase()));
+                if book.phase() == Phase::Running && standing.is_some() && standing != book.standing() {
+                    self.counts.add("Read beside a question that stands otherwise");
+                }
             }
             _ => self.on_a_broken_record(session, random),
         }
@@ -174,7 +179,7 @@ impl World<'_> {
     }
 
     fn advance(&mut self, session: &mut Session, random: &mut Random) {
-        let before = session.panel.book.standing();
+        let (before, kept) = (session.panel.book.standing(), session.panel.book.last_standing());
         let (_, lent) = self.lent(session, random);
         let answer = session.panel.advance(&lent, random);
         let after = session.panel.book.standing();
@@ -186,6 +191,9 @@ impl World<'_> {
         let accepted = matches!(answer, Answer::More | Answer::Finished);
         if accepted && before != after {
             self.counts.add(format!("{:?} to {:?}", before.unwrap(), after.unwrap()));
+        }
+        if answer == Answer::Finished && kept == Some(Standing::Clean) && after != kept {
+            self.counts.add("an unclean finish replaces a clean answer");
         }
         if accepted && session.refused && after == Some(Standing::Clean) {
             self.counts.add("18, then restored and still clean");

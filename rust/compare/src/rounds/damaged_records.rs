@@ -6,14 +6,14 @@ use crate::inputs::Case;
 use crate::panel::{Lent, Panel};
 use crate::random::Random;
 use crate::sides;
-use reference::panel::{Answer, Call, Phase, Sizes};
+use reference::panel::{Answer, Call, Phase, Sizes, Told};
 use reference::record::{Record, MAX_PARTS, RECORD_BYTES};
 
 pub fn round(random: &mut Random, counts: &mut Counts) {
     let m = random.between(0, 12);
     let beside = Beside::new(Case::random(60, random), m, random);
-    for record in beside.records(random) {
-        beside.count("altered", &altered(&record, random), random, counts);
+    for record in beside.records(random).iter().chain(&beside.with_an_answer(random)) {
+        beside.count("altered", &altered(record, random), random, counts);
     }
     for _ in 0..3 {
         beside.count("made up", &made_up(&beside.case, random).bytes(), random, counts);
@@ -74,6 +74,22 @@ impl Beside {
         records.push(panel.record.clone());
         records
     }
+
+    /// Records with an earlier answer kept: running from the first part to the last, and loaded after a Cancel.
+    pub fn with_an_answer(&self, random: &mut Random) -> Vec<Vec<u8>> {
+        let mut panel = Panel::loaded(&self.lent, random);
+        panel.start(&self.lent, &self.nodes, &self.labels, random);
+        panel.finish(&self.lent, random);
+        panel.start(&self.lent, &self.nodes, &self.labels, random);
+        let mut records = vec![panel.record.clone()];
+        for _ in 1..panel.says().roots.len() {
+            panel.advance(&self.lent, random);
+            records.push(panel.record.clone());
+        }
+        panel.call(&Call::Cancel, random);
+        records.push(panel.record);
+        records
+    }
 }
 
 /// Several bytes changed, to values that are near those that are there; now and then another length.
@@ -81,13 +97,14 @@ pub fn altered(record: &[u8], random: &mut Random) -> Vec<u8> {
     let mut other = record.to_vec();
     let (m, parts) = (record[6] as usize, record[7] as usize);
     for _ in 0..random.between(1, 4) {
-        // among the counts, or where an entry stands
-        let place = match random.below(5) {
+        // among the counts, where an entry stands, or in the answer that is kept
+        let place = match random.below(6) {
             0 => random.below(13),
             1 => 13 + random.below(2 * m + 2).min(127),
             2 => 141 + random.below(m + 1).min(63),
             3 => 205 + random.below(2 * parts + 2).min(507),
-            _ => 713 + random.below(parts + 1).min(253),
+            4 => 713 + random.below(parts + 1).min(253),
+            _ => 967 + random.below(8),
         };
         other[place] = match random.below(3) {
             0 => other[place].wrapping_add(1),
@@ -96,12 +113,12 @@ pub fn altered(record: &[u8], random: &mut Random) -> Vec<u8> {
         };
     }
     if random.below(20) == 0 {
-        other.resize(*random.pick(&[0, 1, 13, 713, 966, 968, 2 * 967]), 0);
+        other.resize(*random.pick(&[0, 1, 13, 713, 967, 974, 976, 2 * 975]), 0);
     }
     other
 }
 
-/// A record that no session has left, but one might: any rising roots, any states, a node listed twice.
+/// A record that no session has left, but one might: any rising roots, any states, a node listed twice, any answer kept.
 pub fn made_up(case: &Case, random: &mut Random) -> Record {
     let Case { n, s, k, .. } = *case;
     let (m, phase) = (random.between(0, 64), *random.pick(&[Phase::Running, Phase::Answered]));
@@ -110,7 +127,10 @@ pub fn made_up(case: &Case, random: &mut Random) -> Record {
     roots.sort_unstable();
     roots.dedup();
     let handled = if phase == Phase::Running { random.below(roots.len()) } else { roots.len() };
-    Record {
+    let parts = random.between(1, MAX_PARTS) as u32;
+    let (state, links) = (random.below(s) as u32, random.below(65_535 * parts as usize + 1) as u32);
+    let last = Some(Told { state, yes: random.below(2) == 0, parts, links }).filter(|_| random.below(2) == 0);
+    let record = Record {
         phase,
         yes: phase == Phase::Answered && random.below(2) == 0,
         sizes: Sizes { n, s, k },
@@ -119,7 +139,12 @@ pub fn made_up(case: &Case, random: &mut Random) -> Record {
         labels: random.bytes_below(m, k),
         roots,
         states: random.bytes_below(handled, s),
+        last,
+    };
+    if phase == Phase::Answered {
+        return Record { last: record.answer(), ..record };
     }
+    record
 }
 
 /// Anything at all, or small numbers.

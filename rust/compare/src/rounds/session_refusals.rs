@@ -80,17 +80,19 @@ fn advance(faults: &[u32], random: &mut Random) -> Answer {
     sides::call(&record, &Call::Advance(scene.lent.lends()), random).answer
 }
 
-/// A session's record in each of the four states, and what is lent with its next call.
+/// A session's record in each of the four states, with and without an earlier answer, and what is lent with its next
+/// call.
 pub struct Scene {
     pub case: Case,
     pub lent: Lent,
     pub nodes: Vec<u16>,
     pub labels: Vec<u8>,
-    /// Empty, loaded, running, answered.
-    pub records: [Vec<u8>; 4],
+    /// Empty, loaded, running, answered; loaded and running with the answer kept.
+    pub records: [Vec<u8>; 6],
 }
 
-const PHASES: [Phase; 4] = [Phase::Empty, Phase::Loaded, Phase::Running, Phase::Answered];
+const PHASES: [Phase; 6] =
+    [Phase::Empty, Phase::Loaded, Phase::Running, Phase::Answered, Phase::Loaded, Phase::Running];
 
 impl Scene {
     /// The list begins with two leaves, which are next to each other in the list of wanted nodes: a search is made.
@@ -110,12 +112,21 @@ impl Scene {
         panel.call(&Call::Load(lent.lends()), random);
         let loaded = panel.record.clone();
         panel.start(&lent, &nodes, &labels, random);
-        for _ in 0..random.below(panel.says().roots.len()) {
+        let advances = random.below(panel.says().roots.len());
+        for _ in 0..advances {
             panel.advance(&lent, random);
         }
         let running = panel.record.clone();
         panel.finish(&lent, random);
-        Scene { case, lent, nodes, labels, records: [empty, loaded, running, panel.record] }
+        let answered = panel.record.clone();
+        panel.start(&lent, &nodes, &labels, random);
+        for _ in 0..advances {
+            panel.advance(&lent, random);
+        }
+        let running_with = panel.record.clone();
+        panel.call(&Call::Cancel, random);
+        let records = [empty, loaded, running, answered, panel.record, running_with];
+        Scene { case, lent, nodes, labels, records }
     }
 
     /// A record in one of these states; or in any other or none at all, where 1 is among the faults.

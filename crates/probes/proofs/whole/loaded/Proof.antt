@@ -1,18 +1,17 @@
+-- `probes::whole::loaded` meets its contract: its record is that after a first Load, field by field.
+-- Assumes nothing.
+use mathlib.Core.Path.{ap, _∙_}
 use Rattle.model.specs.Model.{idle}
-use Rattle.session.specs.Records.{sessionOf, phaseTo}
-use native.Mathlib.Omega.{arith}
+use Rattle.session.specs.declared.state.Phase.the-variants.{Loaded}
+use Rattle.session.specs.declared.state.Last.{Last}
+use Rattle.session.specs.Records.{sessionOf, phaseTo, idleSession}
 use borrow.Author.Needs.{needs}
 use Rattle.probes.proofs.whole.loaded.Statement.{statement}
 use Rattle.probes.proofs.whole.loaded.Tie as tie
-use Rattle.probes.proofs.whole.loaded.Reads as reads
-use Rattle.probes.proofs.whole.loaded.Lts as lts
-
-idle-requires : tie.Need-idle-requires
-idle-requires c κs = search needs
 
 returns : tie.Need-returns
 unfolding sessionOf phaseTo idle
-returns c = c .idle .ensures
+returns c = c .idle .ensures ∙ ap (λ (l : Last). idleSession Loaded _ l) (c .before .no-last .ensures)
 
 pub loaded-spec : {M : Type 1} → statement M
-loaded-spec = tie.close (tie.spec idle-requires returns)
+loaded-spec = tie.close (tie.spec (λ c κs. search needs) (λ c κs. search needs) returns)

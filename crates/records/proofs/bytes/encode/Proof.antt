@@ -1,4 +1,5 @@
--- `records::bytes::encode` meets its contract. A buffer of another length is left; the head and the four arrays are written one after the other.
+-- `records::bytes::encode` meets its contract. A buffer of another length is left; the head, the four arrays and the answer that is kept are
+-- written one after the other.
 -- Assumes nothing.
 use native.Mathlib.Omega.{arith}
 use mathlib.Core.Path.{sym}
@@ -20,7 +21,8 @@ put-head-requires c κs = length-take-le 13 (c .before .before .before .before .
 
 returns-2 : tie.Need-returns-2
 returns-2 c =
-    let p₅ = c .before .before in
+    let p₆ = c .before .before in
+    let p₅ = p₆ .before .before .before .before .before in
     let p₄ = p₅ .before .before .before .before .before .before .before in
     let p₃ = p₄ .before .before .before .before .before .before .before in
     let p₂ = p₃ .before .before .before .before .before .before .before in
@@ -28,9 +30,9 @@ returns-2 c =
     let e = p₁ .before .before .before in
     let a = e .before .before in
     encode-done (a .args .out .now) (a .args .t1) _ (omega arith)
-    (record-written (a .args .out .now) (a .args .t1) _ _ _ _ _ (omega arith) (in-types (a .args .t1) (a .good .0))
+    (record-written (a .args .out .now) (a .args .t1) _ _ _ _ _ _ (omega arith) (in-types (a .args .t1) (a .good .0))
     (p₁ .put-head .ensures) (p₂ .put-numbers .ensures) (p₃ .copy-bytes .ensures) (p₄ .put-numbers2 .ensures)
-    (p₅ .copy-bytes2 .ensures))
+    (p₅ .copy-bytes2 .ensures) (p₆ .put-last .ensures))
 
 pub encode-spec : {M : Type 1} → statement M
 encode-spec =
@@ -40,6 +42,10 @@ encode-spec =
     (λ c. search needs)
     slice-aggregate-put-head
     put-head-requires
+    (λ c. search needs)
+    (λ c. search needs)
+    (λ c. search needs)
+    (λ c κs. search needs)
     (λ c. search needs)
     (λ c. search needs)
     (λ c. search needs)

@@ -7,15 +7,13 @@ use Rattle.session.proofs.advance.handled.Tie as tie
 
 returns : tie.Need-returns
 returns c =
-    let m = c .before in
+    let o = c .before in
+    let m = o .before in
     let e = m .before .before .before in
-    let a = e .before .before .before .before .args in
-    handled-last (a .h) (a .rules .now) (a .q) (a .links) _ (e .if1 .taken) _ (c .stepped .ensures) (m .is-marked .ensures)
+    handled-last _ _ _ _ _ (e .if1 .taken) _ _ (c .stepped .ensures) (m .is-marked .ensures) (o .answer-of .ensures)
 
 returns-2 : tie.Need-returns-2
-returns-2 c =
-    let a = c .before .before .before .before .before .args in
-    handled-more (a .h) (a .rules .now) (a .q) (a .links) _ (c .before .if1 .left) (c .stepped2 .ensures)
+returns-2 c = handled-more _ _ _ _ _ (c .before .before .if1 .left) (c .stepped2 .ensures)
 
 pub handled-spec : {M : Type 1} → statement M
 handled-spec =
@@ -24,6 +22,7 @@ handled-spec =
     (λ c. search needs)
     (λ c. search needs)
     (λ c. search needs)
+    (λ c κs. search needs)
     (λ c κs. search needs)
     (λ c κs. search needs)
     returns

@@ -7,10 +7,11 @@ use Rattle.session.proofs.loaded.loaded_from.Tie as tie
 
 returns : tie.Need-returns
 returns c =
-    let k = c .before in
+    let o = c .before in
+    let k = o .before in
     let a = k .before .before .before .before .before in
-    loaded-same (a .args .plan .now) (a .args .rules .now) _ _ _ _
-    (c .loaded .ensures) (k .before .before .read32 .ensures) (k .before .read322 .ensures) (k .read323 .ensures)
+    loaded-same (a .args .plan .now) (a .args .rules .now) _ _ _ _ _
+    (c .loaded .ensures) (o .no-last .ensures) (k .before .before .read32 .ensures) (k .before .read322 .ensures) (k .read323 .ensures)
 
 pub loaded-from-spec : {M : Type 1} → statement M
 loaded-from-spec =
@@ -22,5 +23,6 @@ loaded-from-spec =
     (λ c. search needs)
     (λ c. search needs)
     (λ c. search needs)
+    (λ c κs. search needs)
     (λ c κs. search needs)
     returns)

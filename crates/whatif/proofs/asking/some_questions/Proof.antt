@@ -38,6 +38,11 @@ fits t =
 abbrev taken : tie.After-send-lines-arg3 → tie.After-take-in
 taken c = c .before .before .before .before .before .before .before
 
+-- so that part of it may be lent
+slice-part : (c : tie.After-send-lines-arg2) → c .before .before .before .before .before .before .take-in .result .end
+    ≤ length (c .before .before .before .before .before .before .take-in .last .1 .1 .1 .1 .1 .1 .1 .1 .0)
+slice-part c = fits (c .before .before .before .before .before .before)
+
 slice-aggregate-send-lines-2 : tie.Need-slice-aggregate-send-lines-2
 slice-aggregate-send-lines-2 c = sym (length-take-le _ _ (fits (taken c)))
 
@@ -84,7 +89,7 @@ some-questions-spec =
     take-in-requires
     (λ c. search needs)
     (λ c. search needs)
-    (λ c. search needs)
+    slice-part
     slice-aggregate-send-lines-2
     send-lines-requires
     (λ c. search needs)

@@ -1,0 +1,89 @@
+-- Document 02, S-1: "The last finished answer survives a Cancel", in the three forms of the calls.
+--     lasts-by-value, lasts-in-place, lasts-on-bytes          the answer of a question that was clean at its finish is told in every state
+--     none-by-value, none-in-place, none-on-bytes             before the first finish, and after every accepted Load, Read gives 1
+--     anew-by-value, anew-in-place, anew-on-bytes             after a Cancel every call is answered as in a new session, earlier Reads apart
+--     cancel-leaves                                           the record after a Cancel: as after a first Load, in all but that answer
+-- Where each word of a statement is defined: reference/specs/Lasting. An unclean finish: demand 3 (Main), by reference/specs/Reference.
+-- Assumes nothing.
+use Prim.Native.Nat.{ℕ, zero, suc}
+use mathlib.Core.Path.{_≡_, sym, ap, _∙_}
+use mathlib.Core.Bool.{Bool, true, false, cond}
+use lib.ListN.{replicate}
+use Rattle.list_laws.proofs.BoolLaws.{true-false}
+use Rattle.model.specs.Calls.{cancel, Answer, refused, isRefused}
+use Rattle.model.specs.Refusals.{refusal}
+use Rattle.model.specs.Model.{Record, freshRecord, loadedRecord, withLast, Does, stageOf, proceeds, unless, act}
+use Rattle.model.proofs.LayersHold.{layers}
+use Rattle.reference.specs.Lasting.{AnswersLast, NoAnswersYet, AsAnew}
+use Rattle.reference.proofs.LastingTheorem.{answer-lasts, no-answer-yet, lasts-of, none-of}
+use Rattle.reference.proofs.AnewTheorem.{as-anew, anew-of}
+use Rattle.session.specs.declared.state.Session.{Session}
+use Rattle.session.specs.Records.{recordOf, sessionOf, valid, freshSession}
+use Rattle.session.specs.Promises.{answerOn, recordOn, CallDone}
+use Rattle.session.specs.CallsByValue.{CallByValue, cancels}
+use Rattle.session.proofs.Refine.{Seen, fresh-seen, by-value-refines}
+use Rattle.in_place.specs.CallsInPlace.{CallInPlace}
+use Rattle.in_place.proofs.InPlaceTheorem.{in-place-history}
+use Rattle.capi_session.specs.DecodedAnswers.{Exports}
+use Rattle.capi_session.proofs.ExportedRefines.{Held, exported-refines, fresh-held}
+
+-- ---- "if so, Read tells in every state what 01 has for that question, whatever was started or cancelled since"
+
+lasts-by-value : AnswersLast freshSession CallByValue
+lasts-by-value = lasts-of CallByValue Does Seen by-value-refines freshSession freshRecord fresh-seen (answer-lasts layers)
+
+lasts-in-place : AnswersLast freshSession CallInPlace
+lasts-in-place cs xs x vs bs n ds ys w es zs l c u h = lasts-by-value cs xs x vs bs n ds ys w es zs l c u (in-place-history _ _ h)
+
+lasts-on-bytes : AnswersLast (replicate 975 0) Exports
+lasts-on-bytes = lasts-of Exports Does Held exported-refines (replicate 975 0) freshRecord fresh-held (answer-lasts layers)
+
+-- ---- "Read is allowed in every state once such an answer is there, and gives 1 otherwise."
+
+none-by-value : NoAnswersYet freshSession CallByValue
+none-by-value = none-of CallByValue Does Seen by-value-refines freshSession freshRecord fresh-seen (no-answer-yet layers)
+
+none-in-place : NoAnswersYet freshSession CallInPlace
+none-in-place = (
+  λ cs xs h. none-by-value .0 cs xs (in-place-history _ _ h),
+  λ cs xs x ds ys l h. none-by-value .1 cs xs x ds ys l (in-place-history _ _ h),
+)
+
+none-on-bytes : NoAnswersYet (replicate 975 0) Exports
+none-on-bytes = none-of Exports Does Held exported-refines (replicate 975 0) freshRecord fresh-held (no-answer-yet layers)
+
+-- ---- "and a question started then must still end as in a new session"
+
+anew-by-value : AsAnew freshSession CallByValue
+anew-by-value = anew-of CallByValue Does Seen by-value-refines freshSession freshRecord fresh-seen (as-anew layers)
+
+anew-in-place : AsAnew freshSession CallInPlace
+anew-in-place cs xs x ds ys zs l s h k = anew-by-value cs xs x ds ys zs l s (in-place-history _ _ h) (in-place-history _ _ k)
+
+anew-on-bytes : AsAnew (replicate 975 0) Exports
+anew-on-bytes = anew-of Exports Does Held exported-refines (replicate 975 0) freshRecord fresh-held (as-anew layers)
+
+-- ---- "Loaded after Cancel therefore no longer equals the record after a first Load: it equals it in all but that answer"
+
+abbrev cancelled : Session → Session
+cancelled s = sessionOf (withLast (recordOf s .last) (loadedRecord (recordOf s .sizes)))
+
+not-refused : (a : Answer) (n : ℕ) → a ≡ Answer.accepted → a ≡ refused n → ⊥
+not-refused a n e f = true-false (ap isRefused (sym f ∙ e))
+
+done-leaves : (s s′ : Session) (a : Answer) → CallDone s cancel a s′ → a ≡ Answer.accepted → s′ ≡ cancelled s
+unfolding answerOn recordOn act unless proceeds
+done-leaves s s′ a D e = go (valid s) (D .tells) (D .leaves)
+  where
+    at : (n : ℕ) → a ≡ unless n (recordOf s) cancel .answer → s′ ≡ sessionOf (unless n (recordOf s) cancel .record′) → s′ ≡ cancelled s
+    at zero f g = g
+    at (suc n) f g = absurd (not-refused a (suc n) e f)
+
+    go : (b : Bool) → a ≡ cond b (act (recordOf s) cancel .answer) (refused 1)
+        → s′ ≡ cond b (sessionOf (act (recordOf s) cancel .record′)) s → s′ ≡ cancelled s
+    go true f g = at (refusal (stageOf (recordOf s)) cancel) f g
+    go false f g = absurd (not-refused a 1 e f)
+
+cancel-leaves : (s s′ : Session) (a : Answer) → CallByValue s cancel a s′ → a ≡ Answer.accepted
+    → s′ ≡ sessionOf (withLast (recordOf s .last) (loadedRecord (recordOf s .sizes)))
+cancel-leaves s s′ a (cancels o d) e = done-leaves s s′ a d e
