@@ -7,3 +7,5 @@ pub mod ClosedForm
 pub mod PartsRun
 pub mod ListLaws
 pub mod PartitionLaws
+pub mod PassedLaws
+pub mod PassedSample
