@@ -25,7 +25,7 @@ use Rattle.node_tables.specs.NodeCells.{NodeCells}
 use Rattle.tables.specs.Climbs.{View, reached}
 use Rattle.ready.specs.Ready.{Ready, Closed}
 use Rattle.ready.specs.Members.{readyList, roots}
-use Rattle.ready.specs.Parts.{Given, Part, nodesOf, statesOf, stateOf, partState, partLinks, partsOf}
+use Rattle.ready.specs.Parts.{Given, Part, nodesOf, statesOf, stateOf, partState, partLinks, partPassed, partsOf}
 use Rattle.ready.proofs.ClosedForm as closed-form
 use Rattle.ready.proofs.HighestLaws.{Highest, highest-holds}
 use Rattle.ready.proofs.ChangedRun.{Changes}
@@ -62,7 +62,8 @@ highest-is-one = highest-holds
 part-is-the-rule : (X : View) (G : Given) → Reads X G → (w : ℕ → Bool) (ms : List ℕ) → Members w (G .tree) ms → (ps : List Part) (v : ℕ)
     (rest : List ℕ) → nodesOf ps ++ (v ∷ rest) ≡ ms → ((x : ℕ) → stateOf ps x < X .s) → (vs bs : List ℕ)
     → G .labels ≡ changed (labelsOf (G .tree)) vs bs
-    → partOn X (nodesOf ps) (statesOf ps) vs bs v ≡ some (reached (partState G ms ps v) (partLinks (G .tree) ms v))
+    → partOn X (nodesOf ps) (statesOf ps) vs bs v
+    ≡ some (reached (partState G ms ps v) (partLinks (G .tree) ms v) (partPassed (G .tree) ms v))
 part-is-the-rule = part-built
 
 part-is-the-run : (G : Given) (u : Tree) → RunGiven G u → StaysInside (G .automaton) → (w : ℕ → Bool) → Changes w (G .tree) u → (ms : List ℕ)
