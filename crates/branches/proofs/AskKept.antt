@@ -48,6 +48,10 @@ module _ (reading : Reading) (p r nodeTable stateTable : List ℕ) (u l : ℕ) w
   abbrev passed : List Move → ℕ
   passed ms = passedBy (cellForest (nodeCount p) nodeTable) l ms
 
+  -- as branchOn has it
+  abbrev told : List Move → List ℕ → ℕ → Option Branched
+  told ms m q = some (branched (branchAutomaton r) (getD m q 0) (length ms) (passed ms))
+
   first-below : (w : Reading) (q : ℕ) → 0 < s → firstState w p r u ≡ some q → q < s
   unfolding firstState
   first-below WithUpper q z e =
@@ -63,7 +67,7 @@ module _ (reading : Reading) (p r nodeTable stateTable : List ℕ) (u l : ℕ) w
   branch-kept z b e = climbed climbs refl e
     where
       finished : (ms : List Move) → climbs ≡ some ms → (m : List ℕ) → MapOf s m → (o : Option ℕ) → firstState reading p r u ≡ o
-          → andThen o (λ q. some (branched (branchAutomaton r) (getD m q 0) (length ms) (passed ms))) ≡ some b → Kept b
+          → andThen o (told ms m) ≡ some b → Kept b
       finished ms c m M none f i = absurd (none-some i)
       finished ms c m M (some q) f i =
           subst Kept (Option·some-injective (branched (branchAutomaton r) (getD m q 0) (length ms) (passed ms)) b i) (record {
@@ -78,15 +82,14 @@ module _ (reading : Reading) (p r nodeTable stateTable : List ℕ) (u l : ℕ) w
           })
 
       carried : (ms : List Move) → climbs ≡ some ms → (o : Option (List ℕ)) → carry (moveMap p r stateTable) ms same ≡ o
-          → andThen o (λ m. andThen (firstState reading p r u) (λ q. some (branched (branchAutomaton r) (getD m q 0) (length ms) (passed ms))))
-          ≡ some b → Kept b
+          → andThen o (λ m. andThen (firstState reading p r u) (told ms m)) ≡ some b → Kept b
       carried ms c none a i = absurd (none-some i)
       carried ms c (some m) a i =
           finished ms c m (moves-map p r stateTable ms same m (identity-map s) a) (firstState reading p r u) refl i
 
       climbed : (o : Option (List Move)) → climbs ≡ o
           → andThen o (λ ms. andThen (carry (moveMap p r stateTable) ms same) (λ m.
-          andThen (firstState reading p r u) (λ q. some (branched (branchAutomaton r) (getD m q 0) (length ms) (passed ms))))) ≡ some b → Kept b
+          andThen (firstState reading p r u) (told ms m))) ≡ some b → Kept b
       climbed none c i = absurd (none-some i)
       climbed (some ms) c i = carried ms c (carry (moveMap p r stateTable) ms same) refl i
 

@@ -21,9 +21,9 @@ use Rattle.trees.proofs.TreeClimbs.{climb-tree}
 use Rattle.trees.proofs.PassedLaws.{links-passed, climb-passed, passed-height}
 use Rattle.ready.specs.Ready.{leftChild, rightChild}
 use Rattle.ready.specs.Members.{readyList}
-use Rattle.ready.specs.Parts.{Given, anyBelow, highestBelow, climbMoves, climbedLinks, innerLinks, partLinks, sumOf}
-use Rattle.ready.specs.Parts.{questionLinks, climbedPassed, innerPassed, partPassed, questionPassed, Part, partOf}
-use Rattle.ready.specs.Parts.{partsFrom, partsOf, allPassed}
+use Rattle.ready.specs.Parts.{Given, anyBelow, highestBelow, climbMoves, climbedLinks, innerLinks, partLinks}
+use Rattle.ready.specs.Parts.{sumOf, questionLinks, climbedPassed, innerPassed, partPassed, questionPassed, Part}
+use Rattle.ready.specs.Parts.{partOf, partsFrom, partsOf, allPassed}
 use Rattle.ready.proofs.UnderLaws.{left-in, right-in}
 use Rattle.ready.proofs.HighestLaws.{Highest}
 use Rattle.ready.proofs.ClosedForm.{kind-one}
@@ -50,7 +50,8 @@ module _ (w : ℕ → Bool) (t : Tree) (ms : List ℕ) (M : Members w t ms) wher
         above-at t c (highestBelow ms t c) start-in
         (interval-ancestor t c (highestBelow ms t c) hc start-in (highest .below)) .0
 
-    pub climbed-passed : climbedPassed t ms c ≡ passedBy (forestOf t) (highestBelow ms t c) (climbMoves t (highestBelow ms t c) c)
+    pub climbed-passed : climbedPassed t ms c
+        ≡ passedBy (forestOf t) (highestBelow ms t c) (climbMoves t (highestBelow ms t c) c)
     unfolding climbedPassed climbMoves
     climbed-passed =
         let T = climb-tree t (highestBelow ms t c) (depth t c) start-in start-deep in
@@ -86,7 +87,8 @@ module _ (w : ℕ → Bool) (t : Tree) (ms : List ℕ) (M : Members w t ms) wher
     | yes e ↦ rw (eq-eqb (kindAt t v) 0 e) (omega arith, omega arith)
     | no n ↦ (let k : kindAt t v ≡ 1 = kind-one t v h n in
         rw (ne-eqb (kindAt t v) 0 n)
-        (inner-passing (leftChild t v) (rightChild v) (omega (arith, left-in t v h k)) (omega (arith, right-in t v h k))))
+        (inner-passing (leftChild t v) (rightChild v) (omega (arith, left-in t v h k))
+        (omega (arith, right-in t v h k))))
   ]
 
   -- ---- several parts

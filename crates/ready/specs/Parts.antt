@@ -8,7 +8,8 @@
 -- climbMoves t h c == the moves of the climb from node h to the depth of c
 -- partLinks t ms v == the links of the part of root v: the moves of its climb, if it has one; questionLinks t ms == those of all parts
 -- partPassed t ms v == the nodes passed over by the climb of that part, if it has one; questionPassed t ms == by those of all parts
--- Part == a root, its state, the links of its climb and the nodes passed over; stateOf ps v == the state of the part of root v among ps; 0 where there is none
+-- Part == a root, its state, the links of its climb and the nodes passed over
+-- stateOf ps v == the state of the part of root v among ps; 0 where there is none
 -- partState G ms ps v, partOf G ms ps v == the state of the part of root v, and the part, where ms are the roots and ps the parts before
 -- partsOf G ms == all parts, in rising node number
 -- nodesOf ps, statesOf ps == the roots and the states of parts

@@ -3,7 +3,8 @@
 --     links-passed, passed-most   at least as many as the links, at most the depth of the start
 --     climb-passed, passed-height in a tree: the depths' difference, at most the height
 --     same-passed                 so in a table that says what a tree says
---     ended-carry, ended-climb    moves that count themselves and tell their end: the count is that of the moves, the end the climb's
+--     ended-carry, ended-climb    moves that count themselves and tell their end: the count is that of the moves, the
+--                                 end the climb's
 -- Assumes nothing.
 use Prim.Native.Nat.{ℕ, _+_, _-_, _≤_, _<_}
 use mathlib.Core.Path.{_≡_, refl, sym, ap, ap₂, _∙_}
@@ -62,7 +63,8 @@ module _ (F : Forest) (t : Tree) (n : F .nodes ≡ size t) (tells : Tells F t) w
 
 -- ---- moves that count themselves and tell their end
 
--- told x c v is x after c moves that led to node v; a move of `counted` is one of act that counts itself and tells where it leads
+-- told x c v is x after c moves that led to node v; a move of `counted` is one of act that counts itself and tells
+-- where it leads
 module _ {X C : Type 0} (F : Forest) (told : X → ℕ → ℕ → C) (act : Move → X → Option X) (counted : Move → C → Option C)
     (one : (m : Move) (x : X) (c v : ℕ)
     → counted m (told x c v) ≡ andThen (act m x) (λ y. some (told y (c + 1) (target F m)))) where

@@ -63,13 +63,13 @@ add-t16 : tie.Need-add-t16
 add-t16 c =
     let e = c .before .before in
     let r = e .before .before .before .before .before in
-    omega (arith, left-few (r .before .before .before) .links, right-few r .links)
+    omega (arith, left-few (r .before .before .before), right-few r)
 
 add-t17 : tie.Need-add-t17
 add-t17 c =
     let e = c .before .before .before .before in
     let r = e .before .before .before .before .before in
-    omega (arith, left-few (r .before .before .before) .passed, right-few r .passed)
+    omega (arith, left-few (r .before .before .before), right-few r)
 
 returns-2 : tie.Need-returns-2
 returns-2 c =

@@ -83,8 +83,9 @@ loop-again c =
 
 depth-at-requires-2 : tie.Need-depth-at-requires-2 Inv-loop μ-loop
 depth-at-requires-2 c κs =
-    let s = c .before .before .before .before .before .before .before in
-    omega (arith, s .pre .at, s .pre .path .node-table-room)
+    let a = c .before .before in
+    let s = a .before .before .before .before .before in
+    omega (arith, s .pre .at, a .loop .inv .inside, s .pre .path .node-table-room)
 
 depth-at-requires-3 : tie.Need-depth-at-requires-3 Inv-loop μ-loop
 depth-at-requires-3 c κs =
@@ -103,9 +104,11 @@ cast-t21 c =
 
 cast-t22 : tie.Need-cast-t22 Inv-loop μ-loop
 cast-t22 c =
-    let k = c .before .before .before .before .before .before in
+    let a = c .before .before .before .before in
+    let k = a .before .before in
     omega (
       arith,
+      a .loop .inv .few,
       c .before .depth-at2 .ensures,
       k .shared-slice-known3 .given (k .before .before .before .args .from * 4 + 2),
     )
