@@ -16,15 +16,15 @@ use Rattle.branches.specs.Promise.{AskDone}
 use Rattle.capi_numbers.specs.Numbers.{bitOf}
 
 abbrev pub endOf : Branching → ℕ → ℕ
-endOf (Answered q m l) old = q
+endOf (Answered b) old = b .state
 endOf (NotAnswered n) old = old
 
 abbrev pub acceptedOf : Branching → ℕ → ℕ
-acceptedOf (Answered q m l) old = bitOf m
+acceptedOf (Answered b) old = bitOf (b .marked)
 acceptedOf (NotAnswered n) old = old
 
 abbrev pub linksOf : Branching → ℕ → ℕ
-linksOf (Answered q m l) old = l
+linksOf (Answered b) old = b .links
 linksOf (NotAnswered n) old = old
 
 pub record AskNumber (a : Branching) (state₀ yes₀ links₀ r state₁ yes₁ links₁ : ℕ) : Type 0 where

@@ -58,10 +58,10 @@ fn ask_number(answer: Branching, state: &mut u32, yes: &mut u32, links: &mut u32
         r (now (state .exit)) (now (yes .exit)) (now (links .exit)) ⌝ }
 {
     match answer {
-        Branching::Answered(q, marked, moves) => {
-            *state = q as u32;
-            *yes = bit(marked);
-            *links = moves;
+        Branching::Answered(b) => {
+            *state = b.state as u32;
+            *yes = bit(b.marked);
+            *links = b.links;
             0
         }
         Branching::Refused(n) => n as u32,

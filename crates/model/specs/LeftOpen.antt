@@ -17,7 +17,7 @@ use lib.ListN.{length, getD, take}
 use Rattle.list_laws.specs.Tests.{allBelow}
 use Rattle.formats.specs.Plan.{planTree}
 use Rattle.formats.specs.Checks.{firstNo, listChecks}
-use Rattle.ready.specs.Parts.{Part, nodesOf, statesOf, partState, partLinks}
+use Rattle.ready.specs.Parts.{Part, nodesOf, statesOf, partState, partLinks, partPassed}
 use Rattle.tables.specs.declared.answers.Reached.{Reached}
 use Rattle.tables.specs.Climbs.{reached}
 use Rattle.questions.specs.OutOfRange.{PartOutOfRange}
@@ -43,6 +43,7 @@ abbrev pub ruleGives : Record → Inputs → List Part → Reached
 ruleGives r x ps =
     reached (partState (givenOf (r .sizes) x x (r .nodes) (r .labels)) (r .roots) ps (getD (r .roots) (length (r .states)) 0))
     (partLinks (planTree (x .plan)) (r .roots) (getD (r .roots) (length (r .states)) 0))
+    (partPassed (planTree (x .plan)) (r .roots) (getD (r .roots) (length (r .states)) 0))
 
 pub record AdvanceProperties (r : Record) (x : Inputs) (a : Answer) (r′ : Record) : Type 0 where
   pub stored : isRefused a ≡ false → (q : ℕ) × (r′ .states ≡ r .states ++ (q ∷ [])) × (q < r .sizes .s)

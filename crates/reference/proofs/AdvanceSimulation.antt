@@ -105,7 +105,7 @@ module _ (r : Record) (z : Sizes) (q : Question) (x : Inputs) (sizes : r .sizes 
 -- one more part, whatever its state below S
 pub parted-more : (r : Record) (z : Sizes) (q : Question) (ps : List Part) → Parted r z q ps → length ps < partCount q
     → (y : Reached) → y .state < z .s → (f : Phase) (m : Bool) (k : Settlement) (tr : List Part)
-    → Parted (stepped r f y m) z (advanced q k tr) (ps ++ (part (nextRoot (rootsOf q) ps) (y .state) (y .links) ∷ []))
+    → Parted (stepped r f y m) z (advanced q k tr) (ps ++ (part (nextRoot (rootsOf q) ps) (y .state) (y .links) (y .passed) ∷ []))
 unfolding stepped advanced
 parted-more r z q ps p l y b f m k tr = record {
   built = p .built;
@@ -126,7 +126,7 @@ parted-more r z q ps p l y b f m k tr = record {
 }
   where
     new : Part
-    new = part (nextRoot (rootsOf q) ps) (y .state) (y .links)
+    new = part (nextRoot (rootsOf q) ps) (y .state) (y .links) (y .passed)
 
 -- ---- one advance
 
@@ -272,7 +272,7 @@ module _ (L : Layers) (r : Record) (z : Sizes) (l : Option Question) (q : Questi
       parted : (y : Reached) (f : Phase) (m : Bool) → partNext r x ≡ some y
           → SomeParted (stepped r f y m) z (advanced q byProgram [])
       parted y f m e = (
-        ps ++ (part (nextRoot (rootsOf q) ps) (y .state) (y .links) ∷ []),
+        ps ++ (part (nextRoot (rootsOf q) ps) (y .state) (y .links) (y .passed) ∷ []),
         parted-more r z q ps p unended y (part-low r z q x (i .sizes) y e) f m byProgram [],
       )
 

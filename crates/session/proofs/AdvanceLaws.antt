@@ -242,7 +242,7 @@ module _ (s : Session) (h : Shaped s) (x : Inputs) (b : Bool) (may : b ≡ (vali
                   let z : _≡_ {A = ℕ} 0 1 = cc in
                   absurd (omega arith)
 
-          module _ (q l : ℕ) (result : K ≡ To (reached q l)) where
+          module _ (q l p : ℕ) (result : K ≡ To (reached q l p)) where
             one : (y : Reached) × (partNext (recordOf s) x ≡ some y) × (y .state ≡ q) × (y .links ≡ l)
             unfolding climbedOf
             one = go (partNext (recordOf s) x) refl (found ∙ ap climbedOf given)
@@ -254,8 +254,8 @@ module _ (s : Session) (h : Shaped s) (x : Inputs) (b : Bool) (may : b ≡ (vali
                     let z : _≡_ {A = ℕ} 0 1 = cc in
                     absurd (omega arith)
                 go (some y) i j =
-                    let k : To y ≡ To (reached q l) = sym (j ∙ ap climbedOf i) ∙ result in
-                    let e : y ≡ reached q l = cc in
+                    let k : To y ≡ To (reached q l p) = sym (j ∙ ap climbedOf i) ∙ result in
+                    let e : y ≡ reached q l p = cc in
                     (y, i, ap (λ (w : Reached). w .state) e, ap (λ (w : Reached). w .links) e)
 
             bounded : Bounded (viewBy (sizesOf s) x) (one .0)
