@@ -3,7 +3,7 @@
 --     step-is            a call on the bytes of a struct
 --     exports-is         the same of an exported function, its number and values decoded (DecodedAnswers)
 --     exported-refines   each call on bytes refines the session's call
---     fresh-held         975 zeros are the fresh record
+--     fresh-held         983 zeros are the fresh record
 --     record-stays       every record that a call leaves is one again
 -- Assumes nothing.
 use Prim.Native.Nat.{ℕ, zero, suc}
@@ -170,7 +170,7 @@ pub exported-refines : Refines Exports Does Held
 exported-refines b b′ r c a h e =
     step-is (h .struct) r (h .seen) c a b′ (exports-is (h .struct) r (h .seen) c a b b′ (h .bytes) e)
 
-pub fresh-held : Held (replicate 975 0) freshRecord
+pub fresh-held : Held (replicate 983 0) freshRecord
 fresh-held = record { struct = freshSession; bytes = sym fresh-bytes; seen = fresh-seen }
 
 -- ---- every record that a call leaves is a record again

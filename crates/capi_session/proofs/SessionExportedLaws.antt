@@ -105,11 +105,12 @@ advance-refused o b f n e = record {
 }
 
 pub read-in : (a : ReadAnswer) (old : Places) (y : ℕ) (o : Outcome) → a ≡ Read o → y ≡ bitOf (o .yes)
-    → ReadStored a old 0 (places (o .state) y (o .parts) (o .links))
+    → ReadStored a old 0 (places (o .state) y (o .parts) (o .links) (o .passed))
 unfolding readAnswer answerNumber answeredPlaces
 read-in a old y o e b = record {
   number = sym (ap (λ (x : ReadAnswer). answerNumber (readAnswer x)) e);
-  values-are = ap (λ (z : ℕ). places (o .state) z (o .parts) (o .links)) b ∙ sym (ap (λ (x : ReadAnswer). answeredPlaces (readAnswer x) old) e);
+  values-are = ap (λ (z : ℕ). places (o .state) z (o .parts) (o .links) (o .passed)) b
+  ∙ sym (ap (λ (x : ReadAnswer). answeredPlaces (readAnswer x) old) e);
 }
 
 pub read-refused : (a : ReadAnswer) (old : Places) (n : ℕ) → a ≡ NotRead n → ReadStored a old n old

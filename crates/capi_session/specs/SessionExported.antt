@@ -65,16 +65,17 @@ pub record AdvanceExported (b : List ℕ) (c : Call) (r : ℕ) (b′ : List ℕ)
   pub call : CallExported b c r b′
   pub finished-after : finished₁ ≡ finishedOf (answerFor b c) finished₀
 
--- the four values of Read, as one place each
+-- the five values of Read, as one place each
 pub record Places : Type 0 where
   pub state : ℕ
   pub yes : ℕ
   pub parts : ℕ
   pub links : ℕ
+  pub passed : ℕ
 
 unfoldable pub answeredPlaces : Answer → Places → Places
 answeredPlaces a old =
-    onOutcome (λ o. record { state = o .state; yes = bitOf (o .yes); parts = o .parts; links = o .links }) old a
+    onOutcome (λ o. record { state = o .state; yes = bitOf (o .yes); parts = o .parts; links = o .links; passed = o .passed }) old a
 
 pub record ReadExported (b : List ℕ) (r : ℕ) (before after : Places) : Type 0 where
   pub number : r ≡ answerNumber (answerFor b read)

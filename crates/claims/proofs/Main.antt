@@ -68,7 +68,7 @@ builds-refuse = build-refused
 -- is the word automaton's."
 
 -- of a question that Start accepted, undisturbed: Read's outcome is the fresh run's, after as many advances as parts (QuestionAnswered)
-finished-answers : QuestionsAnswered (replicate 975 0) Exports
+finished-answers : QuestionsAnswered (replicate 983 0) Exports
 finished-answers = exported-questions
 
 -- the fresh run is source document 002's: each node's label in the run is the state of its subtree
@@ -89,7 +89,7 @@ by-value = by-value-demand-3
 in-place : Demand3 freshSession CallInPlace
 in-place = in-place-demand-3
 
-on-record-bytes : Demand3 (replicate 975 0) Exports
+on-record-bytes : Demand3 (replicate 983 0) Exports
 on-record-bytes = exported-demand-3
 
 -- "Nothing about Start is left to the program then"

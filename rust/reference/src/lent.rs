@@ -114,7 +114,7 @@ impl<'a> View<'a> {
             };
         }
         // the part's own root, above the node where the climb ends
-        let from_upper = self.tree.depth(w).saturating_sub(depth - 1);
+        let from_upper = self.tree.depth(w).saturating_sub(depth.saturating_sub(1));
         let passed = unless(Mistake::PassedFromUpper, passed(&self.tree, w, &moves, depth), from_upper);
         Ok(Part { state: q, links: moves.len(), passed })
     }

@@ -1,4 +1,4 @@
--- `records::bytes::put_last` meets its contract. Eight stores in a row.
+-- `records::bytes::put_last` meets its contract. 16 stores in a row.
 -- Assumes nothing.
 use native.Mathlib.Omega.{arith}
 use lib.ListN.{length-set}
@@ -15,7 +15,7 @@ returns c =
     let y = c .before .before .before .before in
     let f = y .before in
     let s = f .before .before .before in
-    last-written (s .args .out .now) (s .args .l) _ _ (s .pre) (f .yes-byte .ensures) (y .yes-byte2 .ensures)
+    last-written (s .args .out .now) (s .args .h) _ _ (s .pre) (f .yes-byte .ensures) (y .yes-byte2 .ensures)
 
 pub put-last-spec : {M : Type 1} → statement M
 put-last-spec =
@@ -26,6 +26,22 @@ put-last-spec =
     (λ c. simp length-set (omega arith))
     (λ c κs. search needs)
     (λ c. simp length-set (omega arith))
+    (λ c. simp length-set (omega arith))
+    (λ c. search needs)
+    (λ c. simp length-set (omega arith))
+    (λ c. search needs)
+    (λ c. simp length-set (omega arith))
+    (λ c. search needs)
+    (λ c. simp length-set (omega arith))
+    (λ c. search needs)
+    (λ c. simp length-set (omega arith))
+    (λ c. search needs)
+    (λ c. simp length-set (omega arith))
+    (λ c. search needs)
+    (λ c. simp length-set (omega arith))
+    (λ c. search needs)
+    (λ c. simp length-set (omega arith))
+    (λ c. search needs)
     (λ c. simp length-set (omega arith))
     (λ c. search needs)
     (λ c. simp length-set (omega arith))
