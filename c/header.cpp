@@ -2,7 +2,7 @@
 #include "whatif.h"
 
 static int without_a_session() {
-    uint32_t yes = 9, state = 9, links = 9;
+    uint32_t yes = 9, state = 9, links = 9, passed = 9;
     uint32_t answers[] = {
         whatif_build(NULL, 0, NULL, 0, NULL, 0, NULL, 0),
         whatif_check(NULL, 0, NULL, 0, NULL, 0, NULL, 0, &yes),
@@ -13,9 +13,10 @@ static int without_a_session() {
     for (unsigned i = 0; i < sizeof answers / sizeof *answers; i++)
         if (answers[i] != WHATIF_REFUSED_PLAN_SHORT)
             return 1;
-    if (whatif_branch(NULL, 0, NULL, 0, NULL, 0, NULL, 0, 0, 0, &state, &yes, &links) != WHATIF_REFUSED_LENT_LENGTH)
+    if (whatif_branch(NULL, 0, NULL, 0, NULL, 0, NULL, 0, 0, 0, &state, &yes, &links, &passed) !=
+        WHATIF_REFUSED_LENT_LENGTH)
         return 2;
-    if (whatif_branch_with_upper(NULL, 0, NULL, 0, NULL, 0, NULL, 0, 0, 0, &state, &yes, &links) !=
+    if (whatif_branch_with_upper(NULL, 0, NULL, 0, NULL, 0, NULL, 0, 0, 0, &state, &yes, &links, &passed) !=
         WHATIF_REFUSED_LENT_LENGTH)
         return 10;
     if (whatif_merge(NULL, 0, NULL, 0, NULL, 0) != WHATIF_REFUSED_TABLE_SHORT)
@@ -26,7 +27,7 @@ static int without_a_session() {
         return 10;
     if (whatif_planner_of_plan(NULL, 0, NULL, 0) != WHATIF_REFUSED_PLANNER_FILE)
         return 11;
-    return yes == 9 && state == 9 && links == 9 ? 0 : 3;
+    return yes == 9 && state == 9 && links == 9 && passed == 9 ? 0 : 3;
 }
 
 // No record at all is a broken one.

@@ -108,7 +108,7 @@ fn the_answer_stays_until_a_load_is_accepted() {
         assert_eq!(sides::call(&again, &Call::Read, random).answer, told);
         assert!(again[..967] == sides::call(loaded, &start, random).record[..967]);
         let record = Record::of(&again).unwrap();
-        assert_eq!((record.states, record.links, record.yes), (vec![], 0, false));
+        assert_eq!((record.states, record.links, record.passed, record.yes), (vec![], 0, 0, false));
         let load = Call::Load(scene.lent.lends());
         for record in [answered, loaded_with] {
             let done = sides::call(record, &load, random);
