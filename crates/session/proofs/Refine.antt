@@ -18,7 +18,7 @@ use Rattle.session.specs.Promises.{CallDone, answerOn, recordOn}
 use Rattle.session.specs.inner.Shapes.{Shaped}
 use Rattle.session.specs.CallsByValue.{CallByValue, loads, starts, advances, cancels, reads}
 use Rattle.session.proofs.RecordLaws.{record-of-struct, struct-shaped}
-use Rattle.session.proofs.ActLaws.{holds-valid, listed-of, act-valid, act-shaped, act-record}
+use Rattle.session.proofs.ActLaws.{holds-valid, listed-of, act-shaped, act-record}
 
 pub record Seen (s : Session) (r : Record) : Type 0 where
   pub shaped : Shaped s
@@ -49,22 +49,24 @@ module _ (s : Session) (r : Record) (i : Seen s r) (c : Call) where
   unfolding recordOn
   record-is = rw (i .passes)
 
-  after-seen : Seen (sessionOf (act (recordOf s) c .record′)) (act r c .record′)
-  after-seen = record {
+  after-seen : valid (sessionOf (act (recordOf s) c .record′)) ≡ true → Seen (sessionOf (act (recordOf s) c .record′)) (act r c .record′)
+  after-seen v = record {
     shaped = act-shaped s (i .shaped) (i .passes) c;
-    passes = act-valid s (i .shaped) (i .passes) c;
+    passes = v;
     holds = act-record s (i .shaped) (i .passes) c ∙ ap (λ (t : Record). act t c .record′) (i .holds);
   }
 
-  pub call-refines : (a : Answer) (s′ : Session) → a ≡ answerOn s c → s′ ≡ recordOn s c → (r′ : Record) × Does r c a r′ × Seen s′ r′
-  call-refines a s′ f g = (
+  pub call-refines : (a : Answer) (s′ : Session) → a ≡ answerOn s c → s′ ≡ recordOn s c → valid s′ ≡ true
+      → (r′ : Record) × Does r c a r′ × Seen s′ r′
+  call-refines a s′ f g v = (
     act r c .record′,
     record { tells = f ∙ answer-is; leaves = refl },
-    subst (λ (t : Session). Seen t (act r c .record′)) (sym (g ∙ record-is)) after-seen,
+    subst (λ (t : Session). Seen t (act r c .record′)) (sym (g ∙ record-is))
+        (after-seen (subst (λ (t : Session). valid t ≡ true) (g ∙ record-is) v)),
   )
 
   done-refines : (a : Answer) (s′ : Session) → CallDone s c a s′ → (r′ : Record) × Does r c a r′ × Seen s′ r′
-  done-refines a s′ d = call-refines a s′ (d .tells) (d .leaves)
+  done-refines a s′ d = call-refines a s′ (d .tells) (d .leaves) (d .stays (i .passes))
 
 -- Read alters nothing
 pub read-keeps : (r : Record) → act r read .record′ ≡ r
