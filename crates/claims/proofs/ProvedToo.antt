@@ -144,7 +144,7 @@ answered-by-value = finishes-by-value
 answered-in-place : QuestionsFinish freshSession CallInPlace
 answered-in-place = finishes-in-place
 
-answered-on-bytes : QuestionsFinish (replicate 975 0) Exports
+answered-on-bytes : QuestionsFinish (replicate 983 0) Exports
 answered-on-bytes = finishes-on-bytes
 
 -- "at most three links for each binary digit of the plan's height", of the call that handles the part; on usable tables

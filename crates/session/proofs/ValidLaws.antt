@@ -70,8 +70,8 @@ module _ (s : Session) where
 
   pub own-test : 1 ≤ s .head .handled → s .head .handled ≤ 254 → (c : Bool) → c ≡ sameFlag (s .head .last .outcome .yes) (s .head .yes)
       → (s .head .last .present && eqb (s .head .last .outcome .state) (getD (s .states) (s .head .handled - 1) 0) && c
-      && (eqb (s .head .last .outcome .parts) (s .head .parts) && eqb (s .head .last .outcome .links) (s .head .links)
-      && eqb (s .head .last .outcome .passed) (s .head .passed))) ≡ lastIsOwn s
+      && eqb (s .head .last .outcome .parts) (s .head .parts) && eqb (s .head .last .outcome .links) (s .head .links)
+      && eqb (s .head .last .outcome .passed) (s .head .passed)) ≡ lastIsOwn s
   unfolding lastIsOwn
   own-test g h c e = rw (le-leb 1 (s .head .handled) g, le-leb (s .head .handled) 254 h, e) (simp and-assoc)
 
