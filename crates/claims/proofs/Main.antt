@@ -108,13 +108,13 @@ order : (x : Inputs) (vs bs ws cs : List ℕ) → length vs ≡ length bs → le
     → distinct vs ≡ true → (n : ℕ) (ys : List Answer) → CleanOutcomes x vs bs n ys → CleanOutcomes x ws cs n ys
 order = outcome-order
 
--- ---- "Sample clearance, to be proved as one table": state, yes or no, parts and links, or the refusal's number
+-- ---- "Sample clearance, to be proved as one table": state, yes or no, parts, links and nodes passed over (02, S-7), or the refusal's number
 
 sample :
     row [] [] 1 ∷ row (0 ∷ []) (0 ∷ []) 2 ∷ row (0 ∷ 2 ∷ []) (0 ∷ 0 ∷ []) 3 ∷ row (0 ∷ 3 ∷ []) (0 ∷ 1 ∷ []) 5
     ∷ row (4 ∷ []) (0 ∷ []) 2 ∷ row (6 ∷ []) (0 ∷ []) 1
     ∷ startRow (7 ∷ []) (0 ∷ []) ∷ startRow (0 ∷ []) (2 ∷ []) ∷ row (0 ∷ 0 ∷ []) (0 ∷ 1 ∷ []) 1 ∷ []
-    ≡ some (outcomeAnswer 1 true 1 0) ∷ some (outcomeAnswer 0 false 2 1) ∷ some (outcomeAnswer 1 true 3 0) ∷ some (outcomeAnswer 0 false 5 0)
-    ∷ some (outcomeAnswer 0 false 2 1) ∷ some (outcomeAnswer 1 true 1 0)
-    ∷ some (refused 13) ∷ some (refused 14) ∷ some (outcomeAnswer 1 true 1 0) ∷ []
+    ≡ some (outcomeAnswer 1 true 1 0 0) ∷ some (outcomeAnswer 0 false 2 1 1) ∷ some (outcomeAnswer 1 true 3 0 0) ∷ some (outcomeAnswer 0 false 5 0 0)
+    ∷ some (outcomeAnswer 0 false 2 1 1) ∷ some (outcomeAnswer 1 true 1 0 0)
+    ∷ some (refused 13) ∷ some (refused 14) ∷ some (outcomeAnswer 1 true 1 0 0) ∷ []
 sample = sample-rows

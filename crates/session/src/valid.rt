@@ -145,8 +145,8 @@ fn last_is_own(h: Head, states: &[u8]) -> bool
     let o = h.last.outcome;
     let at = h.handled as usize - 1;
     let alike = same_flag(o.yes, h.yes);
-    let counted = (o.parts == h.parts) & (o.links == h.links) & (o.passed == h.passed);
-    h.last.present & (o.state == states[at]) & alike & counted
+    let own = h.last.present & (o.state == states[at]) & alike;
+    own & (o.parts == h.parts) & (o.links == h.links) & (o.passed == h.passed)
 }
 
 // The record is valid, by its state.

@@ -88,9 +88,66 @@ put-word-requires-2 c κs =
       n1 .put-number .ensures .1,
     )
 
+put-number-requires-4 : tie.Need-put-number-requires-4
+put-number-requires-4 c κs =
+    let w2 = c .before .before .before in
+    let n3 = w2 .before .before .before .before .before in
+    let w = n3 .before .before .before .before in
+    let n2 = w .before .before .before .before .before in
+    let y = n2 .before .before .before .before in
+    let n1 = y .before .before .before .before in
+    let s = n1 .before .before .before in
+    omega (
+      arith,
+      w2 .put-word2 .ensures .as-long,
+      w2 .put-word2 .ensures .end,
+      n3 .put-number3 .ensures .0 .as-long,
+      n3 .put-number3 .ensures .1,
+      w .put-word .ensures .as-long,
+      w .put-word .ensures .end,
+      n2 .put-number2 .ensures .0 .as-long,
+      n2 .put-number2 .ensures .1,
+      y .put-yes-or-no .ensures .as-long,
+      y .put-yes-or-no .ensures .end,
+      yes-or-no-short (s .args .yes),
+      n1 .put-number .ensures .0 .as-long,
+      n1 .put-number .ensures .1,
+    )
+
+put-word-requires-3 : tie.Need-put-word-requires-3
+put-word-requires-3 c κs =
+    let n4 = c .before .before .before .before in
+    let w2 = n4 .before .before .before .before in
+    let n3 = w2 .before .before .before .before .before in
+    let w = n3 .before .before .before .before in
+    let n2 = w .before .before .before .before .before in
+    let y = n2 .before .before .before .before in
+    let n1 = y .before .before .before .before in
+    let s = n1 .before .before .before in
+    omega (
+      arith,
+      n4 .put-number4 .ensures .0 .as-long,
+      n4 .put-number4 .ensures .1,
+      w2 .put-word2 .ensures .as-long,
+      w2 .put-word2 .ensures .end,
+      n3 .put-number3 .ensures .0 .as-long,
+      n3 .put-number3 .ensures .1,
+      w .put-word .ensures .as-long,
+      w .put-word .ensures .end,
+      n2 .put-number2 .ensures .0 .as-long,
+      n2 .put-number2 .ensures .1,
+      y .put-yes-or-no .ensures .as-long,
+      y .put-yes-or-no .ensures .end,
+      yes-or-no-short (s .args .yes),
+      n1 .put-number .ensures .0 .as-long,
+      n1 .put-number .ensures .1,
+    )
+
 returns : tie.Need-returns
 returns c =
-    let w2 = c .before .before in
+    let w3 = c .before .before in
+    let n4 = w3 .before .before .before .before .before in
+    let w2 = n4 .before .before .before .before in
     let n3 = w2 .before .before .before .before .before in
     let w = n3 .before .before .before .before in
     let n2 = w .before .before .before .before .before in
@@ -98,7 +155,8 @@ returns c =
     let n1 = y .before .before .before .before in
     let s = n1 .before .before .before in (
       put-then (n1 .put-number .ensures .0) (put-then (y .put-yes-or-no .ensures) (put-then (n2 .put-number2 .ensures .0)
-          (put-then (w .put-word .ensures) (put-then (n3 .put-number3 .ensures .0) (w2 .put-word2 .ensures))))),
+          (put-then (w .put-word .ensures) (put-then (n3 .put-number3 .ensures .0) (put-then (w2 .put-word2 .ensures)
+          (put-then (n4 .put-number4 .ensures .0) (w3 .put-word3 .ensures))))))),
       omega (
         arith,
         n1 .put-number .ensures .1,
@@ -108,6 +166,8 @@ returns c =
         w .put-word .ensures .end,
         n3 .put-number3 .ensures .1,
         w2 .put-word2 .ensures .end,
+        n4 .put-number4 .ensures .1,
+        w3 .put-word3 .ensures .end,
       ),
     )
 
@@ -123,5 +183,8 @@ put-outcome-spec =
     put-number-requires-3
     (λ c. search needs)
     put-word-requires-2
+    put-number-requires-4
+    (λ c. search needs)
+    put-word-requires-3
     (λ c. search needs)
     returns)
