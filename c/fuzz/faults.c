@@ -93,7 +93,7 @@ uint32_t __wrap_whatif_read(const uint8_t *record, size_t record_len, uint32_t *
     uint32_t answer = __real_whatif_read(record, record_len, state, yes, parts, links, passed);
     if (laid(11) && answer == 0) /* yes to everything */
         *yes = 1;
-    if (laid(PASSED_FAULT) && answer == 0) /* nothing is passed over */
+    if (laid(24) && answer == 0) /* nothing is passed over */
         *passed = 0;
     return answer;
 }

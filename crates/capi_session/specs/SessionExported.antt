@@ -17,7 +17,7 @@ use Rattle.formats.specs.Inputs.{Inputs}
 use Rattle.model.specs.Calls.{Call, load, read, Answer, refused, onRefused, onParts, onAdvance, onOutcome}
 use Rattle.model.specs.Model.{act}
 use Rattle.model.specs.LeftOpen.{LeftOpen}
-use Rattle.session.specs.Records.{recordOf}
+use Rattle.session.specs.Records.{recordOf, valid}
 use Rattle.session.specs.Promises.{answerOn, recordOn, refusalOn}
 use Rattle.records.specs.Layout.{encoded, decoded, laidOut, validBytes}
 use Rattle.capi_numbers.specs.Numbers.{bitOf}
@@ -39,6 +39,8 @@ recordFor b c = unlessRefused (answerFor b c) (encoded (recordOn (decoded b) c))
 pub record CallExported (b : List ℕ) (c : Call) (r : ℕ) (b′ : List ℕ) : Type 0 where
   pub number : r ≡ answerNumber (answerFor b c)
   pub left : b′ ≡ recordFor b c
+  -- a record stays one: what a call leaves keeps the layout's conditions
+  pub stays : validBytes b ≡ true → valid (recordOn (decoded b) c) ≡ true
   -- what is left to the program has these properties
   pub properties : validBytes b ≡ true → LeftOpen (recordOf (decoded b)) c (answerFor b c) (act (recordOf (decoded b)) c .record′)
 

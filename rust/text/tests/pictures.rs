@@ -14,7 +14,7 @@ fn drawn(question: usize) -> Result<String, Failure> {
 
 #[test]
 fn one_change_has_two_parts() {
-    let expected = r#"    0 [label="0: 1 to 0\npart 1", fillcolor=1, shape=box, peripheries=2];
+    let expected = r##"    0 [label="0: 1 to 0\npart 1", fillcolor=1, shape=box, peripheries=2];
     1 [label="1: 1", fillcolor=2];
     2 [label="2: 1", fillcolor="#ffffff", color="#bbbbbb", fontcolor="#999999"];
     3 [label="3: 0", fillcolor=2];
@@ -28,7 +28,7 @@ fn one_change_has_two_parts() {
     6 -> 2;
     6 -> 5;
 }
-"#;
+"##;
     assert_eq!(drawn(2).as_deref(), Ok(expected));
 }
 

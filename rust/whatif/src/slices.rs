@@ -23,6 +23,7 @@ type Branch = unsafe extern "C" fn(
     *mut u32,
     *mut u32,
     *mut u32,
+    *mut u32,
 ) -> u32;
 
 pub fn build(plan: &[u8], rules: &[u8], node_table: &mut [u16], state_table: &mut [u8]) -> u32 {
