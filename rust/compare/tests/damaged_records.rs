@@ -164,7 +164,9 @@ fn the_limits_of_a_kept_answer() {
             assert_eq!(beside.all_calls(&bytes, random), valid, "{:?}", last);
         };
         let most = 65_535 * 254;
-        for last in [None, told(2, 1, 65_535, 65_535), told(0, 254, most, most), told(0, 1, 0, 0), told(0, 1, 0, 65_535)] {
+        for last in
+            [None, told(2, 1, 65_535, 65_535), told(0, 254, most, most), told(0, 1, 0, 0), told(0, 1, 0, 65_535)]
+        {
             is(last, true);
         }
         for last in [told(3, 1, 0, 0), told(0, 0, 0, 0), told(0, 255, 0, 0)] {
@@ -174,7 +176,8 @@ fn the_limits_of_a_kept_answer() {
             is(last, false);
         }
         // neither there nor not, and values of an answer that is not there
-        for (place, to) in [(967, 2), (967, 255), (968, 1), (969, 1), (970, 1), (971, 1), (974, 1), (979, 1), (982, 1)] {
+        for (place, to) in [(967, 2), (967, 255), (968, 1), (969, 1), (970, 1), (971, 1), (974, 1), (979, 1), (982, 1)]
+        {
             let mut bytes = record.bytes();
             bytes[place] = to;
             assert!(!beside.all_calls(&bytes, random), "byte {}", place);

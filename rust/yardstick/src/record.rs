@@ -62,9 +62,7 @@ pub fn head(record: &[u8]) -> Result<Head, u32> {
     let sized = head.n >= 1 && (1..=16).contains(&head.s) && (1..=64).contains(&head.k);
     let valid = match head.phase {
         EMPTY => zero(&record[1..]),
-        LOADED => {
-            sized && record[YES] == 0 && zero(&record[M..LAST]) && head.passed == 0 && last(record, &head)
-        }
+        LOADED => sized && record[YES] == 0 && zero(&record[M..LAST]) && head.passed == 0 && last(record, &head),
         RUNNING => {
             sized && record[YES] == 0 && head.handled < head.parts && question(record, &head) && last(record, &head)
         }

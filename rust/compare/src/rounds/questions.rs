@@ -128,7 +128,10 @@ impl Asked {
         let deepest = *self.tree.depth.iter().max().unwrap();
         let digits = usize::BITS - deepest.leading_zeros();
         assert!(told.links <= 3 * digits * parts);
-        assert!(told.links <= told.passed && told.passed <= parts * deepest as u32, "links <= passed <= parts x height");
+        assert!(
+            told.links <= told.passed && told.passed <= parts * deepest as u32,
+            "links <= passed <= parts x height"
+        );
         assert_eq!(told.passed as usize, self.passed(&members), "the nodes passed over");
         assert!(parts as usize <= if left.is_empty() { 1 } else { 4 * left.len() - 2 });
         assert!(parts as usize <= by_marks(&self.tree, nodes).len(), "parts never rise");

@@ -12,7 +12,7 @@ same-length c = simp length-set
 
 returns : tie.Need-returns
 returns c =
-    let y = c .before .before .before .before in
+    let y = c .before .before .before .before .before .before .before .before .before .before .before .before in
     let f = y .before in
     let s = f .before .before .before in
     last-written (s .args .out .now) (s .args .h) _ _ (s .pre) (f .yes-byte .ensures) (y .yes-byte2 .ensures)
@@ -42,14 +42,14 @@ put-last-spec =
     (λ c. search needs)
     (λ c. simp length-set (omega arith))
     (λ c. search needs)
-    (λ c. simp length-set (omega arith))
+    (λ c. simp length-set (omega (arith, c .before .before .before .before .before .before .before .before .before .before .before .before .pre)))
     (λ c. search needs)
-    (λ c. simp length-set (omega arith))
+    (λ c. simp length-set (omega (arith, c .before .before .before .before .before .before .before .before .before .before .before .before .before .pre)))
     (λ c. search needs)
-    (λ c. simp length-set (omega arith))
+    (λ c. simp length-set (omega (arith, c .before .before .before .before .before .before .before .before .before .before .before .before .before .before .pre)))
     (λ c. search needs)
-    (λ c. simp length-set (omega arith))
+    (λ c. simp length-set (omega (arith, c .before .before .before .before .before .before .before .before .before .before .before .before .before .before .before .pre)))
     (λ c. search needs)
-    (λ c. simp length-set (omega arith))
+    (λ c. simp length-set (omega (arith, c .before .before .before .before .before .before .before .before .before .before .before .before .before .before .before .before .pre)))
     same-length
     returns)
