@@ -25,8 +25,12 @@ newline = 10 ∷ []
 abbrev pub refusedWord : List ℕ
 refusedWord = 114 ∷ 101 ∷ 102 ∷ 117 ∷ 115 ∷ 101 ∷ 100 ∷ 32 ∷ []
 
+-- parts, links and nodes passed over
+abbrev pub countsText : ℕ → ℕ → ℕ → List ℕ
+countsText p l d = decimal p ++ (space ++ (decimal l ++ (space ++ (decimal d ++ newline))))
+
 abbrev pub outcomeLine : ℕ → Bool → ℕ → ℕ → ℕ → List ℕ
-outcomeLine q y p l d = decimal q ++ (yesOrNo y ++ (decimal p ++ (space ++ (decimal l ++ (space ++ (decimal d ++ newline))))))
+outcomeLine q y p l d = decimal q ++ (yesOrNo y ++ countsText p l d)
 
 abbrev pub refusedLine : ℕ → List ℕ
 refusedLine n = refusedWord ++ (decimal n ++ newline)

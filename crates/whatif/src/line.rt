@@ -6,7 +6,7 @@ ghost use Prim.Native.Nat.{_+_, _≤_};
 ghost use lib.ListN.{length};
 ghost use Rattle.session.specs.Answers.{readAnswer};
 ghost use Rattle.whatif.specs.Text.{Put};
-ghost use Rattle.whatif.specs.Line.{yesOrNo, outcomeLine, refusedLine, lineOf};
+ghost use Rattle.whatif.specs.Line.{yesOrNo, countsText, outcomeLine, refusedLine, lineOf};
 
 fn put_yes_or_no(out: &mut [u8], at: usize, yes: bool) -> usize
     requires { ⌜ at + 5 ≤ length (now out) ⌝ }
@@ -16,6 +16,20 @@ fn put_yes_or_no(out: &mut [u8], at: usize, yes: bool) -> usize
         return put_word(out, at, b" yes ");
     }
     put_word(out, at, b" no ")
+}
+
+// Parts, links and nodes passed over, and a newline.
+fn put_counts(out: &mut [u8], at: usize, parts: u8, links: u32, passed: u32) -> usize
+    requires { ⌜ at + 33 ≤ length (now out) ⌝ }
+    ensures { λ r. ⌜ Put (now (out .entry)) at (countsText parts links passed) (now (out .exit)) r ⌝ }
+    ensures { λ r. ⌜ r ≤ at + 33 ⌝ }
+{
+    let a = put_number(out, at, parts as u32);
+    let b = put_word(out, a, b" ");
+    let c = put_number(out, b, links);
+    let d = put_word(out, c, b" ");
+    let e = put_number(out, d, passed);
+    put_word(out, e, b"\n")
 }
 
 fn put_outcome(
@@ -33,12 +47,7 @@ fn put_outcome(
 {
     let a = put_number(out, at, state as u32);
     let b = put_yes_or_no(out, a, yes);
-    let c = put_number(out, b, parts as u32);
-    let d = put_word(out, c, b" ");
-    let e = put_number(out, d, links);
-    let f = put_word(out, e, b" ");
-    let g = put_number(out, f, passed);
-    put_word(out, g, b"\n")
+    put_counts(out, b, parts, links, passed)
 }
 
 pub fn put_refused(out: &mut [u8], at: usize, n: u8) -> usize
