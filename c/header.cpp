@@ -32,18 +32,18 @@ static int without_a_session() {
 
 // No record at all is a broken one.
 static int with_a_session() {
-    uint32_t out[4] = {9, 9, 9, 9};
+    uint32_t out[5] = {9, 9, 9, 9, 9};
     uint32_t answers[] = {
         whatif_load(NULL, 0, NULL, 0, NULL, 0, NULL, 0, NULL, 0),
         whatif_start(NULL, 0, NULL, 0, NULL, 0, NULL, 0, NULL, 0, NULL, 0, NULL, 0, out),
         whatif_advance(NULL, 0, NULL, 0, NULL, 0, NULL, 0, NULL, 0, out),
         whatif_cancel(NULL, 0),
-        whatif_read(NULL, 0, out, out + 1, out + 2, out + 3),
+        whatif_read(NULL, 0, out, out + 1, out + 2, out + 3, out + 4),
     };
     for (unsigned i = 0; i < sizeof answers / sizeof *answers; i++)
         if (answers[i] != WHATIF_REFUSED_SESSION_STATE)
             return 4;
-    return out[0] == 9 && out[1] == 9 && out[2] == 9 && out[3] == 9 ? 0 : 5;
+    return out[0] == 9 && out[1] == 9 && out[2] == 9 && out[3] == 9 && out[4] == 9 ? 0 : 5;
 }
 
 int main() {

@@ -172,6 +172,7 @@ fn the_records_of_the_layout_page() {
         record[..13].copy_from_slice(&cells[0]);
         record[205..205 + cells[1].len()].copy_from_slice(&cells[1]);
         record[967..967 + cells[2].len()].copy_from_slice(&cells[2]);
+        record[975..975 + cells[3].len()].copy_from_slice(&cells[3]);
         record
     };
     let (plan, rules) = inputs::sample();
