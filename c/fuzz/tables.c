@@ -8,7 +8,7 @@ typedef uint32_t check_call(const uint8_t *, size_t, const uint8_t *, size_t, co
 
 /* The branch question, in either reading. */
 typedef uint32_t branch_call(const uint8_t *, size_t, const uint8_t *, size_t, const uint16_t *, size_t, const uint8_t *,
-                             size_t, uint32_t, uint32_t, uint32_t *, uint32_t *, uint32_t *);
+                             size_t, uint32_t, uint32_t, uint32_t *, uint32_t *, uint32_t *, uint32_t *);
 
 /* What the seven have in common: plan and table, and the two tables of the nodes. */
 struct tables {
