@@ -11,7 +11,9 @@ use Rattle.probes.proofs.whole.loaded.Tie as tie
 
 returns : tie.Need-returns
 unfolding sessionOf phaseTo idle
-returns c = c .idle .ensures ∙ ap (λ (l : Last). idleSession Loaded _ l) (c .before .no-last .ensures)
+returns c =
+    let a = c .before .before .args in
+    c .idle .ensures ∙ ap (λ (l : Last). idleSession Loaded (record { n = a .n; s = a .s; k = a .k }) l) (c .before .no-last .ensures)
 
 pub loaded-spec : {M : Type 1} → statement M
 loaded-spec = tie.close (tie.spec (λ c κs. search needs) (λ c κs. search needs) returns)
