@@ -53,7 +53,13 @@ pub extern "C" fn whatif_branch_check(
 
 // The number of a branch question's answer; its state, whether it is marked, its links and the nodes passed over go to `state`,
 // `yes`, `links` and `passed`.
-fn ask_number(answer: Branching, state: &mut u32, yes: &mut u32, links: &mut u32, passed: &mut u32) -> u32
+fn ask_number(
+    answer: Branching,
+    state: &mut u32,
+    yes: &mut u32,
+    links: &mut u32,
+    passed: &mut u32,
+) -> u32
     ensures { λ r. ⌜
         AskNumber answer (now (state .entry)) (now (yes .entry)) (now (links .entry)) (now (passed .entry))
         r (now (state .exit)) (now (yes .exit)) (now (links .exit)) (now (passed .exit)) ⌝ }

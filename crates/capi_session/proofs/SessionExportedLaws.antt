@@ -110,7 +110,7 @@ unfolding readAnswer answerNumber answeredPlaces
 read-in a old y o e b = record {
   number = sym (ap (λ (x : ReadAnswer). answerNumber (readAnswer x)) e);
   values-are = ap (λ (z : ℕ). places (o .state) z (o .parts) (o .links) (o .passed)) b
-  ∙ sym (ap (λ (x : ReadAnswer). answeredPlaces (readAnswer x) old) e);
+      ∙ sym (ap (λ (x : ReadAnswer). answeredPlaces (readAnswer x) old) e);
 }
 
 pub read-refused : (a : ReadAnswer) (old : Places) (n : ℕ) → a ≡ NotRead n → ReadStored a old n old
