@@ -1,4 +1,4 @@
--- `records::bytes::put_last` meets its contract. 16 stores in a row.
+-- `records::bytes::put_last` meets its contract. 16 stores in a row; the last ones take the length from the start.
 -- Assumes nothing.
 use native.Mathlib.Omega.{arith}
 use lib.ListN.{length-set}
@@ -42,14 +42,19 @@ put-last-spec =
     (λ c. search needs)
     (λ c. simp length-set (omega arith))
     (λ c. search needs)
-    (λ c. simp length-set (omega (arith, c .before .before .before .before .before .before .before .before .before .before .before .before .pre)))
+    (λ c. let y = c .before .before .before .before .before .before .before .before in
+    simp length-set (omega (arith, y .before .before .before .before .pre)))
     (λ c. search needs)
-    (λ c. simp length-set (omega (arith, c .before .before .before .before .before .before .before .before .before .before .before .before .before .pre)))
+    (λ c. let y = c .before .before .before .before .before .before .before .before .before in
+    simp length-set (omega (arith, y .before .before .before .before .pre)))
     (λ c. search needs)
-    (λ c. simp length-set (omega (arith, c .before .before .before .before .before .before .before .before .before .before .before .before .before .before .pre)))
+    (λ c. let y = c .before .before .before .before .before .before .before .before .before .before in
+    simp length-set (omega (arith, y .before .before .before .before .pre)))
     (λ c. search needs)
-    (λ c. simp length-set (omega (arith, c .before .before .before .before .before .before .before .before .before .before .before .before .before .before .before .pre)))
+    (λ c. let y = c .before .before .before .before .before .before .before .before .before .before .before in
+    simp length-set (omega (arith, y .before .before .before .before .pre)))
     (λ c. search needs)
-    (λ c. simp length-set (omega (arith, c .before .before .before .before .before .before .before .before .before .before .before .before .before .before .before .before .pre)))
+    (λ c. let y = c .before .before .before .before .before .before .before .before .before .before .before .before in
+    simp length-set (omega (arith, y .before .before .before .before .pre)))
     same-length
     returns)
