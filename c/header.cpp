@@ -2,7 +2,7 @@
 #include "whatif.h"
 
 static int without_a_session() {
-    uint32_t yes = 9, state = 9, links = 9;
+    uint32_t yes = 9, state = 9, links = 9, passed = 9;
     uint32_t answers[] = {
         whatif_build(NULL, 0, NULL, 0, NULL, 0, NULL, 0),
         whatif_check(NULL, 0, NULL, 0, NULL, 0, NULL, 0, &yes),
@@ -13,9 +13,10 @@ static int without_a_session() {
     for (unsigned i = 0; i < sizeof answers / sizeof *answers; i++)
         if (answers[i] != WHATIF_REFUSED_PLAN_SHORT)
             return 1;
-    if (whatif_branch(NULL, 0, NULL, 0, NULL, 0, NULL, 0, 0, 0, &state, &yes, &links) != WHATIF_REFUSED_LENT_LENGTH)
+    if (whatif_branch(NULL, 0, NULL, 0, NULL, 0, NULL, 0, 0, 0, &state, &yes, &links, &passed) !=
+        WHATIF_REFUSED_LENT_LENGTH)
         return 2;
-    if (whatif_branch_with_upper(NULL, 0, NULL, 0, NULL, 0, NULL, 0, 0, 0, &state, &yes, &links) !=
+    if (whatif_branch_with_upper(NULL, 0, NULL, 0, NULL, 0, NULL, 0, 0, 0, &state, &yes, &links, &passed) !=
         WHATIF_REFUSED_LENT_LENGTH)
         return 10;
     if (whatif_count(NULL, 0, NULL, 0, NULL, 0, NULL, 0, NULL, 0, NULL, 0, &state, &links) != WHATIF_REFUSED_LENT_LENGTH)
@@ -28,23 +29,23 @@ static int without_a_session() {
         return 10;
     if (whatif_planner_of_plan(NULL, 0, NULL, 0) != WHATIF_REFUSED_PLANNER_FILE)
         return 11;
-    return yes == 9 && state == 9 && links == 9 ? 0 : 3;
+    return yes == 9 && state == 9 && links == 9 && passed == 9 ? 0 : 3;
 }
 
 // No record at all is a broken one.
 static int with_a_session() {
-    uint32_t out[4] = {9, 9, 9, 9};
+    uint32_t out[5] = {9, 9, 9, 9, 9};
     uint32_t answers[] = {
         whatif_load(NULL, 0, NULL, 0, NULL, 0, NULL, 0, NULL, 0),
         whatif_start(NULL, 0, NULL, 0, NULL, 0, NULL, 0, NULL, 0, NULL, 0, NULL, 0, out),
         whatif_advance(NULL, 0, NULL, 0, NULL, 0, NULL, 0, NULL, 0, out),
         whatif_cancel(NULL, 0),
-        whatif_read(NULL, 0, out, out + 1, out + 2, out + 3),
+        whatif_read(NULL, 0, out, out + 1, out + 2, out + 3, out + 4),
     };
     for (unsigned i = 0; i < sizeof answers / sizeof *answers; i++)
         if (answers[i] != WHATIF_REFUSED_SESSION_STATE)
             return 4;
-    return out[0] == 9 && out[1] == 9 && out[2] == 9 && out[3] == 9 ? 0 : 5;
+    return out[0] == 9 && out[1] == 9 && out[2] == 9 && out[3] == 9 && out[4] == 9 ? 0 : 5;
 }
 
 int main() {

@@ -1,6 +1,6 @@
 /*
  * The sample clearance of document 01 through the session's calls: a line for each of its nine questions, state, yes or
- * no, parts and links, or the refusal. What it prints is held to examples/sample.expected. Before them, Starts on altered
+ * no, parts, links and nodes passed over, or the refusal. What it prints is held to examples/sample.expected. Before them, Starts on altered
  * tables, which print nothing where all is well.
  */
 #include "sample.h"
@@ -39,7 +39,7 @@ static int refused(uint32_t answer, const uint8_t *before, uint32_t told) {
 
 static void ask(const struct question *q) {
     uint8_t before[WHATIF_RECORD_BYTES];
-    uint32_t parts = 77, finished = 0, advances = 0, state, yes, told_parts, links;
+    uint32_t parts = 77, finished = 0, advances = 0, state, yes, told_parts, links, passed;
     memcpy(before, record, sizeof record);
     uint32_t answer = whatif_start_lent(record, sizeof record, &lent, q->nodes, q->labels, q->m, &parts);
     if (refused(answer, before, parts))
@@ -50,26 +50,28 @@ static void ask(const struct question *q) {
             printf("an advance was REFUSED\n");
     }
     tells(WHATIF_ANSWERED, parts, advances);
-    if (whatif_read(record, sizeof record, &state, &yes, &told_parts, &links) != WHATIF_ACCEPTED)
+    if (whatif_read(record, sizeof record, &state, &yes, &told_parts, &links, &passed) != WHATIF_ACCEPTED)
         printf("the Read was REFUSED\n");
     if (advances != parts || told_parts != parts)
         printf("NOT as many advances as parts\n");
-    printf("%u %s %u %u\n", state, yes ? "yes" : "no", told_parts, links);
+    printf("%u %s %u %u %u\n", state, yes ? "yes" : "no", told_parts, links, passed);
 }
 
-/* Read tells these four values, in whatever state. */
-static void reads(uint32_t state, uint32_t yes, uint32_t parts, uint32_t links) {
-    uint32_t out[4] = {77, 77, 77, 77};
-    if (whatif_read(record, sizeof record, out, out + 1, out + 2, out + 3) != WHATIF_ACCEPTED || out[0] != state ||
-        out[1] != yes || out[2] != parts || out[3] != links)
+/* Read tells these five values, in whatever state. */
+static void reads(uint32_t state, uint32_t yes, uint32_t parts, uint32_t links, uint32_t passed) {
+    uint32_t out[5] = {77, 77, 77, 77, 77};
+    uint32_t answer = whatif_read(record, sizeof record, out, out + 1, out + 2, out + 3, out + 4);
+    if (answer != WHATIF_ACCEPTED || out[0] != state || out[1] != yes || out[2] != parts || out[3] != links ||
+        out[4] != passed)
         printf("the Read tells something ELSE\n");
 }
 
 /* Read is refused, and tells nothing. */
 static void reads_nothing(void) {
-    uint32_t out[4] = {77, 77, 77, 77};
-    if (whatif_read(record, sizeof record, out, out + 1, out + 2, out + 3) != WHATIF_REFUSED_SESSION_STATE ||
-        out[0] != 77 || out[1] != 77 || out[2] != 77 || out[3] != 77)
+    uint32_t out[5] = {77, 77, 77, 77, 77};
+    uint32_t answer = whatif_read(record, sizeof record, out, out + 1, out + 2, out + 3, out + 4);
+    if (answer != WHATIF_REFUSED_SESSION_STATE || out[0] != 77 || out[1] != 77 || out[2] != 77 || out[3] != 77 ||
+        out[4] != 77)
         printf("a Read without an answer was NOT refused\n");
 }
 
@@ -80,17 +82,17 @@ static void survives(void) {
     whatif_start_lent(record, sizeof record, &lent, q->nodes, q->labels, q->m, &parts);
     while (!finished && whatif_advance_lent(record, sizeof record, &lent, &finished) == WHATIF_ACCEPTED)
         ;
-    reads(0, 0, 5, 0);
+    reads(0, 0, 5, 0, 0);
     whatif_start_lent(record, sizeof record, &lent, questions[1].nodes, questions[1].labels, 1, &parts);
     tells(WHATIF_RUNNING, 2, 0);
-    reads(0, 0, 5, 0);
+    reads(0, 0, 5, 0, 0);
     whatif_advance_lent(record, sizeof record, &lent, &finished);
-    reads(0, 0, 5, 0);
+    reads(0, 0, 5, 0, 0);
     whatif_cancel(record, sizeof record);
     tells(WHATIF_LOADED, 0, 0);
-    reads(0, 0, 5, 0);
+    reads(0, 0, 5, 0, 0);
     whatif_load(record, sizeof record, NULL, 0, NULL, 0, NULL, 0, NULL, 0);
-    reads(0, 0, 5, 0);
+    reads(0, 0, 5, 0, 0);
     whatif_load(record, sizeof record, plan, sizeof plan, rules, sizeof rules, node_table, lent.node_table_len,
                 state_table, lent.state_table_len);
     reads_nothing();
@@ -117,6 +119,28 @@ static void altered(void) {
         printf("a refused Start ALTERED something\n");
 }
 
+/* In the sample as many nodes are passed over as there are links; on this plan of 13 nodes there are more. */
+static void gap(void) {
+    static const uint8_t deep[] = {13, 0, 0, 0, 12, 0, 0, 0, 25, 0, 0, 0, 0, 0, 0, 0, 1, 1, 1,
+                                   1,  0, 1, 1, 1,  0, 0, 0, 0,  0, 1, 1, 0, 1, 0, 1, 0, 1, 1};
+    static const uint16_t nodes[] = {1, 3};
+    static const uint8_t labels[] = {0, 1};
+    static uint8_t own[WHATIF_RECORD_BYTES];
+    uint16_t numbers[WHATIF_NODE_TABLE_LEN(13)];
+    uint8_t states[WHATIF_STATE_TABLE_LEN(13, SAMPLE_STATES)];
+    struct whatif_lent all = {deep,    sizeof deep,  rules,  sizeof rules, numbers, WHATIF_NODE_TABLE_LEN(13),
+                              states, sizeof states};
+    uint32_t out[5], parts, finished = 0;
+    whatif_load(own, sizeof own, deep, sizeof deep, rules, sizeof rules, numbers, all.node_table_len, states,
+                sizeof states);
+    whatif_start_lent(own, sizeof own, &all, nodes, labels, 2, &parts);
+    while (!finished && whatif_advance_lent(own, sizeof own, &all, &finished) == WHATIF_ACCEPTED)
+        ;
+    if (whatif_read(own, sizeof own, out, out + 1, out + 2, out + 3, out + 4) != WHATIF_ACCEPTED || out[2] != 2 ||
+        out[3] != 3 || out[4] != 5)
+        printf("NOT 2 parts, 3 links, 5 nodes passed over\n");
+}
+
 int main(void) {
     tells(WHATIF_EMPTY, 0, 0);
     uint32_t answer = whatif_load(record, sizeof record, plan, sizeof plan, rules, sizeof rules, node_table,
@@ -129,6 +153,7 @@ int main(void) {
     for (size_t i = 0; i < QUESTIONS; i++)
         ask(&questions[i]);
     survives();
+    gap();
     /* a record of another length, as another layout version has, and bytes without a state */
     if (whatif_session_state(record, sizeof record - 1) != WHATIF_NO_STATE || whatif_parts(record, sizeof record + 8))
         printf("another length is taken for a RECORD\n");

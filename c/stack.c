@@ -44,9 +44,9 @@ static void check(void) { answer = whatif_check(RULES, TABLES, out); }
 static void fresh_run(void) { answer = whatif_fresh_run(RULES, LIST, out, out + 1); }
 static void branch_build(void) { answer = whatif_branch_build(BRANCH, TABLES); }
 static void branch_check(void) { answer = whatif_branch_check(BRANCH, TABLES, out); }
-static void ask(void) { answer = whatif_branch(BRANCH, TABLES, N - 1, 1, out, out + 1, out + 2); }
+static void ask(void) { answer = whatif_branch(BRANCH, TABLES, N - 1, 1, out, out + 1, out + 2, out + 3); }
 static void ask_with_upper(void) {
-    answer = whatif_branch_with_upper(BRANCH, TABLES, N - 1, 1, out, out + 1, out + 2);
+    answer = whatif_branch_with_upper(BRANCH, TABLES, N - 1, 1, out, out + 1, out + 2, out + 3);
 }
 static void merge(void) { answer = whatif_merge(FOUR, FOUR, merged, sizeof merged); }
 static void agree(void) { answer = whatif_agree(SIXTEEN, SIXTEEN, lines, 4 * WHATIF_MAX_LINES, out, out + 1); }
@@ -64,7 +64,7 @@ static void count(void) {
 static void load(void) { answer = whatif_load(RECORD, RULES, TABLES); }
 static void start(void) { answer = whatif_start(RECORD, RULES, TABLES, LIST, out); }
 static void cancel(void) { answer = whatif_cancel(RECORD); }
-static void read_answer(void) { answer = whatif_read(RECORD, out, out + 1, out + 2, out + 3); }
+static void read_answer(void) { answer = whatif_read(RECORD, out, out + 1, out + 2, out + 3, out + 4); }
 static void advance(void) {
     do
         answer = whatif_advance(RECORD, RULES, TABLES, out);

@@ -52,7 +52,7 @@ static void rule_tables(void) {
     printf("check with the last byte changed %u %s\n", answer, word(yes));
 }
 
-/* The line of a question without parts and links. */
+/* The line of a question without parts, links and nodes passed over. */
 static void fresh_run(const struct question *q) {
     uint32_t state = 9, yes = 9;
     uint32_t answer = whatif_fresh_run(plan, sizeof plan, rules, sizeof rules, NODES_OF(q), LABELS_OF(q), &state, &yes);
@@ -65,17 +65,17 @@ static void fresh_run(const struct question *q) {
 static void print_answer(const char *from, uint32_t upper, uint32_t lower, uint32_t answer, const uint32_t *out) {
     printf("from %s%u to %u: ", from, upper, lower);
     if (answer == WHATIF_ACCEPTED)
-        printf("%u %s %u\n", out[0], word(out[1]), out[2]);
+        printf("%u %s %u %u\n", out[0], word(out[1]), out[2], out[3]);
     else
-        printf("refused %u%s\n", answer, out[0] == 9 && out[1] == 9 && out[2] == 9 ? "" : ", and TOLD");
+        printf("refused %u%s\n", answer, out[0] == 9 && out[1] == 9 && out[2] == 9 && out[3] == 9 ? "" : ", and TOLD");
 }
 
 /* The word with the upper node's label, and the word from below it. */
 static void ask(uint32_t upper, uint32_t lower) {
-    uint32_t with[3] = {9, 9, 9}, below[3] = {9, 9, 9};
-    uint32_t answer = whatif_branch_with_upper(BRANCH_LENT, upper, lower, &with[0], &with[1], &with[2]);
+    uint32_t with[4] = {9, 9, 9, 9}, below[4] = {9, 9, 9, 9};
+    uint32_t answer = whatif_branch_with_upper(BRANCH_LENT, upper, lower, &with[0], &with[1], &with[2], &with[3]);
     print_answer("", upper, lower, answer, with);
-    answer = whatif_branch(BRANCH_LENT, upper, lower, &below[0], &below[1], &below[2]);
+    answer = whatif_branch(BRANCH_LENT, upper, lower, &below[0], &below[1], &below[2], &below[3]);
     print_answer("below ", upper, lower, answer, below);
 }
 

@@ -57,16 +57,17 @@ static int accepted(uint32_t answer) {
 
 /* One question, from Start to Read. */
 static int ask(const char *what, const uint16_t *nodes, const uint8_t *labels, size_t count) {
-    uint32_t parts, finished = 0, state, yes, links;
+    uint32_t parts, finished = 0, state, yes, links, passed;
     printf("%s: ", what);
     if (!accepted(whatif_start_lent(record, sizeof record, &lent, nodes, labels, count, &parts)))
         return 0;
     while (!finished)
         if (!accepted(whatif_advance_lent(record, sizeof record, &lent, &finished)))
             return 0;
-    if (!accepted(whatif_read(record, sizeof record, &state, &yes, &parts, &links)))
+    if (!accepted(whatif_read(record, sizeof record, &state, &yes, &parts, &links, &passed)))
         return 0;
-    printf("%s, state %u, %u parts, %u links\n", yes ? "cleared" : "not cleared", state, parts, links);
+    printf("%s, state %u, %u parts, %u links, %u nodes passed over\n", yes ? "cleared" : "not cleared", state, parts,
+           links, passed);
     return 1;
 }
 

@@ -63,10 +63,11 @@ static int finish(void) {
 }
 
 static int tell(void) {
-    uint32_t state, yes, parts, links;
-    if (!accepted(whatif_read(record, sizeof record, &state, &yes, &parts, &links)))
+    uint32_t state, yes, parts, links, passed;
+    if (!accepted(whatif_read(record, sizeof record, &state, &yes, &parts, &links, &passed)))
         return 0;
-    printf("%s: state %u, %u parts, %u links\n", yes ? "cleared" : "not cleared", state, parts, links);
+    printf("%s: state %u, %u parts, %u links, %u nodes passed over\n", yes ? "cleared" : "not cleared", state, parts,
+           links, passed);
     return 1;
 }
 

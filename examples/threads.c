@@ -40,7 +40,7 @@ static const struct whatif_lent lent = {
 struct work {
     pthread_t thread;
     uint32_t chance;
-    unsigned cleared, parts, most_links, wrong;
+    unsigned cleared, parts, most_links, passed, wrong;
 };
 
 static uint32_t below(uint32_t *chance, uint32_t limit) {
@@ -67,7 +67,7 @@ static void draw_arch(void) {
 static void ask(struct work *work, uint8_t *record) {
     uint16_t nodes[CHANGES];
     uint8_t labels[CHANGES];
-    uint32_t parts, finished = 0, state, yes, links, run_state, run_yes;
+    uint32_t parts, finished = 0, state, yes, links, passed, run_state, run_yes;
     for (uint32_t i = 0; i < CHANGES; i++) {
         nodes[i] = (uint16_t)(i * (NODES / CHANGES) + below(&work->chance, NODES / CHANGES));
         labels[i] = (uint8_t)below(&work->chance, 2);
@@ -76,7 +76,7 @@ static void ask(struct work *work, uint8_t *record) {
     while (!refused && !finished)
         refused = whatif_advance_lent(record, WHATIF_RECORD_BYTES, &lent, &finished);
     if (!refused)
-        refused = whatif_read(record, WHATIF_RECORD_BYTES, &state, &yes, &parts, &links);
+        refused = whatif_read(record, WHATIF_RECORD_BYTES, &state, &yes, &parts, &links, &passed);
     if (!refused)
         refused = whatif_fresh_run(plan, sizeof plan, rules, sizeof rules, nodes, CHANGES, labels, CHANGES, &run_state,
                                    &run_yes);
@@ -87,6 +87,7 @@ static void ask(struct work *work, uint8_t *record) {
     work->cleared += yes;
     work->parts += parts;
     work->most_links = links > work->most_links ? links : work->most_links;
+    work->passed += passed;
 }
 
 static void *ask_all(void *given) {
@@ -115,8 +116,8 @@ int main(void) {
     }
     for (unsigned i = 0; i < THREADS; i++) {
         pthread_join(works[i].thread, NULL);
-        printf("thread %u: %u questions, %u cleared, %u parts, at most %u links; ", i, QUESTIONS, works[i].cleared,
-               works[i].parts, works[i].most_links);
+        printf("thread %u: %u questions, %u cleared, %u parts, at most %u links, %u nodes passed over; ", i, QUESTIONS,
+               works[i].cleared, works[i].parts, works[i].most_links, works[i].passed);
         printf("%u not as the fresh run\n", works[i].wrong);
         wrong += works[i].wrong;
     }

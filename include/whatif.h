@@ -38,8 +38,8 @@ extern "C" {
 
 /* This header's version, as text and as major * 10000 + minor * 100 + patch. whatif_version() is the archive's: before
  * 1.0 a program is to use both of one minor version. */
-#define WHATIF_VERSION "0.7.0"
-#define WHATIF_VERSION_NUMBER 700u
+#define WHATIF_VERSION "0.8.0"
+#define WHATIF_VERSION_NUMBER 800u
 
 /* Limits: nodes of a plan (1 to), states and labels of a table (1 to), changes in a list (0 to). */
 #define WHATIF_MAX_NODES 65535u
@@ -73,8 +73,8 @@ extern "C" {
 /* Bytes of a session's record, and the version of its layout. All zero is a fresh session. Records of different layout
  * versions differ in length: a record that was kept is one of this version where it has WHATIF_RECORD_BYTES bytes, and
  * one of another length is refused with 1. */
-#define WHATIF_RECORD_BYTES 975u
-#define WHATIF_RECORD_LAYOUT 2u
+#define WHATIF_RECORD_BYTES 983u
+#define WHATIF_RECORD_LAYOUT 3u
 
 /* Answers. The numbers are fixed for good. */
 enum whatif_answer {
@@ -198,29 +198,30 @@ uint32_t whatif_branch_check(const uint8_t *plan, size_t plan_len, const uint8_t
  * Lent:    the plan, the branch table and the tables of whatif_branch_build, read. N, S and K are those of the
  *          headers of the plan and the branch table.
  * Written: *state, the state after the last label; *yes, 1 where its mark is 1, else 0; *links, the moves of the
- *          climb from lower to the depth of upper.
+ *          climb from lower to the depth of upper; *passed, the nodes that it passed over: the depth of its start less
+ *          the depth of its end, by the lent depths.
  * Answers: WHATIF_ACCEPTED, or the first of 17, 13, 16, 18. 17 is given too where a header is cut short or names a
  *          number outside its limits. 18 is never given on tables as whatif_branch_build wrote them for what is
- *          lent. On other tables the call ends as well, with 16, 18 or an answer. Refused, *state, *yes and *links
- *          are as they were.
+ *          lent. On other tables the call ends as well, with 16, 18 or an answer. Refused, *state, *yes, *links
+ *          and *passed are as they were.
  */
 uint32_t whatif_branch(const uint8_t *plan, size_t plan_len, const uint8_t *branch, size_t branch_len,
                        const uint16_t *node_table, size_t node_table_len, const uint8_t *state_table,
                        size_t state_table_len, uint32_t upper, uint32_t lower, uint32_t *state, uint32_t *yes,
-                       uint32_t *links);
+                       uint32_t *links, uint32_t *passed);
 
 /*
  * Branch question with the upper node's label: the branch table reads the labels from node `upper` down to node `lower`,
  * both included, from state 0 on. The same node twice is a word of one letter.
  * Lent:    as for whatif_branch.
- * Written: as by whatif_branch; *links is the same number.
+ * Written: as by whatif_branch; *links and *passed are the same numbers.
  * Answers: WHATIF_ACCEPTED, or the first of 17, 13, 16, 18, as for whatif_branch; on tables not as built the label of
  *          `upper` may lead outside too.
  */
 uint32_t whatif_branch_with_upper(const uint8_t *plan, size_t plan_len, const uint8_t *branch, size_t branch_len,
                                   const uint16_t *node_table, size_t node_table_len, const uint8_t *state_table,
                                   size_t state_table_len, uint32_t upper, uint32_t lower, uint32_t *state,
-                                  uint32_t *yes, uint32_t *links);
+                                  uint32_t *yes, uint32_t *links, uint32_t *passed);
 
 /*
  * Count: how many choices of labels end in each state? Every assignment of the K labels to the nodes listed is one
@@ -396,12 +397,13 @@ uint32_t whatif_cancel(uint8_t *record, size_t record_len);
  * Read: tells the last finished answer, in every state.
  * Lent:    the record, read.
  * Written: *state, the root's state; *yes, 1 where it is accepted, else 0; *parts, the number of parts; *links, the
- *          moves of their climbs.
+ *          moves of their climbs; *passed, the nodes that these passed over: of each climb the depth of its start less
+ *          the depth of its end. Each move passes over one node at least.
  * Answers: WHATIF_ACCEPTED, or the first of 1, where no question was finished since the last accepted Load. Refused, the
- *          four are as they were.
+ *          five are as they were.
  */
 uint32_t whatif_read(const uint8_t *record, size_t record_len, uint32_t *state, uint32_t *yes, uint32_t *parts,
-                     uint32_t *links);
+                     uint32_t *links, uint32_t *passed);
 
 /* What a record tells. These read single bytes of it, as LAYOUT.md places them. Bytes of another length, or without a
  * state, have WHATIF_NO_STATE and no parts; nothing else is tested. So a refusal 1 means: the call may not be made in the

@@ -30,7 +30,7 @@ uint32_t __real_whatif_planner_of_plan(const uint8_t *plan, size_t plan_len, uin
 uint32_t __real_whatif_start(uint8_t *record, size_t record_len, PLAN_RULES, READ, LIST, uint32_t *parts);
 uint32_t __real_whatif_cancel(uint8_t *record, size_t record_len);
 uint32_t __real_whatif_read(const uint8_t *record, size_t record_len, uint32_t *state, uint32_t *yes, uint32_t *parts,
-                            uint32_t *links);
+                            uint32_t *links, uint32_t *passed);
 
 static int laid(int fault) {
     const char *chosen = getenv("FUZZ_FAULT");
@@ -77,7 +77,7 @@ uint32_t __wrap_whatif_start(uint8_t *record, size_t record_len, PLAN_RULES, REA
     if (laid(21) && answer == 0) /* 18 on what the build writes */
         return 18;
     if (laid(25) && answer == 0) /* the last finished answer is emptied */
-        memset(record + 967, 0, 8);
+        memset(record + 967, 0, 8), memset(record + 979, 0, 4);
     return answer;
 }
 
@@ -86,15 +86,17 @@ uint32_t __wrap_whatif_cancel(uint8_t *record, size_t record_len) {
     if (laid(10) && answer == 0) /* the question stays */
         record[0] = 2;
     if (laid(26) && answer == 0) /* the last finished answer is emptied */
-        memset(record + 967, 0, 8);
+        memset(record + 967, 0, 8), memset(record + 979, 0, 4);
     return answer;
 }
 
 uint32_t __wrap_whatif_read(const uint8_t *record, size_t record_len, uint32_t *state, uint32_t *yes, uint32_t *parts,
-                            uint32_t *links) {
-    uint32_t answer = __real_whatif_read(record, record_len, state, yes, parts, links);
+                            uint32_t *links, uint32_t *passed) {
+    uint32_t answer = __real_whatif_read(record, record_len, state, yes, parts, links, passed);
     if (laid(11) && answer == 0) /* yes to everything */
         *yes = 1;
+    if (laid(27) && answer == 0) /* nothing is passed over */
+        *passed = 0;
     return answer;
 }
 

@@ -6,14 +6,15 @@
 
 #include <string.h>
 
-/* What Read answers now, with its four values. */
+/* What Read answers now, with its five values. */
 struct last {
-    uint32_t answer, out[4];
+    uint32_t answer, out[5];
 };
 
 static struct last last_of(const struct session *s) {
-    struct last last = {0, {UNSET, UNSET, UNSET, UNSET}};
-    last.answer = whatif_read(LENT(s->record), &last.out[0], &last.out[1], &last.out[2], &last.out[3]);
+    struct last last = {0, {UNSET, UNSET, UNSET, UNSET, UNSET}};
+    last.answer =
+        whatif_read(LENT(s->record), &last.out[0], &last.out[1], &last.out[2], &last.out[3], &last.out[4]);
     return last;
 }
 
@@ -118,14 +119,16 @@ uint32_t cancel(struct session *s) {
 }
 
 uint32_t tell(struct session *s, struct answer *read) {
-    uint32_t out[4] = {UNSET, UNSET, UNSET, UNSET};
-    uint32_t answer = whatif_read(LENT(s->record), &out[0], &out[1], &out[2], &out[3]);
-    told(answer, out, 4);
+    uint32_t out[5] = {UNSET, UNSET, UNSET, UNSET, UNSET};
+    uint32_t answer = whatif_read(LENT(s->record), &out[0], &out[1], &out[2], &out[3], &out[4]);
+    told(answer, out, 5);
     held(&s->record, 0, "Read leaves the record");
     int fits = out[0] < WHATIF_MAX_STATES && out[1] <= 1 && out[2] >= 1 && out[2] <= WHATIF_MAX_PARTS;
     sure(answer != WHATIF_ACCEPTED || fits, "Read tells a state, yes or no, and 1 to 254 parts");
+    int climbs = out[3] <= out[4] && out[4] <= 65535 * out[2];
+    sure(answer != WHATIF_ACCEPTED || climbs, "each link passes over a node at least, each part over 65,535 at most");
     done(s, answer, (enum phase)whatif_session_state(LENT(s->record)));
-    *read = (struct answer){out[0], out[1], out[2], out[3]};
+    *read = (struct answer){out[0], out[1], out[2], out[3], out[4]};
     return answer;
 }
 

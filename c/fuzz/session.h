@@ -14,7 +14,7 @@ struct session {
 
 /* What Read tells. */
 struct answer {
-    uint32_t state, yes, parts, links;
+    uint32_t state, yes, parts, links, passed;
 };
 
 /* A refused call has altered nothing. After an accepted one the record allows exactly the calls of its phase, and Read in any:

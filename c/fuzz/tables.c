@@ -8,7 +8,7 @@ typedef uint32_t check_call(const uint8_t *, size_t, const uint8_t *, size_t, co
 
 /* The branch question, in either reading. */
 typedef uint32_t branch_call(const uint8_t *, size_t, const uint8_t *, size_t, const uint16_t *, size_t, const uint8_t *,
-                             size_t, uint32_t, uint32_t, uint32_t *, uint32_t *, uint32_t *);
+                             size_t, uint32_t, uint32_t, uint32_t *, uint32_t *, uint32_t *, uint32_t *);
 
 /* What the seven have in common: plan and table, and the two tables of the nodes. */
 struct tables {
@@ -98,25 +98,27 @@ uint32_t try_fresh_run(struct input *in) {
 
 static uint32_t ask(branch_call *call, const struct tables *t, uint32_t upper, uint32_t lower, uint32_t *out) {
     uint32_t answer = call(LENT(t->plan), LENT(t->table), LENT(t->nodes), LENT(t->states), upper, lower, &out[0],
-                           &out[1], &out[2]);
+                           &out[1], &out[2], &out[3]);
     all_held(t);
-    told(answer, out, 3);
+    told(answer, out, 4);
     int fits = out[0] < named(&t->table, 0) && out[1] <= 1 && out[2] < named(&t->plan, 0);
     sure(answer != WHATIF_ACCEPTED || fits, "a branch question tells a state, and fewer links than nodes");
+    sure(answer != WHATIF_ACCEPTED || (out[2] <= out[3] && out[3] <= 65535), "each link passes over a node at least");
     return answer;
 }
 
-/* In both readings: the same refusal or the same links, unless the upper node's label leads outside. */
+/* In both readings: the same refusal or the same climb, unless the upper node's label leads outside. */
 uint32_t try_branch(struct input *in) {
-    uint32_t upper = take(in, 4), lower = take(in, 4), out[3] = {UNSET, UNSET, UNSET}, below[3] = {UNSET, UNSET, UNSET};
+    uint32_t upper = take(in, 4), lower = take(in, 4), out[4] = {UNSET, UNSET, UNSET, UNSET};
+    uint32_t below[4] = {UNSET, UNSET, UNSET, UNSET};
     struct tables t = lend_tables(in);
     uint32_t answer = ask(whatif_branch_with_upper, &t, upper, lower, out);
     uint32_t answer_below = ask(whatif_branch, &t, upper, lower, below);
     if (answer_below != answer)
         sure(answer == WHATIF_REFUSED_LENT_VALUE && answer_below == WHATIF_ACCEPTED, "both readings are refused alike");
     else
-        sure(below[2] == out[2], "both readings tell the same links");
+        sure(below[2] == out[2] && below[3] == out[3], "both readings tell the same links and nodes passed over");
     if (answer_below == WHATIF_ACCEPTED && upper == lower)
-        sure(below[0] == 0 && below[2] == 0, "the empty word ends in state 0");
+        sure(below[0] == 0 && below[2] == 0 && below[3] == 0, "the empty word ends in state 0");
     return answer;
 }

@@ -53,6 +53,7 @@ static void finish(struct session *s, size_t left, uint32_t parts, uint32_t stat
     sure(read.state == state && read.yes == yes, "it is answered as by a fresh run");
     /* 15 binary digits of the greatest depth */
     sure(read.parts == parts && read.links <= 3 * 15 * parts, "a part has at most 3 links for each binary digit");
+    sure(read.links <= read.passed && read.passed <= WHATIF_MAX_DEPTH * parts, "a part passes over as many nodes as lie above");
 }
 
 uint32_t try_question(struct input *in) {
@@ -131,7 +132,7 @@ static uint32_t step(struct session *s, struct walk *walk, struct input *in) {
 
 uint32_t try_panel(struct input *in) {
     struct session s = fresh(in);
-    struct walk walk = {EMPTY, 0, {0, 0, 0, 0}};
+    struct walk walk = {EMPTY, 0, {0, 0, 0, 0, 0}};
     uint32_t answer = WHATIF_ACCEPTED;
     for (size_t i = 0; i < MOST_STEPS && in->left > 0; i++)
         answer = step(&s, &walk, in);

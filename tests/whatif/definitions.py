@@ -39,14 +39,17 @@ class Plan:
             b = self.parent[b]
         return b
 
-    def links(self, node, depth):
-        """The moves of a climb to a depth: the jump if it does not lead above, else the parent."""
-        count = 0
+    def climb(self, node, depth):
+        """The moves of a climb to a depth, the jump if it does not lead above, else the parent; and the nodes passed over, by the parents."""
+        links, passed, walked = 0, 0, node
         while self.depth[node] > depth:
             jump = self.jump[node]
             node = jump if self.depth[jump] >= depth else self.parent[node]
-            count += 1
-        return count
+            links += 1
+        while walked != node:
+            walked = self.parent[walked]
+            passed += 1
+        return links, passed
 
     def ready(self, listed):
         """The least set that holds the listed nodes and the root, the meets of any two members, and both children of a member that has
@@ -61,14 +64,15 @@ class Plan:
                 return members
             members |= more
 
-    def part_links(self, node, members):
-        """The links of the part of a member: a climb where it has members below one child only, from the highest of them."""
+    def part_climb(self, node, members):
+        """The links and the nodes passed over of the part of a member: a climb where it has members below one child only, from the
+        highest of them."""
         if not self.children[node]:
-            return 0
+            return 0, 0
         sides = [[m for m in members if self.below(m, child)] for child in self.children[node]]
         if all(sides) or not any(sides):
-            return 0
-        return self.links(max(sides[0] or sides[1]), self.depth[node] + 1)
+            return 0, 0
+        return self.climb(max(sides[0] or sides[1]), self.depth[node] + 1)
 
 
 class Rules:
@@ -114,5 +118,5 @@ def line(plan, rules, changes):
         labels[node] = label
     state = rules.run(plan, labels)
     members = plan.ready([node for node, label in changes if labels[node] != plan.labels[node]])
-    links = sum(plan.part_links(node, members) for node in members)
-    return b'%d %s %d %d\n' % (state, b'yes' if rules.marks[state] else b'no', len(members), links)
+    links, passed = map(sum, zip(*(plan.part_climb(node, members) for node in members)))
+    return b'%d %s %d %d %d\n' % (state, b'yes' if rules.marks[state] else b'no', len(members), links, passed)

@@ -68,7 +68,7 @@ module _ (reading : Reading) (p r nodeTable stateTable : List ℕ) (u l n s k to
   module _ (x : Composed) (after : List ℕ)
       (C : ComposedTo s after x (composition n s k ls st nodeTable stateTable l to (mapAt s identity 0))) where
     abbrev found : Counted
-    found = record { map = mapAt s after (x .at); links = x .links }
+    found = record { map = mapAt s after (x .at); links = x .links; passed = x .passed }
 
     -- the climb starts with each state to itself
     composed : composition n s k ls st nodeTable stateTable l to (tabulate s (λ q. q)) ≡ cond (x .ok) (some found) none
@@ -97,15 +97,17 @@ module _ (reading : Reading) (p r nodeTable stateTable : List ℕ) (u l n s k to
     unfolding branchAnswer
     answer-none h =
         ap (λ (o : Option Counted).
-        branchAnswer 0 (andThen o (λ (y : Counted). branchFinish reading p r nodeTable stateTable u l (y .map) (y .links))))
+        branchAnswer 0 (andThen o (λ (y : Counted). branchFinish reading p r nodeTable stateTable u l (y .map) (y .links) (y .passed))))
         (sym (composed-as false h) ∙ composition-is reading p r nodeTable stateTable u l n s k to ls st mk H)
         ∙ ap (branchAnswer 0) (sym (branch-on-parts reading p r nodeTable stateTable u l))
 
     pub answer-some : (y : Branching) → x .ok ≡ true
-        → y ≡ branchAnswer 0 (finish reading s k ls st mk u (mapAt s after (x .at)) (x .links))
+        → y ≡ branchAnswer 0 (finish reading s k ls st mk u (mapAt s after (x .at)) (x .links) (x .passed))
         → y ≡ branchAnswer 0 (branchOn reading p r nodeTable stateTable u l)
     answer-some y h q =
-        q ∙ ap (branchAnswer 0) (finish-is reading p r nodeTable stateTable u l n s k to ls st mk H (found .map) (found .links)
-        ∙ ap (λ (o : Option Counted). andThen o (λ (y : Counted). branchFinish reading p r nodeTable stateTable u l (y .map) (y .links)))
+        q ∙ ap (branchAnswer 0)
+        (finish-is reading p r nodeTable stateTable u l n s k to ls st mk H (found .map) (found .links) (found .passed)
+        ∙ ap (λ (o : Option Counted).
+        andThen o (λ (y : Counted). branchFinish reading p r nodeTable stateTable u l (y .map) (y .links) (y .passed)))
         (sym (composed-as true h) ∙ composition-is reading p r nodeTable stateTable u l n s k to ls st mk H)
         ∙ sym (branch-on-parts reading p r nodeTable stateTable u l))

@@ -1,22 +1,26 @@
 -- What tables as built say to a branch question.
 --     size-is, fits-built                    17 passes
 --     built-links                            the lent numbers are the tree's
---     built-climb                            so a climb on them is the tree's
+--     built-climb, built-passed              so a climb on them is the tree's, and passes over the difference of the depths
 --     built-label, built-step, built-map     the lent labels, steps and maps are the tree's and the automaton's
 -- Assumes nothing.
-use Prim.Native.Nat.{ℕ, _+_, _*_, _≤_, _<_}
+use Prim.Native.Nat.{ℕ, _+_, _-_, _*_, _≤_, _<_}
 use mathlib.Core.Path.{_≡_, sym, ap, _∙_, subst}
 use mathlib.Core.Bool.{true}
 use mathlib.Core.List.{List}
+use mathlib.Core.Option.{some}
 use native.Mathlib.Omega.{arith}
 use lib.ListN.{length, getD, take, length-take}
 use Rattle.trees.specs.Tree.{Tree, size, labelAt}
 use Rattle.trees.specs.Automaton.{WordAutomaton}
-use Rattle.trees.specs.Climb.{forestOf, climb}
+use Rattle.trees.specs.Numbering.{depth}
+use Rattle.trees.specs.Climb.{forestOf, Move, climb}
+use Rattle.trees.specs.Passed.{passedBy}
 use Rattle.trees.specs.Tables.{nodeTableOf, branchTableOf, branchRow, branchMap}
 use Rattle.list_laws.proofs.RowLaws.{length-rows}
 use Rattle.trees.proofs.TableRows.{length-branchRow, branchTable-map}
 use Rattle.trees.proofs.ClimbLaws.{Tells, same-climb}
+use Rattle.trees.proofs.PassedLaws.{same-passed}
 use Rattle.formats.specs.Plan.{nodeCount, labelsIn, planTree}
 use Rattle.formats.specs.Rules.{stateCount, labelCount, branchAutomaton}
 use Rattle.formats.specs.Built.{BranchBuilt}
@@ -96,6 +100,11 @@ module _ (p r nodeTable stateTable : List ℕ) (D : BranchBuilt p r nodeTable st
   pub built-climb : (w to : ℕ) → w < size (planTree p)
       → climb (cellForest (nodeCount p) nodeTable) w to ≡ climb (forestOf (planTree p)) w to
   built-climb w to h = same-climb (cellForest (nodeCount p) nodeTable) tree (sym size-is) tells w to h
+
+  pub built-passed : (w to : ℕ) (ms : List Move) → w < size (planTree p) → to ≤ depth (planTree p) w
+      → climb (cellForest (nodeCount p) nodeTable) w to ≡ some ms
+      → passedBy (cellForest (nodeCount p) nodeTable) w ms ≡ depth (planTree p) w - to
+  built-passed w to ms h i e = same-passed (cellForest (nodeCount p) nodeTable) tree (sym size-is) tells w to ms h i e
 
   -- ---- labels, steps and maps
 

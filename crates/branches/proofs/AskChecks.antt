@@ -22,7 +22,8 @@ use Rattle.formats.proofs.FourChecks.{four, four-1, four-2, four-3}
 use Rattle.node_tables.specs.Cells.{isInSubtreeOn}
 use Rattle.branches.specs.declared.answers.Reading.{Reading}
 use Rattle.branches.specs.declared.answers.Branching.the-variants.{Refused}
-use Rattle.branches.specs.Question.{Branched, branchOn, isSome, askChecks}
+use Rattle.branches.specs.declared.answers.Branched.{Branched}
+use Rattle.branches.specs.Question.{branchOn, isSome, askChecks}
 use Rattle.branches.specs.Question.{askNumber, branchNumber, branchAnswer, askAnswer}
 
 -- four checks, the last of which asks whether there is an answer

@@ -1,4 +1,4 @@
--- What holds of a branch answer on whatever is lent: a state below S, its mark, and the links of the climb.
+-- What holds of a branch answer on whatever is lent: a state below S, its mark, the links of the climb and the nodes it passed over.
 --     branch-kept    of the named result
 --     ask-kept       of the answer
 -- Assumes nothing.
@@ -12,8 +12,10 @@ use lib.Dec.{ltb}
 use lib.ListN.{length, getD}
 use borrow.Author.Tests.{ltb-true}
 use Rattle.trees.specs.Climb.{Forest, Move, andThen, climb, carry}
+use Rattle.trees.specs.Passed.{passedBy}
 use Rattle.trees.proofs.MoveLaws.{none-some, cond-some, both}
 use Rattle.trees.proofs.ClimbLaws.{climb-most}
+use Rattle.trees.proofs.PassedLaws.{links-passed}
 use Rattle.list_laws.specs.Rows.{tabulate}
 use Rattle.formats.specs.Plan.{nodeCount, labelsIn}
 use Rattle.formats.specs.Rules.{stateCount, labelCount, branchAutomaton}
@@ -23,7 +25,8 @@ use Rattle.node_tables.specs.Cells.{depthCell, cellForest}
 use Rattle.tables.proofs.FollowLaws.{MapOf, identity-map}
 use Rattle.branches.specs.declared.answers.Reading.{Reading}
 use Rattle.branches.specs.declared.answers.Reading.the-variants.{WithUpper, BelowUpper}
-use Rattle.branches.specs.Question.{moveMap, firstState, Branched, branched, branchOn}
+use Rattle.branches.specs.declared.answers.Branched.{Branched}
+use Rattle.branches.specs.Question.{moveMap, firstState, branched, branchOn}
 use Rattle.branches.specs.Question.{branchAnswer, askNumber, askAnswer}
 use Rattle.branches.specs.Promise.{BranchKept, AnswerKept}
 use Rattle.branches.proofs.AskParts.{moves-map}
@@ -40,7 +43,14 @@ module _ (reading : Reading) (p r nodeTable stateTable : List ℕ) (u l : ℕ) w
   climbs = climb (cellForest (nodeCount p) nodeTable) l (depthCell nodeTable u)
 
   abbrev Kept : Branched → Type 0
-  Kept b = BranchKept p r nodeTable u l (b .state) (b .marked) (b .links)
+  Kept b = BranchKept p r nodeTable u l b
+
+  abbrev passed : List Move → ℕ
+  passed ms = passedBy (cellForest (nodeCount p) nodeTable) l ms
+
+  -- as branchOn has it
+  abbrev told : List Move → List ℕ → ℕ → Option Branched
+  told ms m q = some (branched (branchAutomaton r) (getD m q 0) (length ms) (passed ms))
 
   first-below : (w : Reading) (q : ℕ) → 0 < s → firstState w p r u ≡ some q → q < s
   unfolding firstState
@@ -52,33 +62,34 @@ module _ (reading : Reading) (p r nodeTable stateTable : List ℕ) (u l : ℕ) w
   first-below BelowUpper q z e = subst (λ (y : ℕ). y < s) (Option·some-injective 0 q e) z
 
   pub branch-kept : 0 < stateCount r → (b : Branched) → branchOn reading p r nodeTable stateTable u l ≡ some b
-      → BranchKept p r nodeTable u l (b .state) (b .marked) (b .links)
+      → BranchKept p r nodeTable u l b
   unfolding branchOn
   branch-kept z b e = climbed climbs refl e
     where
       finished : (ms : List Move) → climbs ≡ some ms → (m : List ℕ) → MapOf s m → (o : Option ℕ) → firstState reading p r u ≡ o
-          → andThen o (λ q. some (branched (branchAutomaton r) (getD m q 0) (length ms))) ≡ some b → Kept b
+          → andThen o (told ms m) ≡ some b → Kept b
       finished ms c m M none f i = absurd (none-some i)
       finished ms c m M (some q) f i =
-          subst Kept (Option·some-injective (branched (branchAutomaton r) (getD m q 0) (length ms)) b i) (record {
+          subst Kept (Option·some-injective (branched (branchAutomaton r) (getD m q 0) (length ms) (passed ms)) b i) (record {
             state-below = M .below q (first-below reading q z f);
             mark = refl;
             moves = ms;
             climbed = c;
             links-are = refl;
             links-most = climb-most (cellForest (nodeCount p) nodeTable) l (depthCell nodeTable u) ms c;
+            passed-is = refl;
+            links-passed = links-passed (cellForest (nodeCount p) nodeTable) l (depthCell nodeTable u) ms c;
           })
 
       carried : (ms : List Move) → climbs ≡ some ms → (o : Option (List ℕ)) → carry (moveMap p r stateTable) ms same ≡ o
-          → andThen o (λ m. andThen (firstState reading p r u) (λ q. some (branched (branchAutomaton r) (getD m q 0) (length ms))))
-          ≡ some b → Kept b
+          → andThen o (λ m. andThen (firstState reading p r u) (told ms m)) ≡ some b → Kept b
       carried ms c none a i = absurd (none-some i)
       carried ms c (some m) a i =
           finished ms c m (moves-map p r stateTable ms same m (identity-map s) a) (firstState reading p r u) refl i
 
       climbed : (o : Option (List Move)) → climbs ≡ o
           → andThen o (λ ms. andThen (carry (moveMap p r stateTable) ms same) (λ m.
-          andThen (firstState reading p r u) (λ q. some (branched (branchAutomaton r) (getD m q 0) (length ms))))) ≡ some b → Kept b
+          andThen (firstState reading p r u) (told ms m))) ≡ some b → Kept b
       climbed none c i = absurd (none-some i)
       climbed (some ms) c i = carried ms c (carry (moveMap p r stateTable) ms same) refl i
 

@@ -10,6 +10,7 @@ use mathlib.Core.List.{List, [], _∷_}
 use mathlib.Core.Option.{Option, none, some, Option·some-injective}
 use lib.ListN.{length, getD, take, drop}
 use Rattle.trees.specs.Climb.{Move, byJump, toParent, andThen, climb, carry}
+use Rattle.trees.specs.Passed.{passedBy}
 use Rattle.list_laws.specs.Rows.{tabulate}
 use Rattle.trees.proofs.MoveLaws.{none-some}
 use Rattle.formats.specs.Plan.{nodeCount, labelsIn}
@@ -22,7 +23,8 @@ use Rattle.tables.proofs.FollowLaws.{MapOf}
 use Rattle.tables.proofs.MoveMaps.{run-move-map}
 use Rattle.branches.specs.declared.answers.Reading.{Reading}
 use Rattle.branches.specs.declared.answers.Reading.the-variants.{WithUpper, BelowUpper}
-use Rattle.branches.specs.Question.{moveMap, firstState, Branched, branched, branchOn}
+use Rattle.branches.specs.declared.answers.Branched.{Branched}
+use Rattle.branches.specs.Question.{moveMap, firstState, branched, branchOn}
 use Rattle.branches.specs.inner.Finish.{firstOf, finish}
 
 move-map-run : (p r stateTable : List ℕ) (i : Move) (m : List ℕ)
@@ -52,15 +54,18 @@ module _ (s k : ℕ) (ls st stateTable : List ℕ) where
   composition-map n nodeTable l to first x M e = climbed (climb (cellForest n nodeTable) l to) e
     where
       carried : (ms : List Move) (o : Option (List ℕ)) → carry act ms first ≡ o
-          → andThen o (λ m. some (record { map = m; links = length ms })) ≡ some x → MapOf s (x .map)
+          → andThen o (λ m. some (record { map = m; links = length ms; passed = passedBy (cellForest n nodeTable) l ms })) ≡ some x
+          → MapOf s (x .map)
       carried ms none a q = absurd (none-some q)
       carried ms (some m) a q =
           let z : m ≡ x .map =
-          ap (λ (y : Counted). y .map) (Option·some-injective (record { map = m; links = length ms }) x q) in
+          ap (λ (y : Counted). y .map)
+          (Option·some-injective (record { map = m; links = length ms; passed = passedBy (cellForest n nodeTable) l ms }) x q) in
           subst (MapOf s) z (carry-map ms first m M a)
 
       climbed : (o : Option (List Move))
-          → andThen o (λ ms. andThen (carry act ms first) (λ m. some (record { map = m; links = length ms }))) ≡ some x
+          → andThen o (λ ms. andThen (carry act ms first) (λ m.
+          some (record { map = m; links = length ms; passed = passedBy (cellForest n nodeTable) l ms }))) ≡ some x
           → MapOf s (x .map)
       climbed none q = absurd (none-some q)
       climbed (some ms) q = carried ms (carry act ms first) refl q
@@ -91,18 +96,20 @@ module _ (reading : Reading) (p r nodeTable stateTable : List ℕ) (u l : ℕ) w
       composition (nodeCount p) (stateCount r) (labelCount r) (labelsIn p) (branchSteps r) nodeTable stateTable l
       (depthCell nodeTable u) (tabulate (stateCount r) (λ q. q))
 
-  abbrev pub branchFinish : List ℕ → ℕ → Option Branched
-  branchFinish m c = finish reading (stateCount r) (labelCount r) (labelsIn p) (branchSteps r) (branchMarks r) u m c
+  abbrev pub branchFinish : List ℕ → ℕ → ℕ → Option Branched
+  branchFinish m c d = finish reading (stateCount r) (labelCount r) (labelsIn p) (branchSteps r) (branchMarks r) u m c d
 
   abbrev branchMove : Move → List ℕ → Option (List ℕ)
   branchMove = runMove (stateCount r) (labelCount r) (labelsIn p) (branchSteps r) stateTable
 
   abbrev count : List Move → List ℕ → Option Counted
-  count ms m = some (record { map = m; links = length ms })
+  count ms m = some (record { map = m; links = length ms; passed = passedBy (cellForest (nodeCount p) nodeTable) l ms })
 
   -- as branchOn has it: what is told of the map m of the moves ms
   abbrev result : List Move → List ℕ → Option Branched
-  result ms m = andThen (firstState reading p r u) (λ q. some (branched (branchAutomaton r) (getD m q 0) (length ms)))
+  result ms m =
+      andThen (firstState reading p r u) (λ q.
+      some (branched (branchAutomaton r) (getD m q 0) (length ms) (passedBy (cellForest (nodeCount p) nodeTable) l ms)))
 
   -- the first state is read from the runs of labels and steps
   first-runs : firstState reading p r u ≡ firstOf reading (stateCount r) (labelCount r) (labelsIn p) (branchSteps r) u
@@ -113,20 +120,23 @@ module _ (reading : Reading) (p r nodeTable stateTable : List ℕ) (u l : ℕ) w
       go WithUpper = refl
       go BelowUpper = refl
 
-  pub branch-on-parts : branchOn reading p r nodeTable stateTable u l ≡ andThen branchComposition (λ x. branchFinish (x .map) (x .links))
+  pub branch-on-parts : branchOn reading p r nodeTable stateTable u l
+      ≡ andThen branchComposition (λ x. branchFinish (x .map) (x .links) (x .passed))
   unfolding branchOn composition finish
   branch-on-parts = climbed (climb (cellForest (nodeCount p) nodeTable) l (depthCell nodeTable u))
     where
       carried : (ms : List Move) (o : Option (List ℕ))
-          → andThen o (result ms) ≡ andThen (andThen o (count ms)) (λ (x : Counted). branchFinish (x .map) (x .links))
+          → andThen o (result ms) ≡ andThen (andThen o (count ms)) (λ (x : Counted). branchFinish (x .map) (x .links) (x .passed))
       carried ms none = refl
       carried ms (some m) =
-          ap (λ (o : Option ℕ). andThen o (λ q. some (branched (branchAutomaton r) (getD m q 0) (length ms)))) first-runs
+          ap (λ (o : Option ℕ). andThen o (λ q.
+          some (branched (branchAutomaton r) (getD m q 0) (length ms) (passedBy (cellForest (nodeCount p) nodeTable) l ms))))
+          first-runs
 
       climbed : (o : Option (List Move))
           → andThen o (λ ms. andThen (carry (moveMap p r stateTable) ms (tabulate (stateCount r) (λ q. q))) (result ms))
           ≡ andThen (andThen o (λ ms. andThen (carry branchMove ms (tabulate (stateCount r) (λ q. q))) (count ms)))
-          (λ (x : Counted). branchFinish (x .map) (x .links))
+          (λ (x : Counted). branchFinish (x .map) (x .links) (x .passed))
       climbed none = refl
       climbed (some ms) =
           rw (carry-same (moveMap p r stateTable) branchMove (move-map-run p r stateTable) ms (tabulate (stateCount r) (λ q. q)))
@@ -164,5 +174,6 @@ module _ (reading : Reading) (p r nodeTable stateTable : List ℕ) (u l n s k to
       ≡ branchComposition reading p r nodeTable stateTable u l
   composition-is = rw (H .nodes, H .states, H .labels, H .depth, H .label-run, H .step-run)
 
-  pub finish-is : (m : List ℕ) (c : ℕ) → finish reading s k ls st mk u m c ≡ branchFinish reading p r nodeTable stateTable u l m c
-  finish-is m c = rw (H .states, H .labels, H .label-run, H .step-run, H .mark-run)
+  pub finish-is : (m : List ℕ) (c d : ℕ)
+      → finish reading s k ls st mk u m c d ≡ branchFinish reading p r nodeTable stateTable u l m c d
+  finish-is m c d = rw (H .states, H .labels, H .label-run, H .step-run, H .mark-run)

@@ -18,6 +18,7 @@ use lib.ListN.{length, getD}
 use lib.Seq.{getD-take, take-all}
 use borrow.Author.Tests.{ltb-true, ltb-false}
 use Rattle.trees.specs.Climb.{Forest, Move, byJump, toParent, andThen, climb, carry}
+use Rattle.trees.specs.Passed.{passedBy}
 use Rattle.trees.specs.LinkOutOfRange.{LinkOutOfRange}
 use Rattle.list_laws.specs.Rows.{tabulate}
 use Rattle.trees.proofs.MoveLaws.{none-some, next-starts}
@@ -40,6 +41,7 @@ use Rattle.tables.specs.Compose.{follow}
 use Rattle.tables.specs.StateCells.{mapCell}
 use Rattle.branches.specs.declared.answers.Reading.{Reading}
 use Rattle.branches.specs.declared.answers.Reading.the-variants.{WithUpper, BelowUpper}
+use Rattle.branches.specs.declared.answers.Branched.{Branched}
 use Rattle.branches.specs.Question.{moveMap, firstState, branched, branchOn}
 use Rattle.branches.specs.Question.{isSome, askChecks, askNumber}
 use Rattle.branches.specs.OutOfRange.{BranchOutOfRange, link, map, step, label}
@@ -126,19 +128,22 @@ module _ (p r nodeTable stateTable : List ℕ) where
       | inr f ↦ move-none (depthCell nodeTable u) f
     ]
 
+    -- as branchOn has it
+    abbrev told : List Move → List ℕ → ℕ → Option Branched
+    told ms m q = some (branched (branchAutomaton r) (getD m q 0) (length ms) (passedBy F l ms))
+
     branch-out-of-range : branchOn reading p r nodeTable stateTable u l ≡ none → Lost
     unfolding branchOn
     branch-out-of-range = go (climb F l (depthCell nodeTable u)) refl
       where
         finished : (ms : List Move) (m : List ℕ) (o : Option ℕ) → firstState reading p r u ≡ o
-            → andThen o (λ q. some (branched (branchAutomaton r) (getD m q 0) (length ms))) ≡ none → Lost
+            → andThen o (told ms m) ≡ none → Lost
         finished ms m none f e = first-none reading u hu z f
         finished ms m (some q) f e = absurd (none-some (sym e))
 
         carries : (ms : List Move) → climb F l (depthCell nodeTable u) ≡ some ms → (o : Option (List ℕ))
             → carry (moveMap p r stateTable) ms same ≡ o
-            → andThen o (λ m. andThen (firstState reading p r u) (λ q. some (branched (branchAutomaton r) (getD m q 0) (length ms)))) ≡ none
-            → Lost
+            → andThen o (λ m. andThen (firstState reading p r u) (told ms m)) ≡ none → Lost
         carries ms c none a e =
             climbed-none (ap (λ (o : Option (List Move)). andThen o (λ ms. carry (moveMap p r stateTable) ms same)) c ∙ a)
         carries ms c (some m) a e = finished ms m (firstState reading p r u) refl e
@@ -146,7 +151,7 @@ module _ (p r nodeTable stateTable : List ℕ) where
         go : (o : Option (List Move)) → climb F l (depthCell nodeTable u) ≡ o
             → andThen o (λ ms.
             andThen (carry (moveMap p r stateTable) ms same) (λ m.
-            andThen (firstState reading p r u) (λ q. some (branched (branchAutomaton r) (getD m q 0) (length ms))))) ≡ none → Lost
+            andThen (firstState reading p r u) (told ms m))) ≡ none → Lost
         go none c e = climbed-none (ap (λ (o : Option (List Move)). andThen o (λ ms. carry (moveMap p r stateTable) ms same)) c)
         go (some ms) c e = carries ms c (carry (moveMap p r stateTable) ms same) refl e
 

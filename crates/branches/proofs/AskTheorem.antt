@@ -2,8 +2,9 @@
 --     ask-built    the word automaton's answer where the lower node is at or below the upper
 --     ask-apart    16 where it is not, so 18 never
 --     ask-few      few links
+--     ask-passed   no more nodes passed over than the plan is high
 --     ask-done     the whole promise, for whatever answers as askAnswer does
---     empty-word   the same node twice, from below it: state 0, its mark and no links
+--     empty-word   the same node twice, from below it: state 0, its mark, no links and no node passed over
 -- Assumes nothing.
 use Prim.Native.Nat.{ℕ, _+_, _-_, _*_, _≤_, _<_}
 use mathlib.Core.Path.{_≡_, refl, sym, ap, ap₂, _∙_, subst}
@@ -17,6 +18,7 @@ use Rattle.trees.specs.Tree.{Tree, size, height, labelAt}
 use Rattle.trees.specs.Automaton.{WordAutomaton, wordRun}
 use Rattle.trees.specs.Numbering.{sub, depth, ancestor, labelsDown, wordBelow, AtOrBelow}
 use Rattle.trees.specs.Climb.{Move, andThen, climb, carry, walk, moveCount, digits}
+use Rattle.trees.specs.Passed.{passedBy}
 use Rattle.list_laws.specs.Rows.{tabulate}
 use Rattle.trees.proofs.WordLaws.{word-below}
 use Rattle.trees.proofs.HeightLaws.{depth-height}
@@ -37,13 +39,14 @@ use Rattle.branches.specs.declared.answers.Reading.{Reading}
 use Rattle.branches.specs.declared.answers.Reading.the-variants.{WithUpper, BelowUpper}
 use Rattle.branches.specs.declared.answers.Branching.{Branching}
 use Rattle.branches.specs.declared.answers.Branching.the-variants.{Answered, Refused}
-use Rattle.branches.specs.Question.{moveMap, firstState, Branched, branched, branchOn}
+use Rattle.branches.specs.declared.answers.Branched.{Branched}
+use Rattle.branches.specs.Question.{moveMap, firstState, branched, branchOn}
 use Rattle.branches.specs.Question.{branchAnswer, askNumber, askAnswer, branchNumber}
 use Rattle.branches.specs.OutOfRange.{BranchOutOfRange}
-use Rattle.branches.specs.Promise.{wordOf, wordAnswer, AnswerKept, linksTold, AskDone}
+use Rattle.branches.specs.Promise.{wordOf, wordAnswer, AnswerKept, linksTold, passedTold, AskDone}
 use Rattle.branches.proofs.FinishLaws.{in-subtree-is, is-in-subtree}
 use Rattle.branches.proofs.WordWalks.{labelStep, walk-identity}
-use Rattle.branches.proofs.AskBuilt.{size-is, fits-built, built-links, built-climb, built-label}
+use Rattle.branches.proofs.AskBuilt.{size-is, fits-built, built-links, built-climb, built-passed, built-label}
 use Rattle.branches.proofs.AskBuilt.{table-passes, label-below, built-step}
 use Rattle.branches.proofs.AskChecks.{ask-number, ask-13-upper, ask-13-lower, ask-16, ask-on, ask-not-below}
 use Rattle.branches.proofs.AskClimb.{carry-built}
@@ -134,10 +137,15 @@ module _ (reading : Reading) (p r nodeTable stateTable : List ℕ) (D : BranchBu
         ∙ sym (word-down reading B t u l lower-in above)
 
     abbrev result : List Move → List ℕ → ℕ → Option Branched
-    result ms m q = some (branched B (getD m q 0) (length ms))
+    result ms m q = some (branched B (getD m q 0) (length ms) (passedBy (cellForest (nodeCount p) nodeTable) l ms))
+
+    passed-built : passedBy (cellForest (nodeCount p) nodeTable) l (climbed .moves) ≡ depth t l - depth t u
+    passed-built =
+        built-passed p r nodeTable stateTable D l (depth t u) (climbed .moves) lower-in (above-is .0)
+        (built-climb p r nodeTable stateTable D l (depth t u) lower-in ∙ climbed .found)
 
     branch-on-built : branchOn reading p r nodeTable stateTable u l
-        ≡ some (branched B (wordRun B 0 (wordOf reading t u l)) (moveCount (depth t l) (depth t u)))
+        ≡ some (branched B (wordRun B 0 (wordOf reading t u l)) (moveCount (depth t l) (depth t u)) (depth t l - depth t u))
     unfolding branchOn
     branch-on-built =
         on-some (climb (cellForest (nodeCount p) nodeTable) l (depthCell nodeTable u)) (climbed .moves)
@@ -149,7 +157,9 @@ module _ (reading : Reading) (p r nodeTable stateTable : List ℕ) (D : BranchBu
         (λ m. andThen (firstState reading p r u) (result (climbed .moves) m)) carried
         ∙ on-some (firstState reading p r u) first
         (result (climbed .moves) walked) first-built
-        ∙ ap₂ (λ (q n : ℕ). some (branched B q n)) state-built (climbed .count)
+        ∙ ap₂ (λ (q n : ℕ). some (branched B q n (passedBy (cellForest (nodeCount p) nodeTable) l (climbed .moves))))
+        state-built (climbed .count)
+        ∙ ap (λ (d : ℕ). some (branched B (wordRun B 0 (wordOf reading t u l)) (moveCount (depth t l) (depth t u)) d)) passed-built
 
     below-built : isInSubtreeOn nodeTable u l ≡ true
     below-built =
@@ -191,6 +201,12 @@ module _ (reading : Reading) (p r nodeTable stateTable : List ℕ) (D : BranchBu
   below-few true e = rw (ask-built (subtree-above e)) moves-few
   below-few false e = rw (← ask-16 reading p r nodeTable stateTable u l (fits-built p r nodeTable stateTable D) hu hl e) (omega arith)
 
+  below-passed : (b : Bool) → isInSubtreeOn nodeTable u l ≡ b
+      → passedTold (askAnswer reading p r nodeTable stateTable u l) ≤ height (planTree p)
+  unfolding wordAnswer
+  below-passed true e = rw (ask-built (subtree-above e)) (omega (arith, depth-height t l lower-in))
+  below-passed false e = rw (← ask-16 reading p r nodeTable stateTable u l (fits-built p r nodeTable stateTable D) hu hl e) (omega arith)
+
 module _ (reading : Reading) (p r nodeTable stateTable : List ℕ) (u l : ℕ) where
   -- the links told: none where it is refused
   pub ask-few : BranchBuilt p r nodeTable stateTable
@@ -202,6 +218,16 @@ module _ (reading : Reading) (p r nodeTable stateTable : List ℕ) (u l : ℕ) w
       (λ hu. le-or (nodeCount p) l
       (λ h. rw (← ask-13-lower reading p r nodeTable stateTable u l f h) (omega arith))
       (λ hl. below-few reading p r nodeTable stateTable D u l hu hl (isInSubtreeOn nodeTable u l) refl))
+
+  pub ask-passed : BranchBuilt p r nodeTable stateTable
+      → passedTold (askAnswer reading p r nodeTable stateTable u l) ≤ height (planTree p)
+  ask-passed D =
+      let f = fits-built p r nodeTable stateTable D in
+      le-or (nodeCount p) u
+      (λ h. rw (← ask-13-upper reading p r nodeTable stateTable u l f h) (omega arith))
+      (λ hu. le-or (nodeCount p) l
+      (λ h. rw (← ask-13-lower reading p r nodeTable stateTable u l f h) (omega arith))
+      (λ hl. below-passed reading p r nodeTable stateTable D u l hu hl (isInSubtreeOn nodeTable u l) refl))
 
   pub ask-done : (answer : Branching) → answer ≡ askAnswer reading p r nodeTable stateTable u l
       → AskDone reading p r nodeTable stateTable u l answer
@@ -220,6 +246,7 @@ module _ (reading : Reading) (p r nodeTable stateTable : List ℕ) (u l : ℕ) w
         built = λ D hu hl A. e ∙ ask-built reading p r nodeTable stateTable D u l hu hl A;
         apart = λ D hu hl never. e ∙ ask-apart reading p r nodeTable stateTable D u l hu hl never;
         few = λ D. subst (λ (a : Branching). linksTold a ≤ 3 * digits (height (planTree p))) (sym e) (ask-few D);
+        passed-most = λ D. subst (λ (a : Branching). passedTold a ≤ height (planTree p)) (sym e) (ask-passed D);
       }
 
 -- ---- the empty word
@@ -228,7 +255,7 @@ module _ (reading : Reading) (p r nodeTable stateTable : List ℕ) (u l : ℕ) w
 pub empty-word-lent : (p r nodeTable stateTable : List ℕ) (u : ℕ)
     → headedBuffersFit branchTables p r (length nodeTable) (length stateTable) ≡ true → u < nodeCount p
     → isInSubtreeOn nodeTable u u ≡ true
-    → askAnswer BelowUpper p r nodeTable stateTable u u ≡ Answered 0 (branchAutomaton r .accepting 0) 0
+    → askAnswer BelowUpper p r nodeTable stateTable u u ≡ Answered (branched (branchAutomaton r) 0 0 0)
 unfolding branchOn firstState branchAnswer
 empty-word-lent p r nodeTable stateTable u f h i =
     let z : 0 < stateCount r =
@@ -237,12 +264,13 @@ empty-word-lent p r nodeTable stateTable u f h i =
     ∙ ap (branchAnswer 0)
     (on-some (climb (cellForest (nodeCount p) nodeTable) u (depthCell nodeTable u)) []
     (λ ms. andThen (carry (moveMap p r stateTable) ms (tabulate (stateCount r) (λ q. q)))
-    (λ m. some (branched (branchAutomaton r) (getD m 0 0) (length ms))))
+    (λ m. some (branched (branchAutomaton r) (getD m 0 0) (length ms) (passedBy (cellForest (nodeCount p) nodeTable) u ms))))
     (climb-done (cellForest (nodeCount p) nodeTable) u (depthCell nodeTable u) (omega arith))
-    ∙ ap (λ (q : ℕ). some (branched (branchAutomaton r) q 0)) (getD-tabulate (stateCount r) (λ q. q) 0 z))
+    ∙ ap₂ (λ (q d : ℕ). some (branched (branchAutomaton r) q 0 d)) (getD-tabulate (stateCount r) (λ q. q) 0 z)
+    (let e : depthCell nodeTable u - depthCell nodeTable u ≡ 0 = omega arith in e))
 
 pub empty-word : (p r nodeTable stateTable : List ℕ) → BranchBuilt p r nodeTable stateTable → (u : ℕ) → u < nodeCount p
-    → askAnswer BelowUpper p r nodeTable stateTable u u ≡ Answered 0 (branchAutomaton r .accepting 0) 0
+    → askAnswer BelowUpper p r nodeTable stateTable u u ≡ Answered (branched (branchAutomaton r) 0 0 0)
 unfolding ancestor
 empty-word p r nodeTable stateTable D u h =
     empty-word-lent p r nodeTable stateTable u (fits-built p r nodeTable stateTable D) h

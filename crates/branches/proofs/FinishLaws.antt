@@ -8,12 +8,13 @@ use mathlib.Core.Path.{_≡_, sym, ap, _∙_}
 use mathlib.Core.Bool.{true, false}
 use mathlib.Core.List.{List}
 use native.Mathlib.Omega.{arith}
-use lib.Dec.{leb, ltb, eqb}
+use lib.Dec.{leb, ltb}
 use lib.ListN.{getD}
 use borrow.Author.Tests.{leb-true, le-leb, lt-leb, ltb-true, lt-ltb, le-ltb}
 use Rattle.trees.specs.Numbering.{isInSubtree}
 use Rattle.list_laws.proofs.Choice.{le-or}
 use Rattle.list_laws.proofs.BoolLaws.{and-both, and-left, and-right, and-no-left, and-no-right}
+use Rattle.formats.specs.Rules.{wordAutomaton}
 use Rattle.node_tables.specs.Cells.{sizeCell}
 use Rattle.node_tables.specs.Cells.{isInSubtreeOn}
 use Rattle.tables.specs.Compose.{mapAt}
@@ -21,7 +22,7 @@ use Rattle.tables.proofs.MapHalves.{getD-mapAt}
 use Rattle.branches.specs.declared.answers.Reading.{Reading}
 use Rattle.branches.specs.declared.answers.Reading.the-variants.{WithUpper, BelowUpper}
 use Rattle.branches.specs.declared.answers.Branching.the-variants.{Answered, Refused}
-use Rattle.branches.specs.Question.{branchAnswer}
+use Rattle.branches.specs.Question.{branched, branchAnswer}
 use Rattle.branches.specs.inner.Finish.{firstOf, numbered, finish}
 
 -- ---- check 16
@@ -63,12 +64,12 @@ module _ (s k : ℕ) (ls st : List ℕ) (u : ℕ) where
   -- ---- what is told
 
   module _ (reading : Reading) (q : ℕ) (first : firstOf reading s k ls st u ≡ numbered s q) where
-    pub finish-none : (mk m : List ℕ) (c : ℕ) → s ≤ q → Refused 18 ≡ branchAnswer 0 (finish reading s k ls st mk u m c)
+    pub finish-none : (mk m : List ℕ) (c d : ℕ) → s ≤ q → Refused 18 ≡ branchAnswer 0 (finish reading s k ls st mk u m c d)
     unfolding finish branchAnswer
-    finish-none mk m c h = rw (first, le-ltb q s h)
+    finish-none mk m c d h = rw (first, le-ltb q s h)
 
-    pub finish-result : (mk maps : List ℕ) (at c : ℕ) → q < s
-        → Answered (getD maps (at + q) 0) (eqb (getD mk (getD maps (at + q) 0) 0) 1) c
-        ≡ branchAnswer 0 (finish reading s k ls st mk u (mapAt s maps at) c)
+    pub finish-result : (mk maps : List ℕ) (at c d : ℕ) → q < s
+        → Answered (branched (wordAutomaton s k st mk) (getD maps (at + q) 0) c d)
+        ≡ branchAnswer 0 (finish reading s k ls st mk u (mapAt s maps at) c d)
     unfolding finish branchAnswer
-    finish-result mk maps at c h = rw (first, lt-ltb q s h, getD-mapAt s maps at q h)
+    finish-result mk maps at c d h = rw (first, lt-ltb q s h, getD-mapAt s maps at q h)

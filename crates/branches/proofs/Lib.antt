@@ -16,3 +16,4 @@ pub mod BranchInputs
 pub mod TestLoop
 pub mod MatchLaws
 pub mod BranchTheorems
+pub mod PassedSample

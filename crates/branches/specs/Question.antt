@@ -10,8 +10,9 @@
 -- askChecks .. == 17, 13, 16 and 18, in this order; askNumber .. == the first that fails, 0 where none does
 -- askAnswer .. == the answer
 --
--- "It tells state, yes or no, and the links of the climb from the lower node to the upper's depth". The word runs downward while the
--- climb goes up, so each move puts its own map before the map carried so far. Both readings ask the same checks and make the same climb.
+-- "It tells state, yes or no, and the links of the climb from the lower node to the upper's depth", and the nodes that this climb passed
+-- over (02, S-7). The word runs downward while the climb goes up, so each move puts its own map before the map carried so far. Both
+-- readings ask the same checks and make the same climb.
 -- Assumes nothing.
 use Prim.Native.Nat.{ℕ, zero, suc}
 use mathlib.Core.Bool.{Bool, true, false, cond, _&&_}
@@ -21,6 +22,7 @@ use lib.Dec.{ltb}
 use lib.ListN.{length, getD}
 use Rattle.trees.specs.Automaton.{WordAutomaton}
 use Rattle.trees.specs.Climb.{Move, byJump, toParent, andThen, climb, carry}
+use Rattle.trees.specs.Passed.{passedBy}
 use Rattle.list_laws.specs.Rows.{tabulate}
 use Rattle.formats.specs.Plan.{nodeCount, labelsIn}
 use Rattle.formats.specs.Rules.{stateCount, labelCount, branchAutomaton}
@@ -31,6 +33,7 @@ use Rattle.tables.specs.Compose.{follow}
 use Rattle.tables.specs.StateCells.{mapCell}
 use Rattle.branches.specs.declared.answers.Reading.{Reading}
 use Rattle.branches.specs.declared.answers.Reading.the-variants.{WithUpper, BelowUpper}
+use Rattle.branches.specs.declared.answers.Branched.{Branched}
 use Rattle.branches.specs.declared.answers.Branching.{Branching}
 use Rattle.branches.specs.declared.answers.Branching.the-variants.{Answered, Refused}
 
@@ -49,19 +52,16 @@ firstState WithUpper p r u =
     none
 firstState BelowUpper p r u = some 0
 
-pub record Branched : Type 0 where
-  pub state : ℕ
-  pub marked : Bool
-  pub links : ℕ
-
-abbrev pub branched : WordAutomaton → ℕ → ℕ → Branched
-branched B q n = record { state = q; marked = B .accepting q; links = n }
+-- what is told of a word that ends in state q, by a climb of n links that passed over p nodes
+abbrev pub branched : WordAutomaton → ℕ → ℕ → ℕ → Branched
+branched B q n p = record { state = q; marked = B .accepting q; links = n; passed = p }
 
 unfoldable pub branchOn : Reading → List ℕ → List ℕ → List ℕ → List ℕ → ℕ → ℕ → Option Branched
 branchOn reading p r nodeTable stateTable u l =
     andThen (climb (cellForest (nodeCount p) nodeTable) l (depthCell nodeTable u)) (λ ms.
     andThen (carry (moveMap p r stateTable) ms (tabulate (stateCount r) (λ q. q))) (λ m.
-    andThen (firstState reading p r u) (λ q. some (branched (branchAutomaton r) (getD m q 0) (length ms)))))
+    andThen (firstState reading p r u) (λ q.
+    some (branched (branchAutomaton r) (getD m q 0) (length ms) (passedBy (cellForest (nodeCount p) nodeTable) l ms)))))
 
 abbrev pub isSome : {X : Type 0} → Option X → Bool
 isSome none = false
@@ -81,12 +81,12 @@ askNumber reading p r nodeTable stateTable u l = firstNo (askChecks reading p r 
 
 -- document 01's number of an answer: 0 accepted, else the refusal's
 unfoldable pub branchNumber : Branching → ℕ
-branchNumber (Answered q marked links) = 0
+branchNumber (Answered b) = 0
 branchNumber (Refused n) = n
 
 unfoldable pub branchAnswer : ℕ → Option Branched → Branching
 branchAnswer zero none = Refused 18
-branchAnswer zero (some b) = Answered (b .state) (b .marked) (b .links)
+branchAnswer zero (some b) = Answered b
 branchAnswer (suc n) b = Refused (suc n)
 
 unfoldable pub askAnswer : Reading → List ℕ → List ℕ → List ℕ → List ℕ → ℕ → ℕ → Branching

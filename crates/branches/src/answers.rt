@@ -4,8 +4,16 @@ pub enum Reading {
     BelowUpper,
 }
 
-// The answer of a branch question: the state, whether it is marked, and the links of the climb; or a refusal's number.
+// The state at the end of a word, whether it is marked, the links of the climb, and the nodes that it passed over.
+pub struct Branched {
+    pub state: u8,
+    pub marked: bool,
+    pub links: u32,
+    pub passed: u32,
+}
+
+// The answer of a branch question, or a refusal's number.
 pub enum Branching {
-    Answered(u8, bool, u32),
+    Answered(Branched),
     Refused(u8),
 }

@@ -1,4 +1,6 @@
-// The branch question: the state after the word down to the lower node, whether it is marked, and the links of the climb.
+// The branch question: the state after the word down to the lower node, whether it is marked, the links of the climb, and
+// the nodes that it passed over.
+use crate::answers::Branched;
 use crate::answers::Branching;
 use crate::answers::Reading;
 use formats::buffers::branch_buffers_fit;
@@ -52,10 +54,11 @@ fn finish_answer(
     maps: &[u8],
     at: usize,
     links: u32,
+    passed: u32,
 ) -> Branching
     requires { ⌜ FinishArgs s k (now labels) (now steps) (now marks) u (now maps) at ⌝ }
     ensures { λ r. ⌜ r ≡ branchAnswer 0 (finish reading s k (now (labels .entry)) (now (steps .entry)) (now (marks .entry)) u
-        (mapAt s (now (maps .entry)) at) links) ⌝ }
+        (mapAt s (now (maps .entry)) at) links passed) ⌝ }
 {
     let q = first_state(reading, labels, steps, s, k, u);
     if s <= q {
@@ -63,7 +66,12 @@ fn finish_answer(
     }
     let state = maps[at + q];
     let mark = marks[state as usize];
-    Branching::Answered(state, mark == 1, links)
+    Branching::Answered(Branched {
+        state,
+        marked: mark == 1,
+        links,
+        passed,
+    })
 }
 
 // The answer where 17, 13 and 16 pass.
@@ -113,6 +121,7 @@ fn answer_branch(
         &maps,
         x.at,
         x.links,
+        x.passed,
     )
 }
 

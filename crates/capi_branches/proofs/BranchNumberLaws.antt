@@ -2,27 +2,30 @@
 -- Assumes nothing.
 use Prim.Native.Nat.{ℕ}
 use mathlib.Core.Path.{_≡_, sym, ap, _∙_}
-use mathlib.Core.Bool.{Bool}
+use Rattle.branches.specs.declared.answers.Branched.{Branched}
 use Rattle.branches.specs.declared.answers.Branching.{Branching}
 use Rattle.branches.specs.declared.answers.Branching.the-variants.{Answered, Refused as NotAnswered}
 use Rattle.branches.specs.Question.{branchNumber}
 use Rattle.capi_numbers.specs.Numbers.{bitOf}
-use Rattle.capi_branches.specs.BranchExported.{AskNumber, endOf, acceptedOf, linksOf}
+use Rattle.capi_branches.specs.BranchExported.{AskNumber, endOf, acceptedOf, linksOf, passedOf}
 
-pub result : (a : Branching) (q₀ y₀ l₀ q y l : ℕ) (m : Bool) → a ≡ Answered q m l → y ≡ bitOf m → AskNumber a q₀ y₀ l₀ 0 q y l
+pub result : (a : Branching) (q₀ y₀ l₀ p₀ y : ℕ) (b : Branched) → a ≡ Answered b → y ≡ bitOf (b .marked)
+    → AskNumber a q₀ y₀ l₀ p₀ 0 (b .state) y (b .links) (b .passed)
 unfolding branchNumber
-result a q₀ y₀ l₀ q y l m e b = record {
+result a q₀ y₀ l₀ p₀ y b e h = record {
   result = sym (ap branchNumber e);
   state-answer = sym (ap (λ (x : Branching). endOf x q₀) e);
-  yes-answer = b ∙ sym (ap (λ (x : Branching). acceptedOf x y₀) e);
+  yes-answer = h ∙ sym (ap (λ (x : Branching). acceptedOf x y₀) e);
   links-answer = sym (ap (λ (x : Branching). linksOf x l₀) e);
+  passed-answer = sym (ap (λ (x : Branching). passedOf x p₀) e);
 }
 
-pub not-answer : (a : Branching) (q₀ y₀ l₀ n : ℕ) → a ≡ NotAnswered n → AskNumber a q₀ y₀ l₀ n q₀ y₀ l₀
+pub not-answer : (a : Branching) (q₀ y₀ l₀ p₀ n : ℕ) → a ≡ NotAnswered n → AskNumber a q₀ y₀ l₀ p₀ n q₀ y₀ l₀ p₀
 unfolding branchNumber
-not-answer a q₀ y₀ l₀ n e = record {
+not-answer a q₀ y₀ l₀ p₀ n e = record {
   result = sym (ap branchNumber e);
   state-answer = sym (ap (λ (x : Branching). endOf x q₀) e);
   yes-answer = sym (ap (λ (x : Branching). acceptedOf x y₀) e);
   links-answer = sym (ap (λ (x : Branching). linksOf x l₀) e);
+  passed-answer = sym (ap (λ (x : Branching). passedOf x p₀) e);
 }

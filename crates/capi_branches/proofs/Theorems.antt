@@ -4,7 +4,8 @@
 --     full-checks        yes exactly when the lent tables are what the build writes: local equations leave one table only
 --     climbs             a climb carries what the walk by parents does, for any value (where it ends, its moves: claims/proofs/ProvedToo)
 --     branch-answers     on tables as built a branch answer is the word automaton's, in each reading on its own word
---     two-words, empty-word   the two words differ by the upper node's label; the same node twice, from below it: state 0, its mark, no links
+--     two-words, empty-word   the two words differ by the upper node's label; the same node twice, from below it: state 0, its mark, no links,
+--                             no node passed over
 --     branch-in-range   18 only where a value leads outside the plan, the states or the labels, or a link does not rise
 --     each-state         each node's state in source document 002's run is that of its subtree; the fresh run tells the root's (its contract)
 --     jump-samples, climb-samples         jumps of depths 1 to 7; climbs from depth 6 to 1 and to 0
@@ -42,7 +43,7 @@ use Rattle.tables.proofs.CheckTheorems.{check-yes, yes-check, buildNumber}
 use Rattle.branches.specs.declared.answers.Reading.{Reading}
 use Rattle.branches.specs.declared.answers.Reading.the-variants.{BelowUpper}
 use Rattle.branches.specs.declared.answers.Branching.the-variants.{Answered}
-use Rattle.branches.specs.Question.{askNumber, askAnswer}
+use Rattle.branches.specs.Question.{branched, askNumber, askAnswer}
 use Rattle.branches.specs.OutOfRange.{BranchOutOfRange}
 use Rattle.branches.specs.Promise.{wordAnswer}
 use Rattle.branches.proofs.BranchTheorems as branch-theorems
@@ -105,7 +106,7 @@ two-words = word-below
 
 -- "the same node twice is the empty word, and the mark of state 0 decides"
 empty-word : (p r nodeTable stateTable : List ℕ) → BranchBuilt p r nodeTable stateTable → (u : ℕ) → u < nodeCount p
-    → askAnswer BelowUpper p r nodeTable stateTable u u ≡ Answered 0 (branchAutomaton r .accepting 0) 0
+    → askAnswer BelowUpper p r nodeTable stateTable u u ≡ Answered (branched (branchAutomaton r) 0 0 0)
 empty-word = ask-theorem.empty-word
 
 branch-in-range : (p r nodeTable stateTable : List ℕ) (reading : Reading) (u l : ℕ)

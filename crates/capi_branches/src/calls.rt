@@ -51,17 +51,25 @@ pub extern "C" fn whatif_branch_check(
     check_number(answer, yes)
 }
 
-// The number of a branch question's answer; its state, whether it is marked and its links go to `state`, `yes` and `links`.
-fn ask_number(answer: Branching, state: &mut u32, yes: &mut u32, links: &mut u32) -> u32
+// The number of a branch question's answer; its state, whether it is marked, its links and the nodes passed over go to `state`,
+// `yes`, `links` and `passed`.
+fn ask_number(
+    answer: Branching,
+    state: &mut u32,
+    yes: &mut u32,
+    links: &mut u32,
+    passed: &mut u32,
+) -> u32
     ensures { λ r. ⌜
-        AskNumber answer (now (state .entry)) (now (yes .entry)) (now (links .entry))
-        r (now (state .exit)) (now (yes .exit)) (now (links .exit)) ⌝ }
+        AskNumber answer (now (state .entry)) (now (yes .entry)) (now (links .entry)) (now (passed .entry))
+        r (now (state .exit)) (now (yes .exit)) (now (links .exit)) (now (passed .exit)) ⌝ }
 {
     match answer {
-        Branching::Answered(q, marked, moves) => {
-            *state = q as u32;
-            *yes = bit(marked);
-            *links = moves;
+        Branching::Answered(b) => {
+            *state = b.state as u32;
+            *yes = bit(b.marked);
+            *links = b.links;
+            *passed = b.passed;
             0
         }
         Branching::Refused(n) => n as u32,
@@ -80,13 +88,15 @@ pub extern "C" fn whatif_branch(
     state: &mut u32,
     yes: &mut u32,
     links: &mut u32,
+    passed: &mut u32,
 ) -> u32
     ensures { λ r. ⌜
         AskExported BelowUpper (now (plan .entry)) (now (branch .entry)) (now («node_table» .entry)) (now («state_table» .entry)) upper lower
-        r (now (state .entry)) (now (yes .entry)) (now (links .entry)) (now (state .exit)) (now (yes .exit)) (now (links .exit)) ⌝ }
+        r (now (state .entry)) (now (yes .entry)) (now (links .entry)) (now (passed .entry))
+        (now (state .exit)) (now (yes .exit)) (now (links .exit)) (now (passed .exit)) ⌝ }
 {
     let answer = ask_branch(plan, branch, node_table, state_table, upper, lower);
-    ask_number(answer, state, yes, links)
+    ask_number(answer, state, yes, links, passed)
 }
 
 // The branch question with the upper node's label: the word from node `upper` down to node `lower`, both included.
@@ -101,11 +111,13 @@ pub extern "C" fn whatif_branch_with_upper(
     state: &mut u32,
     yes: &mut u32,
     links: &mut u32,
+    passed: &mut u32,
 ) -> u32
     ensures { λ r. ⌜
         AskExported WithUpper (now (plan .entry)) (now (branch .entry)) (now («node_table» .entry)) (now («state_table» .entry)) upper lower
-        r (now (state .entry)) (now (yes .entry)) (now (links .entry)) (now (state .exit)) (now (yes .exit)) (now (links .exit)) ⌝ }
+        r (now (state .entry)) (now (yes .entry)) (now (links .entry)) (now (passed .entry))
+        (now (state .exit)) (now (yes .exit)) (now (links .exit)) (now (passed .exit)) ⌝ }
 {
     let answer = ask_branch_with_upper(plan, branch, node_table, state_table, upper, lower);
-    ask_number(answer, state, yes, links)
+    ask_number(answer, state, yes, links, passed)
 }

@@ -78,15 +78,15 @@ module _ (r : Record) where
       go zero = advanced f x _
       go (suc n) = refl
 
-  reading : (q : Places) (s p l : ℕ) (y : Bool) → ReadDecoded q (outcomeAnswer s y p l)
+  reading : (q : Places) (s p l d : ℕ) (y : Bool) → ReadDecoded q (outcomeAnswer s y p l d)
   unfolding decodedRead answerNumber answeredPlaces
-  reading q s p l true = refl
-  reading q s p l false = refl
+  reading q s p l d true = refl
+  reading q s p l d false = refl
 
   reading-last : (q : Places) (o : Option Outcome) → ReadDecoded q (lastAnswer o)
   unfolding decodedRead answerNumber answeredPlaces
   reading-last q none = refl
-  reading-last q (some o) = reading q (o .state) (o .parts) (o .links) (o .yes)
+  reading-last q (some o) = reading q (o .state) (o .parts) (o .links) (o .passed) (o .yes)
 
   pub decoded-read : (q : Places) → ReadDecoded q (act r read .answer)
   unfolding act unless proceeds decodedRead answerNumber answeredPlaces

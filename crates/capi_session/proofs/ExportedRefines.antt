@@ -3,7 +3,7 @@
 --     step-is            a call on the bytes of a struct
 --     exports-is         the same of an exported function, its number and values decoded (DecodedAnswers)
 --     exported-refines   each call on bytes refines the session's call
---     fresh-held         975 zeros are the fresh record
+--     fresh-held         983 zeros are the fresh record
 --     record-stays       every record that a call leaves is one again
 -- Assumes nothing.
 use Prim.Native.Nat.{ℕ, zero, suc}
@@ -40,6 +40,7 @@ use Rattle.capi_session.proofs.DecodedAnswersLaws.{decoded-load, decode
 record ByteStep (b : List ℕ) (c : Call) (a : Answer) (b′ : List ℕ) : Type 0 where
   tells : a ≡ answerFor b c
   leaves : b′ ≡ recordFor b c
+  stays : validBytes b ≡ true → valid (recordOn (decoded b) c) ≡ true
 
 -- the bytes of a struct that holds record r
 pub record Held (b : List ℕ) (r : Record) : Type 0 where
@@ -123,7 +124,9 @@ module _ (s : Session) (r : Record) (i : Seen s r) (c : Call) where
 
   step-is : (a : Answer) (b′ : List ℕ) → ByteStep (encoded s) c a b′ → (r′ : Record) × Does r c a r′ × Held b′ r′
   step-is a b′ e =
-      let d = call-refines s r i c a (recordOn s c) (e .tells ∙ answer-is) refl in
+      let v : valid (recordOn s c) ≡ true =
+      subst (λ (t : Session). valid (recordOn t c) ≡ true) (decode-encode s types) (e .stays (encoded-valid s types (i .passes))) in
+      let d = call-refines s r i c a (recordOn s c) (e .tells ∙ answer-is) refl v in
       (d .0, d .1, record { struct = recordOn s c; bytes = e .leaves ∙ record-is; seen = d .2 })
 
 -- ---- a call as its number and values are decoded
@@ -136,55 +139,69 @@ module _ (s : Session) (r : Record) (i : Seen s r) where
       let a : answerFor (encoded s) c ≡ act (recordOf s) c .answer = answer-is s r i c ∙ model-answer s r i c in
       ap f a ∙ e ∙ sym a
 
+  read-same : s ≡ recordOn s read
+  read-same = sym (struct-is s (i .shaped) (i .passes)) ∙ ap sessionOf (sym (read-keeps (recordOf s))) ∙ sym (model-record s r i read)
+
   read-leaves : encoded s ≡ recordFor (encoded s) read
-  read-leaves =
-      ap encoded (sym (struct-is s (i .shaped) (i .passes)) ∙ ap sessionOf (sym (read-keeps (recordOf s))) ∙ sym (model-record s r i read))
-      ∙ sym (record-is s r i read)
+  read-leaves = ap encoded read-same ∙ sym (record-is s r i read)
+
+  read-stays : valid (recordOn (decoded (encoded s)) read) ≡ true
+  read-stays =
+      subst (λ (t : Session). valid (recordOn t read) ≡ true) (sym (decode-encode s (types s r i read)))
+      (subst (λ (t : Session). valid t ≡ true) read-same (i .passes))
+
+  -- what a promise on bytes says of the struct's own bytes
+  abbrev Stays : Call → List ℕ → Type 0
+  Stays c b = validBytes b ≡ true → valid (recordOn (decoded b) c) ≡ true
 
   exports-is : (c : Call) (a : Answer) (b b′ : List ℕ) → b ≡ encoded s → Exports b c a b′ → ByteStep (encoded s) c a b′
   exports-is c a b b′ q (loads {x} n nodeTable stateTable e) = record {
     tells = rw (e .call .number, q) (decoded-answer (load x) (λ (y : Answer). decodedDone (answerNumber y)) (decoded-load (recordOf s) x));
     leaves = e .call .left ∙ ap (λ (t : List ℕ). recordFor t (load x)) q;
+    stays = subst (λ (t : List ℕ). Stays (load x) t) q (e .call .stays);
   }
   exports-is c a b b′ q (starts {x} {vs} {bs} n p₀ p₁ e) = record {
     tells = rw (e .call .number, e .parts-after, q)
         (decoded-answer (start x vs bs) (λ (y : Answer). decodedStart (answerNumber y) (partsOf y p₀)) (decoded-start (recordOf s) p₀ x vs bs));
     leaves = e .call .left ∙ ap (λ (t : List ℕ). recordFor t (start x vs bs)) q;
+    stays = subst (λ (t : List ℕ). Stays (start x vs bs) t) q (e .call .stays);
   }
   exports-is c a b b′ q (advances {x} n f₀ f₁ e) = record {
     tells = rw (e .call .number, e .finished-after, q)
         (decoded-answer (advance x) (λ (y : Answer). decodedAdvance (answerNumber y) (finishedOf y f₀)) (decoded-advance (recordOf s) f₀ x));
     leaves = e .call .left ∙ ap (λ (t : List ℕ). recordFor t (advance x)) q;
+    stays = subst (λ (t : List ℕ). Stays (advance x) t) q (e .call .stays);
   }
   exports-is c a b b′ q (cancels n e) = record {
     tells = rw (e .number, q) (decoded-answer cancel (λ (y : Answer). decodedDone (answerNumber y)) (decoded-cancel (recordOf s)));
     leaves = e .left ∙ ap (λ (t : List ℕ). recordFor t cancel) q;
+    stays = subst (λ (t : List ℕ). Stays cancel t) q (e .stays);
   }
   exports-is c a b b′ q (reads n before after e) = record {
     tells = rw (e .number, e .values-are, q)
         (decoded-answer read (λ (y : Answer). decodedRead (answerNumber y) (answeredPlaces y before)) (decoded-read (recordOf s) before));
     leaves = q ∙ read-leaves;
+    stays = λ v. read-stays;
   }
 
 pub exported-refines : Refines Exports Does Held
 exported-refines b b′ r c a h e =
     step-is (h .struct) r (h .seen) c a b′ (exports-is (h .struct) r (h .seen) c a b b′ (h .bytes) e)
 
-pub fresh-held : Held (replicate 975 0) freshRecord
+pub fresh-held : Held (replicate 983 0) freshRecord
 fresh-held = record { struct = freshSession; bytes = sym fresh-bytes; seen = fresh-seen }
 
 -- ---- every record that a call leaves is a record again
 
-pub record-stays : (b : List ℕ) → validBytes b ≡ true → Bytes b → (c : Call) → validBytes (recordFor b c) ≡ true
+pub record-stays : (b b′ : List ℕ) (c : Call) (a : Answer) → Exports b c a b′ → validBytes b ≡ true → Bytes b → validBytes b′ ≡ true
 unfolding validBytes
-record-stays b v fits c =
+record-stays b b′ c a e v fits =
     let l = laid-length b (and-left (laidOut b) (valid (decoded b)) v) in
     let T = decoded-types b l fits in
     let S : Shaped (decoded b) =
     record { nodes = T .nodes-length; labels = T .labels-length; roots = T .roots-length; states = T .states-length } in
     let i : Seen (decoded b) (recordOf (decoded b)) = record { shaped = S; passes = decoded-valid b v; holds = refl } in
-    let d = call-refines (decoded b) (recordOf (decoded b)) i c (answerOn (decoded b) c) (recordOn (decoded b) c) refl refl in
-    let e : recordFor b c ≡ encoded (recordOn (decoded b) c) =
-    ap (λ (a : List ℕ). recordFor a c) (sym (encode-decode b v fits)) ∙ record-is (decoded b) (recordOf (decoded b)) i c in
-    subst (λ (a : List ℕ). validBytes a ≡ true) (sym e)
-    (encoded-valid (recordOn (decoded b) c) (valid-types (recordOn (decoded b) c) (d .2 .shaped) (d .2 .passes)) (d .2 .passes))
+    let h = exported-refines b b′ (recordOf (decoded b)) c a
+    (record { struct = decoded b; bytes = sym (encode-decode b v fits); seen = i }) e .2 in
+    subst (λ (t : List ℕ). validBytes t ≡ true) (sym (h .bytes))
+    (encoded-valid (h .struct) (valid-types (h .struct) (h .seen .shaped) (h .seen .passes)) (h .seen .passes))

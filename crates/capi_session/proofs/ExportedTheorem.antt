@@ -1,4 +1,4 @@
--- Demand 3 for the session calls on record bytes: every list of calls, from 975 zeros, whatever is lent, is answered as the
+-- Demand 3 for the session calls on record bytes: every list of calls, from 983 zeros, whatever is lent, is answered as the
 -- panel book says.
 --     exported-demand-3    the theorem, over the very promises of the five exported functions, decoded from numbers and values
 --     exported-questions   a question: an accepted Start had sound inputs; undisturbed: parts, advances, what Reads tell, ceilings
@@ -12,9 +12,9 @@ use Rattle.reference.proofs.QuestionTheorem.{QuestionsAnswered, question-answer
 use Rattle.capi_session.specs.DecodedAnswers.{Exports}
 use Rattle.capi_session.proofs.ExportedRefines.{Held, exported-refines, fresh-held}
 
-pub exported-demand-3 : Demand3 (replicate 975 0) Exports
-exported-demand-3 = demand-3-of Exports Does Held exported-refines (replicate 975 0) freshRecord fresh-held (demand-3 layers)
+pub exported-demand-3 : Demand3 (replicate 983 0) Exports
+exported-demand-3 = demand-3-of Exports Does Held exported-refines (replicate 983 0) freshRecord fresh-held (demand-3 layers)
 
 -- a question that Start accepted
-pub exported-questions : QuestionsAnswered (replicate 975 0) Exports
-exported-questions = questions-of Exports Does Held exported-refines (replicate 975 0) freshRecord fresh-held (question-answered layers)
+pub exported-questions : QuestionsAnswered (replicate 983 0) Exports
+exported-questions = questions-of Exports Does Held exported-refines (replicate 983 0) freshRecord fresh-held (question-answered layers)

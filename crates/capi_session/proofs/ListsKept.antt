@@ -124,8 +124,8 @@ flat h n l r s w = simp append-assoc
 step-is : (t : Session) (b : List ℕ) → ListsIn t b → stepBytes (t .head) (t .states) b ≡ encoded t
 unfolding encoded
 step-is t b e =
-    ap (λ (u : List ℕ). headBytes (t .head) ++ (u ++ (t .states ++ lastBytes (t .head .last)))) (sym e)
-    ∙ flat (headBytes (t .head)) (bytes16 (t .nodes)) (t .labels) (bytes16 (t .roots)) (t .states) (lastBytes (t .head .last))
+    ap (λ (u : List ℕ). headBytes (t .head) ++ (u ++ (t .states ++ lastBytes (t .head)))) (sym e)
+    ∙ flat (headBytes (t .head)) (bytes16 (t .nodes)) (t .labels) (bytes16 (t .roots)) (t .states) (lastBytes (t .head))
 
 pub step-stored : (t : Session) (b b′ : List ℕ) → ListsIn t b
     → b′ ≡ cond (eqb (length b) recordLength) (stepBytes (t .head) (t .states) b) b

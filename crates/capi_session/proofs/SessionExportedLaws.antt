@@ -105,11 +105,12 @@ advance-refused o b f n e = record {
 }
 
 pub read-in : (a : ReadAnswer) (old : Places) (y : ℕ) (o : Outcome) → a ≡ Read o → y ≡ bitOf (o .yes)
-    → ReadStored a old 0 (places (o .state) y (o .parts) (o .links))
+    → ReadStored a old 0 (places (o .state) y (o .parts) (o .links) (o .passed))
 unfolding readAnswer answerNumber answeredPlaces
 read-in a old y o e b = record {
   number = sym (ap (λ (x : ReadAnswer). answerNumber (readAnswer x)) e);
-  values-are = ap (λ (z : ℕ). places (o .state) z (o .parts) (o .links)) b ∙ sym (ap (λ (x : ReadAnswer). answeredPlaces (readAnswer x) old) e);
+  values-are = ap (λ (z : ℕ). places (o .state) z (o .parts) (o .links) (o .passed)) b
+      ∙ sym (ap (λ (x : ReadAnswer). answeredPlaces (readAnswer x) old) e);
 }
 
 pub read-refused : (a : ReadAnswer) (old : Places) (n : ℕ) → a ≡ NotRead n → ReadStored a old n old
@@ -135,6 +136,7 @@ module _ (b : List ℕ) (c : Call) where
   not-laid h = record {
     number = sym (ap answerNumber (answer-not h));
     left = sym (ap (λ (a : Answer). unlessRefused a (encoded (recordOn (decoded b) c)) b) (answer-not h));
+    stays = λ v. absurd (true-false (sym (and-left (laidOut b) (valid (decoded b)) v) ∙ h));
     properties = λ v. absurd (true-false (sym (and-left (laidOut b) (valid (decoded b)) v) ∙ h));
   }
 
@@ -146,6 +148,7 @@ module _ (b : List ℕ) (c : Call) where
       record {
         number = S .number ∙ sym (ap answerNumber e);
         left = S .left ∙ ap₂ (λ (x : Answer) (y : Session). unlessRefused x (encoded y) b) (sym e) (D .leaves);
+        stays = λ v. subst (λ (t : Session). valid t ≡ true) (D .leaves) (D .stays (and-right (laidOut b) (valid (decoded b)) v));
         properties = λ v. subst (λ (x : Answer). LeftOpen (recordOf (decoded b)) c x (act (recordOf (decoded b)) c .record′)) (sym e)
             (D .properties (and-right (laidOut b) (valid (decoded b)) v));
       }

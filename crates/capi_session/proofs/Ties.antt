@@ -52,8 +52,8 @@ pub cancel-tied : (κs : Lfts 1) (a : ArgsD cancel-fn.signature κs) (r : ResD c
     → Exports (now (a .0)) cancel (decodedDone r) (now (s .0))
 cancel-tied κs a r s p = cancels r p
 
-pub read-tied : (κs : Lfts 5) (a : ArgsD read-fn.signature κs) (r : ResD read-fn.signature κs)
-    (s : AtExit (endedOf 5 read-kinds.ps read-kinds.r) κs) → read-reads.Post κs a r s
+pub read-tied : (κs : Lfts 6) (a : ArgsD read-fn.signature κs) (r : ResD read-fn.signature κs)
+    (s : AtExit (endedOf 6 read-kinds.ps read-kinds.r) κs) → read-reads.Post κs a r s
     → Exports (now (a .0)) read
-    (decodedRead r (places (now (s .1 .0)) (now (s .1 .1 .0)) (now (s .1 .1 .1 .0)) (now (s .1 .1 .1 .1 .0)))) (now (a .0))
+    (decodedRead r (places (now (s .1 .0)) (now (s .1 .1 .0)) (now (s .1 .1 .1 .0)) (now (s .1 .1 .1 .1 .0)) (now (s .1 .1 .1 .1 .1 .0)))) (now (a .0))
 read-tied κs a r s p = reads r _ _ p

@@ -27,7 +27,7 @@ decodedAdvance zero f = cond (eqb f 0) more finished
 decodedAdvance (suc n) f = refused (suc n)
 
 unfoldable pub decodedRead : ℕ → Places → Answer
-decodedRead zero q = outcomeAnswer (q .state) (eqb (q .yes) 1) (q .parts) (q .links)
+decodedRead zero q = outcomeAnswer (q .state) (eqb (q .yes) 1) (q .parts) (q .links) (q .passed)
 decodedRead (suc n) q = refused (suc n)
 
 pub data Exports : List ℕ → Call → Answer → List ℕ → Type 0 where

@@ -17,7 +17,7 @@ use Rattle.formats.specs.Inputs.{Inputs}
 use Rattle.model.specs.Calls.{Call, load, read, Answer, refused, onRefused, onParts, onAdvance, onOutcome}
 use Rattle.model.specs.Model.{act}
 use Rattle.model.specs.LeftOpen.{LeftOpen}
-use Rattle.session.specs.Records.{recordOf}
+use Rattle.session.specs.Records.{recordOf, valid}
 use Rattle.session.specs.Promises.{answerOn, recordOn, refusalOn}
 use Rattle.records.specs.Layout.{encoded, decoded, laidOut, validBytes}
 use Rattle.capi_numbers.specs.Numbers.{bitOf}
@@ -39,6 +39,8 @@ recordFor b c = unlessRefused (answerFor b c) (encoded (recordOn (decoded b) c))
 pub record CallExported (b : List ℕ) (c : Call) (r : ℕ) (b′ : List ℕ) : Type 0 where
   pub number : r ≡ answerNumber (answerFor b c)
   pub left : b′ ≡ recordFor b c
+  -- a record stays one: what a call leaves keeps the layout's conditions
+  pub stays : validBytes b ≡ true → valid (recordOn (decoded b) c) ≡ true
   -- what is left to the program has these properties
   pub properties : validBytes b ≡ true → LeftOpen (recordOf (decoded b)) c (answerFor b c) (act (recordOf (decoded b)) c .record′)
 
@@ -65,16 +67,17 @@ pub record AdvanceExported (b : List ℕ) (c : Call) (r : ℕ) (b′ : List ℕ)
   pub call : CallExported b c r b′
   pub finished-after : finished₁ ≡ finishedOf (answerFor b c) finished₀
 
--- the four values of Read, as one place each
+-- the five values of Read, as one place each
 pub record Places : Type 0 where
   pub state : ℕ
   pub yes : ℕ
   pub parts : ℕ
   pub links : ℕ
+  pub passed : ℕ
 
 unfoldable pub answeredPlaces : Answer → Places → Places
 answeredPlaces a old =
-    onOutcome (λ o. record { state = o .state; yes = bitOf (o .yes); parts = o .parts; links = o .links }) old a
+    onOutcome (λ o. record { state = o .state; yes = bitOf (o .yes); parts = o .parts; links = o .links; passed = o .passed }) old a
 
 pub record ReadExported (b : List ℕ) (r : ℕ) (before after : Places) : Type 0 where
   pub number : r ≡ answerNumber (answerFor b read)

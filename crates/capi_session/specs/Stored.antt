@@ -1,6 +1,6 @@
 -- What is stored and told of a call's answer.
 --
--- places a b c d == the four places of Read
+-- places a b c d e == the five places of Read
 -- DoneStored, StartStored, AdvanceStored, ReadStored == an answer as a number, values and record bytes
 -- ListsIn t b == list and roots of t are those of the record bytes b
 --
@@ -19,8 +19,8 @@ use lib.ListN.{length}
 use Rattle.records.specs.Layout.{recordLength, bytes16, run, encoded}
 use Rattle.capi_session.specs.SessionExported.{answerNumber, unlessRefused, partsOf, finishedOf, Places, answeredPlaces}
 
-abbrev pub places : ℕ → ℕ → ℕ → ℕ → Places
-places a b c d = record { state = a; yes = b; parts = c; links = d }
+abbrev pub places : ℕ → ℕ → ℕ → ℕ → ℕ → Places
+places a b c d e = record { state = a; yes = b; parts = c; links = d; passed = e }
 
 -- the number and the bytes
 pub record Stored (a : Answer) (s : Session) (b : List ℕ) (r : ℕ) (b′ : List ℕ) : Type 0 where

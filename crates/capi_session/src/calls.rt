@@ -173,10 +173,12 @@ fn tell_read(
     yes: &mut u32,
     parts: &mut u32,
     links: &mut u32,
+    passed: &mut u32,
 ) -> u32
     ensures { λ r. ⌜
-        ReadStored answer (places (now (state .entry)) (now (yes .entry)) (now (parts .entry)) (now (links .entry))) r
-        (places (now (state .exit)) (now (yes .exit)) (now (parts .exit)) (now (links .exit))) ⌝ }
+        ReadStored answer
+        (places (now (state .entry)) (now (yes .entry)) (now (parts .entry)) (now (links .entry)) (now (passed .entry))) r
+        (places (now (state .exit)) (now (yes .exit)) (now (parts .exit)) (now (links .exit)) (now (passed .exit))) ⌝ }
 {
     match answer {
         ReadAnswer::Outcome(o) => {
@@ -184,6 +186,7 @@ fn tell_read(
             *yes = bit(o.yes);
             *parts = o.parts as u32;
             *links = o.links;
+            *passed = o.passed;
             return 0;
         }
         ReadAnswer::Refused(n) => {
@@ -200,16 +203,17 @@ pub extern "C" fn whatif_read(
     yes: &mut u32,
     parts: &mut u32,
     links: &mut u32,
+    passed: &mut u32,
 ) -> u32
     ensures { λ r. ⌜
         ReadExported (now (rec .entry)) r
-        (places (now (state .entry)) (now (yes .entry)) (now (parts .entry)) (now (links .entry)))
-        (places (now (state .exit)) (now (yes .exit)) (now (parts .exit)) (now (links .exit))) ⌝ }
+        (places (now (state .entry)) (now (yes .entry)) (now (parts .entry)) (now (links .entry)) (now (passed .entry)))
+        (places (now (state .exit)) (now (yes .exit)) (now (parts .exit)) (now (links .exit)) (now (passed .exit))) ⌝ }
 {
     if !laid_out(rec) {
         return 1;
     }
     let s = decode(rec);
     let answer = s.read();
-    tell_read(answer, state, yes, parts, links)
+    tell_read(answer, state, yes, parts, links, passed)
 }

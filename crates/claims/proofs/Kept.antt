@@ -35,8 +35,8 @@ lasts-by-value = lasts-of CallByValue Does Seen by-value-refines freshSession fr
 lasts-in-place : AnswersLast freshSession CallInPlace
 lasts-in-place cs xs x vs bs n ds ys w es zs l c u h = lasts-by-value cs xs x vs bs n ds ys w es zs l c u (in-place-history _ _ h)
 
-lasts-on-bytes : AnswersLast (replicate 975 0) Exports
-lasts-on-bytes = lasts-of Exports Does Held exported-refines (replicate 975 0) freshRecord fresh-held (answer-lasts layers)
+lasts-on-bytes : AnswersLast (replicate 983 0) Exports
+lasts-on-bytes = lasts-of Exports Does Held exported-refines (replicate 983 0) freshRecord fresh-held (answer-lasts layers)
 
 -- ---- "Read is allowed in every state once such an answer is there, and gives 1 otherwise."
 
@@ -49,8 +49,8 @@ none-in-place = (
   λ cs xs x ds ys l h. none-by-value .1 cs xs x ds ys l (in-place-history _ _ h),
 )
 
-none-on-bytes : NoAnswersYet (replicate 975 0) Exports
-none-on-bytes = none-of Exports Does Held exported-refines (replicate 975 0) freshRecord fresh-held (no-answer-yet layers)
+none-on-bytes : NoAnswersYet (replicate 983 0) Exports
+none-on-bytes = none-of Exports Does Held exported-refines (replicate 983 0) freshRecord fresh-held (no-answer-yet layers)
 
 -- ---- "and a question started then must still end as in a new session"
 
@@ -60,8 +60,8 @@ anew-by-value = anew-of CallByValue Does Seen by-value-refines freshSession fres
 anew-in-place : AsAnew freshSession CallInPlace
 anew-in-place cs xs x ds ys zs l s h k = anew-by-value cs xs x ds ys zs l s (in-place-history _ _ h) (in-place-history _ _ k)
 
-anew-on-bytes : AsAnew (replicate 975 0) Exports
-anew-on-bytes = anew-of Exports Does Held exported-refines (replicate 975 0) freshRecord fresh-held (as-anew layers)
+anew-on-bytes : AsAnew (replicate 983 0) Exports
+anew-on-bytes = anew-of Exports Does Held exported-refines (replicate 983 0) freshRecord fresh-held (as-anew layers)
 
 -- ---- "Loaded after Cancel therefore no longer equals the record after a first Load: it equals it in all but that answer"
 

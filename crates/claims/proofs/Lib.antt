@@ -5,4 +5,5 @@ pub mod Lists
 pub mod BrokenBytes
 pub mod QuestionForms
 pub mod Kept
+pub mod PassedOver
 pub mod ProvedToo

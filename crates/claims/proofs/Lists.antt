@@ -75,7 +75,7 @@ repeats-by-value = superseded-by-value
 repeats-in-place : Superseded freshSession CallInPlace
 repeats-in-place = superseded-in-place
 
-repeats-on-record-bytes : Superseded (replicate 975 0) Exports
+repeats-on-record-bytes : Superseded (replicate 983 0) Exports
 repeats-on-record-bytes = superseded-exported
 
 -- ---- S-5

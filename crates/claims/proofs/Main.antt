@@ -68,7 +68,7 @@ builds-refuse = build-refused
 -- is the word automaton's."
 
 -- of a question that Start accepted, undisturbed: Read's outcome is the fresh run's, after as many advances as parts (QuestionAnswered)
-finished-answers : QuestionsAnswered (replicate 975 0) Exports
+finished-answers : QuestionsAnswered (replicate 983 0) Exports
 finished-answers = exported-questions
 
 -- the fresh run is source document 002's: each node's label in the run is the state of its subtree
@@ -89,7 +89,7 @@ by-value = by-value-demand-3
 in-place : Demand3 freshSession CallInPlace
 in-place = in-place-demand-3
 
-on-record-bytes : Demand3 (replicate 975 0) Exports
+on-record-bytes : Demand3 (replicate 983 0) Exports
 on-record-bytes = exported-demand-3
 
 -- "Nothing about Start is left to the program then"
@@ -108,13 +108,13 @@ order : (x : Inputs) (vs bs ws cs : List ℕ) → length vs ≡ length bs → le
     → distinct vs ≡ true → (n : ℕ) (ys : List Answer) → CleanOutcomes x vs bs n ys → CleanOutcomes x ws cs n ys
 order = outcome-order
 
--- ---- "Sample clearance, to be proved as one table": state, yes or no, parts and links, or the refusal's number
+-- ---- "Sample clearance, to be proved as one table": state, yes or no, parts, links and nodes passed over (02, S-7), or the refusal's number
 
 sample :
     row [] [] 1 ∷ row (0 ∷ []) (0 ∷ []) 2 ∷ row (0 ∷ 2 ∷ []) (0 ∷ 0 ∷ []) 3 ∷ row (0 ∷ 3 ∷ []) (0 ∷ 1 ∷ []) 5
     ∷ row (4 ∷ []) (0 ∷ []) 2 ∷ row (6 ∷ []) (0 ∷ []) 1
     ∷ startRow (7 ∷ []) (0 ∷ []) ∷ startRow (0 ∷ []) (2 ∷ []) ∷ row (0 ∷ 0 ∷ []) (0 ∷ 1 ∷ []) 1 ∷ []
-    ≡ some (outcomeAnswer 1 true 1 0) ∷ some (outcomeAnswer 0 false 2 1) ∷ some (outcomeAnswer 1 true 3 0) ∷ some (outcomeAnswer 0 false 5 0)
-    ∷ some (outcomeAnswer 0 false 2 1) ∷ some (outcomeAnswer 1 true 1 0)
-    ∷ some (refused 13) ∷ some (refused 14) ∷ some (outcomeAnswer 1 true 1 0) ∷ []
+    ≡ some (outcomeAnswer 1 true 1 0 0) ∷ some (outcomeAnswer 0 false 2 1 1) ∷ some (outcomeAnswer 1 true 3 0 0) ∷ some (outcomeAnswer 0 false 5 0 0)
+    ∷ some (outcomeAnswer 0 false 2 1 1) ∷ some (outcomeAnswer 1 true 1 0 0)
+    ∷ some (refused 13) ∷ some (refused 14) ∷ some (outcomeAnswer 1 true 1 0 0) ∷ []
 sample = sample-rows

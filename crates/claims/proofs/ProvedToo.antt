@@ -40,7 +40,7 @@ use Rattle.formats.proofs.PlanTheorems.{two-nodes}
 use Rattle.node_tables.specs.NodeCells.{NodeCells}
 use Rattle.branches.specs.declared.answers.Reading.the-variants.{BelowUpper}
 use Rattle.branches.specs.declared.answers.Branching.the-variants.{Answered}
-use Rattle.branches.specs.Question.{askAnswer}
+use Rattle.branches.specs.Question.{branched, askAnswer}
 use Rattle.branches.proofs.AskTheorem as ask-theorem
 use Rattle.ready.specs.Members.{roots}
 use Rattle.ready.specs.Parts.{Part}
@@ -108,7 +108,7 @@ two-nodes-refused p r nodeTable stateTable h n a b =
 
 -- "the same node twice is the empty word, and the mark of state 0 decides"
 empty-word : (p r nodeTable stateTable : List ℕ) → BranchBuilt p r nodeTable stateTable → (u : ℕ) → u < nodeCount p
-    → askAnswer BelowUpper p r nodeTable stateTable u u ≡ Answered 0 (branchAutomaton r .accepting 0) 0
+    → askAnswer BelowUpper p r nodeTable stateTable u u ≡ Answered (branched (branchAutomaton r) 0 0 0)
 empty-word = ask-theorem.empty-word
 
 -- ---- "Let W be the listed nodes and the root. The ready set is the least set that ..": on numbers as built the roots are that set
@@ -144,7 +144,7 @@ answered-by-value = finishes-by-value
 answered-in-place : QuestionsFinish freshSession CallInPlace
 answered-in-place = finishes-in-place
 
-answered-on-bytes : QuestionsFinish (replicate 975 0) Exports
+answered-on-bytes : QuestionsFinish (replicate 983 0) Exports
 answered-on-bytes = finishes-on-bytes
 
 -- "at most three links for each binary digit of the plan's height", of the call that handles the part; on usable tables

@@ -37,8 +37,8 @@ finishes-by-value = finish-of CallByValue Does Seen by-value-refines freshSessio
 pub finishes-in-place : QuestionsFinish freshSession CallInPlace
 finishes-in-place cs xs x vs bs n ws ys l c s h = finishes-by-value cs xs x vs bs n ws ys l c s (in-place-history _ _ h)
 
-pub finishes-on-bytes : QuestionsFinish (replicate 975 0) Exports
-finishes-on-bytes = finish-of Exports Does Held exported-refines (replicate 975 0) freshRecord fresh-held (questions-finish layers)
+pub finishes-on-bytes : QuestionsFinish (replicate 983 0) Exports
+finishes-on-bytes = finish-of Exports Does Held exported-refines (replicate 983 0) freshRecord fresh-held (questions-finish layers)
 
 -- ---- the links of one advance
 

@@ -45,8 +45,8 @@ pub superseded-in-place : Superseded freshSession CallInPlace
 superseded-in-place cs xs ys h k =
     superseded-by-value cs xs ys (in-place-history cs xs h) (in-place-history (supersededCalls freshRecord cs) ys k)
 
-pub superseded-exported : Superseded (replicate 975 0) Exports
+pub superseded-exported : Superseded (replicate 983 0) Exports
 superseded-exported cs xs ys h k = superseded-model cs xs ys (seen cs xs h) (seen (supersededCalls freshRecord cs) ys k)
   where
-    seen : (cs : List Call) (xs : List Answer) → History Exports (replicate 975 0) cs xs → History Does freshRecord cs xs
-    seen cs xs h = refines Exports Does Held exported-refines (replicate 975 0) freshRecord cs xs fresh-held h
+    seen : (cs : List Call) (xs : List Answer) → History Exports (replicate 983 0) cs xs → History Does freshRecord cs xs
+    seen cs xs h = refines Exports Does Held exported-refines (replicate 983 0) freshRecord cs xs fresh-held h

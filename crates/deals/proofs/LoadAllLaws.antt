@@ -19,7 +19,7 @@ use Rattle.formats.proofs.CheckLaws.{firstNo-yes, firstNo-no}
 use Rattle.tables.specs.Answers.{written}
 use Rattle.model.specs.Calls.{load, Answer, refused, isRefused, isRunning, mayLoad}
 use Rattle.model.specs.Refusals.{refusal}
-use Rattle.model.specs.Model.{Record, stageOf, loadedRecord, proceeds, unless, act}
+use Rattle.model.specs.Model.{Record, freshRecord, stageOf, loadedRecord, proceeds, unless, act}
 use Rattle.screens.specs.ScreenCalls.{loadAll, ScreenAnswer, one, loads, answerIn, anyRuns, Target, nobody, everyScreen}
 use Rattle.screens.specs.ScreenCalls.{loadAllChecks, loadTarget, target}
 use Rattle.screens.proofs.RecordLaws.{idle-loads}
@@ -29,6 +29,7 @@ use Rattle.session.specs.Records.{phaseOf, freshSession, recordOf, sessionOf, v
 use Rattle.session.specs.Promises.{CallDone, LoadDone, answerOn, recordOn, refusalOn}
 use Rattle.deals.specs.OnStructs.{at, isBusy, busy, targetIn, answerOf, structsOf, OwnDone, Another, ScreenDone}
 use Rattle.session.specs.Answers.{callAnswer}
+use Rattle.session.proofs.Refine.{fresh-seen, narrow-seen}
 use Rattle.session.specs.declared.answers.CallAnswer.{CallAnswer}
 use Rattle.session.specs.declared.answers.CallAnswer.the-variants.{Accepted, Refused}
 use Rattle.deals.specs.LoadAll.{loadAnswer, loadNumber, LoadAllDone}
@@ -78,13 +79,29 @@ module _ (s : Session) (x : Inputs) (rest : isBusy s ≡ false) where
       ap (λ (b : Bool). cond b (sessionOf (act (recordOf s) (load x) .record′)) s) passes
       ∙ ap (λ (n : ℕ). sessionOf (unless n (recordOf s) (load x) .record′)) number-is
 
+  left-is : firstNo (checksOf x) ≡ 0 → recordOn s (load x) ≡ sessionOf (loadedRecord (sizesIn x))
+  unfolding unless proceeds
+  left-is e = record-is ∙ ap (λ (n : ℕ). sessionOf (unless n (recordOf s) (load x) .record′)) e
+
+-- a fresh struct is at rest, so a Load that nothing refuses leaves a record
+fresh-rest : isBusy freshSession ≡ false
+unfolding isRunning phaseOf
+fresh-rest = ap (λ (b : Bool). not b || isRunning (phaseOf (freshSession .head .phase))) (fresh-seen .passes)
+
+loaded-valid : (x : Inputs) → firstNo (checksOf x) ≡ 0 → valid (sessionOf (loadedRecord (sizesIn x))) ≡ true
+loaded-valid x e =
+    subst (λ (t : Session). valid t ≡ true) (left-is freshSession x fresh-rest e)
+    (narrow-seen freshSession freshRecord fresh-seen (load x) tt .passes)
+
+module _ (s : Session) (x : Inputs) (rest : isBusy s ≡ false) where
   -- where nothing fails
   taken : firstNo (checksOf x) ≡ 0 → CallDone s (load x) Answer.accepted (sessionOf (loadedRecord (sizesIn x)))
   unfolding unless proceeds
   taken e = record {
-    tells = sym (answer-is ∙ ap (λ (n : ℕ). unless n (recordOf s) (load x) .answer) e);
-    leaves = sym (record-is ∙ ap (λ (n : ℕ). sessionOf (unless n (recordOf s) (load x) .record′)) e);
+    tells = sym (answer-is s x rest ∙ ap (λ (n : ℕ). unless n (recordOf s) (load x) .answer) e);
+    leaves = sym (left-is s x rest e);
     unchanged = λ n q. absurd (true-false (sym (ap isRefused q)));
+    stays = λ _. loaded-valid x e;
     properties = λ _. tt;
   }
 

@@ -63,7 +63,7 @@ pub not-eight : (ys : List Session) → Yes (not (eqb (length ys) 8)) → length
 not-eight ys y e = subst (λ (b : Bool). Yes (not b)) (eq-eqb (length ys) 8 e) y
 
 -- the place of a record of the run, in bytes
-pub scaled : (i : ℕ) → i ≤ 7 → FitsIn w64 (i * 984)
+pub scaled : (i : ℕ) → i ≤ 7 → FitsIn w64 (i * 992)
 scaled i h = record { fits = omega arith }
 
 pub has : (ys : List Session) (i : ℕ) → length ys ≡ 8 → i ≤ 7 → i < length ys

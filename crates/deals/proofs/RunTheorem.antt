@@ -19,7 +19,7 @@ use Rattle.model.specs.Calls.{Call, load, read, advance, Answer, isRunning}
 use Rattle.model.specs.Model.{Record, freshRecord, loadedRecord, act}
 use Rattle.model.proofs.Refinement.{Refines}
 use Rattle.screens.specs.ScreenCalls.{ScreenCall, loadAll, startOn, cancelOn, readOn, deal, ScreenAnswer, one, refuses}
-use Rattle.screens.specs.ScreenCalls.{Target, nobody, everyScreen, screen, turn, numbered, target, turnAnswer}
+use Rattle.screens.specs.ScreenCalls.{Target, nobody, everyScreen, screen, turn, numbered, target, turnAnswer, answerIn}
 use Rattle.screens.specs.EightRecords.{at, runs, ActedAll, actOn, actAll, DoesAll, eightFresh}
 use Rattle.screens.specs.Statements.{Screens}
 use Rattle.screens.proofs.RecordLaws.{load-accepted}
@@ -29,9 +29,9 @@ use Rattle.screens.proofs.Theorems.{screens-hold, screens-hold-of}
 use Rattle.session.specs.declared.state.Session.{Session}
 use Rattle.session.specs.Records.{phaseOf, freshSession, recordOf, sessionOf, valid}
 use Rattle.session.specs.Promises.{answerOn, recordOn}
-use Rattle.session.proofs.Refine.{Seen, fresh-seen, call-refines, read-keeps}
+use Rattle.session.proofs.Refine.{Seen, fresh-seen, seen-answer, call-refines, narrow-seen, read-keeps}
 use Rattle.deals.specs.OnStructs as on
-use Rattle.deals.specs.OnStructs.{busy, targetIn, answerOf, structsOf, answerAll, structsAll, ScreenDone}
+use Rattle.deals.specs.OnStructs.{busy, targetIn, answerOf, structsOf, answerAll, structsAll, OwnDone, ScreenDone}
 use Rattle.deals.specs.ScreensInPlace.{ScreenInPlace, does, reads, eightSessions}
 
 pub record SeenAll (ss : List Session) (rs : List Record) : Type 0 where
@@ -47,11 +47,11 @@ module _ (s : Session) (r : Record) (v : Seen s r) where
   same-runs = ap (λ (t : Record). isRunning (t .phase)) (v .holds)
 
   same-answer : (c : Call) → answerOn s c ≡ act r c .answer
-  same-answer c = call-refines s r v c (answerOn s c) (recordOn s c) refl refl .1 .tells
+  same-answer c = seen-answer s r v c
 
-  next-seen : (c : Call) → Seen (recordOn s c) (act r c .record′)
-  next-seen c =
-      let k = call-refines s r v c (answerOn s c) (recordOn s c) refl refl in
+  next-seen : (c : Call) → valid (recordOn s c) ≡ true → Seen (recordOn s c) (act r c .record′)
+  next-seen c w =
+      let k = call-refines s r v c (answerOn s c) (recordOn s c) refl refl w in
       subst (λ (t : Record). Seen (recordOn s c) t) (k .1 .leaves) (k .2)
 
   -- after a Load where no question runs
@@ -63,7 +63,7 @@ module _ (s : Session) (r : Record) (v : Seen s r) where
       ap (λ (b : Bool). cond b (sessionOf (act (recordOf s) (load x) .record′)) s) (v .passes)
       ∙ ap (λ (t : Record). sessionOf (act t (load x) .record′)) (v .holds) ∙ ap sessionOf e in
       subst (λ (t : Record). Seen (sessionOf (loadedRecord (sizesIn x))) t) e
-      (subst (λ (t : Session). Seen t (act r (load x) .record′)) q (next-seen (load x)))
+      (subst (λ (t : Session). Seen t (act r (load x) .record′)) q (narrow-seen s r v (load x) tt))
 
 -- ---- eight of them
 
@@ -90,9 +90,9 @@ module _ (ss : List Session) (rs : List Record) (Z : SeenAll ss rs) where
   answer-of (screen i c) h = ap one (same-answer (on.at ss i) (at rs i) (Z .each i h) c)
   answer-of (turn i x) h = ap (turnAnswer i) (same-answer (on.at ss i) (at rs i) (Z .each i (h .0)) (advance x))
 
-  set-seen : (i : ℕ) (c : Call) → i < 8
+  set-seen : (i : ℕ) (c : Call) → i < 8 → valid (recordOn (on.at ss i) c) ≡ true
       → SeenAll (set ss i (recordOn (on.at ss i) c)) (set rs i (act (at rs i) c .record′))
-  set-seen i c h = record {
+  set-seen i c h w = record {
     structs = length-set ss i (recordOn (on.at ss i) c) ∙ Z .structs;
     records = length-set rs i (act (at rs i) c .record′) ∙ Z .records;
     each = λ j l. elim (ℕ-discrete j i) [
@@ -103,7 +103,7 @@ module _ (ss : List Session) (rs : List Record) (Z : SeenAll ss rs) where
           (sym (getD-set-same ss i (recordOn (on.at ss i) c) freshSession (omega (arith, Z .structs))))
           (subst (λ (r : Record). Seen (recordOn (on.at ss i) c) r)
           (sym (getD-set-same rs i (act (at rs i) c .record′) freshRecord (omega (arith, Z .records))))
-          (next-seen (on.at ss i) (at rs i) (Z .each i h) c))))
+          (next-seen (on.at ss i) (at rs i) (Z .each i h) c w))))
       | no q ↦ subst (λ (s : Session). Seen s (at (set rs i (act (at rs i) c .record′)) j))
           (sym (getD-set-other ss i j (recordOn (on.at ss i) c) freshSession q))
           (subst (λ (r : Record). Seen (on.at ss j) r)
@@ -111,10 +111,23 @@ module _ (ss : List Session) (rs : List Record) (Z : SeenAll ss rs) where
     ];
   }
 
-  structs-of : (t : Target) → Rightly (runs rs) t → SeenAll (structsOf ss t) (actOn rs t .records′)
+  -- the struct of the screen whose call it is stays a record
+  abbrev StaysOn : Target → Type 0
+  StaysOn (nobody n) = Unit {0}
+  StaysOn (everyScreen x) = Unit {0}
+  StaysOn (screen i c) = valid (recordOn (on.at ss i) c) ≡ true
+  StaysOn (turn i x) = valid (recordOn (on.at ss i) (advance x)) ≡ true
+
+  stays-on : (ss′ : List Session) (a : Answer) (t : Target) → Rightly (runs rs) t → OwnDone ss ss′ t a → StaysOn t
+  stays-on ss′ a (nobody n) h o = tt
+  stays-on ss′ a (everyScreen x) h o = tt
+  stays-on ss′ a (screen i c) h o = subst (λ (s : Session). valid s ≡ true) (o .leaves) (o .stays (Z .each i h .passes))
+  stays-on ss′ a (turn i x) h o = subst (λ (s : Session). valid s ≡ true) (o .leaves) (o .stays (Z .each i (h .0) .passes))
+
+  structs-of : (t : Target) → Rightly (runs rs) t → StaysOn t → SeenAll (structsOf ss t) (actOn rs t .records′)
   unfolding structsOf actOn
-  structs-of (nobody n) h = Z
-  structs-of (everyScreen x) h = record {
+  structs-of (nobody n) h w = Z
+  structs-of (everyScreen x) h w = record {
     structs = refl;
     records = refl;
     each = λ j l.
@@ -125,8 +138,8 @@ module _ (ss : List Session) (rs : List Record) (Z : SeenAll ss rs) where
         (loaded-seen (on.at ss j) (at rs j) (Z .each j l) x
         (sym (load-accepted (at rs j) x (h .0 j l) (h .1) .leaves))));
   }
-  structs-of (screen i c) h = set-seen i c h
-  structs-of (turn i x) h = set-seen i (advance x) (h .0)
+  structs-of (screen i c) h w = set-seen i c h w
+  structs-of (turn i x) h w = set-seen i (advance x) (h .0) w
 
   told-is : (c : ScreenCall) → answerAll ss c ≡ actAll rs c .answer
   unfolding answerAll
@@ -136,16 +149,18 @@ module _ (ss : List Session) (rs : List Record) (Z : SeenAll ss rs) where
       ∙ ap (answerOf ss) (target-is c) ∙ answer-of (target (runs rs) c) (rightly (runs rs) c)
       ∙ sym (ap (λ (k : ActedAll). k .answer) (on-target rs c (Z .records)))
 
-  left-seen : (c : ScreenCall) → SeenAll (structsAll ss c) (actAll rs c .records′)
+  left-seen : (c : ScreenCall) (ss′ : List Session) (a : Answer) → OwnDone ss ss′ (targetIn ss c) a
+      → SeenAll (structsAll ss c) (actAll rs c .records′)
   unfolding structsAll
-  left-seen c =
+  left-seen c ss′ a o =
       let e : structsAll ss c ≡ structsOf ss (target (runs rs) c) =
       ap (λ (b : Bool). cond b (structsOf ss (targetIn ss c)) ss) (eq-eqb (length ss) 8 (Z .structs))
       ∙ ap (structsOf ss) (target-is c) in
       subst (λ (l : List Session). SeenAll l (actAll rs c .records′)) (sym e)
       (subst (λ (l : List Record). SeenAll (structsOf ss (target (runs rs) c)) l)
       (sym (ap (λ (k : ActedAll). k .records′) (on-target rs c (Z .records))))
-      (structs-of (target (runs rs) c) (rightly (runs rs) c)))
+      (structs-of (target (runs rs) c) (rightly (runs rs) c)
+      (stays-on ss′ a (target (runs rs) c) (rightly (runs rs) c) (subst (λ (t : Target). OwnDone ss ss′ t a) (target-is c) o))))
 
 -- ---- Read alters nothing
 
@@ -168,7 +183,7 @@ pub run-refines : Refines ScreenInPlace DoesAll SeenAll
 run-refines ss ss′ rs c a Z (does d) = (
   actAll rs c .records′,
   record { tells = d .tells ∙ told-is ss rs Z c; leaves = refl },
-  subst (λ (l : List Session). SeenAll l (actAll rs c .records′)) (sym (d .leaves)) (left-seen ss rs Z c),
+  subst (λ (l : List Session). SeenAll l (actAll rs c .records′)) (sym (d .leaves)) (left-seen ss rs Z c ss′ (answerIn a) (d .own (Z .structs))),
 )
 run-refines ss ss′ rs c a Z (reads i e) = (
   rs,

@@ -82,7 +82,7 @@ pub fn cancel(s: &mut Session) -> CallAnswer
     out.answer
 }
 
-// Tells the last finished answer: the root's state, the yes or no, the parts and the links.
+// Tells the last finished answer: the root's state, the yes or no, the parts, the links and the nodes passed over.
 pub fn read(s: &Session) -> ReadAnswer
     ensures { λ r. ⌜ readAnswer r ≡ answerOn (now (s .entry)) calls.read ⌝ }
 {

@@ -25,7 +25,7 @@ use Rattle.model.specs.Model.{rootsIn, viewBy}
 use Rattle.model.specs.PartInputs.{givenOf}
 
 abbrev pub reachedBy : Part → Reached
-reachedBy p = reached (p .state) (p .links)
+reachedBy p = reached (p .state) (p .links) (p .passed)
 
 -- "Where plan and rules name the record's N, S and K and, like the 16-bit numbers, are as at Start and as built, but
 -- run states and maps are any bytes below S"

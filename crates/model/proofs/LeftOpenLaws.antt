@@ -20,6 +20,7 @@ use Rattle.list_laws.proofs.TestLaws.{sameList-refl}
 use Rattle.tables.specs.declared.answers.Reached.{Reached}
 use Rattle.ready.specs.Parts.{Part, nodesOf, statesOf, partOf}
 use Rattle.questions.specs.Part.{partOn}
+use Rattle.tables.proofs.ClimbBounds.{Bounded}
 use Rattle.questions.proofs.PartBounds.{part-bounded}
 use Rattle.questions.proofs.PartRange.{part-out-of-range}
 use Rattle.formats.specs.Inputs.{Inputs, inputsOf, sameNodeInputs, usedNodeTable, namesSizes, nodeTableBuilt, statesBelow}
@@ -109,11 +110,10 @@ module _ (r : Record) (x : Inputs) where
       let l : length ps < length (rootsIn x (U .left)) = omega (arith, n, U .next, ap length (U .ready)) in
       rw (← U .states, U .ready, length-states ps) (layers .part-built (r .sizes) x (r .nodes) (r .labels) x (U .left) ps F H l)
 
-  bounded : (y : Reached) → partNext r x ≡ some y → (y .state < r .sizes .s) × (y .links ≤ r .sizes .n)
+  bounded : (y : Reached) → partNext r x ≡ some y → Bounded (viewBy (r .sizes) x) y
   bounded y e =
-      let b = part-bounded (viewBy (r .sizes) x) (take (length (r .states)) (r .roots)) (r .states) (r .nodes) (r .labels)
-      (getD (r .roots) (length (r .states)) 0) y e in
-      (b .state, b .links)
+      part-bounded (viewBy (r .sizes) x) (take (length (r .states)) (r .roots)) (r .states) (r .nodes) (r .labels)
+      (getD (r .roots) (length (r .states)) 0) y e
 
   -- what holds of the record after the last part and after another
   either : (y : Reached) (P : Record → Type 0) → P (stepped r Phase.answered y (eqb (getD (marksBy (r .sizes) x) (y .state) 0) 1))
@@ -147,16 +147,23 @@ module _ (r : Record) (x : Inputs) where
   after h e none q = record {
     stored = λ f. absurd (true-false f);
     counted = λ f. absurd (true-false f);
+    links-passed = λ f. absurd (true-false f);
+    passed-most = λ f. absurd (true-false f);
     out-of-range = λ w. part-out-of-range (viewBy (r .sizes) x) (r .states) (r .nodes) (r .labels) (take (length (r .states)) (r .roots))
         (getD (r .roots) (length (r .states)) 0) (h e) q;
     rule = λ ps f U. absurd (none-some (sym q ∙ by-rule ps e U));
   }
   after h e (some y) q =
       let b = bounded y q in
-      let l : r .links + y .links ≤ r .links + r .sizes .n = omega (arith, b .1) in
+      let l : r .links + y .links ≤ r .links + r .sizes .n = omega (arith, b .links) in
+      let d : r .links + y .links + r .passed ≤ r .passed + y .passed + r .links = omega (arith, b .links-passed) in
       record {
-        stored = λ f. (y .state, either y (λ (t : Record). t .states ≡ r .states ++ (y .state ∷ [])) refl refl, b .0);
+        stored = λ f. (y .state, either y (λ (t : Record). t .states ≡ r .states ++ (y .state ∷ [])) refl refl, b .state);
         counted = λ f. either y (λ (t : Record). t .links ≤ r .links + r .sizes .n) l l;
+        links-passed = λ f. either y (λ (t : Record). t .links + r .passed ≤ t .passed + r .links) d d;
+        passed-most = λ f m g.
+            let k : r .passed + y .passed ≤ r .passed + m = omega (arith, b .passed m g) in
+            either y (λ (t : Record). t .passed ≤ r .passed + m) k k;
         out-of-range = λ w. absurd (accepted-not y w);
         rule = λ ps f U.
             let i : some y ≡ some (ruleGives r x ps) = sym q ∙ by-rule ps e U in
@@ -177,6 +184,8 @@ module _ (r : Record) (x : Inputs) where
       go (suc n) e = record {
         stored = λ f. absurd (true-false f);
         counted = λ f. absurd (true-false f);
+        links-passed = λ f. absurd (true-false f);
+        passed-most = λ f. absurd (true-false f);
         out-of-range = λ w. absurd (advance-not-18 (e ∙ (let z : suc n ≡ 18 = cc in z)));
         rule = λ ps f U. absurd (omega (arith, f, e));
       }

@@ -2,7 +2,7 @@
 --
 -- Call == a call with its inputs beside the record; Cancel and Read need only the record
 -- Answer == "Compared are acceptance, refusal numbers and what Start, advance and Read tell."
--- Outcome == what Read tells; outcomeAnswer s y p l == the answer with these four values
+-- Outcome == what Read tells; outcomeAnswer s y p l d == the answer with these five values
 -- onRefused f d a, onParts f d a, onOutcome f d a == f of a refusal's number, of Start's parts, of Read's outcome; d of any other
 --   answer
 -- onAdvance m f d a == m of more, f of finished; d of any other answer
@@ -26,12 +26,13 @@ pub data Call : Type 0 where
   cancel : Call
   read : Call
 
--- "state, yes or no, parts, links"
+-- "state, yes or no, parts, links"; document 02 (S-7): "shown last", the nodes passed over
 pub record Outcome : Type 0 where
   pub state : ℕ
   pub yes : Bool
   pub parts : ℕ
   pub links : ℕ
+  pub passed : ℕ
 
 pub data Answer : Type 0 where
   refused : ℕ → Answer
@@ -41,8 +42,8 @@ pub data Answer : Type 0 where
   finished : Answer
   outcome : Outcome → Answer
 
-abbrev pub outcomeAnswer : ℕ → Bool → ℕ → ℕ → Answer
-outcomeAnswer s y p l = outcome (record { state = s; yes = y; parts = p; links = l })
+abbrev pub outcomeAnswer : ℕ → Bool → ℕ → ℕ → ℕ → Answer
+outcomeAnswer s y p l d = outcome (record { state = s; yes = y; parts = p; links = l; passed = d })
 
 -- ---- cases of an answer, each said once
 

@@ -2,8 +2,9 @@
 --
 -- Usable r x ps == "plan and rules name the record's N, S and K and, like the 16-bit numbers, are .. as built, but run states and maps
 --   are any bytes below S"; the record's roots are the plan's for some W, and ps the parts handled so far
--- ruleGives r x ps == the state and links that the rule of document 01 gives for the next part
--- AdvanceProperties r x a r′ == of an advance's: one state more, below S, and the links of one climb; 18 only where a value leads out of
+-- ruleGives r x ps == the state, links and nodes passed over that the rule of document 01 gives for the next part
+-- AdvanceProperties r x a r′ == of an advance's: one state more, below S, the links of one climb, and as many nodes passed over or
+--   more, at most the greatest depth lent; 18 only where a value leads out of
 --   range; on usable tables the rule's, never 18
 -- LeftOpen r c a r′ == of a call's; the others leave nothing to the program
 --
@@ -17,11 +18,12 @@ use lib.ListN.{length, getD, take}
 use Rattle.list_laws.specs.Tests.{allBelow}
 use Rattle.formats.specs.Plan.{planTree}
 use Rattle.formats.specs.Checks.{firstNo, listChecks}
-use Rattle.ready.specs.Parts.{Part, nodesOf, statesOf, partState, partLinks}
+use Rattle.ready.specs.Parts.{Part, nodesOf, statesOf, partState, partLinks, partPassed}
 use Rattle.tables.specs.declared.answers.Reached.{Reached}
 use Rattle.tables.specs.Climbs.{reached}
 use Rattle.questions.specs.OutOfRange.{PartOutOfRange}
-use Rattle.formats.specs.Inputs.{Inputs, nodeTableBuilt, statesBelow}
+use Rattle.node_tables.specs.Cells.{depthCell}
+use Rattle.formats.specs.Inputs.{Inputs, usedNodeTable, nodeTableBuilt, statesBelow}
 use Rattle.model.specs.Calls.{Call, load, start, advance, cancel, read, Answer, refused, isRefused}
 use Rattle.model.specs.Refusals.{refusal}
 use Rattle.model.specs.Model.{Record, stageOf, rootsIn, advanceWith, viewBy}
@@ -43,10 +45,14 @@ abbrev pub ruleGives : Record → Inputs → List Part → Reached
 ruleGives r x ps =
     reached (partState (givenOf (r .sizes) x x (r .nodes) (r .labels)) (r .roots) ps (getD (r .roots) (length (r .states)) 0))
     (partLinks (planTree (x .plan)) (r .roots) (getD (r .roots) (length (r .states)) 0))
+    (partPassed (planTree (x .plan)) (r .roots) (getD (r .roots) (length (r .states)) 0))
 
 pub record AdvanceProperties (r : Record) (x : Inputs) (a : Answer) (r′ : Record) : Type 0 where
   pub stored : isRefused a ≡ false → (q : ℕ) × (r′ .states ≡ r .states ++ (q ∷ [])) × (q < r .sizes .s)
   pub counted : isRefused a ≡ false → r′ .links ≤ r .links + r .sizes .n
+  pub links-passed : isRefused a ≡ false → r′ .links + r .passed ≤ r′ .passed + r .links
+  pub passed-most : isRefused a ≡ false → (m : ℕ)
+      → ((v : ℕ) → depthCell (usedNodeTable (r .sizes) x) v ≤ m) → r′ .passed ≤ r .passed + m
   pub out-of-range : a ≡ refused 18 → PartOutOfRange (viewBy (r .sizes) x) (r .states) (r .nodes) (r .labels)
   pub rule : (ps : List Part) → refusal (stageOf r) (advance x) ≡ 0 → Usable r x ps
       → (a ≡ advanceWith r x (some (ruleGives r x ps)) .answer) × (r′ ≡ advanceWith r x (some (ruleGives r x ps)) .record′)

@@ -31,7 +31,8 @@ use Rattle.model.specs.Calls.{Outcome, outcome, Phase, isSome}
 use Rattle.model.specs.Refusals.{Stage, stage, refusal}
 
 -- "The record holds which of the four states it is in, N, S, K, the changes as listed, the root nodes of the parts, the states of parts
--- handled so far and their number, the links so far and, once answered, the yes or no"; "gains the last finished answer" (02, S-1)
+-- handled so far and their number, the links so far and, once answered, the yes or no"; "gains the last finished answer" (02, S-1) and the
+-- nodes passed over (02, S-7)
 pub record Record : Type 0 where
   pub phase : Phase
   pub sizes : Sizes
@@ -40,6 +41,7 @@ pub record Record : Type 0 where
   pub roots : List ℕ
   pub states : List ℕ
   pub links : ℕ
+  pub passed : ℕ
   pub yes : Bool
   pub last : Option Outcome
 
@@ -56,7 +58,7 @@ acted a r = record { answer = a; record′ = r }
 
 unfoldable pub idle : Phase → Sizes → Record
 idle p z =
-    record { phase = p; sizes = z; nodes = []; labels = []; roots = []; states = []; links = 0; yes = false; last = none }
+    record { phase = p; sizes = z; nodes = []; labels = []; roots = []; states = []; links = 0; passed = 0; yes = false; last = none }
 
 unfoldable pub freshRecord : Record
 freshRecord = idle Phase.empty (record { n = 0; s = 0; k = 0 })
@@ -75,6 +77,7 @@ withLast o r = record {
   roots = r .roots;
   states = r .states;
   links = r .links;
+  passed = r .passed;
   yes = r .yes;
   last = o;
 }
@@ -98,9 +101,9 @@ rootsIn x vs = roots (planTree (x .plan)) vs
 
 unfoldable pub started : Sizes → List ℕ → List ℕ → List ℕ → Record
 started z vs bs rs =
-    record { phase = Phase.running; sizes = z; nodes = vs; labels = bs; roots = rs; states = []; links = 0; yes = false; last = none }
+    record { phase = Phase.running; sizes = z; nodes = vs; labels = bs; roots = rs; states = []; links = 0; passed = 0; yes = false; last = none }
 
--- ---- advance: one more part state, and its links
+-- ---- advance: one more part state, its links and the nodes passed over
 
 -- "the last finished answer, filled by the advance that finishes"
 abbrev pub lastThen : Phase → Outcome → Option Outcome → Option Outcome
@@ -118,8 +121,11 @@ stepped r p x y = record {
   roots = r .roots;
   states = r .states ++ (x .state ∷ []);
   links = r .links + x .links;
+  passed = r .passed + x .passed;
   yes = y;
-  last = lastThen p (record { state = x .state; yes = y; parts = length (r .roots); links = r .links + x .links }) (r .last);
+  last = lastThen p
+      (record { state = x .state; yes = y; parts = length (r .roots); links = r .links + x .links; passed = r .passed + x .passed })
+      (r .last);
 }
 
 unfoldable pub advanceWith : Record → Inputs → Option Reached → Acted
@@ -148,7 +154,8 @@ lastOf [] q = q
 lastOf (x ∷ xs) q = lastOf xs x
 
 abbrev pub outcomeOf : Record → Outcome
-outcomeOf r = record { state = lastOf (r .states) 0; yes = r .yes; parts = length (r .roots); links = r .links }
+outcomeOf r =
+    record { state = lastOf (r .states) 0; yes = r .yes; parts = length (r .roots); links = r .links; passed = r .passed }
 
 -- ---- the calls
 

@@ -21,7 +21,8 @@ use Rattle.counting.specs.Carry.{stateIn, linksIn, isReached, arrivesAt, allArr
 module _ (X : View) (G : Given) (R : Reads X G) (h c T : ℕ) (hh : h < size (G .tree)) (e : T ≡ depth (G .tree) c)
     (d : depth (G .tree) c ≤ depth (G .tree) h) where
   climbs : (q : ℕ) → q < X .s → climbOn X h T q
-      ≡ some (reached (moveStates G (climbMoves (G .tree) h c) q) (length (climbMoves (G .tree) h c)))
+      ≡ some (reached (moveStates G (climbMoves (G .tree) h c) q) (length (climbMoves (G .tree) h c))
+      (depth (G .tree) h - depth (G .tree) c))
   climbs q l = ap (λ (t : ℕ). climbOn X h t q) e ∙ climb-built X G R h c q hh d l .0
 
   pub arrives : (q : ℕ) → q < X .s → arrivesAt X h T q ≡ moveStates G (climbMoves (G .tree) h c) q

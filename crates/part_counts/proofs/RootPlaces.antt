@@ -26,7 +26,7 @@ use Rattle.part_counts.specs.PartOn.{placeOn}
 
 stated : List ℕ → List Part
 stated [] = []
-stated (e ∷ es) = part e 0 0 ∷ stated es
+stated (e ∷ es) = part e 0 0 0 ∷ stated es
 
 stated-nodes : (es : List ℕ) → nodesOf (stated es) ≡ es
 unfolding stated

@@ -1,6 +1,6 @@
 -- On numbers as built and bytes below S: what one move and one climb read is in range, and they give what the rule gives.
 --     move-built     a move from a node below the root
---     climb-built    a climb to the depth of a node above
+--     climb-built    a climb to the depth of a node above: its state, its links, and the difference of the depths passed over
 -- Assumes nothing.
 use Prim.Native.Nat.{ℕ, zero, suc, _+_, _-_, _*_, _≤_, _<_}
 use mathlib.Core.Path.{_≡_, refl, sym, ap, ap₂, _∙_, subst}
@@ -18,8 +18,9 @@ use Rattle.trees.specs.Numbering.{sub, parent, depth}
 use Rattle.trees.specs.Climb.{Move, byJump, toParent, forestOf, andThen, climb, carry}
 use Rattle.trees.proofs.NodeLaws.{up}
 use Rattle.trees.proofs.MoveLaws.{start}
-use Rattle.trees.proofs.ClimbLaws.{same-climb}
+use Rattle.trees.proofs.ClimbLaws.{Tells, same-climb}
 use Rattle.trees.proofs.TreeClimbs.{climb-tree, climb-proper, Proper}
+use Rattle.trees.proofs.PassedLaws.{same-passed}
 use Rattle.trees.proofs.MapLaws.{right-child-size, left-sibling-in, right-sibling-in, parent-pos}
 use Rattle.node_tables.specs.Cells.{parentCell, sizeCell, cellForest}
 use Rattle.node_tables.specs.NodeCells.{NodeCells}
@@ -109,13 +110,16 @@ module _ (X : View) (G : Given) (R : Reads X G) where
       (ap (λ (o : Option ℕ). andThen o (carry (moveOn X) ms)) (move-built m q (P .0) l) ∙ r .0, r .1)
 
   pub climb-built : (h c q : ℕ) → h < size (G .tree) → depth (G .tree) c ≤ depth (G .tree) h → q < X .s
-      → (climbOn X h (depth (G .tree) c) q ≡ some (reached (moveStates G (climbMoves (G .tree) h c) q) (length (climbMoves (G .tree) h c))))
+      → (climbOn X h (depth (G .tree) c) q ≡ some (reached (moveStates G (climbMoves (G .tree) h c) q) (length (climbMoves (G .tree) h c))
+      (depth (G .tree) h - depth (G .tree) c)))
       × (moveStates G (climbMoves (G .tree) h c) q < X .s)
   unfolding climbOn climbMoves
   climb-built h c q hh l hq =
       let T = climb-tree (G .tree) h (depth (G .tree) c) hh l in
-      let e : climb (cellForest (X .n) (X .nodeTable)) h (depth (G .tree) c) ≡ some (T .moves) =
-      same-climb (cellForest (X .n) (X .nodeTable)) (G .tree) (R .count)
-      (λ v hv. (R .cells .parents v hv, R .cells .jumps v hv, R .cells .depths v hv)) h (depth (G .tree) c) hh ∙ T .found in
+      let F = cellForest (X .n) (X .nodeTable) in
+      let tells : Tells F (G .tree) = λ v hv. (R .cells .parents v hv, R .cells .jumps v hv, R .cells .depths v hv) in
+      let e : climb F h (depth (G .tree) c) ≡ some (T .moves) =
+      same-climb F (G .tree) (R .count) tells h (depth (G .tree) c) hh ∙ T .found in
+      let p = same-passed F (G .tree) (R .count) tells h (depth (G .tree) c) (T .moves) hh l e in
       let r = carry-built (T .moves) q (climb-proper (G .tree) h (depth (G .tree) c) (T .moves) hh (T .found)) hq in
-      rw (e, r .0, T .found) (refl, r .1)
+      rw (e, r .0, T .found) (ap (λ (z : ℕ). some (reached (moveStates G (T .moves) q) (length (T .moves)) z)) p, r .1)

@@ -27,3 +27,4 @@ pub mod PartRange
 pub mod RuleRange
 pub mod Promised
 pub mod Theorems
+pub mod PassedSample

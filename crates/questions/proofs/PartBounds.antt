@@ -1,14 +1,14 @@
--- What a part gives: a state, and no more links than there are nodes.
---     side-bounded, join-bounded        at a child, and by the rule
+-- What a part gives: a state, no more links than there are nodes, and as many nodes passed over or more, as the lent depths allow.
+--     side-bounded, Joined, joined      at a child, and by the rule
 --     inner-sides                       an inner node joins what its two children come to
 --     part-bounded                      of every part
 --     partGiven-below                   "every state below S": of the part that a caller asks for
---     part-links                        its links fit: it makes one climb at most
+--     part-links, part-passed           its links fit, and the nodes passed over: it makes one climb at most
 -- Assumes nothing.
-use Prim.Native.Nat.{ℕ, _+_, _-_, _≤_, _<_}
-use mathlib.Core.Path.{_≡_, refl, ap, subst}
+use Prim.Native.Nat.{ℕ, zero, suc, _+_, _-_, _*_, _≤_, _<_}
+use mathlib.Core.Path.{_≡_, refl, subst}
 use mathlib.Core.Bool.{Bool, true, false, cond, _&&_}
-use mathlib.Core.List.{List}
+use mathlib.Core.List.{List, [], _∷_}
 use mathlib.Core.Option.{Option, none, some, Option·some-injective}
 use native.Mathlib.Omega.{arith}
 use lib.Dec.{leb, ltb, eqb}
@@ -17,6 +17,7 @@ use borrow.Author.Tests.{leb-true}
 use Rattle.trees.specs.Climb.{andThen}
 use Rattle.trees.proofs.MoveLaws.{none-some, cond-some}
 use Rattle.formats.specs.Limits.{nodeLimit, within}
+use Rattle.formats.specs.Checks.{nodeTableLength}
 use Rattle.formats.specs.Buffers.{limitsFit}
 use Rattle.list_laws.proofs.BoolLaws.{and-left, and-right}
 use Rattle.node_tables.specs.Cells.{sizeCell}
@@ -31,12 +32,21 @@ use Rattle.questions.specs.inner.Scans.{sideOn}
 use Rattle.questions.specs.inner.PartArgs.{unmoved}
 use Rattle.questions.specs.PartAnswers.{partFits, viewIn, partGiven}
 
+-- what holds of every entry holds of a front part's
+cell-taken : (l : List ℕ) (i j m : ℕ) → ((k : ℕ) → getD l k 0 ≤ m) → getD (take i l) j 0 ≤ m
+cell-taken [] zero j m b = omega arith
+cell-taken [] (suc i) j m b = omega arith
+cell-taken (x ∷ l) zero j m b = omega arith
+cell-taken (x ∷ l) (suc i) zero m b = b 0
+cell-taken (x ∷ l) (suc i) (suc j) m b = cell-taken l i j m (λ k. b (suc k))
+
 module _ (X : View) where
   -- ---- at a child
 
   pub record Still (x : Reached) : Type 0 where
     pub state : x .state < X .s
     pub links : x .links ≡ 0
+    pub passed : x .passed ≡ 0
 
   unmoved-still : (q : ℕ) (x : Reached) → unmoved (below (X .s) q) ≡ some x → Still x
   unmoved-still q x e = go (below (X .s) q) refl e
@@ -45,8 +55,8 @@ module _ (X : View) where
       go none b i = absurd (none-some i)
       go (some y) b i =
           let s = below-state (X .s) q y b in
-          subst Still (Option·some-injective (reached y 0) x i)
-          (record { state = omega (arith, s .0, s .1); links = refl })
+          subst Still (Option·some-injective (reached y 0 0) x i)
+          (record { state = omega (arith, s .0, s .1); links = refl; passed = refl })
 
   run-still : (c : ℕ) (x : Reached) → runReached X c ≡ some x → Still x
   unfolding runReached runOn
@@ -68,7 +78,12 @@ module _ (X : View) where
           climb-bounded X (f .node) t q x (omega (arith, s .0, s .1)) i
 
   still-bounded : (x : Reached) → Still x → Bounded X x
-  still-bounded x S = record { state = S .state; links = omega (arith, S .links) }
+  still-bounded x S = record {
+    state = S .state;
+    links = omega (arith, S .links);
+    links-passed = omega (arith, S .links);
+    passed = λ m b. omega (arith, S .passed);
+  }
 
   pub side-bounded : (t c : ℕ) (f g : Option Found) (x : Reached) → sideOn X t c f g ≡ some x → Bounded X x
   unfolding sideOn
@@ -78,23 +93,65 @@ module _ (X : View) where
 
   -- ---- by the rule
 
-  -- z comes of x and y: its state is a state, its links are theirs
-  pub join-bounded : (a i j : ℕ) (x y : Option Reached) (z : Reached) → joinOn X a x y ≡ some z
-      → ((l : Reached) → x ≡ some l → l .links ≤ i) → ((r : Reached) → y ≡ some r → r .links ≤ j)
-      → (z .state < X .s) × (z .links ≤ i + j)
+  -- z comes of x and y: its state is a state, its links and the nodes passed over are theirs
+  pub record Joined (x y : Option Reached) (z : Reached) : Type 0 where
+    pub left : Reached
+    pub right : Reached
+    pub is-left : x ≡ some left
+    pub is-right : y ≡ some right
+    pub state : z .state < X .s
+    pub links : z .links ≡ left .links + right .links
+    pub passed : z .passed ≡ left .passed + right .passed
+
+  pub joined : (a : ℕ) (x y : Option Reached) (z : Reached) → joinOn X a x y ≡ some z → Joined x y z
   unfolding joinOn
-  join-bounded a i j none y z e f g = absurd (none-some e)
-  join-bounded a i j (some l) none z e f g = absurd (none-some e)
-  join-bounded a i j (some l) (some r) z e f g = go (ruleOn X (l .state) a (r .state)) refl e
+  joined a none y z e = absurd (none-some e)
+  joined a (some l) none z e = absurd (none-some e)
+  joined a (some l) (some r) z e = go (ruleOn X (l .state) a (r .state)) refl e
     where
       go : (o : Option ℕ) → ruleOn X (l .state) a (r .state) ≡ o
-          → andThen o (λ q. some (reached q (l .links + r .links))) ≡ some z → (z .state < X .s) × (z .links ≤ i + j)
+          → andThen o (λ q. some (reached q (l .links + r .links) (l .passed + r .passed))) ≡ some z
+          → Joined (some l) (some r) z
       go none b h = absurd (none-some h)
       go (some q) b h =
-          let s : reached q (l .links + r .links) ≡ z = Option·some-injective (reached q (l .links + r .links)) z h in
-          let n : l .links + r .links ≡ z .links = ap (λ (w : Reached). w .links) s in
-          let m : q ≡ z .state = ap (λ (w : Reached). w .state) s in
-          (omega (arith, rule-state X (l .state) a (r .state) q b), omega (arith, f l refl, g r refl))
+          subst (Joined (some l) (some r))
+          (Option·some-injective (reached q (l .links + r .links) (l .passed + r .passed)) z h)
+          (record {
+            left = l;
+            right = r;
+            is-left = refl;
+            is-right = refl;
+            state = rule-state X (l .state) a (r .state) q b;
+            links = refl;
+            passed = refl;
+          })
+
+  -- one climb at most
+  climbed-left : (a : ℕ) (x y : Option Reached) (z : Reached) → joinOn X a x y ≡ some z
+      → ((l : Reached) → x ≡ some l → Bounded X l) → ((r : Reached) → y ≡ some r → Still r) → Bounded X z
+  climbed-left a x y z e f g =
+      let J = joined a x y z e in
+      let L = f (J .left) (J .is-left) in
+      let R = g (J .right) (J .is-right) in
+      record {
+        state = J .state;
+        links = omega (arith, J .links, L .links, R .links);
+        links-passed = omega (arith, J .links, J .passed, L .links-passed, R .links, R .passed);
+        passed = λ m b. omega (arith, J .passed, L .passed m b, R .passed);
+      }
+
+  climbed-right : (a : ℕ) (x y : Option Reached) (z : Reached) → joinOn X a x y ≡ some z
+      → ((l : Reached) → x ≡ some l → Still l) → ((r : Reached) → y ≡ some r → Bounded X r) → Bounded X z
+  climbed-right a x y z e f g =
+      let J = joined a x y z e in
+      let L = f (J .left) (J .is-left) in
+      let R = g (J .right) (J .is-right) in
+      record {
+        state = J .state;
+        links = omega (arith, J .links, L .links, R .links);
+        links-passed = omega (arith, J .links, J .passed, R .links-passed, L .links, L .passed);
+        passed = λ m b. omega (arith, J .passed, R .passed m b, L .passed);
+      }
 
   pub inner-sides : (t l r a : ℕ) (f g : Option Found)
       → innerOn X t l r a f g ≡ joinOn X a (sideOn X t l f g) (sideOn X t r g f)
@@ -107,21 +164,11 @@ module _ (X : View) where
   inner-bounded : (t l r a : ℕ) (f g : Option Found) (x : Reached) → innerOn X t l r a f g ≡ some x → Bounded X x
   unfolding innerOn
   inner-bounded t l r a none none x e =
-      let b = join-bounded a 0 0 _ _ x e (λ y i. omega (arith, run-still l y i .links))
-      (λ y i. omega (arith, run-still r y i .links)) in
-      record { state = b .0; links = omega (arith, b .1) }
-  inner-bounded t l r a none (some g) x e =
-      let b = join-bounded a 0 (X .n) _ _ x e (λ y i. omega (arith, run-still l y i .links))
-      (λ y i. from-bounded t g y i .links) in
-      record { state = b .0; links = omega (arith, b .1) }
-  inner-bounded t l r a (some f) none x e =
-      let b = join-bounded a (X .n) 0 _ _ x e (λ y i. from-bounded t f y i .links)
-      (λ y i. omega (arith, run-still r y i .links)) in
-      record { state = b .0; links = omega (arith, b .1) }
+      climbed-left a _ _ x e (λ y i. still-bounded y (run-still l y i)) (λ y i. run-still r y i)
+  inner-bounded t l r a none (some g) x e = climbed-right a _ _ x e (λ y i. run-still l y i) (λ y i. from-bounded t g y i)
+  inner-bounded t l r a (some f) none x e = climbed-left a _ _ x e (λ y i. from-bounded t f y i) (λ y i. run-still r y i)
   inner-bounded t l r a (some f) (some g) x e =
-      let b = join-bounded a 0 0 _ _ x e (λ y i. omega (arith, own-still f y i .links))
-      (λ y i. omega (arith, own-still g y i .links)) in
-      record { state = b .0; links = omega (arith, b .1) }
+      climbed-left a _ _ x e (λ y i. still-bounded y (own-still f y i)) (λ y i. own-still g y i)
 
   -- ---- of every part
 
@@ -174,3 +221,10 @@ module _ (n s k : ℕ) (plan rules nodeTable stateTable roots states vs bs : Lis
 
   pub part-links : x .links ≤ 65535
   part-links = omega (arith, given .1 .links, nodes-most)
+
+  pub part-links-passed : x .links ≤ x .passed
+  part-links-passed = given .1 .links-passed
+
+  -- of numbers of 16 bits
+  pub part-passed : ((j : ℕ) → getD nodeTable j 0 ≤ 65535) → x .passed ≤ 65535
+  part-passed b = given .1 .passed 65535 (λ v. cell-taken nodeTable (nodeTableLength n) (v * 4 + 2) 65535 b)

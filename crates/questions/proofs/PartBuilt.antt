@@ -1,6 +1,6 @@
 -- On numbers as built and bytes below S a part is what the rule of "Parts of a question" gives on those bytes.
 --     found-built           the root found below a child is the highest member below it
---     part-built            partOn gives the rule's state and links, and never 18
+--     part-built            partOn gives the rule's state and links and the nodes passed over, and never 18
 -- Assumes nothing.
 use Prim.Native.Nat.{ℕ, zero, suc, _+_, _-_, _≤_, _<_}
 use mathlib.Core.Path.{_≡_, refl, sym, ap, ap₂, _∙_, subst}
@@ -27,6 +27,7 @@ use Rattle.tables.specs.Climbs.{View, below, runOn, ruleOn, reached, climbOn}
 use Rattle.ready.specs.Ready.{leftChild, rightChild}
 use Rattle.ready.specs.Members.{Rising}
 use Rattle.ready.specs.Parts.{Given, anyBelow, lastBelow, highestBelow, moveStates, climbMoves, climbedLinks, innerLinks}
+use Rattle.ready.specs.Parts.{climbedPassed, innerPassed, partPassed}
 use Rattle.ready.specs.Parts.{partLinks, Part, nodesOf, statesOf, stateOf, climbedState, innerState, partState}
 use Rattle.ready.proofs.BelowLaws.{none-below, some-below, under-no, true-false, rising-above}
 use Rattle.ready.proofs.ClosedForm.{kind-one}
@@ -198,18 +199,18 @@ module _ (X : View) (G : Given) (R : Reads X G) (w : ℕ → Bool) (ms : List �
         go (inl x) = absurd (true-false true refl (sym (sym (x .0) ∙ sym any-is ∙ e)))
         go (inr x) = x .1 c ∙ ap (λ (h : ℕ). some (found h (stateOf ps h))) (sym highest-is)
 
-    run-side : runReached X c ≡ some (reached (G .runState c) 0)
+    run-side : runReached X c ≡ some (reached (G .runState c) 0 0)
     unfolding runReached
     run-side = rw (run-built X G R c (omega (arith, hv)))
 
-    own-side : (h : ℕ) → ownReached X (found h (stateOf ps h)) ≡ some (reached (stateOf ps h) 0)
+    own-side : (h : ℕ) → ownReached X (found h (stateOf ps h)) ≡ some (reached (stateOf ps h) 0 0)
     unfolding ownReached
     own-side h = rw (is-below (X .s) (stateOf ps h) (small h))
 
     climbed-side : (T : ℕ) → T ≡ depth (G .tree) c → anyBelow ms (G .tree) c ≡ true
         → climbFrom X T (found (highestBelow ms (G .tree) c) (stateOf ps (highestBelow ms (G .tree) c)))
-        ≡ some (reached (climbedState G ms ps c) (climbedLinks (G .tree) ms c))
-    unfolding climbFrom climbedState climbedLinks
+        ≡ some (reached (climbedState G ms ps c) (climbedLinks (G .tree) ms c) (climbedPassed (G .tree) ms c))
+    unfolding climbFrom climbedState climbedLinks climbedPassed
     climbed-side T e a =
         let h : ℕ = highestBelow ms (G .tree) c in
         let H : Highest (G .tree) (λ x. List·Memᴰ x ms) c h = some-below (G .tree) c ms (M .rising) a in
@@ -223,9 +224,10 @@ module _ (X : View) (G : Given) (R : Reads X G) (w : ℕ → Bool) (ms : List �
         let H : Highest (G .tree) (λ x. List·Memᴰ x ms) c (highestBelow ms (G .tree) c) = some-below (G .tree) c ms (M .rising) a in
         omega (arith, H .below, H .greatest c m (under-self (G .tree) c))
 
-  joined : (a x n y m : ℕ) → a < X .k → joinOn X a (some (reached x n)) (some (reached y m)) ≡ some (reached (G .automaton .δ x a y) (n + m))
+  joined : (a x n i y m j : ℕ) → a < X .k
+      → joinOn X a (some (reached x n i)) (some (reached y m j)) ≡ some (reached (G .automaton .δ x a y) (n + m) (i + j))
   unfolding joinOn
-  joined a x n y m h = rw (rule-built X G R x a y h)
+  joined a x n i y m j h = rw (rule-built X G R x a y h)
 
   -- ---- an inner root
 
@@ -248,12 +250,13 @@ module _ (X : View) (G : Given) (R : Reads X G) (w : ℕ → Bool) (ms : List �
         let u = up (G .tree) (rightChild v) (omega (arith, hr, hv)) in
         omega (arith, R .cells .depths v hv, u .deeper, ap (depth (G .tree)) e)
 
-    abbrev out : ℕ → ℕ → Option Reached
-    out q n = some (reached q n)
+    abbrev out : ℕ → ℕ → ℕ → Option Reached
+    out q n i = some (reached q n i)
 
     fork-built : (a : ℕ) → a ≡ getD (G .labels) v 0 → forkOn X (nodesOf ps) (statesOf ps) v (leftChild (G .tree) v) a
         ≡ out (innerState G ms ps v (leftChild (G .tree) v) (rightChild v)) (innerLinks (G .tree) ms (leftChild (G .tree) v) (rightChild v))
-    unfolding forkOn innerState innerLinks innerOn
+        (innerPassed (G .tree) ms (leftChild (G .tree) v) (rightChild v))
+    unfolding forkOn innerState innerLinks innerPassed innerOn
     fork-built a ea = rw ea (go (anyBelow ms (G .tree) l) (anyBelow ms (G .tree) r) refl refl)
       where
         l : ℕ
@@ -278,11 +281,17 @@ module _ (X : View) (G : Given) (R : Reads X G) (w : ℕ → Bool) (ms : List �
             let N = some-below (G .tree) (rightChild v) ms (M .rising) q in
             M .closed .has-children v _ _ v-member (L .member) (N .member) (record { inside = hv; inner = k; left = L .below; right = N .below })
 
-        no-links : (x n : ℕ) → out x (n + 0) ≡ out x n
-        no-links x n = ap (λ (z : ℕ). some (reached x z)) (let e : n + 0 ≡ n = omega arith in e)
+        plus-none : (n : ℕ) → n + 0 ≡ n
+        plus-none n = omega arith
 
-        own-links : (x n : ℕ) → out x (0 + n) ≡ out x n
-        own-links x n = ap (λ (z : ℕ). some (reached x z)) (let e : 0 + n ≡ n = omega arith in e)
+        none-plus : (n : ℕ) → 0 + n ≡ n
+        none-plus n = omega arith
+
+        no-links : (x n i : ℕ) → out x (n + 0) (i + 0) ≡ out x n i
+        no-links x n i = ap₂ (λ (y z : ℕ). some (reached x y z)) (plus-none n) (plus-none i)
+
+        own-links : (x n i : ℕ) → out x (0 + n) (0 + i) ≡ out x n i
+        own-links x n i = ap₂ (λ (y z : ℕ). some (reached x y z)) (none-plus n) (none-plus i)
 
         go : (c d : Bool) → anyBelow ms (G .tree) (leftChild (G .tree) v) ≡ c → anyBelow ms (G .tree) (rightChild v) ≡ d
             → innerOn X (depthCell (X .nodeTable) v + 1) (leftChild (G .tree) v) (v - 1) (getD (G .labels) v 0)
@@ -291,24 +300,28 @@ module _ (X : View) (G : Given) (R : Reads X G) (w : ℕ → Bool) (ms : List �
             (cond c (cond d (G .automaton .δ (stateOf ps l) b (stateOf ps r)) (G .automaton .δ (climbedState G ms ps l) b (G .runState r)))
             (cond d (G .automaton .δ (G .runState l) b (climbedState G ms ps r)) (G .automaton .δ (G .runState l) b (G .runState r))))
             (cond c (cond d 0 (climbedLinks (G .tree) ms l)) (cond d (climbedLinks (G .tree) ms r) 0))
+            (cond c (cond d 0 (climbedPassed (G .tree) ms l)) (cond d (climbedPassed (G .tree) ms r) 0))
         go true true p q =
             let m = own p q in
             rw (found-built l hl p, found-built r hr q, self-highest l hl (m .0) p, self-highest r hr (m .1) q, own-side l hl l, own-side r hr r)
-            (joined b (stateOf ps l) 0 (stateOf ps r) 0 hb)
+            (joined b (stateOf ps l) 0 0 (stateOf ps r) 0 0 hb)
         go true false p q =
             rw (found-built l hl p, found-none r hr q, climbed-side l hl T depth-left-is p, run-side r hr)
-            (joined b (climbedState G ms ps l) (climbedLinks (G .tree) ms l) (G .runState r) 0 hb ∙ no-links _ _)
+            (joined b (climbedState G ms ps l) (climbedLinks (G .tree) ms l) (climbedPassed (G .tree) ms l) (G .runState r) 0 0 hb
+            ∙ no-links _ _ _)
         go false true p q =
             rw (found-none l hl p, found-built r hr q, run-side l hl, climbed-side r hr T depth-right-is q)
-            (joined b (G .runState l) 0 (climbedState G ms ps r) (climbedLinks (G .tree) ms r) hb ∙ own-links _ _)
+            (joined b (G .runState l) 0 0 (climbedState G ms ps r) (climbedLinks (G .tree) ms r) (climbedPassed (G .tree) ms r) hb
+            ∙ own-links _ _ _)
         go false false p q =
-            rw (found-none l hl p, found-none r hr q, run-side l hl, run-side r hr) (joined b (G .runState l) 0 (G .runState r) 0 hb)
+            rw (found-none l hl p, found-none r hr q, run-side l hl, run-side r hr) (joined b (G .runState l) 0 0 (G .runState r) 0 0 hb)
 
   -- ---- any root
 
   pub part-built : (vs bs : List ℕ) → G .labels ≡ changed (labelsOf (G .tree)) vs bs
-      → partOn X (nodesOf ps) (statesOf ps) vs bs v ≡ some (reached (partState G ms ps v) (partLinks (G .tree) ms v))
-  unfolding partOn partState partLinks labelOn leafOn
+      → partOn X (nodesOf ps) (statesOf ps) vs bs v
+      ≡ some (reached (partState G ms ps v) (partLinks (G .tree) ms v) (partPassed (G .tree) ms v))
+  unfolding partOn partState partLinks partPassed labelOn leafOn
   part-built vs bs e =
       let kind : getD (X .kinds) v 0 ≡ kindAt (G .tree) v = ap (λ (l : List ℕ). getD l v 0) (R .kinds) in
       let lab : getD (changed (X .labels) vs bs) v 0 ≡ getD (G .labels) v 0 =

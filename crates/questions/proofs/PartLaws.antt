@@ -45,7 +45,7 @@ module _ (s q : ℕ) where
   unfolding climbedOf
   answer-no h = ap (λ (o : Option ℕ). climbedOf (unmoved o)) (sym (below-no s q h))
 
-  pub answer-yes : q < s → To (reached q 0) ≡ climbedOf (unmoved (below s q))
+  pub answer-yes : q < s → To (reached q 0 0) ≡ climbedOf (unmoved (below s q))
   unfolding climbedOf
   answer-yes h = ap (λ (o : Option ℕ). climbedOf (unmoved o)) (sym (below-yes s q h))
 
@@ -67,7 +67,8 @@ module _ (X : View) (a : ℕ) (x y : Reached) (r : ℕ) (e : below (X .s) r ≡ 
   unfolding joinOn climbedOf
   join-lost h = rw (sym e ∙ below-no (X .s) r h)
 
-  pub join-made : r < X .s → To (reached r (x .links + y .links)) ≡ climbedOf (joinOn X a (some x) (some y))
+  pub join-made : r < X .s
+      → To (reached r (x .links + y .links) (x .passed + y .passed)) ≡ climbedOf (joinOn X a (some x) (some y))
   unfolding joinOn climbedOf
   join-made h = rw (sym e ∙ below-yes (X .s) r h)
 

@@ -38,13 +38,13 @@ side-args n s k ls inn nodeTable stateTable es qs c own P h e f = record {
   inside = λ i z. omega (arith, last-covers c (sizeCell nodeTable c) es i (sym f ∙ z));
 }
 
--- what a side tells is a state with few links
+-- what a side tells is a state, by few links that passed over few nodes
 pub side-few : (X : View) (t c : ℕ) (f g : Option Found) (r : Climbed) → X .n ≤ 65535
-    → r ≡ climbedOf (sideOn X t c f g)
+    → ((v : ℕ) → depthCell (X .nodeTable) v ≤ 65535) → r ≡ climbedOf (sideOn X t c f g)
     → (x : Reached) → reachedIn r ≡ some x → Few (X .s) x
-side-few X t c f g r m e x h =
+side-few X t c f g r m d e x h =
     let b : Bounded X x = side-bounded X t c f g x (sym (ap reachedIn e ∙ reached-answer (sideOn X t c f g)) ∙ h) in
-    record { state = b .state; links = omega (arith, b .links) }
+    record { state = b .state; links = omega (arith, b .links); passed = b .passed 65535 d }
 
 module _ (X : View) (es qs : List ℕ) (v l a i j to : ℕ) (same : length es ≡ length qs)
     (is-to : to ≡ depthCell (X .nodeTable) v + 1)

@@ -16,6 +16,7 @@ use lib.ListN.{length, getD}
 use borrow.Author.Tests.{ltb-true, ltb-false, leb-true, leb-false, eqb-true, eqb-false}
 use Rattle.trees.specs.Numbering.{isInSubtree}
 use Rattle.trees.specs.Climb.{Forest, Move, byJump, toParent, target, andThen, climb, carry}
+use Rattle.trees.specs.Passed.{passedBy}
 use Rattle.trees.proofs.MoveLaws.{none-some, next-inside, next-starts}
 use Rattle.trees.proofs.LinkRangeLaws.{Failed, carried-none}
 use Rattle.list_laws.specs.Tests.{allBelow}
@@ -151,7 +152,7 @@ module _ (X : View) (qs vs bs : List ℕ) where
   unfolding climbOn
   climb-none h t q hh hq e =
       elim (carried-none F (moveOn X) (λ x. x < X .s) keeps t h q hh hq
-      (last-some (climb F h t) (λ ms. carry (moveOn X) ms q) (λ ms x. reached x (length ms)) e)) [
+      (last-some (climb F h t) (λ ms. carry (moveOn X) ms q) (λ ms x. reached x (length ms) (passedBy F h ms)) e)) [
         | inl s ↦ links (link s)
         | inr f ↦ move-none t f
       ]
@@ -187,10 +188,10 @@ module _ (X : View) (qs vs bs : List ℕ) where
     first-inside : (c : ℕ) (f : Found) → foundBelow (X .nodeTable) c es qs ≡ some f → Inside c f
     first-inside c f e = found-inside c es qs none good (λ g i. absurd (none-some i)) f e
 
-    still-none : (q : ℕ) → q < X .s → andThen (below (X .s) q) (λ x. some (reached x 0)) ≡ none → Lost
+    still-none : (q : ℕ) → q < X .s → andThen (below (X .s) q) (λ x. some (reached x 0 0)) ≡ none → Lost
     still-none q h e = go (below (X .s) q) refl e
       where
-        go : (o : Option ℕ) → below (X .s) q ≡ o → andThen o (λ x. some (reached x 0)) ≡ none → Lost
+        go : (o : Option ℕ) → below (X .s) q ≡ o → andThen o (λ x. some (reached x 0 0)) ≡ none → Lost
         go none b i = absurd (omega (arith, h, below-none (X .s) q b))
         go (some x) b i = absurd (none-some (sym i))
 
@@ -198,7 +199,7 @@ module _ (X : View) (qs vs bs : List ℕ) where
     unfolding runReached
     reached-none c h e = go (runOn X c) refl e
       where
-        go : (o : Option ℕ) → runOn X c ≡ o → andThen o (λ x. some (reached x 0)) ≡ none → Lost
+        go : (o : Option ℕ) → runOn X c ≡ o → andThen o (λ x. some (reached x 0 0)) ≡ none → Lost
         go none r i = run-none c h r
         go (some x) r i = absurd (none-some (sym i))
 
@@ -233,7 +234,7 @@ module _ (X : View) (qs vs bs : List ℕ) where
         by-rule (inr h) = h
 
         go : (o : Option ℕ) → ruleOn X (l .state) a (r .state) ≡ o
-            → andThen o (λ q. some (reached q (l .links + r .links))) ≡ none → Lost
+            → andThen o (λ q. some (reached q (l .links + r .links) (l .passed + r .passed))) ≡ none → Lost
         go none b h = by-rule (rule-none (l .state) a (r .state) (i l refl) (j r refl) b)
         go (some q) b h = absurd (none-some (sym h))
 
@@ -260,12 +261,12 @@ module _ (X : View) (qs vs bs : List ℕ) where
       a : ℕ
       a = labelOn X vs bs v
 
-      read : (o : Option ℕ) → below (X .s) (getD (X .leaves) a 0) ≡ o → a < X .k → andThen o (λ q. some (reached q 0)) ≡ none → Lost
+      read : (o : Option ℕ) → below (X .s) (getD (X .leaves) a 0) ≡ o → a < X .k → andThen o (λ q. some (reached q 0 0)) ≡ none → Lost
       read none b l i = leaf a l (below-none (X .s) _ b)
       read (some q) b l i = absurd (none-some (sym i))
 
       go : (t : Bool) → ltb a (X .k) ≡ t
-          → cond t (andThen (below (X .s) (getD (X .leaves) a 0)) (λ q. some (reached q 0))) none ≡ none → Lost
+          → cond t (andThen (below (X .s) (getD (X .leaves) a 0)) (λ q. some (reached q 0 0))) none ≡ none → Lost
       go true t e = read (below (X .s) (getD (X .leaves) a 0)) refl (ltb-true a (X .k) t) e
       go false t e = changed v h (ltb-false a (X .k) t)
 

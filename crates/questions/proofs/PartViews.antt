@@ -7,6 +7,7 @@ use mathlib.Core.List.{List, [], _∷_}
 use mathlib.Core.Option.{Option, none, some}
 use lib.ListN.{length}
 use Rattle.trees.specs.Climb.{Move, byJump, toParent, andThen, climb, carry}
+use Rattle.trees.specs.Passed.{passedBy}
 use Rattle.node_tables.specs.Cells.{depthCell, cellForest}
 use Rattle.tables.specs.Climbs.{View, below, runOn, ruleOn, siblingOn}
 use Rattle.tables.specs.declared.answers.Reached.{Reached}
@@ -36,10 +37,15 @@ module _ (X : View) where
   climb-same h t q = go (climb (cellForest (X .n) (X .nodeTable)) h t)
     where
       go : (o : Option (List Move))
-          → andThen o (λ ms. andThen (carry (moveOn X) ms q) (λ x. some (reached x (length ms))))
-          ≡ andThen o (λ ms. andThen (carry (moveOn (pathOf X)) ms q) (λ x. some (reached x (length ms))))
+          → andThen o (λ ms.
+          andThen (carry (moveOn X) ms q) (λ x. some (reached x (length ms) (passedBy (cellForest (X .n) (X .nodeTable)) h ms))))
+          ≡ andThen o (λ ms.
+          andThen (carry (moveOn (pathOf X)) ms q) (λ x.
+          some (reached x (length ms) (passedBy (cellForest (X .n) (X .nodeTable)) h ms))))
       go none = refl
-      go (some ms) = ap (λ (o : Option ℕ). andThen o (λ x. some (reached x (length ms)))) (carry-same ms q)
+      go (some ms) =
+          ap (λ (o : Option ℕ).
+          andThen o (λ x. some (reached x (length ms) (passedBy (cellForest (X .n) (X .nodeTable)) h ms)))) (carry-same ms q)
 
   from-same : (t : ℕ) (f : Found) → climbFrom X t f ≡ climbFrom (pathOf X) t f
   unfolding climbFrom

@@ -3,7 +3,7 @@
 --     roots-done     roots
 --     part-done      part
 -- Assumes nothing.
-use Prim.Native.Nat.{ℕ, suc, _<_}
+use Prim.Native.Nat.{ℕ, suc, _≤_, _<_}
 use mathlib.Core.Path.{_≡_, refl, sym, ap, ap₂, _∙_}
 use mathlib.Core.Bool.{Bool, true, false, _&&_}
 use mathlib.Core.List.{List, [], _∷_, _++_, List·Memᴰ, List·Memᴰ·cases-cons, List·Memᴰ·not-nil}
@@ -25,7 +25,7 @@ use Rattle.tables.specs.declared.answers.Climbed.{Climbed}
 use Rattle.tables.specs.declared.answers.Reached.{Reached}
 use Rattle.tables.specs.Climbs.{reached, climbedOf, climbedNumber}
 use Rattle.ready.specs.Members as members
-use Rattle.ready.specs.Parts.{Given, Part, nodesOf, statesOf, partState, partLinks}
+use Rattle.ready.specs.Parts.{Given, Part, nodesOf, statesOf, partState, partLinks, partPassed}
 use Rattle.ready.proofs.PartsRun.{Members}
 use Rattle.ready.proofs.ListLaws.{list-members}
 use Rattle.questions.specs.declared.roots.Rooted.{Rooted}
@@ -37,7 +37,7 @@ use Rattle.questions.specs.OutOfRange.{PartOutOfRange}
 use Rattle.questions.specs.Promises.{numberFor, rootedNumber, RootsDone, Asked, PartDone}
 use Rattle.questions.proofs.FitLaws.{Fit, fit-facts, given-yes, given-are}
 use Rattle.questions.proofs.ListedLaws.{given-listed}
-use Rattle.questions.proofs.PartBounds.{partGiven-below, part-links}
+use Rattle.questions.proofs.PartBounds.{partGiven-below, part-links, part-links-passed, part-passed}
 use Rattle.questions.proofs.PartFits as fits
 use Rattle.questions.proofs.PartFits.{asked-are}
 use Rattle.questions.proofs.RootsBuilt.{roots-built}
@@ -113,7 +113,8 @@ module _ (n s k : ℕ) (plan rules nodeTable stateTable roots states vs bs : Lis
 
   by-rule : (G : Given) (ps : List Part) → Asked n s k plan rules nodeTable stateTable roots states vs bs G ps
       → partGiven n s k plan rules nodeTable stateTable roots states vs bs
-      ≡ some (reached (partState G roots ps (getD roots (length states) 0)) (partLinks (G .tree) roots (getD roots (length states) 0)))
+      ≡ some (reached (partState G roots ps (getD roots (length states) 0)) (partLinks (G .tree) roots (getD roots (length states) 0))
+      (partPassed (G .tree) roots (getD roots (length states) 0)))
   unfolding partGiven members.roots
   by-rule G ps A =
       let w : ℕ → Bool = λ v. holds v (A .listed) in
@@ -129,15 +130,19 @@ module _ (n s k : ℕ) (plan rules nodeTable stateTable roots states vs bs : Lis
   reached-number none = refl
   reached-number (some x) = refl
 
-  pub part-done : (r : Climbed) → r ≡ climbedOf (partGiven n s k plan rules nodeTable stateTable roots states vs bs)
+  -- where the node table's numbers have 16 bits
+  pub part-done : ((j : ℕ) → getD nodeTable j 0 ≤ 65535) → (r : Climbed)
+      → r ≡ climbedOf (partGiven n s k plan rules nodeTable stateTable roots states vs bs)
       → PartDone n s k plan rules nodeTable stateTable roots states vs bs r
   unfolding climbedOf
-  part-done r e = record {
+  part-done b r e = record {
     result = e;
     number = ap climbedNumber e ∙ reached-number (partGiven n s k plan rules nodeTable stateTable roots states vs bs);
     out-of-range = λ f i. part-18 f (partGiven n s k plan rules nodeTable stateTable roots states vs bs) refl
         (sym (reached-number (partGiven n s k plan rules nodeTable stateTable roots states vs bs)) ∙ sym (ap climbedNumber e) ∙ i);
     state-below = λ x f. partGiven-below n s k plan rules nodeTable stateTable roots states vs bs x f;
     links-most = λ x f. part-links n s k plan rules nodeTable stateTable roots states vs bs x f;
+    links-passed = λ x f. part-links-passed n s k plan rules nodeTable stateTable roots states vs bs x f;
+    passed-most = λ x f. part-passed n s k plan rules nodeTable stateTable roots states vs bs x f b;
     rule = λ G ps A. e ∙ ap climbedOf (by-rule G ps A);
   }

@@ -5,6 +5,7 @@
 --     highest-is-one      all members below a child are under the greatest of them: the highest is unique
 --     part-is-the-rule    on numbers as built and any bytes below S a part is what the rule gives on those bytes, never 18
 --     part-is-the-run     on the run's own bytes every part has the changed run's state at its root
+--     passed-over         a question passes over no fewer nodes than it has links, and no more than the plan is high for each part
 --     roots-in-range, part-in-range   18 only where a value leads outside the plan, the states or the labels, or a link does not rise
 --     rule-in-range     .. and where the rule holds no value does
 -- That answer, parts and links do not depend on the list's order, and each part's links: crate book (OrderLaws, Ceilings).
@@ -15,7 +16,7 @@ use mathlib.Core.Bool.{Bool, true}
 use mathlib.Core.List.{List, _∷_, _++_, List·Memᴰ}
 use mathlib.Core.Option.{none, some}
 use lib.ListN.{length}
-use Rattle.trees.specs.Tree.{Tree, size, labelsOf}
+use Rattle.trees.specs.Tree.{Tree, size, height, labelsOf}
 use Rattle.trees.specs.Automaton.{state}
 use Rattle.trees.specs.Changes.{changed}
 use Rattle.trees.specs.Numbering.{sub, InSubtree}
@@ -25,12 +26,14 @@ use Rattle.node_tables.specs.NodeCells.{NodeCells}
 use Rattle.tables.specs.Climbs.{View, reached}
 use Rattle.ready.specs.Ready.{Ready, Closed}
 use Rattle.ready.specs.Members.{readyList, roots}
-use Rattle.ready.specs.Parts.{Given, Part, nodesOf, statesOf, stateOf, partState, partLinks, partsOf}
+use Rattle.ready.specs.Parts.{Given, Part, nodesOf, statesOf, stateOf, partState, partLinks, partPassed, partsOf}
+use Rattle.ready.specs.Parts.{questionLinks, questionPassed}
 use Rattle.ready.proofs.ClosedForm as closed-form
 use Rattle.ready.proofs.HighestLaws.{Highest, highest-holds}
 use Rattle.ready.proofs.ChangedRun.{Changes}
 use Rattle.ready.specs.StaysInside.{StaysInside}
 use Rattle.ready.proofs.PartsRun.{Members, RunGiven, parts-right}
+use Rattle.ready.proofs.PassedLaws.{question-passed}
 use Rattle.questions.specs.Roots.{rootsOn}
 use Rattle.questions.specs.Part.{partOn}
 use Rattle.questions.specs.OutOfRange.{PartOutOfRange}
@@ -62,12 +65,18 @@ highest-is-one = highest-holds
 part-is-the-rule : (X : View) (G : Given) → Reads X G → (w : ℕ → Bool) (ms : List ℕ) → Members w (G .tree) ms → (ps : List Part) (v : ℕ)
     (rest : List ℕ) → nodesOf ps ++ (v ∷ rest) ≡ ms → ((x : ℕ) → stateOf ps x < X .s) → (vs bs : List ℕ)
     → G .labels ≡ changed (labelsOf (G .tree)) vs bs
-    → partOn X (nodesOf ps) (statesOf ps) vs bs v ≡ some (reached (partState G ms ps v) (partLinks (G .tree) ms v))
+    → partOn X (nodesOf ps) (statesOf ps) vs bs v
+    ≡ some (reached (partState G ms ps v) (partLinks (G .tree) ms v) (partPassed (G .tree) ms v))
 part-is-the-rule = part-built
 
 part-is-the-run : (G : Given) (u : Tree) → RunGiven G u → StaysInside (G .automaton) → (w : ℕ → Bool) → Changes w (G .tree) u → (ms : List ℕ)
     → Members w (G .tree) ms → (v : ℕ) → List·Memᴰ v ms → stateOf (partsOf G ms) v ≡ state (G .automaton) (sub u v)
 part-is-the-run = parts-right
+
+passed-over : (w : ℕ → Bool) (t : Tree)
+    → (questionLinks t (readyList w t) ≤ questionPassed t (readyList w t))
+    × (questionPassed t (readyList w t) ≤ length (readyList w t) * height t)
+passed-over = question-passed
 
 roots-in-range : (n : ℕ) (nodeTable vs : List ℕ) → 0 < n → allBelow n vs ≡ true → rootsOn n nodeTable vs ≡ none → NodeTableOutOfRange n nodeTable
 roots-in-range = roots-out-of-range

@@ -45,14 +45,15 @@ unfoldable pub climbFrom : View → ℕ → Found → Option Reached
 climbFrom X t f = andThen (below (X .s) (f .state)) (λ q. climbOn X (f .node) t q)
 
 unfoldable pub runReached : View → ℕ → Option Reached
-runReached X c = andThen (runOn X c) (λ x. some (reached x 0))
+runReached X c = andThen (runOn X c) (λ x. some (reached x 0 0))
 
 unfoldable pub ownReached : View → Found → Option Reached
-ownReached X f = andThen (below (X .s) (f .state)) (λ q. some (reached q 0))
+ownReached X f = andThen (below (X .s) (f .state)) (λ q. some (reached q 0 0))
 
 unfoldable pub joinOn : View → ℕ → Option Reached → Option Reached → Option Reached
 joinOn X a x y =
-    andThen x (λ l. andThen y (λ r. andThen (ruleOn X (l .state) a (r .state)) (λ q. some (reached q (l .links + r .links)))))
+    andThen x (λ l. andThen y (λ r. andThen (ruleOn X (l .state) a (r .state)) (λ q.
+    some (reached q (l .links + r .links) (l .passed + r .passed)))))
 
 -- "A member with no member below takes its children's states from the run. With members below both children it takes theirs. With
 -- members below one child only, .. climb from w to depth(v)+1 and use the other child's run state."
@@ -63,7 +64,7 @@ innerOn X t l r a none (some g) = joinOn X a (runReached X l) (climbFrom X t g)
 innerOn X t l r a (some f) (some g) = joinOn X a (ownReached X f) (ownReached X g)
 
 unfoldable pub leafOn : View → ℕ → Option Reached
-leafOn X a = cond (ltb a (X .k)) (andThen (below (X .s) (getD (X .leaves) a 0)) (λ q. some (reached q 0))) none
+leafOn X a = cond (ltb a (X .k)) (andThen (below (X .s) (getD (X .leaves) a 0)) (λ q. some (reached q 0 0))) none
 
 unfoldable pub forkOn : View → List ℕ → List ℕ → ℕ → ℕ → ℕ → Option Reached
 forkOn X es qs v l a =

@@ -24,7 +24,7 @@ use Rattle.tables.specs.declared.answers.Climbed.the-variants.{Reached as To}
 use Rattle.tables.specs.declared.answers.Reached.{Reached}
 use Rattle.tables.specs.Climbs.{View, climbedOf, climbedNumber, reached}
 use Rattle.ready.specs.Members as members
-use Rattle.ready.specs.Parts.{Given, Part, nodesOf, statesOf, stateOf, partState, partLinks}
+use Rattle.ready.specs.Parts.{Given, Part, nodesOf, statesOf, stateOf, partState, partLinks, partPassed}
 use Rattle.questions.specs.declared.roots.Rooted.{Rooted}
 use Rattle.questions.specs.Rising.{RisesTo}
 use Rattle.questions.specs.RootsAnswers.{rootsFit, rootsGiven, rootedOf}
@@ -97,9 +97,12 @@ pub record PartDone (n s k : ℕ) (plan rules nodeTable stateTable roots states 
   -- 18 on what fits: a value leads outside the plan, the states or the labels, or a link does not rise
   pub out-of-range : partFits n s k plan rules nodeTable stateTable roots states vs bs ≡ true → climbedNumber r ≡ 18
       → PartOutOfRange (viewIn n s k plan rules nodeTable stateTable) states vs bs
-  -- on whatever is lent: a state, and no more links than a plan has nodes
+  -- on whatever is lent: a state, and no more links than a plan has nodes; as many nodes passed over or more, which fit 16 bits
   pub state-below : (x : Reached) → partGiven n s k plan rules nodeTable stateTable roots states vs bs ≡ some x → x .state < s
   pub links-most : (x : Reached) → partGiven n s k plan rules nodeTable stateTable roots states vs bs ≡ some x → x .links ≤ 65535
+  pub links-passed : (x : Reached) → partGiven n s k plan rules nodeTable stateTable roots states vs bs ≡ some x → x .links ≤ x .passed
+  pub passed-most : (x : Reached) → partGiven n s k plan rules nodeTable stateTable roots states vs bs ≡ some x → x .passed ≤ 65535
   -- "run states and maps are any bytes below S": what the rule gives on those bytes, never 18
   pub rule : (G : Given) (ps : List Part) → Asked n s k plan rules nodeTable stateTable roots states vs bs G ps
-      → r ≡ To (reached (partState G roots ps (getD roots (length states) 0)) (partLinks (G .tree) roots (getD roots (length states) 0)))
+      → r ≡ To (reached (partState G roots ps (getD roots (length states) 0)) (partLinks (G .tree) roots (getD roots (length states) 0))
+      (partPassed (G .tree) roots (getD roots (length states) 0)))

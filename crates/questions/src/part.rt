@@ -1,5 +1,5 @@
-// One part of a question: the state of its root, from the parts before it, and the links of its climb, on whatever is
-// lent.
+// One part of a question: the state of its root, from the parts before it, the links of its climb, and the nodes passed
+// over, on whatever is lent.
 use crate::fits::asked_fits;
 use crate::scan::last_in;
 use formats::buffers::limits_fit;
@@ -56,6 +56,7 @@ fn handled_state(q: usize, s: usize) -> Climbed
     Climbed::Reached(Reached {
         state: q as u8,
         links: 0,
+        passed: 0,
     })
 }
 
@@ -70,7 +71,7 @@ fn leaf_on(leaves: &[u8], s: usize, k: usize, a: usize) -> Climbed
     handled_state(leaves[a] as usize, s)
 }
 
-// The rule for the states of both children and the label a, with the links of both.
+// The rule for the states of both children and the label a, with the links and the nodes passed over of both.
 fn join_on(inner: &[u8], s: usize, k: usize, a: usize, left: Climbed, right: Climbed) -> Climbed
     requires { ⌜ JoinArgs s k (now inner) left right ⌝ }
     ensures { λ r. ⌜ r
@@ -86,6 +87,7 @@ fn join_on(inner: &[u8], s: usize, k: usize, a: usize, left: Climbed, right: Cli
                 Climbed::Reached(Reached {
                     state: r as u8,
                     links: x.links + y.links,
+                    passed: x.passed + y.passed,
                 })
             }
             Climbed::OutOfRange => Climbed::OutOfRange,

@@ -8,3 +8,5 @@ pub mod PartsRun
 pub mod ListLaws
 pub mod PartitionLaws
 pub mod MonotoneLaws
+pub mod PassedLaws
+pub mod PassedSample

@@ -7,11 +7,14 @@
 -- moveState G m q == what one move of a climb makes of state q
 -- climbMoves t h c == the moves of the climb from node h to the depth of c
 -- partLinks t ms v == the links of the part of root v: the moves of its climb, if it has one; questionLinks t ms == those of all parts
--- Part == a root, its state and the links of its climb; stateOf ps v == the state of the part of root v among ps; 0 where there is none
+-- partPassed t ms v == the nodes passed over by the climb of that part, if it has one; questionPassed t ms == by those of all parts
+-- Part == a root, its state, the links of its climb and the nodes passed over
+-- stateOf ps v == the state of the part of root v among ps; 0 where there is none
 -- partState G ms ps v, partOf G ms ps v == the state of the part of root v, and the part, where ms are the roots and ps the parts before
 -- partsOf G ms == all parts, in rising node number
 -- nodesOf ps, statesOf ps == the roots and the states of parts
 -- lastState ps q, allLinks ps == the state of the last part, which is the plan's root (q where there is none); the links of all
+-- allPassed ps == the nodes passed over by all
 --
 -- Assumes nothing.
 use Prim.Native.Nat.{ℕ, _+_, _-_, _≤_}
@@ -83,13 +86,29 @@ sumOf f (v ∷ vs) = f v + sumOf f vs
 unfoldable pub questionLinks : Tree → List ℕ → ℕ
 questionLinks t ms = sumOf (partLinks t ms) ms
 
+-- "the depth of its start less the depth of its end" (document 02, S-7): the climb from the highest member below child c to c's depth
+unfoldable pub climbedPassed : Tree → List ℕ → ℕ → ℕ
+climbedPassed t ms c = depth t (highestBelow ms t c) - depth t c
+
+unfoldable pub innerPassed : Tree → List ℕ → ℕ → ℕ → ℕ
+innerPassed t ms l r =
+    cond (anyBelow ms t l) (cond (anyBelow ms t r) 0 (climbedPassed t ms l)) (cond (anyBelow ms t r) (climbedPassed t ms r) 0)
+
+unfoldable pub partPassed : Tree → List ℕ → ℕ → ℕ
+partPassed t ms v = cond (eqb (kindAt t v) 0) 0 (innerPassed t ms (leftChild t v) (rightChild v))
+
+-- "Question and branch answers carry the total over their climbs"
+unfoldable pub questionPassed : Tree → List ℕ → ℕ
+questionPassed t ms = sumOf (partPassed t ms) ms
+
 pub record Part : Type 0 where
   pub node : ℕ
   pub state : ℕ
   pub links : ℕ
+  pub passed : ℕ
 
-abbrev pub part : ℕ → ℕ → ℕ → Part
-part v q n = record { node = v; state = q; links = n }
+abbrev pub part : ℕ → ℕ → ℕ → ℕ → Part
+part v q n p = record { node = v; state = q; links = n; passed = p }
 
 abbrev pub nodesOf : List Part → List ℕ
 nodesOf [] = []
@@ -129,7 +148,7 @@ partState G ms ps v =
     (innerState G ms ps v (leftChild (G .tree) v) (rightChild v))
 
 unfoldable pub partOf : Given → List ℕ → List Part → ℕ → Part
-partOf G ms ps v = part v (partState G ms ps v) (partLinks (G .tree) ms v)
+partOf G ms ps v = part v (partState G ms ps v) (partLinks (G .tree) ms v) (partPassed (G .tree) ms v)
 
 -- "parts are handled in rising node number, one for each advance"
 unfoldable pub partsFrom : Given → List ℕ → List Part → List ℕ → List Part
@@ -139,7 +158,7 @@ partsFrom G ms ps (v ∷ vs) = partsFrom G ms (ps ++ (partOf G ms ps v ∷ [])) 
 unfoldable pub partsOf : Given → List ℕ → List Part
 partsOf G ms = partsFrom G ms [] ms
 
--- the state of the plan's root, and the links of all climbs
+-- the state of the plan's root, and the links and the nodes passed over of all climbs
 unfoldable pub lastState : List Part → ℕ → ℕ
 lastState [] q = q
 lastState (p ∷ ps) q = lastState ps (p .state)
@@ -147,3 +166,7 @@ lastState (p ∷ ps) q = lastState ps (p .state)
 unfoldable pub allLinks : List Part → ℕ
 allLinks [] = 0
 allLinks (p ∷ ps) = p .links + allLinks ps
+
+unfoldable pub allPassed : List Part → ℕ
+allPassed [] = 0
+allPassed (p ∷ ps) = p .passed + allPassed ps

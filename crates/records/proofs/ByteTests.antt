@@ -1,8 +1,8 @@
 -- The tests of bytes as the code makes them, and the struct's bytes as the code writes them, against their definitions.
 --     laid-short, laid-test       laidOut
 --     valid-not, valid-test       validBytes
---     encode-other, encode-done   encode on a buffer of another length, and of 975 bytes
---     head-written, last-written  13 stores in a row, and eight
+--     encode-other, encode-done   encode on a buffer of another length, and of 983 bytes
+--     head-written, last-written  13 stores in a row, and 16
 --     part-written                a part of a buffer that is written behind what is written
 --     record-written              the first 13 bytes and the five parts behind them
 --     step-other, step-done       the same of what an advance alters
@@ -32,23 +32,23 @@ use Rattle.records.specs.Layout.{numbers16, bytes16, phaseByte, phaseAt,
 use Rattle.records.specs.Layout.{run, decodedHead, decodedLast, decoded, flagsFit, laidOut, validBytes, InTypes}
 
 module _ (b : List ℕ) where
-  pub laid-short : (length b ≡ 975 → ⊥) → false ≡ laidOut b
+  pub laid-short : (length b ≡ 983 → ⊥) → false ≡ laidOut b
   unfolding laidOut
-  laid-short h = rw (ne-eqb (length b) 975 h)
+  laid-short h = rw (ne-eqb (length b) 983 h)
 
-  pub laid-test : length b ≡ 975 → flagsFit b ≡ laidOut b
+  pub laid-test : length b ≡ 983 → flagsFit b ≡ laidOut b
   unfolding laidOut
-  laid-test h = rw (eq-eqb (length b) 975 h)
+  laid-test h = rw (eq-eqb (length b) 983 h)
 
-  pub laid-length : laidOut b ≡ true → length b ≡ 975
+  pub laid-length : laidOut b ≡ true → length b ≡ 983
   unfolding laidOut
-  laid-length e = eqb-true (length b) 975 (and-left (eqb (length b) 975) (flagsFit b) e)
+  laid-length e = eqb-true (length b) 983 (and-left (eqb (length b) 983) (flagsFit b) e)
 
   pub valid-not : (r : Bool) → r ≡ laidOut b → not r ≡ true → false ≡ validBytes b
   unfolding validBytes
   valid-not r e f = rw (← e, not-true r f)
 
-  pub valid-laid : (r : Bool) → r ≡ laidOut b → not r ≡ false → length b ≡ 975
+  pub valid-laid : (r : Bool) → r ≡ laidOut b → not r ≡ false → length b ≡ 983
   valid-laid r e f = laid-length (sym e ∙ not-false r f)
 
   pub valid-test : (r q : Bool) (s : Session) → r ≡ laidOut b → not r ≡ false → s ≡ decoded b → q ≡ valid s
@@ -57,12 +57,12 @@ module _ (b : List ℕ) where
   valid-test r q s e f g h = rw (← e, not-false r f, ← g) h
 
 module _ (out : List ℕ) (s : Session) where
-  pub encode-other : (length out ≡ 975 → ⊥) → out ≡ cond (eqb (length out) 975) (encoded s) out
-  encode-other h = rw (ne-eqb (length out) 975 h)
+  pub encode-other : (length out ≡ 983 → ⊥) → out ≡ cond (eqb (length out) 983) (encoded s) out
+  encode-other h = rw (ne-eqb (length out) 983 h)
 
-  pub encode-done : (after : List ℕ) → length out ≡ 975 → after ≡ encoded s
-      → after ≡ cond (eqb (length out) 975) (encoded s) out
-  encode-done after h e = rw (eq-eqb (length out) 975 h) e
+  pub encode-done : (after : List ℕ) → length out ≡ 983 → after ≡ encoded s
+      → after ≡ cond (eqb (length out) 983) (encoded s) out
+  encode-done after h e = rw (eq-eqb (length out) 983 h) e
 
 sets-all : (out vs : List ℕ) → length out ≡ length vs → sets out 0 vs ≡ vs
 sets-all out vs e =
@@ -74,9 +74,10 @@ pub head-written : (out : List ℕ) (h : Head) (p y : ℕ) → length out ≡ 13
     → y ≡ yesByte (h .yes) → sets out 0 (p ∷ y ∷ drop 2 (headBytes h)) ≡ headBytes h
 head-written out h p y e f g = rw (← f, ← g) (sets-all out (p ∷ y ∷ drop 2 (headBytes h)) e)
 
-pub last-written : (out : List ℕ) (l : Last) (f y : ℕ) → length out ≡ 8 → f ≡ yesByte (l .present)
-    → y ≡ yesByte (l .outcome .yes) → sets out 0 (f ∷ l .outcome .state ∷ y ∷ drop 3 (lastBytes l)) ≡ lastBytes l
-last-written out l f y e g h = rw (← g, ← h) (sets-all out (f ∷ l .outcome .state ∷ y ∷ drop 3 (lastBytes l)) e)
+pub last-written : (out : List ℕ) (h : Head) (f y : ℕ) → length out ≡ 16 → f ≡ yesByte (h .last .present)
+    → y ≡ yesByte (h .last .outcome .yes)
+    → sets out 0 (f ∷ h .last .outcome .state ∷ y ∷ drop 3 (lastBytes h)) ≡ lastBytes h
+last-written out h f y e g i = rw (← g, ← i) (sets-all out (f ∷ h .last .outcome .state ∷ y ∷ drop 3 (lastBytes h)) e)
 
 -- p stands before place a; k bytes ys go behind it
 pub part-written : (x p o ys : List ℕ) (a k : ℕ) → x ≡ p ++ drop a o → length p ≡ a
@@ -94,9 +95,9 @@ joined p q a b e f = rw (length-append, e, f)
 regrouped : (h n l r t w : List ℕ) → ((((h ++ n) ++ l) ++ r) ++ t) ++ w ≡ h ++ (n ++ (l ++ (r ++ (t ++ w))))
 regrouped h n l r t w = simp append-assoc
 
-pub record-written : (o : List ℕ) (s : Session) (h n l r t w : List ℕ) → length o ≡ 975 → InTypes s → h ≡ headBytes (s .head)
-    → n ≡ bytes16 (s .nodes) → l ≡ s .labels → r ≡ bytes16 (s .roots) → t ≡ s .states → w ≡ lastBytes (s .head .last)
-    → put 967 8 (put 713 254 (put 205 508 (put 141 64 (put 13 128 (h ++ drop 13 o) n) l) r) t) w ≡ encoded s
+pub record-written : (o : List ℕ) (s : Session) (h n l r t w : List ℕ) → length o ≡ 983 → InTypes s → h ≡ headBytes (s .head)
+    → n ≡ bytes16 (s .nodes) → l ≡ s .labels → r ≡ bytes16 (s .roots) → t ≡ s .states → w ≡ lastBytes (s .head)
+    → put 967 16 (put 713 254 (put 205 508 (put 141 64 (put 13 128 (h ++ drop 13 o) n) l) r) t) w ≡ encoded s
 unfolding encoded
 record-written o s h n l r t w e z eh en el er et ew =
     let lh : length h ≡ 13 = ap length eh in
@@ -112,47 +113,53 @@ record-written o s h n l r t w e z eh en el er et ew =
     let x₄ = part-written y (((h ++ n) ++ l) ++ r) o t 713 254 x₃ l₃ in
     let lt : length t ≡ 254 = ap length et ∙ z .states-length in
     let l₄ = joined (((h ++ n) ++ l) ++ r) t 713 254 l₃ lt in
-    let x₅ = part-written (put 713 254 y t) ((((h ++ n) ++ l) ++ r) ++ t) o w 967 8 x₄ l₄ in
+    let x₅ = part-written (put 713 254 y t) ((((h ++ n) ++ l) ++ r) ++ t) o w 967 16 x₄ l₄ in
     x₅
-    ∙ (ap (λ (u : List ℕ). (((((h ++ n) ++ l) ++ r) ++ t) ++ w) ++ u) (drop-of-length-le o {i = 975} (omega arith))
+    ∙ (ap (λ (u : List ℕ). (((((h ++ n) ++ l) ++ r) ++ t) ++ w) ++ u) (drop-of-length-le o {i = 983} (omega arith))
     ∙ (append-nil (((((h ++ n) ++ l) ++ r) ++ t) ++ w) ∙ (regrouped h n l r t w ∙ rw (eh, en, el, er, et, ew))))
 
 module _ (out new : List ℕ) where
-  pub step-other : (length out ≡ 975 → ⊥) → out ≡ cond (eqb (length out) 975) new out
-  step-other h = rw (ne-eqb (length out) 975 h)
+  pub step-other : (length out ≡ 983 → ⊥) → out ≡ cond (eqb (length out) 983) new out
+  step-other h = rw (ne-eqb (length out) 983 h)
 
-  step-cond : (after : List ℕ) → length out ≡ 975 → after ≡ new → after ≡ cond (eqb (length out) 975) new out
-  step-cond after h e = rw (eq-eqb (length out) 975 h) e
+  step-cond : (after : List ℕ) → length out ≡ 983 → after ≡ new → after ≡ cond (eqb (length out) 983) new out
+  step-cond after h e = rw (eq-eqb (length out) 983 h) e
 
-step-written : (o h t w : List ℕ) → length o ≡ 975 → length h ≡ 13 → length t ≡ 254
-    → put 967 8 (put 713 254 (h ++ drop 13 o) t) w ≡ h ++ (run 13 700 o ++ (t ++ w))
+step-written : (o h t w : List ℕ) → length o ≡ 983 → length h ≡ 13 → length t ≡ 254
+    → put 967 16 (put 713 254 (h ++ drop 13 o) t) w ≡ h ++ (run 13 700 o ++ (t ++ w))
 step-written o h t w e lh lt =
     let p = h ++ run 13 700 o in
     let x₀ : h ++ drop 13 o ≡ (h ++ run 13 700 o) ++ drop 713 o = rw (append-assoc, run-then o 13 700) in
     let lp = joined h (run 13 700 o) 13 700 lh (length-part o 13 700 (omega arith)) in
     let x₁ = part-written (h ++ drop 13 o) p o t 713 254 x₀ lp in
-    let x₂ = part-written (put 713 254 (h ++ drop 13 o) t) (p ++ t) o w 967 8 x₁ (joined p t 713 254 lp lt) in
+    let x₂ = part-written (put 713 254 (h ++ drop 13 o) t) (p ++ t) o w 967 16 x₁ (joined p t 713 254 lp lt) in
     x₂
-    ∙ (ap (λ (u : List ℕ). ((p ++ t) ++ w) ++ u) (drop-of-length-le o {i = 975} (omega arith))
+    ∙ (ap (λ (u : List ℕ). ((p ++ t) ++ w) ++ u) (drop-of-length-le o {i = 983} (omega arith))
     ∙ (append-nil ((p ++ t) ++ w) ∙ simp append-assoc))
 
-pub step-done : (o : List ℕ) (g : Head) (s h t w : List ℕ) → length o ≡ 975 → length s ≡ 254 → h ≡ headBytes g → t ≡ s
-    → w ≡ lastBytes (g .last)
-    → put 967 8 (put 713 254 (h ++ drop 13 o) t) w ≡ cond (eqb (length o) 975) (stepBytes g s o) o
+pub step-done : (o : List ℕ) (g : Head) (s h t w : List ℕ) → length o ≡ 983 → length s ≡ 254 → h ≡ headBytes g → t ≡ s
+    → w ≡ lastBytes g
+    → put 967 16 (put 713 254 (h ++ drop 13 o) t) w ≡ cond (eqb (length o) 983) (stepBytes g s o) o
 step-done o g s h t w e ls eh et ew =
     step-cond o (stepBytes g s o) _ e
     (step-written o h t w e (ap length eh) (ap length et ∙ ls)
     ∙ rw (eh, et, ew))
 
-pub last-read : (t : List ℕ) (links : ℕ) → links ≡ le32 t 4
+pub last-read : (t : List ℕ) (links passed : ℕ) → links ≡ le32 t 4 → passed ≡ le32 t 12
     → _≡_ {A = Last} (record {
       present = eqb (getD t 0 0) 1;
-      outcome = record { state = getD t 1 0; yes = eqb (getD t 2 0) 1; parts = getD t 3 0; links = links };
+      outcome = record {
+        state = getD t 1 0;
+        yes = eqb (getD t 2 0) 1;
+        parts = getD t 3 0;
+        links = links;
+        passed = passed;
+      };
     }) (decodedLast t)
-last-read t links e = cc
+last-read t links passed e f = cc
 
-pub head-read : (b : List ℕ) (p : Phase) (n links : ℕ) (l : Last) → p ≡ phaseAt (getD b 0 0) → n ≡ le16 b 4 → links ≡ le32 b 9
-    → l ≡ decodedLast (run 967 8 b)
+pub head-read : (b : List ℕ) (p : Phase) (n links passed : ℕ) (l : Last) → p ≡ phaseAt (getD b 0 0) → n ≡ le16 b 4
+    → links ≡ le32 b 9 → passed ≡ le32 b 975 → l ≡ decodedLast (run 967 16 b)
     → _≡_ {A = Head} (record {
       phase = p;
       yes = eqb (getD b 1 0) 1;
@@ -161,9 +168,10 @@ pub head-read : (b : List ℕ) (p : Phase) (n links : ℕ) (l : Last) → p ≡ 
       parts = getD b 7 0;
       handled = getD b 8 0;
       links = links;
+      passed = passed;
       last = l;
     }) (decodedHead b)
-head-read b p n links l e f g h = cc
+head-read b p n links passed l e f g i h = cc
 
 pub record-read : (b : List ℕ) (h : Head) (nodes labels roots states : List ℕ) → h ≡ decodedHead b
     → nodes ≡ numbers16 (run 13 128 b) → labels ≡ run 141 64 b → roots ≡ numbers16 (run 205 508 b) → states ≡ run 713 254 b

@@ -2,7 +2,7 @@
 --     behind, first-run       a run behind a list, and a run that is the list
 --     run-then                a run, and what stands behind it
 --     firsts-then             the bytes from a place on, one by one, and what stands behind them
---     head-same, last-same    a record's first bytes, and its last eight, field by field
+--     head-same, last-same    a record's first bytes, and its last 16, field by field
 --     run-at                  a byte of a run
 --     firsts-all              all bytes, one by one
 --     cons-fits, append-fits, run-fits, le32-fit
@@ -52,9 +52,9 @@ pub head-same : (a b m q h : ℕ) (p y p′ y′ : ℕ) (u v u′ v′ : List �
     → p ∷ y ∷ a ∷ b ∷ (u ++ (m ∷ q ∷ h ∷ v)) ≡ p′ ∷ y′ ∷ a ∷ b ∷ (u′ ++ (m ∷ q ∷ h ∷ v′))
 head-same a b m q h p y p′ y′ u v u′ v′ e f g i = cc
 
-pub last-same : (s p : ℕ) (f y f′ y′ : ℕ) (v v′ : List ℕ) → f ≡ f′ → y ≡ y′ → v ≡ v′
-    → f ∷ s ∷ y ∷ p ∷ v ≡ f′ ∷ s ∷ y′ ∷ p ∷ v′
-last-same s p f y f′ y′ v v′ e g i = cc
+pub last-same : (s p : ℕ) (f y f′ y′ : ℕ) (v w x v′ w′ x′ : List ℕ) → f ≡ f′ → y ≡ y′ → v ≡ v′ → w ≡ w′ → x ≡ x′
+    → f ∷ s ∷ y ∷ p ∷ (v ++ (w ++ x)) ≡ f′ ∷ s ∷ y′ ∷ p ∷ (v′ ++ (w′ ++ x′))
+last-same s p f y f′ y′ v w x v′ w′ x′ e g h i j = cc
 
 pub run-at : (b : List ℕ) (a n i : ℕ) → i < n → getD (run a n b) i 0 ≡ getD b (a + i) 0
 run-at b a n i h = getD-take n (drop a b) i 0 h ∙ getD-drop a b i 0

@@ -1,8 +1,8 @@
 -- The record's bytes and the bytes' record are each other's.
 --     decode-encode       the struct of a struct's bytes is the struct, whatever its types allow
 --     encode-decode       the bytes of the struct of a record are the record; encode-laid: of any bytes that are laid out
---     encoded-length      975 bytes, each below 256 (encoded-bytes)
---     fresh-bytes         a fresh session's bytes are 975 zeros, and fresh-valid: they are a record
+--     encoded-length      983 bytes, each below 256 (encoded-bytes)
+--     fresh-bytes         a fresh session's bytes are 983 zeros, and fresh-valid: they are a record
 --     encoded-valid       the bytes of a valid struct are a record
 --     decoded-valid       the struct of a record is valid
 --     decoded-types       what types say holds of the struct of bytes
@@ -17,6 +17,7 @@ use lib.ListN.{length, getD, drop, replicate, length-append, length-drop}
 use lib.Seq.{take-all}
 use borrow.Author.Tests.{leb-true, eq-eqb, le-leb}
 use Rattle.list_laws.specs.Tests.{allBelow}
+use Rattle.formats.specs.Bytes.{le32, le32Bytes}
 use Rattle.formats.proofs.ByteLaws.{bytes-number, number-bytes}
 use Rattle.list_laws.proofs.SliceLaws.{length-part}
 use Rattle.list_laws.proofs.BoolLaws.{and-left, and-right, and-both}
@@ -41,7 +42,7 @@ module _ (s : Session) (t : InTypes s) where
   roots-long : length (bytes16 (s .roots)) ≡ 508
   roots-long = bytes16-length (s .roots) ∙ ap (λ (k : ℕ). 2 * k) (t .roots-length)
 
-  pub encoded-length : length (encoded s) ≡ 975
+  pub encoded-length : length (encoded s) ≡ 983
   unfolding encoded
   encoded-length =
       let e = nodes-long in
@@ -52,7 +53,7 @@ module _ (s : Session) (t : InTypes s) where
 
   -- what stands behind the head, the nodes, the labels and the roots
   abbrev tail : List ℕ
-  tail = s .states ++ lastBytes (s .head .last)
+  tail = s .states ++ lastBytes (s .head)
 
   encoded-nodes : run 13 128 (encoded s) ≡ bytes16 (s .nodes)
   unfolding encoded
@@ -82,29 +83,35 @@ module _ (s : Session) (t : InTypes s) where
       ∙ behind (bytes16 (s .nodes)) (s .labels ++ (bytes16 (s .roots) ++ tail)) 128 572 254 nodes-long
       ∙ behind (s .labels) (bytes16 (s .roots) ++ tail) 64 508 254 (t .labels-length)
       ∙ behind (bytes16 (s .roots)) tail 508 0 254 roots-long
-      ∙ first-run (s .states) (lastBytes (s .head .last)) 254 (t .states-length)
+      ∙ first-run (s .states) (lastBytes (s .head)) 254 (t .states-length)
 
-  encoded-last : run 967 8 (encoded s) ≡ lastBytes (s .head .last)
+  encoded-last : run 967 16 (encoded s) ≡ lastBytes (s .head)
   unfolding encoded
   encoded-last =
-      behind (headBytes (s .head)) (restBytes s) 13 954 8 refl
-      ∙ behind (bytes16 (s .nodes)) (s .labels ++ (bytes16 (s .roots) ++ tail)) 128 826 8 nodes-long
-      ∙ behind (s .labels) (bytes16 (s .roots) ++ tail) 64 762 8 (t .labels-length)
-      ∙ behind (bytes16 (s .roots)) tail 508 254 8 roots-long
-      ∙ behind (s .states) (lastBytes (s .head .last)) 254 0 8 (t .states-length)
+      behind (headBytes (s .head)) (restBytes s) 13 954 16 refl
+      ∙ behind (bytes16 (s .nodes)) (s .labels ++ (bytes16 (s .roots) ++ tail)) 128 826 16 nodes-long
+      ∙ behind (s .labels) (bytes16 (s .roots) ++ tail) 64 762 16 (t .labels-length)
+      ∙ behind (bytes16 (s .roots)) tail 508 254 16 roots-long
+      ∙ behind (s .states) (lastBytes (s .head)) 254 0 16 (t .states-length)
 
-  -- a byte of the answer that is kept
-  last-at : (i : ℕ) → i < 8 → getD (encoded s) (967 + i) 0 ≡ getD (lastBytes (s .head .last)) i 0
-  last-at i h = sym (run-at (encoded s) 967 8 i h) ∙ ap (λ (l : List ℕ). getD l i 0) encoded-last
+  -- a byte of the last 16
+  last-at : (i : ℕ) → i < 16 → getD (encoded s) (967 + i) 0 ≡ getD (lastBytes (s .head)) i 0
+  last-at i h = sym (run-at (encoded s) 967 16 i h) ∙ ap (λ (l : List ℕ). getD l i 0) encoded-last
 
-  last-read-again : decodedLast (run 967 8 (encoded s)) ≡ s .head .last
+  last-read-again : decodedLast (run 967 16 (encoded s)) ≡ s .head .last
   last-read-again =
       ap decodedLast encoded-last
       ∙ rw (
         yes-again (s .head .last .present),
         yes-again (s .head .last .outcome .yes),
         bytes-number (s .head .last .outcome .links) (t .last-links-fit),
+        bytes-number (s .head .last .outcome .passed) (t .last-passed-fits),
       )
+
+  passed-read-again : le32 (encoded s) 975 ≡ s .head .passed
+  passed-read-again =
+      rw (last-at 8 (omega arith), last-at 9 (omega arith), last-at 10 (omega arith), last-at 11 (omega arith))
+      (bytes-number (s .head .passed) (t .passed-fits))
 
   -- the numbers of the head, read where they were written
   head-read : decodedHead (encoded s) ≡ s .head
@@ -115,6 +122,7 @@ module _ (s : Session) (t : InTypes s) where
         yes-again (s .head .yes),
         bytes-two (s .head .sizes .n) (t .n-fits),
         bytes-number (s .head .links) (t .links-fit),
+        passed-read-again,
         last-read-again,
       )
 
@@ -130,7 +138,7 @@ module _ (s : Session) (t : InTypes s) where
   unfolding laidOut encoded
   encoded-laid =
       rw (
-        eq-eqb (length (encoded s)) 975 encoded-length,
+        eq-eqb (length (encoded s)) 983 encoded-length,
         le-leb (phaseByte (s .head .phase)) 3 (phase-most (s .head .phase)),
         le-leb (yesByte (s .head .yes)) 1 (yes-most (s .head .yes)),
         last-at 0 (omega arith),
@@ -156,13 +164,16 @@ module _ (s : Session) (t : InTypes s) where
       (cons-fits (s .head .parts) (drop 8 (headBytes (s .head))) (t .parts-fit)
       (cons-fits (s .head .handled) (drop 9 (headBytes (s .head))) (t .handled-fits) (le32-fit (s .head .links))))))))))
 
-  last-bytes-fit : Bytes (lastBytes (s .head .last))
+  last-bytes-fit : Bytes (lastBytes (s .head))
   last-bytes-fit =
+      let h = s .head in
       let l = s .head .last in
-      cons-fits (yesByte (l .present)) (drop 1 (lastBytes l)) (omega (arith, yes-most (l .present)))
-      (cons-fits (l .outcome .state) (drop 2 (lastBytes l)) (t .last-state-fits)
-      (cons-fits (yesByte (l .outcome .yes)) (drop 3 (lastBytes l)) (omega (arith, yes-most (l .outcome .yes)))
-      (cons-fits (l .outcome .parts) (drop 4 (lastBytes l)) (t .last-parts-fit) (le32-fit (l .outcome .links)))))
+      cons-fits (yesByte (l .present)) (drop 1 (lastBytes h)) (omega (arith, yes-most (l .present)))
+      (cons-fits (l .outcome .state) (drop 2 (lastBytes h)) (t .last-state-fits)
+      (cons-fits (yesByte (l .outcome .yes)) (drop 3 (lastBytes h)) (omega (arith, yes-most (l .outcome .yes)))
+      (cons-fits (l .outcome .parts) (drop 4 (lastBytes h)) (t .last-parts-fit)
+      (append-fits (le32Bytes (l .outcome .links)) (le32Bytes (h .passed) ++ le32Bytes (l .outcome .passed)) (le32-fit (l .outcome .links))
+      (append-fits (le32Bytes (h .passed)) (le32Bytes (l .outcome .passed)) (le32-fit (h .passed)) (le32-fit (l .outcome .passed)))))))
 
   pub encoded-bytes : Bytes (encoded s)
   unfolding encoded
@@ -171,18 +182,18 @@ module _ (s : Session) (t : InTypes s) where
       (append-fits (bytes16 (s .nodes)) (s .labels ++ (bytes16 (s .roots) ++ tail)) (bytes16-fit (s .nodes))
       (append-fits (s .labels) (bytes16 (s .roots) ++ tail) (t .labels-fit)
       (append-fits (bytes16 (s .roots)) tail (bytes16-fit (s .roots))
-      (append-fits (s .states) (lastBytes (s .head .last)) (t .states-fit) last-bytes-fit))))
+      (append-fits (s .states) (lastBytes (s .head)) (t .states-fit) last-bytes-fit))))
 
 -- ---- the bytes of the struct of bytes
 
 module _ (b : List ℕ) where
-  module _ (long : length b ≡ 975) (fits : Bytes b) where
-    -- the bytes of the answer that is kept
-    kept-length : length (run 967 8 b) ≡ 8
-    kept-length = length-part b 967 8 (omega arith)
+  module _ (long : length b ≡ 983) (fits : Bytes b) where
+    -- the last 16 bytes
+    kept-length : length (run 967 16 b) ≡ 16
+    kept-length = length-part b 967 16 (omega arith)
 
-    kept-fits : Bytes (run 967 8 b)
-    kept-fits = run-fits b 967 8 fits
+    kept-fits : Bytes (run 967 16 b)
+    kept-fits = run-fits b 967 16 fits
 
     pub decoded-types : InTypes (decoded b)
     unfolding decoded
@@ -194,9 +205,11 @@ module _ (b : List ℕ) where
       parts-fit = fits 7;
       handled-fits = fits 8;
       links-fit = omega (arith, fits 9, fits 10, fits 11, fits 12);
+      passed-fits = omega (arith, fits 975, fits 976, fits 977, fits 978);
       last-state-fits = kept-fits 1;
       last-parts-fit = kept-fits 3;
       last-links-fit = omega (arith, kept-fits 4, kept-fits 5, kept-fits 6, kept-fits 7);
+      last-passed-fits = omega (arith, kept-fits 12, kept-fits 13, kept-fits 14, kept-fits 15);
       nodes-length = numbers16-length (run 13 128 b) 64 (length-part b 13 128 (omega arith));
       labels-length = length-part b 141 64 (omega arith);
       roots-length = numbers16-length (run 205 508 b) 254 (length-part b 205 508 (omega arith));
@@ -214,18 +227,31 @@ module _ (b : List ℕ) where
         (two-bytes (getD b 4 0) (getD b 5 0) (fits 4) (fits 5))
         (number-bytes (getD b 9 0) (getD b 10 0) (getD b 11 0) (getD b 12 0) (fits 9) (fits 10) (fits 11) (fits 12))
 
-    last-again : getD b 967 0 ≤ 1 → getD b 969 0 ≤ 1 → lastBytes (decodedLast (run 967 8 b)) ≡ drop 967 b
+    -- the nodes passed over so far, among the last 16 bytes
+    passed-run : le32 b 975 ≡ le32 (run 967 16 b) 8
+    passed-run =
+        rw (
+          run-at b 967 16 8 (omega arith),
+          run-at b 967 16 9 (omega arith),
+          run-at b 967 16 10 (omega arith),
+          run-at b 967 16 11 (omega arith),
+        )
+
+    last-again : getD b 967 0 ≤ 1 → getD b 969 0 ≤ 1 → lastBytes (decodedHead b) ≡ drop 967 b
     unfolding firsts
     last-again p y =
-        let r = run 967 8 b in
-        let e : getD r 0 0 ≤ 1 = rw (run-at b 967 8 0 (omega arith)) p in
-        let f : getD r 2 0 ≤ 1 = rw (run-at b 967 8 2 (omega arith)) y in
-        last-same _ _ _ _ _ _ _ _ (yes-number (getD r 0 0) e) (yes-number (getD r 2 0) f)
+        let r = run 967 16 b in
+        let e : getD r 0 0 ≤ 1 = rw (run-at b 967 16 0 (omega arith)) p in
+        let f : getD r 2 0 ≤ 1 = rw (run-at b 967 16 2 (omega arith)) y in
+        last-same _ _ _ _ _ _ _ _ _ _ _ _ (yes-number (getD r 0 0) e) (yes-number (getD r 2 0) f)
         (number-bytes (getD r 4 0) (getD r 5 0) (getD r 6 0) (getD r 7 0) (kept-fits 4) (kept-fits 5) (kept-fits 6) (kept-fits 7))
-        ∙ sym (firsts-all r 8 kept-length)
-        ∙ take-all 8 (drop 967 b) (simp length-drop (omega arith))
+        (ap le32Bytes passed-run
+        ∙ number-bytes (getD r 8 0) (getD r 9 0) (getD r 10 0) (getD r 11 0) (kept-fits 8) (kept-fits 9) (kept-fits 10) (kept-fits 11))
+        (number-bytes (getD r 12 0) (getD r 13 0) (getD r 14 0) (getD r 15 0) (kept-fits 12) (kept-fits 13) (kept-fits 14) (kept-fits 15))
+        ∙ sym (firsts-all r 16 kept-length)
+        ∙ take-all 16 (drop 967 b) (simp length-drop (omega arith))
 
-    rest-again : lastBytes (decodedLast (run 967 8 b)) ≡ drop 967 b → restBytes (decoded b) ≡ drop 13 b
+    rest-again : lastBytes (decodedHead b) ≡ drop 967 b → restBytes (decoded b) ≡ drop 13 b
     unfolding decoded
     rest-again l =
         rw (
@@ -243,7 +269,7 @@ module _ (b : List ℕ) where
     encode-laid e =
         let own = leb (getD b 0 0) 3 && leb (getD b 1 0) 1 in
         let kept = leb (getD b 967 0) 1 && leb (getD b 969 0) 1 in
-        let q = and-right (eqb (length b) 975) (flagsFit b) e in
+        let q = and-right (eqb (length b) 983) (flagsFit b) e in
         let o = and-left own kept q in
         let w = and-right own kept q in
         let p = leb-true (getD b 0 0) 3 (and-left (leb (getD b 0 0) 3) (leb (getD b 1 0) 1) o) in
@@ -266,10 +292,10 @@ module _ (b : List ℕ) where
 
 -- ---- a fresh record
 
-pub fresh-bytes : encoded freshSession ≡ replicate 975 0
+pub fresh-bytes : encoded freshSession ≡ replicate 983 0
 unfolding encoded bytes16
 fresh-bytes = refl
 
-pub fresh-valid : validBytes (replicate 975 0) ≡ true
+pub fresh-valid : validBytes (replicate 983 0) ≡ true
 unfolding validBytes laidOut decoded numbers16 valid validIn noQuestion isNone zeroFrom allBelow
 fresh-valid = refl

@@ -49,6 +49,7 @@ record Small (r : Record) : Type 0 where
   few-roots : length (r .roots) ≤ 254
   few-states : length (r .states) ≤ 254
   links-small : r .links < 4294967296
+  passed-small : r .passed < 4294967296
   nodes-small : allBelow 65536 (r .nodes) ≡ true
   labels-small : allBelow 256 (r .labels) ≡ true
   roots-small : allBelow 65536 (r .roots) ≡ true
@@ -59,13 +60,16 @@ record LastSmall (l : Last) : Type 0 where
   state-small : l .outcome .state < 256
   parts-small : l .outcome .parts < 256
   links-small : l .outcome .links < 4294967296
+  passed-small : l .outcome .passed < 4294967296
 
 last-small : (s : ℕ) (o : Option calls.Outcome) → s < 256 → LastFits s o → LastSmall (lastTo o)
-last-small s none h f = record { state-small = omega arith; parts-small = omega arith; links-small = omega arith }
+last-small s none h f =
+    record { state-small = omega arith; parts-small = omega arith; links-small = omega arith; passed-small = omega arith }
 last-small s (some o) h f = record {
   state-small = omega (arith, f .state);
   parts-small = omega (arith, f .few-parts);
-  links-small = omega (arith, f .few-parts, f .few-links);
+  links-small = omega (arith, f .few-parts, f .links-passed, f .few-passed);
+  passed-small = omega (arith, f .few-parts, f .few-passed);
 }
 
 module _ (r : Record) where
@@ -79,9 +83,11 @@ module _ (r : Record) where
     parts-fit = omega (arith, z .few-roots);
     handled-fits = omega (arith, z .few-states);
     links-fit = z .links-small;
+    passed-fits = z .passed-small;
     last-state-fits = l .state-small;
     last-parts-fit = l .parts-small;
     last-links-fit = l .links-small;
+    last-passed-fits = l .passed-small;
     nodes-length = length-padded 64 (r .nodes) (z .few);
     labels-length = length-padded 64 (r .labels) (z .few-labels);
     roots-length = length-padded 254 (r .roots) (z .few-roots);
@@ -101,7 +107,8 @@ module _ (r : Record) where
     few-labels = omega (arith, a .few, a .same);
     few-roots = a .few-parts;
     few-states = omega (arith, a .few-parts, h);
-    links-small = omega (arith, a .few-links, a .few-parts, h);
+    links-small = omega (arith, a .links-passed, a .few-passed, a .few-parts, h);
+    passed-small = omega (arith, a .few-passed, a .few-parts, h);
     nodes-small = allBelow-le (r .sizes .n) 65536 (r .nodes) (omega (arith, z .nodes-most)) (a .nodes-below);
     labels-small = allBelow-le (r .sizes .k) 256 (r .labels) (omega (arith, z .labels-most)) (a .labels-below);
     roots-small = at-allBelow 65536 (r .roots) (λ j i. omega (arith, z .nodes-most, rises-below (r .sizes .n - 1) (r .roots) j (a .rises) i));
@@ -121,6 +128,7 @@ module _ (r : Record) where
         few-roots = omega arith;
         few-states = omega arith;
         links-small = omega arith;
+        passed-small = omega arith;
         nodes-small = refl;
         labels-small = refl;
         roots-small = refl;
@@ -137,6 +145,7 @@ module _ (r : Record) where
         few-roots = omega arith;
         few-states = omega arith;
         links-small = omega arith;
+        passed-small = omega arith;
         nodes-small = refl;
         labels-small = refl;
         roots-small = refl;

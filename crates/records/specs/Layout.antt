@@ -1,4 +1,4 @@
--- The session's record as bytes, layout version 2. A fresh record is 975 zero bytes; later versions append.
+-- The session's record as bytes, layout version 3. A fresh record is 983 zero bytes; later versions append.
 --
 --     offset  bytes   holds
 --          0      1   state: 0 empty, 1 loaded, 2 running, 3 answered
@@ -19,16 +19,18 @@
 --        969      1   its yes or no: 1 or 0
 --        970      1   how many parts it has
 --        971      4   its links
+--        975      4   nodes passed over so far
+--        979      4   nodes passed over of the finished answer that is kept
 --
 -- numbers16 b == the 16-bit numbers that b holds, two bytes each; an odd byte at the end is left out
 -- bytes16 l == the bytes of the numbers l, two each
--- lastBytes l == the eight bytes of a finished answer, or of none
--- encoded s == the bytes of a struct: those of its head, headBytes, the first 13, and restBytes s, whose last eight are lastBytes
+-- lastBytes h == the last 16 bytes: of the finished answer, or of none, and the nodes passed over so far
+-- encoded s == the bytes of a struct: those of its head, headBytes, the first 13, and restBytes s, whose last 16 are lastBytes
 -- stepBytes h t b == the bytes b with another head and other states: what an advance alters
 -- decoded b == the struct of bytes, decodedHead b its head, each field read at its offset; a byte past the end counts 0, a state above 3 as
 --   answered, and only 1 as yes, or as an answer that is kept
--- decodedLast t == the finished answer of eight bytes
--- laidOut b == whether there are 975 bytes, the state is at most 3, and both yes or no and whether an answer is kept are at most 1
+-- decodedLast t == the finished answer of the last 16 bytes
+-- laidOut b == whether there are 983 bytes, the state is at most 3, and both yes or no and whether an answer is kept are at most 1
 -- validBytes b == whether b is a record: laid out, and its struct is valid (crate session, Records)
 -- InTypes s == what the struct's types say of its fields; Bytes b == what the type of bytes says of theirs
 --
@@ -51,7 +53,7 @@ use Rattle.session.specs.declared.state.Session.{Session}
 use Rattle.session.specs.Records.{valid}
 
 abbrev pub recordLength : ℕ
-recordLength = 975
+recordLength = 983
 
 -- ---- numbers of two bytes
 
@@ -86,13 +88,14 @@ headBytes h =
     phaseByte (h .phase) ∷ yesByte (h .yes) ∷ h .sizes .s ∷ h .sizes .k
     ∷ (le16Bytes (h .sizes .n) ++ (h .m ∷ h .parts ∷ h .handled ∷ le32Bytes (h .links)))
 
-abbrev pub lastBytes : Last → List ℕ
-lastBytes l =
-    yesByte (l .present) ∷ l .outcome .state ∷ yesByte (l .outcome .yes) ∷ l .outcome .parts ∷ le32Bytes (l .outcome .links)
+abbrev pub lastBytes : Head → List ℕ
+lastBytes h =
+    yesByte (h .last .present) ∷ h .last .outcome .state ∷ yesByte (h .last .outcome .yes) ∷ h .last .outcome .parts
+    ∷ (le32Bytes (h .last .outcome .links) ++ (le32Bytes (h .passed) ++ le32Bytes (h .last .outcome .passed)))
 
 abbrev pub restBytes : Session → List ℕ
 restBytes s =
-    bytes16 (s .nodes) ++ (s .labels ++ (bytes16 (s .roots) ++ (s .states ++ lastBytes (s .head .last))))
+    bytes16 (s .nodes) ++ (s .labels ++ (bytes16 (s .roots) ++ (s .states ++ lastBytes (s .head))))
 
 unfoldable pub encoded : Session → List ℕ
 encoded s = headBytes (s .head) ++ restBytes s
@@ -104,12 +107,18 @@ abbrev pub run : ℕ → ℕ → List ℕ → List ℕ
 run at n b = take n (drop at b)
 
 abbrev pub stepBytes : Head → List ℕ → List ℕ → List ℕ
-stepBytes h t b = headBytes h ++ (run 13 700 b ++ (t ++ lastBytes (h .last)))
+stepBytes h t b = headBytes h ++ (run 13 700 b ++ (t ++ lastBytes h))
 
 abbrev pub decodedLast : List ℕ → Last
 decodedLast t = record {
   present = eqb (getD t 0 0) 1;
-  outcome = record { state = getD t 1 0; yes = eqb (getD t 2 0) 1; parts = getD t 3 0; links = le32 t 4 };
+  outcome = record {
+    state = getD t 1 0;
+    yes = eqb (getD t 2 0) 1;
+    parts = getD t 3 0;
+    links = le32 t 4;
+    passed = le32 t 12;
+  };
 }
 
 abbrev pub decodedHead : List ℕ → Head
@@ -121,7 +130,8 @@ decodedHead b = record {
   parts = getD b 7 0;
   handled = getD b 8 0;
   links = le32 b 9;
-  last = decodedLast (run 967 8 b);
+  passed = le32 b 975;
+  last = decodedLast (run 967 16 b);
 }
 
 unfoldable pub decoded : List ℕ → Session
@@ -154,9 +164,11 @@ pub record InTypes (s : Session) : Type 0 where
   pub parts-fit : s .head .parts < 256
   pub handled-fits : s .head .handled < 256
   pub links-fit : s .head .links < 4294967296
+  pub passed-fits : s .head .passed < 4294967296
   pub last-state-fits : s .head .last .outcome .state < 256
   pub last-parts-fit : s .head .last .outcome .parts < 256
   pub last-links-fit : s .head .last .outcome .links < 4294967296
+  pub last-passed-fits : s .head .last .outcome .passed < 4294967296
   pub nodes-length : length (s .nodes) ≡ 64
   pub labels-length : length (s .labels) ≡ 64
   pub roots-length : length (s .roots) ≡ 254

@@ -52,9 +52,9 @@ fn yes_byte(yes: bool) -> u8
     if yes { 1 } else { 0 }
 }
 
-// The finished answer of a record's last eight bytes.
+// The finished answer of a record's last 16 bytes.
 fn decode_last(bytes: &[u8]) -> Last
-    requires { ⌜ length (now bytes) ≡ 8 ⌝ }
+    requires { ⌜ length (now bytes) ≡ 16 ⌝ }
     ensures { λ r. ⌜ r ≡ decodedLast (now (bytes .entry)) ⌝ }
 {
     let outcome = Outcome {
@@ -62,6 +62,7 @@ fn decode_last(bytes: &[u8]) -> Last
         yes: bytes[2] == 1,
         parts: bytes[3],
         links: number32(bytes, 4),
+        passed: number32(bytes, 12),
     };
     Last {
         present: bytes[0] == 1,
@@ -69,7 +70,7 @@ fn decode_last(bytes: &[u8]) -> Last
     }
 }
 
-// The head of a record's first 13 bytes and of its last eight.
+// The head of a record's first 13 bytes and of its last 16.
 fn decode_head(bytes: &[u8]) -> Head
     requires { ⌜ length (now bytes) ≡ recordLength ⌝ }
     ensures { λ r. ⌜ r ≡ decodedHead (now (bytes .entry)) ⌝ }
@@ -87,11 +88,12 @@ fn decode_head(bytes: &[u8]) -> Head
         parts: bytes[7],
         handled: bytes[8],
         links: number32(bytes, 9),
-        last: decode_last(&bytes[967..975]),
+        passed: number32(bytes, 975),
+        last: decode_last(&bytes[967..983]),
     }
 }
 
-// The struct of 975 bytes.
+// The struct of 983 bytes.
 pub fn decode(bytes: &[u8]) -> Session
     requires { ⌜ length (now bytes) ≡ recordLength ⌝ }
     ensures { λ r. ⌜ r ≡ decoded (now (bytes .entry)) ⌝ }
@@ -135,13 +137,13 @@ fn put_head(h: Head, out: &mut [u8])
     out[12] = (h.links / 16777216 % 256) as u8;
 }
 
-// The last eight bytes of a record.
-fn put_last(l: Last, out: &mut [u8])
-    requires { ⌜ length (now out) ≡ 8 ⌝ }
-    ensures { λ _. ⌜ now (out .exit) ≡ lastBytes l ⌝ }
+// The last 16 bytes of a record.
+fn put_last(h: Head, out: &mut [u8])
+    requires { ⌜ length (now out) ≡ 16 ⌝ }
+    ensures { λ _. ⌜ now (out .exit) ≡ lastBytes h ⌝ }
 {
-    let o = l.outcome;
-    out[0] = yes_byte(l.present);
+    let o = h.last.outcome;
+    out[0] = yes_byte(h.last.present);
     out[1] = o.state;
     out[2] = yes_byte(o.yes);
     out[3] = o.parts;
@@ -149,14 +151,22 @@ fn put_last(l: Last, out: &mut [u8])
     out[5] = (o.links / 256 % 256) as u8;
     out[6] = (o.links / 65536 % 256) as u8;
     out[7] = (o.links / 16777216 % 256) as u8;
+    out[8] = (h.passed % 256) as u8;
+    out[9] = (h.passed / 256 % 256) as u8;
+    out[10] = (h.passed / 65536 % 256) as u8;
+    out[11] = (h.passed / 16777216 % 256) as u8;
+    out[12] = (o.passed % 256) as u8;
+    out[13] = (o.passed / 256 % 256) as u8;
+    out[14] = (o.passed / 65536 % 256) as u8;
+    out[15] = (o.passed / 16777216 % 256) as u8;
 }
 
-// The bytes of a record. A buffer that has not 975 bytes is left as it is.
+// The bytes of a record. A buffer that has not 983 bytes is left as it is.
 pub fn encode(rec: Session, out: &mut [u8])
     ensures { λ _. ⌜
         now (out .exit) ≡ cond (eqb (length (now (out .entry))) recordLength) (encoded rec) (now (out .entry)) ⌝ }
 {
-    if out.len() != 975 {
+    if out.len() != 983 {
         return;
     }
     put_head(rec.head, &mut out[..13]);
@@ -164,29 +174,29 @@ pub fn encode(rec: Session, out: &mut [u8])
     copy_bytes(&rec.labels, &mut out[141..205]);
     put_numbers(&rec.roots, &mut out[205..713]);
     copy_bytes(&rec.states, &mut out[713..967]);
-    put_last(rec.head.last, &mut out[967..975]);
+    put_last(rec.head, &mut out[967..983]);
 }
 
-// What an advance alters of a record's bytes: the first 13, the states and the last eight. A buffer that has not 975 bytes is left
+// What an advance alters of a record's bytes: the first 13, the states and the last 16. A buffer that has not 983 bytes is left
 // as it is.
 pub fn encode_step<'a>(h: Head, states: &'a [u8; 254], out: &mut [u8])
     ensures { λ _. ⌜
         now (out .exit) ≡ cond (eqb (length (now (out .entry))) recordLength) (stepBytes h (now (states .entry)) (now (out .entry)))
         (now (out .entry)) ⌝ }
 {
-    if out.len() != 975 {
+    if out.len() != 983 {
         return;
     }
     put_head(h, &mut out[..13]);
     copy_bytes(states, &mut out[713..967]);
-    put_last(h.last, &mut out[967..975]);
+    put_last(h, &mut out[967..983]);
 }
 
-// Whether there are 975 bytes, the state is at most 3, and both yes or no and whether an answer is kept are at most 1.
+// Whether there are 983 bytes, the state is at most 3, and both yes or no and whether an answer is kept are at most 1.
 pub fn laid_out(bytes: &[u8]) -> bool
     ensures { λ r. ⌜ r ≡ laidOut (now (bytes .entry)) ⌝ }
 {
-    if bytes.len() != 975 {
+    if bytes.len() != 983 {
         return false;
     }
     let own = (bytes[0] <= 3) & (bytes[1] <= 1);

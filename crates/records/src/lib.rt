@@ -1,4 +1,4 @@
-// The session's record as bytes: docs/LAYOUT.md, "The record", layout version 2.
+// The session's record as bytes: docs/LAYOUT.md, "The record", layout version 3.
 //     numbers  runs of bytes and of numbers of two bytes
 //     bytes    the record's bytes, the bytes' record, and whether bytes are a record
 pub mod bytes;

@@ -40,6 +40,7 @@ use Rattle.reference.specs.Reference.{proceed, finishedWith, ruleAnswer}
 use Rattle.model.specs.Model.{Record, acted, viewBy, marksBy, stepped, advanceWith, partNext, proceeds}
 use Rattle.model.proofs.ModelLaws.{advance-fits, left-below, marks-built}
 use Rattle.model.proofs.Facts.{reachedBy, nextRoot, Layers}
+use Rattle.ready.proofs.PassedLaws.{passed-more}
 use Rattle.model.proofs.ResultLaws.{length-states, states-more, length-more, last-more, links-more, below-more}
 use Rattle.model.proofs.ResultLaws.{from-more}
 use Rattle.formats.proofs.InputsLaws.{Built, Same, plan-of, node-table-built, same-node-inputs, same-inputs-nodes}
@@ -105,7 +106,7 @@ module _ (r : Record) (z : Sizes) (q : Question) (x : Inputs) (sizes : r .sizes 
 -- one more part, whatever its state below S
 pub parted-more : (r : Record) (z : Sizes) (q : Question) (ps : List Part) → Parted r z q ps → length ps < partCount q
     → (y : Reached) → y .state < z .s → (f : Phase) (m : Bool) (k : Settlement) (tr : List Part)
-    → Parted (stepped r f y m) z (advanced q k tr) (ps ++ (part (nextRoot (rootsOf q) ps) (y .state) (y .links) ∷ []))
+    → Parted (stepped r f y m) z (advanced q k tr) (ps ++ (part (nextRoot (rootsOf q) ps) (y .state) (y .links) (y .passed) ∷ []))
 unfolding stepped advanced
 parted-more r z q ps p l y b f m k tr = record {
   built = p .built;
@@ -126,7 +127,7 @@ parted-more r z q ps p l y b f m k tr = record {
 }
   where
     new : Part
-    new = part (nextRoot (rootsOf q) ps) (y .state) (y .links)
+    new = part (nextRoot (rootsOf q) ps) (y .state) (y .links) (y .passed)
 
 -- ---- one advance
 
@@ -149,6 +150,7 @@ module _ (L : Layers) (r : Record) (z : Sizes) (l : Option Question) (q : Questi
         (part-state z q (node-table-built z (q .inputs) (c .parted .built)) x (q .results) (nextRoot (rootsOf q) (q .results)))
         f m k (longer z q x);
     links = ap (λ (n : ℕ). n + rule .links) (c .links) ∙ sym (links-more (q .results) rule);
+    passed = ap (λ (n : ℕ). n + rule .passed) (c .passed) ∙ sym (passed-more (q .results) rule);
     count = ap suc (c .count) ∙ sym (length-more (q .results) rule);
   }
 
@@ -219,10 +221,12 @@ module _ (L : Layers) (r : Record) (z : Sizes) (l : Option Question) (q : Questi
           ∙ ap (ruleAutomaton (q .inputs .rules) .accepting) (sym (last-more (q .results) rule 0))
 
       -- the outcome that is kept: what the rule gave
-      by-the-rule : outcomeAnswer (rule .state) yes (length (r .roots)) (r .links + rule .links) ≡ ruleAnswer (onward k)
+      by-the-rule : outcomeAnswer (rule .state) yes (length (r .roots)) (r .links + rule .links) (r .passed + rule .passed)
+          ≡ ruleAnswer (onward k)
       by-the-rule =
-          outcome-same _ _ _ _ _ _ _ _ (sym (last-more (q .results) rule 0)) marked (ap length (c .parted .roots))
+          outcome-same _ _ _ _ _ _ _ _ _ _ (sym (last-more (q .results) rule 0)) marked (ap length (c .parted .roots))
           (ap (λ (n : ℕ). n + rule .links) (c .links) ∙ sym (links-more (q .results) rule))
+          (ap (λ (n : ℕ). n + rule .passed) (c .passed) ∙ sym (passed-more (q .results) rule))
 
       go : (b d : Bool) → d ≡ b → eqb (suc (q .count)) (partCount q) ≡ b
           → eqb (suc (length (r .states))) (length (r .roots)) ≡ d
@@ -272,7 +276,7 @@ module _ (L : Layers) (r : Record) (z : Sizes) (l : Option Question) (q : Questi
       parted : (y : Reached) (f : Phase) (m : Bool) → partNext r x ≡ some y
           → SomeParted (stepped r f y m) z (advanced q byProgram [])
       parted y f m e = (
-        ps ++ (part (nextRoot (rootsOf q) ps) (y .state) (y .links) ∷ []),
+        ps ++ (part (nextRoot (rootsOf q) ps) (y .state) (y .links) (y .passed) ∷ []),
         parted-more r z q ps p unended y (part-low r z q x (i .sizes) y e) f m byProgram [],
       )
 

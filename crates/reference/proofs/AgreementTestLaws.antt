@@ -30,7 +30,8 @@ decode (suc (suc (suc (suc (suc n)))) ∷ []) = more
 decode (suc (suc (suc (suc (suc n)))) ∷ s ∷ []) = more
 decode (suc (suc (suc (suc (suc n)))) ∷ s ∷ y ∷ []) = more
 decode (suc (suc (suc (suc (suc n)))) ∷ s ∷ y ∷ p ∷ []) = more
-decode (suc (suc (suc (suc (suc n)))) ∷ s ∷ y ∷ p ∷ l ∷ ns) = outcomeAnswer s (eqb y 1) p l
+decode (suc (suc (suc (suc (suc n)))) ∷ s ∷ y ∷ p ∷ l ∷ []) = more
+decode (suc (suc (suc (suc (suc n)))) ∷ s ∷ y ∷ p ∷ l ∷ d ∷ ns) = outcomeAnswer s (eqb y 1) p l d
 
 flag-bool : (y : Bool) → eqb (flag y) 1 ≡ y
 unfolding flag
@@ -44,7 +45,7 @@ decode-code Answer.accepted = refl
 decode-code (parts p) = refl
 decode-code more = refl
 decode-code finished = refl
-decode-code (outcome o) = ap (λ (y : Bool). outcomeAnswer (o .state) y (o .parts) (o .links)) (flag-bool (o .yes))
+decode-code (outcome o) = ap (λ (y : Bool). outcomeAnswer (o .state) y (o .parts) (o .links) (o .passed)) (flag-bool (o .yes))
 
 conforms-is : (n : Reply) (x : Answer) → conforms n x ≡ true → Conforms n x
 unfolding conforms sameAnswer

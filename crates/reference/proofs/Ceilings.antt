@@ -1,6 +1,7 @@
 -- Ceilings on what the calls tell of a clean question.
 --     part-links        the links of one part are at most three for each binary digit of the plan's height
 --     question-links    those of a question, for each of its parts
+--     nodes-passed      the nodes passed over: between the links, and the plan's height for each of its parts
 --     ready-count       at most 4 m - 2 parts for the m nodes of W, and 1 where it has none
 --     parts-never-rise  no more parts than if no listed node were left out
 -- Assumes nothing.
@@ -21,7 +22,8 @@ use Rattle.list_laws.specs.Tests.{allBelow, holds}
 use Rattle.ready.specs.Ready.{leftChild, rightChild}
 use Rattle.ready.specs.Members.{readyList, roots}
 use Rattle.ready.specs.Parts.{anyBelow, highestBelow, climbMoves, climbedLinks, innerLinks, partLinks, sumOf}
-use Rattle.ready.specs.Parts.{questionLinks}
+use Rattle.ready.specs.Parts.{questionLinks, questionPassed}
+use Rattle.ready.proofs.PassedLaws.{question-passed}
 use Rattle.ready.proofs.UnderLaws.{left-in, right-in}
 use Rattle.ready.proofs.HighestLaws.{Highest}
 use Rattle.ready.proofs.ClosedForm.{kind-one}
@@ -85,6 +87,13 @@ question-links t vs =
     let w : ℕ → Bool = λ v. holds v vs in
     let M : Members w t (readyList w t) = list-members w t in
     sum-links w t (readyList w t) M (readyList w t) (M .inside)
+
+-- document 02, S-7: no fewer nodes passed over than links, and no more than the plan is high for each part
+pub nodes-passed : (t : Tree) (vs : List ℕ)
+    → (questionLinks t (roots t vs) ≤ questionPassed t (roots t vs))
+    × (questionPassed t (roots t vs) ≤ length (roots t vs) * height t)
+unfolding roots
+nodes-passed t vs = question-passed (λ v. holds v vs) t
 
 -- ---- parts
 

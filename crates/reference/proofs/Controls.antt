@@ -71,7 +71,7 @@ onNode0 x y w = load loadA ∷ onNode x ∷ advance y ∷ advance w ∷ read ∷
 -- ---- settled
 
 pub clean-list : seen (asking [] [] 1)
-    ≡ all (some Answer.accepted ∷ some (parts 1) ∷ some finished ∷ some (outcomeAnswer 1 true 1 0) ∷ [])
+    ≡ all (some Answer.accepted ∷ some (parts 1) ∷ some finished ∷ some (outcomeAnswer 1 true 1 0 0) ∷ [])
 unfolding seen asking
 clean-list = refl
 
@@ -80,19 +80,19 @@ clean-list = refl
 pub exchanged-plan :
     seen (load loadA ∷ start (longerBy inputsB (5 ∷ [])) (0 ∷ []) (1 ∷ []) ∷ advance (longerBy inputsB (7 ∷ 8 ∷ 9 ∷ [])) ∷ advance inputsB
     ∷ read ∷ [])
-    ≡ all (some Answer.accepted ∷ some (parts 2) ∷ some more ∷ some finished ∷ some (outcomeAnswer 1 true 2 2) ∷ [])
+    ≡ all (some Answer.accepted ∷ some (parts 2) ∷ some more ∷ some finished ∷ some (outcomeAnswer 1 true 2 2 2) ∷ [])
 unfolding seen loadA inputsA inputsB
 exchanged-plan = refl
 
 -- which label is no change is told by Start's plan: 0 is node 0's label in plan B, not in plan A, which was loaded
 pub own-label-at-start : seen (onNode0 inputsB inputsB inputsB)
-    ≡ all (some Answer.accepted ∷ some (parts 1) ∷ some finished ∷ some (refused 1) ∷ some (outcomeAnswer 1 true 1 0) ∷ [])
+    ≡ all (some Answer.accepted ∷ some (parts 1) ∷ some finished ∷ some (refused 1) ∷ some (outcomeAnswer 1 true 1 0 0) ∷ [])
 unfolding seen onNode0 inputsA inputsB
 own-label-at-start = refl
 
 -- "lent the same, excess aside"
 pub changed-excess : seen (onNode0 (longerBy inputsA (5 ∷ [])) (longerBy inputsA (7 ∷ 8 ∷ 9 ∷ [])) inputsA)
-    ≡ all (some Answer.accepted ∷ some (parts 2) ∷ some more ∷ some finished ∷ some (outcomeAnswer 0 false 2 1) ∷ [])
+    ≡ all (some Answer.accepted ∷ some (parts 2) ∷ some more ∷ some finished ∷ some (outcomeAnswer 0 false 2 1 1) ∷ [])
 unfolding seen onNode0 inputsA
 changed-excess = refl
 
@@ -102,13 +102,13 @@ pub restored : seen (load loadA ∷ start inputsA (0 ∷ []) (0 ∷ []) ∷ adva
     ∷ advance nothing
     ∷ advance inputsA ∷ read ∷ [])
     ≡ all (some Answer.accepted ∷ some (parts 2) ∷ some more ∷ none ∷ some (refused 17) ∷ some finished
-    ∷ some (outcomeAnswer 0 false 2 1) ∷ [])
+    ∷ some (outcomeAnswer 0 false 2 1 1) ∷ [])
 unfolding seen otherNumber loadA inputsA
 restored = refl
 
 -- other bytes below S: settled by the rule, on those bytes. Byte 1 is node 0's map at state 0; a fresh run has 0 no
 pub other-states : seen (onNode0 inputsA inputsA (otherState 1 1))
-    ≡ all (some Answer.accepted ∷ some (parts 2) ∷ some more ∷ some finished ∷ some (outcomeAnswer 1 true 2 1) ∷ [])
+    ≡ all (some Answer.accepted ∷ some (parts 2) ∷ some more ∷ some finished ∷ some (outcomeAnswer 1 true 2 1 1) ∷ [])
 unfolding seen onNode0 inputsA otherState
 other-states = refl
 
@@ -162,8 +162,8 @@ pub wrong-state : seen (read ∷ cancel ∷ load loadA ∷ advance inputsA ∷ s
     ∷ start inputsA [] [] ∷ advance inputsA ∷ read ∷ start inputsA (6 ∷ []) (0 ∷ []) ∷ read ∷ [])
     ≡ all (some (refused 1) ∷ some (refused 1) ∷ some Answer.accepted ∷ some (refused 1) ∷ some (parts 1)
     ∷ some (refused 1)
-    ∷ some (refused 1) ∷ some Answer.accepted ∷ some (parts 1) ∷ some finished ∷ some (outcomeAnswer 1 true 1 0)
-    ∷ some (parts 1) ∷ some (outcomeAnswer 1 true 1 0) ∷ [])
+    ∷ some (refused 1) ∷ some Answer.accepted ∷ some (parts 1) ∷ some finished ∷ some (outcomeAnswer 1 true 1 0 0)
+    ∷ some (parts 1) ∷ some (outcomeAnswer 1 true 1 0 0) ∷ [])
 unfolding seen loadA inputsA
 wrong-state = refl
 
@@ -178,8 +178,8 @@ first-no = refl
 
 -- a Start refused with 18 leaves the old question, still clean. Number 13 is node 3's jump
 pub refused-start : seen (asking [] [] 1 ++ (start (otherNumber 13 60000) (0 ∷ 3 ∷ []) (0 ∷ 0 ∷ []) ∷ read ∷ []))
-    ≡ all (some Answer.accepted ∷ some (parts 1) ∷ some finished ∷ some (outcomeAnswer 1 true 1 0)
-    ∷ some (refused 18) ∷ some (outcomeAnswer 1 true 1 0) ∷ [])
+    ≡ all (some Answer.accepted ∷ some (parts 1) ∷ some finished ∷ some (outcomeAnswer 1 true 1 0 0)
+    ∷ some (refused 18) ∷ some (outcomeAnswer 1 true 1 0 0) ∷ [])
 unfolding seen asking otherNumber loadA inputsA
 refused-start = refl
 
@@ -206,19 +206,20 @@ unfoldable pub judged : List Answer → Bool
 unfolding computing onNode0 inputsA
 judged xs = agreed newReference (onNode0 inputsA inputsA inputsA) xs
 
--- the answers; a state, links, parts that are not so; finished told early; 18 on sound inputs; a Load turned
+-- the answers; a state, links, nodes passed over, parts that are not so; finished told early; 18 on sound inputs; a Load turned
 -- down; an answer missing
 pub turned-down :
-    judged (Answer.accepted ∷ parts 2 ∷ more ∷ finished ∷ outcomeAnswer 0 false 2 1 ∷ [])
-    ∷ judged (Answer.accepted ∷ parts 2 ∷ more ∷ finished ∷ outcomeAnswer 1 true 2 1 ∷ [])
-    ∷ judged (Answer.accepted ∷ parts 2 ∷ more ∷ finished ∷ outcomeAnswer 0 false 2 0 ∷ [])
-    ∷ judged (Answer.accepted ∷ parts 1 ∷ more ∷ finished ∷ outcomeAnswer 0 false 1 1 ∷ [])
-    ∷ judged (Answer.accepted ∷ parts 2 ∷ finished ∷ refused 1 ∷ outcomeAnswer 0 false 2 1 ∷ [])
+    judged (Answer.accepted ∷ parts 2 ∷ more ∷ finished ∷ outcomeAnswer 0 false 2 1 1 ∷ [])
+    ∷ judged (Answer.accepted ∷ parts 2 ∷ more ∷ finished ∷ outcomeAnswer 1 true 2 1 1 ∷ [])
+    ∷ judged (Answer.accepted ∷ parts 2 ∷ more ∷ finished ∷ outcomeAnswer 0 false 2 0 1 ∷ [])
+    ∷ judged (Answer.accepted ∷ parts 2 ∷ more ∷ finished ∷ outcomeAnswer 0 false 2 1 0 ∷ [])
+    ∷ judged (Answer.accepted ∷ parts 1 ∷ more ∷ finished ∷ outcomeAnswer 0 false 1 1 1 ∷ [])
+    ∷ judged (Answer.accepted ∷ parts 2 ∷ finished ∷ refused 1 ∷ outcomeAnswer 0 false 2 1 1 ∷ [])
     ∷ judged (Answer.accepted ∷ refused 18 ∷ refused 1 ∷ refused 1 ∷ refused 1 ∷ [])
     ∷ judged (refused 2 ∷ refused 1 ∷ refused 1 ∷ refused 1 ∷ refused 1 ∷ [])
     ∷ judged (Answer.accepted ∷ parts 2 ∷ more ∷ finished ∷ [])
     ∷ []
-    ≡ true ∷ false ∷ false ∷ false ∷ false ∷ false ∷ false ∷ false ∷ []
+    ≡ true ∷ false ∷ false ∷ false ∷ false ∷ false ∷ false ∷ false ∷ false ∷ []
 unfolding judged
 turned-down = refl
 
@@ -228,8 +229,8 @@ unfolding computing onNode0 inputsA otherState
 judgedStates xs = agreed newReference (onNode0 inputsA inputsA (otherState 1 1)) (Answer.accepted ∷ parts 2 ∷ more ∷ xs)
 
 pub turned-down-states :
-    judgedStates (finished ∷ outcomeAnswer 1 true 2 1 ∷ []) ∷ judgedStates (finished ∷ outcomeAnswer 0 false 2 1 ∷ [])
-    ∷ judgedStates (finished ∷ outcomeAnswer 1 true 2 0 ∷ []) ∷ judgedStates (refused 18 ∷ refused 1 ∷ []) ∷ []
+    judgedStates (finished ∷ outcomeAnswer 1 true 2 1 1 ∷ []) ∷ judgedStates (finished ∷ outcomeAnswer 0 false 2 1 1 ∷ [])
+    ∷ judgedStates (finished ∷ outcomeAnswer 1 true 2 0 0 ∷ []) ∷ judgedStates (refused 18 ∷ refused 1 ∷ []) ∷ []
     ≡ true ∷ false ∷ false ∷ false ∷ []
 unfolding judgedStates
 turned-down-states = refl
@@ -241,7 +242,7 @@ unfolding computing onNode0 inputsA otherLabel
 judgedUnsettled xs = agreed newReference (onNode0 inputsA otherLabel inputsA) (Answer.accepted ∷ parts 2 ∷ more ∷ xs)
 
 pub turned-down-unsettled :
-    judgedUnsettled (finished ∷ outcomeAnswer 1 true 9 9 ∷ []) ∷ judgedUnsettled (more ∷ refused 1 ∷ []) ∷ judgedUnsettled
+    judgedUnsettled (finished ∷ outcomeAnswer 1 true 9 9 9 ∷ []) ∷ judgedUnsettled (more ∷ refused 1 ∷ []) ∷ judgedUnsettled
     (refused 18 ∷ refused 1 ∷ [])
     ∷ judgedUnsettled (refused 17 ∷ refused 1 ∷ []) ∷ []
     ≡ true ∷ true ∷ false ∷ false ∷ []
@@ -286,9 +287,9 @@ changedA = record {
 
 -- 4 → 0 on it, and 4 → 0 laid over 0 → 0 on plan A itself: the same state and yes or no, other parts and links
 pub parts-differ :
-    (freshAnswer (asked changedA (4 ∷ []) (0 ∷ [])) ≡ outcomeAnswer 0 false 2 1)
+    (freshAnswer (asked changedA (4 ∷ []) (0 ∷ [])) ≡ outcomeAnswer 0 false 2 1 1)
     × (freshAnswer (asked inputsA (nodesListed (laidOver (entries (0 ∷ []) (0 ∷ [])) (entries (4 ∷ []) (0 ∷ []))))
-    (labelsListed (laidOver (entries (0 ∷ []) (0 ∷ [])) (entries (4 ∷ []) (0 ∷ []))))) ≡ outcomeAnswer 0 false 5 0)
+    (labelsListed (laidOver (entries (0 ∷ []) (0 ∷ [])) (entries (4 ∷ []) (0 ∷ []))))) ≡ outcomeAnswer 0 false 5 0 0)
 unfolding changedA inputsA computing entries nodesListed labelsListed put putAll superseded laidOver
 parts-differ = (refl, refl)
 

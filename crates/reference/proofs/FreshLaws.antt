@@ -6,6 +6,7 @@
 --     whole-state      the last part has the root state of a fresh run on Start's plan with the listed labels changed
 --     whole-before     so had the last of the parts of all listed nodes: "On tables as built the answer is as before" (document 02, S-5)
 --     whole-links      the links in all are the moves of the parts' climbs
+--     whole-over       the nodes passed over in all are those of the parts' climbs
 -- Assumes nothing.
 use Prim.Native.Nat.{ℕ, zero, suc, _+_, _-_, _*_, _<_}
 use mathlib.Core.Path.{_≡_, refl, sym, ap, _∙_, subst}
@@ -43,7 +44,7 @@ use Rattle.changes.proofs.DifferingLaws.{unlisted-same, differing-listed}
 use Rattle.ready.specs.Ready.{leftChild, rightChild}
 use Rattle.ready.specs.Members.{readyList, roots, Rising}
 use Rattle.ready.specs.Parts.{Given, Part, anyBelow, stateOf, climbedState, innerState, partState, partOf, partsFrom}
-use Rattle.ready.specs.Parts.{partsOf, lastState, allLinks, questionLinks}
+use Rattle.ready.specs.Parts.{partsOf, lastState, allLinks, questionLinks, allPassed, questionPassed}
 use Rattle.ready.proofs.ChangedRun.{Changes}
 use Rattle.ready.specs.StaysInside.{StaysInside}
 use Rattle.ready.proofs.PartsRun.{RunGiven, parts-right}
@@ -54,6 +55,7 @@ use Rattle.formats.specs.Inputs.{Inputs, Sizes, usedStateTable, stateTableBuilt
 use Rattle.model.specs.PartInputs.{givenOf}
 use Rattle.reference.specs.Reference.{Question, leftOf, rootsOf, changedTree, givenBy}
 use Rattle.ready.specs.Parts.{nodesOf}
+use Rattle.ready.proofs.PassedLaws.{whole-passed}
 use Rattle.model.proofs.ResultLaws.{last-more, from-more, from-nodes, from-links}
 use Rattle.formats.proofs.InputsLaws.{Built, plan-of, rules-of}
 
@@ -263,3 +265,7 @@ module _ (z : Sizes) (q : Question) (B : Built z (q .inputs)) where
   pub whole-links : (x : Inputs) → allLinks (partsOf (givenBy z q x) (rootsOf q)) ≡ questionLinks t (rootsOf q)
   unfolding partsOf questionLinks givenOf allLinks
   whole-links x = from-links (givenBy z q x) (rootsOf q) [] (rootsOf q) ∙ (omega arith)
+
+  pub whole-over : (x : Inputs) → allPassed (partsOf (givenBy z q x) (rootsOf q)) ≡ questionPassed t (rootsOf q)
+  unfolding givenOf
+  whole-over x = whole-passed (givenBy z q x) (rootsOf q)

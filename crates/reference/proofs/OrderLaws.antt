@@ -30,7 +30,7 @@ use Rattle.changes.proofs.EntryLaws.{nodes-entries, listed-holds, isSome}
 use Rattle.changes.proofs.ChangedLaws.{labelOr, changed-label}
 use Rattle.changes.proofs.DifferingLaws.{differing-same}
 use Rattle.ready.specs.Members.{readyList, roots}
-use Rattle.ready.specs.Parts.{questionLinks}
+use Rattle.ready.specs.Parts.{questionLinks, questionPassed}
 use Rattle.formats.specs.Inputs.{Inputs, fits, sound}
 use Rattle.model.specs.Calls.{outcomeAnswer, start, mayStart}
 use Rattle.model.specs.Refusals.{Stage, refusal}
@@ -112,7 +112,8 @@ module _ (vs bs ws cs : List ℕ) (g : length vs ≡ length bs) (h : length ws �
     unfolding freshAnswer
     fresh-order u =
         ap₂ (λ (x : Inputs) (t : Tree). outcomeAnswer (state (ruleAutomaton (x .rules)) t) (accepts (ruleAutomaton (x .rules)) t)
-        (partCount q) (questionLinks (planTree (q .inputs .plan)) (rootsOf q))) same (tree-same u)
+        (partCount q) (questionLinks (planTree (q .inputs .plan)) (rootsOf q))
+        (questionPassed (planTree (q .inputs .plan)) (rootsOf q))) same (tree-same u)
         ∙ ap₂ (λ (x : Inputs) (ms : List ℕ). outcomeAnswer (state (ruleAutomaton (k .inputs .rules)) (changedTree k))
         (accepts (ruleAutomaton (k .inputs .rules)) (changedTree k))
-        (length ms) (questionLinks (planTree (x .plan)) ms)) same (roots-same u)
+        (length ms) (questionLinks (planTree (x .plan)) ms) (questionPassed (planTree (x .plan)) ms)) same (roots-same u)

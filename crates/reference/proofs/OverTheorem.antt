@@ -2,7 +2,7 @@
 --     state-over, yes-over    the fresh run with the second list on the plan changed by the first is that with the second laid over the
 --                             first on the plan itself
 --     question-over           so are the state and the yes or no that Reads tell of the two questions
--- Nothing is said of parts and links: they may differ (parts-differ, Controls).
+-- Nothing is said of parts, links and nodes passed over: they may differ (parts-differ, Controls).
 -- Assumes nothing.
 use Prim.Native.Nat.{ℕ}
 use mathlib.Core.Path.{_≡_, ap, ap₂, _∙_, subst}
@@ -31,23 +31,23 @@ use Rattle.reference.proofs.QuestionTheorem.{CleanOutcomes}
 abbrev pub Tells : ℕ → Bool → Outcome → Type 0
 Tells q b o = (o .state ≡ q) × (o .yes ≡ b)
 
-told-first : (q : ℕ) (b : Bool) (p l : ℕ) (o : Outcome) → outcome o ≡ outcomeAnswer q b p l → Tells q b o
-told-first q b p l o e = (
+told-first : (q : ℕ) (b : Bool) (p l d : ℕ) (o : Outcome) → outcome o ≡ outcomeAnswer q b p l d → Tells q b o
+told-first q b p l d o e = (
   ap (λ (a : Answer). onOutcome (λ (r : Outcome). r .state) 0 a) e,
   ap (λ (a : Answer). onOutcome (λ (r : Outcome). r .yes) false a) e,
 )
 
-every-first : (q : ℕ) (b : Bool) (p l : ℕ) (ys : List Answer) → OnlyOutcomeAfter (outcomeAnswer q b p l) ys
+every-first : (q : ℕ) (b : Bool) (p l d : ℕ) (ys : List Answer) → OnlyOutcomeAfter (outcomeAnswer q b p l d) ys
     → EveryOutcomeAfter (Tells q b) ys
-every-first q b p l ys only =
-    after-map (λ (o : Outcome). outcome o ≡ outcomeAnswer q b p l) (Tells q b) (λ o e. told-first q b p l o e) ys only
+every-first q b p l d ys only =
+    after-map (λ (o : Outcome). outcome o ≡ outcomeAnswer q b p l d) (Tells q b) (λ o e. told-first q b p l d o e) ys only
 
 -- of an undisturbed question every Read after its finish tells the fresh run's state and yes or no
 pub read-tells : (x : Inputs) (vs bs : List ℕ) (n : ℕ) (ys : List Answer) → CleanOutcomes x vs bs n ys
     → EveryOutcomeAfter (Tells (rootState (x .plan) (x .rules) vs bs) (rootAccepted (x .plan) (x .rules) vs bs)) ys
 unfolding freshAnswer
 read-tells x vs bs n ys C =
-    every-first (rootState (x .plan) (x .rules) vs bs) (rootAccepted (x .plan) (x .rules) vs bs) _ _ ys (C .only)
+    every-first (rootState (x .plan) (x .rules) vs bs) (rootAccepted (x .plan) (x .rules) vs bs) _ _ _ ys (C .only)
 
 module _ (x y : Inputs) (vs bs us cs : List ℕ) (passes : PlanPasses (x .plan)) (plan-is : y .plan ≡ changedPlan (x .plan) vs bs)
     (rules-are : y .rules ≡ x .rules) where

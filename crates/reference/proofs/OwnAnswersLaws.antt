@@ -111,7 +111,7 @@ pub wrong-kinds :
     judgedStart inputsA more ∷ judgedStart inputsA Answer.accepted ∷ judgedAdvance otherLabel (parts 2)
     ∷ judgedAdvance otherLabel Answer.accepted ∷ judgedAdvance inputsA (parts 2)
     ∷ judgedUnsettled (finished ∷ refused 1 ∷ []) ∷ judgedUnsettled (finished ∷ refused 18 ∷ []) ∷ judgedUnsettled (finished ∷ finished ∷ [])
-    ∷ judgedUnsettled (finished ∷ outcomeAnswer 1 true 2 1 ∷ []) ∷ []
+    ∷ judgedUnsettled (finished ∷ outcomeAnswer 1 true 2 1 1 ∷ []) ∷ []
     ≡ false ∷ false ∷ false ∷ false ∷ false ∷ false ∷ false ∷ false ∷ true ∷ []
 unfolding judgedStart judgedAdvance judgedUnsettled otherLabel inputsA
 wrong-kinds = refl

@@ -38,7 +38,7 @@ use Rattle.model.proofs.ModelLaws.{start-list, start-sound, start-built, left-b
 use Rattle.model.proofs.SoundLaws.{sound-yes}
 use Rattle.reference.proofs.Demand3Theorem.{demand-3}
 use Rattle.model.proofs.Refinement.{Refines, refines}
-use Rattle.reference.proofs.Ceilings.{Few, ready-count, parts-never-rise, question-links}
+use Rattle.reference.proofs.Ceilings.{Few, ready-count, parts-never-rise, question-links, nodes-passed}
 use Rattle.reference.proofs.UndisturbedLaws.{going, UndisturbedFrom, agrees-split, undisturbed, after-map}
 use Rattle.reference.proofs.OrderLaws.{left-order, roots-order, parts-order, fresh-order}
 
@@ -54,10 +54,14 @@ pub record CleanOutcomes (x : Inputs) (vs bs : List ℕ) (n : ℕ) (ys : List An
   pub exact : (m : ℕ) → finishedAfter ys ≡ some m → m ≡ n
   pub unfinished : finishedAfter ys ≡ none → advances ys < n
   pub most : advances ys ≤ n
-  -- once it is finished Read tells the fresh run's state and yes or no, the parts, and the moves of their climbs
+  -- once it is finished Read tells the fresh run's state and yes or no, the parts, the moves of their climbs and the nodes that
+  -- these passed over
   pub only : OnlyOutcomeAfter (freshAnswer (asked x vs bs)) ys
   -- at most three links for each binary digit of the plan's height, for each part told
   pub links : EveryOutcomeAfter (λ o. o .links ≤ o .parts * (3 * digits (height (planTree (x .plan))))) ys
+  -- document 02, S-7: as many nodes passed over as links or more, and no more than the plan is high for each part told
+  pub passed-least : EveryOutcomeAfter (λ o. o .links ≤ o .passed) ys
+  pub passed-most : EveryOutcomeAfter (λ o. o .passed ≤ o .parts * height (planTree (x .plan))) ys
 
 -- a question that Start accepted for the sizes z: ds and ys are the calls and answers after it
 pub record QuestionAnswered (z : Sizes) (x : Inputs) (vs bs : List ℕ) (n : ℕ) (ds : List Call) (ys : List Answer) : Type 0 where
@@ -113,6 +117,28 @@ few-links d a h ys only =
     after-map (λ (o : Outcome). outcome o ≡ a) (λ (o : Outcome). o .links ≤ o .parts * d)
     (λ o e. subst (λ (c : Answer). linksIn c ≤ partsIn c * d) (sym e) h) ys only
 
+passedIn : Answer → ℕ
+passedIn a = onOutcome (λ o. o .passed) 0 a
+
+some-passed : (a : Answer) → linksIn a ≤ passedIn a → (ys : List Answer) → OnlyOutcomeAfter a ys
+    → EveryOutcomeAfter (λ o. o .links ≤ o .passed) ys
+unfolding linksIn passedIn
+some-passed a h ys only =
+    after-map (λ (o : Outcome). outcome o ≡ a) (λ (o : Outcome). o .links ≤ o .passed)
+    (λ o e. subst (λ (c : Answer). linksIn c ≤ passedIn c) (sym e) h) ys only
+
+few-passed : (d : ℕ) (a : Answer) → passedIn a ≤ partsIn a * d → (ys : List Answer) → OnlyOutcomeAfter a ys
+    → EveryOutcomeAfter (λ o. o .passed ≤ o .parts * d) ys
+unfolding passedIn partsIn
+few-passed d a h ys only =
+    after-map (λ (o : Outcome). outcome o ≡ a) (λ (o : Outcome). o .passed ≤ o .parts * d)
+    (λ o e. subst (λ (c : Answer). passedIn c ≤ partsIn c * d) (sym e) h) ys only
+
+fresh-passed : (q : Question) → (linksIn (freshAnswer q) ≤ passedIn (freshAnswer q))
+    × (passedIn (freshAnswer q) ≤ partsIn (freshAnswer q) * height (planTree (q .inputs .plan)))
+unfolding linksIn partsIn passedIn freshAnswer
+fresh-passed q = nodes-passed (planTree (q .inputs .plan)) (leftOf q)
+
 fresh-few : (q : Question) → linksIn (freshAnswer q) ≤ partsIn
     (freshAnswer q) * (3 * digits (height (planTree (q .inputs .plan))))
 unfolding linksIn partsIn freshAnswer
@@ -151,6 +177,9 @@ module _ (L : Layers) (cs : List Call) (xs : List Answer) (x : Inputs) (vs bs : 
               only = K .only;
               links = few-links (3 * digits (height (planTree (x .plan)))) (freshAnswer (asked x vs bs))
                   (fresh-few (asked x vs bs)) ys (K .only);
+              passed-least = some-passed (freshAnswer (asked x vs bs)) (fresh-passed (asked x vs bs) .0) ys (K .only);
+              passed-most = few-passed (height (planTree (x .plan))) (freshAnswer (asked x vs bs)) (fresh-passed (asked x vs bs) .1) ys
+                  (K .only);
             };
       }
 
@@ -170,6 +199,8 @@ outcome-order x vs bs ws cs g h d u n ys T = record {
       subst (λ (a : Answer). OnlyOutcomeAfter a ys)
       (fresh-order vs bs ws cs g h d (asked x vs bs) (asked x ws cs) refl refl refl refl refl u) (T .only);
   links = T .links;
+  passed-least = T .passed-least;
+  passed-most = T .passed-most;
 }
 
 -- it passes on to every form of the calls that refines this one

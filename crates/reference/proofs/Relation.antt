@@ -1,7 +1,7 @@
 -- What ties the session's record to the reference model.
 --     Parted r z q ps    Start's node table is as built; the record has the question's list and the ready set, and the states of parts
 --                        ps, all below S
---     Counted r q        its states and links are the reference model's results, one for each count
+--     Counted r q        its states, links and nodes passed over are the reference model's results, one for each count
 --     Cleanly z q        the state table of Start is as built, and the results were worked out on it
 --     SettledAs r z q k  what holds of a question of settlement k
 --     Unended            a running question has a part left
@@ -18,7 +18,7 @@ use mathlib.Core.List.{List, []}
 use mathlib.Core.Option.{Option, none, some}
 use lib.ListN.{length, take}
 use Rattle.formats.specs.Checks.{firstNo, listChecks}
-use Rattle.ready.specs.Parts.{Part, partsFrom, allLinks}
+use Rattle.ready.specs.Parts.{Part, partsFrom, allLinks, allPassed}
 use Rattle.formats.specs.Inputs.{Sizes, nodeTableBuilt, stateTableBuilt}
 use Rattle.model.specs.Calls.{Outcome, outcome}
 use Rattle.reference.specs.Reference.{Settlement, clean, byRule, byProgram, Question, State, Reference, phase}
@@ -39,6 +39,7 @@ pub record Parted (r : Record) (z : Sizes) (q : Question) (ps : List Part) : Typ
 pub record Counted (r : Record) (z : Sizes) (q : Question) : Type 0 where
   pub parted : Parted r z q (q .results)
   pub links : r .links ≡ allLinks (q .results)
+  pub passed : r .passed ≡ allPassed (q .results)
   pub count : q .count ≡ length (q .results)
 
 pub record Cleanly (z : Sizes) (q : Question) : Type 0 where

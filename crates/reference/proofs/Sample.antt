@@ -24,9 +24,9 @@ use Rattle.node_tables.specs.Cells.{isInSubtreeOn}
 use Rattle.tables.specs.Climbs.{below, runOn, ruleOn, siblingOn, parentOn, moveOn, climbOn}
 use Rattle.ready.specs.Members.{someIn, someBelow, forksAt, isMember, keep, readyList, roots}
 use Rattle.ready.specs.Parts.{anyBelow, lastBelow, moveState, climbMoves, climbedLinks, innerLinks}
-use Rattle.ready.specs.Parts.{partLinks, sumOf, questionLinks}
+use Rattle.ready.specs.Parts.{partLinks, sumOf, questionLinks, climbedPassed, innerPassed, partPassed, questionPassed}
 use Rattle.ready.specs.Parts.{stateOf, climbedState, innerState, partState, partOf, partsFrom, partsOf, lastState}
-use Rattle.ready.specs.Parts.{allLinks}
+use Rattle.ready.specs.Parts.{allLinks, allPassed}
 use Rattle.questions.specs.Part.{lastFound, labelOn, climbFrom, runReached, ownReached, joinOn, innerOn, leafOn}
 use Rattle.questions.specs.Part.{forkOn, partOn}
 use Rattle.formats.specs.Inputs.{Inputs, fits, sameNodeInputs, sameInputs, namesSizes, nodeTableBuilt, stateTableBuilt}
@@ -52,7 +52,8 @@ unfoldable pub computing : ℕ
 unfolding split sub parent depth isPostorder treeOf changed jumpIn jump nextMove climbIn climb walk tabulate
     rows nodeTableOf stepUp stateMap stateTableOf allBelow holds distinct sameList firstNo planChecks ruleChecks
     listChecks ruleTableChecks buildChecks someIn someBelow forksAt isMember keep readyList roots isInSubtree anyBelow
-    lastBelow moveState climbMoves climbedLinks innerLinks partLinks sumOf questionLinks stateOf climbedState
+    lastBelow moveState climbMoves climbedLinks innerLinks partLinks sumOf questionLinks climbedPassed
+    innerPassed partPassed questionPassed allPassed stateOf climbedState
     innerState partState partOf partsFrom partsOf lastState allLinks below runOn ruleOn siblingOn parentOn moveOn
     climbOn lastFound labelOn climbFrom runReached ownReached joinOn innerOn leafOn forkOn partOn fits sameNodeInputs
     sameInputs namesSizes nodeTableBuilt stateTableBuilt sound statesBelow mayLoad mayStart isRunning refusal phase
@@ -131,8 +132,8 @@ pub sample-rows :
     row [] [] 1 ∷ row (0 ∷ []) (0 ∷ []) 2 ∷ row (0 ∷ 2 ∷ []) (0 ∷ 0 ∷ []) 3 ∷ row (0 ∷ 3 ∷ []) (0 ∷ 1 ∷ []) 5
     ∷ row (4 ∷ []) (0 ∷ []) 2 ∷ row (6 ∷ []) (0 ∷ []) 1
     ∷ startRow (7 ∷ []) (0 ∷ []) ∷ startRow (0 ∷ []) (2 ∷ []) ∷ row (0 ∷ 0 ∷ []) (0 ∷ 1 ∷ []) 1 ∷ []
-    ≡ some (outcomeAnswer 1 true 1 0) ∷ some (outcomeAnswer 0 false 2 1) ∷ some (outcomeAnswer 1 true 3 0) ∷ some (outcomeAnswer 0 false 5 0)
-    ∷ some (outcomeAnswer 0 false 2 1) ∷ some (outcomeAnswer 1 true 1 0)
-    ∷ some (refused 13) ∷ some (refused 14) ∷ some (outcomeAnswer 1 true 1 0) ∷ []
+    ≡ some (outcomeAnswer 1 true 1 0 0) ∷ some (outcomeAnswer 0 false 2 1 1) ∷ some (outcomeAnswer 1 true 3 0 0) ∷ some (outcomeAnswer 0 false 5 0 0)
+    ∷ some (outcomeAnswer 0 false 2 1 1) ∷ some (outcomeAnswer 1 true 1 0 0)
+    ∷ some (refused 13) ∷ some (refused 14) ∷ some (outcomeAnswer 1 true 1 0 0) ∷ []
 unfolding row startRow
 sample-rows = refl

@@ -16,7 +16,7 @@ use lib.Seq.{take-all}
 use Rattle.trees.specs.Automaton.{state}
 use Rattle.formats.specs.Rules.{ruleAutomaton}
 use Rattle.formats.specs.Checks.{firstNo}
-use Rattle.ready.specs.Parts.{Part, partsFrom, partsOf, lastState, allLinks}
+use Rattle.ready.specs.Parts.{Part, partsFrom, partsOf, lastState, allLinks, allPassed}
 use Rattle.formats.specs.Inputs.{Inputs, Sizes, sizesIn}
 use Rattle.model.specs.Calls.{Call, load, cancel, read, Answer, refused, Outcome, outcome, outcomeAnswer, Phase, isRunning, isSome}
 use Rattle.model.specs.Refusals.{stage, refusal}
@@ -27,7 +27,7 @@ use Rattle.reference.specs.Demand3.{Conforms, after}
 use Rattle.model.specs.Model.{Record, stageOf as recordStage, Acted, acted, idle, act, unless, proceeds, Does}
 use Rattle.model.specs.Model.{lastAnswer}
 use Rattle.formats.proofs.InputsLaws.{node-table-built}
-use Rattle.reference.proofs.FreshLaws.{whole-state, whole-links}
+use Rattle.reference.proofs.FreshLaws.{whole-state, whole-links, whole-over}
 use Rattle.reference.proofs.Relation.{Counted, Cleanly, Told, Lasts, Rel}
 
 abbrev pub Sim : Reply → Acted → Type 0
@@ -88,17 +88,18 @@ on-cancel r r′ b a i d = does r r′ b cancel a d (by-refusal r b cancel i ok)
 
 -- ---- the outcome of a question, at its finish
 
-pub outcome-same : (q q′ : ℕ) (y y′ : Bool) (p p′ l l′ : ℕ) → q ≡ q′ → y ≡ y′ → p ≡ p′ → l ≡ l′
-    → outcomeAnswer q y p l ≡ outcomeAnswer q′ y′ p′ l′
-outcome-same q q′ y y′ p p′ l l′ e f g h = cc
+pub outcome-same : (q q′ : ℕ) (y y′ : Bool) (p p′ l l′ d d′ : ℕ) → q ≡ q′ → y ≡ y′ → p ≡ p′ → l ≡ l′ → d ≡ d′
+    → outcomeAnswer q y p l d ≡ outcomeAnswer q′ y′ p′ l′ d′
+outcome-same q q′ y y′ p p′ l l′ d d′ e f g h i = cc
 
 -- a clean one: all parts on the state table that Load writes
 pub rule-fresh : (r : Record) (z : Sizes) (q : Question) → Counted r z q → Cleanly z q → q .count ≡ partCount q
     → ruleAnswer q ≡ freshAnswer q
 unfolding ruleAnswer freshAnswer partsOf
 rule-fresh r z q c k e =
-    outcome-same _ _ _ _ _ _ _ _ s (ap (ruleAutomaton (q .inputs .rules) .accepting) s) refl
+    outcome-same _ _ _ _ _ _ _ _ _ _ s (ap (ruleAutomaton (q .inputs .rules) .accepting) s) refl
     (ap allLinks whole ∙ whole-links z q (node-table-built z (q .inputs) (c .parted .built)) (q .inputs))
+    (ap allPassed whole ∙ whole-over z q (node-table-built z (q .inputs) (c .parted .built)) (q .inputs))
   where
     whole : q .results ≡ partsOf (givenBy z q (q .inputs)) (rootsOf q)
     whole =

@@ -8,7 +8,7 @@ use mathlib.Core.Bool.{true}
 use mathlib.Core.List.{List, []}
 use Rattle.list_laws.specs.Tests.{allBelow}
 use Rattle.list_laws.proofs.BoolLaws.{and-right}
-use Rattle.ready.specs.Parts.{partsFrom, allLinks}
+use Rattle.ready.specs.Parts.{partsFrom, allLinks, allPassed}
 use Rattle.formats.specs.Inputs.{Inputs, Sizes, nodeTableBuilt, stateTableBuilt, sound}
 use Rattle.model.specs.Calls.{start}
 use Rattle.model.specs.Refusals.{refusal}
@@ -47,12 +47,12 @@ module _ (r : Record) (b : Reference) (x : Inputs) (vs bs : List ℕ) (i : Rel r
   states-built = and-right (nodeTableBuilt z x) (stateTableBuilt z x) (start-sound (stageOf b) x vs bs h)
 
   related : Rel begun (referenceOf (State.running (asked x vs bs)) z (b .last))
-  unfolding started phase partsFrom allLinks
+  unfolding started phase partsFrom allLinks allPassed
   related = record {
     phases = refl;
     sizes = i .sizes;
     holds = (
-      (record { parted = parted-first; links = refl; count = refl }, record { stateTable = states-built; replayed = refl }),
+      (record { parted = parted-first; links = refl; passed = refl; count = refl }, record { stateTable = states-built; replayed = refl }),
       some-part (asked x vs bs),
     );
     lasts = i .lasts;

@@ -28,7 +28,7 @@ use Rattle.changes.specs.Differing.{differing}
 use Rattle.changes.proofs.ChangedLaws.{changed-superseded, superseded-list}
 use Rattle.changes.proofs.DifferingLaws.{differing-superseded}
 use Rattle.ready.specs.Members.{roots}
-use Rattle.ready.specs.Parts.{questionLinks}
+use Rattle.ready.specs.Parts.{questionLinks, questionPassed}
 use Rattle.tables.specs.declared.answers.Reached.{Reached}
 use Rattle.tables.specs.Climbs.{View}
 use Rattle.questions.specs.Part.{labelOn, partOn}
@@ -62,7 +62,7 @@ module _ (x : Inputs) (vs bs : List ℕ) where
   unfolding freshAnswer
   fresh-superseded =
       ap₂ (λ (t : Tree) (ms : List ℕ). outcomeAnswer (state (ruleAutomaton (x .rules)) t) (accepts (ruleAutomaton (x .rules)) t)
-      (length ms) (questionLinks (planTree (x .plan)) ms)) tree-superseded (roots-superseded (planTree (x .plan)) (labelsIn (x .plan)) vs bs)
+      (length ms) (questionLinks (planTree (x .plan)) ms) (questionPassed (planTree (x .plan)) ms)) tree-superseded (roots-superseded (planTree (x .plan)) (labelsIn (x .plan)) vs bs)
 
 -- ---- the refusal of a Start
 

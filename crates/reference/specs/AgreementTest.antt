@@ -32,7 +32,7 @@ code Answer.accepted = 1 ∷ []
 code (parts p) = 2 ∷ p ∷ []
 code more = 3 ∷ []
 code finished = 4 ∷ []
-code (outcome o) = 5 ∷ o .state ∷ flag (o .yes) ∷ o .parts ∷ o .links ∷ []
+code (outcome o) = 5 ∷ o .state ∷ flag (o .yes) ∷ o .parts ∷ o .links ∷ o .passed ∷ []
 
 unfoldable pub sameAnswer : Answer → Answer → Bool
 sameAnswer a b = sameList (code a) (code b)

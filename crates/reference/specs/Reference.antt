@@ -23,7 +23,7 @@ use Rattle.changes.specs.Differing.{differing}
 use Rattle.formats.specs.Rules.{ruleAutomaton}
 use Rattle.runs.specs.FreshRun as fresh-run
 use Rattle.ready.specs.Members.{roots}
-use Rattle.ready.specs.Parts.{Given, Part, partOf, lastState, allLinks, questionLinks}
+use Rattle.ready.specs.Parts.{Given, Part, partOf, lastState, allLinks, questionLinks, allPassed, questionPassed}
 use Rattle.formats.specs.Inputs.{Inputs, Sizes, sizesIn, sameNodeInputs, sameInputs, statesBelow}
 use Rattle.model.specs.Calls.{Call, load, start, advance, cancel, read, Answer, refused, parts, more, finished}
 use Rattle.model.specs.Calls.{outcomeAnswer, onRefused, onAdvance, onOutcome, Phase, isSome}
@@ -109,17 +109,18 @@ unfoldable pub longer : Sizes → Question → Inputs → List Part
 longer z q x = q .results ++ (partOf (givenBy z q x) (rootsOf q) (q .results) (getD (rootsOf q) (length (q .results)) 0) ∷ [])
 
 -- "the root state, and its yes or no, of a fresh run (source document 002's, on Start's plan with the listed labels changed), the
--- parts, and as links the moves of its parts' climbs"
+-- parts, and as links the moves of its parts' climbs"; document 02 (S-7): "the total over their climbs", the nodes passed over
 unfoldable pub freshAnswer : Question → Answer
 freshAnswer q =
     outcomeAnswer (fresh-run.rootState (q .inputs .plan) (q .inputs .rules) (q .nodes) (q .labels))
     (fresh-run.rootAccepted (q .inputs .plan) (q .inputs .rules) (q .nodes) (q .labels))
-    (partCount q) (questionLinks (planTree (q .inputs .plan)) (rootsOf q))
+    (partCount q) (questionLinks (planTree (q .inputs .plan)) (rootsOf q)) (questionPassed (planTree (q .inputs .plan)) (rootsOf q))
 
 -- what the rule of "Parts of a question" gave on the state tables given
 unfoldable pub ruleAnswer : Question → Answer
 ruleAnswer q =
-    outcomeAnswer (lastState (q .results) 0) (ruleAutomaton (q .inputs .rules) .accepting (lastState (q .results) 0)) (partCount q) (allLinks (q .results))
+    outcomeAnswer (lastState (q .results) 0) (ruleAutomaton (q .inputs .rules) .accepting (lastState (q .results) 0)) (partCount q)
+    (allLinks (q .results)) (allPassed (q .results))
 
 -- ---- Start
 

@@ -46,6 +46,7 @@ supersededRecord r = record {
   roots = r .roots;
   states = r .states;
   links = r .links;
+  passed = r .passed;
   yes = r .yes;
   last = r .last;
 }

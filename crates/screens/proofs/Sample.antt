@@ -74,9 +74,9 @@ told =
     ∷ one (parts 2) ∷ one (parts 5) ∷ one (parts 2)
     ∷ one (refused 1)
     ∷ deals 1 more ∷ deals 4 more ∷ one Answer.accepted ∷ deals 6 more
-    ∷ one (refused 18) ∷ deals 1 finished ∷ one (outcomeAnswer 0 false 2 1)
-    ∷ one (parts 1) ∷ one Answer.accepted ∷ one (outcomeAnswer 0 false 2 1)
-    ∷ deals 6 finished ∷ one (refused 1) ∷ one (outcomeAnswer 0 false 2 1)
+    ∷ one (refused 18) ∷ deals 1 finished ∷ one (outcomeAnswer 0 false 2 1 1)
+    ∷ one (parts 1) ∷ one Answer.accepted ∷ one (outcomeAnswer 0 false 2 1 1)
+    ∷ deals 6 finished ∷ one (refused 1) ∷ one (outcomeAnswer 0 false 2 1 1)
     ∷ loads 0 ∷ one (refused 1) ∷ []
 
 pub sample-answers : answersAll eightFresh calls ≡ told
@@ -92,13 +92,13 @@ settledOf i = settledAnswers newReference (ownCalls i nobodyRuns calls told) (ow
 -- 18 is left to the program
 pub sample-references :
     (settledOf 0 ≡ some Answer.accepted ∷ some (parts 2) ∷ some more ∷ none ∷ some finished
-    ∷ some (outcomeAnswer 0 false 2 1)
-    ∷ some (parts 1) ∷ some Answer.accepted ∷ some (outcomeAnswer 0 false 2 1) ∷ some Answer.accepted
+    ∷ some (outcomeAnswer 0 false 2 1 1)
+    ∷ some (parts 1) ∷ some Answer.accepted ∷ some (outcomeAnswer 0 false 2 1 1) ∷ some Answer.accepted
     ∷ some (refused 1) ∷ [])
     × ((settledOf 3 ≡ some Answer.accepted ∷ some (parts 5) ∷ some more ∷ some Answer.accepted ∷ some Answer.accepted
     ∷ [])
     × (settledOf 5 ≡ some Answer.accepted ∷ some (parts 2) ∷ some more ∷ some finished
-    ∷ some (outcomeAnswer 0 false 2 1)
+    ∷ some (outcomeAnswer 0 false 2 1 1)
     ∷ some Answer.accepted ∷ []))
 unfolding settledOf
 sample-references = (refl, (refl, refl))
@@ -137,8 +137,8 @@ fewer =
 
 unfoldable pub toldFewer : List ScreenAnswer
 toldFewer =
-    loads 0 ∷ one (parts 2) ∷ deals 1 more ∷ one (refused 18) ∷ deals 1 finished ∷ one (outcomeAnswer 0 false 2 1)
-    ∷ one (parts 1) ∷ one Answer.accepted ∷ one (outcomeAnswer 0 false 2 1) ∷ loads 0 ∷ one (refused 1) ∷ []
+    loads 0 ∷ one (parts 2) ∷ deals 1 more ∷ one (refused 18) ∷ deals 1 finished ∷ one (outcomeAnswer 0 false 2 1 1)
+    ∷ one (parts 1) ∷ one Answer.accepted ∷ one (outcomeAnswer 0 false 2 1 1) ∷ loads 0 ∷ one (refused 1) ∷ []
 
 pub fewer-answers : answersAll eightFresh fewer ≡ toldFewer
 unfolding computingScreens fewer toldFewer loadA inputsA outside

@@ -1,7 +1,9 @@
 -- Every record that a call leaves is a session's.
 --     listed-of, holds-valid     a record that holds has lists that fit the arrays, and its struct passes its conditions
---     act-holds                  what holds of a record holds of the record after a call
---     act-valid                  so the struct after a call passes, and has that record
+--     Narrow r c                 what call c finds on record r passed over at most 65,535 nodes
+--     act-holds                  what holds of a record holds of the record after such a call
+--     act-valid                  so the struct after it passes
+--     act-shaped, act-record     and after every call it has the layout's lengths, and that record
 -- Assumes nothing.
 use Prim.Native.Nat.{ℕ, zero, suc, _+_, _-_, _*_, _≤_, _<_}
 use mathlib.Core.Path.{_≡_, refl, sym, ap, _∙_, subst}
@@ -88,7 +90,9 @@ module _ (r : Record) where
       (and-both _ _ (ap (risesTo (r .sizes .n - 1)) (take-padded 254 (r .roots)) ∙ A .rises)
       (and-both _ _ (zero-padded 254 (r .roots))
       (and-both _ _ (ap (allBelow (r .sizes .s)) (take-padded 254 (r .states)) ∙ A .states-below)
-      (and-both _ _ (zero-padded 254 (r .states)) (le-leb (r .links) (65535 * length (r .states)) (A .few-links))))))
+      (and-both _ _ (zero-padded 254 (r .states))
+      (and-both _ _ (le-leb (r .links) (r .passed) (A .links-passed))
+      (le-leb (r .passed) (65535 * length (r .states)) (A .few-passed)))))))
 
   question-yes : Sized (r .sizes) → Asked r → length (r .states) ≤ length (r .roots) → questionFits (sessionOf r) ≡ true
   unfolding questionFits sessionOf
@@ -118,7 +122,8 @@ module _ (r : Record) where
       (and-both _ _ (within-both r 1 254 (length (r .states)) h k)
       (and-both _ _ (eq-eqb (lastOf (r .states) 0) _ (sym (last-at (r .states) h)))
       (and-both _ _ (flag-yes (r .yes))
-      (and-both _ _ (eq-eqb (length (r .roots)) (length (r .roots)) refl) (eq-eqb (r .links) (r .links) refl)))))
+      (and-both _ _ (eq-eqb (length (r .roots)) (length (r .roots)) refl)
+      (and-both _ _ (eq-eqb (r .links) (r .links) refl) (eq-eqb (r .passed) (r .passed) refl))))))
 
   valid-in : (p : calls.Phase) → HoldsIn p r → validIn (phaseTo p) (sessionOf r) ≡ true
   unfolding phaseTo validIn freshRecord sessionOf idle
@@ -183,6 +188,14 @@ running-is calls.Phase.loaded r e H = absurd (true-false (sym e))
 running-is calls.Phase.running r e H = H
 running-is calls.Phase.answered r e H = absurd (true-false (sym e))
 
+-- what an advance finds passed over at most 65,535 nodes: so where the lent numbers have 16 bits
+abbrev pub Narrow : Record → Call → Type 0
+Narrow r (load x) = Unit {0}
+Narrow r (start x vs bs) = Unit {0}
+Narrow r (advance x) = (y : Reached) → partNext r x ≡ some y → y .passed ≤ 65535
+Narrow r cancel = Unit {0}
+Narrow r read = Unit {0}
+
 module _ (r : Record) (H : Holds r) where
   load-holds : (x : Inputs) → refusal (stageOf r) (load x) ≡ 0 → Holds (loadedRecord (sizesIn x))
   unfolding refusal idle
@@ -230,7 +243,8 @@ module _ (r : Record) (H : Holds r) where
             few-parts = few-roots (r .sizes .n) (length left) (rootsIn x left) R (left-most x (r .sizes .n) (r .sizes .k) vs bs L);
             rises = rises-is (r .sizes .n - 1) (rootsIn x left) (R .to);
             states-below = nil-below (r .sizes .s);
-            few-links = omega arith;
+            links-passed = omega arith;
+            few-passed = omega arith;
           };
           handled = omega (arith, some-root x left);
           no-yes = refl;
@@ -242,7 +256,7 @@ module _ (r : Record) (H : Holds r) where
     unfolding refusal
     going = running-is (r .phase) r (firstNo-head 1 (isRunning (r .phase)) _ (omega arith) e) H
 
-    module _ (y : Reached) (q : partNext r x ≡ some y) where
+    module _ (y : Reached) (q : partNext r x ≡ some y) (narrow : y .passed ≤ 65535) where
       bounded : Bounded (viewBy (r .sizes) x) y
       bounded = part-bounded (viewBy (r .sizes) x) _ _ _ _ _ y q
 
@@ -261,7 +275,8 @@ module _ (r : Record) (H : Holds r) where
             few-parts = A .few-parts;
             rises = A .rises;
             states-below = below-more (r .sizes .s) (r .states) (y .state) (A .states-below) (bounded .state);
-            few-links = rw l (omega (arith, A .few-links, bounded .links, going .sizes .nodes-most));
+            links-passed = omega (arith, A .links-passed, bounded .links-passed);
+            few-passed = rw l (omega (arith, A .few-passed, narrow));
           }
 
       advance-holds : (b : Bool) → eqb (suc (length (r .states))) (length (r .roots)) ≡ b → (w : Bool)
@@ -276,7 +291,8 @@ module _ (r : Record) (H : Holds r) where
             asked = stepped-asked calls.Phase.answered w;
             handled = omega (arith, l, eqb-true (suc (length (r .states))) (length (r .roots)) t);
             own = ap (λ (q : ℕ).
-                some (record { state = q; yes = w; parts = length (r .roots); links = r .links + y .links }))
+                some
+                (record { state = q; yes = w; parts = length (r .roots); links = r .links + y .links; passed = r .passed + y .passed }))
                 (sym (last-append (r .states) 0 (y .state)));
           }
       advance-holds false t w =
@@ -292,11 +308,11 @@ module _ (r : Record) (H : Holds r) where
             last = going .last;
           }
 
-    part-holds : (o : Option Reached) → partNext r x ≡ o → Holds (advanceWith r x o .record′)
+    part-holds : Narrow r (advance x) → (o : Option Reached) → partNext r x ≡ o → Holds (advanceWith r x o .record′)
     unfolding advanceWith
-    part-holds none q = H
-    part-holds (some y) q =
-        advance-holds y q (eqb (suc (length (r .states))) (length (r .roots))) refl
+    part-holds w none q = H
+    part-holds w (some y) q =
+        advance-holds y q (w y q) (eqb (suc (length (r .states))) (length (r .roots))) refl
         (eqb (getD (marksBy (r .sizes) x) (y .state) 0) 1)
 
   cancel-holds : refusal (stageOf r) cancel ≡ 0 → Holds (withLast (r .last) (loadedRecord (r .sizes)))
@@ -304,33 +320,75 @@ module _ (r : Record) (H : Holds r) where
   cancel-holds f =
       let G = running-is (r .phase) r (firstNo-head 1 (isRunning (r .phase)) _ (omega arith) f) H in (G .sizes, G .last, refl)
 
-  proceeds-holds : (c : Call) → refusal (stageOf r) c ≡ 0 → Holds (proceeds r c .record′)
+  proceeds-holds : (c : Call) → Narrow r c → refusal (stageOf r) c ≡ 0 → Holds (proceeds r c .record′)
   unfolding proceeds
-  proceeds-holds (load x) e = load-holds x e
-  proceeds-holds (start x vs bs) e = start-holds x vs bs e
-  proceeds-holds (advance x) e = part-holds x e (partNext r x) refl
-  proceeds-holds cancel e = cancel-holds e
-  proceeds-holds read e = H
+  proceeds-holds (load x) w e = load-holds x e
+  proceeds-holds (start x vs bs) w e = start-holds x vs bs e
+  proceeds-holds (advance x) w e = part-holds x e w (partNext r x) refl
+  proceeds-holds cancel w e = cancel-holds e
+  proceeds-holds read w e = H
 
-  pub act-holds : (c : Call) → Holds (act r c .record′)
+  pub act-holds : (c : Call) → Narrow r c → Holds (act r c .record′)
   unfolding act unless
-  act-holds c = go (refusal (stageOf r) c) refl
+  act-holds c w = go (refusal (stageOf r) c) refl
     where
       go : (n : ℕ) → refusal (stageOf r) c ≡ n → Holds (unless n r c .record′)
-      go zero e = proceeds-holds c e
+      go zero e = proceeds-holds c w e
       go (suc n) e = H
+
+  -- the lists fit after every call, whatever numbers are lent
+  part-listed : (x : Inputs) → refusal (stageOf r) (advance x) ≡ 0 → (o : Option Reached) → Listed (advanceWith r x o .record′)
+  unfolding advanceWith stepped
+  part-listed x e none = listed-of r H
+  part-listed x e (some y) = go (eqb (suc (length (r .states))) (length (r .roots)))
+    where
+      -- in either state
+      then : (p : calls.Phase) (b : Bool) → Listed (stepped r p y b)
+      then p b =
+          let G = going x e in
+          let l : length (r .states ++ (y .state ∷ [])) ≡ length (r .states) + 1 = length-append (r .states)
+          (y .state ∷ []) in
+          record {
+            few = G .asked .few;
+            same = G .asked .same;
+            few-parts = G .asked .few-parts;
+            few-handled = omega (arith, l, G .handled, G .asked .few-parts);
+          }
+
+      go : (b : Bool) → Listed (cond b (acted calls.Answer.finished
+          (stepped r calls.Phase.answered y (eqb (getD (marksBy (r .sizes) x) (y .state) 0) 1)))
+          (acted calls.Answer.more (stepped r calls.Phase.running y false)) .record′)
+      go true = then calls.Phase.answered (eqb (getD (marksBy (r .sizes) x) (y .state) 0) 1)
+      go false = then calls.Phase.running false
+
+  proceeds-listed : (c : Call) → refusal (stageOf r) c ≡ 0 → Listed (proceeds r c .record′)
+  unfolding proceeds
+  proceeds-listed (load x) e = listed-of (loadedRecord (sizesIn x)) (load-holds x e)
+  proceeds-listed (start x vs bs) e =
+      listed-of (withLast (r .last) (started (r .sizes) vs bs (rootsIn x (leftIn x vs bs)))) (start-holds x vs bs e)
+  proceeds-listed (advance x) e = part-listed x e (partNext r x)
+  proceeds-listed cancel e = listed-of (withLast (r .last) (loadedRecord (r .sizes))) (cancel-holds e)
+  proceeds-listed read e = listed-of r H
+
+  act-listed : (c : Call) → Listed (act r c .record′)
+  unfolding act unless
+  act-listed c = go (refusal (stageOf r) c) refl
+    where
+      go : (n : ℕ) → refusal (stageOf r) c ≡ n → Listed (unless n r c .record′)
+      go zero e = proceeds-listed c e
+      go (suc n) e = listed-of r H
 
 -- ---- the struct after a call
 
 module _ (s : Session) (h : Shaped s) (e : valid s ≡ true) (c : Call) where
-  after : Holds (act (recordOf s) c .record′)
-  after = act-holds (recordOf s) (holds-of s h e) c
+  pub act-valid : Narrow (recordOf s) c → valid (sessionOf (act (recordOf s) c .record′)) ≡ true
+  act-valid w = holds-valid (act (recordOf s) c .record′) (act-holds (recordOf s) (holds-of s h e) c w)
 
-  pub act-valid : valid (sessionOf (act (recordOf s) c .record′)) ≡ true
-  act-valid = holds-valid (act (recordOf s) c .record′) after
+  after : Listed (act (recordOf s) c .record′)
+  after = act-listed (recordOf s) (holds-of s h e) c
 
   pub act-shaped : Shaped (sessionOf (act (recordOf s) c .record′))
-  act-shaped = struct-shaped (act (recordOf s) c .record′) (listed-of (act (recordOf s) c .record′) after)
+  act-shaped = struct-shaped (act (recordOf s) c .record′) after
 
   pub act-record : recordOf (sessionOf (act (recordOf s) c .record′)) ≡ act (recordOf s) c .record′
-  act-record = record-of-struct (act (recordOf s) c .record′) (listed-of (act (recordOf s) c .record′) after)
+  act-record = record-of-struct (act (recordOf s) c .record′) after

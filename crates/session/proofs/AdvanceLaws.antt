@@ -46,7 +46,7 @@ use Rattle.session.specs.inner.Steps.{NextArgs, HandleArgs, markedIn, st
 use Rattle.session.proofs.PadLaws.{padded-take, padded-more}
 use Rattle.session.proofs.RecordLaws.{Tails}
 use Rattle.session.proofs.Holds.{Sized, Going, holds-of, tails-of, struct-is}
-use Rattle.session.proofs.ActLaws.{rises-below, running-is}
+use Rattle.session.proofs.ActLaws.{Narrow, rises-below, running-is}
 use Rattle.session.proofs.CallLaws.{unless-done, refused-done, proceeds-done}
 
 -- ---- the struct of a record with one more part
@@ -63,10 +63,17 @@ module _ (s : Session) (h : Shaped s) (T : Tails s) where
 
   -- o is the last finished answer then
   stepped-struct : s .head .handled < 254 → (p : calls.Phase) (y : Reached) (b : Bool) (o : Last)
-      → lastTo (lastThen p (record { state = y .state; yes = b; parts = s .head .parts; links = s .head .links + y .links })
+      → lastTo (lastThen p
+      (record {
+        state = y .state;
+        yes = b;
+        parts = s .head .parts;
+        links = s .head .links + y .links;
+        passed = s .head .passed + y .passed;
+      })
       (lastIn (s .head .last))) ≡ o
       → sessionOf (stepped (recordOf s) p y b)
-      ≡ whole (steppedHead (s .head) (phaseTo p) (y .links) b o) (s .nodes) (s .labels) (s .roots)
+      ≡ whole (steppedHead (s .head) (phaseTo p) (y .links) (y .passed) b o) (s .nodes) (s .labels) (s .roots)
       (set (s .states) (s .head .handled) (y .state))
   unfolding sessionOf stepped recordOf
   stepped-struct k p y b o e =
@@ -139,11 +146,11 @@ module _ (s : Session) (h : Shaped s) (x : Inputs) (b : Bool) (may : b ≡ (vali
         cond d
         (record {
           answer = Finished;
-          head = finishedHead h (y .state) (y .links) (markedIn (h .sizes .s) (h .sizes .k) (x .rules) (y .state));
+          head = finishedHead h (y .state) (y .links) (y .passed) (markedIn (h .sizes .s) (h .sizes .k) (x .rules) (y .state));
           stored = true;
           state = y .state;
         })
-        (record { answer = More; head = steppedHead h Running (y .links) false (h .last); stored = true; state = y .state })
+        (record { answer = More; head = steppedHead h Running (y .links) (y .passed) false (h .last); stored = true; state = y .state })
 
     abbrev byModel : Reached → Bool → Acted
     byModel y d =
@@ -157,7 +164,7 @@ module _ (s : Session) (h : Shaped s) (x : Inputs) (b : Bool) (may : b ≡ (vali
     same-step y true = (
       refl,
       sym (stepped-struct s h T few-handled calls.Phase.answered y (markedIn (s .head .sizes .s) (s .head .sizes .k) (x .rules) (y .state))
-          (answerOf (s .head) (y .state) (y .links) (markedIn (s .head .sizes .s) (s .head .sizes .k) (x .rules) (y .state))) refl),
+          (answerOf (s .head) (y .state) (y .links) (y .passed) (markedIn (s .head .sizes .s) (s .head .sizes .k) (x .rules) (y .state))) refl),
     )
     same-step y false = (refl, sym (stepped-struct s h T few-handled calls.Phase.running y false (s .head .last) (T .last-end)))
 
@@ -217,52 +224,59 @@ module _ (s : Session) (h : Shaped s) (x : Inputs) (b : Bool) (may : b ≡ (vali
             (take (s .head .handled) (s .states)) (take (s .head .m) (s .nodes)) (take (s .head .m) (s .labels)) limits-yes
             (sym fit ∙ not-false f yes) asked-yes
 
-        acts : (o : Option Reached) → partNext (recordOf s) x ≡ o → (a : calls.Answer) (t : Session)
+        acts : Narrow (recordOf s) C → (o : Option Reached) → partNext (recordOf s) x ≡ o → (a : calls.Answer) (t : Session)
             → a ≡ advanceWith (recordOf s) x o .answer → t ≡ sessionOf (advanceWith (recordOf s) x o .record′)
             → CallDone s C a t
         unfolding proceeds
-        acts o e a t i j =
-            proceeds-done s C h v no-refusal a t
+        acts w o e a t i j =
+            proceeds-done s C h v w no-refusal a t
             (i ∙ ap (λ (z : Option Reached). advanceWith (recordOf s) x z .answer) (sym e))
             (j ∙ ap (λ (z : Option Reached). sessionOf (advanceWith (recordOf s) x z .record′)) (sym e))
 
         module _ (K : Climbed)
             (found : K ≡ climbedOf (partGiven (s .head .sizes .n) (s .head .sizes .s) (s .head .sizes .k) (x .plan) (x .rules) (x .nodeTable) (x .stateTable)
             (take (s .head .parts) (s .roots)) (take (s .head .handled) (s .states)) (take (s .head .m) (s .nodes))
-            (take (s .head .m) (s .labels)))) where
+            (take (s .head .m) (s .labels))))
+            (few : (y : Reached)
+            → partGiven (s .head .sizes .n) (s .head .sizes .s) (s .head .sizes .k) (x .plan) (x .rules) (x .nodeTable) (x .stateTable)
+            (take (s .head .parts) (s .roots)) (take (s .head .handled) (s .states)) (take (s .head .m) (s .nodes))
+            (take (s .head .m) (s .labels)) ≡ some y → y .passed ≤ 65535) where
+          narrow : Narrow (recordOf s) C
+          narrow y e = few y (given ∙ e)
+
           pub advance-18 : K ≡ OutOfRange → CallDone s C (advanceAnswer (NotAdvanced 18)) s
           unfolding advanceAnswer advanceWith climbedOf
           advance-18 e = go (partNext (recordOf s) x) refl (found ∙ ap climbedOf given)
             where
               go : (o : Option Reached) → partNext (recordOf s) x ≡ o → K ≡ climbedOf (partNext (recordOf s) x)
                   → CallDone s C (calls.Answer.refused 18) s
-              go none i j = acts none i (calls.Answer.refused 18) s refl (sym (struct-is s h v))
+              go none i j = acts narrow none i (calls.Answer.refused 18) s refl (sym (struct-is s h v))
               go (some y) i j =
                   let k : K ≡ To y = j ∙ ap climbedOf i in
                   let z : _≡_ {A = ℕ} 0 1 = cc in
                   absurd (omega arith)
 
-          module _ (q l : ℕ) (result : K ≡ To (reached q l)) where
-            one : (y : Reached) × (partNext (recordOf s) x ≡ some y) × (y .state ≡ q) × (y .links ≡ l)
+          module _ (q l p : ℕ) (result : K ≡ To (reached q l p)) where
+            one : (y : Reached) × (partNext (recordOf s) x ≡ some y) × (y .state ≡ q) × (y .links ≡ l) × (y .passed ≡ p)
             unfolding climbedOf
             one = go (partNext (recordOf s) x) refl (found ∙ ap climbedOf given)
               where
                 go : (o : Option Reached) → partNext (recordOf s) x ≡ o → K ≡ climbedOf (partNext (recordOf s) x)
-                    → (y : Reached) × (partNext (recordOf s) x ≡ some y) × (y .state ≡ q) × (y .links ≡ l)
+                    → (y : Reached) × (partNext (recordOf s) x ≡ some y) × (y .state ≡ q) × (y .links ≡ l) × (y .passed ≡ p)
                 go none i j =
                     let k : K ≡ OutOfRange = j ∙ ap climbedOf i in
                     let z : _≡_ {A = ℕ} 0 1 = cc in
                     absurd (omega arith)
                 go (some y) i j =
-                    let k : To y ≡ To (reached q l) = sym (j ∙ ap climbedOf i) ∙ result in
-                    let e : y ≡ reached q l = cc in
-                    (y, i, ap (λ (w : Reached). w .state) e, ap (λ (w : Reached). w .links) e)
+                    let k : To y ≡ To (reached q l p) = sym (j ∙ ap climbedOf i) ∙ result in
+                    let e : y ≡ reached q l p = cc in
+                    (y, i, ap (λ (w : Reached). w .state) e, ap (λ (w : Reached). w .links) e, ap (λ (w : Reached). w .passed) e)
 
             bounded : Bounded (viewBy (sizesOf s) x) (one .0)
             unfolding recordOf
             bounded = part-bounded (viewBy (sizesOf s) x) _ _ _ _ _ (one .0) (one .1)
 
-            pub handle-args : HandleArgs (s .head) (x .rules) q l
+            pub handle-args : HandleArgs (s .head) (x .rules) q l p
             unfolding recordOf
             handle-args = record {
               marks = record {
@@ -273,21 +287,22 @@ module _ (s : Session) (h : Shaped s) (x : Inputs) (b : Bool) (may : b ≡ (vali
               };
               step = record {
                 room = few-handled;
-                links-fit = omega (arith, few-handled, G .asked .few-links, L .3, bounded .links, one .3, Z .nodes-most);
+                links-fit = omega (arith, few-handled, G .asked .links-passed, G .asked .few-passed, L .3, bounded .links, one .3, Z .nodes-most);
+                passed-fit = omega (arith, few-handled, G .asked .few-passed, L .3, narrow (one .0) (one .1), one .4);
               };
             }
 
-            advance-yes : (t : AdvanceStep) → t ≡ stepBy (s .head) (x .rules) q l
+            advance-yes : (t : AdvanceStep) → t ≡ stepBy (s .head) (x .rules) q l p
                 → CallDone s C (advanceAnswer (t .answer)) (stepOn s t)
             unfolding stepBy advanceWith recordOf
             advance-yes t e =
                 let y = one .0 in
                 let d = eqb (s .head .handled + 1) (s .head .parts) in
-                let f : t ≡ byCode y d = rw (one .2, one .3) e in
+                let f : t ≡ byCode y d = rw (one .2, one .3, one .4) e in
                 let m : advanceWith (recordOf s) x (some y) ≡ byModel y d = ap (byModel y) last-same in
-                acts (some y) (one .1) (advanceAnswer (t .answer)) (stepOn s t)
+                acts narrow (some y) (one .1) (advanceAnswer (t .answer)) (stepOn s t)
                 (ap (λ (w : AdvanceStep). advanceAnswer (w .answer)) f ∙ same-step y d .0 ∙ ap (λ (w : Acted). w .answer) (sym m))
                 (ap (stepOn s) f ∙ same-step y d .1 ∙ ap (λ (w : Acted). sessionOf (w .record′)) (sym m))
 
-            pub step-found : (t : AdvanceStep) → t ≡ stepBy (s .head) (x .rules) q l → StepFound s C t
+            pub step-found : (t : AdvanceStep) → t ≡ stepBy (s .head) (x .rules) q l p → StepFound s C t
             step-found t e = record { done = advance-yes t e; room = λ f. handle-args .step .room }

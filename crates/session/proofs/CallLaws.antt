@@ -28,7 +28,7 @@ use Rattle.session.specs.Records.{phaseOf, sizesOf, stageIn, recordOf, s
 use Rattle.session.specs.Promises.{CallDone, answerOn, recordOn}
 use Rattle.session.specs.inner.Shapes.{Shaped}
 use Rattle.session.proofs.Holds.{holds-of, struct-is}
-use Rattle.session.proofs.ActLaws.{rises-below, running-is}
+use Rattle.session.proofs.ActLaws.{Narrow, rises-below, running-is, act-valid}
 
 -- an advance that no check refuses finds a root that is a node
 next-inside : (s : Session) → Shaped s → valid s ≡ true → (x : Inputs)
@@ -53,17 +53,18 @@ properties-of s h v read = tt
 module _ (s : Session) (c : Call) where
   pub invalid-done : valid s ≡ false → CallDone s c (refused 1) s
   unfolding answerOn recordOn
-  invalid-done e = record { tells = rw e; leaves = rw e; unchanged = λ n f. refl; properties = λ v. absurd (true-false (sym v ∙ e)) }
+  invalid-done e = record { tells = rw e; leaves = rw e; unchanged = λ n f. refl; stays = λ v. v; properties = λ v. absurd (true-false (sym v ∙ e)) }
 
   module _ (h : Shaped s) (v : valid s ≡ true) where
     -- a valid struct: answer and record are the model's
     model-done : (a : Answer) (t : Session) → a ≡ act (recordOf s) c .answer → t ≡ sessionOf (act (recordOf s) c .record′)
-        → CallDone s c a t
+        → valid t ≡ true → CallDone s c a t
     unfolding answerOn recordOn
-    model-done a t f g = record {
+    model-done a t f g k = record {
       tells = rw v f;
       leaves = rw v g;
       unchanged = λ n e. g ∙ ap sessionOf (refused-unchanged (recordOf s) c n (sym f ∙ e)) ∙ struct-is s h v;
+      stays = λ w. k;
       properties = λ w. subst (λ (b : Answer). LeftOpen (recordOf s) c b (act (recordOf s) c .record′)) (sym f) (properties-of s h v c);
     }
 
@@ -75,17 +76,19 @@ module _ (s : Session) (c : Call) where
     pub refused-done : (n : ℕ) → refusal (stageIn s) c ≡ suc n → CallDone s c (refused (suc n)) s
     refused-done n e =
         let a = act-refused n e in
-        model-done (refused (suc n)) s (a .0) (sym (struct-is s h v) ∙ ap sessionOf (a .1))
+        model-done (refused (suc n)) s (a .0) (sym (struct-is s h v) ∙ ap sessionOf (a .1)) v
 
     act-proceeds : refusal (stageIn s) c ≡ 0 → proceeds (recordOf s) c ≡ act (recordOf s) c
     unfolding act unless recordOf
     act-proceeds e = rw e
 
-    pub proceeds-done : refusal (stageIn s) c ≡ 0 → (a : Answer) (t : Session)
+    pub proceeds-done : Narrow (recordOf s) c → refusal (stageIn s) c ≡ 0 → (a : Answer) (t : Session)
         → a ≡ proceeds (recordOf s) c .answer
         → t ≡ sessionOf (proceeds (recordOf s) c .record′) → CallDone s c a t
-    proceeds-done e a t f g =
-        model-done a t (f ∙ ap (λ (x : Acted). x .answer) (act-proceeds e)) (g ∙ ap (λ (x : Acted). sessionOf (x .record′)) (act-proceeds e))
+    proceeds-done w e a t f g =
+        let k : t ≡ sessionOf (act (recordOf s) c .record′) = g ∙ ap (λ (x : Acted). sessionOf (x .record′)) (act-proceeds e) in
+        model-done a t (f ∙ ap (λ (x : Acted). x .answer) (act-proceeds e)) k
+        (subst (λ (u : Session). valid u ≡ true) (sym k) (act-valid s h v c w))
 
   -- check 1 says no
   pub unless-done : Shaped s → (b : Bool) (cs : List Check)

@@ -33,5 +33,5 @@ module _ (s : Session) (h : Shaped s) (b : Bool) (e : b ≡ (valid s && isRunnin
       let y = sym e ∙ not-false b f in
       let r : isRunning (phaseOf (s .head .phase)) ≡ true = and-right (valid s) _ y in
       let v : valid s ≡ true = and-left (valid s) _ y in
-      proceeds-done s cancel h v (rw r) calls.Answer.accepted t refl
+      proceeds-done s cancel h v tt (rw r) calls.Answer.accepted t refl
       (g ∙ ap (λ (o : Last). idleSession Loaded (s .head .sizes) o) (sym (tails-of s v .last-end)))

@@ -1,6 +1,7 @@
 -- What is true of every record that a session can have, in each state.
 --     Sized z              N, S and K in their limits
--- Asked r a question's lists: as Start checks them, its roots as they are found, the states and links so far
+--     Asked r              a question's lists: as Start checks them, its roots as they are found, the states, links and nodes passed
+--                          over so far
 --     Holds r              in empty the fresh record, in loaded that after a first Load but for the last finished answer, in running and
 --                          answered a question; in answered that answer is its own
 --     last-fits            that answer, if there is one, is of some question on S states
@@ -48,7 +49,8 @@ pub record Asked (r : Record) : Type 0 where
   pub few-parts : length (r .roots) ≤ 254
   pub rises : risesTo (r .sizes .n - 1) (r .roots) ≡ true
   pub states-below : allBelow (r .sizes .s) (r .states) ≡ true
-  pub few-links : r .links ≤ 65535 * length (r .states)
+  pub links-passed : r .links ≤ r .passed
+  pub few-passed : r .passed ≤ 65535 * length (r .states)
 
 pub record Going (r : Record) : Type 0 where
   pub sizes : Sized (r .sizes)
@@ -80,7 +82,8 @@ ended-last r E =
       state = last-below (r .sizes .s) (r .states) 0 (E .asked .states-below) (omega (arith, E .handled, E .asked .some-part));
       some-part = E .asked .some-part;
       few-parts = E .asked .few-parts;
-      few-links = omega (arith, E .asked .few-links, E .handled);
+      links-passed = E .asked .links-passed;
+      few-passed = omega (arith, E .asked .few-passed, E .handled);
     })
 
 pub last-fits : (p : calls.Phase) (r : Record) → HoldsIn p r → LastFits (r .sizes .s) (r .last)
@@ -98,6 +101,7 @@ record Nothing (s : Session) : Type 0 where
   parts-is : s .head .parts ≡ 0
   handled-is : s .head .handled ≡ 0
   links-is : s .head .links ≡ 0
+  passed-is : s .head .passed ≡ 0
   nodes-end : zeroFrom 0 (s .nodes) ≡ true
   labels-end : zeroFrom 0 (s .labels) ≡ true
   roots-end : zeroFrom 0 (s .roots) ≡ true
@@ -117,7 +121,8 @@ record PartsFit (s : Session) : Type 0 where
   roots-end : zeroFrom (s .head .parts) (s .roots) ≡ true
   states-below : allBelow (s .head .sizes .s) (take (s .head .handled) (s .states)) ≡ true
   states-end : zeroFrom (s .head .handled) (s .states) ≡ true
-  few-links : s .head .links ≤ 65535 * s .head .handled
+  links-passed : s .head .links ≤ s .head .passed
+  few-passed : s .head .passed ≤ 65535 * s .head .handled
 
 module _ (s : Session) where
   pub sized-of : sizesFit (s .head .sizes) ≡ true → Sized (sizesOf s)
@@ -145,16 +150,18 @@ module _ (s : Session) where
       let g = both _ _ (f .1) in
       let h = both _ _ (g .1) in
       let i = both _ _ (h .1) in
+      let j = both _ _ (i .1) in
       record {
         no-yes = not-true (s .head .yes) (a .0);
         m-is = eqb-true (s .head .m) 0 (b .0);
         parts-is = eqb-true (s .head .parts) 0 (c .0);
         handled-is = eqb-true (s .head .handled) 0 (d .0);
         links-is = eqb-true (s .head .links) 0 (f .0);
-        nodes-end = g .0;
-        labels-end = h .0;
-        roots-end = i .0;
-        states-end = i .1;
+        passed-is = eqb-true (s .head .passed) 0 (g .0);
+        nodes-end = h .0;
+        labels-end = i .0;
+        roots-end = j .0;
+        states-end = j .1;
       }
 
   list-of : listFits s ≡ true → ListFits s
@@ -174,6 +181,7 @@ module _ (s : Session) where
       let c = both _ _ (b .1) in
       let d = both _ _ (c .1) in
       let f = both _ _ (d .1) in
+      let g = both _ _ (f .1) in
       record {
         some-part = within-low 1 254 (s .head .parts) (a .0);
         few-parts = within-high 1 254 (s .head .parts) (a .0);
@@ -181,7 +189,8 @@ module _ (s : Session) where
         roots-end = c .0;
         states-below = d .0;
         states-end = f .0;
-        few-links = leb-true (s .head .links) (65535 * s .head .handled) (f .1);
+        links-passed = leb-true (s .head .links) (s .head .passed) (g .0);
+        few-passed = leb-true (s .head .passed) (65535 * s .head .handled) (g .1);
       }
 
   -- ---- the record of a struct that passes
@@ -202,7 +211,8 @@ module _ (s : Session) where
         few-parts = omega arith;
         rises = p .rises;
         states-below = p .states-below;
-        few-links = rw d (p .few-links);
+        links-passed = p .links-passed;
+        few-passed = rw d (p .few-passed);
       }
 
   handled-of : Shaped s → PartsFit s → s .head .handled ≤ s .head .parts
@@ -275,13 +285,25 @@ module _ (s : Session) where
   holds-in h Empty q e =
       let E = empties-of e in
       let N = E .none in
-      rw (none-is (s .head .last) (E .last), q, E .n-is, E .s-is, E .k-is, N .no-yes, N .m-is, N .parts-is, N .handled-is, N .links-is)
+      rw (
+        none-is (s .head .last) (E .last),
+        q,
+        E .n-is,
+        E .s-is,
+        E .k-is,
+        N .no-yes,
+        N .m-is,
+        N .parts-is,
+        N .handled-is,
+        N .links-is,
+        N .passed-is,
+      )
   holds-in h Loaded q e =
       let a = loaded-of e in
       let N = a .2 in (
         a .0,
         last-of (s .head .sizes .s) (s .head .last) (a .1),
-        rw (q, N .no-yes, N .m-is, N .parts-is, N .handled-is, N .links-is),
+        rw (q, N .no-yes, N .m-is, N .parts-is, N .handled-is, N .links-is, N .passed-is),
       )
   holds-in h Running q e =
       let a = running-of e in

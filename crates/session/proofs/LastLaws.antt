@@ -67,9 +67,9 @@ pub present-back : (l : Last) → l .present ≡ true → lastTo (lastIn l) ≡ 
 present-back l e =
     ap (λ (b : Bool). lastTo (cond b (some (outcomeIn (l .outcome))) none)) e ∙ ap (λ (b : Bool). lastWith b (l .outcome)) (sym e)
 
-none-fields : (p y : Bool) (q n l : ℕ) → p ≡ false → y ≡ false → q ≡ 0 → n ≡ 0 → l ≡ 0
-    → lastWith p (record { state = q; yes = y; parts = n; links = l }) ≡ noLast
-none-fields p y q n l e f g h i = rw (e, f, g, h, i)
+none-fields : (p y : Bool) (q n l d : ℕ) → p ≡ false → y ≡ false → q ≡ 0 → n ≡ 0 → l ≡ 0 → d ≡ 0
+    → lastWith p (record { state = q; yes = y; parts = n; links = l; passed = d }) ≡ noLast
+none-fields p y q n l d e f g h i j = rw (e, f, g, h, i, j)
 
 pub none-is : (l : Last) → isNone l ≡ true → l ≡ noLast
 unfolding isNone
@@ -78,9 +78,10 @@ none-is l e =
     let b = both _ _ (a .1) in
     let c = both _ _ (b .1) in
     let d = both _ _ (c .1) in
-    none-fields (l .present) (l .outcome .yes) (l .outcome .state) (l .outcome .parts) (l .outcome .links)
+    let f = both _ _ (d .1) in
+    none-fields (l .present) (l .outcome .yes) (l .outcome .state) (l .outcome .parts) (l .outcome .links) (l .outcome .passed)
     (not-true (l .present) (a .0)) (not-true (l .outcome .yes) (b .0)) (eqb-true (l .outcome .state) 0 (c .0))
-    (eqb-true (l .outcome .parts) 0 (d .0)) (eqb-true (l .outcome .links) 0 (d .1))
+    (eqb-true (l .outcome .parts) 0 (d .0)) (eqb-true (l .outcome .links) 0 (f .0)) (eqb-true (l .outcome .passed) 0 (f .1))
 
 pub none-back : (l : Last) → isNone l ≡ true → lastTo (lastIn l) ≡ l
 none-back l e = let f = none-is l e in ap (λ (m : Last). lastTo (lastIn m)) f ∙ sym f
@@ -91,7 +92,8 @@ pub record AnswerFits (s : ℕ) (o : calls.Outcome) : Type 0 where
   pub state : o .state < s
   pub some-part : 1 ≤ o .parts
   pub few-parts : o .parts ≤ 254
-  pub few-links : o .links ≤ 65535 * o .parts
+  pub links-passed : o .links ≤ o .passed
+  pub few-passed : o .passed ≤ 65535 * o .parts
 
 abbrev pub LastFits : ℕ → Option calls.Outcome → Type 0
 LastFits s none = Unit {0}
@@ -99,7 +101,9 @@ LastFits s (some o) = AnswerFits s o
 
 -- the test of one that is there
 abbrev fitsTest : ℕ → Outcome → Bool
-fitsTest s o = ltb (o .state) s && ((leb 1 (o .parts) && leb (o .parts) 254) && leb (o .links) (65535 * o .parts))
+fitsTest s o =
+    ltb (o .state) s
+    && ((leb 1 (o .parts) && leb (o .parts) 254) && (leb (o .links) (o .passed) && leb (o .passed) (65535 * o .parts)))
 
 module _ (s : ℕ) (l : Last) (e : lastFits s l ≡ true) where
   pub last-back : lastTo (lastIn l) ≡ l
@@ -119,11 +123,13 @@ module _ (s : ℕ) (l : Last) (e : lastFits s l ≡ true) where
       go true f =
           let a = both _ _ f in
           let b = both _ _ (a .1) in
+          let c = both _ _ (b .1) in
           record {
             state = ltb-true (l .outcome .state) s (a .0);
             some-part = within-low 1 254 (l .outcome .parts) (b .0);
             few-parts = within-high 1 254 (l .outcome .parts) (b .0);
-            few-links = leb-true (l .outcome .links) (65535 * l .outcome .parts) (b .1);
+            links-passed = leb-true (l .outcome .links) (l .outcome .passed) (c .0);
+            few-passed = leb-true (l .outcome .passed) (65535 * l .outcome .parts) (c .1);
           }
       go false f = tt
 
@@ -137,7 +143,7 @@ last-yes s none F = none-yes
 last-yes s (some o) F =
     and-both _ _ (lt-ltb (o .state) s (F .state))
     (and-both _ _ (and-both _ _ (le-leb 1 (o .parts) (F .some-part)) (le-leb (o .parts) 254 (F .few-parts)))
-    (le-leb (o .links) (65535 * o .parts) (F .few-links)))
+    (and-both _ _ (le-leb (o .links) (o .passed) (F .links-passed)) (le-leb (o .passed) (65535 * o .parts) (F .few-passed))))
 
 -- ---- an answered struct's own
 
@@ -149,6 +155,7 @@ pub record Own (s : Session) : Type 0 where
   pub yes : s .head .last .outcome .yes ≡ s .head .yes
   pub parts : s .head .last .outcome .parts ≡ s .head .parts
   pub links : s .head .last .outcome .links ≡ s .head .links
+  pub passed : s .head .last .outcome .passed ≡ s .head .passed
 
 flag-same : (a b : Bool) → sameFlag a b ≡ true → a ≡ b
 unfolding sameFlag
@@ -169,6 +176,7 @@ own-of s e =
     let c = both _ _ (b .1) in
     let d = both _ _ (c .1) in
     let f = both _ _ (d .1) in
+    let g = both _ _ (f .1) in
     record {
       some-handled = within-low 1 254 (s .head .handled) (a .0);
       few-handled = within-high 1 254 (s .head .handled) (a .0);
@@ -176,23 +184,30 @@ own-of s e =
       state = eqb-true (l .outcome .state) (getD (s .states) (s .head .handled - 1) 0) (c .0);
       yes = flag-same (l .outcome .yes) (s .head .yes) (d .0);
       parts = eqb-true (l .outcome .parts) (s .head .parts) (f .0);
-      links = eqb-true (l .outcome .links) (s .head .links) (f .1);
+      links = eqb-true (l .outcome .links) (s .head .links) (g .0);
+      passed = eqb-true (l .outcome .passed) (s .head .passed) (g .1);
     }
 
-outcome-fields : (q q′ : ℕ) (y y′ : Bool) (n n′ l l′ : ℕ) → q ≡ q′ → y ≡ y′ → n ≡ n′ → l ≡ l′
-    → _≡_ {A = Option calls.Outcome} (some (record { state = q; yes = y; parts = n; links = l }))
-    (some (record { state = q′; yes = y′; parts = n′; links = l′ }))
-outcome-fields q q′ y y′ n n′ l l′ e f g h = cc
+outcome-fields : (q q′ : ℕ) (y y′ : Bool) (n n′ l l′ d d′ : ℕ) → q ≡ q′ → y ≡ y′ → n ≡ n′ → l ≡ l′ → d ≡ d′
+    → _≡_ {A = Option calls.Outcome} (some (record { state = q; yes = y; parts = n; links = l; passed = d }))
+    (some (record { state = q′; yes = y′; parts = n′; links = l′; passed = d′ }))
+outcome-fields q q′ y y′ n n′ l l′ d d′ e f g h i = cc
 
 -- as a record has it
 pub own-last : (s : Session) → Own s → length (take (s .head .handled) (s .states)) ≡ s .head .handled
     → length (take (s .head .parts) (s .roots)) ≡ s .head .parts
     → lastIn (s .head .last)
-    ≡ some (record { state = lastOf (take (s .head .handled) (s .states)) 0; yes = s .head .yes; parts = length (take (s .head .parts) (s .roots)); links = s .head .links })
+    ≡ some (record {
+      state = lastOf (take (s .head .handled) (s .states)) 0;
+      yes = s .head .yes;
+      parts = length (take (s .head .parts) (s .roots));
+      links = s .head .links;
+      passed = s .head .passed;
+    })
 own-last s O h p =
     let n = s .head .handled in
     ap (λ (b : Bool). cond b (some (outcomeIn (s .head .last .outcome))) none) (O .present)
-    ∙ outcome-fields _ _ _ _ _ _ _ _
+    ∙ outcome-fields _ _ _ _ _ _ _ _ _ _
     (O .state ∙ sym (getD-take n (s .states) (n - 1) 0 (omega (arith, O .some-handled)))
     ∙ sym (last-is (take n (s .states)) 0 (n - 1) (omega (arith, h, O .some-handled))))
-    (O .yes) (O .parts ∙ sym p) (O .links)
+    (O .yes) (O .parts ∙ sym p) (O .links) (O .passed)

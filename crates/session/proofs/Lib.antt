@@ -5,6 +5,7 @@ pub mod CancelLaws
 pub mod Holds
 pub mod LastLaws
 pub mod LoadLaws
+pub mod NarrowLaws
 pub mod PadLaws
 pub mod ReadLaws
 pub mod RecordLaws

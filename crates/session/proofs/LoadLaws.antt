@@ -115,7 +115,7 @@ module _ (s : Session) (h : Shaped s) (x : Inputs) (b : Bool) (may : b ≡ (vali
             → LoadDone s x (callAnswer Accepted) t nodeTable′ stateTable′
         unfolding callAnswer proceeds
         load-built t f =
-            done calls.Answer.accepted t (proceeds-done s (load x) h v (on ∙ none-fails) calls.Answer.accepted t refl f)
+            done calls.Answer.accepted t (proceeds-done s (load x) h v tt (on ∙ none-fails) calls.Answer.accepted t refl f)
 
       pub load-refused : (k : ℕ) → a ≡ Refused k → LoadDone s x (callAnswer (NotDone k)) s nodeTable′ stateTable′
       unfolding callAnswer buildAnswer

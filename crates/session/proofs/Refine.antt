@@ -1,7 +1,9 @@
 -- The calls' promises refine the model of the session (crate model, Model).
 --     Seen s r         struct s passes its conditions and holds record r
 --     fresh-seen       the fresh session holds the fresh record
---     call-refines     a call on such a struct: the model's step, and again such a struct
+--     seen-answer      a call on such a struct is answered as the model's
+--     call-refines     and is the model's step, to again such a struct, if that keeps its conditions; every promise says so (stays)
+--     narrow-seen      it does where what is found passed over few nodes
 --     read-keeps       Read alters nothing
 --     by-value-refines each of the five
 -- Assumes nothing.
@@ -18,7 +20,7 @@ use Rattle.session.specs.Promises.{CallDone, answerOn, recordOn}
 use Rattle.session.specs.inner.Shapes.{Shaped}
 use Rattle.session.specs.CallsByValue.{CallByValue, loads, starts, advances, cancels, reads}
 use Rattle.session.proofs.RecordLaws.{record-of-struct, struct-shaped}
-use Rattle.session.proofs.ActLaws.{holds-valid, listed-of, act-valid, act-shaped, act-record}
+use Rattle.session.proofs.ActLaws.{Narrow, holds-valid, listed-of, act-valid, act-shaped, act-record}
 
 pub record Seen (s : Session) (r : Record) : Type 0 where
   pub shaped : Shaped s
@@ -41,30 +43,38 @@ fresh-seen =
     })
 
 module _ (s : Session) (r : Record) (i : Seen s r) (c : Call) where
-  answer-is : answerOn s c ≡ act r c .answer
+  pub seen-answer : answerOn s c ≡ act r c .answer
   unfolding answerOn
-  answer-is = rw (i .passes) (ap (λ (t : Record). act t c .answer) (i .holds))
+  seen-answer = rw (i .passes) (ap (λ (t : Record). act t c .answer) (i .holds))
 
   record-is : recordOn s c ≡ sessionOf (act (recordOf s) c .record′)
   unfolding recordOn
   record-is = rw (i .passes)
 
-  after-seen : Seen (sessionOf (act (recordOf s) c .record′)) (act r c .record′)
-  after-seen = record {
+  after-seen : valid (sessionOf (act (recordOf s) c .record′)) ≡ true → Seen (sessionOf (act (recordOf s) c .record′)) (act r c .record′)
+  after-seen v = record {
     shaped = act-shaped s (i .shaped) (i .passes) c;
-    passes = act-valid s (i .shaped) (i .passes) c;
+    passes = v;
     holds = act-record s (i .shaped) (i .passes) c ∙ ap (λ (t : Record). act t c .record′) (i .holds);
   }
 
-  pub call-refines : (a : Answer) (s′ : Session) → a ≡ answerOn s c → s′ ≡ recordOn s c → (r′ : Record) × Does r c a r′ × Seen s′ r′
-  call-refines a s′ f g = (
+  pub call-refines : (a : Answer) (s′ : Session) → a ≡ answerOn s c → s′ ≡ recordOn s c → valid s′ ≡ true
+      → (r′ : Record) × Does r c a r′ × Seen s′ r′
+  call-refines a s′ f g v = (
     act r c .record′,
-    record { tells = f ∙ answer-is; leaves = refl },
-    subst (λ (t : Session). Seen t (act r c .record′)) (sym (g ∙ record-is)) after-seen,
+    record { tells = f ∙ seen-answer; leaves = refl },
+    subst (λ (t : Session). Seen t (act r c .record′)) (sym (g ∙ record-is))
+        (after-seen (subst (λ (t : Session). valid t ≡ true) (g ∙ record-is) v)),
   )
 
+  -- a call that finds few nodes passed over leaves such a struct, whatever form it has
+  pub narrow-seen : Narrow r c → Seen (recordOn s c) (act r c .record′)
+  narrow-seen w =
+      subst (λ (t : Session). Seen t (act r c .record′)) (sym record-is)
+      (after-seen (act-valid s (i .shaped) (i .passes) c (subst (λ (t : Record). Narrow t c) (sym (i .holds)) w)))
+
   done-refines : (a : Answer) (s′ : Session) → CallDone s c a s′ → (r′ : Record) × Does r c a r′ × Seen s′ r′
-  done-refines a s′ d = call-refines a s′ (d .tells) (d .leaves)
+  done-refines a s′ d = call-refines a s′ (d .tells) (d .leaves) (d .stays (i .passes))
 
 -- Read alters nothing
 pub read-keeps : (r : Record) → act r read .record′ ≡ r
@@ -81,4 +91,4 @@ by-value-refines s s′ r c a i (starts o d) = done-refines s r i _ _ _ d
 by-value-refines s s′ r c a i (advances o d) = done-refines s r i _ _ _ d
 by-value-refines s s′ r c a i (cancels o d) = done-refines s r i _ _ _ d
 by-value-refines s s′ r c a i (reads o d) =
-    (r, record { tells = d ∙ answer-is s r i read; leaves = sym (read-keeps r) }, i)
+    (r, record { tells = d ∙ seen-answer s r i read; leaves = sym (read-keeps r) }, i)

@@ -210,7 +210,7 @@ module _ (s : Session) (h : Shaped s) (x : Inputs) (vs bs : List ℕ) (b : Bool)
                   unfolding startAnswer proceeds started sessionOf phaseTo recordOf
                   start-yes t e =
                       let l : R .nodes ≡ padded 254 (rootsIn x (leftIn x vs bs)) = ap (λ (z : Rooted). z .nodes) found in
-                      proceeds-done s C h v no-refusal (calls.Answer.parts (R .count)) t (ap calls.Answer.parts count-is)
+                      proceeds-done s C h v tt no-refusal (calls.Answer.parts (R .count)) t (ap calls.Answer.parts count-is)
                       (e ∙ ap (λ (i : ℕ). startedOf (s .head .sizes) (s .head .last) vs bs i (R .nodes)) count-is
                       ∙ ap (λ (z : List ℕ). startedOf (s .head .sizes) (s .head .last) vs bs (length (rootsIn x (leftIn x vs bs))) z) l
                       ∙ ap (λ (o : Last). startedOf (s .head .sizes) o vs bs (length (rootsIn x (leftIn x vs bs)))

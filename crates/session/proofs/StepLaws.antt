@@ -32,15 +32,15 @@ mark-at rules s k p q e h =
     rw (e, getD-take s (drop (20 + k + s * k * s) rules) q 0 h, getD-drop (20 + k + s * k * s) rules q 0)
 
 -- the last part, and any other
-module _ (h : Head) (rules : List ℕ) (q l : ℕ) (t : Head) where
-  pub handled-last : h .handled + 1 ≡ h .parts → (y : Bool) (o : Last) → t ≡ steppedHead h Answered l y o
-      → y ≡ markedIn (h .sizes .s) (h .sizes .k) rules q → o ≡ answerOf h q l y
-      → _≡_ {A = AdvanceStep} (record { answer = Finished; head = t; stored = true; state = q }) (stepBy h rules q l)
+module _ (h : Head) (rules : List ℕ) (q l d : ℕ) (t : Head) where
+  pub handled-last : h .handled + 1 ≡ h .parts → (y : Bool) (o : Last) → t ≡ steppedHead h Answered l d y o
+      → y ≡ markedIn (h .sizes .s) (h .sizes .k) rules q → o ≡ answerOf h q l d y
+      → _≡_ {A = AdvanceStep} (record { answer = Finished; head = t; stored = true; state = q }) (stepBy h rules q l d)
   unfolding stepBy
   handled-last e y o f g i = rw (eq-eqb (h .handled + 1) (h .parts) e, f, i, g)
 
-  pub handled-more : (h .handled + 1 ≡ h .parts → ⊥) → t ≡ steppedHead h Running l false (h .last)
-      → _≡_ {A = AdvanceStep} (record { answer = More; head = t; stored = true; state = q }) (stepBy h rules q l)
+  pub handled-more : (h .handled + 1 ≡ h .parts → ⊥) → t ≡ steppedHead h Running l d false (h .last)
+      → _≡_ {A = AdvanceStep} (record { answer = More; head = t; stored = true; state = q }) (stepBy h rules q l d)
   unfolding stepBy
   handled-more e f = rw (ne-eqb (h .handled + 1) (h .parts) e, f)
 

@@ -31,15 +31,16 @@ sizes-test z = simp and-assoc
 pub question-test : (s : Session) (a b c d : Bool) → a ≡ allBelow 1 (s .nodes) → b ≡ allBelow 1 (s .labels)
     → c ≡ allBelow 1 (s .roots)
     → d ≡ allBelow 1 (s .states)
-    → (not (s .head .yes) && eqb (s .head .m) 0 && eqb (s .head .parts) 0 && eqb (s .head .handled) 0 && eqb
-    (s .head .links) 0 && a && b && c && d) ≡ noQuestion s
+    → (not (s .head .yes) && eqb (s .head .m) 0 && eqb (s .head .parts) 0 && eqb (s .head .handled) 0 && eqb (s .head .links) 0
+    && eqb (s .head .passed) 0 && a && b && c && d) ≡ noQuestion s
 unfolding noQuestion zeroFrom
 question-test s a b c d e f g h = rw (e, f, g, h) (simp and-assoc)
 
 -- ---- the last finished answer
 
 pub none-test : (l : Last)
-    → (not (l .present) && not (l .outcome .yes) && eqb (l .outcome .state) 0 && eqb (l .outcome .parts) 0 && eqb (l .outcome .links) 0)
+    → (not (l .present) && not (l .outcome .yes) && eqb (l .outcome .state) 0 && eqb (l .outcome .parts) 0 && eqb (l .outcome .links) 0
+    && eqb (l .outcome .passed) 0)
     ≡ isNone l
 unfolding isNone
 none-test l = simp and-assoc
@@ -47,11 +48,13 @@ none-test l = simp and-assoc
 pub last-absent : (s : ℕ) (l : Last) (b : Bool) → not (l .present) ≡ true → b ≡ isNone l → b ≡ lastFits s l
 unfolding lastFits
 last-absent s l b e f =
-    f ∙ ap (λ (p : Bool). cond p (ltb (l .outcome .state) s && (within 1 254 (l .outcome .parts) && leb (l .outcome .links) (65535 * l .outcome .parts)))
+    f ∙ ap (λ (p : Bool). cond p (ltb (l .outcome .state) s && (within 1 254 (l .outcome .parts)
+    && (leb (l .outcome .links) (l .outcome .passed) && leb (l .outcome .passed) (65535 * l .outcome .parts))))
     (isNone l)) (sym (not-true (l .present) e))
 
 pub last-test : (s : ℕ) (l : Last) → not (l .present) ≡ false
-    → (ltb (l .outcome .state) s && ltb 0 (l .outcome .parts) && leb (l .outcome .parts) 254 && leb (l .outcome .links) (65535 * l .outcome .parts))
+    → (ltb (l .outcome .state) s && ltb 0 (l .outcome .parts) && leb (l .outcome .parts) 254
+    && (leb (l .outcome .links) (l .outcome .passed) && leb (l .outcome .passed) (65535 * l .outcome .parts)))
     ≡ lastFits s l
 unfolding lastFits
 last-test s l e = rw (not-false (l .present) e) (simp and-assoc)
@@ -67,7 +70,8 @@ module _ (s : Session) where
 
   pub own-test : 1 ≤ s .head .handled → s .head .handled ≤ 254 → (c : Bool) → c ≡ sameFlag (s .head .last .outcome .yes) (s .head .yes)
       → (s .head .last .present && eqb (s .head .last .outcome .state) (getD (s .states) (s .head .handled - 1) 0) && c
-      && eqb (s .head .last .outcome .parts) (s .head .parts) && eqb (s .head .last .outcome .links) (s .head .links)) ≡ lastIsOwn s
+      && eqb (s .head .last .outcome .parts) (s .head .parts) && eqb (s .head .last .outcome .links) (s .head .links)
+      && eqb (s .head .last .outcome .passed) (s .head .passed)) ≡ lastIsOwn s
   unfolding lastIsOwn
   own-test g h c e = rw (le-leb 1 (s .head .handled) g, le-leb (s .head .handled) 254 h, e) (simp and-assoc)
 
@@ -111,7 +115,7 @@ module _ (s : Session) where
       → b ≡ allBelow 1 (take (length (s .roots) - s .head .parts) (drop (s .head .parts) (s .roots)))
       → c ≡ allBelow (s .head .sizes .s) (take (s .head .handled) (s .states))
       → d ≡ allBelow 1 (take (length (s .states) - s .head .handled) (drop (s .head .handled) (s .states)))
-      → (a && b && (c && d) && leb (s .head .links) (65535 * s .head .handled)) ≡ partsFit s
+      → (a && b && (c && d) && leb (s .head .links) (s .head .passed) && leb (s .head .passed) (65535 * s .head .handled)) ≡ partsFit s
   unfolding partsFit zeroFrom
   parts-test g h a b c d e f i j =
       rw (

@@ -28,5 +28,5 @@ advanceAnswer Finished = finished
 advanceAnswer (NotAdvanced n) = refused n
 
 unfoldable pub readAnswer : ReadAnswer → Answer
-readAnswer (Read o) = outcomeAnswer (o .state) (o .yes) (o .parts) (o .links)
+readAnswer (Read o) = outcomeAnswer (o .state) (o .yes) (o .parts) (o .links) (o .passed)
 readAnswer (NotRead n) = refused n

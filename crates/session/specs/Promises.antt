@@ -36,6 +36,8 @@ pub record CallDone (s : Session) (c : Call) (a : Answer) (s′ : Session) : Typ
   pub leaves : s′ ≡ recordOn s c
   -- "nothing else is returned and nothing is altered"
   pub unchanged : (n : ℕ) → a ≡ refused n → s′ ≡ s
+  -- a struct that keeps the layout's conditions keeps them; the lent numbers have 16 bits
+  pub stays : valid s ≡ true → valid s′ ≡ true
   -- what is left to the program has these properties
   pub properties : valid s ≡ true → LeftOpen (recordOf s) c a (act (recordOf s) c .record′)
 

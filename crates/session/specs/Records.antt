@@ -50,18 +50,18 @@ sizesOf s = record { n = s .head .sizes .n; s = s .head .sizes .s; k = s .head .
 -- ---- the last finished answer
 
 abbrev pub outcomeIn : Outcome → calls.Outcome
-outcomeIn o = record { state = o .state; yes = o .yes; parts = o .parts; links = o .links }
+outcomeIn o = record { state = o .state; yes = o .yes; parts = o .parts; links = o .links; passed = o .passed }
 
 abbrev pub lastIn : Last → Option calls.Outcome
 lastIn l = cond (l .present) (some (outcomeIn (l .outcome))) none
 
 abbrev pub noLast : Last
-noLast = record { present = false; outcome = record { state = 0; yes = false; parts = 0; links = 0 } }
+noLast = record { present = false; outcome = record { state = 0; yes = false; parts = 0; links = 0; passed = 0 } }
 
 abbrev pub lastTo : Option calls.Outcome → Last
 lastTo none = noLast
 lastTo (some o) =
-    record { present = true; outcome = record { state = o .state; yes = o .yes; parts = o .parts; links = o .links } }
+    record { present = true; outcome = record { state = o .state; yes = o .yes; parts = o .parts; links = o .links; passed = o .passed } }
 
 abbrev pub stageIn : Session → Stage
 stageIn s = stage (phaseOf (s .head .phase)) (sizesOf s) (calls.isSome (lastIn (s .head .last)))
@@ -77,6 +77,7 @@ recordOf s = record {
   roots = take (s .head .parts) (s .roots);
   states = take (s .head .handled) (s .states);
   links = s .head .links;
+  passed = s .head .passed;
   yes = s .head .yes;
   last = lastIn (s .head .last);
 }
@@ -95,6 +96,7 @@ sessionOf r = record {
     parts = length (r .roots);
     handled = length (r .states);
     links = r .links;
+    passed = r .passed;
     last = lastTo (r .last);
   };
   nodes = padded 64 (r .nodes);
@@ -108,7 +110,7 @@ whole h nodes labels roots states = record { head = h; nodes = nodes; labels = l
 
 abbrev pub idleSession : Phase → HeadSizes → Last → Session
 idleSession p z l =
-    whole (record { phase = p; yes = false; sizes = z; m = 0; parts = 0; handled = 0; links = 0; last = l })
+    whole (record { phase = p; yes = false; sizes = z; m = 0; parts = 0; handled = 0; links = 0; passed = 0; last = l })
     (replicate 64 0) (replicate 64 0) (replicate 254 0) (replicate 254 0)
 
 abbrev pub freshSession : Session
@@ -137,12 +139,13 @@ zeroFrom i l = allBelow 1 (drop i l)
 unfoldable pub sizesFit : HeadSizes → Bool
 sizesFit z = within 1 nodeLimit (z .n) && (within 1 stateLimit (z .s) && within 1 labelLimit (z .k))
 
--- no question: nothing listed, no part, no state, no link, no yes
+-- no question: nothing listed, no part, no state, no link, no node passed over, no yes
 unfoldable pub noQuestion : Session → Bool
 noQuestion s =
     not (s .head .yes)
     && (eqb (s .head .m) 0 && (eqb (s .head .parts) 0 && (eqb (s .head .handled) 0 && (eqb (s .head .links) 0
-    && (zeroFrom 0 (s .nodes) && (zeroFrom 0 (s .labels) && (zeroFrom 0 (s .roots) && zeroFrom 0 (s .states))))))))
+    && (eqb (s .head .passed) 0
+    && (zeroFrom 0 (s .nodes) && (zeroFrom 0 (s .labels) && (zeroFrom 0 (s .roots) && zeroFrom 0 (s .states)))))))))
 
 unfoldable pub listFits : Session → Bool
 listFits s =
@@ -150,12 +153,13 @@ listFits s =
     && (allBelow (s .head .sizes .n) (take (s .head .m) (s .nodes)) && (allBelow (s .head .sizes .k) (take (s .head .m) (s .labels))
     && (zeroFrom (s .head .m) (s .nodes) && zeroFrom (s .head .m) (s .labels))))
 
+-- document 02, S-7: a climb passes over at least one node for each link, and the lent numbers have 16 bits
 unfoldable pub partsFit : Session → Bool
 partsFit s =
     within 1 254 (s .head .parts)
     && (risesTo (s .head .sizes .n - 1) (take (s .head .parts) (s .roots)) && (zeroFrom (s .head .parts) (s .roots)
     && (allBelow (s .head .sizes .s) (take (s .head .handled) (s .states)) && (zeroFrom (s .head .handled) (s .states)
-    && leb (s .head .links) (65535 * s .head .handled)))))
+    && (leb (s .head .links) (s .head .passed) && leb (s .head .passed) (65535 * s .head .handled))))))
 
 -- a question: its sizes, changes and parts, and no more parts handled than there are
 unfoldable pub questionFits : Session → Bool
@@ -166,26 +170,29 @@ questionFits s =
 unfoldable pub isNone : Last → Bool
 isNone l =
     not (l .present)
-    && (not (l .outcome .yes) && (eqb (l .outcome .state) 0 && (eqb (l .outcome .parts) 0 && eqb (l .outcome .links) 0)))
+    && (not (l .outcome .yes) && (eqb (l .outcome .state) 0 && (eqb (l .outcome .parts) 0
+    && (eqb (l .outcome .links) 0 && eqb (l .outcome .passed) 0))))
 
 -- none, or an answer of some question on S states
 unfoldable pub lastFits : ℕ → Last → Bool
 lastFits s l =
     cond (l .present)
-    (ltb (l .outcome .state) s && (within 1 254 (l .outcome .parts) && leb (l .outcome .links) (65535 * l .outcome .parts)))
+    (ltb (l .outcome .state) s && (within 1 254 (l .outcome .parts)
+    && (leb (l .outcome .links) (l .outcome .passed) && leb (l .outcome .passed) (65535 * l .outcome .parts))))
     (isNone l)
 
 -- two yes or no are the same
 unfoldable pub sameFlag : Bool → Bool → Bool
 sameFlag a b = cond a b (not b)
 
--- the record's own: the state of the last part handled, its yes or no, its parts and links
+-- the record's own: the state of the last part handled, its yes or no, its parts, its links and the nodes passed over
 unfoldable pub lastIsOwn : Session → Bool
 lastIsOwn s =
     within 1 254 (s .head .handled)
     && (s .head .last .present && (eqb (s .head .last .outcome .state) (getD (s .states) (s .head .handled - 1) 0)
     && (sameFlag (s .head .last .outcome .yes) (s .head .yes)
-    && (eqb (s .head .last .outcome .parts) (s .head .parts) && eqb (s .head .last .outcome .links) (s .head .links)))))
+    && (eqb (s .head .last .outcome .parts) (s .head .parts) && (eqb (s .head .last .outcome .links) (s .head .links)
+    && eqb (s .head .last .outcome .passed) (s .head .passed))))))
 
 -- in each state
 unfoldable pub validIn : Phase → Session → Bool

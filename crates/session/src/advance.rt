@@ -13,8 +13,11 @@ use formats::buffers::rule_buffers_fit;
 use formats::rules::inner_count;
 use questions::part::part;
 use tables::answers::Climbed;
+ghost use Prim.Native.Nat.{_≤_};
 ghost use mathlib.Core.Path.{_≡_};
+ghost use mathlib.Core.Option.{some};
 ghost use lib.ListN.{take};
+ghost use Rattle.tables.specs.declared.answers.Reached.{Reached};
 ghost use Rattle.questions.specs.PartAnswers.{partGiven};
 ghost use Rattle.tables.specs.Climbs.{climbedOf};
 ghost use Rattle.model.specs.Calls as calls;
@@ -43,6 +46,10 @@ fn next_part<'a>(
         r ≡ climbedOf (partGiven (h .sizes .n) (h .sizes .s) (h .sizes .k) (now (plan .entry)) (now (rules .entry)) (now («node_table» .entry))
         (now («state_table» .entry)) (take (h .parts) (now (roots .entry))) (take (h .handled) (now (states .entry)))
         (take (h .m) (now (nodes .entry))) (take (h .m) (now (labels .entry)))) ⌝ }
+    ensures { λ _. ⌜ ((y : Reached)
+        → partGiven (h .sizes .n) (h .sizes .s) (h .sizes .k) (now (plan .entry)) (now (rules .entry)) (now («node_table» .entry))
+        (now («state_table» .entry)) (take (h .parts) (now (roots .entry))) (take (h .handled) (now (states .entry)))
+        (take (h .m) (now (nodes .entry))) (take (h .m) (now (labels .entry))) ≡ some y → y .passed ≤ 65535) ⌝ }
 {
     let p = h.parts as usize;
     let done = h.handled as usize;
@@ -71,9 +78,9 @@ fn is_marked(rules: &[u8], s: usize, k: usize, q: usize) -> bool
 }
 
 // A head with one more part handled, and the last finished answer as given.
-fn stepped(h: Head, phase: Phase, links: u32, yes: bool, last: Last) -> Head
-    requires { ⌜ StepArgs h links ⌝ }
-    ensures { λ r. ⌜ r ≡ steppedHead h phase links yes last ⌝ }
+fn stepped(h: Head, phase: Phase, links: u32, passed: u32, yes: bool, last: Last) -> Head
+    requires { ⌜ StepArgs h links passed ⌝ }
+    ensures { λ r. ⌜ r ≡ steppedHead h phase links passed yes last ⌝ }
 {
     let sizes = h.sizes;
     Head {
@@ -84,21 +91,24 @@ fn stepped(h: Head, phase: Phase, links: u32, yes: bool, last: Last) -> Head
         parts: h.parts,
         handled: h.handled + 1,
         links: h.links + links,
+        passed: h.passed + passed,
         last,
     }
 }
 
-// The answer of a head whose last part has state q and these links.
-fn answer_of(h: Head, q: u8, links: u32, yes: bool) -> Last
-    requires { ⌜ StepArgs h links ⌝ }
-    ensures { λ r. ⌜ r ≡ answerOf h q links yes ⌝ }
+// The answer of a head whose last part has state q, these links and these nodes passed over.
+fn answer_of(h: Head, q: u8, links: u32, passed: u32, yes: bool) -> Last
+    requires { ⌜ StepArgs h links passed ⌝ }
+    ensures { λ r. ⌜ r ≡ answerOf h q links passed yes ⌝ }
 {
     let all = h.links + links;
+    let over = h.passed + passed;
     let outcome = Outcome {
         state: q,
         yes,
         parts: h.parts,
         links: all,
+        passed: over,
     };
     Last {
         present: true,
@@ -107,14 +117,14 @@ fn answer_of(h: Head, q: u8, links: u32, yes: bool) -> Last
 }
 
 // One more part, of state q: more, or finished at the last part, with its yes or no by the rules lent now; that alone is a new answer.
-fn handled(h: Head, rules: &[u8], q: u8, links: u32) -> AdvanceStep
-    requires { ⌜ HandleArgs h (now rules) q links ⌝ }
-    ensures { λ r. ⌜ r ≡ stepBy h (now (rules .entry)) q links ⌝ }
+fn handled(h: Head, rules: &[u8], q: u8, links: u32, passed: u32) -> AdvanceStep
+    requires { ⌜ HandleArgs h (now rules) q links passed ⌝ }
+    ensures { λ r. ⌜ r ≡ stepBy h (now (rules .entry)) q links passed ⌝ }
 {
     if h.handled + 1 == h.parts {
         let yes = is_marked(rules, h.sizes.s as usize, h.sizes.k as usize, q as usize);
-        let last = answer_of(h, q, links, yes);
-        let head = stepped(h, Phase::Answered, links, yes, last);
+        let last = answer_of(h, q, links, passed, yes);
+        let head = stepped(h, Phase::Answered, links, passed, yes, last);
         return AdvanceStep {
             answer: AdvanceAnswer::Finished,
             head,
@@ -123,7 +133,7 @@ fn handled(h: Head, rules: &[u8], q: u8, links: u32) -> AdvanceStep
         };
     }
     let last = h.last;
-    let head = stepped(h, Phase::Running, links, false, last);
+    let head = stepped(h, Phase::Running, links, passed, false, last);
     AdvanceStep {
         answer: AdvanceAnswer::More,
         head,
@@ -193,7 +203,7 @@ fn next_step<'a>(
         states,
     ) {
         Climbed::Reached(found) => {
-            return handled(h, rules, found.state, found.links);
+            return handled(h, rules, found.state, found.links, found.passed);
         }
         Climbed::OutOfRange => {
             return refused_step(h, 18);

@@ -21,12 +21,14 @@ pub enum AdvanceAnswer {
     Refused(u8),
 }
 
-// What Read tells of a finished question: the root's state, the yes or no, how many parts, and the links of all climbs.
+// What Read tells of a finished question: the root's state, the yes or no, how many parts, and the links of all climbs and the nodes
+// that they passed over.
 pub struct Outcome {
     pub state: u8,
     pub yes: bool,
     pub parts: u8,
     pub links: u32,
+    pub passed: u32,
 }
 
 // Read: the outcome, or a refusal's number.

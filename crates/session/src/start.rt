@@ -52,6 +52,7 @@ fn started(
         parts,
         handled: 0,
         links: 0,
+        passed: 0,
         last,
     };
     Session {

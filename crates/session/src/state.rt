@@ -31,7 +31,7 @@ pub struct Last {
 }
 
 // The record without its arrays: the state, the yes or no once answered, N, S and K, how many changes are listed, how many parts there are,
-// how many are handled, the links so far, and the last finished answer. Tests take it beside the lent arrays, so that the record is not
+// how many are handled, the links and the nodes passed over so far, and the last finished answer. Tests take it beside the lent arrays, so that the record is not
 // copied for them.
 pub struct Head {
     pub phase: Phase,
@@ -41,6 +41,7 @@ pub struct Head {
     pub parts: u8,
     pub handled: u8,
     pub links: u32,
+    pub passed: u32,
     pub last: Last,
 }
 
@@ -89,6 +90,7 @@ pub fn no_last() -> Last
         yes: false,
         parts: 0,
         links: 0,
+        passed: 0,
     };
     Last {
         present: false,
@@ -108,6 +110,7 @@ pub fn idle(phase: Phase, sizes: Sizes, last: Last) -> Session
         parts: 0,
         handled: 0,
         links: 0,
+        passed: 0,
         last,
     };
     Session {

@@ -32,7 +32,7 @@ fn sizes_fit(z: Sizes) -> bool
         & (z.k as usize <= Session::LABEL_LIMIT)
 }
 
-// Nothing listed, no part, no state, no link, no yes.
+// Nothing listed, no part, no state, no link, no node passed over, no yes.
 fn no_question(
     h: Head,
     nodes: &[u16; 64],
@@ -43,8 +43,9 @@ fn no_question(
     ensures { λ r. ⌜ r
         ≡ noQuestion (whole h (now (nodes .entry)) (now (labels .entry)) (now (roots .entry)) (now (states .entry))) ⌝ }
 {
-    let counts = !h.yes & (h.m == 0) & (h.parts == 0) & (h.handled == 0) & (h.links == 0);
-    counts & below(nodes, 1) & all_below(labels, 1) & below(roots, 1) & all_below(states, 1)
+    let counts = !h.yes & (h.m == 0) & (h.parts == 0) & (h.handled == 0);
+    let none = counts & (h.links == 0) & (h.passed == 0);
+    none & below(nodes, 1) & all_below(labels, 1) & below(roots, 1) & all_below(states, 1)
 }
 
 // The changes: at most as many as may be listed, inside N and K, and zeros behind them.
@@ -60,7 +61,8 @@ fn list_fits(h: Head, nodes: &[u16], labels: &[u8]) -> bool
     listed & below(&nodes[m..], 1) & all_below(&labels[m..], 1)
 }
 
-// The parts: their roots rise to the root, the states of those handled are states, zeros behind both, and few links.
+// The parts: their roots rise to the root, the states of those handled are states, zeros behind both, no more links than nodes passed
+// over, and few of these.
 fn parts_fit(h: Head, roots: &[u16], states: &[u8]) -> bool
     requires { ⌜ PartsShaped h (now roots) (now states) ⌝ }
     ensures { λ r. ⌜ ((vs bs : List ℕ) → r ≡ partsFit (whole h vs bs (now (roots .entry)) (now (states .entry)))) ⌝ }
@@ -75,7 +77,7 @@ fn parts_fit(h: Head, roots: &[u16], states: &[u8]) -> bool
     }
     let rooted = rises_to(h.sizes.n - 1, &roots[..p]) & below(&roots[p..], 1);
     let reached = all_below(&states[..done], h.sizes.s) & all_below(&states[done..], 1);
-    rooted & reached & (h.links <= 65535 * (h.handled as u32))
+    rooted & reached & (h.links <= h.passed) & (h.passed <= 65535 * (h.handled as u32))
 }
 
 // A question: sizes, changes and parts, and no more parts handled than there are.
@@ -103,10 +105,11 @@ fn is_none(l: Last) -> bool
     ensures { λ r. ⌜ r ≡ isNone l ⌝ }
 {
     let o = l.outcome;
-    !l.present & !o.yes & (o.state == 0) & (o.parts == 0) & (o.links == 0)
+    !l.present & !o.yes & (o.state == 0) & (o.parts == 0) & (o.links == 0) & (o.passed == 0)
 }
 
-// The last finished answer: none, or with a state below S, parts in their limits, and few links.
+// The last finished answer: none, or with a state below S, parts in their limits, no more links than nodes passed over,
+// and few of these.
 fn last_fits(s: u8, l: Last) -> bool
     ensures { λ r. ⌜ r ≡ lastFits s l ⌝ }
 {
@@ -114,7 +117,8 @@ fn last_fits(s: u8, l: Last) -> bool
         return is_none(l);
     }
     let o = l.outcome;
-    (o.state < s) & (0 < o.parts) & (o.parts <= 254) & (o.links <= 65535 * (o.parts as u32))
+    let few = (o.links <= o.passed) & (o.passed <= 65535 * (o.parts as u32));
+    (o.state < s) & (0 < o.parts) & (o.parts <= 254) & few
 }
 
 // Whether two yes or no are the same.
@@ -141,7 +145,8 @@ fn last_is_own(h: Head, states: &[u8]) -> bool
     let o = h.last.outcome;
     let at = h.handled as usize - 1;
     let alike = same_flag(o.yes, h.yes);
-    h.last.present & (o.state == states[at]) & alike & (o.parts == h.parts) & (o.links == h.links)
+    let own = h.last.present & (o.state == states[at]) & alike;
+    own & (o.parts == h.parts) & (o.links == h.links) & (o.passed == h.passed)
 }
 
 // The record is valid, by its state.

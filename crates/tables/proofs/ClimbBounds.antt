@@ -2,7 +2,8 @@
 --     count, count-most, count-less     how many nodes below n have a property; fewer have a stronger one
 --     climb-few                         a climb has no more moves than the forest has nodes: it meets none twice
 --     rule-state, move-state            what a rule or a move gives is a state
---     Bounded, climb-bounded            the climb of a part gives a state, by no more links than there are nodes
+--     Bounded, climb-bounded            the climb of a part gives a state, by no more links than there are nodes, and passes over no
+--                                       fewer nodes than it has links and no more than the lent depths allow
 -- Assumes nothing.
 use Prim.Native.Nat.{ℕ, zero, suc, _+_, _*_, _≤_, _<_}
 use mathlib.Core.Path.{_≡_, refl, sym, ap, _∙_, subst}
@@ -16,11 +17,14 @@ use lib.Dec.{ltb, eqb}
 use lib.ListN.{length, getD}
 use borrow.Author.Tests.{ltb-true, lt-ltb, le-ltb}
 use Rattle.trees.specs.Climb.{Forest, Move, byJump, toParent, target, andThen, climb, carry}
+use Rattle.trees.specs.Passed.{passedBy}
 use Rattle.list_laws.proofs.Choice.{by-test}
 use Rattle.trees.proofs.MoveLaws.{none-some, next-inside, next-rises}
 use Rattle.trees.proofs.ClimbLaws.{climb-cons}
+use Rattle.trees.proofs.PassedLaws as passed-laws
+use Rattle.trees.proofs.PassedLaws.{passed-most}
 use Rattle.list_laws.proofs.BoolLaws.{true-false}
-use Rattle.node_tables.specs.Cells.{parentCell, cellForest}
+use Rattle.node_tables.specs.Cells.{parentCell, depthCell, cellForest}
 use Rattle.tables.specs.Climbs.{View, below, runOn, ruleOn, siblingOn}
 use Rattle.tables.specs.declared.answers.Reached.{Reached}
 use Rattle.tables.specs.Climbs.{parentOn, moveOn, reached, climbOn}
@@ -138,20 +142,34 @@ module _ (X : View) where
   pub record Bounded (x : Reached) : Type 0 where
     pub state : x .state < X .s
     pub links : x .links ≤ X .n
+    pub links-passed : x .links ≤ x .passed
+    -- whatever bounds the lent depths: 65,535 in 16-bit numbers
+    pub passed : (m : ℕ) → ((v : ℕ) → depthCell (X .nodeTable) v ≤ m) → x .passed ≤ m
 
   pub climb-bounded : (h t q : ℕ) (x : Reached) → q < X .s → climbOn X h t q ≡ some x → Bounded x
   unfolding climbOn
   climb-bounded h t q x l e = climbed (climb (cellForest (X .n) (X .nodeTable)) h t) refl e
     where
-      carried : (ms : List Move) → length ms ≤ X .n → (o : Option ℕ) → carry (moveOn X) ms q ≡ o
-          → andThen o (λ y. some (reached y (length ms))) ≡ some x → Bounded x
-      carried ms f none a i = absurd (none-some i)
-      carried ms f (some y) a i =
-          subst Bounded (Option·some-injective (reached y (length ms)) x i)
-          (record { state = carry-state ms q y l a; links = f })
+      F : Forest
+      F = cellForest (X .n) (X .nodeTable)
+
+      carried : (ms : List Move) → climb (cellForest (X .n) (X .nodeTable)) h t ≡ some ms → (o : Option ℕ)
+          → carry (moveOn X) ms q ≡ o
+          → andThen o (λ y. some (reached y (length ms) (passedBy (cellForest (X .n) (X .nodeTable)) h ms))) ≡ some x
+          → Bounded x
+      carried ms c none a i = absurd (none-some i)
+      carried ms c (some y) a i =
+          subst Bounded (Option·some-injective (reached y (length ms) (passedBy F h ms)) x i)
+          (record {
+            state = carry-state ms q y l a;
+            links = climb-few F h t ms c;
+            links-passed = passed-laws.links-passed F h t ms c;
+            passed = λ m b. omega (arith, passed-most F h ms, b h);
+          })
 
       climbed : (o : Option (List Move)) → climb (cellForest (X .n) (X .nodeTable)) h t ≡ o
-          → andThen o (λ ms. andThen (carry (moveOn X) ms q) (λ y. some (reached y (length ms)))) ≡ some x → Bounded x
+          → andThen o (λ ms.
+          andThen (carry (moveOn X) ms q) (λ y.
+          some (reached y (length ms) (passedBy (cellForest (X .n) (X .nodeTable)) h ms)))) ≡ some x → Bounded x
       climbed none c i = absurd (none-some i)
-      climbed (some ms) c i =
-          carried ms (climb-few (cellForest (X .n) (X .nodeTable)) h t ms c) (carry (moveOn X) ms q) refl i
+      climbed (some ms) c i = carried ms c (carry (moveOn X) ms q) refl i

@@ -6,8 +6,8 @@
 -- ruleOn X p a q == the rule for left p, label a, right q; none where a is no label or the result no state
 -- siblingOn X v p == the other child of v's parent p, by the lent size of v; none where it would lie outside the plan
 -- moveOn X m q == what one move makes of state q; none where a value read leads outside the plan, the states or the labels
--- climbOn X h t q == the climb from node h with state q to depth t: the state reached and the links; none as for a move, or where it
---   does not rise
+-- climbOn X h t q == the climb from node h with state q to depth t: the state reached, the links and the nodes passed over, by the lent
+--   depths; none as for a move, or where it does not rise
 -- climbedOf o == that as an answer, OutOfRange for none; climbedNumber a == document 01's number of an answer: 18 for OutOfRange
 --
 -- Not here: which climbs a part makes (crate questions, Part). N, S and K are the caller's (in the session the record's); no header is read.
@@ -19,6 +19,7 @@ use mathlib.Core.Option.{Option, none, some}
 use lib.Dec.{leb, ltb, eqb}
 use lib.ListN.{length, getD, take, drop}
 use Rattle.trees.specs.Climb.{Move, byJump, toParent, andThen, climb, carry}
+use Rattle.trees.specs.Passed.{passedBy}
 use Rattle.node_tables.specs.Cells.{parentCell, sizeCell, cellForest}
 use Rattle.tables.specs.declared.answers.Reached.{Reached}
 use Rattle.tables.specs.declared.answers.Climbed.{Climbed}
@@ -75,12 +76,14 @@ unfoldable pub moveOn : View → Move → ℕ → Option ℕ
 moveOn X (byJump v) q = below (X .s) (mapCell (X .s) (X .stateTable) v q)
 moveOn X (toParent v) q = parentOn X v (parentCell (X .nodeTable) v) q
 
-abbrev pub reached : ℕ → ℕ → Reached
-reached q n = record { state = q; links = n }
+abbrev pub reached : ℕ → ℕ → ℕ → Reached
+reached q n p = record { state = q; links = n; passed = p }
 
 unfoldable pub climbOn : View → ℕ → ℕ → ℕ → Option Reached
 climbOn X h t q =
-    andThen (climb (cellForest (X .n) (X .nodeTable)) h t) (λ ms. andThen (carry (moveOn X) ms q) (λ x. some (reached x (length ms))))
+    andThen (climb (cellForest (X .n) (X .nodeTable)) h t) (λ ms.
+    andThen (carry (moveOn X) ms q) (λ x.
+    some (reached x (length ms) (passedBy (cellForest (X .n) (X .nodeTable)) h ms))))
 
 unfoldable pub climbedOf : Option Reached → Climbed
 climbedOf none = OutOfRange

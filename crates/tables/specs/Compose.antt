@@ -13,10 +13,12 @@
 -- movedBy F act m o == the node that the move o leads to and what it makes of the map m; none where either is not
 -- MovedTo s here after x o == x tells whether there is such a pair o and its node, and then its map stands in the other
 --   half of `after`
--- Counted == a map and the number of links that it was composed of
--- composition .. m == what the climb from node l to depth `to` makes of the map m, with its links; none where a value
---   read leads outside the plan, the states or the labels, or the climb does not rise
--- ComposedTo s after x o == x tells whether there is a composition o, its links and where its map stands in `after`
+-- Counted == a map, the number of links that it was composed of, and the nodes passed over by them
+-- composition .. m == what the climb from node l to depth `to` makes of the map m, with its links and, by the lent
+--   depths, the nodes passed over; none where a value read leads outside the plan, the states or the labels, or the
+--   climb does not rise
+-- ComposedTo s after x o == x tells whether there is a composition o, its links, its nodes passed over and where its map
+--   stands in `after`
 -- ComposeArgs .. == n nodes, s states and k labels within limits, halves, and runs and tables that are long enough
 --
 -- Assumes nothing.
@@ -28,6 +30,7 @@ use mathlib.Core.Option.{Option, none, some}
 use lib.Dec.{ltb}
 use lib.ListN.{length, getD}
 use Rattle.trees.specs.Climb.{Forest, Move, byJump, toParent, target, andThen, climb, carry}
+use Rattle.trees.specs.Passed.{passedBy}
 use Rattle.list_laws.specs.Rows.{tabulate}
 use Rattle.list_laws.specs.Tests.{allBelow}
 use Rattle.formats.specs.Checks.{nodeTableLength, stateTableLength}
@@ -90,17 +93,19 @@ pub record MovedTo (s here : ℕ) (after : List ℕ) (x : Moved) (o : Option Nod
 pub record Counted : Type 0 where
   pub map : List ℕ
   pub links : ℕ
+  pub passed : ℕ
 
 unfoldable pub composition : ℕ → ℕ → ℕ → List ℕ → List ℕ → List ℕ → List ℕ → ℕ → ℕ → List ℕ → Option Counted
 composition n s k ls st nodeTable stateTable l to m =
     andThen (climb (cellForest n nodeTable) l to) (λ ms.
     andThen (carry (runMove s k ls st stateTable) ms m) (λ m′.
-    some (record { map = m′; links = length ms })))
+    some (record { map = m′; links = length ms; passed = passedBy (cellForest n nodeTable) l ms })))
 
 pub record ComposedTo (s : ℕ) (after : List ℕ) (x : Composed) (o : Option Counted) : Type 0 where
   pub long : length after ≡ 32
   pub within : x .at ≤ 16
-  pub made : o ≡ cond (x .ok) (some (record { map = mapAt s after (x .at); links = x .links })) none
+  pub made : o
+      ≡ cond (x .ok) (some (record { map = mapAt s after (x .at); links = x .links; passed = x .passed })) none
 
 pub record ComposeArgs (n s k : ℕ) (maps : List ℕ) (here : ℕ) (ls st nodeTable stateTable : List ℕ) (v : ℕ) : Type 0 where
   pub halves : Halves s maps here

@@ -53,11 +53,12 @@ pub struct Moved {
     pub node: usize,
 }
 
-// Where the map of a climb starts, and its links; or that there is none.
+// Where the map of a climb starts, its links, and the nodes passed over; or that there is none.
 pub struct Composed {
     pub ok: bool,
     pub at: usize,
     pub links: u32,
+    pub passed: u32,
 }
 
 // The map from `here` on after the map whose entry q stands at `at` + q * `stride` of `from`, written into the other
@@ -133,8 +134,9 @@ fn compose_move(
     }
 }
 
-// The climb from node `from` to depth `to`: what its moves make of the map that `maps` starts with, and the links. The
-// identity becomes the map from the state after the label reached to the state after `from`'s label.
+// The climb from node `from` to depth `to`: what its moves make of the map that `maps` starts with, the links, and the
+// nodes passed over. The identity becomes the map from the state after the label reached to the state after `from`'s
+// label.
 pub fn compose_climb(
     maps: &mut [u8],
     labels: &[u8],
@@ -173,15 +175,18 @@ pub fn compose_climb(
                 ok: false,
                 at: 0,
                 links: 0,
+                passed: 0,
             };
         }
         v = x.node;
         here = 16 - here;
         links += 1;
     }
+    let passed = depth_at(node_table, from) - depth_at(node_table, v);
     Composed {
         ok: true,
         at: here,
         links,
+        passed: passed as u32,
     }
 }

@@ -81,7 +81,7 @@ fn step_on(
     }
 }
 
-// The climb from node `from` with state q to depth `to`: the state there, and the links.
+// The climb from node `from` with state q to depth `to`: the state there, the links, and the nodes passed over.
 pub fn climb_state(
     labels: &[u8],
     inner: &[u8],
@@ -111,8 +111,10 @@ pub fn climb_state(
         x = y;
         links += 1;
     }
+    let passed = depth_at(node_table, from) - depth_at(node_table, v);
     Climbed::Reached(Reached {
         state: x as u8,
         links,
+        passed: passed as u32,
     })
 }

@@ -11,6 +11,7 @@ pub mod TreeClimbs
 pub mod IntervalLaws
 pub mod WalkLaws
 pub mod CarryLaws
+pub mod PassedLaws
 pub mod Samples
 pub mod TableRows
 pub mod RunLaws

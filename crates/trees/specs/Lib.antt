@@ -7,3 +7,4 @@ pub mod Jumps
 pub mod Climb
 pub mod Tables
 pub mod LinkOutOfRange
+pub mod Passed

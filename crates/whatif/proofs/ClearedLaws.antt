@@ -31,9 +31,9 @@ use Rattle.model.proofs.ModelLaws.{left-below, left-most}
 use Rattle.reference.specs.Reference.{Question, State, Reference, settled, phase, newReference, inState, step, decided}
 use Rattle.reference.specs.Reference.{proceed, reading, partCount, freshAnswer, asked, longer, advanced, goesOn}
 use Rattle.reference.specs.Reference.{advancingByRule, advancing, readingLast, finishedWith, stageOf as referenceStage}
-use Rattle.reference.specs.Demand3.{Conforms, after, Agrees}
-use Rattle.reference.specs.AgreementTest.{answersOf}
-use Rattle.reference.proofs.Theorems.{model-agrees}
+use Rattle.reference.specs.Demand3.{Conforms, after}
+use Rattle.reference.proofs.Relation.{Rel}
+use Rattle.reference.proofs.Demand3Theorem.{simulates, at-first}
 use Rattle.model.proofs.LayersHold.{layers}
 use Rattle.reference.proofs.Simulation.{referenceOf}
 use Rattle.reference.proofs.UndisturbedLaws.{at, going, over}
@@ -47,37 +47,36 @@ use Rattle.session.specs.declared.answers.CallAnswer.{CallAnswer}
 use Rattle.session.specs.declared.answers.CallAnswer.the-variants.{Accepted}
 use Rattle.session.specs.Answers.{callAnswer}
 use Rattle.session.specs.Promises.{LoadDone, answerOn, recordOn, refusalOn}
-use Rattle.session.proofs.Refine.{Seen, fresh-seen, call-refines}
+use Rattle.session.proofs.ActLaws.{Narrow}
+use Rattle.session.proofs.NarrowLaws.{built-narrow}
+use Rattle.session.proofs.Refine.{Seen, fresh-seen, seen-answer, narrow-seen}
 use Rattle.whatif.specs.Asked.{afterAdvance, finishedIn, mostParts, afterStart, askedOn}
 use Rattle.whatif.specs.Cleared.{answerBy, answerTo, Cleared}
 
--- the session holds a record whose answers, to any list of calls, agree with the reference model
+-- the session holds a record that the reference model follows
 record Follows (s : Session) (b : Reference) : Type 0 where
   pub holds : Record
   pub seen : Seen s holds
-  pub agrees : (cs : List Call) → Agrees b cs (answersOf holds cs)
+  pub related : Rel holds b
 
 fresh-follows : Follows freshSession newReference
-fresh-follows = record { holds = freshRecord; seen = fresh-seen; agrees = model-agrees }
+fresh-follows = record { holds = freshRecord; seen = fresh-seen; related = at-first }
 
 module _ (s : Session) (b : Reference) (F : Follows s b) (c : Call) where
-  answer-is : answerOn s c ≡ act (F .holds) c .answer
-  answer-is = call-refines s (F .holds) (F .seen) c _ _ refl refl .1 .tells
+  simulated : Conforms (step b c) (answerOn s c) × Rel (act (F .holds) c .record′) (after (step b c) (answerOn s c))
+  simulated =
+      simulates layers c (F .holds) (act (F .holds) c .record′) b (answerOn s c) (F .related)
+      (record { tells = seen-answer s (F .holds) (F .seen) c; leaves = refl })
 
   conforms : Conforms (step b c) (answerOn s c)
-  unfolding answersOf
-  conforms = subst (λ (a : Answer). Conforms (step b c) a) (sym answer-is) (F .agrees (c ∷ []) .0)
+  conforms = simulated .0
 
-  follows : Follows (recordOn s c) (after (step b c) (answerOn s c))
-  unfolding answersOf
-  follows =
-      let d = call-refines s (F .holds) (F .seen) c _ _ refl refl in
-      record {
-        holds = act (F .holds) c .record′;
-        seen = subst (Seen (recordOn s c)) (d .1 .leaves) (d .2);
-        agrees = λ cs. subst (λ (a : Answer). Agrees (after (step b c) a) cs (answersOf (act (F .holds) c .record′) cs)) (sym answer-is)
-            (F .agrees (c ∷ cs) .1);
-      }
+  follows : Narrow (F .holds) c → Follows (recordOn s c) (after (step b c) (answerOn s c))
+  follows w = record {
+    holds = act (F .holds) c .record′;
+    seen = narrow-seen s (F .holds) (F .seen) c w;
+    related = simulated .1;
+  }
 
 -- a settled call: its answer, and the reference model then
 module _ (s : Session) (b : Reference) (F : Follows s b) (c : Call) (a : Answer) (b′ : Reference) (e : step b c ≡ settled a b′) where
@@ -85,12 +84,12 @@ module _ (s : Session) (b : Reference) (F : Follows s b) (c : Call) (a : Answer)
   settled-answer =
       let g : Conforms (settled a b′) (answerOn s c) = subst (λ n. Conforms n (answerOn s c)) e (conforms s b F c) in g
 
-  settled-follows : Follows (recordOn s c) b′
-  settled-follows = subst (λ n. Follows (recordOn s c) (after n (answerOn s c))) e (follows s b F c)
+  settled-follows : Narrow (F .holds) c → Follows (recordOn s c) b′
+  settled-follows w = subst (λ n. Follows (recordOn s c) (after n (answerOn s c))) e (follows s b F c w)
 
 -- ---- a clean question
 
-module _ (z : Sizes) (x : Inputs) (long : fits z x ≡ true) where
+module _ (z : Sizes) (x : Inputs) (long : fits z x ≡ true) (asBuilt : nodeTableBuilt z x ≡ true) where
   same : sameInputs z x x ≡ true
   unfolding sameInputs sameNodeInputs
   same =
@@ -139,11 +138,13 @@ module _ (z : Sizes) (x : Inputs) (long : fits z x ≡ true) where
           → finishedIn f (recordOn s (advance x)) x ≡ freshAnswer q)
           → (b : Bool) → eqb (suc c) (partCount q) ≡ b → finishedIn (suc f) s x ≡ freshAnswer q
       go later true h =
-          let G = settled-follows s (going z none q c tr) F (advance x) finished _ (onward true h) in
+          let G = settled-follows s (going z none q c tr) F (advance x) finished _ (onward true h)
+          (built-narrow z x asBuilt (F .holds) (F .related .sizes)) in
           subst goal (sym (settled-answer s (going z none q c tr) F (advance x) finished _ (onward true h)))
           (settled-answer (recordOn s (advance x)) (over z q (suc c) ps) G read (freshAnswer q) _ (read-step q (suc c) ps))
       go later false h =
-          let G = settled-follows s (going z none q c tr) F (advance x) more _ (onward false h) in
+          let G = settled-follows s (going z none q c tr) F (advance x) more _ (onward false h)
+          (built-narrow z x asBuilt (F .holds) (F .related .sizes)) in
           let n : suc c ≡ partCount q → ⊥ = eqb-false (suc c) (partCount q) h in
           subst goal (sym (settled-answer s (going z none q c tr) F (advance x) more _ (onward false h)))
           (later G (omega (arith, n)) (omega arith))
@@ -190,7 +191,7 @@ module _ (y : Inputs) (passed : refusal (referenceStage newReference) (load y) �
       let q = asked (loaded y) vs bs in
       let w = start-written (referenceStage newReference) y State.loaded none vs bs passed refl e in
       let a = settled-answer s (referenceOf State.loaded (sizesIn y) none) F (start (loaded y) vs bs) _ _ w in
-      let G = settled-follows s (referenceOf State.loaded (sizesIn y) none) F (start (loaded y) vs bs) _ _ w in
+      let G = settled-follows s (referenceOf State.loaded (sizesIn y) none) F (start (loaded y) vs bs) _ _ w tt in
       let l = and-left (nodeTableBuilt (sizesIn y) (loaded y)) (stateTableBuilt (sizesIn y) (loaded y))
       (written-sound (referenceStage newReference) y passed) in
       let left = leftIn (loaded y) vs bs in
@@ -198,7 +199,7 @@ module _ (y : Inputs) (passed : refusal (referenceStage newReference) (load y) �
       (ready-count layers (sizesIn y) (loaded y) left l (left-below (loaded y) (sizesIn y .n) (sizesIn y .k) vs bs e))
       (left-most (loaded y) (sizesIn y .n) (sizesIn y .k) vs bs e) in
       ap (λ (t : Answer). afterStart t (finishedIn mostParts (recordOn s (start (loaded y) vs bs)) (loaded y))) a
-      ∙ finish-clean (sizesIn y) (loaded y) (written-fits (referenceStage newReference) y passed) mostParts
+      ∙ finish-clean (sizesIn y) (loaded y) (written-fits (referenceStage newReference) y passed) l mostParts
       (recordOn s (start (loaded y) vs bs)) q 0 [] refl G (some-part q) (omega arith)
 
   result : askedOn s (loaded y) vs bs ≡ answerTo (y .plan) (y .rules) vs bs
@@ -240,7 +241,7 @@ load-follows : (y : Inputs) → refusal (referenceStage newReference) (load y) �
 unfolding step decided proceed
 load-follows y e =
     settled-follows freshSession newReference fresh-follows (load y) accepted (referenceOf State.loaded (sizesIn y) none)
-    (ap (λ (n : ℕ). decided n newReference (load y)) e)
+    (ap (λ (n : ℕ). decided n newReference (load y)) e) tt
 
 same-given : (p p′ r r′ n n′ b b′ : List ℕ) → p′ ≡ p → r′ ≡ r → n′ ≡ n → b′ ≡ b → inputsOf p r n b ≡ inputsOf p′ r′ n′ b′
 same-given p p′ r r′ n n′ b b′ e f g h = rw (e, f, g, h) refl

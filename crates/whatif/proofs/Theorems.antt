@@ -17,6 +17,7 @@ use lib.ListN.{length, take}
 use Rattle.formats.specs.Checks.{firstNo, ruleTableChecks}
 use Rattle.formats.specs.Inputs.{Inputs}
 use Rattle.reference.proofs.Sample.{computing, planA, tableA}
+use Rattle.reference.proofs.PassedControls.{planGap}
 use Rattle.session.specs.declared.state.Session.{Session}
 use Rattle.whatif.specs.Question.{nodesIn, labelsIn}
 use Rattle.whatif.specs.Asked.{askedOn}
@@ -77,8 +78,8 @@ questionsA =
     ∷ []
 
 -- a line of one-digit numbers, by the codes of its digits
-outcomeText : ℕ → List ℕ → ℕ → ℕ → List ℕ
-outcomeText q y p l = (q ∷ y) ++ (p ∷ 32 ∷ l ∷ 10 ∷ [])
+outcomeText : ℕ → List ℕ → ℕ → ℕ → ℕ → List ℕ
+outcomeText q y p l d = (q ∷ y) ++ (p ∷ 32 ∷ l ∷ 32 ∷ d ∷ 10 ∷ [])
 
 refusedText : ℕ → List ℕ
 refusedText d = refusedWord ++ (49 ∷ d ∷ 10 ∷ [])
@@ -86,17 +87,17 @@ refusedText d = refusedWord ++ (49 ∷ d ∷ 10 ∷ [])
 refusedText1 : ℕ → List ℕ
 refusedText1 d = refusedWord ++ (d ∷ 10 ∷ [])
 
--- "1 yes 1 0", "0 no 2 1", "1 yes 3 0", "0 no 5 0", "0 no 2 1", "1 yes 1 0", "refused 13", "refused 14", "1 yes 1 0"
+-- "1 yes 1 0 0", "0 no 2 1 1", "1 yes 3 0 0", "0 no 5 0 0", "0 no 2 1 1", "1 yes 1 0 0", "refused 13", "refused 14", "1 yes 1 0 0"
 linesA : List ℕ
 unfolding outcomeText refusedText
 linesA =
-    outcomeText 49 (32 ∷ 121 ∷ 101 ∷ 115 ∷ 32 ∷ []) 49 48
-    ++ (outcomeText 48 (32 ∷ 110 ∷ 111 ∷ 32 ∷ []) 50 49
-    ++ (outcomeText 49 (32 ∷ 121 ∷ 101 ∷ 115 ∷ 32 ∷ []) 51 48
-    ++ (outcomeText 48 (32 ∷ 110 ∷ 111 ∷ 32 ∷ []) 53 48
-    ++ (outcomeText 48 (32 ∷ 110 ∷ 111 ∷ 32 ∷ []) 50 49
-    ++ (outcomeText 49 (32 ∷ 121 ∷ 101 ∷ 115 ∷ 32 ∷ []) 49 48
-    ++ (refusedText 51 ++ (refusedText 52 ++ outcomeText 49 (32 ∷ 121 ∷ 101 ∷ 115 ∷ 32 ∷ []) 49 48)))))))
+    outcomeText 49 (32 ∷ 121 ∷ 101 ∷ 115 ∷ 32 ∷ []) 49 48 48
+    ++ (outcomeText 48 (32 ∷ 110 ∷ 111 ∷ 32 ∷ []) 50 49 49
+    ++ (outcomeText 49 (32 ∷ 121 ∷ 101 ∷ 115 ∷ 32 ∷ []) 51 48 48
+    ++ (outcomeText 48 (32 ∷ 110 ∷ 111 ∷ 32 ∷ []) 53 48 48
+    ++ (outcomeText 48 (32 ∷ 110 ∷ 111 ∷ 32 ∷ []) 50 49 49
+    ++ (outcomeText 49 (32 ∷ 121 ∷ 101 ∷ 115 ∷ 32 ∷ []) 49 48 48
+    ++ (refusedText 51 ++ (refusedText 52 ++ outcomeText 49 (32 ∷ 121 ∷ 101 ∷ 115 ∷ 32 ∷ []) 49 48 48)))))))
 
 sample-lines : linesBy (questionLine planA tableA) [] questionsA ≡ linesA
 unfolding computing planA tableA questionsA linesA linesBy lineAfter openAfter questionLine nodesIn labelsIn answerBy lineOf decimal
@@ -129,7 +130,12 @@ unfolding saidTo
 said-too-large = refl
 
 -- 76 bytes of the sample: its first question, and all but the last byte of its second, which is dropped
-said-cut-short : said (take 76 sampleA) ≡ outcomeText 49 (yesOrNo true) 49 48
+said-cut-short : said (take 76 sampleA) ≡ outcomeText 49 (yesOrNo true) 49 48 48
 unfolding computing planA tableA questionsA sampleA linesBy lineAfter openAfter questionLine nodesIn labelsIn answerBy
     lineOf decimal placesIn outcomeText saidBy saidTo
 said-cut-short = refl
+
+-- document 02, S-7: where the nodes passed over, 5, are not the links, 3
+gap-line : questionLine planGap tableA (2 ∷ 0 ∷ 1 ∷ 0 ∷ 0 ∷ 3 ∷ 0 ∷ 1 ∷ []) ≡ outcomeText 48 (yesOrNo false) 50 51 53
+unfolding computing planGap tableA questionLine nodesIn labelsIn answerBy lineOf decimal placesIn outcomeText
+gap-line = refl

@@ -19,7 +19,7 @@ pub record Going (f : List ℕ → List ℕ) (stated : ℕ) (kept : List ℕ) (h
   pub held : Held (openBy [] questions) kept have
   pub lines : sent ≡ length (linesBy f [] questions)
   pub have-most : have + left ≤ 4294967295
-  pub sent-most : sent + 37 * left ≤ 158913789915
+  pub sent-most : sent + 48 * left ≤ 206158430160
 
 pub going-start : (f : List ℕ → List ℕ) (stated : ℕ) (kept : List ℕ) → length kept ≡ 197 → stated ≤ 4294967295
     → Going f stated kept 0 stated 0
@@ -35,7 +35,7 @@ going-start f stated kept e h = record {
 
 pub going-on : {f : List ℕ → List ℕ} {stated : ℕ} {c kept kept′ out out′ : List ℕ}
     {have left sent have′ left′ sent′ end : ℕ} (came : ℕ) → Going f stated kept have left sent
-    → Advances f c kept have kept′ have′ out 0 out′ end → came ≡ length c → left′ + came ≡ left → sent′ ≡ sent + end → have′ ≤ have + came → end ≤ 37 * came → Going f stated kept′ have′ left′ sent′
+    → Advances f c kept have kept′ have′ out 0 out′ end → came ≡ length c → left′ + came ≡ left → sent′ ≡ sent + end → have′ ≤ have + came → end ≤ 48 * came → Going f stated kept′ have′ left′ sent′
 going-on {f = f} {c = c} came G A n l s h e =
     let q = G .questions in
     let t = A .text (openBy [] q) (G .held) in

@@ -1,8 +1,8 @@
 -- What a question's answer is by the definitions alone, with no session.
 --
 -- answerTo p r vs bs == of the changes vs to bs on the plan p and the rules r: the number of the first check of 12 to 14 that fails, or the
---   state and the yes or no of a run on the changed plan, the parts, and as links the moves of their climbs; W is the nodes whose label
---   changes
+--   state and the yes or no of a run on the changed plan, the parts, as links the moves of their climbs, and the nodes that these passed
+--   over; W is the nodes whose label changes
 -- Cleared s x == the session s is the one that an accepted Load left, and x is what it was given, with the tables that it wrote
 --
 -- That the program's calls tell this answer is proofs/Theorems.
@@ -22,7 +22,7 @@ use Rattle.formats.specs.Built.{builtNodeTable, builtStateTable}
 use Rattle.tables.specs.Answers.{written}
 use Rattle.changes.specs.Differing.{differing}
 use Rattle.ready.specs.Members.{roots}
-use Rattle.ready.specs.Parts.{questionLinks}
+use Rattle.ready.specs.Parts.{questionLinks, questionPassed}
 use Rattle.formats.specs.Inputs.{Inputs}
 use Rattle.model.specs.Calls.{load, Answer, refused, accepted, outcomeAnswer}
 use Rattle.session.specs.declared.state.Session.{Session}
@@ -37,6 +37,7 @@ unfoldable pub answerBy : ℕ → List ℕ → List ℕ → List ℕ → List �
 answerBy zero p r vs bs =
     outcomeAnswer (state (ruleAutomaton r) (changedPlan p vs bs)) (accepts (ruleAutomaton r) (changedPlan p vs bs))
     (length (roots (planTree p) (differing (labelsIn p) vs bs))) (questionLinks (planTree p) (roots (planTree p) (differing (labelsIn p) vs bs)))
+    (questionPassed (planTree p) (roots (planTree p) (differing (labelsIn p) vs bs)))
 answerBy (suc n) p r vs bs = refused (suc n)
 
 abbrev pub answerTo : List ℕ → List ℕ → List ℕ → List ℕ → Answer

@@ -1,7 +1,7 @@
 -- The line of an answer.
 --
 -- lineOf a == "One line a question, no header: state, yes or no, parts, links; or `refused` and the number", with single spaces and a
---   newline; nothing of an answer that ends no question
+--   newline, the nodes passed over last (document 02, S-7); nothing of an answer that ends no question
 --
 -- Assumes nothing.
 use Prim.Native.Nat.{ℕ}
@@ -25,11 +25,15 @@ newline = 10 ∷ []
 abbrev pub refusedWord : List ℕ
 refusedWord = 114 ∷ 101 ∷ 102 ∷ 117 ∷ 115 ∷ 101 ∷ 100 ∷ 32 ∷ []
 
-abbrev pub outcomeLine : ℕ → Bool → ℕ → ℕ → List ℕ
-outcomeLine q y p l = decimal q ++ (yesOrNo y ++ (decimal p ++ (space ++ (decimal l ++ newline))))
+-- parts, links and nodes passed over
+abbrev pub countsText : ℕ → ℕ → ℕ → List ℕ
+countsText p l d = decimal p ++ (space ++ (decimal l ++ (space ++ (decimal d ++ newline))))
+
+abbrev pub outcomeLine : ℕ → Bool → ℕ → ℕ → ℕ → List ℕ
+outcomeLine q y p l d = decimal q ++ (yesOrNo y ++ countsText p l d)
 
 abbrev pub refusedLine : ℕ → List ℕ
 refusedLine n = refusedWord ++ (decimal n ++ newline)
 
 unfoldable pub lineOf : Answer → List ℕ
-lineOf a = onOutcome (λ o. outcomeLine (o .state) (o .yes) (o .parts) (o .links)) (onRefused refusedLine [] a) a
+lineOf a = onOutcome (λ o. outcomeLine (o .state) (o .yes) (o .parts) (o .links) (o .passed)) (onRefused refusedLine [] a) a

@@ -40,8 +40,8 @@ fn some_questions(
 ) -> Turn
     requires { ⌜ Keeps (now asked) (last .have) ⌝ }
     requires { ⌜ last .have + last .left ≤ 4294967295 ⌝ }
-    requires { ⌜ last .sent + 37 * last .left ≤ 158913789915 ⌝ }
-    requires { ⌜ 37 * length (now chunk) ≤ length (now out) ⌝ }
+    requires { ⌜ last .sent + 48 * last .left ≤ 206158430160 ⌝ }
+    requires { ⌜ 48 * length (now chunk) ≤ length (now out) ⌝ }
     requires { ⌜ Cleared loaded (inputsOf (now plan) (now rules) (now «node_table») (now «state_table»)) ⌝ }
     ensures { λ r. ⌜
         Advances (questionLine (now (plan .entry)) (now (rules .entry)))
@@ -50,7 +50,7 @@ fn some_questions(
     ensures { λ r. ⌜
         (r .came ≤ length (now (chunk .exit))) × (length (now (chunk .exit)) ≡ length (now (chunk .entry))) ⌝ }
     ensures { λ r. ⌜ (r .left + r .came ≡ last .left) × (r .sent ≡ last .sent + r .end) ⌝ }
-    ensures { λ r. ⌜ (r .have ≤ last .have + r .came) × (r .end ≤ 37 * r .came) ⌝ }
+    ensures { λ r. ⌜ (r .have ≤ last .have + r .came) × (r .end ≤ 48 * r .came) ⌝ }
 {
     let n = read_some(last.left, chunk);
     let taken = take_in(

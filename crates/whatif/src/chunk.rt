@@ -34,13 +34,13 @@ fn put_answer(
     end: usize,
 ) -> usize
     requires { ⌜ length (now asked) ≡ 197 ⌝ }
-    requires { ⌜ end + 37 ≤ length (now out) ⌝ }
+    requires { ⌜ end + 48 ≤ length (now out) ⌝ }
     requires { ⌜ Cleared loaded (inputsOf (now plan) (now rules) (now «node_table») (now «state_table»)) ⌝ }
     ensures { λ r. ⌜
         Put (now (out .entry)) end
         (keptLine (now (plan .entry)) (now (rules .entry)) (now (asked .entry)))
         (now (out .exit)) r ⌝ }
-    ensures { λ r. ⌜ r ≤ end + 37 ⌝ }
+    ensures { λ r. ⌜ r ≤ end + 48 ⌝ }
 {
     let k = kept_changes(asked);
     let last = 2 + 3 * k;
@@ -72,13 +72,13 @@ fn take_byte(
     end: usize,
 ) -> Taken
     requires { ⌜ Keeps (now asked) have ⌝ }
-    requires { ⌜ end + 37 ≤ length (now out) ⌝ }
+    requires { ⌜ end + 48 ≤ length (now out) ⌝ }
     requires { ⌜ have ≤ 4294967295 ⌝ }
     requires { ⌜ Cleared loaded (inputsOf (now plan) (now rules) (now «node_table») (now «state_table»)) ⌝ }
     ensures { λ r. ⌜
         Advances (questionLine (now (plan .entry)) (now (rules .entry)))
         (b ∷ []) (now (asked .entry)) have (now (asked .exit)) (r .have) (now (out .entry)) end (now (out .exit)) (r .end) ⌝ }
-    ensures { λ r. ⌜ (r .end ≤ end + 37) × (r .have ≤ have + 1) ⌝ }
+    ensures { λ r. ⌜ (r .end ≤ end + 48) × (r .have ≤ have + 1) ⌝ }
 {
     keep(asked, have, b);
     let more = have + 1;
@@ -112,12 +112,12 @@ pub fn take_in(
 ) -> Taken
     requires { ⌜ Keeps (now asked) have ⌝ }
     requires { ⌜ have + length (now chunk) ≤ 4294967295 ⌝ }
-    requires { ⌜ 37 * length (now chunk) ≤ length (now out) ⌝ }
+    requires { ⌜ 48 * length (now chunk) ≤ length (now out) ⌝ }
     requires { ⌜ Cleared loaded (inputsOf (now plan) (now rules) (now «node_table») (now «state_table»)) ⌝ }
     ensures { λ r. ⌜
         Advances (questionLine (now (plan .entry)) (now (rules .entry)))
         (now (chunk .entry)) (now (asked .entry)) have (now (asked .exit)) (r .have) (now (out .entry)) 0 (now (out .exit)) (r .end) ⌝ }
-    ensures { λ r. ⌜ (r .end ≤ 37 * length (now (chunk .entry))) × (r .have ≤ have + length (now (chunk .entry))) ⌝ }
+    ensures { λ r. ⌜ (r .end ≤ 48 * length (now (chunk .entry))) × (r .have ≤ have + length (now (chunk .entry))) ⌝ }
 {
     let mut part = have;
     let mut end = 0;

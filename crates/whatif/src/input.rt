@@ -70,10 +70,10 @@ pub fn state_table_space() -> [u8; 17017]
 }
 
 // How much of the questions is read at a time.
-pub const CHUNK: usize = 1536;
+pub const CHUNK: usize = 1365;
 
 pub fn chunk_space() -> [u8; CHUNK]
-    ensures { λ r. ⌜ length r ≡ 1536 ⌝ }
+    ensures { λ r. ⌜ length r ≡ 1365 ⌝ }
 {
     [0; CHUNK]
 }

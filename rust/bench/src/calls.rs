@@ -65,7 +65,11 @@ fn branch_questions(case: Case, random: &mut Random) {
         {
             let told = mine(&case.plan, &case.branch, &node_table, &state_table, upper, lower).expect("accepted");
             let want = other(&case.plan, &case.branch, &node_table, &state_table, upper, lower).expect("accepted");
-            assert_eq!((told.state, told.links), (want.state, want.links), "both tell the same");
+            assert_eq!(
+                (told.state, told.links, told.passed),
+                (want.state, want.links, want.passed),
+                "both tell the same"
+            );
         }
     }
 }

@@ -57,8 +57,8 @@ impl<'a> Handled<'a> {
         let states = &self.states[..i];
         let told =
             layers::part(sizes, &case.plan, &case.rules, node_table, state_table, &self.roots, states, nodes, labels);
-        let (state, links) = told.expect("accepted");
-        (u32::from(state), links)
+        let told = told.expect("accepted");
+        (u32::from(told.state), told.links)
     }
 }
 

@@ -327,15 +327,15 @@ pub struct Lent<'a> {
     pub state_table: &'a [u8],
 }
 
-/// A branch question, its answer alone: state, yes and links, and nothing on a refusal.
+/// A branch question, its answer alone: state, yes, links and nodes passed over, and nothing on a refusal.
 pub fn library_branch(
     reading: Reading,
     lent: Lent,
     upper: u32,
     lower: u32,
     random: &mut Random,
-) -> Result<[u32; 3], u32> {
-    let unset = [random.word() as u32, random.word() as u32, random.word() as u32];
+) -> Result<[u32; 4], u32> {
+    let unset = [0; 4].map(|_: u32| random.word() as u32);
     let mut out = unset;
     let ask = match reading {
         Reading::WithUpper => slices::branch_with_upper,
@@ -346,30 +346,31 @@ pub fn library_branch(
 }
 
 /// A branch question on any tables, compared with the rule on those very tables.
-pub fn branch(reading: Reading, lent: Lent, upper: u32, lower: u32, random: &mut Random) -> Result<[u32; 3], u32> {
+pub fn branch(reading: Reading, lent: Lent, upper: u32, lower: u32, random: &mut Random) -> Result<[u32; 4], u32> {
     let Lent { plan, branch, node_table, state_table } = lent;
     let expected = reference::branch::on_tables(reading, plan, branch, node_table, state_table, upper, lower);
     let answer = library_branch(reading, lent, upper, lower, random);
-    let want = expected.map(|told| [told.state as u32, told.yes as u32, told.links as u32]);
+    let want = expected.map(|told| [told.state as u32, told.yes as u32, told.links as u32, told.passed as u32]);
     assert_eq!(answer, want, "the branch question from {} to {}, {:?}", upper, lower, reading);
     answer
 }
 
-/// Both readings, each compared. They are refused with the same number or tell the same links; only an 18 may be due to the
-/// upper node's label alone.
-pub fn branches(lent: Lent, upper: u32, lower: u32, random: &mut Random) -> [Result<[u32; 3], u32>; 2] {
+/// Both readings, each compared. They are refused with the same number or tell the same links and nodes passed over; only
+/// an 18 may be due to the upper node's label alone.
+pub fn branches(lent: Lent, upper: u32, lower: u32, random: &mut Random) -> [Result<[u32; 4], u32>; 2] {
     let [with_upper, below] = READINGS.map(|reading| branch(reading, lent, upper, lower, random));
     if with_upper != Err(18) || below.is_err() {
-        assert_eq!(below.map(|told| told[2]), with_upper.map(|told| told[2]), "links or refusal of the two readings");
+        let climb = |told: Result<[u32; 4], u32>| told.map(|told| (told[2], told[3]));
+        assert_eq!(climb(below), climb(with_upper), "links, nodes passed over or refusal of the two readings");
     }
     if upper == lower && below.is_ok() {
-        assert_eq!(below.map(|told| (told[0], told[2])), Ok((0, 0)), "the empty word");
+        assert_eq!(below.map(|told| (told[0], told[2], told[3])), Ok((0, 0, 0)), "the empty word");
     }
     [with_upper, below]
 }
 
 /// The answer with the upper node's label; beside it the other reading is compared too.
-pub fn branch_with_upper(lent: Lent, upper: u32, lower: u32, random: &mut Random) -> Result<[u32; 3], u32> {
+pub fn branch_with_upper(lent: Lent, upper: u32, lower: u32, random: &mut Random) -> Result<[u32; 4], u32> {
     branches(lent, upper, lower, random)[0]
 }
 

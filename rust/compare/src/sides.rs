@@ -10,8 +10,8 @@ use reference::panel::{Answer, Call, Lends, Told};
 use reference::session::Done;
 use reference::tables::Tables;
 
-/// A call on a record, the buffers of a Load and the places of what is told, four of them. The answer's number.
-type Side = fn(&Call, &mut [u8], &mut [u16], &mut [u8], &mut [u32; 4]) -> u32;
+/// A call on a record, the buffers of a Load and the places of what is told, five of them. The answer's number.
+type Side = fn(&Call, &mut [u8], &mut [u16], &mut [u8], &mut [u32; 5]) -> u32;
 
 const SIDES: &[(&str, Side)] = &[("the library", library::call), ("plain Rust", by_yardstick)];
 
@@ -37,7 +37,7 @@ fn compare(name: &str, side: Side, record: &[u8], call: &Call, done: &Done, rand
         ),
         _ => (Margins::new(&[], vec![]), Margins::new(&[], vec![])),
     };
-    let unset = [0; 4].map(|_: u32| random.word() as u32 | 1 << 20);
+    let unset = [0; 5].map(|_: u32| random.word() as u32 | 1 << 20);
     let mut out = unset;
     let lent =
         lent(call).filter(|lends| lends.plan.len() + 2 * lends.node_table.len() + lends.state_table.len() < COPIED);
@@ -68,12 +68,12 @@ fn copies(lends: Lends) -> (Vec<u8>, Vec<u8>, Vec<u16>, Vec<u8>) {
 }
 
 /// What a number and the told values mean; the values that the call does not tell are as they were.
-fn answer(call: &Call, number: u32, out: &[u32; 4], unset: &[u32; 4]) -> Answer {
+fn answer(call: &Call, number: u32, out: &[u32; 5], unset: &[u32; 5]) -> Answer {
     let told = match call {
         _ if number != 0 => 0,
         Call::Load(_) | Call::Cancel => 0,
         Call::Start(..) | Call::Advance(_) => 1,
-        Call::Read => 4,
+        Call::Read => 5,
     };
     assert_eq!(out[told..], unset[told..], "answer {} told something", number);
     match call {
@@ -86,7 +86,7 @@ fn answer(call: &Call, number: u32, out: &[u32; 4], unset: &[u32; 4]) -> Answer 
         }
         Call::Read => {
             assert!(out[1] <= 1, "the Read told yes {}", out[1]);
-            Answer::Told(Told { state: out[0], yes: out[1] == 1, parts: out[2], links: out[3] })
+            Answer::Told(Told { state: out[0], yes: out[1] == 1, parts: out[2], links: out[3], passed: out[4] })
         }
     }
 }
@@ -128,7 +128,7 @@ fn by_yardstick(
     record: &mut [u8],
     node_table: &mut [u16],
     state_table: &mut [u8],
-    out: &mut [u32; 4],
+    out: &mut [u32; 5],
 ) -> u32 {
     use yardstick::session;
     let done = match *call {
@@ -141,9 +141,8 @@ fn by_yardstick(
             session::advance(record, plan, rules, node_table, state_table).map(|finished| out[0] = finished as u32)
         }
         Call::Cancel => session::cancel(record),
-        Call::Read => {
-            session::read(record).map(|told| *out = [told.state as u32, told.yes as u32, told.parts, told.links])
-        }
+        Call::Read => session::read(record)
+            .map(|told| *out = [told.state as u32, told.yes as u32, told.parts, told.links, told.passed]),
     };
     done.err().unwrap_or(0)
 }
@@ -157,7 +156,7 @@ mod library {
         record: &mut [u8],
         node_table: &mut [u16],
         state_table: &mut [u8],
-        out: &mut [u32; 4],
+        out: &mut [u32; 5],
     ) -> u32 {
         match *call {
             Call::Load(Lends { plan, rules, .. }) => slices::load(record, plan, rules, node_table, state_table),

@@ -73,9 +73,9 @@ fn the_same_node_twice_is_one_letter_and_none_from_below() {
             READINGS.map(|reading| calls::library_branch(reading, built.lent(), v as u32, v as u32, random));
         let state = built.case.branch[16 + built.case.labels()[v] as usize];
         let yes = built.case.branch[16 + built.case.s * built.case.k + state as usize];
-        assert_eq!(answer, Ok([state as u32, yes as u32, 0]));
+        assert_eq!(answer, Ok([state as u32, yes as u32, 0, 0]));
         let yes = built.case.branch[16 + built.case.s * built.case.k];
-        assert_eq!(empty, Ok([0, yes as u32, 0]));
+        assert_eq!(empty, Ok([0, yes as u32, 0, 0]));
     }
 }
 

@@ -61,13 +61,13 @@ fn several_bytes() {
     assert!(counts.of("altered, a session's") > 500 && counts.of("altered, broken") > 5_000, "{}", counts);
 }
 
-/// Those of layout version 1, of 967 bytes, are among them.
+/// Those of layout versions 1 and 2, of 967 and 975 bytes, are among them.
 #[test]
 fn other_lengths() {
     let random = &mut Random::new(1603);
     let beside = Beside::new(Case::new(Shape::Zigzag, 12, 3, 3, random), 4, random);
     for record in beside.records(random).iter().chain(&beside.with_an_answer(random)) {
-        for len in [0, 1, 13, 713, 966, 967, 968, 974, 976, 1_000, 2 * 975] {
+        for len in [0, 1, 13, 713, 966, 967, 968, 975, 982, 984, 1_000, 2 * 983] {
             let mut other = record.clone();
             other.resize(len, 0);
             assert!(!beside.all_calls(&other, random), "{} bytes", len);
@@ -104,20 +104,30 @@ fn the_limits() {
     let answered = Record::of(records.last().unwrap()).unwrap();
     let cases: Vec<(&str, Record, Record)> = vec![
         (
+            "nodes passed over by a running session",
+            Record { passed: 65_535 * 2, ..running.clone() },
+            Record { passed: 65_535 * 2 + 1, ..running.clone() },
+        ),
+        (
             "links of a running session",
-            Record { links: 65_535 * 2, ..running.clone() },
-            Record { links: 65_535 * 2 + 1, ..running.clone() },
+            Record { links: 70_000, passed: 70_000, ..running.clone() },
+            Record { links: 70_000, passed: 69_999, ..running.clone() },
+        ),
+        (
+            "nodes passed over by an answered session",
+            with_its_answer(Record { passed: 65_535 * answered.roots.len() as u32, ..answered.clone() }),
+            with_its_answer(Record { passed: 65_535 * answered.roots.len() as u32 + 1, ..answered.clone() }),
         ),
         (
             "links of an answered session",
-            with_its_answer(Record { links: 65_535 * answered.roots.len() as u32, ..answered.clone() }),
-            with_its_answer(Record { links: 65_535 * answered.roots.len() as u32 + 1, ..answered.clone() }),
+            with_its_answer(Record { links: 70_000, passed: 70_000, ..answered.clone() }),
+            with_its_answer(Record { links: 70_000, passed: 69_999, ..answered.clone() }),
         ),
         ("a yes before the end", running.clone(), Record { yes: true, ..running.clone() }),
         ("a state", running.clone(), Record { states: vec![3; running.states.len()], ..running.clone() }),
         ("a node", running.clone(), Record { nodes: vec![63; running.nodes.len()], ..running.clone() }),
         ("a label", running.clone(), Record { labels: vec![3; running.labels.len()], ..running.clone() }),
-        ("no parts", running.clone(), Record { roots: vec![], states: vec![], links: 0, ..running.clone() }),
+        ("no parts", running.clone(), Record { roots: vec![], states: vec![], links: 0, passed: 0, ..running.clone() }),
         ("answered too early", running.clone(), Record { phase: Phase::Answered, ..running.clone() }),
         ("running at the end", answered.clone(), Record { phase: Phase::Running, ..answered.clone() }),
         ("the root left out", running.clone(), Record { roots: running.roots[..4].to_vec(), ..running.clone() }),
@@ -147,21 +157,27 @@ fn the_limits_of_a_kept_answer() {
     let records = beside.records(random);
     let [loaded, running] = [1, 4].map(|at| Record::of(&records[at]).unwrap());
     let answered = Record::of(records.last().unwrap()).unwrap();
-    let told = |state, parts, links| Some(Told { state, yes: true, parts, links });
+    let told = |state, parts, links, passed| Some(Told { state, yes: true, parts, links, passed });
     for record in [loaded, running] {
         let mut is = |last, valid| {
             let bytes = Record { last, ..record.clone() }.bytes();
             assert_eq!(beside.all_calls(&bytes, random), valid, "{:?}", last);
         };
-        for last in [None, told(2, 1, 65_535), told(0, 254, 65_535 * 254), told(0, 1, 0)] {
+        let most = 65_535 * 254;
+        for last in
+            [None, told(2, 1, 65_535, 65_535), told(0, 254, most, most), told(0, 1, 0, 0), told(0, 1, 0, 65_535)]
+        {
             is(last, true);
         }
-        for last in [told(3, 1, 0), told(0, 0, 0), told(0, 255, 0), told(0, 1, 65_536), told(0, 254, 65_535 * 254 + 1)]
-        {
+        for last in [told(3, 1, 0, 0), told(0, 0, 0, 0), told(0, 255, 0, 0)] {
+            is(last, false);
+        }
+        for last in [told(0, 1, 0, 65_536), told(0, 254, 0, most + 1), told(0, 1, 2, 1), told(0, 254, most, most - 1)] {
             is(last, false);
         }
         // neither there nor not, and values of an answer that is not there
-        for (place, to) in [(967, 2), (967, 255), (968, 1), (969, 1), (970, 1), (971, 1), (974, 1)] {
+        for (place, to) in [(967, 2), (967, 255), (968, 1), (969, 1), (970, 1), (971, 1), (974, 1), (979, 1), (982, 1)]
+        {
             let mut bytes = record.bytes();
             bytes[place] = to;
             assert!(!beside.all_calls(&bytes, random), "byte {}", place);
@@ -174,11 +190,12 @@ fn the_limits_of_a_kept_answer() {
         Some(Told { state: (own.state + 1) % 3, ..own }),
         Some(Told { yes: !own.yes, ..own }),
         Some(Told { parts: own.parts - 1, ..own }),
-        Some(Told { links: own.links + 1, ..own }),
+        Some(Told { links: own.links + 1, passed: own.passed + 1, ..own }),
+        Some(Told { passed: own.passed + 1, ..own }),
     ] {
         assert!(!beside.all_calls(&Record { last, ..answered.clone() }.bytes(), random), "{:?}", last);
     }
-    assert!(!beside.all_calls(&Record { last: told(0, 1, 0), ..Record::fresh() }.bytes(), random));
+    assert!(!beside.all_calls(&Record { last: told(0, 1, 0, 0), ..Record::fresh() }.bytes(), random));
 }
 
 #[test]

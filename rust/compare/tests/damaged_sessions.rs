@@ -120,7 +120,7 @@ fn the_longest_climbs() {
     assert_eq!(panel.advance(&bad, random), Answer::More);
     assert_eq!(panel.advance(&bad, random), Answer::Finished);
     match panel.call(&Call::Read, random) {
-        Answer::Told(told) => assert_eq!(told.links, 65_533),
+        Answer::Told(told) => assert_eq!((told.links, told.passed), (65_533, 65_533)),
         other => panic!("{:?}", other),
     }
     // a move to the same depth does not rise

@@ -10,7 +10,7 @@ use reference::mistakes::{making, Mistake};
 const SEEDS: std::ops::Range<u64> = 1..201;
 
 /// A mistake, and the rounds that must notice it.
-const NOTICED: [(Mistake, &[&str]); 52] = [
+const NOTICED: [(Mistake, &[&str]); 59] = [
     (Mistake::ChildrenExchanged, &["builds", "fresh runs", "questions", "other bytes", "call lists"]),
     (Mistake::SiblingFromOldRun, &["questions", "other bytes", "damaged lends", "call lists"]),
     (Mistake::ClimbToTheRoot, &["questions", "other bytes", "damaged lends", "call lists"]),
@@ -26,6 +26,13 @@ const NOTICED: [(Mistake, &[&str]); 52] = [
     (Mistake::ParentBeforeJump, &["damaged tables", "other bytes", "damaged lends", "call lists"]),
     (Mistake::CleanForEver, &["other bytes", "call lists"]),
     (Mistake::FinishedEarly, &["questions", "call lists"]),
+    (Mistake::PassedCountsMoves, &["questions", "branch questions", "other bytes", "damaged lends", "call lists"]),
+    (Mistake::PassedBetween, &["questions", "branch questions", "other bytes", "damaged tables", "call lists"]),
+    (Mistake::PassedFromUpper, &["questions", "other bytes", "damaged lends", "call lists"]),
+    (Mistake::PassedToTheDepthAsked, &["damaged tables", "damaged lends"]),
+    (Mistake::PassedToldAsLinks, &["questions", "other bytes", "call lists"]),
+    (Mistake::PassedKept, &["questions", "call lists"]),
+    (Mistake::PassedFree, &["damaged records"]),
     (Mistake::LinksKept, &["questions", "call lists"]),
     (Mistake::CancelEmpties, &["damaged records", "session refusals", "call lists"]),
     (Mistake::StartEmpties, &["damaged records", "session refusals", "questions", "call lists"]),

@@ -49,7 +49,7 @@ fn which_bytes_are_read() {
         other.state_table[0] = state;
         assert_eq!(panel.start(&lent, &[0], &[1 - case.labels()[0]], random), Answer::Parts(2));
         let (_, told) = panel.finish(&other, random);
-        assert_eq!(told.links, 1);
+        assert_eq!((told.links, told.passed), (1, 1));
         let rule = |p: u8, a: u8, q: u8| case.rules[20 + 2 + (p as usize * 2 + a as usize) * 3 + q as usize];
         // node 2 is the parent of 0 and 1; node 3 is the root's right child
         assert_eq!(told.state as u8, rule(state, case.labels()[4], lent.state_table[4 * 3]));

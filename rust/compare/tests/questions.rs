@@ -1,5 +1,5 @@
-//! Questions on tables as built, through the session's calls: roots, states, answer, parts and links, on trees of every
-//! shape and size. The book holds every answer to a fresh run of the changed plan; here the record is looked at too.
+//! Questions on tables as built, through the session's calls: roots, states, answer, parts, links and nodes passed over, on trees
+//! of every shape and size. The book holds every answer to a fresh run of the changed plan; here the record is looked at too.
 
 use compare::counts::Counts;
 use compare::inputs::{self, Case};
@@ -100,7 +100,7 @@ fn labels_that_are_there_already() {
         let unchanged = asked.ask(&[], &[], random);
         let told = asked.ask(&nodes, &labels, random);
         assert_eq!(told, unchanged);
-        assert_eq!((told.parts, told.links), (1, 0));
+        assert_eq!((told.parts, told.links, told.passed), (1, 0, 0));
         // and beside nodes that change they count for nothing; a first entry for a node does not hold
         let (mut more, mut others) = (nodes.clone(), asked.case.other_labels(&nodes, random));
         more.extend(&nodes[1..]);
@@ -122,6 +122,16 @@ fn links_go_either_way() {
         let told = Asked::new(case, random).ask(nodes, labels, random);
         assert_eq!((told.parts, told.links), (parts, links));
     }
+}
+
+/// In the sample there are as many nodes passed over as links; here there are more.
+#[test]
+fn more_nodes_passed_over_than_links() {
+    let random = &mut Random::new(1211);
+    let (plan, rules) = (reference::sample::plan_with_a_gap(), reference::sample::table_a());
+    let case = Case { n: 13, s: 2, k: 2, plan, rules, branch: vec![] };
+    let told = Asked::new(case, random).ask(&[1, 3], &[0, 1], random);
+    assert_eq!((told.parts, told.links, told.passed), (2, 3, 5));
 }
 
 #[test]
@@ -162,6 +172,7 @@ fn the_records_of_the_layout_page() {
         record[..13].copy_from_slice(&cells[0]);
         record[205..205 + cells[1].len()].copy_from_slice(&cells[1]);
         record[967..967 + cells[2].len()].copy_from_slice(&cells[2]);
+        record[975..975 + cells[3].len()].copy_from_slice(&cells[3]);
         record
     };
     let (plan, rules) = inputs::sample();

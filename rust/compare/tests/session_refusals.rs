@@ -67,7 +67,8 @@ fn states() {
                 }
                 if let Call::Cancel = call {
                     let mut first = scene.records[1].clone();
-                    first[967..].copy_from_slice(&record[967..]);
+                    first[967..975].copy_from_slice(&record[967..975]);
+                    first[979..].copy_from_slice(&record[979..]);
                     assert!(!allowed || done.record == first, "as after a first Load in all but the answer kept");
                 }
                 if let Call::Read = call {
@@ -106,9 +107,10 @@ fn the_answer_stays_until_a_load_is_accepted() {
         let again = sides::call(answered, &start, random).record;
         assert!(again == sides::call(loaded_with, &start, random).record);
         assert_eq!(sides::call(&again, &Call::Read, random).answer, told);
-        assert!(again[..967] == sides::call(loaded, &start, random).record[..967]);
+        let anew = sides::call(loaded, &start, random).record;
+        assert!(again[..967] == anew[..967] && again[975..979] == anew[975..979]);
         let record = Record::of(&again).unwrap();
-        assert_eq!((record.states, record.links, record.yes), (vec![], 0, false));
+        assert_eq!((record.states, record.links, record.passed, record.yes), (vec![], 0, 0, false));
         let load = Call::Load(scene.lent.lends());
         for record in [answered, loaded_with] {
             let done = sides::call(record, &load, random);

@@ -45,7 +45,10 @@ fn compare(case: &Case, random: &mut Random) {
             {
                 let told = ask(&case.plan, &case.branch, &node_table, &state_table, upper, lower);
                 let want = on_tables(reading, &case.plan, &case.branch, &node_table, &state_table, upper, lower);
-                assert_eq!(told.map(|t| (t.state, t.yes, t.links as usize)), want.map(|t| (t.state, t.yes, t.links)));
+                assert_eq!(
+                    told.map(|t| (t.state, t.yes, t.links as usize, t.passed as usize)),
+                    want.map(|t| (t.state, t.yes, t.links, t.passed))
+                );
             }
         }
     }
@@ -99,19 +102,20 @@ fn in_place(case: &Case, m: usize, random: &mut Random) {
     let left = reference::lists::differing(case.labels(), &nodes, &labels);
     assert_eq!(layers::roots(case.n, &node_table, &left, &mut roots), parts as usize);
     let roots = &roots[..parts as usize];
-    let (sizes, mut states, mut links) = ((case.n, case.s, case.k), Vec::new(), 0);
+    let (sizes, mut states, mut links, mut passed) = ((case.n, case.s, case.k), Vec::new(), 0, 0);
     for _ in 0..parts {
         let (plan, rules) = (&case.plan, &case.rules);
         let told =
             layers::part(sizes, plan, rules, &node_table, &state_table, roots, &states, &nodes, &labels).unwrap();
-        states.push(told.0);
-        links += told.1;
+        states.push(told.state);
+        links += told.links;
+        passed += told.passed;
         assert_eq!(placed.advance(&lends), session::advance(&mut record, plan, rules, &node_table, &state_table));
         assert_eq!(placed.links(), links);
     }
     let answer = session::read(&record).unwrap();
     assert_eq!(placed.read(), Ok(answer));
-    assert_eq!((answer.state, answer.links), (states[states.len() - 1], links));
+    assert_eq!((answer.state, answer.links, answer.passed), (states[states.len() - 1], links, passed));
 }
 
 #[test]

@@ -15,7 +15,7 @@ use crate::formats::{read_plan, read_rules};
 use crate::fresh::{changed, check_list, fresh_run};
 use crate::mistakes::{made, Mistake};
 use crate::panel::{Answer, Call, Lends, Phase, Sizes, Told};
-use crate::parts::{Given, Part};
+use crate::parts::{totals, Given, Part};
 use crate::ready::by_marks;
 use crate::session::named;
 use crate::tables::rule_tables;
@@ -263,19 +263,19 @@ impl Start {
     }
 
     /// "the root state, and its yes or no, of a fresh run (.. on Start's plan with the listed labels changed), the
-    /// parts, and as links the moves of its parts' climbs"
+    /// parts, and as links the moves of its parts' climbs", and the nodes that these pass over
     fn fresh_answer(&self) -> Told {
         let fresh = fresh_run(&self.plan, &self.rules, &self.nodes, &self.labels).expect("sound");
         let roots = &self.roots;
-        let links: usize = self.on(&self.state_table, |given| given.parts(roots)).iter().map(|part| part.links).sum();
-        Told { state: fresh.state as u32, yes: fresh.yes, parts: roots.len() as u32, links: links as u32 }
+        let (links, passed) = totals(&self.on(&self.state_table, |given| given.parts(roots)));
+        Told { state: fresh.state as u32, yes: fresh.yes, parts: roots.len() as u32, links, passed }
     }
 
     /// What the rule gave on the bytes that were lent.
     fn rule_answer(&self, parts: &[Part]) -> Told {
         let rules = read_rules(&self.rules).expect("firm");
         let state = parts[parts.len() - 1].state;
-        let links: usize = parts.iter().map(|part| part.links).sum();
-        Told { state: state as u32, yes: rules.accepts(state), parts: parts.len() as u32, links: links as u32 }
+        let (links, passed) = totals(parts);
+        Told { state: state as u32, yes: rules.accepts(state), parts: parts.len() as u32, links, passed }
     }
 }

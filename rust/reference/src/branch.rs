@@ -1,7 +1,7 @@
 //! Branch questions, twice: by the word itself (`by_word`, what holds on tables as built), and on lent tables, whatever
 //! they hold (`on_tables`: it follows the lent links and maps).
 
-use crate::climb::{climb, Lent, Links, Move};
+use crate::climb::{climb, passed, Lent, Links, Move};
 use crate::formats::{number, Branch, Plan, MAX_LABELS, MAX_NODES, MAX_STATES};
 use crate::mistakes::{made, unless, Mistake};
 use crate::tables::labels_down;
@@ -21,6 +21,7 @@ pub struct Answer {
     pub state: u8,
     pub yes: bool,
     pub links: usize,
+    pub passed: usize,
 }
 
 /// "The word runs from the upper node to the lower, both included"; or "from below the upper node; the same node twice is
@@ -47,7 +48,7 @@ pub fn by_word(
     let rest = labels_down(tree, plan.labels, upper, lower);
     let state = rest.iter().fold(first, |s, &a| branch.step(s, a));
     let links = climb(tree, lower, tree.depth[upper])?.len();
-    Ok(Answer { state, yes: branch.accepts(state), links })
+    Ok(Answer { state, yes: branch.accepts(state), links, passed: tree.depth[lower] - tree.depth[upper] })
 }
 
 /// Lent bytes with the counts that the headers name, of the lengths that these need.
@@ -100,13 +101,13 @@ pub fn on_tables(
         return Err(16);
     }
     let moves = climb(&lent.tree, lower, lent.tree.depth(upper))?;
-    lent.answer(reading, upper, &moves)
+    lent.answer(reading, upper, lower, &moves)
 }
 
 impl Question<'_> {
     /// The climb carries a map, from the state after the label of the node reached down to the state after the lower
     /// node's. It is whole, so a move is read for every state, also for those that the answer doesn't need.
-    fn answer(&self, reading: Reading, upper: usize, moves: &[Move]) -> Result<Answer, u32> {
+    fn answer(&self, reading: Reading, upper: usize, lower: usize, moves: &[Move]) -> Result<Answer, u32> {
         let mut carried: Vec<usize> = (0..self.s).collect();
         for &one in moves {
             let entered = (0..self.s).map(|q| self.through(one, q)).collect::<Result<Vec<usize>, u32>>()?;
@@ -116,7 +117,8 @@ impl Question<'_> {
         }
         let state = carried[self.first(reading, upper)?];
         let yes = unless(Mistake::AnyMarkIsYes, self.marks[state] == 1, self.marks[state] != 0);
-        Ok(Answer { state: state as u8, yes, links: moves.len() })
+        let passed = passed(&self.tree, lower, moves, self.tree.depth(upper));
+        Ok(Answer { state: state as u8, yes, links: moves.len(), passed })
     }
 
     /// The state that the word below the upper node starts in; from below it the upper node's label is not read, and so can't

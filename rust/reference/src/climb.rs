@@ -39,6 +39,23 @@ pub fn climb(links: &impl Links, w: usize, t: usize) -> Result<Vec<Move>, u32> {
     Ok(moves)
 }
 
+/// "How many nodes it passed over: the depth of its start less the depth of its end", by the depths of what is climbed on.
+/// `to` is the depth that was asked for.
+pub fn passed(links: &impl Links, w: usize, moves: &[Move], to: usize) -> usize {
+    let end = moves.last().map_or(w, |&last| match last {
+        Move::ByJump(v) => links.jump(v),
+        Move::ToParent(v) => links.parent(v),
+    });
+    let fallen = links.depth(w) - links.depth(end);
+    let wrong = links.depth(w).saturating_sub(to);
+    let right = unless(Mistake::PassedToTheDepthAsked, fallen, wrong);
+    if made(Mistake::PassedCountsMoves) {
+        moves.len()
+    } else {
+        unless(Mistake::PassedBetween, right, right.saturating_sub(1))
+    }
+}
+
 impl Links for crate::tree::Tree {
     fn nodes(&self) -> usize {
         self.parent.len()

@@ -2,7 +2,7 @@
 //! where "a value read leads outside the plan, the states or the labels, or a climb doesn't rise". N, S and K are the
 //! record's; no header is read.
 
-use crate::climb::{climb, Lent, Links, Move};
+use crate::climb::{climb, passed, Lent, Links, Move};
 use crate::mistakes::{made, unless, Mistake};
 use crate::panel::{Lends, Sizes};
 use crate::parts::Part;
@@ -78,12 +78,12 @@ impl<'a> View<'a> {
         let a = self.own_label(nodes, labels, v) as usize;
         if self.kinds[v] == 0 {
             let state = self.state(self.leaf[self.label(a)?])?;
-            return Ok(Part { state, links: 0 });
+            return Ok(Part { state, links: 0, passed: 0 });
         }
         let (left, right) = self.children(v)?;
         let last_below = |c: usize| handled.iter().copied().rfind(|&(w, _)| self.is_below(w, c));
         let depth = self.tree.depth(v) + 1;
-        let unmoved = |state: u8| Part { state, links: 0 };
+        let unmoved = |state: u8| Part { state, links: 0, passed: 0 };
         let (l, r) = match (last_below(left), last_below(right)) {
             (Some(w), None) | (None, Some(w)) if made(Mistake::ClimbToTheRoot) => return self.climbed(w, depth - 1),
             (Some(f), Some(_)) if made(Mistake::SiblingFromOldRun) => (unmoved(f.1), unmoved(self.run(right)?)),
@@ -92,7 +92,8 @@ impl<'a> View<'a> {
             (None, Some(g)) => (unmoved(self.run(left)?), self.climbed(g, depth)?),
             (Some(f), Some(g)) => (unmoved(f.1), unmoved(g.1)),
         };
-        Ok(Part { state: self.rule(l.state, a, r.state)?, links: l.links + r.links })
+        let state = self.rule(l.state, a, r.state)?;
+        Ok(Part { state, links: l.links + r.links, passed: l.passed + r.passed })
     }
 
     /// "v's own label, as changed": the last entry of a node holds.
@@ -112,7 +113,10 @@ impl<'a> View<'a> {
                 Move::ToParent(v) => self.to_parent(v, q)?,
             };
         }
-        Ok(Part { state: q, links: moves.len() })
+        // the part's own root, above the node where the climb ends
+        let from_upper = self.tree.depth(w).saturating_sub(depth.saturating_sub(1));
+        let passed = unless(Mistake::PassedFromUpper, passed(&self.tree, w, &moves, depth), from_upper);
+        Ok(Part { state: q, links: moves.len(), passed })
     }
 
     /// v is the right child where its parent is the next node.

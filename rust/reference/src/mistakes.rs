@@ -35,6 +35,20 @@ pub enum Mistake {
     CleanForEver,
     /// Finished is told one part too early.
     FinishedEarly,
+    /// The moves of a climb are told as the nodes that it passed over.
+    PassedCountsMoves,
+    /// The nodes strictly between a climb's start and its end are told.
+    PassedBetween,
+    /// The nodes passed over are taken from the part's root, which is above the climb's end.
+    PassedFromUpper,
+    /// They are taken from the depth that was asked for, whatever depth the climb ends at.
+    PassedToTheDepthAsked,
+    /// Read tells the links in their place.
+    PassedToldAsLinks,
+    /// A Start goes on counting the nodes that the question before passed over.
+    PassedKept,
+    /// A record may have more links than nodes passed over.
+    PassedFree,
     /// A Start goes on counting the links of the question before.
     LinksKept,
     /// Cancel empties the last finished answer.

@@ -29,13 +29,14 @@ pub enum Answer {
     Told(Told),
 }
 
-/// "state, yes or no, parts, links"
+/// "state, yes or no, parts, links", and the nodes passed over (document 02, S-7), last
 #[derive(Clone, Copy, Debug, PartialEq, Eq)]
 pub struct Told {
     pub state: u32,
     pub yes: bool,
     pub parts: u32,
     pub links: u32,
+    pub passed: u32,
 }
 
 /// "Load is allowed unless running; Start in loaded or answered; advance and Cancel in running"; Read, whatever the state,

@@ -15,11 +15,18 @@ pub struct Given<'a> {
     pub state_table: &'a [u8],
 }
 
-/// The state of a part, and the moves of its climb.
+/// The state of a part, the moves of its climb and the nodes passed over.
 #[derive(Clone, Copy, Debug, PartialEq, Eq)]
 pub struct Part {
     pub state: u8,
     pub links: usize,
+    pub passed: usize,
+}
+
+/// The links of all parts, and the nodes passed over.
+pub fn totals(parts: &[Part]) -> (u32, u32) {
+    let sum = |of: fn(&Part) -> usize| parts.iter().map(of).sum::<usize>() as u32;
+    (sum(|part| part.links), sum(|part| part.passed))
 }
 
 impl Given<'_> {
@@ -36,30 +43,29 @@ impl Given<'_> {
     pub fn part(&self, members: &[usize], handled: &[Part], v: usize) -> Part {
         let a = unless(Mistake::OldLabel, self.changed[v], self.labels[v]);
         let (left, right) = match self.tree.children[v] {
-            None => return Part { state: self.rules.leaf(a), links: 0 },
+            None => return Part { state: self.rules.leaf(a), links: 0, passed: 0 },
             Some(children) => children,
         };
-        let (p, q, links) = match (self.highest(members, left), self.highest(members, right)) {
-            (None, None) => (self.run(left), self.run(right), 0),
+        let unmoved = |state: u8| Part { state, links: 0, passed: 0 };
+        let (l, r) = match (self.highest(members, left), self.highest(members, right)) {
+            (None, None) => (unmoved(self.run(left)), unmoved(self.run(right))),
             (Some(w), None) | (None, Some(w)) if made(Mistake::ClimbToTheRoot) => {
-                let (state, links) = self.climbed(w, state(members, handled, w), self.tree.depth[v]);
-                return Part { state, links };
+                return self.climbed(w, state(members, handled, w), self.tree.depth[v]);
             }
             (Some(_), Some(_)) if made(Mistake::SiblingFromOldRun) => {
-                (state(members, handled, left), self.run(right), 0)
+                (unmoved(state(members, handled, left)), unmoved(self.run(right)))
             }
             // "With members below both children it takes theirs": both children are members
-            (Some(_), Some(_)) => (state(members, handled, left), state(members, handled, right), 0),
+            (Some(_), Some(_)) => (unmoved(state(members, handled, left)), unmoved(state(members, handled, right))),
             (Some(w), None) => {
-                let (p, links) = self.climbed(w, state(members, handled, w), self.tree.depth[v] + 1);
-                (p, self.run(right), links)
+                (self.climbed(w, state(members, handled, w), self.tree.depth[v] + 1), unmoved(self.run(right)))
             }
             (None, Some(w)) => {
-                let (q, links) = self.climbed(w, state(members, handled, w), self.tree.depth[v] + 1);
-                (self.run(left), q, links)
+                (unmoved(self.run(left)), self.climbed(w, state(members, handled, w), self.tree.depth[v] + 1))
             }
         };
-        Part { state: self.rules.inner(p, a, q), links }
+        let state = self.rules.inner(l.state, a, r.state);
+        Part { state, links: l.links + r.links, passed: l.passed + r.passed }
     }
 
     /// The highest member below a child, the child included; the others are all below it.
@@ -72,7 +78,8 @@ impl Given<'_> {
     }
 
     /// "a jump applies the map, and a move to the parent applies the parent's label and the other child's run state"
-    fn climbed(&self, w: usize, from: u8, depth: usize) -> (u8, usize) {
+    /// A tree's climb ends at the depth asked for, so that is its end's.
+    fn climbed(&self, w: usize, from: u8, depth: usize) -> Part {
         let moves = climb(self.tree, w, depth).expect("a climb in a tree");
         let mut q = from;
         for &one in &moves {
@@ -90,7 +97,7 @@ impl Given<'_> {
                 }
             };
         }
-        (q, moves.len())
+        Part { state: q, links: moves.len(), passed: self.tree.depth[w] - depth }
     }
 
     fn run(&self, v: usize) -> u8 {

@@ -20,6 +20,8 @@
 //! | 969 | 1 | its yes 1, its no 0 |
 //! | 970 | 1 | its parts |
 //! | 971 | 4 | its links |
+//! | 975 | 4 | the nodes passed over so far |
+//! | 979 | 4 | those of the answer that is kept |
 //!
 //! Numbers of more than one byte are little-endian, and unused entries are zero; so is all of an answer that is not there.
 
@@ -28,7 +30,7 @@ use crate::fresh::MAX_CHANGES;
 use crate::mistakes::{made, Mistake};
 use crate::panel::{Phase, Sizes, Told};
 
-pub const RECORD_BYTES: usize = 975;
+pub const RECORD_BYTES: usize = 983;
 /// 4 × 64 - 2.
 pub const MAX_PARTS: usize = 254;
 
@@ -38,6 +40,7 @@ pub struct Record {
     pub yes: bool,
     pub sizes: Sizes,
     pub links: u32,
+    pub passed: u32,
     pub nodes: Vec<u16>,
     pub labels: Vec<u8>,
     pub roots: Vec<u16>,
@@ -63,13 +66,14 @@ impl Record {
 
     fn idle(phase: Phase, sizes: Sizes) -> Record {
         let (nodes, labels, roots, states) = (vec![], vec![], vec![], vec![]);
-        Record { phase, yes: false, sizes, links: 0, nodes, labels, roots, states, last: None }
+        Record { phase, yes: false, sizes, links: 0, passed: 0, nodes, labels, roots, states, last: None }
     }
 
     /// What the record of an answered question has of its answer.
     pub fn answer(&self) -> Option<Told> {
         let state = *self.states.last()? as u32;
-        Some(Told { state, yes: self.yes, parts: self.roots.len() as u32, links: self.links })
+        let parts = self.roots.len() as u32;
+        Some(Told { state, yes: self.yes, parts, links: self.links, passed: self.passed })
     }
 
     pub fn bytes(&self) -> Vec<u8> {
@@ -86,7 +90,9 @@ impl Record {
             (self.labels.clone(), 205),
             (doubled(&self.roots), 713),
             (self.states.clone(), 967),
-            (self.last.map_or(vec![], |last| last_bytes(&last).to_vec()), RECORD_BYTES),
+            (self.last.map_or(vec![], |last| last_bytes(&last).to_vec()), 975),
+            (self.passed.to_le_bytes().to_vec(), 979),
+            (self.last.map_or(vec![], |last| last.passed.to_le_bytes().to_vec()), RECORD_BYTES),
         ] {
             bytes.extend(list);
             assert!(bytes.len() <= end);
@@ -109,12 +115,13 @@ impl Record {
             phase: *[Phase::Empty, Phase::Loaded, Phase::Running, Phase::Answered].get(bytes[0] as usize)?,
             yes: bytes[1] == 1,
             sizes: Sizes { n: word(bytes, 4) as usize, s: bytes[2] as usize, k: bytes[3] as usize },
-            links: u32::from_le_bytes(bytes[9..13].try_into().unwrap()),
+            links: double(bytes, 9),
+            passed: double(bytes, 975),
             nodes: (0..m).map(|i| word(bytes, 13 + 2 * i)).collect(),
             labels: bytes[141..141 + m].to_vec(),
             roots: (0..parts).map(|i| word(bytes, 205 + 2 * i)).collect(),
             states: bytes[713..713 + handled].to_vec(),
-            last: last_of(&bytes[967..]),
+            last: last_of(bytes),
         };
         // bytes that no record has: entries in use no more, a yes of 2, values of an answer that is not there
         if (record.bytes() == bytes || made(Mistake::TailsFree)) && record.holds() {
@@ -147,7 +154,7 @@ impl Record {
             let parts = last.parts as usize;
             (last.state as usize) < self.sizes.s
                 && (1..=MAX_PARTS).contains(&parts)
-                && last.links as usize <= 65_535 * parts
+                && counts_hold(last.links, last.passed, parts)
         })
     }
 
@@ -164,7 +171,7 @@ impl Record {
             && self.roots.windows(2).all(|pair| pair[0] < pair[1])
             && self.roots.last().map_or(false, |&last| last as usize == n - 1)
             && self.states.iter().all(|&q| (q as usize) < s)
-            && self.links as usize <= 65_535 * self.states.len()
+            && counts_hold(self.links, self.passed, self.states.len())
     }
 }
 
@@ -175,9 +182,19 @@ fn last_bytes(last: &Told) -> [u8; 8] {
 
 /// Any bytes but a 0 at first are taken for an answer: `bytes` then tells whether they are one.
 fn last_of(bytes: &[u8]) -> Option<Told> {
-    let links = u32::from_le_bytes(bytes[4..8].try_into().unwrap());
-    let told = Told { state: bytes[1] as u32, yes: bytes[2] == 1, parts: bytes[3] as u32, links };
-    Some(told).filter(|_| bytes[0] != 0)
+    let [there, state, yes, parts] = [967, 968, 969, 970].map(|at| bytes[at]);
+    let (links, passed) = (double(bytes, 971), double(bytes, 979));
+    let told = Told { state: state as u32, yes: yes == 1, parts: parts as u32, links, passed };
+    Some(told).filter(|_| there != 0)
+}
+
+/// Each move passes over a node at least, and each climb over 65,535 at most: "links ≤ passed ≤ 65,535 for each part".
+fn counts_hold(links: u32, passed: u32, parts: usize) -> bool {
+    (links <= passed || made(Mistake::PassedFree)) && passed as usize <= 65_535 * parts
+}
+
+fn double(bytes: &[u8], at: usize) -> u32 {
+    u32::from_le_bytes(bytes[at..at + 4].try_into().unwrap())
 }
 
 fn word(bytes: &[u8], at: usize) -> u16 {

@@ -13,6 +13,11 @@ pub fn table_a() -> Vec<u8> {
     write::rules(2, 2, &[0, 1], &[0, 1, 0, 0, 1, 1, 0, 1], &[0, 1])
 }
 
+/// The design's control, in which the nodes passed over are more than the links: N 13.
+pub fn plan_with_a_gap() -> Vec<u8> {
+    write::plan(&[0, 0, 0, 0, 1, 1, 1, 1, 0, 1, 1, 1, 0], &[0, 0, 0, 0, 1, 1, 0, 1, 0, 1, 0, 1, 1])
+}
+
 /// A question, and what is told of it, or the refusal.
 pub struct Row {
     pub nodes: &'static [u16],
@@ -20,26 +25,26 @@ pub struct Row {
     pub told: Result<Told, u32>,
 }
 
-/// "For the questions (none); 0→0; 0→0 2→0; 0→0 3→1; 4→0; 6→0; 7→0; 0→2; 0→0 0→1 it prints": state, yes or no, parts and
-/// links, or the refusal.
+/// "For the questions (none); 0→0; 0→0 2→0; 0→0 3→1; 4→0; 6→0; 7→0; 0→2; 0→0 0→1 it prints": state, yes or no, parts,
+/// links and nodes passed over, or the refusal. Here these are as many as the links.
 pub const ROWS: [Row; 9] = [
-    row(&[], &[], told(1, true, 1, 0)),
-    row(&[0], &[0], told(0, false, 2, 1)),
-    row(&[0, 2], &[0, 0], told(1, true, 3, 0)),
-    row(&[0, 3], &[0, 1], told(0, false, 5, 0)),
-    row(&[4], &[0], told(0, false, 2, 1)),
-    row(&[6], &[0], told(1, true, 1, 0)),
+    row(&[], &[], told(1, true, 1, 0, 0)),
+    row(&[0], &[0], told(0, false, 2, 1, 1)),
+    row(&[0, 2], &[0, 0], told(1, true, 3, 0, 0)),
+    row(&[0, 3], &[0, 1], told(0, false, 5, 0, 0)),
+    row(&[4], &[0], told(0, false, 2, 1, 1)),
+    row(&[6], &[0], told(1, true, 1, 0, 0)),
     row(&[7], &[0], Err(13)),
     row(&[0], &[2], Err(14)),
-    row(&[0, 0], &[0, 1], told(1, true, 1, 0)),
+    row(&[0, 0], &[0, 1], told(1, true, 1, 0, 0)),
 ];
 
 const fn row(nodes: &'static [u16], labels: &'static [u8], told: Result<Told, u32>) -> Row {
     Row { nodes, labels, told }
 }
 
-const fn told(state: u32, yes: bool, parts: u32, links: u32) -> Result<Told, u32> {
-    Ok(Told { state, yes, parts, links })
+const fn told(state: u32, yes: bool, parts: u32, links: u32, passed: u32) -> Result<Told, u32> {
+    Ok(Told { state, yes, parts, links, passed })
 }
 
 impl Row {

@@ -5,7 +5,7 @@ use crate::fresh::check_list;
 use crate::lent::View;
 use crate::lists::differing;
 use crate::mistakes::{made, unless, Mistake};
-use crate::panel::{Answer, Call, Lends, Phase, Sizes};
+use crate::panel::{Answer, Call, Lends, Phase, Sizes, Told};
 use crate::record::Record;
 use crate::tables::Tables;
 use crate::{build, check};
@@ -47,7 +47,11 @@ impl Record {
                 let last = self.last.filter(|_| !made(Mistake::CancelEmpties));
                 Ok((Answer::Accepted, Record::loaded_with(self.sizes, last), None))
             }
-            Call::Read => Ok((Answer::Told(self.last.expect("it is there")), self, None)),
+            Call::Read => {
+                let last = self.last.expect("it is there");
+                let passed = unless(Mistake::PassedToldAsLinks, last.passed, last.links);
+                Ok((Answer::Told(Told { passed, ..last }), self, None))
+            }
         }
     }
 
@@ -72,6 +76,7 @@ impl Record {
         let record = Record {
             phase: Phase::Running,
             links: unless(Mistake::LinksKept, 0, self.links),
+            passed: unless(Mistake::PassedKept, 0, self.passed),
             nodes: nodes.to_vec(),
             labels: labels.to_vec(),
             roots: roots.iter().map(|&v| v as u16).collect(),
@@ -80,7 +85,7 @@ impl Record {
         Ok((answer, record, None))
     }
 
-    /// 17, 18. One more state, and its links. "Filled by the advance that finishes."
+    /// 17, 18. One more state, its links and the nodes passed over. "Filled by the advance that finishes."
     fn advance(mut self, lends: Lends) -> Result<After, u32> {
         self.sizes.fit(&lends)?;
         let view = View::new(self.sizes, &lends);
@@ -89,6 +94,7 @@ impl Record {
         let part = view.part(&handled, &self.nodes, &self.labels, v)?;
         self.states.push(part.state);
         self.links += part.links as u32;
+        self.passed += part.passed as u32;
         if self.states.len() + unless(Mistake::FinishedEarly, 0, 1) < self.roots.len() {
             return Ok((Answer::More, self, None));
         }

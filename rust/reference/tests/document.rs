@@ -100,13 +100,13 @@ fn branch_words_run_downward() {
     let ask = |upper, lower| by_word(Reading::WithUpper, &tree, &plan, &branch, upper, lower);
     let below = |upper, lower| by_word(Reading::BelowUpper, &tree, &plan, &branch, upper, lower);
     // labels 1 0 0 from the root by node 5 to node 3, label 0 alone at node 3, labels 0 0 from node 5
-    assert_eq!(ask(6, 3), Ok(Answer { state: 2, yes: true, links: 2 }));
-    assert_eq!(ask(3, 3), Ok(Answer { state: 0, yes: false, links: 0 }));
-    assert_eq!(ask(5, 3), Ok(Answer { state: 0, yes: false, links: 1 }));
+    assert_eq!(ask(6, 3), Ok(Answer { state: 2, yes: true, links: 2, passed: 2 }));
+    assert_eq!(ask(3, 3), Ok(Answer { state: 0, yes: false, links: 0, passed: 0 }));
+    assert_eq!(ask(5, 3), Ok(Answer { state: 0, yes: false, links: 1, passed: 1 }));
     // from below: labels 0 0, no label, label 0
-    assert_eq!(below(6, 3), Ok(Answer { state: 0, yes: false, links: 2 }));
-    assert_eq!(below(3, 3), Ok(Answer { state: 0, yes: false, links: 0 }));
-    assert_eq!(below(5, 3), Ok(Answer { state: 0, yes: false, links: 1 }));
+    assert_eq!(below(6, 3), Ok(Answer { state: 0, yes: false, links: 2, passed: 2 }));
+    assert_eq!(below(3, 3), Ok(Answer { state: 0, yes: false, links: 0, passed: 0 }));
+    assert_eq!(below(5, 3), Ok(Answer { state: 0, yes: false, links: 1, passed: 1 }));
     for ask in [&ask as &dyn Fn(u32, u32) -> _, &below] {
         assert_eq!(ask(5, 0), Err(16));
         assert_eq!(ask(3, 5), Err(16));

@@ -3,7 +3,7 @@
 
 use crate::input::Input;
 use crate::outcome::Failure;
-use crate::sentences::count;
+use crate::sentences::{climbed, count};
 use reference::formats::number;
 use whatif::sizes::{node_table_len, state_table_len, MAX_NODES, MAX_STATES};
 use whatif::{BranchVerdict, Refusal};
@@ -82,8 +82,9 @@ impl Asked {
         let from = if self.reading == Reading::WithUpper { "from" } else { "from below" };
         let (upper, lower) = (self.path[0], self.path[self.path.len() - 1]);
         let yes = if self.verdict.yes { "yes" } else { "no" };
-        let links = count(self.verdict.links as usize, "link");
-        format!("{} node {} down to node {}: {}, state {}, {}", from, upper, lower, yes, self.verdict.state, links)
+        let BranchVerdict { state, links, passed, .. } = self.verdict;
+        let told = format!("{}, state {}, {}", yes, state, climbed(links, passed));
+        format!("{} node {} down to node {}: {}", from, upper, lower, told)
     }
 
     /// The places on the path that are told, and how many are left out after the first of them.

@@ -9,7 +9,7 @@ use reference::climb::{climb, Links};
 
 const HEAD: &str = "\
 // The roots of the parts alone. A box is a listed node, with the label it is to take.
-// A full line leads to a child, a dashed one is a climb: so many nodes up, in so many links.
+// A full line leads to a child, a dashed one is a climb: so many nodes are passed over, in so many links.
 digraph outline {
     graph [ordering=out, labelloc=t, fontname=\"sans-serif\", fontsize=20];
     graph [size=\"7.5,10.5\", nodesep=0.15, ranksep=0.35];
@@ -20,6 +20,9 @@ const CLEARED: &str = "#9ed89e";
 const NOT_CLEARED: &str = "#f2a0a0";
 const CHANGED: &str = "#ffdca8";
 const AS_BEFORE: &str = "#ffffff";
+/// What is passed over, drawn lightly.
+const LINE: &str = "#bbbbbb";
+const WORDS: &str = "#777777";
 
 /// Of one of the questions, counted from 1.
 pub fn of_question(input: &Input, question: usize) -> Result<String, Failure> {
@@ -33,7 +36,7 @@ pub fn of_question(input: &Input, question: usize) -> Result<String, Failure> {
 pub struct Edge {
     pub above: usize,
     pub root: usize,
-    /// The nodes up to the child of `above`, and the links that lead there.
+    /// The nodes passed over up to the child of `above`, and the links that lead there.
     pub climb: Option<(usize, usize)>,
 }
 
@@ -63,8 +66,10 @@ fn picture(loaded: &Loaded, asked: &Asked, question: usize, changes: &[Change]) 
         text += &format!("    {} [label=\"{}\"{}];\n", v, words, look(loaded, asked, v, after, to.is_some()));
     }
     for edge in edges(loaded, &asked.roots) {
-        let climbed =
-            |(up, links)| format!(" [style=dashed, label=\" {} up in {} \"]", count(up, "node"), count(links, "link"));
+        let climbed = |(passed, links)| {
+            let words = format!("{} passed over in {}", count(passed, "node"), count(links, "link"));
+            format!(" [style=dashed, color=\"{}\", fontcolor=\"{}\", label=\" {} \"]", LINE, WORDS, words)
+        };
         text += &format!("    {} -> {}{};\n", edge.above, edge.root, edge.climb.map_or(String::new(), climbed));
     }
     text + "}\n"

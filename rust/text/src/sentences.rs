@@ -19,8 +19,13 @@ pub fn verdict(yes: bool) -> &'static str {
 }
 
 pub fn answer(answer: &Answer) -> String {
-    let (parts, links) = (count(answer.parts as usize, "part"), count(answer.links as usize, "link"));
-    format!("{}, state {}, {}, {}", verdict(answer.yes), answer.state, parts, links)
+    let parts = count(answer.parts as usize, "part");
+    format!("{}, state {}, {}, {}", verdict(answer.yes), answer.state, parts, climbed(answer.links, answer.passed))
+}
+
+/// The moves of climbs, and the nodes that they passed over.
+pub fn climbed(links: u32, passed: u32) -> String {
+    format!("{}, {} passed over", count(links as usize, "link"), count(passed as usize, "node"))
 }
 
 /// A question as the text has it.

@@ -14,21 +14,21 @@ fn drawn(question: usize) -> Result<String, Failure> {
 
 #[test]
 fn one_change_has_two_parts() {
-    let expected = r#"    0 [label="0: 1 to 0\npart 1", fillcolor=1, shape=box, peripheries=2];
+    let expected = r##"    0 [label="0: 1 to 0\npart 1", fillcolor=1, shape=box, peripheries=2];
     1 [label="1: 1", fillcolor=2];
-    2 [label="2: 1", fillcolor=2];
+    2 [label="2: 1", fillcolor="#ffffff", color="#bbbbbb", fontcolor="#999999"];
     3 [label="3: 0", fillcolor=2];
     4 [label="4: 1", fillcolor=2];
     5 [label="5: 0", fillcolor=2];
     6 [label="6: 1\npart 2", fillcolor=2, peripheries=2];
-    2 -> 0 [style=dashed];
+    2 -> 0 [style=dashed, color="#bbbbbb", fontcolor="#999999"];
     2 -> 1;
     5 -> 3;
     5 -> 4;
     6 -> 2;
     6 -> 5;
 }
-"#;
+"##;
     assert_eq!(drawn(2).as_deref(), Ok(expected));
 }
 

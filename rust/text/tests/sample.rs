@@ -46,7 +46,10 @@ fn answers(nodes: &[u16], labels: &[u8]) -> String {
     }
     while step(Call::Advance(lends)) == Answer::More {}
     match step(Call::Read) {
-        Answer::Told(t) => format!("{} {} {} {}\n", t.state, if t.yes { "yes" } else { "no" }, t.parts, t.links),
+        Answer::Told(t) => {
+            let yes = if t.yes { "yes" } else { "no" };
+            format!("{} {} {} {} {}\n", t.state, yes, t.parts, t.links, t.passed)
+        }
         other => panic!("{:?}", other),
     }
 }

@@ -48,7 +48,8 @@ fn the_largest_plan() {
     println!("{} changes in {:?}", 65_535 * 63, begun.elapsed());
 }
 
-/// The links of the climbs that an outline shows are those that the library counts.
+/// The links of the climbs that an outline shows, and the nodes that they pass over, are those that the library counts; a picture of
+/// the whole plan draws as many nodes lightly.
 #[test]
 fn climbs_of_outlines() {
     for shape in ["arch", "comb", "balanced", "random"] {
@@ -56,9 +57,13 @@ fn climbs_of_outlines() {
         let loaded = Loaded::new(&input.plan, &input.rules).unwrap();
         for question in &input.questions {
             let asked = loaded.ask(question).unwrap();
-            let links: usize =
-                edges(&loaded, &asked.roots).iter().filter_map(|edge| edge.climb).map(|climb| climb.1).sum();
-            assert_eq!(links, asked.answer.links as usize);
+            let edges = edges(&loaded, &asked.roots);
+            let climbs = || edges.iter().filter_map(|edge| edge.climb);
+            assert_eq!(climbs().map(|climb| climb.1).sum::<usize>(), asked.answer.links as usize);
+            assert_eq!(climbs().map(|climb| climb.0).sum::<usize>(), asked.answer.passed as usize);
+            let drawn = text::dot::picture(&input.plan, question).unwrap();
+            let light = drawn.lines().filter(|line| line.contains("[label=") && line.contains("fillcolor=\"#ffffff\""));
+            assert_eq!(light.count(), asked.answer.passed as usize);
         }
     }
 }

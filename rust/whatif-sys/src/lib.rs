@@ -87,6 +87,7 @@ extern "C" {
         state: *mut u32,
         yes: *mut u32,
         links: *mut u32,
+        passed: *mut u32,
     ) -> u32;
 
     /// The branch question with the upper node's label: the word from `upper` down to `lower`, both included.
@@ -104,6 +105,7 @@ extern "C" {
         state: *mut u32,
         yes: *mut u32,
         links: *mut u32,
+        passed: *mut u32,
     ) -> u32;
 
     /// How many choices of labels for the nodes listed end in each state?
@@ -241,5 +243,6 @@ extern "C" {
         yes: *mut u32,
         parts: *mut u32,
         links: *mut u32,
+        passed: *mut u32,
     ) -> u32;
 }

@@ -64,7 +64,7 @@ pub use session::{Answer, Lent, Progress, Session, State};
 pub const VERSION: &str = env!("CARGO_PKG_VERSION");
 
 /// This crate's version, as major * 10000 + minor * 100 + patch: that of the archive it is made for.
-pub const VERSION_NUMBER: u32 = 700;
+pub const VERSION_NUMBER: u32 = 800;
 
 /// The version of the archive that is linked.
 ///
@@ -94,6 +94,8 @@ pub struct BranchVerdict {
     pub yes: bool,
     /// The moves of the climb from the lower node to the upper's depth.
     pub links: u32,
+    /// The nodes that it passed over: the depth of its start less the depth of its end.
+    pub passed: u32,
 }
 
 /// Writes the tables of a plan and a rule table into the first `4N` numbers and `(S+1)N` bytes of the lent buffers; the
@@ -157,9 +159,9 @@ pub fn branch_check(plan: &[u8], branch: &[u8], node_table: &[u16], state_table:
 ///
 /// // from below the root 2 down to leaf 0 the word is 1; from below leaf 0 down to leaf 0 it is empty
 /// let told = whatif::branch(&plan, &branch, &node_table, &state_table, 2, 0)?;
-/// assert_eq!((told.state, told.yes, told.links), (1, true, 1));
+/// assert_eq!((told.state, told.yes, told.links, told.passed), (1, true, 1, 1));
 /// let told = whatif::branch(&plan, &branch, &node_table, &state_table, 0, 0)?;
-/// assert_eq!((told.state, told.yes, told.links), (0, false, 0));
+/// assert_eq!((told.state, told.yes, told.links, told.passed), (0, false, 0, 0));
 /// let refused = whatif::branch(&plan, &branch, &node_table, &state_table, 0, 65_536);
 /// assert_eq!(refused, Err(whatif::Refusal::Node));
 /// # Ok(())
@@ -173,13 +175,13 @@ pub fn branch(
     upper: u32,
     lower: u32,
 ) -> Result<BranchVerdict, Refusal> {
-    let mut told = [0; 3];
+    let mut told = [0; 4];
     accepted(slices::branch(plan, branch, node_table, state_table, [upper, lower], &mut told))?;
     Ok(branch_verdict(told))
 }
 
 /// The same with the upper node's label: the labels from node `upper` down to node `lower`, both included. The same node
-/// twice is a word of one letter. Refused as `branch` is, and the links are the same.
+/// twice is a word of one letter. Refused as `branch` is; links and nodes passed over are the same.
 ///
 /// ```
 /// # fn main() -> Result<(), whatif::Refusal> {
@@ -193,7 +195,7 @@ pub fn branch(
 /// whatif::branch_build(&plan, &branch, &mut node_table, &mut state_table)?;
 ///
 /// let told = whatif::branch_with_upper(&plan, &branch, &node_table, &state_table, 0, 0)?;
-/// assert_eq!((told.state, told.yes, told.links), (1, true, 0));
+/// assert_eq!((told.state, told.yes, told.links, told.passed), (1, true, 0, 0));
 /// # Ok(())
 /// # }
 /// ```
@@ -205,13 +207,13 @@ pub fn branch_with_upper(
     upper: u32,
     lower: u32,
 ) -> Result<BranchVerdict, Refusal> {
-    let mut told = [0; 3];
+    let mut told = [0; 4];
     accepted(slices::branch_with_upper(plan, branch, node_table, state_table, [upper, lower], &mut told))?;
     Ok(branch_verdict(told))
 }
 
-fn branch_verdict([state, yes, links]: [u32; 3]) -> BranchVerdict {
-    BranchVerdict { state: state as u8, yes: yes == 1, links }
+fn branch_verdict([state, yes, links, passed]: [u32; 4]) -> BranchVerdict {
+    BranchVerdict { state: state as u8, yes: yes == 1, links, passed }
 }
 
 /// Writes one rule table that clears exactly the plans that both clear, and tells how many bytes of `merged` it has; the

@@ -3,7 +3,7 @@
 use crate::sizes::RECORD_BYTES;
 use crate::{accepted, slices, Refusal};
 
-/// A panel session: its record of 975 bytes, and nothing else. Plan, rule table and tables are lent with each call.
+/// A panel session: its record of 983 bytes, and nothing else. Plan, rule table and tables are lent with each call.
 ///
 /// The states are empty, loaded, running and answered. `load` may be called unless running, `start` in loaded or
 /// answered, `advance` and `cancel` in running, `read` in every state once a question was finished since the last
@@ -31,7 +31,7 @@ use crate::{accepted, slices, Refusal};
 /// }
 /// assert_eq!((session.state(), session.parts_done()), (Some(State::Answered), parts));
 /// let answer = session.read()?;
-/// assert_eq!((answer.state, answer.yes, answer.parts, answer.links), (0, false, 5, 0));
+/// assert_eq!((answer.state, answer.yes, answer.parts, answer.links, answer.passed), (0, false, 5, 0, 0));
 ///
 /// // a refused call changes nothing: the answer is still there
 /// let refused = session.start(&lent, &[7], &[0]);
@@ -99,6 +99,8 @@ pub struct Answer {
     pub parts: u32,
     /// The moves of its climbs.
     pub links: u32,
+    /// The nodes that its climbs passed over: of each, the depth of its start less the depth of its end.
+    pub passed: u32,
 }
 
 impl Session {
@@ -111,9 +113,9 @@ impl Session {
     /// [`Refusal::SessionState`] by every call.
     ///
     /// ```
-    /// let mut broken = whatif::Session::from_bytes([9; 975]);
+    /// let mut broken = whatif::Session::from_bytes([9; 983]);
     /// assert_eq!(broken.cancel(), Err(whatif::Refusal::SessionState));
-    /// assert_eq!(broken.as_bytes(), &[9; 975]);
+    /// assert_eq!(broken.as_bytes(), &[9; 983]);
     /// ```
     pub const fn from_bytes(record: [u8; RECORD_BYTES]) -> Session {
         Session { record }
@@ -169,10 +171,10 @@ impl Session {
 
     /// The last finished answer, in every state. Refused with 1 where none was finished since the last accepted `load`.
     pub fn read(&self) -> Result<Answer, Refusal> {
-        let mut told = [0; 4];
+        let mut told = [0; 5];
         accepted(slices::read(&self.record, &mut told))?;
-        let [state, yes, parts, links] = told;
-        Ok(Answer { state: state as u8, yes: yes == 1, parts, links })
+        let [state, yes, parts, links, passed] = told;
+        Ok(Answer { state: state as u8, yes: yes == 1, parts, links, passed })
     }
 }
 
@@ -183,7 +185,7 @@ impl Session {
     /// ```
     /// use whatif::{Session, State};
     /// assert_eq!(Session::new().state(), Some(State::Empty));
-    /// assert_eq!(Session::from_bytes([9; 975]).state(), None);
+    /// assert_eq!(Session::from_bytes([9; 983]).state(), None);
     /// ```
     pub const fn state(&self) -> Option<State> {
         match self.record[0] {

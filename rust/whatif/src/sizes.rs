@@ -20,9 +20,9 @@ pub const MAX_DEPTH: usize = 32_767;
 pub const MAX_PLANNER_NODES: usize = 32_767;
 
 /// Bytes of a session's record.
-pub const RECORD_BYTES: usize = 975;
+pub const RECORD_BYTES: usize = 983;
 /// The version of the record's layout. Records of different versions differ in length.
-pub const RECORD_LAYOUT: usize = 2;
+pub const RECORD_LAYOUT: usize = 3;
 
 /// Bytes of a plan of `n` nodes.
 pub const fn plan_bytes(n: usize) -> usize {

@@ -23,6 +23,7 @@ type Branch = unsafe extern "C" fn(
     *mut u32,
     *mut u32,
     *mut u32,
+    *mut u32,
 ) -> u32;
 
 pub fn build(plan: &[u8], rules: &[u8], node_table: &mut [u16], state_table: &mut [u8]) -> u32 {
@@ -94,14 +95,14 @@ pub fn fresh_run(plan: &[u8], rules: &[u8], nodes: &[u16], labels: &[u8], told: 
     }
 }
 
-/// Tells state, yes and links.
+/// Tells state, yes, links and nodes passed over.
 pub fn branch(
     plan: &[u8],
     branch: &[u8],
     node_table: &[u16],
     state_table: &[u8],
     [upper, lower]: [u32; 2],
-    told: &mut [u32; 3],
+    told: &mut [u32; 4],
 ) -> u32 {
     branch_by(raw::whatif_branch, plan, branch, node_table, state_table, [upper, lower], told)
 }
@@ -113,7 +114,7 @@ pub fn branch_with_upper(
     node_table: &[u16],
     state_table: &[u8],
     [upper, lower]: [u32; 2],
-    told: &mut [u32; 3],
+    told: &mut [u32; 4],
 ) -> u32 {
     branch_by(raw::whatif_branch_with_upper, plan, branch, node_table, state_table, [upper, lower], told)
 }
@@ -125,9 +126,9 @@ fn branch_by(
     node_table: &[u16],
     state_table: &[u8],
     [upper, lower]: [u32; 2],
-    told: &mut [u32; 3],
+    told: &mut [u32; 4],
 ) -> u32 {
-    let [state, yes, links] = told;
+    let [state, yes, links, passed] = told;
     // SAFETY: as in `build_by`
     unsafe {
         ask(
@@ -144,6 +145,7 @@ fn branch_by(
             state,
             yes,
             links,
+            passed,
         )
     }
 }
@@ -339,10 +341,10 @@ mod session {
         unsafe { raw::whatif_cancel(record.as_mut_ptr(), record.len()) }
     }
 
-    /// Tells state, yes, parts and links.
-    pub fn read(record: &[u8], told: &mut [u32; 4]) -> u32 {
-        let [state, yes, parts, links] = told;
+    /// Tells state, yes, parts, links and nodes passed over.
+    pub fn read(record: &[u8], told: &mut [u32; 5]) -> u32 {
+        let [state, yes, parts, links, passed] = told;
         // SAFETY: as in `load`
-        unsafe { raw::whatif_read(record.as_ptr(), record.len(), state, yes, parts, links) }
+        unsafe { raw::whatif_read(record.as_ptr(), record.len(), state, yes, parts, links, passed) }
     }
 }

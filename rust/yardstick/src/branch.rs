@@ -129,6 +129,7 @@ pub struct Told {
     pub state: u8,
     pub yes: bool,
     pub links: u32,
+    pub passed: u32,
 }
 
 /// 17: the parts of the lent bytes by the headers' N, S and K.
@@ -232,5 +233,6 @@ fn ask_by<const WITH_UPPER: bool>(
         first = branch.steps[a] as usize;
     }
     let state = *carried[..s].get(first).ok_or(18u32)?;
-    Ok(Told { state, yes: branch.marks[state as usize] == 1, links })
+    let passed = u32::from(depth(lower) - depth(v));
+    Ok(Told { state, yes: branch.marks[state as usize] == 1, links, passed })
 }

@@ -1,6 +1,6 @@
 //! The roots of a question and one part alone, on whatever is lent.
 
-use crate::question::Lent;
+use crate::question::{Lent, Part};
 
 /// How many roots there are, and the roots with zeros behind them; 0 and zeros where they are refused.
 pub fn roots(n: usize, node_table: &[u16], nodes: &[u16], out: &mut [u16; 254]) -> usize {
@@ -21,7 +21,7 @@ pub fn roots(n: usize, node_table: &[u16], nodes: &[u16], out: &mut [u16; 254]) 
 /// N, S and K.
 pub type Sizes = (usize, usize, usize);
 
-/// State and links of the part that comes next after those whose states are given.
+/// State, links and nodes passed over of the part that comes next after those whose states are given.
 #[allow(clippy::too_many_arguments)]
 pub fn part(
     (n, s, k): Sizes,
@@ -33,7 +33,7 @@ pub fn part(
     states: &[u8],
     nodes: &[u16],
     labels: &[u8],
-) -> Option<(u8, u32)> {
+) -> Option<Part> {
     if !(1..=65_535).contains(&n) || !(1..=16).contains(&s) || !(1..=64).contains(&k) || nodes.len() != labels.len() {
         return None;
     }

@@ -17,6 +17,7 @@ pub struct Session {
     parts: u8,
     handled: u8,
     links: u32,
+    passed: u32,
     nodes: [u16; 64],
     labels: [u8; 64],
     roots: [u16; 254],
@@ -46,6 +47,7 @@ impl Session {
             parts: 0,
             handled: 0,
             links: 0,
+            passed: 0,
             nodes: [0; 64],
             labels: [0; 64],
             roots: [0; 254],
@@ -89,14 +91,15 @@ impl Session {
         let (m, handled) = (self.m as usize, self.handled as usize);
         let v = self.roots[handled] as usize;
         let a = lent.label(v, &self.nodes[..m], &self.labels[..m]);
-        let (state, links) = lent.part(v, a, &self.roots[..handled], &self.states[..handled])?;
-        self.states[handled] = state;
+        let part = lent.part(v, a, &self.roots[..handled], &self.states[..handled])?;
+        self.states[handled] = part.state;
         self.handled += 1;
-        self.links += links;
+        self.links += part.links;
+        self.passed += part.passed;
         let finished = self.handled == self.parts;
         if finished {
             self.phase = ANSWERED;
-            self.yes = lent.marks[state as usize] == 1;
+            self.yes = lent.marks[part.state as usize] == 1;
             self.last = Some(self.answer());
         }
         Ok(finished)
@@ -112,7 +115,7 @@ impl Session {
     /// The answer of an answered session.
     fn answer(&self) -> Answered {
         let state = self.states[self.handled as usize - 1];
-        Answered { state, yes: self.yes, parts: self.parts as u32, links: self.links }
+        Answered { state, yes: self.yes, parts: self.parts as u32, links: self.links, passed: self.passed }
     }
 
     pub fn links(&self) -> u32 {
@@ -133,7 +136,10 @@ impl Session {
 
     fn last(&self) -> bool {
         let possible = |last: Answered| {
-            last.state < self.s && (1..=254).contains(&last.parts) && last.links <= 65_535 * last.parts
+            last.state < self.s
+                && (1..=254).contains(&last.parts)
+                && last.links <= last.passed
+                && last.passed <= 65_535 * last.parts
         };
         self.last.map_or(true, possible)
     }
@@ -142,6 +148,7 @@ impl Session {
         let counts = self.m | self.parts | self.handled | u8::from(self.yes);
         counts == 0
             && self.links == 0
+            && self.passed == 0
             && below(&self.nodes, 1)
             && below(&self.labels, 1)
             && below(&self.roots, 1)
@@ -162,7 +169,8 @@ impl Session {
             && roots.iter().zip(&roots[1..]).fold(true, |ok, (a, b)| ok & (a < b))
             && roots[parts - 1] == self.n - 1
             && below(states, self.s)
-            && self.links as usize <= 65_535 * handled
+            && self.links <= self.passed
+            && self.passed as usize <= 65_535 * handled
             && below(no_nodes, 1)
             && below(no_labels, 1)
             && below(no_roots, 1)

@@ -1,6 +1,6 @@
 //! The session record as bytes: where things stand, and whether the bytes can be a session's.
 
-pub const RECORD_BYTES: usize = 975;
+pub const RECORD_BYTES: usize = 983;
 
 pub const YES: usize = 1;
 pub const M: usize = 6;
@@ -13,6 +13,9 @@ pub const ROOTS: usize = 205;
 pub const STATES: usize = 713;
 /// The last finished answer: whether there is one, its state, its yes or no, its parts, its links.
 pub const LAST: usize = 967;
+/// The nodes passed over so far, and those of the last finished answer.
+pub const PASSED: usize = 975;
+pub const LAST_PASSED: usize = 979;
 
 pub const EMPTY: u8 = 0;
 pub const LOADED: u8 = 1;
@@ -29,6 +32,12 @@ pub struct Head {
     pub parts: usize,
     pub handled: usize,
     pub links: u32,
+    pub passed: u32,
+}
+
+#[inline]
+pub fn double(bytes: &[u8], at: usize) -> u32 {
+    u32::from_le_bytes(bytes[at..at + 4].try_into().unwrap())
 }
 
 #[inline]
@@ -47,12 +56,13 @@ pub fn head(record: &[u8]) -> Result<Head, u32> {
         m: record[M] as usize,
         parts: record[PARTS] as usize,
         handled: record[HANDLED] as usize,
-        links: u32::from_le_bytes(record[LINKS..LINKS + 4].try_into().unwrap()),
+        links: double(record, LINKS),
+        passed: double(record, PASSED),
     };
     let sized = head.n >= 1 && (1..=16).contains(&head.s) && (1..=64).contains(&head.k);
     let valid = match head.phase {
         EMPTY => zero(&record[1..]),
-        LOADED => sized && record[YES] == 0 && zero(&record[M..LAST]) && last(record, &head),
+        LOADED => sized && record[YES] == 0 && zero(&record[M..LAST]) && head.passed == 0 && last(record, &head),
         RUNNING => {
             sized && record[YES] == 0 && head.handled < head.parts && question(record, &head) && last(record, &head)
         }
@@ -61,7 +71,8 @@ pub fn head(record: &[u8]) -> Result<Head, u32> {
                 && record[YES] <= 1
                 && head.handled == head.parts
                 && question(record, &head)
-                && record[LAST..] == answer(record, &head)
+                && record[LAST..PASSED] == answer(record, &head)
+                && record[LAST_PASSED..] == record[PASSED..LAST_PASSED]
         }
         _ => false,
     };
@@ -87,7 +98,8 @@ fn question(record: &[u8; RECORD_BYTES], head: &Head) -> bool {
         && rising
         && word(roots, roots.len() - 2) as usize == head.n - 1
         && (head.handled == 0 || (greatest(states) as usize) < head.s)
-        && head.links as usize <= 65_535 * head.handled
+        && head.links <= head.passed
+        && head.passed as usize <= 65_535 * head.handled
         && zero(no_nodes)
         && zero(no_labels)
         && zero(no_roots)
@@ -95,16 +107,19 @@ fn question(record: &[u8; RECORD_BYTES], head: &Head) -> bool {
 }
 
 fn last(record: &[u8; RECORD_BYTES], head: &Head) -> bool {
-    let [there, state, yes, parts, links @ ..]: [u8; 8] = record[LAST..].try_into().unwrap();
-    let links = u32::from_le_bytes(links) as usize;
+    let [there, state, yes, parts, links @ ..]: [u8; 8] = record[LAST..PASSED].try_into().unwrap();
+    let (links, passed) = (u32::from_le_bytes(links), double(record, LAST_PASSED));
     match there {
-        0 => zero(&record[LAST..]),
-        1 => (state as usize) < head.s && yes <= 1 && (1..=254).contains(&parts) && links <= 65_535 * parts as usize,
+        0 => zero(&record[LAST..PASSED]) && passed == 0,
+        1 => {
+            let few = links <= passed && passed as usize <= 65_535 * parts as usize;
+            (state as usize) < head.s && yes <= 1 && (1..=254).contains(&parts) && few
+        }
         _ => false,
     }
 }
 
-/// The answer of an answered record, as its last eight bytes have it.
+/// The answer of an answered record, its nodes passed over apart, as the eight bytes at LAST have it.
 pub fn answer(record: &[u8], head: &Head) -> [u8; 8] {
     let [a, b, c, d] = head.links.to_le_bytes();
     [1, record[STATES + head.handled - 1], record[YES], head.parts as u8, a, b, c, d]

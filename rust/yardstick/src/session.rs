@@ -3,8 +3,8 @@
 use crate::checks::number;
 use crate::fresh::list;
 use crate::question::Lent;
-use crate::record::{self, word, Head, ANSWERED, HANDLED, LABELS, LAST, LINKS, LOADED, M, NODES, PARTS, RUNNING};
-use crate::record::{ROOTS, STATES, YES};
+use crate::record::{self, double, word, Head, ANSWERED, HANDLED, LABELS, LAST, LAST_PASSED, LINKS, LOADED, M, NODES};
+use crate::record::{PARTS, PASSED, ROOTS, RUNNING, STATES, YES};
 use crate::rules::build;
 
 #[derive(Clone, Copy, Debug, PartialEq, Eq)]
@@ -13,6 +13,7 @@ pub struct Answered {
     pub yes: bool,
     pub parts: u32,
     pub links: u32,
+    pub passed: u32,
 }
 
 /// The record's counts, if it is in one of these states.
@@ -61,6 +62,7 @@ pub fn start(
     record[0] = RUNNING;
     record[YES] = 0;
     record[M..LAST].fill(0);
+    record[PASSED..LAST_PASSED].fill(0);
     record[M] = nodes.len() as u8;
     record[PARTS] = roots.len() as u8;
     put_words(&mut record[NODES..], nodes);
@@ -89,17 +91,20 @@ pub fn advance(
     let listed = (0..head.m).rev().find(|&i| word(record, NODES + 2 * i) as usize == v);
     let a = listed.map_or(lent.labels[v], |i| record[LABELS + i]) as usize;
     let (earlier, states) = (&record[ROOTS..ROOTS + 2 * head.handled], &record[STATES..STATES + head.handled]);
-    let (state, links) = lent.part(v, a, earlier, states)?;
-    record[STATES + head.handled] = state;
+    let part = lent.part(v, a, earlier, states)?;
+    let (links, passed) = (head.links + part.links, head.passed + part.passed);
+    record[STATES + head.handled] = part.state;
     record[HANDLED] += 1;
-    record[LINKS..LINKS + 4].copy_from_slice(&(head.links + links).to_le_bytes());
+    record[LINKS..LINKS + 4].copy_from_slice(&links.to_le_bytes());
+    record[PASSED..LAST_PASSED].copy_from_slice(&passed.to_le_bytes());
     let finished = head.handled + 1 == head.parts;
     if finished {
         record[0] = ANSWERED;
-        record[YES] = u8::from(lent.marks[state as usize] == 1);
-        let head = Head { handled: head.parts, links: head.links + links, ..head };
+        record[YES] = u8::from(lent.marks[part.state as usize] == 1);
+        let head = Head { handled: head.parts, links, ..head };
         let answer = record::answer(record, &head);
-        record[LAST..].copy_from_slice(&answer);
+        record[LAST..PASSED].copy_from_slice(&answer);
+        record[LAST_PASSED..].copy_from_slice(&passed.to_le_bytes());
     }
     Ok(finished)
 }
@@ -108,6 +113,7 @@ pub fn cancel(record: &mut [u8]) -> Result<(), u32> {
     made_in(record, &[RUNNING])?;
     record[0] = LOADED;
     record[M..LAST].fill(0);
+    record[PASSED..LAST_PASSED].fill(0);
     Ok(())
 }
 
@@ -116,6 +122,7 @@ pub fn read(record: &[u8]) -> Result<Answered, u32> {
     if record[LAST] == 0 {
         return Err(1);
     }
-    let links = u32::from_le_bytes(record[LAST + 4..].try_into().unwrap());
-    Ok(Answered { state: record[LAST + 1], yes: record[LAST + 2] == 1, parts: record[LAST + 3] as u32, links })
+    let (links, passed) = (double(record, LAST + 4), double(record, LAST_PASSED));
+    let (state, yes, parts) = (record[LAST + 1], record[LAST + 2] == 1, record[LAST + 3] as u32);
+    Ok(Answered { state, yes, parts, links, passed })
 }

@@ -2,7 +2,7 @@
 --
 -- firstOf reading s k ls st u == firstState on runs
 -- numbered s r == the state that the number r names, none where it is no state of s
--- finish reading s k ls st mk u x == the answer of a composition x
+-- finish reading s k ls st mk u m c d == the answer of a composed map m, by c links that passed over d nodes
 -- FirstArgs .. == what the first state reads is inside its runs
 -- FinishArgs .. == what the last function reads is inside its runs, the map of s states in maps from `at` on included
 -- AnswerArgs p r nodeTable bytes u l == what the lent headers and lengths say where 17 and 13 pass
@@ -21,7 +21,8 @@ use Rattle.formats.specs.Rules.{wordAutomaton}
 use Rattle.formats.specs.Buffers.{headedBuffersFit, branchTables}
 use Rattle.branches.specs.declared.answers.Reading.{Reading}
 use Rattle.branches.specs.declared.answers.Reading.the-variants.{WithUpper, BelowUpper}
-use Rattle.branches.specs.Question.{Branched, branched}
+use Rattle.branches.specs.declared.answers.Branched.{Branched}
+use Rattle.branches.specs.Question.{branched}
 
 unfoldable pub firstOf : Reading → ℕ → ℕ → List ℕ → List ℕ → ℕ → Option ℕ
 firstOf WithUpper s k ls st u =
@@ -31,9 +32,9 @@ firstOf BelowUpper s k ls st u = some 0
 abbrev pub numbered : ℕ → ℕ → Option ℕ
 numbered s r = cond (ltb r s) (some r) none
 
-unfoldable pub finish : Reading → ℕ → ℕ → List ℕ → List ℕ → List ℕ → ℕ → List ℕ → ℕ → Option Branched
-finish reading s k ls st mk u m c =
-    andThen (firstOf reading s k ls st u) (λ q. some (branched (wordAutomaton s k st mk) (getD m q 0) c))
+unfoldable pub finish : Reading → ℕ → ℕ → List ℕ → List ℕ → List ℕ → ℕ → List ℕ → ℕ → ℕ → Option Branched
+finish reading s k ls st mk u m c d =
+    andThen (firstOf reading s k ls st u) (λ q. some (branched (wordAutomaton s k st mk) (getD m q 0) c d))
 
 pub record FirstArgs (s k : ℕ) (ls st : List ℕ) (u : ℕ) : Type 0 where
   pub least : 1 ≤ s

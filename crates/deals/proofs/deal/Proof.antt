@@ -418,7 +418,7 @@ module _ {M : Type 1} (𝓤 : URA M) (H : Heap 𝓤) (A : Atoms 𝓤) (W : Given
         -- the state of screen 0
         assigns ! (bin ! (load ! (from ! (fld ! refl (stop !))) (look-in ! 62 (sub ! 0 refl (whole !)))) (lit ! tt) tt)
         (from ! (stop !)) (init ! 40 refl (tt, tt)) $
-        rewrite ! 40 (λ (p : ℕ). ‵ (fat fullShare tyPtr l₁₂ 0 (vptr b p))) (sym (place-is 984 o 0)) refl $
+        rewrite ! 40 (λ (p : ℕ). ‵ (fat fullShare tyPtr l₁₂ 0 (vptr b p))) (sym (place-is 992 o 0)) refl $
         elem-out ! T.the-row (Is T.the-row) (shows 𝓤 H A T.the-row) vals
         (LL.tells T.the-type T′.the-laws) fullShare ys 0 freshSession b o (has ys 0 eight (lit≤ tt)) (λ g₀.
         assigns ! (of-opd ! (load ! (from ! (hop ! (look ! 42 refl) (fld ! refl (fld ! refl (stop !)))))
@@ -428,7 +428,7 @@ module _ {M : Type 1} (𝓤 : URA M) (H : Heap 𝓤) (A : Atoms 𝓤) (W : Given
         elem-back ! T.the-row fullShare ys 0 freshSession (vals (at ys 0)) b o (has ys 0 eight (lit≤ tt)) $
         assigns ! (bin ! (load ! (from ! (fld ! refl (stop !))) (look-in ! 62 (sub ! 0 refl (whole !)))) (lit ! tt) tt)
         (from ! (stop !)) (init ! 36 refl (tt, tt)) $
-        rewrite ! 36 (λ (p : ℕ). ‵ (fat fullShare tyPtr l₁₄ 0 (vptr b p))) (sym (place-is 984 o 1)) refl $
+        rewrite ! 36 (λ (p : ℕ). ‵ (fat fullShare tyPtr l₁₄ 0 (vptr b p))) (sym (place-is 992 o 1)) refl $
         elem-out ! T.the-row (Is T.the-row) (shows 𝓤 H A T.the-row) vals
         (LL.tells T.the-type T′.the-laws) fullShare ys 1 freshSession b o (has ys 1 eight (lit≤ tt)) (λ g₁.
         assigns ! (of-opd ! (load ! (from ! (hop ! (look ! 38 refl) (fld ! refl (fld ! refl (stop !)))))
@@ -438,7 +438,7 @@ module _ {M : Type 1} (𝓤 : URA M) (H : Heap 𝓤) (A : Atoms 𝓤) (W : Given
         elem-back ! T.the-row fullShare ys 1 freshSession (vals (at ys 1)) b o (has ys 1 eight (lit≤ tt)) $
         assigns ! (bin ! (load ! (from ! (fld ! refl (stop !))) (look-in ! 62 (sub ! 0 refl (whole !))))
         (big-lit ! (record { fits = lit< tt })) tt) (from ! (stop !)) (init ! 32 refl (tt, tt)) $
-        rewrite ! 32 (λ (p : ℕ). ‵ (fat fullShare tyPtr l₁₆ 0 (vptr b p))) (sym (place-is 984 o 2)) refl $
+        rewrite ! 32 (λ (p : ℕ). ‵ (fat fullShare tyPtr l₁₆ 0 (vptr b p))) (sym (place-is 992 o 2)) refl $
         elem-out ! T.the-row (Is T.the-row) (shows 𝓤 H A T.the-row) vals
         (LL.tells T.the-type T′.the-laws) fullShare ys 2 freshSession b o (has ys 2 eight (lit≤ tt)) (λ g₂.
         assigns ! (of-opd ! (load ! (from ! (hop ! (look ! 34 refl) (fld ! refl (fld ! refl (stop !)))))
@@ -448,7 +448,7 @@ module _ {M : Type 1} (𝓤 : URA M) (H : Heap 𝓤) (A : Atoms 𝓤) (W : Given
         elem-back ! T.the-row fullShare ys 2 freshSession (vals (at ys 2)) b o (has ys 2 eight (lit≤ tt)) $
         assigns ! (bin ! (load ! (from ! (fld ! refl (stop !))) (look-in ! 62 (sub ! 0 refl (whole !))))
         (big-lit ! (record { fits = lit< tt })) tt) (from ! (stop !)) (init ! 28 refl (tt, tt)) $
-        rewrite ! 28 (λ (p : ℕ). ‵ (fat fullShare tyPtr l₁₈ 0 (vptr b p))) (sym (place-is 984 o 3)) refl $
+        rewrite ! 28 (λ (p : ℕ). ‵ (fat fullShare tyPtr l₁₈ 0 (vptr b p))) (sym (place-is 992 o 3)) refl $
         elem-out ! T.the-row (Is T.the-row) (shows 𝓤 H A T.the-row) vals
         (LL.tells T.the-type T′.the-laws) fullShare ys 3 freshSession b o (has ys 3 eight (lit≤ tt)) (λ g₃.
         assigns ! (of-opd ! (load ! (from ! (hop ! (look ! 30 refl) (fld ! refl (fld ! refl (stop !)))))
@@ -458,7 +458,7 @@ module _ {M : Type 1} (𝓤 : URA M) (H : Heap 𝓤) (A : Atoms 𝓤) (W : Given
         elem-back ! T.the-row fullShare ys 3 freshSession (vals (at ys 3)) b o (has ys 3 eight (lit≤ tt)) $
         assigns ! (bin ! (load ! (from ! (fld ! refl (stop !))) (look-in ! 62 (sub ! 0 refl (whole !))))
         (big-lit ! (record { fits = lit< tt })) tt) (from ! (stop !)) (init ! 24 refl (tt, tt)) $
-        rewrite ! 24 (λ (p : ℕ). ‵ (fat fullShare tyPtr l₂₀ 0 (vptr b p))) (sym (place-is 984 o 4)) refl $
+        rewrite ! 24 (λ (p : ℕ). ‵ (fat fullShare tyPtr l₂₀ 0 (vptr b p))) (sym (place-is 992 o 4)) refl $
         elem-out ! T.the-row (Is T.the-row) (shows 𝓤 H A T.the-row) vals
         (LL.tells T.the-type T′.the-laws) fullShare ys 4 freshSession b o (has ys 4 eight (lit≤ tt)) (λ g₄.
         assigns ! (of-opd ! (load ! (from ! (hop ! (look ! 26 refl) (fld ! refl (fld ! refl (stop !)))))
@@ -468,7 +468,7 @@ module _ {M : Type 1} (𝓤 : URA M) (H : Heap 𝓤) (A : Atoms 𝓤) (W : Given
         elem-back ! T.the-row fullShare ys 4 freshSession (vals (at ys 4)) b o (has ys 4 eight (lit≤ tt)) $
         assigns ! (bin ! (load ! (from ! (fld ! refl (stop !))) (look-in ! 62 (sub ! 0 refl (whole !))))
         (big-lit ! (record { fits = lit< tt })) tt) (from ! (stop !)) (init ! 20 refl (tt, tt)) $
-        rewrite ! 20 (λ (p : ℕ). ‵ (fat fullShare tyPtr l₂₂ 0 (vptr b p))) (sym (place-is 984 o 5)) refl $
+        rewrite ! 20 (λ (p : ℕ). ‵ (fat fullShare tyPtr l₂₂ 0 (vptr b p))) (sym (place-is 992 o 5)) refl $
         elem-out ! T.the-row (Is T.the-row) (shows 𝓤 H A T.the-row) vals
         (LL.tells T.the-type T′.the-laws) fullShare ys 5 freshSession b o (has ys 5 eight (lit≤ tt)) (λ g₅.
         assigns ! (of-opd ! (load ! (from ! (hop ! (look ! 22 refl) (fld ! refl (fld ! refl (stop !)))))
@@ -478,7 +478,7 @@ module _ {M : Type 1} (𝓤 : URA M) (H : Heap 𝓤) (A : Atoms 𝓤) (W : Given
         elem-back ! T.the-row fullShare ys 5 freshSession (vals (at ys 5)) b o (has ys 5 eight (lit≤ tt)) $
         assigns ! (bin ! (load ! (from ! (fld ! refl (stop !))) (look-in ! 62 (sub ! 0 refl (whole !))))
         (big-lit ! (record { fits = lit< tt })) tt) (from ! (stop !)) (init ! 16 refl (tt, tt)) $
-        rewrite ! 16 (λ (p : ℕ). ‵ (fat fullShare tyPtr l₂₄ 0 (vptr b p))) (sym (place-is 984 o 6)) refl $
+        rewrite ! 16 (λ (p : ℕ). ‵ (fat fullShare tyPtr l₂₄ 0 (vptr b p))) (sym (place-is 992 o 6)) refl $
         elem-out ! T.the-row (Is T.the-row) (shows 𝓤 H A T.the-row) vals
         (LL.tells T.the-type T′.the-laws) fullShare ys 6 freshSession b o (has ys 6 eight (lit≤ tt)) (λ g₆.
         assigns ! (of-opd ! (load ! (from ! (hop ! (look ! 18 refl) (fld ! refl (fld ! refl (stop !)))))
@@ -488,7 +488,7 @@ module _ {M : Type 1} (𝓤 : URA M) (H : Heap 𝓤) (A : Atoms 𝓤) (W : Given
         elem-back ! T.the-row fullShare ys 6 freshSession (vals (at ys 6)) b o (has ys 6 eight (lit≤ tt)) $
         assigns ! (bin ! (load ! (from ! (fld ! refl (stop !))) (look-in ! 62 (sub ! 0 refl (whole !))))
         (big-lit ! (record { fits = lit< tt })) tt) (from ! (stop !)) (init ! 12 refl (tt, tt)) $
-        rewrite ! 12 (λ (p : ℕ). ‵ (fat fullShare tyPtr l₂₆ 0 (vptr b p))) (sym (place-is 984 o 7)) refl $
+        rewrite ! 12 (λ (p : ℕ). ‵ (fat fullShare tyPtr l₂₆ 0 (vptr b p))) (sym (place-is 992 o 7)) refl $
         elem-out ! T.the-row (Is T.the-row) (shows 𝓤 H A T.the-row) vals
         (LL.tells T.the-type T′.the-laws) fullShare ys 7 freshSession b o (has ys 7 eight (lit≤ tt)) (λ g₇.
         assigns ! (of-opd ! (load ! (from ! (hop ! (look ! 14 refl) (fld ! refl (fld ! refl (stop !)))))
@@ -553,7 +553,7 @@ module _ {M : Type 1} (𝓤 : URA M) (H : Heap 𝓤) (A : Atoms 𝓤) (W : Given
         (store ! 44 refl (tt, scaled f inside)) $
         assigns ! (bin ! (load ! (from ! (fld ! refl (stop !))) (look-in ! 62 (sub ! 0 refl (whole !))))
         (load ! (from ! (stop !)) (look ! 44 refl)) tt) (from ! (stop !)) (init ! 8 refl (tt, tt)) $
-        rewrite ! 8 (λ (p : ℕ). ‵ (fat fullShare tyPtr l₂₈ 0 (vptr b p))) (sym (place-is 984 o f)) refl $
+        rewrite ! 8 (λ (p : ℕ). ‵ (fat fullShare tyPtr l₂₈ 0 (vptr b p))) (sym (place-is 992 o f)) refl $
         elem-out ! T.the-row (Is T.the-row) (shows 𝓤 H A T.the-row) vals
         (LL.tells T.the-type T′.the-laws) fullShare ys f freshSession b o (has ys f eight inside) (λ g.
         assigns ! (of-opd ! (load ! (from ! (hop ! (look ! 10 refl) (stop !))) (look-raw ! 0 refl))) (from ! (stop !))
@@ -581,7 +581,7 @@ module _ {M : Type 1} (𝓤 : URA M) (H : Heap 𝓤) (A : Atoms 𝓤) (W : Given
         (store ! 47 refl (tt, scaled f inside)) $
         assigns ! (bin ! (load ! (from ! (fld ! refl (stop !))) (look-in ! 65 (sub ! 0 refl (whole !))))
         (load ! (from ! (stop !)) (look ! 47 refl)) tt) (from ! (stop !)) (init ! 7 refl (tt, tt)) $
-        rewrite ! 7 (λ (p : ℕ). ‵ (fat fullShare tyPtr l₃₀ 0 (vptr b p))) (sym (place-is 984 o f)) refl $
+        rewrite ! 7 (λ (p : ℕ). ‵ (fat fullShare tyPtr l₃₀ 0 (vptr b p))) (sym (place-is 992 o f)) refl $
         assigns ! (of-opd ! (load ! (from ! (fld ! refl (stop !))) (look-in ! 49 (sub ! 1 refl (whole !)))))
         (from ! (hop ! (look ! 7 refl) (stop !)))
         (store-raw ! 2 refl (LL.lawful T.the-type T′.the-laws 𝓤 H A W .typed (r .session) _ (rec-is r v is) .0)) $

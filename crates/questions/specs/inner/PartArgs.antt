@@ -2,7 +2,7 @@
 --
 -- partView n s k ls ks lv inn nodeTable bytes == the view of all runs; pathOf X == of these what a climb reads
 -- unmoved o == a state reached by no link
--- heard x == the state and links that were told; none for OutOfRange
+-- reachedIn x == what was told; none for OutOfRange
 -- LastArgs, LabelArgs, LeafArgs, JoinArgs, SideArgs, ForkArgs, PartArgs == every read is inside its run
 --
 -- Assumes nothing.
@@ -38,7 +38,7 @@ abbrev pub pathOf : View → View
 pathOf X = pathView (X .n) (X .s) (X .k) (X .labels) (X .inner) (X .nodeTable) (X .stateTable)
 
 abbrev pub unmoved : Option ℕ → Option Reached
-unmoved o = andThen o (λ q. some (reached q 0))
+unmoved o = andThen o (λ q. some (reached q 0 0))
 
 abbrev pub reachedIn : Climbed → Option Reached
 reachedIn (To x) = some x
@@ -59,10 +59,11 @@ pub record LeafArgs (s k : ℕ) (lv : List ℕ) : Type 0 where
   pub few : s ≤ 16
   pub room : k ≤ length lv
 
--- a state that was told, and few links
+-- a state that was told, by few links that passed over few nodes
 pub record Few (s : ℕ) (x : Reached) : Type 0 where
   pub state : x .state < s
   pub links : x .links ≤ 65535
+  pub passed : x .passed ≤ 65535
 
 pub record JoinArgs (s k : ℕ) (inn : List ℕ) (left right : Climbed) : Type 0 where
   pub few : s ≤ 16

@@ -4,12 +4,14 @@
 -- RootsArgs n plan nodeTable == the plan's labels and the node table are whole
 -- startedOf z o vs bs parts roots == a session of sizes z in running with this question, no part handled, and the last finished answer o
 -- NextArgs s == the counts are within the arrays
--- StepArgs h l == there is room for one more state, and the links fit
+-- StepArgs h l d == there is room for one more state, and the links and the nodes passed over fit
 -- marksIn s k rules == the accept marks by S and K; markedIn s k rules q == whether that of state q is 1; MarkArgs rules s k q == the
 --   rules' length is exact, and q is a state
--- steppedHead h p l y o == head h in state p with one more part handled, of l links, the yes or no y and the last finished answer o
--- answerOf h q l y == the answer of a head whose last part has state q and l links
--- stepBy h rules q l == the step of an advance where the part's state is q and its links are l; HandleArgs what it asks
+-- steppedHead h p l d y o == head h in state p with one more part handled, of l links and d nodes passed over, the yes or no y and the last
+--   finished answer o
+-- answerOf h q l d y == the answer of a head whose last part has state q, l links and d nodes passed over
+-- stepBy h rules q l d == the step of an advance where the part's state is q, its links are l and d nodes passed over; HandleArgs what it
+--   asks
 -- refusedStep h n == the step of a refusal
 -- stepOn s t == the record that step t makes of s
 -- StepFound s c t == the step is that of call c on struct s
@@ -46,7 +48,7 @@ pub record RootsArgs (n : ℕ) (plan nodeTable : List ℕ) : Type 0 where
 
 abbrev pub startedOf : Sizes → Last → List ℕ → List ℕ → ℕ → List ℕ → Session
 startedOf z o vs bs parts roots =
-    whole (record { phase = Running; yes = false; sizes = z; m = length vs; parts = parts; handled = 0; links = 0; last = o })
+    whole (record { phase = Running; yes = false; sizes = z; m = length vs; parts = parts; handled = 0; links = 0; passed = 0; last = o })
     (padded 64 vs) (padded 64 bs) roots (replicate 254 0)
 
 pub record NextArgs (s : Session) : Type 0 where
@@ -55,9 +57,10 @@ pub record NextArgs (s : Session) : Type 0 where
   pub few-parts : s .head .parts ≤ length (s .roots)
   pub few-handled : s .head .handled ≤ length (s .states)
 
-pub record StepArgs (h : Head) (l : ℕ) : Type 0 where
+pub record StepArgs (h : Head) (l d : ℕ) : Type 0 where
   pub room : h .handled < 254
   pub links-fit : h .links + l ≤ 16645890
+  pub passed-fit : h .passed + d ≤ 16645890
 
 pub record MarkArgs (rules : List ℕ) (s k q : ℕ) : Type 0 where
   pub exact : length rules ≡ ruleLength s k
@@ -71,12 +74,12 @@ marksIn s k rules = take s (drop (20 + k + s * k * s) rules)
 abbrev pub markedIn : ℕ → ℕ → List ℕ → ℕ → Bool
 markedIn s k rules q = eqb (getD (marksIn s k rules) q 0) 1
 
-pub record HandleArgs (h : Head) (rules : List ℕ) (q l : ℕ) : Type 0 where
+pub record HandleArgs (h : Head) (rules : List ℕ) (q l d : ℕ) : Type 0 where
   pub marks : MarkArgs rules (h .sizes .s) (h .sizes .k) q
-  pub step : StepArgs h l
+  pub step : StepArgs h l d
 
-abbrev pub steppedHead : Head → Phase → ℕ → Bool → Last → Head
-steppedHead h p l y o = record {
+abbrev pub steppedHead : Head → Phase → ℕ → ℕ → Bool → Last → Head
+steppedHead h p l d y o = record {
   phase = p;
   yes = y;
   sizes = h .sizes;
@@ -84,22 +87,25 @@ steppedHead h p l y o = record {
   parts = h .parts;
   handled = h .handled + 1;
   links = h .links + l;
+  passed = h .passed + d;
   last = o;
 }
 
 -- "filled by the advance that finishes"
-abbrev pub answerOf : Head → ℕ → ℕ → Bool → Last
-answerOf h q l y =
-    record { present = true; outcome = record { state = q; yes = y; parts = h .parts; links = h .links + l } }
+abbrev pub answerOf : Head → ℕ → ℕ → ℕ → Bool → Last
+answerOf h q l d y = record {
+  present = true;
+  outcome = record { state = q; yes = y; parts = h .parts; links = h .links + l; passed = h .passed + d };
+}
 
-abbrev pub finishedHead : Head → ℕ → ℕ → Bool → Head
-finishedHead h q l y = steppedHead h Answered l y (answerOf h q l y)
+abbrev pub finishedHead : Head → ℕ → ℕ → ℕ → Bool → Head
+finishedHead h q l d y = steppedHead h Answered l d y (answerOf h q l d y)
 
-unfoldable pub stepBy : Head → List ℕ → ℕ → ℕ → AdvanceStep
-stepBy h rules q l =
+unfoldable pub stepBy : Head → List ℕ → ℕ → ℕ → ℕ → AdvanceStep
+stepBy h rules q l d =
     cond (eqb (h .handled + 1) (h .parts))
-    (record { answer = Finished; head = finishedHead h q l (markedIn (h .sizes .s) (h .sizes .k) rules q); stored = true; state = q })
-    (record { answer = More; head = steppedHead h Running l false (h .last); stored = true; state = q })
+    (record { answer = Finished; head = finishedHead h q l d (markedIn (h .sizes .s) (h .sizes .k) rules q); stored = true; state = q })
+    (record { answer = More; head = steppedHead h Running l d false (h .last); stored = true; state = q })
 
 abbrev pub refusedStep : Head → ℕ → AdvanceStep
 refusedStep h n = record { answer = NotAdvanced n; head = h; stored = false; state = 0 }

@@ -30,12 +30,12 @@ pub fn round(random: &mut Random, counts: &mut Counts) {
 }
 
 /// A question in each reading, whose answer is the word automaton's on its own word; the answer with the upper node's label.
-pub fn ask(built: &Built, tree: &Tree, upper: u32, lower: u32, random: &mut Random) -> Result<[u32; 3], u32> {
+pub fn ask(built: &Built, tree: &Tree, upper: u32, lower: u32, random: &mut Random) -> Result<[u32; 4], u32> {
     let (plan, branch) = (read_plan(&built.case.plan).unwrap(), read_branch(&built.case.branch).unwrap());
     let answers = calls::branches(built.lent(), upper, lower, random);
     for (reading, answer) in READINGS.into_iter().zip(answers) {
         let word = by_word(reading, tree, &plan, &branch, upper, lower);
-        let want = word.map(|told| [told.state as u32, told.yes as u32, told.links as u32]);
+        let want = word.map(|told| [told.state as u32, told.yes as u32, told.links as u32, told.passed as u32]);
         assert_eq!(answer, want, "the word automaton, {:?}", reading);
     }
     answers[0]

@@ -97,14 +97,14 @@ pub fn altered(record: &[u8], random: &mut Random) -> Vec<u8> {
     let mut other = record.to_vec();
     let (m, parts) = (record[6] as usize, record[7] as usize);
     for _ in 0..random.between(1, 4) {
-        // among the counts, where an entry stands, or in the answer that is kept
+        // among the counts, where an entry stands, or in the answer that is kept and the nodes passed over
         let place = match random.below(6) {
             0 => random.below(13),
             1 => 13 + random.below(2 * m + 2).min(127),
             2 => 141 + random.below(m + 1).min(63),
             3 => 205 + random.below(2 * parts + 2).min(507),
             4 => 713 + random.below(parts + 1).min(253),
-            _ => 967 + random.below(8),
+            _ => 967 + random.below(16),
         };
         other[place] = match random.below(3) {
             0 => other[place].wrapping_add(1),
@@ -113,7 +113,7 @@ pub fn altered(record: &[u8], random: &mut Random) -> Vec<u8> {
         };
     }
     if random.below(20) == 0 {
-        other.resize(*random.pick(&[0, 1, 13, 713, 967, 974, 976, 2 * 975]), 0);
+        other.resize(*random.pick(&[0, 1, 13, 713, 967, 975, 982, 984, 2 * 983]), 0);
     }
     other
 }
@@ -128,13 +128,15 @@ pub fn made_up(case: &Case, random: &mut Random) -> Record {
     roots.dedup();
     let handled = if phase == Phase::Running { random.below(roots.len()) } else { roots.len() };
     let parts = random.between(1, MAX_PARTS) as u32;
-    let (state, links) = (random.below(s) as u32, random.below(65_535 * parts as usize + 1) as u32);
-    let last = Some(Told { state, yes: random.below(2) == 0, parts, links }).filter(|_| random.below(2) == 0);
+    let (state, (links, passed)) = (random.below(s) as u32, climbed(parts as usize, random));
+    let last = Some(Told { state, yes: random.below(2) == 0, parts, links, passed }).filter(|_| random.below(2) == 0);
+    let (links, passed) = climbed(handled, random);
     let record = Record {
         phase,
         yes: phase == Phase::Answered && random.below(2) == 0,
         sizes: Sizes { n, s, k },
-        links: random.below(65_535 * handled + 1) as u32,
+        links,
+        passed,
         nodes: (0..m).map(|_| random.below(n) as u16).collect(),
         labels: random.bytes_below(m, k),
         roots,
@@ -145,6 +147,12 @@ pub fn made_up(case: &Case, random: &mut Random) -> Record {
         return Record { last: record.answer(), ..record };
     }
     record
+}
+
+/// Links, and as many nodes passed over at least, that so many parts can have.
+fn climbed(parts: usize, random: &mut Random) -> (u32, u32) {
+    let passed = random.below(65_535 * parts + 1);
+    (random.below(passed + 1) as u32, passed as u32)
 }
 
 /// Anything at all, or small numbers.

@@ -7,7 +7,7 @@ use crate::inputs::Case;
 use crate::panel::{Lent, Panel};
 use crate::random::Random;
 use crate::shapes::SHAPES;
-use reference::panel::{Answer, Call};
+use reference::panel::{Answer, Call, Told};
 
 pub fn round(random: &mut Random, counts: &mut Counts) {
     let (shape, each) = (*random.pick(&SHAPES), random.below(2) == 0);
@@ -30,7 +30,8 @@ fn altered(lent: &Lent, case: &Case, random: &mut Random) -> Lent {
 }
 
 /// A question whose advances are lent other bytes, the same for all or others for each; Start refuses them. As many
-/// advances as there are parts, and as many links as on tables as built; the answer may be another.
+/// advances as there are parts, and as many links and nodes passed over as on tables as built; the answer may be
+/// another.
 pub fn ask(case: &Case, lent: &Lent, m: usize, each: bool, random: &mut Random, counts: &mut Counts) {
     let mut panel = Panel::loaded(lent, random);
     let (nodes, labels) = case.list(m, random);
@@ -55,7 +56,8 @@ pub fn ask(case: &Case, lent: &Lent, m: usize, each: bool, random: &mut Random, 
     }
     match panel.call(&Call::Read, random) {
         Answer::Told(told) => {
-            assert_eq!((told.parts, told.links), (as_built.parts, as_built.links));
+            let moved = |told: &Told| (told.parts, told.links, told.passed);
+            assert_eq!(moved(&told), moved(&as_built));
             assert_eq!(panel.left, 0, "all of it is settled");
             counts.add(if told == as_built { "the same answer" } else { "another answer" });
         }

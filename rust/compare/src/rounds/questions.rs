@@ -1,4 +1,4 @@
-//! Questions on tables as built, through the session's calls: roots, states, answer, parts and links. The book holds
+//! Questions on tables as built, through the session's calls: roots, states, answer, parts, links and nodes passed over. The book holds
 //! every answer to a fresh run of the changed plan; here the record is looked at too.
 
 use super::any_case;
@@ -69,6 +69,33 @@ impl Asked {
         counts.add(format!("left of {}: {}", m, if left == 0 { "none" } else { "some" }));
     }
 
+    /// The nodes passed over, step by step to the parent: for each root, from the highest root below a child up to that child,
+    /// unless there are roots below both children.
+    fn passed(&self, members: &[usize]) -> usize {
+        let below = |v: usize, c: usize| v <= c && c < v + self.tree.size[c];
+        let steps = |from: usize, to: usize| {
+            let mut v = from;
+            let mut count = 0;
+            while v != to {
+                v = self.tree.parent[v];
+                count += 1;
+            }
+            count
+        };
+        let of = |root: usize| match self.tree.children[root] {
+            None => 0,
+            Some((left, right)) => {
+                let highest = |c: usize| members.iter().copied().rfind(|&v| below(v, c));
+                match (highest(left), highest(right)) {
+                    (Some(w), None) => steps(w, left),
+                    (None, Some(w)) => steps(w, right),
+                    _ => 0,
+                }
+            }
+        };
+        members.iter().map(|&root| of(root)).sum()
+    }
+
     /// With nodes listed again the answer is that of the list after superseding.
     pub fn repeated(&mut self, mut nodes: Vec<u16>, mut labels: Vec<u8>, random: &mut Random) {
         repeat_nodes(&mut nodes, &mut labels, self.case.k, random);
@@ -101,6 +128,11 @@ impl Asked {
         let deepest = *self.tree.depth.iter().max().unwrap();
         let digits = usize::BITS - deepest.leading_zeros();
         assert!(told.links <= 3 * digits * parts);
+        assert!(
+            told.links <= told.passed && told.passed <= parts * deepest as u32,
+            "links <= passed <= parts x height"
+        );
+        assert_eq!(told.passed as usize, self.passed(&members), "the nodes passed over");
         assert!(parts as usize <= if left.is_empty() { 1 } else { 4 * left.len() - 2 });
         assert!(parts as usize <= by_marks(&self.tree, nodes).len(), "parts never rise");
         told

@@ -12,7 +12,7 @@ first-state-requires : tie.Need-first-state-requires
 first-state-requires c κs = search needs
 
 returns : tie.Need-returns
-returns c = finish-none _ _ _ _ _ _ _ (c .before .first-state .ensures) _ _ _ (c .if1 .taken)
+returns c = finish-none _ _ _ _ _ _ _ (c .before .first-state .ensures) _ _ _ _ (c .if1 .taken)
 
 add-state : tie.Need-add-state
 add-state c = search needs
@@ -33,7 +33,7 @@ shared-slice-read-mark c =
 
 returns-2 : tie.Need-returns-2
 returns-2 c =
-    finish-result _ _ _ _ _ _ _ (c .before .before .before .first-state .ensures) _ _ _ _ (c .before .before .if1 .left)
+    finish-result _ _ _ _ _ _ _ (c .before .before .before .first-state .ensures) _ _ _ _ _ (c .before .before .if1 .left)
 
 pub finish-answer-spec : {M : Type 1} → statement M
 finish-answer-spec =

@@ -8,10 +8,10 @@ use Rattle.capi_branches.proofs.calls.ask_number.Lts as lts
 use Rattle.capi_numbers.proofs.numbers.bit.Reads as bit-reads
 
 returns : tie.Need-returns
-returns c = result _ _ _ _ _ _ _ _ (c .before .before .answer .given .1) (c .bit .ensures)
+returns c = result _ _ _ _ _ _ _ (c .before .before .before .answer .given .1) (c .bit .ensures)
 
 returns-2 : tie.Need-returns-2
-returns-2 c = not-answer _ _ _ _ _ (c .before .answer2 .given .1)
+returns-2 c = not-answer _ _ _ _ _ _ (c .before .answer2 .given .1)
 
 pub ask-number-spec : {M : Type 1} → statement M
 ask-number-spec =

@@ -29,10 +29,10 @@ tell-read-requires c κs = search needs
 
 returns-2 : tie.Need-returns-2
 returns-2 c =
-    read-laid _ (passed-laid _ _ (c .before .before .before .before .before .before .before .before .laid-out .ensures)
-    (c .before .before .before .before .before .before .before .if1 .left)) _ _ _ _
-    (read-decoded _ _ _ (c .before .before .before .before .before .before .decode .ensures)
-    (c .before .before .before .before .before .read .ensures)) (c .tell-read .ensures)
+    read-laid _ (passed-laid _ _ (c .before .before .before .before .before .before .before .before .before .laid-out .ensures)
+    (c .before .before .before .before .before .before .before .before .if1 .left)) _ _ _ _
+    (read-decoded _ _ _ (c .before .before .before .before .before .before .before .decode .ensures)
+    (c .before .before .before .before .before .before .read .ensures)) (c .tell-read .ensures)
 
 pub whatif-read-spec : {M : Type 1} → statement M
 whatif-read-spec =

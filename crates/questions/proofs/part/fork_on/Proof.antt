@@ -1,8 +1,9 @@
 -- `fork_on` meets its contract. Assumes nothing.
 use native.Mathlib.Omega.{arith}
 use borrow.Author.Needs.{needs}
-use Prim.Native.Nat.{ℕ, _+_, _-_, _*_}
+use Prim.Native.Nat.{ℕ, _+_, _-_, _*_, _≤_}
 use mathlib.Core.Path.{ap}
+use Rattle.node_tables.specs.Cells.{depthCell}
 use Rattle.tables.specs.Climbs.{View}
 use Rattle.tables.specs.inner.PathViews.{pathView}
 use Rattle.questions.proofs.PartLoop.{side-args, side-few, fork-answer}
@@ -37,12 +38,15 @@ join-on-requires : tie.Need-join-on-requires
 join-on-requires c κs =
     let s = c .before .before .before .before .before .before .before .before .before .before .before in
     let m = s .pre .path .most in
+    let k = c .before .before .before .before .before .before .before .before in
+    let d : (v : ℕ) → depthCell (s .args .node-table .now) v ≤ 65535 =
+    λ v. omega (arith, k .shared-slice-known3 .given (v * 4 + 2)) in
     record {
       few = s .pre .path .few;
       labels = s .pre .path .labels;
       room = s .pre .path .inner-room;
-      left-few = side-few (view s) _ _ _ _ (c .before .side-on .result) m (c .before .side-on .ensures);
-      right-few = side-few (view s) _ _ _ _ (c .side-on2 .result) m (c .side-on2 .ensures);
+      left-few = side-few (view s) _ _ _ _ (c .before .side-on .result) m d (c .before .side-on .ensures);
+      right-few = side-few (view s) _ _ _ _ (c .side-on2 .result) m d (c .side-on2 .ensures);
     }
 
 returns : tie.Need-returns

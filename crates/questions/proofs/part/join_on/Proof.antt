@@ -63,11 +63,17 @@ add-t16 : tie.Need-add-t16
 add-t16 c =
     let e = c .before .before in
     let r = e .before .before .before .before .before in
-    omega (arith, left-few (r .before .before .before) .links, right-few r .links)
+    omega (arith, left-few (r .before .before .before), right-few r)
+
+add-t17 : tie.Need-add-t17
+add-t17 c =
+    let e = c .before .before .before .before in
+    let r = e .before .before .before .before .before in
+    omega (arith, left-few (r .before .before .before), right-few r)
 
 returns-2 : tie.Need-returns-2
 returns-2 c =
-    let e = c .before .before in
+    let e = c .before .before .before .before in
     let r = e .before in
     let q = r .before .before .before .before in
     let l = q .before .before .before in
@@ -100,6 +106,7 @@ join-on-spec =
     returns
     (λ c. search needs)
     add-t16
+    add-t17
     (λ c. search needs)
     (λ c. search needs)
     returns-2

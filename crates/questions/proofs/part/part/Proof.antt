@@ -1,11 +1,11 @@
 -- `part` meets its contract: the three tests, and the runs that it hands on. Assumes nothing.
 use native.Mathlib.Omega.{arith}
 use borrow.Author.Needs.{needs}
-use Prim.Native.Nat.{_-_}
+use Prim.Native.Nat.{ℕ, _-_, _≤_}
 use mathlib.Core.Path.{_≡_, sym, _∙_}
 use mathlib.Core.Bool.{true}
 use borrow.Author.Tests.{not-true, not-false}
-use lib.ListN.{length}
+use lib.ListN.{length, getD}
 use lib.Seq.{length-take-le}
 use Rattle.formats.specs.Rules.{ruleLength}
 use Rattle.formats.specs.Buffers.{limitsFit, buffersFit}
@@ -39,9 +39,13 @@ fit : (c : tie.Else3) → let g = start (c .before .before .before .before .befo
 fit c = fit-by _ _ _ _ _ _ _ _ _ _ _ (limits (c .before .before .before .before)) (lengths (c .before .before))
     (asked c)
 
+-- the node table's numbers have 16 bits
+cells-fit : (a : tie.After-limits-fit) → (j : ℕ) → getD (start a .args .node-table .now) j 0 ≤ 65535
+cells-fit a j = omega (arith, a .before .before .before .before .before .before .shared-slice-known3 .given j)
+
 returns : tie.Need-returns
 returns c =
-    part-done _ _ _ _ _ _ _ _ _ _ _ _
+    part-done _ _ _ _ _ _ _ _ _ _ _ (cells-fit (c .before)) _
     (given-limits _ _ _ _ _ _ _ _ _ _ _ (sym (c .before .limits-fit .ensures) ∙ not-true _ (c .if1 .taken)))
 
 rule-buffers-fit-requires : tie.Need-rule-buffers-fit-requires
@@ -51,13 +55,13 @@ rule-buffers-fit-requires c κs =
 
 returns-2 : tie.Need-returns-2
 returns-2 c =
-    part-done _ _ _ _ _ _ _ _ _ _ _ _
+    part-done _ _ _ _ _ _ _ _ _ _ _ (cells-fit (c .before .before .before)) _
     (given-lengths _ _ _ _ _ _ _ _ _ _ _ (limits (c .before .before))
     (sym (c .before .rule-buffers-fit .ensures) ∙ not-true _ (c .if2 .taken)))
 
 returns-3 : tie.Need-returns-3
 returns-3 c =
-    part-done _ _ _ _ _ _ _ _ _ _ _ _
+    part-done _ _ _ _ _ _ _ _ _ _ _ (cells-fit (c .before .before .before .before .before)) _
     (given-asked _ _ _ _ _ _ _ _ _ _ _ (limits (c .before .before .before .before)) (lengths (c .before .before))
     (sym (c .before .asked-fits .ensures) ∙ not-true _ (c .if3 .taken)))
 
@@ -93,7 +97,7 @@ part-on-requires c κs =
 returns-4 : tie.Need-returns-4
 returns-4 c =
     let e = c .before .before .before .before .before .before .before .before .before in
-    part-done _ _ _ _ _ _ _ _ _ _ _ _
+    part-done _ _ _ _ _ _ _ _ _ _ _ (cells-fit (e .before .before .before .before .before)) _
     (part-answer _ _ _ _ _ _ _ _ _ _ _ (limits (e .before .before .before .before)) (lengths (e .before .before)) (asked e)
     (c .part-on .result) (c .part-on .ensures))
 

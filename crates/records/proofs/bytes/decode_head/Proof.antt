@@ -7,11 +7,13 @@ use Rattle.records.proofs.bytes.decode_head.Tie as tie
 
 returns : tie.Need-returns
 returns c =
-    let m = c .before .before in
+    let d = c .before .before in
+    let m = d .before in
     let p = m .before .before .before .before .before in
     let n = p .before .before .before .before in
     head-read (n .before .before .args .bytes .now) (p .phase-at .result) (n .number16 .result) (m .number32 .result)
-    (c .decode-last .result) (p .phase-at .ensures) (n .number16 .ensures) (m .number32 .ensures) (c .decode-last .ensures)
+    (d .number322 .result) (c .decode-last .result) (p .phase-at .ensures) (n .number16 .ensures) (m .number32 .ensures)
+    (d .number322 .ensures) (c .decode-last .ensures)
 
 pub decode-head-spec : {M : Type 1} → statement M
 decode-head-spec =
@@ -26,6 +28,7 @@ decode-head-spec =
     (λ c. search needs)
     (λ c. search needs)
     (λ c. search needs)
+    (λ c κs. search needs)
     (λ c κs. search needs)
     (λ c. search needs)
     (λ c. search needs)

@@ -7,8 +7,10 @@ use Rattle.records.proofs.bytes.decode_last.Tie as tie
 
 returns : tie.Need-returns
 returns c =
-    let n = c .before in
-    last-read (n .before .before .before .before .before .args .bytes .now) (n .number32 .result) (n .number32 .ensures)
+    let d = c .before in
+    let n = d .before in
+    last-read (n .before .before .before .before .before .args .bytes .now) (n .number32 .result) (d .number322 .result)
+    (n .number32 .ensures) (d .number322 .ensures)
 
 pub decode-last-spec : {M : Type 1} → statement M
 decode-last-spec =
@@ -17,6 +19,7 @@ decode-last-spec =
     (λ c. search needs)
     (λ c. search needs)
     (λ c. search needs)
+    (λ c κs. search needs)
     (λ c κs. search needs)
     (λ c. search needs)
     returns)

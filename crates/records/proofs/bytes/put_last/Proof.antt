@@ -1,4 +1,4 @@
--- `records::bytes::put_last` meets its contract. Eight stores in a row.
+-- `records::bytes::put_last` meets its contract. 16 stores in a row; the last ones take the length from the start.
 -- Assumes nothing.
 use native.Mathlib.Omega.{arith}
 use lib.ListN.{length-set}
@@ -12,10 +12,10 @@ same-length c = simp length-set
 
 returns : tie.Need-returns
 returns c =
-    let y = c .before .before .before .before in
+    let y = c .before .before .before .before .before .before .before .before .before .before .before .before in
     let f = y .before in
     let s = f .before .before .before in
-    last-written (s .args .out .now) (s .args .l) _ _ (s .pre) (f .yes-byte .ensures) (y .yes-byte2 .ensures)
+    last-written (s .args .out .now) (s .args .h) _ _ (s .pre) (f .yes-byte .ensures) (y .yes-byte2 .ensures)
 
 pub put-last-spec : {M : Type 1} → statement M
 put-last-spec =
@@ -35,5 +35,26 @@ put-last-spec =
     (λ c. simp length-set (omega arith))
     (λ c. search needs)
     (λ c. simp length-set (omega arith))
+    (λ c. search needs)
+    (λ c. simp length-set (omega arith))
+    (λ c. search needs)
+    (λ c. simp length-set (omega arith))
+    (λ c. search needs)
+    (λ c. simp length-set (omega arith))
+    (λ c. search needs)
+    (λ c. let y = c .before .before .before .before .before .before .before .before in
+    simp length-set (omega (arith, y .before .before .before .before .pre)))
+    (λ c. search needs)
+    (λ c. let y = c .before .before .before .before .before .before .before .before .before in
+    simp length-set (omega (arith, y .before .before .before .before .pre)))
+    (λ c. search needs)
+    (λ c. let y = c .before .before .before .before .before .before .before .before .before .before in
+    simp length-set (omega (arith, y .before .before .before .before .pre)))
+    (λ c. search needs)
+    (λ c. let y = c .before .before .before .before .before .before .before .before .before .before .before in
+    simp length-set (omega (arith, y .before .before .before .before .pre)))
+    (λ c. search needs)
+    (λ c. let y = c .before .before .before .before .before .before .before .before .before .before .before .before in
+    simp length-set (omega (arith, y .before .before .before .before .pre)))
     same-length
     returns)

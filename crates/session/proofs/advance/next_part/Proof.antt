@@ -30,7 +30,7 @@ slice-aggregate-part-4 c =
     sym (length-take-le (a .args .h .m) (a .args .labels .now) (a .pre .few-labels))
 
 returns : tie.Need-returns
-returns c = c .part .ensures .result
+returns c = (c .part .ensures .result, c .part .ensures .passed-most)
 
 pub next-part-spec : {M : Type 1} → statement M
 next-part-spec =

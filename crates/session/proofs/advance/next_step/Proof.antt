@@ -66,7 +66,8 @@ handled-requires c κs =
     let e = k .before .before .before .before in
     let m = e .before in
     handle-args (of m) (at m .pre) (lent m) _ (may m) (e .if1 .left) _ (k .rule-buffers-fit .ensures) (t .if2 .left) _
-    (p .next-part .ensures) (f .found .given .0 .0 .state) (f .found .given .0 .0 .links) (f .found .given .1)
+    (p .next-part .ensures .0) (p .next-part .ensures .1) (f .found .given .0 .0 .state) (f .found .given .0 .0 .links)
+    (f .found .given .0 .0 .passed) (f .found .given .1)
 
 returns-3 : tie.Need-returns-3
 returns-3 c =
@@ -77,7 +78,8 @@ returns-3 c =
     let e = k .before .before .before .before in
     let m = e .before in
     step-found (of m) (at m .pre) (lent m) _ (may m) (e .if1 .left) _ (k .rule-buffers-fit .ensures) (t .if2 .left) _
-    (p .next-part .ensures) (f .found .given .0 .0 .state) (f .found .given .0 .0 .links) (f .found .given .1) _ (c .handled .ensures)
+    (p .next-part .ensures .0) (p .next-part .ensures .1) (f .found .given .0 .0 .state) (f .found .given .0 .0 .links)
+    (f .found .given .0 .0 .passed) (f .found .given .1) _ (c .handled .ensures)
 
 returns-4 : tie.Need-returns-4
 returns-4 c =
@@ -89,7 +91,7 @@ returns-4 c =
     let m = e .before in
     refused-found (of m) (advance (lent m)) 18 _ (c .refused-step3 .ensures)
     (advance-18 (of m) (at m .pre) (lent m) _ (may m) (e .if1 .left) _ (k .rule-buffers-fit .ensures) (t .if2 .left) _
-    (p .next-part .ensures) (i .enum-told .given .1))
+    (p .next-part .ensures .0) (p .next-part .ensures .1) (i .enum-told .given .1))
 
 pub next-step-spec : {M : Type 1} → statement M
 next-step-spec =

@@ -14,7 +14,7 @@ returns-2 c = λ vs bs rs. own-many _ (c .if2 .taken)
 
 returns-3 : tie.Need-returns-3
 returns-3 c =
-    let f = c .before .before .before .before .before .before .before in
+    let f = c .before .before .before .before .before .before .before .before .before in
     λ vs bs rs. own-test _ (omega arith) (omega arith) _ (f .same-flag .ensures)
 
 pub last-is-own-spec : {M : Type 1} → statement M

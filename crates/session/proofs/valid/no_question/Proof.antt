@@ -15,7 +15,7 @@ returns c =
     let d = c .before .before in
     let b = d .before .before in
     let a = b .before .before in
-    let s = a .before .before .before .before .before .before .before in
+    let s = a .before .before .before .before .before .before .before .before in
     question-test (of s) _ _ _ _ (a .below .ensures) (b .all-below .ensures) (d .below2 .ensures) (c .all-below2 .ensures)
 
 pub no-question-spec : {M : Type 1} → statement M

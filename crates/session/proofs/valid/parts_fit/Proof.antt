@@ -36,7 +36,7 @@ slice-aggregate-all-below c =
 
 returns-3 : tie.Need-returns-3
 returns-3 c =
-    let d = c .before .before in
+    let d = c .before .before .before in
     let a = d .before .before in
     let b = a .before .before in
     let r = b .before .before in

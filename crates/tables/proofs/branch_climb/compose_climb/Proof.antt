@@ -1,4 +1,5 @@
-use Prim.Native.Nat.{_+_, _*_, _<_}
+use Prim.Native.Nat.{ℕ, _+_, _-_, _*_, _<_}
+use mathlib.Core.Path.{ap₂}
 use native.Mathlib.Omega.{arith}
 use borrow.Author.Tests.{not-true, not-false}
 use Rattle.node_tables.specs.Cells.{depthCell}
@@ -89,14 +90,43 @@ loop-again c =
     climbing-iteration _ _ _ _ _ _ _ _ _ _ (a .loop .maps) (a .loop .here) (a .loop .v) (a .loop .links) (a .loop .inv) (deeper t)
     (m .compose-move .result) _ (m .compose-move .ensures) (not-false _ (c .if2 .left))
 
+depth-at-requires-2 : tie.Need-depth-at-requires-2 Inv-loop μ-loop
+depth-at-requires-2 c κs =
+    let a = c .before .before in
+    let s = a .before .before .before .before .before .before in
+    omega (arith, s .pre .at, a .loop .inv .inside, s .pre .node-table-room)
+
+depth-at-requires-3 : tie.Need-depth-at-requires-3 Inv-loop μ-loop
+depth-at-requires-3 c κs =
+    let a = c .before .before .before in
+    omega (arith, a .loop .inv .inside, a .before .before .before .before .before .before .pre .node-table-room)
+
+sub-passed : tie.Need-sub-passed Inv-loop μ-loop
+sub-passed c =
+    let a = c .before .before .before .before in
+    omega (arith, a .loop .inv .few, c .before .depth-at2 .ensures, c .depth-at3 .ensures)
+
+cast-t22 : tie.Need-cast-t22 Inv-loop μ-loop
+cast-t22 c =
+    let a = c .before .before .before .before in
+    let k = a .before .before in
+    omega (
+      arith,
+      a .loop .inv .few,
+      c .before .depth-at2 .ensures,
+      k .shared-slice-known3 .given (k .before .before .before .before .args .from * 4 + 2),
+    )
+
 same-length-2 : tie.Need-same-length-2 Inv-loop μ-loop
 same-length-2 c = search needs
 
 returns-2 : tie.Need-returns-2 Inv-loop μ-loop
 returns-2 c =
-    let a = c .before .before in
+    let e = c .before .before in
+    let a = e .before .before in
     climbing-done _ _ _ _ _ _ _ _ _ _ (a .loop .maps) (a .loop .here) (a .loop .v) (a .loop .links) (a .loop .inv)
-    (omega (arith, c .if1 .left, c .before .depth-at .ensures))
+    (omega (arith, e .if1 .left, e .before .depth-at .ensures)) _
+    (ap₂ (λ (x y : ℕ). x - y) (c .before .depth-at2 .ensures) (c .depth-at3 .ensures))
 
 pub compose-climb-spec : {M : Type 1} → statement M
 compose-climb-spec =
@@ -113,5 +143,9 @@ compose-climb-spec =
     add-links
     loop-less
     loop-again
+    depth-at-requires-2
+    depth-at-requires-3
+    sub-passed
+    cast-t22
     same-length-2
     returns-2)

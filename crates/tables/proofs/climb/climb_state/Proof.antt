@@ -1,6 +1,7 @@
 -- `climb_state` meets its contract: at each turn the rest of the climb gives the whole climb's answer. The depth falls.
 -- Assumes nothing.
-use Prim.Native.Nat.{_+_, _*_, _<_}
+use Prim.Native.Nat.{ℕ, _+_, _-_, _*_, _<_}
+use mathlib.Core.Path.{ap₂}
 use native.Mathlib.Omega.{arith}
 use Rattle.node_tables.specs.Cells.{depthCell}
 use Rattle.tables.specs.Climbs.{View}
@@ -80,17 +81,46 @@ loop-again c =
     climbing-iteration (view s) (s .args .from) (s .args .to) (s .args .q) (a .loop .v) (a .loop .x) (a .loop .links)
     (a .loop .inv) (deeper (m .before)) (m .step-on .result) (m .step-on .ensures) (c .if2 .left)
 
-cast-t18 : tie.Need-cast-t18 Inv-loop μ-loop
-cast-t18 c =
+depth-at-requires-2 : tie.Need-depth-at-requires-2 Inv-loop μ-loop
+depth-at-requires-2 c κs =
     let a = c .before .before in
+    let s = a .before .before .before .before .before in
+    omega (arith, s .pre .at, a .loop .inv .inside, s .pre .path .node-table-room)
+
+depth-at-requires-3 : tie.Need-depth-at-requires-3 Inv-loop μ-loop
+depth-at-requires-3 c κs =
+    let a = c .before .before .before in
+    omega (arith, a .loop .inv .inside, a .before .before .before .before .before .pre .path .node-table-room)
+
+sub-passed : tie.Need-sub-passed Inv-loop μ-loop
+sub-passed c =
+    let a = c .before .before .before .before in
+    omega (arith, a .loop .inv .few, c .before .depth-at2 .ensures, c .depth-at3 .ensures)
+
+cast-t21 : tie.Need-cast-t21 Inv-loop μ-loop
+cast-t21 c =
+    let a = c .before .before .before .before in
     omega (arith, a .loop .inv .state, a .before .before .before .before .before .pre .path .few)
+
+cast-t22 : tie.Need-cast-t22 Inv-loop μ-loop
+cast-t22 c =
+    let a = c .before .before .before .before in
+    let k = a .before .before in
+    omega (
+      arith,
+      a .loop .inv .few,
+      c .before .depth-at2 .ensures,
+      k .shared-slice-known3 .given (k .before .before .before .args .from * 4 + 2),
+    )
 
 returns-2 : tie.Need-returns-2 Inv-loop μ-loop
 returns-2 c =
-    let a = c .before .before in
+    let e = c .before .before in
+    let a = e .before .before in
     let s = a .before .before .before .before .before in
     climbing-done (view s) (s .args .from) (s .args .to) (s .args .q) (a .loop .v) (a .loop .x) (a .loop .links)
-    (a .loop .inv) (omega (arith, c .if1 .left, c .before .depth-at .ensures))
+    (a .loop .inv) (omega (arith, e .if1 .left, e .before .depth-at .ensures)) _
+    (ap₂ (λ (x y : ℕ). x - y) (c .before .depth-at2 .ensures) (c .depth-at3 .ensures))
 
 pub climb-state-spec : {M : Type 1} → statement M
 climb-state-spec =
@@ -105,5 +135,9 @@ climb-state-spec =
     add-links
     loop-less
     loop-again
-    cast-t18
+    depth-at-requires-2
+    depth-at-requires-3
+    sub-passed
+    cast-t21
+    cast-t22
     returns-2)

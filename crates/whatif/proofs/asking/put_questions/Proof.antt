@@ -21,7 +21,7 @@ use Rattle.whatif.proofs.input.chunk_space.Reads as chunk-space-reads
 abbrev Inv-loop : tie.InvT-loop
 Inv-loop loaded plan rules nodeTable stateTable stated asked₀ chunk₀ out₀ turn₀ asked chunk out turn =
     Going (questionLine plan rules) stated asked (turn .have) (turn .left) (turn .sent)
-    × ((length chunk ≡ 1536) × (length out ≡ 65536))
+    × ((length chunk ≡ 1365) × (length out ≡ 65536))
 
 abbrev μ-loop : tie.MeasureT-loop
 μ-loop loaded plan rules nodeTable stateTable stated asked₀ chunk₀ out₀ turn₀ asked chunk out turn = turn .left

@@ -16,7 +16,7 @@ use Rattle.whatif.proofs.chunk.take_byte.Reads as take-byte-reads
 
 abbrev Inv-loop : tie.InvT-loop
 Inv-loop loaded plan rules nodeTable stateTable chunk asked₀ have out₀ part₀ end₀ i₀ asked out part end i =
-    (i ≤ length chunk) × (end ≤ 37 * i) × (part ≤ have + i)
+    (i ≤ length chunk) × (end ≤ 48 * i) × (part ≤ have + i)
     × Advances (questionLine plan rules) (take i chunk) asked₀ have asked part out₀ 0 out end
 
 abbrev μ-loop : tie.MeasureT-loop

@@ -6,109 +6,36 @@ use Rattle.whatif.proofs.line.put_outcome.Tie as tie
 use Rattle.whatif.proofs.line.put_outcome.Reads as reads
 use Rattle.whatif.proofs.line.put_outcome.Lts as lts
 use Rattle.whatif.proofs.line.put_yes_or_no.Reads as put-yes-or-no-reads
+use Rattle.whatif.proofs.line.put_counts.Reads as put-counts-reads
 use Rattle.whatif.proofs.text.put_number.Reads as put-number-reads
-use Rattle.whatif.proofs.text.put_word.Reads as put-word-reads
 
 put-yes-or-no-requires : tie.Need-put-yes-or-no-requires
 put-yes-or-no-requires c κs =
-    let n1 = c .before .before .before in
-    omega (arith, n1 .put-number .ensures .0 .as-long, n1 .put-number .ensures .1)
+    let n = c .before .before .before in
+    omega (arith, n .put-number .ensures .0 .as-long, n .put-number .ensures .1)
 
-put-number-requires-2 : tie.Need-put-number-requires-2
-put-number-requires-2 c κs =
+put-counts-requires : tie.Need-put-counts-requires
+put-counts-requires c κs =
     let y = c .before .before .before in
-    let n1 = y .before .before .before .before in
-    let s = n1 .before .before .before in
+    let n = y .before .before .before .before in
+    let s = n .before .before .before in
     omega (
       arith,
       y .put-yes-or-no .ensures .as-long,
       y .put-yes-or-no .ensures .end,
       yes-or-no-short (s .args .yes),
-      n1 .put-number .ensures .0 .as-long,
-      n1 .put-number .ensures .1,
-    )
-
-put-word-requires : tie.Need-put-word-requires
-put-word-requires c κs =
-    let n2 = c .before .before .before .before in
-    let y = n2 .before .before .before .before in
-    let n1 = y .before .before .before .before in
-    let s = n1 .before .before .before in
-    omega (
-      arith,
-      n2 .put-number2 .ensures .0 .as-long,
-      n2 .put-number2 .ensures .1,
-      y .put-yes-or-no .ensures .as-long,
-      y .put-yes-or-no .ensures .end,
-      yes-or-no-short (s .args .yes),
-      n1 .put-number .ensures .0 .as-long,
-      n1 .put-number .ensures .1,
-    )
-
-put-number-requires-3 : tie.Need-put-number-requires-3
-put-number-requires-3 c κs =
-    let w = c .before .before .before in
-    let n2 = w .before .before .before .before .before in
-    let y = n2 .before .before .before .before in
-    let n1 = y .before .before .before .before in
-    let s = n1 .before .before .before in
-    omega (
-      arith,
-      w .put-word .ensures .as-long,
-      w .put-word .ensures .end,
-      n2 .put-number2 .ensures .0 .as-long,
-      n2 .put-number2 .ensures .1,
-      y .put-yes-or-no .ensures .as-long,
-      y .put-yes-or-no .ensures .end,
-      yes-or-no-short (s .args .yes),
-      n1 .put-number .ensures .0 .as-long,
-      n1 .put-number .ensures .1,
-    )
-
-put-word-requires-2 : tie.Need-put-word-requires-2
-put-word-requires-2 c κs =
-    let n3 = c .before .before .before .before in
-    let w = n3 .before .before .before .before in
-    let n2 = w .before .before .before .before .before in
-    let y = n2 .before .before .before .before in
-    let n1 = y .before .before .before .before in
-    let s = n1 .before .before .before in
-    omega (
-      arith,
-      n3 .put-number3 .ensures .0 .as-long,
-      n3 .put-number3 .ensures .1,
-      w .put-word .ensures .as-long,
-      w .put-word .ensures .end,
-      n2 .put-number2 .ensures .0 .as-long,
-      n2 .put-number2 .ensures .1,
-      y .put-yes-or-no .ensures .as-long,
-      y .put-yes-or-no .ensures .end,
-      yes-or-no-short (s .args .yes),
-      n1 .put-number .ensures .0 .as-long,
-      n1 .put-number .ensures .1,
+      n .put-number .ensures .0 .as-long,
+      n .put-number .ensures .1,
     )
 
 returns : tie.Need-returns
 returns c =
-    let w2 = c .before .before in
-    let n3 = w2 .before .before .before .before .before in
-    let w = n3 .before .before .before .before in
-    let n2 = w .before .before .before .before .before in
-    let y = n2 .before .before .before .before in
-    let n1 = y .before .before .before .before in
-    let s = n1 .before .before .before in (
-      put-then (n1 .put-number .ensures .0) (put-then (y .put-yes-or-no .ensures) (put-then (n2 .put-number2 .ensures .0)
-          (put-then (w .put-word .ensures) (put-then (n3 .put-number3 .ensures .0) (w2 .put-word2 .ensures))))),
-      omega (
-        arith,
-        n1 .put-number .ensures .1,
-        y .put-yes-or-no .ensures .end,
-        yes-or-no-short (s .args .yes),
-        n2 .put-number2 .ensures .1,
-        w .put-word .ensures .end,
-        n3 .put-number3 .ensures .1,
-        w2 .put-word2 .ensures .end,
-      ),
+    let k = c .before .before in
+    let y = k .before .before .before .before in
+    let n = y .before .before .before .before in
+    let s = n .before .before .before in (
+      put-then (n .put-number .ensures .0) (put-then (y .put-yes-or-no .ensures) (k .put-counts .ensures .0)),
+      omega (arith, n .put-number .ensures .1, y .put-yes-or-no .ensures .end, yes-or-no-short (s .args .yes), k .put-counts .ensures .1),
     )
 
 pub put-outcome-spec : {M : Type 1} → statement M
@@ -117,11 +44,6 @@ put-outcome-spec =
     (tie.spec
     (λ c κs. search needs)
     put-yes-or-no-requires
-    put-number-requires-2
-    (λ c. search needs)
-    put-word-requires
-    put-number-requires-3
-    (λ c. search needs)
-    put-word-requires-2
+    put-counts-requires
     (λ c. search needs)
     returns)
