@@ -185,9 +185,9 @@ fn advance_by(count: u32, session: &mut Session, lent: &Lent, counts: &mut Count
 fn question_by_bytes(session: &mut Session, lent: &Lent, list: &List, counts: &mut Counts) -> Question {
     let parts = started(session, lent, list, counts);
     advance_by(parts, session, lent, counts);
-    let mut told = [16, 0, 0, 0];
+    let mut told = [16, 0, 0, 0, 0];
     slices::read(session.as_bytes(), &mut told);
-    let [state, yes, parts, links] = told;
+    let [state, yes, parts, links, _] = told; // the probes do not tell the nodes passed over
     Question { state, yes: yes == 1, parts, links }
 }
 
