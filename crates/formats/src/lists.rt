@@ -1,4 +1,4 @@
-// Lists of changes: checks 12 to 14; and 15, which no call asks since S-4 and until S-10.
+// Lists of changes: checks 12 to 14; and 15, which a count of choices alone asks (S-10).
 use crate::limits::CHANGE_LIMIT;
 use crate::rules::all_below;
 ghost use mathlib.Core.Path.{_≡_};
@@ -52,7 +52,7 @@ fn holds_one(x: u16, nodes: &[u16]) -> bool
     found
 }
 
-// Check 15: no node twice. Not asked by check_list (S-4); kept for S-10.
+// Check 15: no node twice. A count asks it (S-10), check_list does not (S-4).
 pub fn all_distinct(nodes: &[u16]) -> bool
     ensures { λ r. ⌜ r ≡ distinct (now (nodes .entry)) ⌝ }
 {
