@@ -7,7 +7,7 @@ use Rattle.changes.proofs.differing.keep.Statement.{statement}
 use Rattle.changes.proofs.differing.keep.Tie as tie
 use Rattle.changes.proofs.differing.keep.Reads as reads
 use Rattle.changes.proofs.differing.keep.Lts as lts
-use Rattle.changes.proofs.differing.is_listed.Reads as is-listed-reads
+use Rattle.formats.proofs.lists.is_listed.Reads as is-listed-reads
 use Rattle.changes.proofs.differing.label_at.Reads as label-at-reads
 use Rattle.changes.proofs.differing.push.Reads as push-reads
 
