@@ -2,13 +2,13 @@
 // plan's.
 //     LeftNodes   these nodes
 //     differing   the test of a whole list
+use formats::lists::is_listed;
 use formats::lists::lists_fit;
 ghost use Prim.Native.Nat.{_+_};
 ghost use mathlib.Core.Path.{_≡_};
 ghost use mathlib.Core.Bool.{cond};
 ghost use mathlib.Core.List.{[]};
 ghost use lib.ListN.{drop, getD};
-ghost use Rattle.list_laws.specs.Tests.{holds};
 ghost use Rattle.changes.specs.inner.LastDiffering.{isLeft, leftNodes, pushed, PushArgs, KeepArgs, DifferingDone};
 
 // The first `count` nodes are those that are left, each once; the rest is zero.
@@ -36,19 +36,6 @@ fn push(mut t: LeftNodes, v: u16) -> LeftNodes
     t.nodes[at] = v;
     t.count = at + 1;
     t
-}
-
-// Whether v is among the nodes.
-fn is_listed(v: u16, nodes: &[u16]) -> bool
-    ensures { λ r. ⌜ r ≡ holds v (now (nodes .entry)) ⌝ }
-{
-    let mut found = false;
-    let mut i = 0;
-    while i < nodes.len() {
-        found = found | (v == nodes[i]);
-        i += 1;
-    }
-    found
 }
 
 // The label of node v; 0 past the end.

@@ -27,7 +27,7 @@ use Rattle.reference.specs.Undisturbed.{EveryOutcomeAfter}
 use Rattle.reference.proofs.QuestionTheorem.{CleanOutcomes}
 use Rattle.reference.proofs.Sample.{seen}
 use Rattle.reference.proofs.Controls.{all}
-use Rattle.reference.proofs.PassedControls.{gapCalls, gap-told}
+use Rattle.controls.proofs.PassedControls.{gapCalls, gap-told}
 use Rattle.session.specs.declared.state.Session.{Session}
 use Rattle.session.specs.Records.{valid}
 use Rattle.session.specs.CallsByValue.{CallByValue, loads, starts, advances, cancels, reads}

@@ -2,6 +2,7 @@
 // plan's own
 // node table; colour c's follows after c of the same length, and its fourth numbers, the colours landed on, are there
 // already.
+use node_tables::down::by_distances;
 use node_tables::moves::parent_at;
 use node_tables::moves::size_at;
 ghost use mathlib.Core.Path.{_≡_};
@@ -9,7 +10,6 @@ ghost use mathlib.Core.Bool.{Bool};
 ghost use Prim.Native.Nat.{ℕ, _+_, _≤_};
 ghost use lib.ListN.{length};
 ghost use Rattle.trees.specs.Tree.{Tree};
-ghost use Rattle.node_tables.specs.inner.DownPass.{byDistances, JumpArgs};
 ghost use Rattle.colour_forests.specs.Rows.{rowBelow, nextRow, putRow, BelowArgs, NextArgs, WriteArgs, Given};
 ghost use Rattle.colour_forests.specs.Rows.{RowsFrom};
 
@@ -20,27 +20,13 @@ pub struct Row {
     pub depth: u16,
 }
 
-// The jump of a node whose parent is p, by the two distances: d - e is e - f where d + f is 2 e.
-fn jump_below(table: &[u16], p: usize) -> u16
-    requires { ⌜ JumpArgs (now table) p ⌝ }
-    ensures { λ r. ⌜ r ≡ byDistances (now (table .entry)) p ⌝ }
-{
-    let j = table[p * 4 + 1] as usize;
-    let jj = table[j * 4 + 1];
-    let far = jj as usize;
-    let d = table[p * 4 + 2] as usize;
-    let e = table[j * 4 + 2] as usize;
-    let f = table[far * 4 + 2] as usize;
-    if d + f == e + e { jj } else { p as u16 }
-}
-
 // The row of node v in colour c's table, below its parent p.
 fn row_below(table: &[u16], c: usize, v: usize, p: usize) -> Row
     requires { ⌜ BelowArgs (now table) c v p ⌝ }
     ensures { λ r. ⌜ r ≡ rowBelow (now (table .entry)) c v p ⌝ }
 {
     if size_at(table, p) < c {
-        let jump = jump_below(table, p);
+        let jump = by_distances(table, p);
         let depth = table[p * 4 + 2] + 1;
         return Row {
             up: p as u16,

@@ -4,7 +4,7 @@ ghost use lib.ListN.{length};
 ghost use Rattle.formats.specs.Bytes.{le32};
 
 // A byte as a wider number.
-fn wide(x: u8) -> usize
+pub fn wide(x: u8) -> usize
     ensures { λ r. ⌜ (r ≡ x) × (r < 256) ⌝ }
 {
     x as usize

@@ -1,4 +1,5 @@
 // Eight kinds of a plan at a time: the part of check 5 that takes nearly all of it.
+use crate::bytes::wide;
 ghost use mathlib.Core.Path.{_≡_};
 ghost use mathlib.Core.Bool.{true};
 ghost use Prim.Native.Nat.{_+_, _<_, _≤_};
@@ -13,13 +14,6 @@ const HIGH: usize = 9259542123273814144;
 const OTHERS: usize = 18374403900871474942;
 // 127 in the lowest, 126 in the next, down to 120.
 const SPARE: usize = 8681104427521506943;
-
-// A kind as a wider number.
-fn wide(x: u8) -> usize
-    ensures { λ r. ⌜ (r ≡ x) × (r < 256) ⌝ }
-{
-    x as usize
-}
 
 // Eight kinds as one number, the first lowest.
 pub fn eight_kinds(kinds: &[u8], at: usize) -> usize

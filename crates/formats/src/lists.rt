@@ -39,14 +39,14 @@ pub fn labels_below(labels: &[u8], k: usize) -> bool
     all_below(labels, k as u8)
 }
 
-// Whether x is one of the numbers.
-fn holds_one(x: u16, nodes: &[u16]) -> bool
-    ensures { λ r. ⌜ r ≡ holds x (now (nodes .entry)) ⌝ }
+// Whether v is among the nodes.
+pub fn is_listed(v: u16, nodes: &[u16]) -> bool
+    ensures { λ r. ⌜ r ≡ holds v (now (nodes .entry)) ⌝ }
 {
     let mut found = false;
     let mut i = 0;
     while i < nodes.len() {
-        found = found | (x == nodes[i]);
+        found = found | (v == nodes[i]);
         i += 1;
     }
     found
@@ -58,7 +58,7 @@ pub fn all_distinct(nodes: &[u16]) -> bool
 {
     let mut i = 0;
     while i < nodes.len() {
-        if holds_one(nodes[i], &nodes[i + 1..]) {
+        if is_listed(nodes[i], &nodes[i + 1..]) {
             return false;
         }
         i += 1;

@@ -8,7 +8,7 @@ ghost use Rattle.node_tables.specs.JumpLengths.{jumpLengths};
 ghost use Rattle.node_tables.specs.inner.DownPass.{byDistances, childJump, nodeIteration, JumpArgs, NodeArgs, DownArgs};
 
 // The jump of a child of node p, by the two distances: d - e is e - f where d + f is 2 e.
-fn by_distances(node_table: &[u16], p: usize) -> u16
+pub fn by_distances(node_table: &[u16], p: usize) -> u16
     requires { ⌜ JumpArgs (now «node_table») p ⌝ }
     ensures { λ r. ⌜ r ≡ byDistances (now («node_table» .entry)) p ⌝ }
 {

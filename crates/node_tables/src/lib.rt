@@ -1,7 +1,7 @@
 // The table of links, each node's parent, jump, depth and size: its build, its full check, one move of a climb on it.
 pub mod build;
 pub mod check;
-mod down;
+pub mod down;
 pub mod jump_lengths;
 pub mod moves;
 mod up;

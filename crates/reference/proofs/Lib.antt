@@ -17,7 +17,6 @@ pub mod Theorems
 pub mod Sample
 pub mod Controls
 pub mod LastControls
-pub mod PassedControls
 pub mod OwnAnswersLaws
 pub mod ReadingLaws
 pub mod FinishTheorem

@@ -17,7 +17,7 @@ use lib.ListN.{length, take}
 use Rattle.formats.specs.Checks.{firstNo, ruleTableChecks}
 use Rattle.formats.specs.Inputs.{Inputs}
 use Rattle.reference.proofs.Sample.{computing, planA, tableA}
-use Rattle.reference.proofs.PassedControls.{planGap}
+use Rattle.controls.proofs.PassedControls.{planGap}
 use Rattle.session.specs.declared.state.Session.{Session}
 use Rattle.whatif.specs.Question.{nodesIn, labelsIn}
 use Rattle.whatif.specs.Asked.{askedOn}

@@ -22,23 +22,11 @@ second-passes : (e : tie.Else2)
     → firstNo (ruleChecks (e .before .before .before .before .before .before .args .second .now)) ≡ 0
 second-passes e = sym (e .before .check-rule-bytes2 .ensures) ∙ e .if2 .left
 
-check-rule-bytes-requires : tie.Need-check-rule-bytes-requires
-check-rule-bytes-requires c κs = tt
-
-refused-requires : tie.Need-refused-requires
-refused-requires c κs = tt
-
 returns : tie.Need-returns
 returns c =
     let g = c .before .before .before .before .before .args in
     refused-done (g .first .now) (g .second .now) _ (c .refused .result) (c .refused .ensures) (c .before .if1 .taken)
     (first-no (g .first .now) (g .second .now) _ (c .before .before .check-rule-bytes .ensures) (c .before .if1 .taken))
-
-check-rule-bytes-requires-2 : tie.Need-check-rule-bytes-requires-2
-check-rule-bytes-requires-2 c κs = tt
-
-refused-requires-2 : tie.Need-refused-requires-2
-refused-requires-2 c κs = tt
 
 returns-2 : tie.Need-returns-2
 returns-2 c =
@@ -52,9 +40,6 @@ read32-requires c κs = omega (arith, rules-pass _ (first-passes (c .before .bef
 
 read32-requires-2 : tie.Need-read32-requires-2
 read32-requires-2 c κs = omega (arith, rules-pass _ (second-passes (c .before)) .long)
-
-refused-requires-3 : tie.Need-refused-requires-3
-refused-requires-3 c κs = tt
 
 returns-3 : tie.Need-returns-3
 returns-3 c =
@@ -92,18 +77,5 @@ returns-4 c =
 pub agree-spec : {M : Type 1} → statement M
 agree-spec =
     tie.close
-    (tie.spec
-    check-rule-bytes-requires
-    refused-requires
-    returns
-    check-rule-bytes-requires-2
-    refused-requires-2
-    returns-2
-    read32-requires
-    read32-requires-2
-    refused-requires-3
-    returns-3
-    read32-requires-3
-    read32-requires-4
-    answered-requires
-    returns-4)
+    (tie.spec (λ c κs. tt) (λ c κs. tt) returns (λ c κs. tt) (λ c κs. tt) returns-2 read32-requires read32-requires-2
+    (λ c κs. tt) returns-3 read32-requires-3 read32-requires-4 answered-requires returns-4)

@@ -18,42 +18,6 @@ use Rattle.rule_search.proofs.first_differing.Reads as first-differing-reads
 use Rattle.rule_search.proofs.over_leaves.Reads as over-leaves-reads
 use Rattle.rule_search.proofs.searched.Reads as searched-reads
 
-add-i : tie.Need-add-i
-add-i c = search needs
-
-inner-count-requires : tie.Need-inner-count-requires
-inner-count-requires c κs = search needs
-
-add-m1 : tie.Need-add-m1
-add-m1 c = search needs
-
-inner-count-requires-2 : tie.Need-inner-count-requires-2
-inner-count-requires-2 c κs = search needs
-
-add-m2 : tie.Need-add-m2
-add-m2 c = search needs
-
-empty-search-requires : tie.Need-empty-search-requires
-empty-search-requires c κs = search needs
-
-sub-over-leaves : tie.Need-sub-over-leaves
-sub-over-leaves c = search needs
-
-part-over-leaves-start : tie.Need-part-over-leaves-start
-part-over-leaves-start c = search needs
-
-part-over-leaves-end : tie.Need-part-over-leaves-end
-part-over-leaves-end c = search needs
-
-sub-over-leaves-2 : tie.Need-sub-over-leaves-2
-sub-over-leaves-2 c = search needs
-
-part-over-leaves-start-2 : tie.Need-part-over-leaves-start-2
-part-over-leaves-start-2 c = search needs
-
-part-over-leaves-end-2 : tie.Need-part-over-leaves-end-2
-part-over-leaves-end-2 c = search needs
-
 over-leaves-requires : tie.Need-over-leaves-requires
 over-leaves-requires c κs =
     let s = c .before .before .before .before .before .before .before in
@@ -62,24 +26,6 @@ over-leaves-requires c κs =
     (c .before .before .empty-search .result) (leaves-first (g .first .now) (g .second .now) (g .s1) (g .s2) (g .k)
     (s .pre)) (leaves-second (g .first .now) (g .second .now) (g .s1) (g .s2) (g .k) (s .pre))
     (c .before .before .empty-search .ensures)
-
-sub-searched : tie.Need-sub-searched
-sub-searched c = search needs
-
-part-searched-start : tie.Need-part-searched-start
-part-searched-start c = search needs
-
-part-searched-end : tie.Need-part-searched-end
-part-searched-end c = search needs
-
-sub-searched-2 : tie.Need-sub-searched-2
-sub-searched-2 c = search needs
-
-part-searched-start-2 : tie.Need-part-searched-start-2
-part-searched-start-2 c = search needs
-
-part-searched-end-2 : tie.Need-part-searched-end-2
-part-searched-end-2 c = search needs
 
 searched-requires : tie.Need-searched-requires
 searched-requires c κs =
@@ -107,9 +53,6 @@ part-first-differing-start c =
     let x11 = x8 .before .before .before in
     omega (arith, x11 .pre .first-exact, x8 .inner-count .ensures .value)
 
-part-first-differing-end : tie.Need-part-first-differing-end
-part-first-differing-end c = search needs
-
 sub-first-differing-2 : tie.Need-sub-first-differing-2
 sub-first-differing-2 c =
     let x8 = c .before .before .before .before .before .before .before .before in
@@ -121,9 +64,6 @@ part-first-differing-start-2 c =
     let x8 = c .before .before .before .before .before .before .before .before in
     let x12 = x8 .before .before .before .before in
     omega (arith, x12 .pre .second-exact, x8 .inner-count2 .ensures .value)
-
-part-first-differing-end-2 : tie.Need-part-first-differing-end-2
-part-first-differing-end-2 c = search needs
 
 first-differing-requires : tie.Need-first-differing-requires
 first-differing-requires c κs =
@@ -190,33 +130,9 @@ returns c =
 pub answered-spec : {M : Type 1} → statement M
 answered-spec =
     tie.close
-    (tie.spec
-    add-i
-    inner-count-requires
-    add-m1
-    inner-count-requires-2
-    add-m2
-    empty-search-requires
-    sub-over-leaves
-    part-over-leaves-start
-    part-over-leaves-end
-    sub-over-leaves-2
-    part-over-leaves-start-2
-    part-over-leaves-end-2
-    over-leaves-requires
-    sub-searched
-    part-searched-start
-    part-searched-end
-    sub-searched-2
-    part-searched-start-2
-    part-searched-end-2
-    searched-requires
-    sub-first-differing
-    part-first-differing-start
-    part-first-differing-end
-    sub-first-differing-2
-    part-first-differing-start-2
-    part-first-differing-end-2
-    first-differing-requires
-    cut-requires
-    returns)
+    (tie.spec (λ c. search needs) (λ c κs. search needs) (λ c. search needs) (λ c κs. search needs)
+    (λ c. search needs) (λ c κs. search needs) (λ c. search needs) (λ c. search needs) (λ c. search needs)
+    (λ c. search needs) (λ c. search needs) (λ c. search needs) over-leaves-requires (λ c. search needs)
+    (λ c. search needs) (λ c. search needs) (λ c. search needs) (λ c. search needs) (λ c. search needs)
+    searched-requires sub-first-differing part-first-differing-start (λ c. search needs) sub-first-differing-2
+    part-first-differing-start-2 (λ c. search needs) first-differing-requires cut-requires returns)

@@ -23,12 +23,6 @@ array-read-r c = omega (arith, c .before .loop .inv .args .long, c .before .loop
 array-write-r : tie.Need-array-write-r Inv-loop μ-loop
 array-write-r c = omega (arith, c .before .loop .inv .front .long, c .before .loop .inv .args .few, c .loop-test .taken)
 
-add-i : tie.Need-add-i Inv-loop μ-loop
-add-i c = search needs
-
-loop-less : tie.Need-loop-less Inv-loop μ-loop
-loop-less c = search needs
-
 loop-again : tie.Need-loop-again Inv-loop μ-loop
 loop-again c =
     let l = c .before .loop in
@@ -42,13 +36,5 @@ returns c =
 pub front-spec : {M : Type 1} → statement M
 front-spec =
     tie.close
-    (tie.spec
-    Inv-loop
-    μ-loop
-    loop-holds
-    array-read-r
-    array-write-r
-    add-i
-    loop-less
-    loop-again
+    (tie.spec Inv-loop μ-loop loop-holds array-read-r array-write-r (λ c. search needs) (λ c. search needs) loop-again
     returns)

@@ -11,12 +11,6 @@ use Rattle.capi_count.proofs.copy_counts.Reads as copy-counts-reads
 use Rattle.choices.proofs.count.count.Reads as count-reads
 use Rattle.formats.proofs.bytes.read32.Reads as read32-reads
 
-count-requires : tie.Need-count-requires
-count-requires c κs = search needs
-
-cast-answer : tie.Need-cast-answer
-cast-answer c = search needs
-
 returns : tie.Need-returns
 returns c =
     let o = c .before .before in
@@ -50,9 +44,6 @@ copy-counts-requires c κs =
     (c .before .before .before .read32 .result) (c .before .before .before .read32 .ensures) (g .counts .now)
     (omega (arith, c .before .before .if2 .left))
 
-same-length : tie.Need-same-length
-same-length c = search needs
-
 returns-3 : tie.Need-returns-3
 returns-3 c =
     let x = c .before .before .before .before .before in
@@ -67,12 +58,5 @@ returns-3 c =
 pub whatif-count-spec : {M : Type 1} → statement M
 whatif-count-spec =
     tie.close
-    (tie.spec
-    count-requires
-    cast-answer
-    returns
-    read32-requires
-    returns-2
-    copy-counts-requires
-    same-length
-    returns-3)
+    (tie.spec (λ c κs. search needs) (λ c. search needs) returns read32-requires returns-2 copy-counts-requires
+    (λ c. search needs) returns-3)

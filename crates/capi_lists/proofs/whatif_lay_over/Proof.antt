@@ -13,12 +13,6 @@ use Rattle.capi_lists.proofs.copy_labels.Reads as copy-labels-reads
 use Rattle.capi_lists.proofs.copy_nodes.Reads as copy-nodes-reads
 use Rattle.capi_lists.proofs.laying_number.Reads as laying-number-reads
 
-lay-over-requires : tie.Need-lay-over-requires
-lay-over-requires c κs = tt
-
-laying-number-requires : tie.Need-laying-number-requires
-laying-number-requires c κs = tt
-
 returns : tie.Need-returns
 returns c =
     let k = c .before in
@@ -85,12 +79,6 @@ cast-count c =
           (k .laying-number .result) (k .laying-number .ensures) (e .before .before .if1 .left),
     )
 
-same-length : tie.Need-same-length
-same-length c = search needs
-
-same-length-2 : tie.Need-same-length-2
-same-length-2 c = search needs
-
 returns-4 : tie.Need-returns-4
 returns-4 c =
     let y = c .before .before .before .before .before in
@@ -109,15 +97,5 @@ returns-4 c =
 pub whatif-lay-over-spec : {M : Type 1} → statement M
 whatif-lay-over-spec =
     tie.close
-    (tie.spec
-    lay-over-requires
-    laying-number-requires
-    returns
-    returns-2
-    returns-3
-    copy-nodes-requires
-    copy-labels-requires
-    cast-count
-    same-length
-    same-length-2
-    returns-4)
+    (tie.spec (λ c κs. tt) (λ c κs. tt) returns returns-2 returns-3 copy-nodes-requires copy-labels-requires
+    cast-count (λ c. search needs) (λ c. search needs) returns-4)

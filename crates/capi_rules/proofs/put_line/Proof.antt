@@ -8,17 +8,11 @@ use Rattle.capi_rules.proofs.put_line.Tie as tie
 use Rattle.capi_rules.proofs.put_line.Reads as reads
 use Rattle.capi_rules.proofs.put_line.Lts as lts
 
-mul-lines : tie.Need-mul-lines
-mul-lines c = search needs
-
 slice-write-lines : tie.Need-slice-write-lines
 slice-write-lines c = omega (arith, c .pre .inside)
 
 add-lines : tie.Need-add-lines
 add-lines c = omega (arith, c .pre .small)
-
-mul-lines-2 : tie.Need-mul-lines-2
-mul-lines-2 c = search needs
 
 slice-write-lines-2 : tie.Need-slice-write-lines-2
 slice-write-lines-2 c = simp length-set (omega (arith, c .pre .inside))
@@ -26,23 +20,14 @@ slice-write-lines-2 c = simp length-set (omega (arith, c .pre .inside))
 add-lines-2 : tie.Need-add-lines-2
 add-lines-2 c = omega (arith, c .pre .small)
 
-mul-lines-3 : tie.Need-mul-lines-3
-mul-lines-3 c = search needs
-
 slice-write-lines-3 : tie.Need-slice-write-lines-3
 slice-write-lines-3 c = simp length-set (omega (arith, c .pre .inside))
 
 add-lines-3 : tie.Need-add-lines-3
 add-lines-3 c = omega (arith, c .pre .small)
 
-mul-lines-4 : tie.Need-mul-lines-4
-mul-lines-4 c = search needs
-
 slice-write-lines-4 : tie.Need-slice-write-lines-4
 slice-write-lines-4 c = simp length-set (omega (arith, c .pre .inside))
-
-same-length : tie.Need-same-length
-same-length c = search needs
 
 returns : tie.Need-returns
 returns c = line-written (c .args .at) _ _ _ _ (c .args .lines .now) (c .pre .inside)
@@ -50,17 +35,6 @@ returns c = line-written (c .args .at) _ _ _ _ (c .args .lines .now) (c .pre .in
 pub put-line-spec : {M : Type 1} → statement M
 put-line-spec =
     tie.close
-    (tie.spec
-    mul-lines
-    slice-write-lines
-    add-lines
-    mul-lines-2
-    slice-write-lines-2
-    add-lines-2
-    mul-lines-3
-    slice-write-lines-3
-    add-lines-3
-    mul-lines-4
-    slice-write-lines-4
-    same-length
+    (tie.spec (λ c. search needs) slice-write-lines add-lines (λ c. search needs) slice-write-lines-2 add-lines-2
+    (λ c. search needs) slice-write-lines-3 add-lines-3 (λ c. search needs) slice-write-lines-4 (λ c. search needs)
     returns)

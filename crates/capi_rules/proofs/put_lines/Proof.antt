@@ -73,18 +73,5 @@ returns c =
 pub put-lines-spec : {M : Type 1} → statement M
 put-lines-spec =
     tie.close
-    (tie.spec
-    Inv-loop
-    μ-loop
-    loop-holds
-    mul-put-line
-    array-read-put-line
-    array-read-put-line-2
-    array-read-put-line-3
-    array-read-put-line-4
-    put-line-requires
-    add-i
-    loop-less
-    loop-again
-    same-length
-    returns)
+    (tie.spec Inv-loop μ-loop loop-holds mul-put-line array-read-put-line array-read-put-line-2 array-read-put-line-3
+    array-read-put-line-4 put-line-requires add-i loop-less loop-again same-length returns)

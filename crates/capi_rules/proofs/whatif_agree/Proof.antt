@@ -11,12 +11,6 @@ use Rattle.agreeing.proofs.agree.Reads as agree-reads
 use Rattle.capi_rules.proofs.none_shown.Reads as none-shown-reads
 use Rattle.capi_rules.proofs.put_lines.Reads as put-lines-reads
 
-agree-requires : tie.Need-agree-requires
-agree-requires c κs = tt
-
-cast-result : tie.Need-cast-result
-cast-result c = search needs
-
 returns : tie.Need-returns
 returns c =
     let g = c .before .before .before .before .before .args in
@@ -48,9 +42,6 @@ put-lines-requires c κs =
     (c .before .before .before .before .before .before .if1 .left) (g .lines .now) (omega
     (arith, c .before .before .before .before .before .if2 .left))
 
-none-shown-requires : tie.Need-none-shown-requires
-none-shown-requires c κs = tt
-
 cast-count : tie.Need-cast-count
 cast-count c =
     let x10 = c .before .before .before .before .before .before .before .before .before .before in
@@ -64,9 +55,6 @@ cast-count c =
           (x11 .agree .ensures)
           (x10 .if1 .left),
     )
-
-same-length : tie.Need-same-length
-same-length c = search needs
 
 returns-3 : tie.Need-returns-3
 returns-3 c =
@@ -87,14 +75,5 @@ returns-3 c =
 pub whatif-agree-spec : {M : Type 1} → statement M
 whatif-agree-spec =
     tie.close
-    (tie.spec
-    agree-requires
-    cast-result
-    returns
-    mul-if2
-    returns-2
-    put-lines-requires
-    none-shown-requires
-    cast-count
-    same-length
-    returns-3)
+    (tie.spec (λ c κs. tt) (λ c. search needs) returns mul-if2 returns-2 put-lines-requires (λ c κs. tt) cast-count
+    (λ c. search needs) returns-3)

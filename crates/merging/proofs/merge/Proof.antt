@@ -22,17 +22,11 @@ second-passes : (e : tie.Else2)
     → firstNo (ruleChecks (e .before .before .before .before .before .before .before .args .second .now)) ≡ 0
 second-passes e = sym (e .before .check-rule-bytes2 .ensures) ∙ e .if2 .left
 
-check-rule-bytes-requires : tie.Need-check-rule-bytes-requires
-check-rule-bytes-requires c κs = tt
-
 returns : tie.Need-returns
 returns c =
     let g = c .before .before .before .before .before .args in
     refused-done (g .first .now) (g .second .now) (g .out .now) _ (c .if1 .taken) (first-no (g .first .now)
     (g .second .now) (g .out .now) _ (c .before .check-rule-bytes .ensures) (c .if1 .taken))
-
-check-rule-bytes-requires-2 : tie.Need-check-rule-bytes-requires-2
-check-rule-bytes-requires-2 c κs = tt
 
 returns-2 : tie.Need-returns-2
 returns-2 c =
@@ -196,9 +190,6 @@ put-table-requires c κs =
     (x6 .if3 .left) ∙ x7 .read322 .ensures) _ _ _ (x5 .read323 .ensures) (x4 .read324 .ensures) (x8 .read32 .ensures) (omega
     (arith, x3 .if4 .left)) (x2 .inner-count .result) (x2 .inner-count .ensures .value) (omega (arith, x1 .if5 .left))
 
-same-length : tie.Need-same-length
-same-length c = search needs
-
 returns-6 : tie.Need-returns-6
 returns-6 c =
     let x2 = c .before .before in
@@ -222,23 +213,6 @@ returns-6 c =
 pub merge-spec : {M : Type 1} → statement M
 merge-spec =
     tie.close
-    (tie.spec
-    check-rule-bytes-requires
-    returns
-    check-rule-bytes-requires-2
-    returns-2
-    read32-requires
-    read32-requires-2
-    returns-3
-    read32-requires-3
-    read32-requires-4
-    mul-s
-    returns-4
-    add-if5
-    inner-count-requires
-    add-if5-2
-    add-if5-3
-    returns-5
-    put-table-requires
-    same-length
-    returns-6)
+    (tie.spec (λ c κs. tt) returns (λ c κs. tt) returns-2 read32-requires read32-requires-2 returns-3
+    read32-requires-3 read32-requires-4 mul-s returns-4 add-if5 inner-count-requires add-if5-2 add-if5-3 returns-5
+    put-table-requires (λ c. search needs) returns-6)

@@ -9,36 +9,6 @@ use Rattle.merging.proofs.put_head.Lts as lts
 use Rattle.formats.proofs.rules.inner_count.Reads as inner-count-reads
 use Rattle.merging.proofs.put32.Reads as put32-reads
 
-add-marks : tie.Need-add-marks
-add-marks c = search needs
-
-inner-count-requires : tie.Need-inner-count-requires
-inner-count-requires c κs = search needs
-
-add-marks-2 : tie.Need-add-marks-2
-add-marks-2 c = search needs
-
-put32-requires : tie.Need-put32-requires
-put32-requires c κs = search needs
-
-put32-requires-2 : tie.Need-put32-requires-2
-put32-requires-2 c κs = search needs
-
-put32-requires-3 : tie.Need-put32-requires-3
-put32-requires-3 c κs = search needs
-
-add-put32 : tie.Need-add-put32
-add-put32 c = search needs
-
-put32-requires-4 : tie.Need-put32-requires-4
-put32-requires-4 c κs = search needs
-
-put32-requires-5 : tie.Need-put32-requires-5
-put32-requires-5 c κs = search needs
-
-same-length : tie.Need-same-length
-same-length c = search needs
-
 returns : tie.Need-returns
 returns c =
     let x2 = c .before .before in
@@ -60,15 +30,6 @@ returns c =
 pub put-head-spec : {M : Type 1} → statement M
 put-head-spec =
     tie.close
-    (tie.spec
-    add-marks
-    inner-count-requires
-    add-marks-2
-    put32-requires
-    put32-requires-2
-    put32-requires-3
-    add-put32
-    put32-requires-4
-    put32-requires-5
-    same-length
-    returns)
+    (tie.spec (λ c. search needs) (λ c κs. search needs) (λ c. search needs) (λ c κs. search needs)
+    (λ c κs. search needs) (λ c κs. search needs) (λ c. search needs) (λ c κs. search needs) (λ c κs. search needs)
+    (λ c. search needs) returns)

@@ -104,17 +104,5 @@ returns c =
 pub put-inner-spec : {M : Type 1} → statement M
 put-inner-spec =
     tie.close
-    (tie.spec
-    Inv-loop
-    μ-loop
-    mul-s
-    mul-rows
-    loop-holds
-    mul-put-nth-row
-    add-put-nth-row
-    put-nth-row-requires
-    add-r
-    loop-less
-    loop-again
-    same-length
-    returns)
+    (tie.spec Inv-loop μ-loop mul-s mul-rows loop-holds mul-put-nth-row add-put-nth-row put-nth-row-requires add-r
+    loop-less loop-again same-length returns)

@@ -25,9 +25,6 @@ loop-holds c = (
       (c .args .second .now) (c .args .s2)) (c .args .out .now) (c .pre .room),
 )
 
-shared-slice-read-x : tie.Need-shared-slice-read-x Inv-loop μ-loop
-shared-slice-read-x c = search needs
-
 cast-x : tie.Need-cast-x Inv-loop μ-loop
 cast-x c = omega (arith, c .shared-slice-known .given (c .before .before .loop .i))
 
@@ -99,21 +96,5 @@ returns c =
 pub put-leaves-spec : {M : Type 1} → statement M
 put-leaves-spec =
     tie.close
-    (tie.spec
-    Inv-loop
-    μ-loop
-    loop-holds
-    shared-slice-read-x
-    cast-x
-    shared-slice-read-y
-    cast-y
-    mul-out
-    add-out
-    cast-out
-    add-out-2
-    slice-write-out
-    add-i
-    loop-less
-    loop-again
-    same-length
-    returns)
+    (tie.spec Inv-loop μ-loop loop-holds (λ c. search needs) cast-x shared-slice-read-y cast-y mul-out add-out
+    cast-out add-out-2 slice-write-out add-i loop-less loop-again same-length returns)

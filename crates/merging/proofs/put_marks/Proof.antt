@@ -108,19 +108,5 @@ returns c =
 pub put-marks-spec : {M : Type 1} → statement M
 put-marks-spec =
     tie.close
-    (tie.spec
-    Inv-loop
-    μ-loop
-    loop-holds
-    div-x
-    shared-slice-read-x
-    rem-y
-    shared-slice-read-y
-    mul-out
-    add-out
-    slice-write-out
-    add-c
-    loop-less
-    loop-again
-    same-length
-    returns)
+    (tie.spec Inv-loop μ-loop loop-holds div-x shared-slice-read-x rem-y shared-slice-read-y mul-out add-out
+    slice-write-out add-c loop-less loop-again same-length returns)

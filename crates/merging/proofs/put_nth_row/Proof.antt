@@ -12,15 +12,6 @@ use Rattle.merging.proofs.put_nth_row.Reads as reads
 use Rattle.merging.proofs.put_nth_row.Lts as lts
 use Rattle.merging.proofs.put_row.Reads as put-row-reads
 
-div-p : tie.Need-div-p
-div-p c = search needs
-
-rem-a : tie.Need-rem-a
-rem-a c = search needs
-
-div-i : tie.Need-div-i
-div-i c = search needs
-
 mul-i : tie.Need-mul-i
 mul-i c =
     let s = c .before .before .before in
@@ -52,9 +43,6 @@ mul-i-2 c =
       runs-small (g .first .now) (g .second .now) (g .s1) (g .s2) (g .k) (g .r) (s .pre .inner)
           (s .pre .inside) .0,
     )
-
-rem-j : tie.Need-rem-j
-rem-j c = search needs
 
 mul-j : tie.Need-mul-j
 mul-j c =
@@ -100,12 +88,6 @@ add-put-row c =
           (s .pre .inside) .0,
     )
 
-sub-put-row : tie.Need-sub-put-row
-sub-put-row c = search needs
-
-part-put-row-start : tie.Need-part-put-row-start
-part-put-row-start c = search needs
-
 part-put-row-end : tie.Need-part-put-row-end
 part-put-row-end c =
     let s = c .before .before .before in
@@ -124,12 +106,6 @@ add-put-row-2 c =
           (s .pre .inside) .1,
     )
 
-sub-put-row-2 : tie.Need-sub-put-row-2
-sub-put-row-2 c = search needs
-
-part-put-row-start-2 : tie.Need-part-put-row-start-2
-part-put-row-start-2 c = search needs
-
 part-put-row-end-2 : tie.Need-part-put-row-end-2
 part-put-row-end-2 c =
     let s = c .before .before .before .before in
@@ -143,9 +119,6 @@ put-row-requires c κs =
     nth-row (g .first .now) (g .second .now) (g .s1) (g .s2) (g .k) (g .r) (s .pre .inner) (s .pre .inside) (g .at)
     (g .out .now) (s .pre .room)
 
-same-length : tie.Need-same-length
-same-length c = search needs
-
 returns : tie.Need-returns
 returns c =
     let s = c .before .before .before .before .before .before .before .before .before in
@@ -156,25 +129,6 @@ returns c =
 pub put-nth-row-spec : {M : Type 1} → statement M
 put-nth-row-spec =
     tie.close
-    (tie.spec
-    div-p
-    rem-a
-    div-i
-    mul-i
-    add-i
-    mul-i-2
-    rem-j
-    mul-j
-    add-j
-    mul-j-2
-    add-put-row
-    sub-put-row
-    part-put-row-start
-    part-put-row-end
-    add-put-row-2
-    sub-put-row-2
-    part-put-row-start-2
-    part-put-row-end-2
-    put-row-requires
-    same-length
-    returns)
+    (tie.spec (λ c. search needs) (λ c. search needs) (λ c. search needs) mul-i add-i mul-i-2 (λ c. search needs)
+    mul-j add-j mul-j-2 add-put-row (λ c. search needs) (λ c. search needs) part-put-row-end add-put-row-2
+    (λ c. search needs) (λ c. search needs) part-put-row-end-2 put-row-requires (λ c. search needs) returns)

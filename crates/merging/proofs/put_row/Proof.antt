@@ -25,9 +25,6 @@ loop-holds c =
     let g = s .args in
     (s .pre, row-start (g .first .now) (g .second .now) (g .s2) (g .at) (g .out .now) (s .pre), omega arith)
 
-shared-slice-read-x : tie.Need-shared-slice-read-x Inv-loop μ-loop
-shared-slice-read-x c = search needs
-
 cast-x : tie.Need-cast-x Inv-loop μ-loop
 cast-x c = omega (arith, c .shared-slice-known3 .given (c .before .before .loop .p))
 
@@ -68,9 +65,6 @@ put-run-requires c κs =
     row-call (g .first .now) (g .second .now) (g .s2) (g .at) (g .out .now) (l .out) (l .p) (l .inv .0) (l .inv .1)
     (c .before .before .loop-test .taken)
 
-add-p : tie.Need-add-p Inv-loop μ-loop
-add-p c = search needs
-
 loop-less : tie.Need-loop-less Inv-loop μ-loop
 loop-less c = omega (arith, c .before .before .before .before .before .loop-test .taken)
 
@@ -98,18 +92,5 @@ returns c =
 pub put-row-spec : {M : Type 1} → statement M
 put-row-spec =
     tie.close
-    (tie.spec
-    Inv-loop
-    μ-loop
-    loop-holds
-    shared-slice-read-x
-    cast-x
-    mul-put-run
-    mul-put-run-2
-    add-put-run
-    put-run-requires
-    add-p
-    loop-less
-    loop-again
-    same-length
-    returns)
+    (tie.spec Inv-loop μ-loop loop-holds (λ c. search needs) cast-x mul-put-run mul-put-run-2 add-put-run
+    put-run-requires (λ c. search needs) loop-less loop-again same-length returns)

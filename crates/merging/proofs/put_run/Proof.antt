@@ -24,9 +24,6 @@ loop-holds c = (
       (c .args .second .now) q 0) (c .args .out .now) (c .pre .room),
 )
 
-shared-slice-read-y : tie.Need-shared-slice-read-y Inv-loop μ-loop
-shared-slice-read-y c = search needs
-
 cast-y : tie.Need-cast-y Inv-loop μ-loop
 cast-y c = omega (arith, c .shared-slice-known .given (c .before .before .loop .i))
 
@@ -90,18 +87,5 @@ returns c =
 pub put-run-spec : {M : Type 1} → statement M
 put-run-spec =
     tie.close
-    (tie.spec
-    Inv-loop
-    μ-loop
-    loop-holds
-    shared-slice-read-y
-    cast-y
-    add-out
-    cast-out
-    add-out-2
-    slice-write-out
-    add-i
-    loop-less
-    loop-again
-    same-length
-    returns)
+    (tie.spec Inv-loop μ-loop loop-holds (λ c. search needs) cast-y add-out cast-out add-out-2 slice-write-out add-i
+    loop-less loop-again same-length returns)

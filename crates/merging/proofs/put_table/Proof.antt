@@ -14,51 +14,6 @@ use Rattle.merging.proofs.put_inner.Reads as put-inner-reads
 use Rattle.merging.proofs.put_leaves.Reads as put-leaves-reads
 use Rattle.merging.proofs.put_marks.Reads as put-marks-reads
 
-mul-s : tie.Need-mul-s
-mul-s c = search needs
-
-add-i : tie.Need-add-i
-add-i c = search needs
-
-inner-count-requires : tie.Need-inner-count-requires
-inner-count-requires c κs = search needs
-
-add-m1 : tie.Need-add-m1
-add-m1 c = search needs
-
-inner-count-requires-2 : tie.Need-inner-count-requires-2
-inner-count-requires-2 c κs = search needs
-
-add-m2 : tie.Need-add-m2
-add-m2 c = search needs
-
-inner-count-requires-3 : tie.Need-inner-count-requires-3
-inner-count-requires-3 c κs = search needs
-
-add-m : tie.Need-add-m
-add-m c = search needs
-
-put-head-requires : tie.Need-put-head-requires
-put-head-requires c κs = search needs
-
-sub-put-leaves : tie.Need-sub-put-leaves
-sub-put-leaves c = search needs
-
-part-put-leaves-start : tie.Need-part-put-leaves-start
-part-put-leaves-start c = search needs
-
-part-put-leaves-end : tie.Need-part-put-leaves-end
-part-put-leaves-end c = search needs
-
-sub-put-leaves-2 : tie.Need-sub-put-leaves-2
-sub-put-leaves-2 c = search needs
-
-part-put-leaves-start-2 : tie.Need-part-put-leaves-start-2
-part-put-leaves-start-2 c = search needs
-
-part-put-leaves-end-2 : tie.Need-part-put-leaves-end-2
-part-put-leaves-end-2 c = search needs
-
 put-leaves-requires : tie.Need-put-leaves-requires
 put-leaves-requires c κs =
     let s = c .before .before .before .before .before .before .before .before .before .before .before .before .before in
@@ -68,24 +23,6 @@ put-leaves-requires c κs =
     (g .second .now) (g .s1) (g .s2) (g .k) (g .out .now) (s .pre)) (length-1 (g .first .now) (g .second .now) (g .s1)
     (g .s2) (g .k) (g .out .now) (s .pre) _ (g .out .now) (g .out .now) (g .out .now) 0
     (c .before .before .before .before .before .put-head .ensures))
-
-sub-put-inner : tie.Need-sub-put-inner
-sub-put-inner c = search needs
-
-part-put-inner-start : tie.Need-part-put-inner-start
-part-put-inner-start c = search needs
-
-part-put-inner-end : tie.Need-part-put-inner-end
-part-put-inner-end c = search needs
-
-sub-put-inner-2 : tie.Need-sub-put-inner-2
-sub-put-inner-2 c = search needs
-
-part-put-inner-start-2 : tie.Need-part-put-inner-start-2
-part-put-inner-start-2 c = search needs
-
-part-put-inner-end-2 : tie.Need-part-put-inner-end-2
-part-put-inner-end-2 c = search needs
 
 put-inner-requires : tie.Need-put-inner-requires
 put-inner-requires c κs =
@@ -104,24 +41,6 @@ put-inner-requires c κs =
     (g .out .now) 0 (x11 .put-head .ensures) _ _ (leaves-first (g .first .now) (g .second .now) (g .s1) (g .s2) (g .k)
     (g .out .now) (s .pre)) (leaves-second (g .first .now) (g .second .now) (g .s1) (g .s2) (g .k) (g .out .now) (s .pre))
     (x5 .put-leaves .ensures))
-
-sub-put-marks : tie.Need-sub-put-marks
-sub-put-marks c = search needs
-
-part-put-marks-start : tie.Need-part-put-marks-start
-part-put-marks-start c = search needs
-
-part-put-marks-end : tie.Need-part-put-marks-end
-part-put-marks-end c = search needs
-
-sub-put-marks-2 : tie.Need-sub-put-marks-2
-sub-put-marks-2 c = search needs
-
-part-put-marks-start-2 : tie.Need-part-put-marks-start-2
-part-put-marks-start-2 c = search needs
-
-part-put-marks-end-2 : tie.Need-part-put-marks-end-2
-part-put-marks-end-2 c = search needs
 
 put-marks-requires : tie.Need-put-marks-requires
 put-marks-requires c κs =
@@ -146,9 +65,6 @@ put-marks-requires c κs =
     (s .pre) (x21 .inner-count .result) (x21 .inner-count .ensures .value)) (inner-second (g .first .now) (g .second .now)
     (g .s1) (g .s2) (g .k) (g .out .now) (s .pre) (x20 .inner-count2 .result) (x20 .inner-count2 .ensures .value))
     (x5 .put-inner .ensures))
-
-same-length : tie.Need-same-length
-same-length c = search needs
 
 returns : tie.Need-returns
 returns c =
@@ -176,36 +92,10 @@ returns c =
 pub put-table-spec : {M : Type 1} → statement M
 put-table-spec =
     tie.close
-    (tie.spec
-    mul-s
-    add-i
-    inner-count-requires
-    add-m1
-    inner-count-requires-2
-    add-m2
-    inner-count-requires-3
-    add-m
-    put-head-requires
-    sub-put-leaves
-    part-put-leaves-start
-    part-put-leaves-end
-    sub-put-leaves-2
-    part-put-leaves-start-2
-    part-put-leaves-end-2
-    put-leaves-requires
-    sub-put-inner
-    part-put-inner-start
-    part-put-inner-end
-    sub-put-inner-2
-    part-put-inner-start-2
-    part-put-inner-end-2
-    put-inner-requires
-    sub-put-marks
-    part-put-marks-start
-    part-put-marks-end
-    sub-put-marks-2
-    part-put-marks-start-2
-    part-put-marks-end-2
-    put-marks-requires
-    same-length
-    returns)
+    (tie.spec (λ c. search needs) (λ c. search needs) (λ c κs. search needs) (λ c. search needs)
+    (λ c κs. search needs) (λ c. search needs) (λ c κs. search needs) (λ c. search needs) (λ c κs. search needs)
+    (λ c. search needs) (λ c. search needs) (λ c. search needs) (λ c. search needs) (λ c. search needs)
+    (λ c. search needs) put-leaves-requires (λ c. search needs) (λ c. search needs) (λ c. search needs)
+    (λ c. search needs) (λ c. search needs) (λ c. search needs) put-inner-requires (λ c. search needs)
+    (λ c. search needs) (λ c. search needs) (λ c. search needs) (λ c. search needs) (λ c. search needs)
+    put-marks-requires (λ c. search needs) returns)

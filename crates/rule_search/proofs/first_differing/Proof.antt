@@ -85,9 +85,6 @@ add-i c =
     let l = a .loop in
     omega (arith, l .inv .0 .few, c .before .before .before .before .loop-test .taken)
 
-loop-less : tie.Need-loop-less Inv-loop μ-loop
-loop-less c = search needs
-
 loop-again : tie.Need-loop-again Inv-loop μ-loop
 loop-again c =
     let a = c .before .before .before .before .before in
@@ -108,19 +105,5 @@ returns-2 c =
 pub first-differing-spec : {M : Type 1} → statement M
 first-differing-spec =
     tie.close
-    (tie.spec
-    Inv-loop
-    μ-loop
-    loop-holds
-    element-copy-out-c
-    cast-c
-    div-if1
-    shared-slice-read-if1
-    rem-if1
-    shared-slice-read-if1-2
-    add-result
-    returns
-    add-i
-    loop-less
-    loop-again
-    returns-2)
+    (tie.spec Inv-loop μ-loop loop-holds element-copy-out-c cast-c div-if1 shared-slice-read-if1 rem-if1
+    shared-slice-read-if1-2 add-result returns add-i (λ c. search needs) loop-again returns-2)

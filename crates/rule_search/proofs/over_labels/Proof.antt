@@ -20,18 +20,6 @@ Inv-loop first second s1 s2 k i j p q p1 p2 q1 q2 t₀ a₀ t a =
 abbrev μ-loop : tie.MeasureT-loop
 μ-loop first second s1 s2 k i j p q p1 p2 q1 q2 t₀ a₀ t a = k - a
 
-div-p1 : tie.Need-div-p1 Inv-loop μ-loop
-div-p1 c = search needs
-
-rem-p2 : tie.Need-rem-p2 Inv-loop μ-loop
-rem-p2 c = search needs
-
-div-q1 : tie.Need-div-q1 Inv-loop μ-loop
-div-q1 c = search needs
-
-rem-q2 : tie.Need-rem-q2 Inv-loop μ-loop
-rem-q2 c = search needs
-
 loop-holds : tie.Need-loop-holds Inv-loop μ-loop
 loop-holds c =
     let s = c .before .before in
@@ -47,21 +35,6 @@ pair-step-requires c κs =
     (g .s) (l .t) (l .a) (l .inv)
     (c .loop-test .taken)
 
-cast-at : tie.Need-cast-at Inv-loop μ-loop
-cast-at c = search needs
-
-element-copy-out-if1 : tie.Need-element-copy-out-if1 Inv-loop μ-loop
-element-copy-out-if1 c = search needs
-
-cast-with-line : tie.Need-cast-with-line Inv-loop μ-loop
-cast-with-line c = search needs
-
-cast-with-line-2 : tie.Need-cast-with-line-2 Inv-loop μ-loop
-cast-with-line-2 c = search needs
-
-cast-with-line-3 : tie.Need-cast-with-line-3 Inv-loop μ-loop
-cast-with-line-3 c = search needs
-
 with-line-requires : tie.Need-with-line-requires Inv-loop μ-loop
 with-line-requires c κs =
     let m = c .before .before in
@@ -71,12 +44,6 @@ with-line-requires c κs =
     labels-loop-room (g .first .now) (g .second .now) (g .s1) (g .s2) (g .k) (g .i) (g .j) (g .p) (g .q) _ _ _ _
     (g .s) (l .t) (l .a) (l .inv)
     (m .before .loop-test .taken) (m .pair-step .result) (m .pair-step .ensures) (c .if1 .taken)
-
-add-a : tie.Need-add-a Inv-loop μ-loop
-add-a c = search needs
-
-loop-less : tie.Need-loop-less Inv-loop μ-loop
-loop-less c = search needs
 
 loop-again : tie.Need-loop-again Inv-loop μ-loop
 loop-again c =
@@ -106,22 +73,6 @@ returns c =
 pub over-labels-spec : {M : Type 1} → statement M
 over-labels-spec =
     tie.close
-    (tie.spec
-    Inv-loop
-    μ-loop
-    div-p1
-    rem-p2
-    div-q1
-    rem-q2
-    loop-holds
-    pair-step-requires
-    cast-at
-    element-copy-out-if1
-    cast-with-line
-    cast-with-line-2
-    cast-with-line-3
-    with-line-requires
-    add-a
-    loop-less
-    loop-again
-    returns)
+    (tie.spec Inv-loop μ-loop (λ c. search needs) (λ c. search needs) (λ c. search needs) (λ c. search needs)
+    loop-holds pair-step-requires (λ c. search needs) (λ c. search needs) (λ c. search needs) (λ c. search needs)
+    (λ c. search needs) with-line-requires (λ c. search needs) (λ c. search needs) loop-again returns)

@@ -116,12 +116,6 @@ with-line-requires c κs =
     leaves-loop-room (g .first .now) (g .second .now) (g .s1) (g .s2) (g .k) (g .s) (l .t) (l .label) (l .inv)
     (c .before .before .before .before .loop-test .taken) (c .if1 .taken)
 
-add-label : tie.Need-add-label Inv-loop μ-loop
-add-label c = search needs
-
-loop-less : tie.Need-loop-less Inv-loop μ-loop
-loop-less c = search needs
-
 loop-again : tie.Need-loop-again Inv-loop μ-loop
 loop-again c =
     let a = c .before .before .before .before .before in
@@ -145,21 +139,6 @@ returns c =
 pub over-leaves-spec : {M : Type 1} → statement M
 over-leaves-spec =
     tie.close
-    (tie.spec
-    Inv-loop
-    μ-loop
-    loop-holds
-    shared-slice-read-x
-    cast-x
-    shared-slice-read-y
-    cast-y
-    mul-c
-    add-c
-    element-copy-out-if1
-    cast-with-line
-    cast-with-line-2
-    with-line-requires
-    add-label
-    loop-less
-    loop-again
-    returns)
+    (tie.spec Inv-loop μ-loop loop-holds shared-slice-read-x cast-x shared-slice-read-y cast-y mul-c add-c
+    element-copy-out-if1 cast-with-line cast-with-line-2 with-line-requires (λ c. search needs) (λ c. search needs)
+    loop-again returns)

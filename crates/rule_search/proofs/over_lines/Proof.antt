@@ -83,9 +83,6 @@ add-j c =
       c .before .before .before .before .loop-test .taken,
     )
 
-loop-less : tie.Need-loop-less Inv-loop μ-loop
-loop-less c = search needs
-
 loop-again : tie.Need-loop-again Inv-loop μ-loop
 loop-again c =
     let g = c .before .before .before .before .before .before .before .before .args in
@@ -105,17 +102,5 @@ returns c =
 pub over-lines-spec : {M : Type 1} → statement M
 over-lines-spec =
     tie.close
-    (tie.spec
-    Inv-loop
-    μ-loop
-    loop-holds
-    element-copy-out-p
-    cast-p
-    element-copy-out-q
-    cast-q
-    over-labels-requires
-    over-labels-requires-2
-    add-j
-    loop-less
-    loop-again
-    returns)
+    (tie.spec Inv-loop μ-loop loop-holds element-copy-out-p cast-p element-copy-out-q cast-q over-labels-requires
+    over-labels-requires-2 add-j (λ c. search needs) loop-again returns)

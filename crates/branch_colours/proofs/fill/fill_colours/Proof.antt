@@ -33,12 +33,6 @@ write-colours-requires c κs =
     (s .args .bytes .now) (w .last .1 .1 .1 .1 .1 .0) (w .last .1 .1 .1 .1 .0) (w .ensures)
     (w .kept .1 .1 .1 .1 .0 ∙ t .kept .1 .0)
 
-same-length : tie.Need-same-length
-same-length c = search needs
-
-same-length-2 : tie.Need-same-length-2
-same-length-2 c = search needs
-
 returns : tie.Need-returns
 returns c =
     let d = c .before .before in
@@ -56,10 +50,5 @@ returns c =
 pub fill-colours-spec : {M : Type 1} → statement M
 fill-colours-spec =
     tie.close
-    (tie.spec
-    build-node-table-requires
-    write-words-requires
-    write-colours-requires
-    same-length
-    same-length-2
-    returns)
+    (tie.spec build-node-table-requires write-words-requires write-colours-requires (λ c. search needs)
+    (λ c. search needs) returns)

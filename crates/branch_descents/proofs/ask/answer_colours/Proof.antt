@@ -165,9 +165,6 @@ sub-finish c = omega (arith, table (reads-of c))
 part-finish-start : tie.Need-part-finish-start
 part-finish-start c = omega (arith, table (reads-of c))
 
-part-finish-end : tie.Need-part-finish-end
-part-finish-end c = search needs
-
 finish-requires : tie.Need-finish-requires
 finish-requires c κs =
     let e = c .before in
@@ -207,20 +204,6 @@ returns-4 c =
 pub answer-colours-spec : {M : Type 1} → statement M
 answer-colours-spec =
     tie.close
-    (tie.spec
-    read32-requires
-    read32-requires-2
-    read32-requires-3
-    start-place-requires
-    returns
-    start-colour-requires
-    returns-2
-    descend-to-requires
-    returns-3
-    mul-finish
-    add-finish
-    sub-finish
-    part-finish-start
-    part-finish-end
-    finish-requires
-    returns-4)
+    (tie.spec read32-requires read32-requires-2 read32-requires-3 start-place-requires returns start-colour-requires
+    returns-2 descend-to-requires returns-3 mul-finish add-finish sub-finish part-finish-start (λ c. search needs)
+    finish-requires returns-4)

@@ -36,9 +36,6 @@ limits m =
 product : (m : tie.After-read323) → m .before .read322 .result * m .read323 .result ≤ 1024
 product m = mul-le-mul {n₁ = m .before .read322 .result} {m₁ = m .read323 .result} {n₂ = 16} {m₂ = 64} (limits m .1) (limits m .2)
 
-headers-fit-requires : tie.Need-headers-fit-requires
-headers-fit-requires c κs = search needs
-
 returns : tie.Need-returns
 returns c =
     let g = c .before .before .before .before .args in
@@ -86,9 +83,6 @@ returns-3 c =
     (m .before .before .read32 .result) (m .before .read322 .result) (m .read323 .result) (m .before .before .read32 .ensures)
     (m .before .read322 .ensures) (m .read323 .ensures) (e .if2 .left) (c .if3 .taken)
 
-mul-if4 : tie.Need-mul-if4
-mul-if4 c = search needs
-
 returns-4 : tie.Need-returns-4
 returns-4 c =
     let f = c .before in
@@ -119,20 +113,5 @@ returns-5 c =
 pub colour-buffers-fit-spec : {M : Type 1} → statement M
 colour-buffers-fit-spec =
     tie.close
-    (tie.spec
-    headers-fit-requires
-    returns
-    read32-requires
-    read32-requires-2
-    read32-requires-3
-    mul-if2
-    add-if2
-    returns-2
-    mul-if3
-    add-if3
-    add-if3-2
-    returns-3
-    mul-if4
-    returns-4
-    colours-fit-requires
-    returns-5)
+    (tie.spec (λ c κs. search needs) returns read32-requires read32-requires-2 read32-requires-3 mul-if2 add-if2
+    returns-2 mul-if3 add-if3 add-if3-2 returns-3 (λ c. search needs) returns-4 colours-fit-requires returns-5)

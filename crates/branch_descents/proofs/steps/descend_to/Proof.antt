@@ -11,9 +11,6 @@ use Rattle.branch_descents.proofs.steps.descend_to.Reads as reads
 use Rattle.branch_descents.proofs.steps.descend_to.Lts as lts
 use Rattle.descents.proofs.descend.descend_from.Reads as descend-from-reads
 
-descend-from-requires : tie.Need-descend-from-requires
-descend-from-requires c κs = search needs
-
 returns : tie.Need-returns
 returns c =
     let i = c .before in
@@ -21,9 +18,6 @@ returns c =
     c .descend-from .ensures
     ∙ ap (λ (z : Place). descendedOf (descend (cellTable (g .n) (g .numbers .now)) (g .c) z (g .l) (g .c)))
     (place-top (g .n) (g .z) (i .if1 .taken))
-
-descend-from-requires-2 : tie.Need-descend-from-requires-2
-descend-from-requires-2 c κs = search needs
 
 returns-2 : tie.Need-returns-2
 returns-2 c =
@@ -35,4 +29,4 @@ returns-2 c =
 
 pub descend-to-spec : {M : Type 1} → statement M
 descend-to-spec =
-    tie.close (tie.spec descend-from-requires returns descend-from-requires-2 returns-2)
+    tie.close (tie.spec (λ c κs. search needs) returns (λ c κs. search needs) returns-2)

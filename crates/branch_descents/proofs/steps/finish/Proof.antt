@@ -8,15 +8,6 @@ use Rattle.branch_descents.proofs.steps.finish.Tie as tie
 use Rattle.branch_descents.proofs.steps.finish.Reads as reads
 use Rattle.branch_descents.proofs.steps.finish.Lts as lts
 
-mul-q : tie.Need-mul-q
-mul-q c = search needs
-
-add-q : tie.Need-add-q
-add-q c = search needs
-
-shared-slice-read-q : tie.Need-shared-slice-read-q
-shared-slice-read-q c = search needs
-
 cast-if1 : tie.Need-cast-if1
 cast-if1 c =
     let g = c .before .args in
@@ -27,12 +18,6 @@ returns c =
     let g = c .before .before .args in
     finish-outside (g .s) (g .marks .now) (g .bytes .now) (g .l) (g .c) (g .drops) (g .links) (c .if1 .taken)
 
-cast-t10 : tie.Need-cast-t10
-cast-t10 c = search needs
-
-shared-slice-read-t12 : tie.Need-shared-slice-read-t12
-shared-slice-read-t12 c = search needs
-
 returns-2 : tie.Need-returns-2
 returns-2 c =
     let g = c .before .before .before .args in
@@ -41,12 +26,5 @@ returns-2 c =
 pub finish-spec : {M : Type 1} → statement M
 finish-spec =
     tie.close
-    (tie.spec
-    mul-q
-    add-q
-    shared-slice-read-q
-    cast-if1
-    returns
-    cast-t10
-    shared-slice-read-t12
-    returns-2)
+    (tie.spec (λ c. search needs) (λ c. search needs) (λ c. search needs) cast-if1 returns (λ c. search needs)
+    (λ c. search needs) returns-2)

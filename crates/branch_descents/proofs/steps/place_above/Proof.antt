@@ -7,18 +7,9 @@ use Rattle.branch_descents.proofs.steps.place_above.Reads as reads
 use Rattle.branch_descents.proofs.steps.place_above.Lts as lts
 use Rattle.node_tables.proofs.moves.parent_at.Reads as parent-at-reads
 
-add-if1 : tie.Need-add-if1
-add-if1 c = search needs
-
 returns : tie.Need-returns
 returns c =
     let g = c .before .before .args in place-root (g .n) (g .node-table .now) (g .u) (c .if1 .taken)
-
-parent-at-requires : tie.Need-parent-at-requires
-parent-at-requires c κs = search needs
-
-add-result : tie.Need-add-result
-add-result c = search needs
 
 returns-2 : tie.Need-returns-2
 returns-2 c =
@@ -36,4 +27,4 @@ returns-3 c =
 
 pub place-above-spec : {M : Type 1} → statement M
 place-above-spec =
-    tie.close (tie.spec add-if1 returns parent-at-requires add-result returns-2 returns-3)
+    tie.close (tie.spec (λ c. search needs) returns (λ c κs. search needs) (λ c. search needs) returns-2 returns-3)

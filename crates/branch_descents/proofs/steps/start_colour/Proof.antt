@@ -28,17 +28,8 @@ mul-place-of-2 c = omega (arith, inside c)
 add-place-of : tie.Need-add-place-of
 add-place-of c = omega (arith, inside c)
 
-sub-place-of : tie.Need-sub-place-of
-sub-place-of c = search needs
-
-part-place-of-start : tie.Need-part-place-of-start
-part-place-of-start c = search needs
-
 part-place-of-end : tie.Need-part-place-of-end
 part-place-of-end c = omega (arith, inside c)
-
-place-of-requires : tie.Need-place-of-requires
-place-of-requires c κs = search needs
 
 returns-2 : tie.Need-returns-2
 returns-2 c =
@@ -49,13 +40,5 @@ returns-2 c =
 pub start-colour-spec : {M : Type 1} → statement M
 start-colour-spec =
     tie.close
-    (tie.spec
-    returns
-    mul-place-of
-    mul-place-of-2
-    add-place-of
-    sub-place-of
-    part-place-of-start
-    part-place-of-end
-    place-of-requires
-    returns-2)
+    (tie.spec returns mul-place-of mul-place-of-2 add-place-of (λ c. search needs) (λ c. search needs)
+    part-place-of-end (λ c κs. search needs) returns-2)

@@ -7,15 +7,6 @@ use Rattle.branch_descents.proofs.steps.start_place.Reads as reads
 use Rattle.branch_descents.proofs.steps.start_place.Lts as lts
 use Rattle.branch_descents.proofs.steps.place_above.Reads as place-above-reads
 
-enum-told : tie.Need-enum-told
-enum-told c = search needs
-
-place-above-requires : tie.Need-place-above-requires
-place-above-requires c κs = search needs
-
-enum-told-2 : tie.Need-enum-told-2
-enum-told-2 c = search needs
-
 returns : tie.Need-returns
 returns c = rw (c .before .enum-told .given .1) (c .place-above .ensures)
 
@@ -26,4 +17,4 @@ returns-2 c =
 
 pub start-place-spec : {M : Type 1} → statement M
 start-place-spec =
-    tie.close (tie.spec enum-told place-above-requires enum-told-2 returns returns-2)
+    tie.close (tie.spec (λ c. search needs) (λ c κs. search needs) (λ c. search needs) returns returns-2)

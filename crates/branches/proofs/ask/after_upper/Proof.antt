@@ -8,9 +8,6 @@ use Rattle.branches.proofs.ask.after_upper.Tie as tie
 use Rattle.branches.proofs.ask.after_upper.Reads as reads
 use Rattle.branches.proofs.ask.after_upper.Lts as lts
 
-shared-slice-read-a : tie.Need-shared-slice-read-a
-shared-slice-read-a c = search needs
-
 cast-a : tie.Need-cast-a
 cast-a c = omega (arith, c .shared-slice-known .given (c .before .args .u))
 
@@ -33,4 +30,4 @@ returns-2 c = first-label _ _ _ _ _ (c .before .if1 .left)
 pub after-upper-spec : {M : Type 1} → statement M
 after-upper-spec =
     tie.close
-    (tie.spec shared-slice-read-a cast-a returns shared-slice-read-result cast-result returns-2)
+    (tie.spec (λ c. search needs) cast-a returns shared-slice-read-result cast-result returns-2)

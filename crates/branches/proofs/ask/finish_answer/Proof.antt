@@ -8,17 +8,8 @@ use Rattle.branches.proofs.ask.finish_answer.Reads as reads
 use Rattle.branches.proofs.ask.finish_answer.Lts as lts
 use Rattle.branches.proofs.ask.first_state.Reads as first-state-reads
 
-first-state-requires : tie.Need-first-state-requires
-first-state-requires c κs = search needs
-
 returns : tie.Need-returns
 returns c = finish-none _ _ _ _ _ _ _ (c .before .first-state .ensures) _ _ _ _ (c .if1 .taken)
-
-add-state : tie.Need-add-state
-add-state c = search needs
-
-shared-slice-read-state : tie.Need-shared-slice-read-state
-shared-slice-read-state c = search needs
 
 cast-mark : tie.Need-cast-mark
 cast-mark c =
@@ -38,11 +29,5 @@ returns-2 c =
 pub finish-answer-spec : {M : Type 1} → statement M
 finish-answer-spec =
     tie.close
-    (tie.spec
-    first-state-requires
-    returns
-    add-state
-    shared-slice-read-state
-    cast-mark
-    shared-slice-read-mark
+    (tie.spec (λ c κs. search needs) returns (λ c. search needs) (λ c. search needs) cast-mark shared-slice-read-mark
     returns-2)

@@ -7,15 +7,6 @@ use Rattle.branches.proofs.ask.first_state.Reads as reads
 use Rattle.branches.proofs.ask.first_state.Lts as lts
 use Rattle.branches.proofs.ask.after_upper.Reads as after-upper-reads
 
-enum-told : tie.Need-enum-told
-enum-told c = search needs
-
-after-upper-requires : tie.Need-after-upper-requires
-after-upper-requires c κs = search needs
-
-enum-told-2 : tie.Need-enum-told-2
-enum-told-2 c = search needs
-
 returns : tie.Need-returns
 returns c = rw (c .before .enum-told .given .1) (c .after-upper .ensures)
 
@@ -25,4 +16,4 @@ returns-2 c =
 
 pub first-state-spec : {M : Type 1} → statement M
 first-state-spec =
-    tie.close (tie.spec enum-told after-upper-requires enum-told-2 returns returns-2)
+    tie.close (tie.spec (λ c. search needs) (λ c κs. search needs) (λ c. search needs) returns returns-2)

@@ -25,12 +25,6 @@ fill-maps-requires c κs =
     rw (f .kept .1 .1 .1 .1 .1 .1 .0)
     (fill-branch-args _ _ _ _ _ _ _ (a .pre) (a .args .node-table .now) (b .last .1 .0) (b .ensures) (b .kept .1 .0))
 
-same-length : tie.Need-same-length
-same-length c = search needs
-
-same-length-2 : tie.Need-same-length-2
-same-length-2 c = search needs
-
 returns : tie.Need-returns
 returns c =
     let m = c .before .before .fill-maps in
@@ -47,10 +41,5 @@ returns c =
 pub fill-branch-spec : {M : Type 1} → statement M
 fill-branch-spec =
     tie.close
-    (tie.spec
-    build-node-table-requires
-    fill-steps-requires
-    fill-maps-requires
-    same-length
-    same-length-2
+    (tie.spec build-node-table-requires fill-steps-requires fill-maps-requires (λ c. search needs) (λ c. search needs)
     returns)

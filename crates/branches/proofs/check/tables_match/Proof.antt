@@ -65,10 +65,4 @@ returns-3 c =
 pub tables-match-spec : {M : Type 1} → statement M
 tables-match-spec =
     tie.close
-    (tie.spec
-    check-node-table-requires
-    returns
-    check-steps-requires
-    returns-2
-    check-maps-requires
-    returns-3)
+    (tie.spec check-node-table-requires returns check-steps-requires returns-2 check-maps-requires returns-3)

@@ -62,9 +62,6 @@ loop-holds c =
           (sym (c .before .root-row-is .ensures) ∙ not-false (c .before .root-row-is .result) (c .if1 .left)),
     )
 
-sub-v : tie.Need-sub-v Inv-loop μ-loop
-sub-v c = search needs
-
 node-map-is-requires : tie.Need-node-map-is-requires Inv-loop μ-loop
 node-map-is-requires c κs =
     let s = c .before .before .before .before .before .before .before .before in
@@ -78,9 +75,6 @@ returns-2 c =
     map-differs _ _ _ _ _ _ _ (entered s) (s .args .state-table .now) (i .before .loop .v - 1)
     (omega (arith, i .before .loop .inv .0, i .loop-test .taken)) (above i)
     (sym (c .before .node-map-is .ensures) ∙ not-true (c .before .node-map-is .result) (c .if2 .taken))
-
-loop-less : tie.Need-loop-less Inv-loop μ-loop
-loop-less c = search needs
 
 loop-again : tie.Need-loop-again Inv-loop μ-loop
 loop-again c =
@@ -102,16 +96,5 @@ returns-3 c =
 pub check-maps-spec : {M : Type 1} → statement M
 check-maps-spec =
     tie.close
-    (tie.spec
-    Inv-loop
-    μ-loop
-    sub-root
-    root-row-is-requires
-    returns
-    loop-holds
-    sub-v
-    node-map-is-requires
-    returns-2
-    loop-less
-    loop-again
-    returns-3)
+    (tie.spec Inv-loop μ-loop sub-root root-row-is-requires returns loop-holds (λ c. search needs)
+    node-map-is-requires returns-2 (λ c. search needs) loop-again returns-3)

@@ -32,45 +32,9 @@ inside : (c : tie.In-loop Inv-loop μ-loop) → let g = c .before .before .args 
 inside c = let g = c .before .before .args in
     c .before .before .pre .inside (mapCell (g .s) (g .state-table .now) (g .j) (c .before .loop .q)) (far-below c)
 
-add-at : tie.Need-add-at Inv-loop μ-loop
-add-at c = search needs
-
-mul-at : tie.Need-mul-at Inv-loop μ-loop
-mul-at c = search needs
-
-add-near : tie.Need-add-near Inv-loop μ-loop
-add-near c = search needs
-
-mul-near : tie.Need-mul-near Inv-loop μ-loop
-mul-near c = search needs
-
-add-far : tie.Need-add-far Inv-loop μ-loop
-add-far c = search needs
-
-mul-far : tie.Need-mul-far Inv-loop μ-loop
-mul-far c = search needs
-
 loop-holds : tie.Need-loop-holds Inv-loop μ-loop
 unfolding every
 loop-holds c = (omega arith, refl)
-
-add-x : tie.Need-add-x Inv-loop μ-loop
-add-x c = search needs
-
-add-x-2 : tie.Need-add-x-2 Inv-loop μ-loop
-add-x-2 c = search needs
-
-shared-slice-read-x : tie.Need-shared-slice-read-x Inv-loop μ-loop
-shared-slice-read-x c = search needs
-
-add-y : tie.Need-add-y Inv-loop μ-loop
-add-y c = search needs
-
-add-y-2 : tie.Need-add-y-2 Inv-loop μ-loop
-add-y-2 c = search needs
-
-shared-slice-read-y : tie.Need-shared-slice-read-y Inv-loop μ-loop
-shared-slice-read-y c = search needs
 
 cast-y : tie.Need-cast-y Inv-loop μ-loop
 cast-y c = omega (arith, far-below (c .before .before), c .before .before .before .before .pre .near-room)
@@ -104,12 +68,6 @@ add-next c = omega (arith, inside (c .before .before .before))
 shared-slice-read-next : tie.Need-shared-slice-read-next Inv-loop μ-loop
 shared-slice-read-next c = inside (c .before .before .before .before)
 
-add-q : tie.Need-add-q Inv-loop μ-loop
-add-q c = search needs
-
-loop-less : tie.Need-loop-less Inv-loop μ-loop
-loop-less c = search needs
-
 loop-again : tie.Need-loop-again Inv-loop μ-loop
 loop-again c =
     let l = c .before .before .before .before .before .before .loop in
@@ -131,31 +89,7 @@ returns c =
 pub step-row-is-spec : {M : Type 1} → statement M
 step-row-is-spec =
     tie.close
-    (tie.spec
-    Inv-loop
-    μ-loop
-    add-at
-    mul-at
-    add-near
-    mul-near
-    add-far
-    mul-far
-    loop-holds
-    add-x
-    add-x-2
-    shared-slice-read-x
-    add-y
-    add-y-2
-    shared-slice-read-y
-    cast-y
-    add-z
-    add-z-2
-    shared-slice-read-z
-    cast-z
-    mul-next
-    add-next
-    shared-slice-read-next
-    add-q
-    loop-less
-    loop-again
-    returns)
+    (tie.spec Inv-loop μ-loop (λ c. search needs) (λ c. search needs) (λ c. search needs) (λ c. search needs)
+    (λ c. search needs) (λ c. search needs) loop-holds (λ c. search needs) (λ c. search needs) (λ c. search needs)
+    (λ c. search needs) (λ c. search needs) (λ c. search needs) cast-y add-z add-z-2 shared-slice-read-z cast-z
+    mul-next add-next shared-slice-read-next (λ c. search needs) (λ c. search needs) loop-again returns)

@@ -49,9 +49,6 @@ fits c =
     step-fits _ _ _ _ _ _ _ (entered s) (c .before .loop .v - 1) (s .args .state-table .now) (s .args .state-table .now) (above c)
     (omega (arith, c .before .loop .inv .0, c .loop-test .taken)) (s .pre .room)
 
-add-w : tie.Need-add-w Inv-loop μ-loop
-add-w c = search needs
-
 sub-root : tie.Need-sub-root Inv-loop μ-loop
 sub-root c = omega (arith, pos c)
 
@@ -89,18 +86,6 @@ loop-holds c =
       root-state-same _ _ _ _ _ _ _ (entered s) (s .args .state-table .now) (s .args .n - 1) (omega (arith, pos s))
           (c .if1 .left),
     )
-
-sub-v : tie.Need-sub-v Inv-loop μ-loop
-sub-v c = search needs
-
-mul-p : tie.Need-mul-p Inv-loop μ-loop
-mul-p c = search needs
-
-mul-p-2 : tie.Need-mul-p-2 Inv-loop μ-loop
-mul-p-2 c = search needs
-
-shared-slice-read-p : tie.Need-shared-slice-read-p Inv-loop μ-loop
-shared-slice-read-p c = search needs
 
 cast-p : tie.Need-cast-p Inv-loop μ-loop
 cast-p c = omega (arith, c .shared-slice-known4 .given ((c .before .before .loop .v - 1) * 4))
@@ -147,9 +132,6 @@ returns-2 c =
     state-differs _ _ _ _ _ _ _ (entered s) (s .args .state-table .now) (i .before .loop .v - 1)
     (omega (arith, i .before .loop .inv .0, i .loop-test .taken)) (above i) (c .if2 .taken)
 
-loop-less : tie.Need-loop-less Inv-loop μ-loop
-loop-less c = search needs
-
 loop-again : tie.Need-loop-again Inv-loop μ-loop
 loop-again c =
     let i = c .before .before .before .before .before .before in
@@ -169,36 +151,7 @@ returns-3 c =
 pub check-steps-spec : {M : Type 1} → statement M
 check-steps-spec =
     tie.close
-    (tie.spec
-    Inv-loop
-    μ-loop
-    add-w
-    sub-root
-    shared-slice-read-first
-    cast-first
-    mul-x
-    add-x
-    shared-slice-read-x
-    mul-y
-    shared-slice-read-y
-    returns
-    loop-holds
-    sub-v
-    mul-p
-    mul-p-2
-    shared-slice-read-p
-    cast-p
-    mul-q
-    shared-slice-read-q
-    cast-q
-    shared-slice-read-a
-    cast-a
-    mul-x-2
-    add-x-2
-    shared-slice-read-x-2
-    mul-y-2
-    shared-slice-read-y-2
-    returns-2
-    loop-less
-    loop-again
-    returns-3)
+    (tie.spec Inv-loop μ-loop (λ c. search needs) sub-root shared-slice-read-first cast-first mul-x add-x
+    shared-slice-read-x mul-y shared-slice-read-y returns loop-holds (λ c. search needs) (λ c. search needs)
+    (λ c. search needs) (λ c. search needs) cast-p mul-q shared-slice-read-q cast-q shared-slice-read-a cast-a mul-x-2
+    add-x-2 shared-slice-read-x-2 mul-y-2 shared-slice-read-y-2 returns-2 (λ c. search needs) loop-again returns-3)

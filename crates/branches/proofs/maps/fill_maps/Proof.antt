@@ -62,9 +62,6 @@ same-row-requires c κs =
 loop-holds : tie.Need-loop-holds Inv-loop μ-loop
 loop-holds c = (omega (arith, pos (c .before .before .before .before .before .before .before .before)), refl, λ b d. d)
 
-sub-v : tie.Need-sub-v Inv-loop μ-loop
-sub-v c = search needs
-
 node-map-requires : tie.Need-node-map-requires Inv-loop μ-loop
 node-map-requires c κs =
     let i = c .before in
@@ -73,9 +70,6 @@ node-map-requires c κs =
     let e : a .loop .v - 1 + 1 ≡ a .loop .v = omega (arith, i .loop-test .taken) in
     map-args _ _ _ _ _ _ _ (entered s) (a .loop .v - 1) (s .args .state-table .now) (a .loop .state-table) (rw e (mapped a))
     (omega (arith, a .loop .inv .0, i .loop-test .taken)) (omega (arith, kept-length a, s .pre .room))
-
-loop-less : tie.Need-loop-less Inv-loop μ-loop
-loop-less c = search needs
 
 loop-again : tie.Need-loop-again Inv-loop μ-loop
 loop-again c =
@@ -103,15 +97,5 @@ returns c =
 pub fill-maps-spec : {M : Type 1} → statement M
 fill-maps-spec =
     tie.close
-    (tie.spec
-    Inv-loop
-    μ-loop
-    sub-root
-    same-row-requires
-    loop-holds
-    sub-v
-    node-map-requires
-    loop-less
-    loop-again
-    same-length
-    returns)
+    (tie.spec Inv-loop μ-loop sub-root same-row-requires loop-holds (λ c. search needs) node-map-requires
+    (λ c. search needs) loop-again same-length returns)

@@ -41,36 +41,6 @@ inside c =
     step-inside (g .s) (g .v) (g .p) (g .j) (g .k) (g .a) (a .loop .q) (g .steps .now) (g .state-table .now) (a .loop .state-table)
     (a .loop .inv .2) (a .before .pre) (c .loop-test .taken)
 
-add-at : tie.Need-add-at Inv-loop μ-loop
-add-at c = search needs
-
-mul-at : tie.Need-mul-at Inv-loop μ-loop
-mul-at c = search needs
-
-add-near : tie.Need-add-near Inv-loop μ-loop
-add-near c = search needs
-
-mul-near : tie.Need-mul-near Inv-loop μ-loop
-mul-near c = search needs
-
-add-far : tie.Need-add-far Inv-loop μ-loop
-add-far c = search needs
-
-mul-far : tie.Need-mul-far Inv-loop μ-loop
-mul-far c = search needs
-
-loop-holds : tie.Need-loop-holds Inv-loop μ-loop
-loop-holds c = search needs
-
-add-x : tie.Need-add-x Inv-loop μ-loop
-add-x c = search needs
-
-add-x-2 : tie.Need-add-x-2 Inv-loop μ-loop
-add-x-2 c = search needs
-
-slice-read-x : tie.Need-slice-read-x Inv-loop μ-loop
-slice-read-x c = search needs
-
 cast-x : tie.Need-cast-x Inv-loop μ-loop
 cast-x c = omega (arith, far-below (c .before))
 
@@ -104,21 +74,6 @@ add-state-table c = omega (arith, inside (c .before .before))
 shared-slice-read-state-table : tie.Need-shared-slice-read-state-table Inv-loop μ-loop
 shared-slice-read-state-table c = inside (c .before .before .before)
 
-add-state-table-2 : tie.Need-add-state-table-2 Inv-loop μ-loop
-add-state-table-2 c = search needs
-
-add-state-table-3 : tie.Need-add-state-table-3 Inv-loop μ-loop
-add-state-table-3 c = search needs
-
-slice-write-state-table : tie.Need-slice-write-state-table Inv-loop μ-loop
-slice-write-state-table c = search needs
-
-add-q : tie.Need-add-q Inv-loop μ-loop
-add-q c = search needs
-
-loop-less : tie.Need-loop-less Inv-loop μ-loop
-loop-less c = search needs
-
 loop-again : tie.Need-loop-again Inv-loop μ-loop
 loop-again c =
     let i = c .before .before .before in
@@ -136,9 +91,6 @@ loop-again c =
           (a .loop .inv .2) (s .pre) (i .loop-test .taken)),
     )
 
-same-length : tie.Need-same-length Inv-loop μ-loop
-same-length c = search needs
-
 returns : tie.Need-returns Inv-loop μ-loop
 returns c =
     let a = c .before in
@@ -151,32 +103,8 @@ returns c =
 pub step-row-spec : {M : Type 1} → statement M
 step-row-spec =
     tie.close
-    (tie.spec
-    Inv-loop
-    μ-loop
-    add-at
-    mul-at
-    add-near
-    mul-near
-    add-far
-    mul-far
-    loop-holds
-    add-x
-    add-x-2
-    slice-read-x
-    cast-x
-    add-y
-    add-y-2
-    slice-read-y
-    cast-y
-    mul-state-table
-    add-state-table
-    shared-slice-read-state-table
-    add-state-table-2
-    add-state-table-3
-    slice-write-state-table
-    add-q
-    loop-less
-    loop-again
-    same-length
-    returns)
+    (tie.spec Inv-loop μ-loop (λ c. search needs) (λ c. search needs) (λ c. search needs) (λ c. search needs)
+    (λ c. search needs) (λ c. search needs) (λ c. search needs) (λ c. search needs) (λ c. search needs)
+    (λ c. search needs) cast-x add-y add-y-2 slice-read-y cast-y mul-state-table add-state-table
+    shared-slice-read-state-table (λ c. search needs) (λ c. search needs) (λ c. search needs) (λ c. search needs)
+    (λ c. search needs) loop-again (λ c. search needs) returns)

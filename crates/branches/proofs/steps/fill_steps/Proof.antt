@@ -66,9 +66,6 @@ fits c =
     step-fits _ _ _ _ _ _ _ (entered s) (c .before .loop .v - 1) (s .args .state-table .now) (c .before .loop .state-table) (iteration c)
     (omega (arith, c .before .loop .inv .0, c .loop-test .taken)) (omega (arith, kept-length (c .before), s .pre .room))
 
-add-w : tie.Need-add-w Inv-loop μ-loop
-add-w c = search needs
-
 sub-root : tie.Need-sub-root Inv-loop μ-loop
 sub-root c = omega (arith, pos c)
 
@@ -95,18 +92,6 @@ slice-write-state-table c = omega (arith, root-in (c .before .before))
 
 loop-holds : tie.Need-loop-holds Inv-loop μ-loop
 loop-holds c = (omega (arith, pos (c .before .before)), refl, λ b d. d)
-
-sub-v : tie.Need-sub-v Inv-loop μ-loop
-sub-v c = search needs
-
-mul-p : tie.Need-mul-p Inv-loop μ-loop
-mul-p c = search needs
-
-mul-p-2 : tie.Need-mul-p-2 Inv-loop μ-loop
-mul-p-2 c = search needs
-
-shared-slice-read-p : tie.Need-shared-slice-read-p Inv-loop μ-loop
-shared-slice-read-p c = search needs
 
 cast-p : tie.Need-cast-p Inv-loop μ-loop
 cast-p c = omega (arith, c .shared-slice-known3 .given ((c .before .before .loop .v - 1) * 4))
@@ -148,9 +133,6 @@ mul-state-table-4 c =
 slice-write-state-table-2 : tie.Need-slice-write-state-table-2 Inv-loop μ-loop
 slice-write-state-table-2 c = fits (c .before .before .before .before) .here
 
-loop-less : tie.Need-loop-less Inv-loop μ-loop
-loop-less c = search needs
-
 loop-again : tie.Need-loop-again Inv-loop μ-loop
 loop-again c =
     let i = c .before .before .before .before in
@@ -176,35 +158,8 @@ returns c =
 pub fill-steps-spec : {M : Type 1} → statement M
 fill-steps-spec =
     tie.close
-    (tie.spec
-    Inv-loop
-    μ-loop
-    add-w
-    sub-root
-    shared-slice-read-first
-    cast-first
-    mul-state-table
-    add-state-table
-    shared-slice-read-state-table
-    mul-state-table-2
-    slice-write-state-table
-    loop-holds
-    sub-v
-    mul-p
-    mul-p-2
-    shared-slice-read-p
-    cast-p
-    mul-q
-    slice-read-q
-    cast-q
-    shared-slice-read-a
-    cast-a
-    mul-state-table-3
-    add-state-table-2
-    shared-slice-read-state-table-2
-    mul-state-table-4
-    slice-write-state-table-2
-    loop-less
-    loop-again
-    same-length
-    returns)
+    (tie.spec Inv-loop μ-loop (λ c. search needs) sub-root shared-slice-read-first cast-first mul-state-table
+    add-state-table shared-slice-read-state-table mul-state-table-2 slice-write-state-table loop-holds
+    (λ c. search needs) (λ c. search needs) (λ c. search needs) (λ c. search needs) cast-p mul-q slice-read-q cast-q
+    shared-slice-read-a cast-a mul-state-table-3 add-state-table-2 shared-slice-read-state-table-2 mul-state-table-4
+    slice-write-state-table-2 (λ c. search needs) loop-again same-length returns)

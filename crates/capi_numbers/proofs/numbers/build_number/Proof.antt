@@ -6,15 +6,6 @@ use Rattle.capi_numbers.proofs.numbers.build_number.Tie as tie
 use Rattle.capi_numbers.proofs.numbers.build_number.Reads as reads
 use Rattle.capi_numbers.proofs.numbers.build_number.Lts as lts
 
-enum-told : tie.Need-enum-told
-enum-told c = search needs
-
-enum-known-answer : tie.Need-enum-known-answer
-enum-known-answer c = search needs
-
-cast-result : tie.Need-cast-result
-cast-result c = search needs
-
 returns : tie.Need-returns
 returns c = built _ (c .enum-told .given .1)
 
@@ -22,4 +13,5 @@ returns-2 : tie.Need-returns-2
 returns-2 c = not-built _ _ (c .before .answer .given .1)
 
 pub build-number-spec : {M : Type 1} → statement M
-build-number-spec = tie.close (tie.spec enum-told enum-known-answer cast-result returns returns-2)
+build-number-spec = tie.close (tie.spec (λ c. search needs) (λ c. search needs) (λ c. search needs) returns
+    returns-2)

@@ -10,9 +10,6 @@ use Rattle.records.proofs.bytes.decode.Reads as decode-reads
 use Rattle.records.proofs.bytes.laid_out.Reads as laid-out-reads
 use Rattle.session.proofs.state.Session.read.Reads as read-reads
 
-laid-out-requires : tie.Need-laid-out-requires
-laid-out-requires c κs = search needs
-
 returns : tie.Need-returns
 returns c =
     read-not _ _ (refused-laid _ _ (c .before .laid-out .ensures) (c .if1 .taken))
@@ -20,12 +17,6 @@ returns c =
 decode-requires : tie.Need-decode-requires
 decode-requires c κs =
     passed-length _ _ (c .before .laid-out .ensures) (c .if1 .left)
-
-read-requires : tie.Need-read-requires
-read-requires c κs = search needs
-
-tell-read-requires : tie.Need-tell-read-requires
-tell-read-requires c κs = search needs
 
 returns-2 : tie.Need-returns-2
 returns-2 c =
@@ -37,4 +28,4 @@ returns-2 c =
 pub whatif-read-spec : {M : Type 1} → statement M
 whatif-read-spec =
     tie.close
-    (tie.spec laid-out-requires returns decode-requires read-requires tell-read-requires returns-2)
+    (tie.spec (λ c κs. search needs) returns decode-requires (λ c κs. search needs) (λ c κs. search needs) returns-2)

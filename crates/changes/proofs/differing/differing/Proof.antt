@@ -21,12 +21,6 @@ Inv-loop labels nodes changes t₀ i₀ t i = KeepLoop labels nodes changes t i
 abbrev μ-loop : tie.MeasureT-loop
 μ-loop labels nodes changes t₀ i₀ t i = length nodes - i
 
-none-left-requires : tie.Need-none-left-requires Inv-loop μ-loop
-none-left-requires c κs = search needs
-
-lists-fit-requires : tie.Need-lists-fit-requires Inv-loop μ-loop
-lists-fit-requires c κs = search needs
-
 returns : tie.Need-returns Inv-loop μ-loop
 returns c =
     let a = c .before .before .before .before .before .before .args in
@@ -48,12 +42,6 @@ keep-requires c κs =
     keep-args (a .labels .now) (a .nodes .now) (a .changes .now) (l .t) (l .i) (l .inv)
     (c .loop-test .taken)
 
-add-i : tie.Need-add-i Inv-loop μ-loop
-add-i c = search needs
-
-loop-less : tie.Need-loop-less Inv-loop μ-loop
-loop-less c = search needs
-
 loop-again : tie.Need-loop-again Inv-loop μ-loop
 loop-again c =
     let a = c .before .before .before .before .before .before .before .before .before .args in
@@ -73,15 +61,5 @@ returns-2 c =
 pub differing-spec : {M : Type 1} → statement M
 differing-spec =
     tie.close
-    (tie.spec
-    Inv-loop
-    μ-loop
-    none-left-requires
-    lists-fit-requires
-    returns
-    loop-holds
-    keep-requires
-    add-i
-    loop-less
-    loop-again
-    returns-2)
+    (tie.spec Inv-loop μ-loop (λ c κs. search needs) (λ c κs. search needs) returns loop-holds keep-requires
+    (λ c. search needs) (λ c. search needs) loop-again returns-2)

@@ -8,11 +8,8 @@ use Rattle.changes.proofs.differing.label_at.Tie as tie
 returns : tie.Need-returns
 returns c = sym (List·getD-eq-default (c .before .args .labels .now) 0 {n = c .before .args .v} (c .if1 .taken))
 
-shared-slice-read-result : tie.Need-shared-slice-read-result
-shared-slice-read-result c = search needs
-
 returns-2 : tie.Need-returns-2
 returns-2 c = refl
 
 pub label-at-spec : {M : Type 1} → statement M
-label-at-spec = tie.close (tie.spec returns shared-slice-read-result returns-2)
+label-at-spec = tie.close (tie.spec returns (λ c. search needs) returns-2)

@@ -48,9 +48,6 @@ few c =
     c .assignments-fit .ensures
     ∙ ap (λ (k : ℕ). leb (k ^ length (g .nodes .now)) countLimit) (c .before .read322 .ensures)
 
-rule-headers-fit-requires : tie.Need-rule-headers-fit-requires
-rule-headers-fit-requires c κs = search needs
-
 returns : tie.Need-returns
 returns c =
     no-17 _ _ _ _ _ (sym (c .before .rule-headers-fit .ensures) ∙ not-true _ (c .if1 .taken))
@@ -61,16 +58,10 @@ returns-2 c = no-12 _ _ _ _ _ (fits (c .before)) (c .if2 .taken)
 read32-requires : tie.Need-read32-requires
 read32-requires c κs = omega (arith, headed-are _ _ _ _ _ (fits (c .before)) .headers .plan-long)
 
-nodes-below-requires : tie.Need-nodes-below-requires
-nodes-below-requires c κs = search needs
-
 returns-3 : tie.Need-returns-3
 returns-3 c =
     let u = c .before .before .before in
     no-13 _ _ _ _ _ (fits (u .before)) (u .if2 .left) (sym (below (c .before)) ∙ not-true _ (c .if3 .taken))
-
-all-distinct-requires : tie.Need-all-distinct-requires
-all-distinct-requires c κs = search needs
 
 returns-4 : tie.Need-returns-4
 returns-4 c =
@@ -113,16 +104,5 @@ returns-6 c =
 pub check-count-spec : {M : Type 1} → statement M
 check-count-spec =
     tie.close
-    (tie.spec
-    rule-headers-fit-requires
-    returns
-    returns-2
-    read32-requires
-    nodes-below-requires
-    returns-3
-    all-distinct-requires
-    returns-4
-    read32-requires-2
-    assignments-fit-requires
-    returns-5
-    returns-6)
+    (tie.spec (λ c κs. search needs) returns returns-2 read32-requires (λ c κs. search needs) returns-3
+    (λ c κs. search needs) returns-4 read32-requires-2 assignments-fit-requires returns-5 returns-6)

@@ -22,9 +22,6 @@ heads : (c : tie.Else1) → let g = c .before .before .before .before .before .b
     Headers 20 (g .plan .now) (g .rules .now)
 heads c = headers-are 20 _ _ (yes c)
 
-headers-fit-requires : tie.Need-headers-fit-requires
-headers-fit-requires c κs = search needs
-
 returns : tie.Need-returns
 returns c =
     sym (headers-no _ _ _ _ _ (sym (c .before .headers-fit .ensures) ∙ not-true _ (c .if1 .taken)))
@@ -57,11 +54,5 @@ returns-2 c =
 pub rule-headers-fit-spec : {M : Type 1} → statement M
 rule-headers-fit-spec =
     tie.close
-    (tie.spec
-    headers-fit-requires
-    returns
-    read32-requires
-    read32-requires-2
-    read32-requires-3
-    rule-buffers-fit-requires
-    returns-2)
+    (tie.spec (λ c κs. search needs) returns read32-requires read32-requires-2 read32-requires-3
+    rule-buffers-fit-requires returns-2)

@@ -28,12 +28,6 @@ heads : (c : tie.Else1) → let g = c .before .before .before .before .before .b
     Headers 20 (g .plan .now) (g .rules .now)
 heads c = headed-are ruleTables _ _ _ _ (fit-17 _ _ _ _ _ (passed c)) .headers
 
-check-count-requires : tie.Need-check-count-requires
-check-count-requires c κs = search needs
-
-refused-requires : tie.Need-refused-requires
-refused-requires c κs = search needs
-
 returns : tie.Need-returns
 returns c =
     count-done _ _ _ _ _ _
@@ -64,12 +58,5 @@ returns-2 c =
 pub count-spec : {M : Type 1} → statement M
 count-spec =
     tie.close
-    (tie.spec
-    check-count-requires
-    refused-requires
-    returns
-    read32-requires
-    read32-requires-2
-    read32-requires-3
-    count-runs-requires
-    returns-2)
+    (tie.spec (λ c κs. search needs) (λ c κs. search needs) returns read32-requires read32-requires-2
+    read32-requires-3 count-runs-requires returns-2)

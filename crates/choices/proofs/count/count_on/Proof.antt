@@ -18,15 +18,6 @@ use Rattle.choices.proofs.count.refused.Reads as refused-reads
 use Rattle.formats.proofs.rules.all_below.Reads as all-below-reads
 use Rattle.questions.proofs.roots.roots.Reads as roots-reads
 
-cast-all-below : tie.Need-cast-all-below
-cast-all-below c = search needs
-
-all-below-requires : tie.Need-all-below-requires
-all-below-requires c κs = search needs
-
-refused-requires : tie.Need-refused-requires
-refused-requires c κs = search needs
-
 leaves-in : (c : tie.Else1) → let b5 = c .before .before .before .before .before in
     let g = b5 .before .before .before .before .args in
     allBelow (g .s) (g .leaves .now) ≡ true
@@ -44,27 +35,12 @@ returns c =
     ∙ leaves-lost _ _ _ _ _ _ _ _ _ _ (t .pre)
     (sym (c .before .before .all-below .ensures) ∙ not-true _ (c .before .if1 .taken))
 
-cast-all-below-2 : tie.Need-cast-all-below-2
-cast-all-below-2 c = search needs
-
-all-below-requires-2 : tie.Need-all-below-requires-2
-all-below-requires-2 c κs = search needs
-
-refused-requires-2 : tie.Need-refused-requires-2
-refused-requires-2 c κs = search needs
-
 returns-2 : tie.Need-returns-2
 returns-2 c =
     let t = c .before .before .before .before .before .before .before .before .before .before .before .before in
     c .refused2 .ensures
     ∙ inner-lost _ _ _ _ _ _ _ _ _ _ (t .pre)
     (sym (c .before .before .all-below2 .ensures) ∙ not-true _ (c .before .if2 .taken))
-
-roots-requires : tie.Need-roots-requires
-roots-requires c κs = search needs
-
-refused-requires-3 : tie.Need-refused-requires-3
-refused-requires-3 c κs = search needs
 
 returns-3 : tie.Need-returns-3
 returns-3 c =
@@ -118,19 +94,6 @@ returns-4 c =
 pub count-on-spec : {M : Type 1} → statement M
 count-on-spec =
     tie.close
-    (tie.spec
-    cast-all-below
-    all-below-requires
-    refused-requires
-    returns
-    cast-all-below-2
-    all-below-requires-2
-    refused-requires-2
-    returns-2
-    roots-requires
-    refused-requires-3
-    returns-3
-    array-share-prefix-list
-    slice-aggregate-count-parts
-    count-parts-requires
-    returns-4)
+    (tie.spec (λ c. search needs) (λ c κs. search needs) (λ c κs. search needs) returns (λ c. search needs)
+    (λ c κs. search needs) (λ c κs. search needs) returns-2 (λ c κs. search needs) (λ c κs. search needs) returns-3
+    array-share-prefix-list slice-aggregate-count-parts count-parts-requires returns-4)

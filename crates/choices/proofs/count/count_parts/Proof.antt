@@ -14,18 +14,6 @@ use Rattle.choices.proofs.count.room_for_parts.Reads as room-for-parts-
 use Rattle.choices.proofs.parts.all_parts.Reads as all-parts-reads
 use Rattle.counting.proofs.side.copy_row.Reads as copy-row-reads
 
-room-for-parts-requires : tie.Need-room-for-parts-requires
-room-for-parts-requires c κs = search needs
-
-slice-aggregate-all-parts : tie.Need-slice-aggregate-all-parts
-slice-aggregate-all-parts c = search needs
-
-all-parts-requires : tie.Need-all-parts-requires
-all-parts-requires c κs = search needs
-
-refused-requires : tie.Need-refused-requires
-refused-requires c κs = search needs
-
 returns : tie.Need-returns
 returns c =
     let b5 = c .before .before .before .before .before in
@@ -36,18 +24,9 @@ returns c =
     ∙ parts-lost _ _ _ _ _ _ _ _ _ _ _ (t .pre) _ _ (h .all-parts .ensures)
     (not-true (h .all-parts .result .ok) (c .before .if1 .taken))
 
-mul-table : tie.Need-mul-table
-mul-table c = search needs
-
-array-share-prefix-table : tie.Need-array-share-prefix-table
-array-share-prefix-table c = search needs
-
 slice-aggregate-copy-row : tie.Need-slice-aggregate-copy-row
 slice-aggregate-copy-row c =
     sym (length-take-le _ _ (c .before .before .before .before .all-parts .ensures .room))
-
-sub-copy-row : tie.Need-sub-copy-row
-sub-copy-row c = search needs
 
 copy-row-requires : tie.Need-copy-row-requires
 copy-row-requires c κs =
@@ -57,9 +36,6 @@ copy-row-requires c κs =
     let t = b10 .before .before .before .before .before .before in
     last-args _ _ _ _ _ _ _ _ _ _ _ (t .pre) _ _ (h .all-parts .ensures)
     (not-false (h .all-parts .result .ok) (c .before .before .if1 .left)) _ refl
-
-cast-t27 : tie.Need-cast-t27
-cast-t27 c = search needs
 
 returns-2 : tie.Need-returns-2
 returns-2 c =
@@ -73,16 +49,6 @@ returns-2 c =
 pub count-parts-spec : {M : Type 1} → statement M
 count-parts-spec =
     tie.close
-    (tie.spec
-    room-for-parts-requires
-    slice-aggregate-all-parts
-    all-parts-requires
-    refused-requires
-    returns
-    mul-table
-    array-share-prefix-table
-    slice-aggregate-copy-row
-    sub-copy-row
-    copy-row-requires
-    cast-t27
-    returns-2)
+    (tie.spec (λ c κs. search needs) (λ c. search needs) (λ c κs. search needs) (λ c κs. search needs) returns
+    (λ c. search needs) (λ c. search needs) slice-aggregate-copy-row (λ c. search needs) copy-row-requires
+    (λ c. search needs) returns-2)

@@ -116,31 +116,8 @@ returns c =
 pub count-runs-spec : {M : Type 1} → statement M
 count-runs-spec =
     tie.close
-    (tie.spec
-    add-count-on
-    sub-count-on
-    part-count-on-start
-    part-count-on-end
-    add-count-on-2
-    sub-count-on-2
-    part-count-on-start-2
-    part-count-on-end-2
-    add-count-on-3
-    sub-count-on-3
-    part-count-on-start-3
-    part-count-on-end-3
-    add-count-on-4
-    add-count-on-5
-    mul-count-on
-    mul-count-on-2
-    add-count-on-6
-    sub-count-on-4
-    part-count-on-start-4
-    part-count-on-end-4
-    mul-count-on-3
-    slice-aggregate-count-on
-    add-count-on-7
-    mul-count-on-4
-    slice-aggregate-count-on-2
-    count-on-requires
-    returns)
+    (tie.spec add-count-on sub-count-on part-count-on-start part-count-on-end add-count-on-2 sub-count-on-2
+    part-count-on-start-2 part-count-on-end-2 add-count-on-3 sub-count-on-3 part-count-on-start-3 part-count-on-end-3
+    add-count-on-4 add-count-on-5 mul-count-on mul-count-on-2 add-count-on-6 sub-count-on-4 part-count-on-start-4
+    part-count-on-end-4 mul-count-on-3 slice-aggregate-count-on add-count-on-7 mul-count-on-4
+    slice-aggregate-count-on-2 count-on-requires returns)

@@ -14,9 +14,6 @@ returns c =
     let g = c .before .args in
     ap (λ (f : Bool). labelRange (g .labels .now) (g .k) f (g .v)) (sym (c .if1 .taken))
 
-shared-slice-read-a : tie.Need-shared-slice-read-a
-shared-slice-read-a c = search needs
-
 cast-a : tie.Need-cast-a
 cast-a c = omega (arith, c .shared-slice-known .given (c .before .before .args .v))
 
@@ -29,4 +26,4 @@ returns-2 c =
     ap (λ (f : Bool). labelRange (g .labels .now) (g .k) f (g .v)) (sym (c .before .if1 .left))
 
 pub label-range-spec : {M : Type 1} → statement M
-label-range-spec = tie.close (tie.spec returns shared-slice-read-a cast-a add-t9 returns-2)
+label-range-spec = tie.close (tie.spec returns (λ c. search needs) cast-a add-t9 returns-2)

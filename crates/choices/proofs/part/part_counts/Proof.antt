@@ -27,16 +27,10 @@ end-is : (a : tie.After-label-range) → let g = start a .args in
     a .label-range .result .end ≡ cond (g .free) (g .k) (getD (g .labels .now) (g .v) 0 + 1)
 end-is a = ap (λ (r : LabelRange). r .end) (a .label-range .ensures)
 
-label-range-requires : tie.Need-label-range-requires
-label-range-requires c κs = search needs
-
 returns : tie.Need-returns
 returns c =
     let a = c .before .before in
     no-label _ _ _ _ _ _ _ _ _ _ _ _ _ (start a .pre) (start a .args .free) _ _ (first-is a) (end-is a) (c .if1 .taken)
-
-places-below-requires : tie.Need-places-below-requires
-places-below-requires c κs = search needs
 
 returns-2 : tie.Need-returns-2
 returns-2 c =
@@ -63,10 +57,4 @@ returns-3 c =
 pub part-counts-spec : {M : Type 1} → statement M
 part-counts-spec =
     tie.close
-    (tie.spec
-    label-range-requires
-    returns
-    places-below-requires
-    returns-2
-    root-counts-requires
-    returns-3)
+    (tie.spec (λ c κs. search needs) returns (λ c κs. search needs) returns-2 root-counts-requires returns-3)

@@ -13,21 +13,12 @@ use Rattle.choices.proofs.part.no_places.Reads as no-places-reads
 use Rattle.node_tables.proofs.moves.size_at.Reads as size-at-reads
 use Rattle.questions.proofs.part.last_below.Reads as last-below-reads
 
-shared-slice-read-if1 : tie.Need-shared-slice-read-if1
-shared-slice-read-if1 c = search needs
-
-no-places-requires : tie.Need-no-places-requires
-no-places-requires c κs = search needs
-
 returns : tie.Need-returns
 returns c =
     let g = c .before .before .before .before .before .before .args in
     subst (λ (q : Places). PlacesAre (g .kinds .now) (g .node-table .now) (g .earlier .now) (g .v) q)
     (sym (c .no-places .ensures))
     (leaf-places _ _ _ _ (c .before .if1 .taken))
-
-no-places-requires-2 : tie.Need-no-places-requires-2
-no-places-requires-2 c κs = search needs
 
 returns-2 : tie.Need-returns-2
 returns-2 c =
@@ -36,18 +27,6 @@ returns-2 c =
     (sym (c .no-places2 .ensures))
     (first-places _ _ _ _ (c .before .before .if1 .left) (c .before .if2 .taken))
 
-sub-size-at : tie.Need-sub-size-at
-sub-size-at c = search needs
-
-size-at-requires : tie.Need-size-at-requires
-size-at-requires c κs = search needs
-
-sub-if3 : tie.Need-sub-if3
-sub-if3 c = search needs
-
-no-places-requires-3 : tie.Need-no-places-requires-3
-no-places-requires-3 c κs = search needs
-
 returns-3 : tie.Need-returns-3
 returns-3 c =
     let g = c .before .before .before .before .before .before .before .before .before .args in
@@ -55,21 +34,6 @@ returns-3 c =
     (sym (c .no-places3 .ensures))
     (outside-places _ _ _ _ (c .before .before .before .before .if1 .left) (c .before .before .before .if2 .left) _
     (c .before .before .size-at .ensures) (c .before .if3 .taken))
-
-sub-child : tie.Need-sub-child
-sub-child c = search needs
-
-sub-child-2 : tie.Need-sub-child-2
-sub-child-2 c = search needs
-
-last-below-requires : tie.Need-last-below-requires
-last-below-requires c κs = search needs
-
-sub-last-below : tie.Need-sub-last-below
-sub-last-below c = search needs
-
-last-below-requires-2 : tie.Need-last-below-requires-2
-last-below-requires-2 c κs = search needs
 
 returns-4 : tie.Need-returns-4
 returns-4 c =
@@ -81,20 +45,6 @@ returns-4 c =
 pub places-below-spec : {M : Type 1} → statement M
 places-below-spec =
     tie.close
-    (tie.spec
-    shared-slice-read-if1
-    no-places-requires
-    returns
-    no-places-requires-2
-    returns-2
-    sub-size-at
-    size-at-requires
-    sub-if3
-    no-places-requires-3
-    returns-3
-    sub-child
-    sub-child-2
-    last-below-requires
-    sub-last-below
-    last-below-requires-2
-    returns-4)
+    (tie.spec (λ c. search needs) (λ c κs. search needs) returns (λ c κs. search needs) returns-2 (λ c. search needs)
+    (λ c κs. search needs) (λ c. search needs) (λ c κs. search needs) returns-3 (λ c. search needs)
+    (λ c. search needs) (λ c κs. search needs) (λ c. search needs) (λ c κs. search needs) returns-4)

@@ -100,20 +100,6 @@ returns-2 c = going-done _ _ _ _ _ _ _ _ _ _ _ _ _ _ _ (c .before .loop .inv) (c
 pub all-parts-spec : {M : Type 1} → statement M
 all-parts-spec =
     tie.close
-    (tie.spec
-    Inv-loop
-    μ-loop
-    loop-holds
-    slice-aggregate-next-part
-    mul-next-part
-    shared-slice-read-next-part
-    cast-next-part
-    next-part-requires
-    same-length
-    returns
-    add-links
-    add-i
-    loop-less
-    loop-again
-    same-length-2
+    (tie.spec Inv-loop μ-loop loop-holds slice-aggregate-next-part mul-next-part shared-slice-read-next-part
+    cast-next-part next-part-requires same-length returns add-links add-i loop-less loop-again same-length-2
     returns-2)

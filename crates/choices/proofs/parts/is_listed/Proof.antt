@@ -9,12 +9,6 @@ use Rattle.choices.proofs.parts.is_listed.Reads as reads
 use Rattle.choices.proofs.parts.is_listed.Lts as lts
 use Rattle.questions.proofs.scan.last_in.Reads as last-in-reads
 
-cast-last-in : tie.Need-cast-last-in
-cast-last-in c = search needs
-
-last-in-requires : tie.Need-last-in-requires
-last-in-requires c κs = search needs
-
 returns : tie.Need-returns
 returns c =
     let g = c .before .before .before .args in
@@ -26,4 +20,4 @@ returns-2 c =
     listed-yes (g .v) (g .nodes .now) (λ e. c .if1 .left (c .before .last-in .ensures ∙ e))
 
 pub is-listed-spec : {M : Type 1} → statement M
-is-listed-spec = tie.close (tie.spec cast-last-in last-in-requires returns returns-2)
+is-listed-spec = tie.close (tie.spec (λ c. search needs) (λ c κs. search needs) returns returns-2)

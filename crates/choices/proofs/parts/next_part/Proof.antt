@@ -17,9 +17,6 @@ part-row-requires c κs =
     let t = c .before .before .before .before .before .before .before .before .before .before .before in
     row-args _ _ _ _ _ _ _ _ _ _ _ _ _ (t .pre) _ refl (zeros-at 16)
 
-same-length : tie.Need-same-length
-same-length c = search needs
-
 returns : tie.Need-returns
 returns c =
     let b5 = c .before .before .before .before .before in
@@ -54,4 +51,4 @@ returns-2 c =
 pub next-part-spec : {M : Type 1} → statement M
 next-part-spec =
     tie.close
-    (tie.spec part-row-requires same-length returns put-row-requires same-length-2 returns-2)
+    (tie.spec part-row-requires (λ c. search needs) returns put-row-requires same-length-2 returns-2)

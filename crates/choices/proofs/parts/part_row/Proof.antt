@@ -12,12 +12,6 @@ use Rattle.choices.proofs.parts.part_row.Lts as lts
 use Rattle.choices.proofs.part.part_counts.Reads as part-counts-reads
 use Rattle.choices.proofs.parts.is_listed.Reads as is-listed-reads
 
-is-listed-requires : tie.Need-is-listed-requires
-is-listed-requires c κs = search needs
-
-mul-end : tie.Need-mul-end
-mul-end c = search needs
-
 slice-aggregate-part-counts : tie.Need-slice-aggregate-part-counts
 slice-aggregate-part-counts c =
     let t = c .before .before .before .before .before .before .before .before .before .before .before in
@@ -35,4 +29,4 @@ returns c =
 pub part-row-spec : {M : Type 1} → statement M
 part-row-spec =
     tie.close
-    (tie.spec is-listed-requires mul-end slice-aggregate-part-counts part-counts-requires returns)
+    (tie.spec (λ c κs. search needs) (λ c. search needs) slice-aggregate-part-counts part-counts-requires returns)

@@ -37,12 +37,6 @@ slice-write-table c =
     let I = c .before .before .loop .inv in
     omega (arith, I .args .room, I .same, c .before .loop-test .taken)
 
-add-c : tie.Need-add-c Inv-loop μ-loop
-add-c c = search needs
-
-loop-less : tie.Need-loop-less Inv-loop μ-loop
-loop-less c = search needs
-
 loop-again : tie.Need-loop-again Inv-loop μ-loop
 loop-again c = put-next _ _ _ _ _ (c .before .before .loop .inv) (c .before .loop-test .taken)
 
@@ -55,18 +49,5 @@ returns c = put-done _ _ _ _ _ (c .before .loop .inv) (c .loop-test .left)
 pub put-row-spec : {M : Type 1} → statement M
 put-row-spec =
     tie.close
-    (tie.spec
-    Inv-loop
-    μ-loop
-    loop-holds
-    mul-table
-    element-copy-out-table
-    mul-table-2
-    add-table
-    mul-table-3
-    slice-write-table
-    add-c
-    loop-less
-    loop-again
-    same-length
-    returns)
+    (tie.spec Inv-loop μ-loop loop-holds mul-table element-copy-out-table mul-table-2 add-table mul-table-3
+    slice-write-table (λ c. search needs) (λ c. search needs) loop-again same-length returns)

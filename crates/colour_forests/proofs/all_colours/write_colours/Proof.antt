@@ -29,12 +29,6 @@ write-colour-requires c κs =
     all-args (s .args .n) (s .args .k) (s .args .numbers .now) (a .loop .c) (a .loop .numbers) (a .loop .inv .2)
     (a .loop .inv .0) (i .loop-test .taken) (s .pre) (a .loop .inv .1)
 
-add-c : tie.Need-add-c Inv-loop μ-loop
-add-c c = search needs
-
-loop-less : tie.Need-loop-less Inv-loop μ-loop
-loop-less c = search needs
-
 loop-again : tie.Need-loop-again Inv-loop μ-loop
 loop-again c =
     let w = c .before .before in
@@ -47,9 +41,6 @@ loop-again c =
           (a .loop .inv .0) (i .loop-test .taken) _ (w .write-colour .ensures),
     )
 
-same-length : tie.Need-same-length Inv-loop μ-loop
-same-length c = search needs
-
 returns : tie.Need-returns Inv-loop μ-loop
 returns c =
     let a = c .before in
@@ -60,13 +51,5 @@ returns c =
 pub write-colours-spec : {M : Type 1} → statement M
 write-colours-spec =
     tie.close
-    (tie.spec
-    Inv-loop
-    μ-loop
-    loop-holds
-    write-colour-requires
-    add-c
-    loop-less
-    loop-again
-    same-length
-    returns)
+    (tie.spec Inv-loop μ-loop loop-holds write-colour-requires (λ c. search needs) (λ c. search needs) loop-again
+    (λ c. search needs) returns)

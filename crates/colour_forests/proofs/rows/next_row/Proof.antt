@@ -15,15 +15,6 @@ use Rattle.colour_forests.proofs.rows.next_row.Lts as lts
 use Rattle.colour_forests.proofs.rows.row_below.Reads as row-below-reads
 use Rattle.node_tables.proofs.moves.parent_at.Reads as parent-at-reads
 
-add-if1 : tie.Need-add-if1
-add-if1 c = search needs
-
-cast-t10 : tie.Need-cast-t10
-cast-t10 c = search needs
-
-cast-t11 : tie.Need-cast-t11
-cast-t11 c = search needs
-
 part-is : (s : tie.Start) → let g = s .args in
     take (g .c * (g .n * 4) + g .n * 4 - g .c * (g .n * 4)) (drop (g .c * (g .n * 4)) (g .nums .now))
     ≡ colourPart (g .n) (g .c) (g .nums .now)
@@ -36,30 +27,6 @@ returns : tie.Need-returns
 returns c =
     let g = c .before .before .args in
     sym (next-root (g .nums .now) (g .n) (g .c) (g .v) (c .if1 .taken))
-
-parent-at-requires : tie.Need-parent-at-requires
-parent-at-requires c κs = search needs
-
-mul-size : tie.Need-mul-size
-mul-size c = search needs
-
-mul-from : tie.Need-mul-from
-mul-from c = search needs
-
-add-row-below : tie.Need-add-row-below
-add-row-below c = search needs
-
-mul-row-below : tie.Need-mul-row-below
-mul-row-below c = search needs
-
-sub-row-below : tie.Need-sub-row-below
-sub-row-below c = search needs
-
-part-row-below-start : tie.Need-part-row-below-start
-part-row-below-start c = search needs
-
-part-row-below-end : tie.Need-part-row-below-end
-part-row-below-end c = search needs
 
 row-below-requires : tie.Need-row-below-requires
 row-below-requires c κs =
@@ -81,18 +48,6 @@ returns-2 c =
 pub next-row-spec : {M : Type 1} → statement M
 next-row-spec =
     tie.close
-    (tie.spec
-    add-if1
-    cast-t10
-    cast-t11
-    returns
-    parent-at-requires
-    mul-size
-    mul-from
-    add-row-below
-    mul-row-below
-    sub-row-below
-    part-row-below-start
-    part-row-below-end
-    row-below-requires
-    returns-2)
+    (tie.spec (λ c. search needs) (λ c. search needs) (λ c. search needs) returns (λ c κs. search needs)
+    (λ c. search needs) (λ c. search needs) (λ c. search needs) (λ c. search needs) (λ c. search needs)
+    (λ c. search needs) (λ c. search needs) row-below-requires returns-2)

@@ -7,47 +7,14 @@ use Rattle.colour_forests.proofs.rows.put_row.Tie as tie
 use Rattle.colour_forests.proofs.rows.put_row.Reads as reads
 use Rattle.colour_forests.proofs.rows.put_row.Lts as lts
 
-mul-nums : tie.Need-mul-nums
-mul-nums c = search needs
-
-slice-write-nums : tie.Need-slice-write-nums
-slice-write-nums c = search needs
-
-add-nums : tie.Need-add-nums
-add-nums c = search needs
-
-mul-nums-2 : tie.Need-mul-nums-2
-mul-nums-2 c = search needs
-
 slice-write-nums-2 : tie.Need-slice-write-nums-2
 slice-write-nums-2 c = simp length-set (omega arith)
-
-add-nums-2 : tie.Need-add-nums-2
-add-nums-2 c = search needs
-
-mul-nums-3 : tie.Need-mul-nums-3
-mul-nums-3 c = search needs
 
 slice-write-nums-3 : tie.Need-slice-write-nums-3
 slice-write-nums-3 c = simp length-set (omega arith)
 
-same-length : tie.Need-same-length
-same-length c = search needs
-
-returns : tie.Need-returns
-returns c = search needs
-
 pub put-row-spec : {M : Type 1} → statement M
 put-row-spec =
     tie.close
-    (tie.spec
-    mul-nums
-    slice-write-nums
-    add-nums
-    mul-nums-2
-    slice-write-nums-2
-    add-nums-2
-    mul-nums-3
-    slice-write-nums-3
-    same-length
-    returns)
+    (tie.spec (λ c. search needs) (λ c. search needs) (λ c. search needs) (λ c. search needs) slice-write-nums-2
+    (λ c. search needs) (λ c. search needs) slice-write-nums-3 (λ c. search needs) (λ c. search needs))

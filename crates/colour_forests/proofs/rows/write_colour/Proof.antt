@@ -108,9 +108,6 @@ loop-again c =
           (omega (arith, a .loop .inv .0, i .loop-test .taken)) (rows i t k d)),
     )
 
-same-length : tie.Need-same-length Inv-loop μ-loop
-same-length c = search needs
-
 returns : tie.Need-returns Inv-loop μ-loop
 returns c =
     let a = c .before in
@@ -121,18 +118,5 @@ returns c =
 pub write-colour-spec : {M : Type 1} → statement M
 write-colour-spec =
     tie.close
-    (tie.spec
-    Inv-loop
-    μ-loop
-    loop-holds
-    sub-v
-    next-row-requires
-    mul-put-row
-    mul-put-row-2
-    mul-put-row-3
-    add-put-row
-    put-row-requires
-    loop-less
-    loop-again
-    same-length
-    returns)
+    (tie.spec Inv-loop μ-loop loop-holds sub-v next-row-requires mul-put-row mul-put-row-2 mul-put-row-3 add-put-row
+    put-row-requires loop-less loop-again (λ c. search needs) returns)

@@ -58,9 +58,6 @@ cast-lands c = omega (arith, c .before .before .place-in .ensures .1, small c)
 array-write-lands : tie.Need-array-write-lands Inv-loop μ-loop
 array-write-lands c = small c
 
-add-c : tie.Need-add-c Inv-loop μ-loop
-add-c c = search needs
-
 loop-less : tie.Need-loop-less Inv-loop μ-loop
 loop-less c = omega (arith, c .before .before .before .before .loop-test .taken)
 
@@ -94,18 +91,5 @@ returns c =
 pub take-in-turn-spec : {M : Type 1} → statement M
 take-in-turn-spec =
     tie.close
-    (tie.spec
-    Inv-loop
-    μ-loop
-    loop-holds
-    shared-slice-read-q
-    place-in-requires
-    free-from-requires
-    cast-x
-    array-write-row
-    cast-lands
-    array-write-lands
-    add-c
-    loop-less
-    loop-again
-    returns)
+    (tie.spec Inv-loop μ-loop loop-holds shared-slice-read-q place-in-requires free-from-requires cast-x
+    array-write-row cast-lands array-write-lands (λ c. search needs) loop-less loop-again returns)

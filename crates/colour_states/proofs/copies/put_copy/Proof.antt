@@ -18,32 +18,11 @@ prefix c =
     let s = c .before .before .before in
     length-take-le (s .args .k) (s .args .t1) (omega (arith, s .pre .long, s .pre .few))
 
-array-share-prefix-led : tie.Need-array-share-prefix-led
-array-share-prefix-led c = search needs
-
 slice-aggregate-take-in-turn : tie.Need-slice-aggregate-take-in-turn
 slice-aggregate-take-in-turn c = sym (prefix c)
 
 take-in-turn-requires : tie.Need-take-in-turn-requires
 take-in-turn-requires c κs = record { few = omega (arith, prefix c, c .before .before .before .pre .few) }
-
-mul-put-row : tie.Need-mul-put-row
-mul-put-row c = search needs
-
-add-put-row : tie.Need-add-put-row
-add-put-row c = search needs
-
-put-row-requires : tie.Need-put-row-requires
-put-row-requires c κs = search needs
-
-put-lands-requires : tie.Need-put-lands-requires
-put-lands-requires c κs = search needs
-
-same-length : tie.Need-same-length
-same-length c = search needs
-
-same-length-2 : tie.Need-same-length-2
-same-length-2 c = search needs
 
 returns : tie.Need-returns
 returns c =
@@ -58,14 +37,6 @@ returns c =
 pub put-copy-spec : {M : Type 1} → statement M
 put-copy-spec =
     tie.close
-    (tie.spec
-    array-share-prefix-led
-    slice-aggregate-take-in-turn
-    take-in-turn-requires
-    mul-put-row
-    add-put-row
-    put-row-requires
-    put-lands-requires
-    same-length
-    same-length-2
+    (tie.spec (λ c. search needs) slice-aggregate-take-in-turn take-in-turn-requires (λ c. search needs)
+    (λ c. search needs) (λ c κs. search needs) (λ c κs. search needs) (λ c. search needs) (λ c. search needs)
     returns)

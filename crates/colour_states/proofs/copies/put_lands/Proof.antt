@@ -38,23 +38,8 @@ loop-holds : tie.Need-loop-holds Inv-loop μ-loop
 loop-holds c =
     (omega arith, omega arith, refl, land-start (c .args .t1) (c .args .n) (c .args .v) (c .pre .at) (c .args .numbers .now))
 
-array-read-numbers : tie.Need-array-read-numbers Inv-loop μ-loop
-array-read-numbers c = search needs
-
-cast-numbers : tie.Need-cast-numbers Inv-loop μ-loop
-cast-numbers c = search needs
-
-mul-numbers : tie.Need-mul-numbers Inv-loop μ-loop
-mul-numbers c = search needs
-
 mul-numbers-2 : tie.Need-mul-numbers-2 Inv-loop μ-loop
 mul-numbers-2 c = omega (arith, small c, c .before .before .pre .at, c .before .before .pre .most)
-
-mul-numbers-3 : tie.Need-mul-numbers-3 Inv-loop μ-loop
-mul-numbers-3 c = search needs
-
-add-numbers : tie.Need-add-numbers Inv-loop μ-loop
-add-numbers c = search needs
 
 add-numbers-2 : tie.Need-add-numbers-2 Inv-loop μ-loop
 add-numbers-2 c = omega (arith, small c, c .before .before .pre .at, c .before .before .pre .most)
@@ -64,12 +49,6 @@ mul-numbers-4 c = omega (arith, small c, c .before .before .pre .at, c .before .
 
 slice-write-numbers : tie.Need-slice-write-numbers Inv-loop μ-loop
 slice-write-numbers c = omega (arith, inside c)
-
-add-c : tie.Need-add-c Inv-loop μ-loop
-add-c c = search needs
-
-loop-less : tie.Need-loop-less Inv-loop μ-loop
-loop-less c = search needs
 
 loop-again : tie.Need-loop-again Inv-loop μ-loop
 loop-again c =
@@ -83,9 +62,6 @@ loop-again c =
           (a .loop .inv .3) (a .loop .inv .0) (omega (arith, inside c)),
     )
 
-same-length : tie.Need-same-length Inv-loop μ-loop
-same-length c = search needs
-
 returns : tie.Need-returns Inv-loop μ-loop
 returns c =
     let a = c .before in
@@ -96,21 +72,6 @@ returns c =
 pub put-lands-spec : {M : Type 1} → statement M
 put-lands-spec =
     tie.close
-    (tie.spec
-    Inv-loop
-    μ-loop
-    loop-holds
-    array-read-numbers
-    cast-numbers
-    mul-numbers
-    mul-numbers-2
-    mul-numbers-3
-    add-numbers
-    add-numbers-2
-    mul-numbers-4
-    slice-write-numbers
-    add-c
-    loop-less
-    loop-again
-    same-length
-    returns)
+    (tie.spec Inv-loop μ-loop loop-holds (λ c. search needs) (λ c. search needs) (λ c. search needs) mul-numbers-2
+    (λ c. search needs) (λ c. search needs) add-numbers-2 mul-numbers-4 slice-write-numbers (λ c. search needs)
+    (λ c. search needs) loop-again (λ c. search needs) returns)

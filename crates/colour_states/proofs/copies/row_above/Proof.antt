@@ -10,9 +10,6 @@ use Rattle.colour_states.proofs.copies.row_above.Lts as lts
 use Rattle.colour_states.proofs.copies.row_at.Reads as row-at-reads
 use Rattle.node_tables.proofs.moves.parent_at.Reads as parent-at-reads
 
-add-if1 : tie.Need-add-if1
-add-if1 c = search needs
-
 -- the parent's copy is inside
 within : (c : tie.After-parent-at) → let g = c .before .before .before .before .args in
     g .base + c .parent-at .result * g .k + g .k ≤ length (g .bytes .now)
@@ -25,9 +22,6 @@ returns c =
     let s = c .before .before .before in
     above-top (s .args .bytes .now) (s .args .numbers .now) (s .args .n) (s .args .base) (s .args .k) (s .args .v)
     (c .if1 .taken) (s .pre .few)
-
-parent-at-requires : tie.Need-parent-at-requires
-parent-at-requires c κs = search needs
 
 mul-row-at : tie.Need-mul-row-at
 mul-row-at c = omega (arith, within c)
@@ -49,4 +43,4 @@ returns-2 c =
 pub row-above-spec : {M : Type 1} → statement M
 row-above-spec =
     tie.close
-    (tie.spec add-if1 returns parent-at-requires mul-row-at add-row-at row-at-requires returns-2)
+    (tie.spec (λ c. search needs) returns (λ c κs. search needs) mul-row-at add-row-at row-at-requires returns-2)

@@ -19,12 +19,6 @@ abbrev μ-loop : tie.MeasureT-loop
 loop-holds : tie.Need-loop-holds Inv-loop μ-loop
 loop-holds c = (omega arith, row-start _ _ refl)
 
-array-read-q : tie.Need-array-read-q Inv-loop μ-loop
-array-read-q c = search needs
-
-cast-q : tie.Need-cast-q Inv-loop μ-loop
-cast-q c = search needs
-
 mul-led : tie.Need-mul-led Inv-loop μ-loop
 mul-led c =
     omega (arith, c .before .before .pre .inside (c .before .loop .c) (c .loop-test .taken))
@@ -36,15 +30,6 @@ add-led c =
 shared-slice-read-led : tie.Need-shared-slice-read-led Inv-loop μ-loop
 shared-slice-read-led c =
     c .before .before .before .pre .inside (c .before .before .loop .c) (c .before .loop-test .taken)
-
-array-write-led : tie.Need-array-write-led Inv-loop μ-loop
-array-write-led c = search needs
-
-add-c : tie.Need-add-c Inv-loop μ-loop
-add-c c = search needs
-
-loop-less : tie.Need-loop-less Inv-loop μ-loop
-loop-less c = search needs
 
 loop-again : tie.Need-loop-again Inv-loop μ-loop
 loop-again c =
@@ -61,17 +46,5 @@ returns c =
 pub led-by-word-spec : {M : Type 1} → statement M
 led-by-word-spec =
     tie.close
-    (tie.spec
-    Inv-loop
-    μ-loop
-    loop-holds
-    array-read-q
-    cast-q
-    mul-led
-    add-led
-    shared-slice-read-led
-    array-write-led
-    add-c
-    loop-less
-    loop-again
-    returns)
+    (tie.spec Inv-loop μ-loop loop-holds (λ c. search needs) (λ c. search needs) mul-led add-led shared-slice-read-led
+    (λ c. search needs) (λ c. search needs) (λ c. search needs) loop-again returns)

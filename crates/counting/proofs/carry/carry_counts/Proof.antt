@@ -27,9 +27,6 @@ climb-state-requires : tie.Need-climb-state-requires Inv-loop μ-loop
 climb-state-requires c κs =
     carry-climb _ _ _ _ _ _ _ _ _ _ _ _ _ _ (c .before .loop .inv) (c .loop-test .taken)
 
-enum-known-x : tie.Need-enum-known-x Inv-loop μ-loop
-enum-known-x c = search needs
-
 cast-d : tie.Need-cast-d Inv-loop μ-loop
 cast-d c =
     omega (
@@ -99,9 +96,6 @@ element-write-out c =
     (sym (c .before .before .before .before .before .x .given .1)
     ∙ c .before .before .before .before .before .before .before .climb-state .ensures)
 
-enum-told : tie.Need-enum-told Inv-loop μ-loop
-enum-told c = search needs
-
 returns : tie.Need-returns Inv-loop μ-loop
 returns c =
     carry-lost _ _ _ _ _ _ _ _ _ _ _ _ _ _ (c .before .before .before .before .loop .inv)
@@ -137,23 +131,6 @@ returns-2 c =
 pub carry-counts-spec : {M : Type 1} → statement M
 carry-counts-spec =
     tie.close
-    (tie.spec
-    Inv-loop
-    μ-loop
-    loop-holds
-    climb-state-requires
-    enum-known-x
-    cast-d
-    mul-capped-add
-    element-copy-out-capped-add
-    mul-capped-add-2
-    element-copy-out-capped-add-2
-    capped-add-requires
-    mul-out
-    element-write-out
-    enum-told
-    returns
-    add-q
-    loop-less
-    loop-again
-    returns-2)
+    (tie.spec Inv-loop μ-loop loop-holds climb-state-requires (λ c. search needs) cast-d mul-capped-add
+    element-copy-out-capped-add mul-capped-add-2 element-copy-out-capped-add-2 capped-add-requires mul-out
+    element-write-out (λ c. search needs) returns add-q loop-less loop-again returns-2)

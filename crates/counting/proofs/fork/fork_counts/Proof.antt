@@ -74,11 +74,4 @@ returns-3 c =
 pub fork-counts-spec : {M : Type 1} → statement M
 fork-counts-spec =
     tie.close
-    (tie.spec
-    side-counts-requires
-    returns
-    side-counts-requires-2
-    returns-2
-    join-requires
-    add-t29
-    returns-3)
+    (tie.spec side-counts-requires returns side-counts-requires-2 returns-2 join-requires add-t29 returns-3)

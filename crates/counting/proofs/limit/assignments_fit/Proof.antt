@@ -17,9 +17,6 @@ abbrev μ-loop : tie.MeasureT-loop
 loop-holds : tie.Need-loop-holds Inv-loop μ-loop
 loop-holds c = power-start _ _ (c .pre)
 
-div-if1 : tie.Need-div-if1 Inv-loop μ-loop
-div-if1 c = search needs
-
 returns : tie.Need-returns Inv-loop μ-loop
 returns c = power-over _ _ _ _ (c .before .before .loop .inv) (c .before .loop-test .taken) (c .if1 .taken)
 
@@ -29,9 +26,6 @@ mul-p c = omega (
   power-fits _ _ _ _ (c .before .before .loop .inv) (c .before .loop-test .taken)
       (c .if1 .left),
 )
-
-add-i : tie.Need-add-i Inv-loop μ-loop
-add-i c = search needs
 
 loop-less : tie.Need-loop-less Inv-loop μ-loop
 loop-less c = omega (arith, (c .before .loop-test .taken))
@@ -45,14 +39,5 @@ returns-2 c = power-done _ _ _ _ (c .before .loop .inv) (c .loop-test .left)
 pub assignments-fit-spec : {M : Type 1} → statement M
 assignments-fit-spec =
     tie.close
-    (tie.spec
-    Inv-loop
-    μ-loop
-    loop-holds
-    div-if1
-    returns
-    mul-p
-    add-i
-    loop-less
-    loop-again
+    (tie.spec Inv-loop μ-loop loop-holds (λ c. search needs) returns mul-p (λ c. search needs) loop-less loop-again
     returns-2)

@@ -12,9 +12,6 @@ use Rattle.counting.proofs.fork.fork_counts.Reads as fork-counts-reads
 use Rattle.joining.proofs.join.pour.Reads as pour-reads
 use Rattle.node_tables.proofs.moves.depth_at.Reads as depth-at-reads
 
-shared-slice-read-if1 : tie.Need-shared-slice-read-if1
-shared-slice-read-if1 c = search needs
-
 pour-requires : tie.Need-pour-requires
 pour-requires c κs =
     leaf-args _ _ _ _ _ _ _ _ _ _ _ _ _ _ _ _ _ _
@@ -25,9 +22,6 @@ returns c =
     leaf-done _ _ _ _ _ _ _ _ _ _ _ _ _ _ _ _ _ _
     (c .before .before .before .before .before .before .before .before .before .before .before .before .pre)
     (c .before .before .if1 .taken) _ (c .pour .ensures)
-
-depth-at-requires : tie.Need-depth-at-requires
-depth-at-requires c κs = search needs
 
 add-to : tie.Need-add-to
 add-to c =
@@ -60,12 +54,5 @@ returns-2 c =
 pub root-counts-spec : {M : Type 1} → statement M
 root-counts-spec =
     tie.close
-    (tie.spec
-    shared-slice-read-if1
-    pour-requires
-    returns
-    depth-at-requires
-    add-to
-    sub-fork-counts
-    fork-counts-requires
-    returns-2)
+    (tie.spec (λ c. search needs) pour-requires returns (λ c κs. search needs) add-to sub-fork-counts
+    fork-counts-requires returns-2)

@@ -61,17 +61,5 @@ returns c =
 pub copy-row-spec : {M : Type 1} → statement M
 copy-row-spec =
     tie.close
-    (tie.spec
-    Inv-loop
-    μ-loop
-    loop-holds
-    mul-out
-    add-out
-    mul-out-2
-    shared-slice-read-out
-    mul-out-3
-    element-write-out
-    add-c
-    loop-less
-    loop-again
-    returns)
+    (tie.spec Inv-loop μ-loop loop-holds mul-out add-out mul-out-2 shared-slice-read-out mul-out-3 element-write-out
+    add-c loop-less loop-again returns)

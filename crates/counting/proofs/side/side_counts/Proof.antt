@@ -34,12 +34,6 @@ returns c =
     (c .before .before .if1 .taken) (c .before .run-on .result)
     (c .before .run-on .ensures) (c .if2 .taken)
 
-mul-out : tie.Need-mul-out
-mul-out c = search needs
-
-element-write-out : tie.Need-element-write-out
-element-write-out c = search needs
-
 returns-2 : tie.Need-returns-2
 returns-2 c =
     run-kept _ _ _ _ _ _ _ _ _ _ _ _ _ _
@@ -47,33 +41,12 @@ returns-2 c =
     (c .before .before .if1 .taken) (c .before .run-on .result)
     (c .before .run-on .ensures) (c .if2 .left)
 
-sub-copy-row : tie.Need-sub-copy-row
-sub-copy-row c = search needs
-
-copy-row-requires : tie.Need-copy-row-requires
-copy-row-requires c κs = search needs
-
 returns-3 : tie.Need-returns-3
 returns-3 c =
     let s = c .before .before .before .before .before .before .before .before .before .before in
     own-kept _ _ _ _ _ _ _ _ _ _ _ _ _ (s .args .own - 1) _
     (one-more (s .args .own) (c .before .before .before .if1 .left)) (s .pre) (s .args .other - 1)
     (one-more (s .args .other) (c .before .before .if3 .taken)) _ (c .copy-row .ensures)
-
-sub-copy-row-2 : tie.Need-sub-copy-row-2
-sub-copy-row-2 c = search needs
-
-copy-row-requires-2 : tie.Need-copy-row-requires-2
-copy-row-requires-2 c κs = search needs
-
-sub-from : tie.Need-sub-from
-sub-from c = search needs
-
-mul-from : tie.Need-mul-from
-mul-from c = search needs
-
-shared-slice-read-from : tie.Need-shared-slice-read-from
-shared-slice-read-from c = search needs
 
 cast-from : tie.Need-cast-from
 cast-from c =
@@ -102,20 +75,6 @@ returns-4 c =
 pub side-counts-spec : {M : Type 1} → statement M
 side-counts-spec =
     tie.close
-    (tie.spec
-    run-on-requires
-    returns
-    mul-out
-    element-write-out
-    returns-2
-    sub-copy-row
-    copy-row-requires
-    returns-3
-    sub-copy-row-2
-    copy-row-requires-2
-    sub-from
-    mul-from
-    shared-slice-read-from
-    cast-from
-    carry-counts-requires
-    returns-4)
+    (tie.spec run-on-requires returns (λ c. search needs) (λ c. search needs) returns-2 (λ c. search needs)
+    (λ c κs. search needs) returns-3 (λ c. search needs) (λ c κs. search needs) (λ c. search needs)
+    (λ c. search needs) (λ c. search needs) cast-from carry-counts-requires returns-4)

@@ -10,18 +10,12 @@ use Rattle.deals.proofs.load.is_busy.Lts as lts
 use Rattle.deals.proofs.is_running.Reads as is-running-reads
 use Rattle.session.proofs.state.Session.valid.Reads as valid-reads
 
-valid-requires : tie.Need-valid-requires
-valid-requires c κs = search needs
-
 returns : tie.Need-returns
 returns c = busy-broken _ _ (c .before .valid .ensures) (c .if1 .taken)
-
-is-running-requires : tie.Need-is-running-requires
-is-running-requires c κs = search needs
 
 returns-2 : tie.Need-returns-2
 returns-2 c = busy-valid _ _ _ (c .before .before .before .valid .ensures) (c .before .before .if1 .left)
     (c .is-running .ensures)
 
 pub is-busy-spec : {M : Type 1} → statement M
-is-busy-spec = tie.close (tie.spec valid-requires returns is-running-requires returns-2)
+is-busy-spec = tie.close (tie.spec (λ c κs. search needs) returns (λ c κs. search needs) returns-2)

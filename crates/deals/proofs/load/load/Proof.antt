@@ -19,28 +19,10 @@ use Rattle.session.proofs.state.Session.load.Reads as load-reads
 eight : (b : tie.Start) → length (b .args .t1) ≡ 8
 eight b = good-length (eStruct T.the-type T′.the-laws T′.the-copy) 8 (b .args .t1) _ (b .good .0)
 
-any-busy-requires : tie.Need-any-busy-requires
-any-busy-requires c κs = search needs
-
 returns : tie.Need-returns
 returns c =
     one-busy _ _ (eight (c .before .before .before .before .before .before))
     (sym (c .before .any-busy .ensures) ∙ c .if1 .taken)
-
-array-copy-out-first : tie.Need-array-copy-out-first
-array-copy-out-first c = search needs
-
-load-requires : tie.Need-load-requires
-load-requires c κs = search needs
-
-enum-told : tie.Need-enum-told
-enum-told c = search needs
-
-same-length : tie.Need-same-length
-same-length c = search needs
-
-same-length-2 : tie.Need-same-length-2
-same-length-2 c = search needs
 
 returns-2 : tie.Need-returns-2
 returns-2 c =
@@ -50,15 +32,6 @@ returns-2 c =
     .any-busy .ensures) ∙ c .before .before .before .before .before .before .before .before .before .before .before
     .if1 .left) _ _ _ _
     (c .before .before .before .before .before .before .before .load .ensures) (c .before .enum-told .given .1)
-
-enum-known-answer : tie.Need-enum-known-answer
-enum-known-answer c = search needs
-
-same-length-3 : tie.Need-same-length-3
-same-length-3 c = search needs
-
-same-length-4 : tie.Need-same-length-4
-same-length-4 c = search needs
 
 returns-3 : tie.Need-returns-3
 returns-3 c =
@@ -72,16 +45,6 @@ returns-3 c =
 pub load-spec : {M : Type 1} → statement M
 load-spec =
     tie.close
-    (tie.spec
-    any-busy-requires
-    returns
-    array-copy-out-first
-    load-requires
-    enum-told
-    same-length
-    same-length-2
-    returns-2
-    enum-known-answer
-    same-length-3
-    same-length-4
+    (tie.spec (λ c κs. search needs) returns (λ c. search needs) (λ c κs. search needs) (λ c. search needs)
+    (λ c. search needs) (λ c. search needs) returns-2 (λ c. search needs) (λ c. search needs) (λ c. search needs)
     returns-3)

@@ -41,9 +41,6 @@ drop-in-requires c κs =
       lower = s .pre .lower;
     }
 
-enum-told : tie.Need-enum-told Inv-loop μ-loop
-enum-told c = search needs
-
 returns : tie.Need-returns Inv-loop μ-loop
 returns c =
     let m = c .before .before in
@@ -55,9 +52,6 @@ returns c =
     descends-done (g .n) (g .nums .now) (startPlace (g .top) (g .z)) (g .l) (g .c) (o .colour) (o .above) (o .at) (o .drops)
     (o .links) (o .inv) (i .loop-test .taken) (m .drop-in .result) (m .drop-in .ensures) (c .enum-told .given .1)
 
-enum-told-2 : tie.Need-enum-told-2 Inv-loop μ-loop
-enum-told-2 c = search needs
-
 returns-2 : tie.Need-returns-2 Inv-loop μ-loop
 returns-2 c =
     let m = c .before .before in
@@ -68,9 +62,6 @@ returns-2 c =
     let o = a .loop in
     descends-lost (g .n) (g .nums .now) (startPlace (g .top) (g .z)) (g .l) (g .c) (o .colour) (o .above) (o .at) (o .drops)
     (o .links) (o .inv) (i .loop-test .taken) (m .drop-in .result) (m .drop-in .ensures) (c .enum-told2 .given .1)
-
-enum-known-x : tie.Need-enum-known-x Inv-loop μ-loop
-enum-known-x c = search needs
 
 add-drops : tie.Need-add-drops Inv-loop μ-loop
 add-drops c =
@@ -129,18 +120,5 @@ returns-3 c =
 pub descend-from-spec : {M : Type 1} → statement M
 descend-from-spec =
     tie.close
-    (tie.spec
-    Inv-loop
-    μ-loop
-    loop-holds
-    drop-in-requires
-    enum-told
-    returns
-    enum-told-2
-    returns-2
-    enum-known-x
-    add-drops
-    add-links
-    loop-less
-    loop-again
-    returns-3)
+    (tie.spec Inv-loop μ-loop loop-holds drop-in-requires (λ c. search needs) returns (λ c. search needs) returns-2
+    (λ c. search needs) add-drops add-links loop-less loop-again returns-3)

@@ -20,30 +20,6 @@ use Rattle.descents.proofs.descend.drop_in.Lts as lts
 use Rattle.descents.proofs.drops.next_drop.Reads as next-drop-reads
 use Rattle.descents.proofs.drops.seen_at.Reads as seen-at-reads
 
-mul-size : tie.Need-mul-size
-mul-size c = search needs
-
-mul-from : tie.Need-mul-from
-mul-from c = search needs
-
-add-table : tie.Need-add-table
-add-table c = search needs
-
-mul-table : tie.Need-mul-table
-mul-table c = search needs
-
-sub-table : tie.Need-sub-table
-sub-table c = search needs
-
-part-table-start : tie.Need-part-table-start
-part-table-start c = search needs
-
-part-table-end : tie.Need-part-table-end
-part-table-end c = search needs
-
-next-drop-requires : tie.Need-next-drop-requires
-next-drop-requires c κs = search needs
-
 -- the part handed on
 abbrev part : tie.Start → List ℕ
 part s =
@@ -65,12 +41,6 @@ returns c =
     (part-gives (g .n) (g .nums .now) (part s) (g .c) none 0 (g .l) (c .next-drop .result) (part-is s) refl
     (c .next-drop .ensures))
 
-seen-at-requires : tie.Need-seen-at-requires
-seen-at-requires c κs = search needs
-
-next-drop-requires-2 : tie.Need-next-drop-requires-2
-next-drop-requires-2 c κs = search needs
-
 returns-2 : tie.Need-returns-2
 returns-2 c =
     let e = c .before in
@@ -86,16 +56,6 @@ returns-2 c =
 pub drop-in-spec : {M : Type 1} → statement M
 drop-in-spec =
     tie.close
-    (tie.spec
-    mul-size
-    mul-from
-    add-table
-    mul-table
-    sub-table
-    part-table-start
-    part-table-end
-    next-drop-requires
-    returns
-    seen-at-requires
-    next-drop-requires-2
-    returns-2)
+    (tie.spec (λ c. search needs) (λ c. search needs) (λ c. search needs) (λ c. search needs) (λ c. search needs)
+    (λ c. search needs) (λ c. search needs) (λ c κs. search needs) returns (λ c κs. search needs)
+    (λ c κs. search needs) returns-2)

@@ -9,17 +9,11 @@ use Rattle.descents.proofs.drops.lowest_at.Lts as lts
 use Rattle.node_tables.proofs.moves.parent_at.Reads as parent-at-reads
 use Rattle.node_tables.proofs.moves.size_at.Reads as size-at-reads
 
-size-at-requires : tie.Need-size-at-requires
-size-at-requires c κs = search needs
-
 returns : tie.Need-returns
 returns c =
     let s = c .before .before .before in
     lowest-fell (cellForest (s .args .n) (s .args .table .now)) (sizeCell (s .args .table .now)) (s .args .c) (s .args .v)
     (c .before .size-at .result) (c .before .size-at .ensures) (c .if1 .taken)
-
-parent-at-requires : tie.Need-parent-at-requires
-parent-at-requires c κs = search needs
 
 returns-2 : tie.Need-returns-2
 returns-2 c =
@@ -29,4 +23,4 @@ returns-2 c =
     (c .before .if1 .left)
 
 pub lowest-at-spec : {M : Type 1} → statement M
-lowest-at-spec = tie.close (tie.spec size-at-requires returns parent-at-requires returns-2)
+lowest-at-spec = tie.close (tie.spec (λ c κs. search needs) returns (λ c κs. search needs) returns-2)

@@ -13,17 +13,11 @@ use Rattle.descents.proofs.drops.seen_at.Reads as seen-at-reads
 use Rattle.descents.proofs.search.search.Reads as search-reads
 use Rattle.node_tables.proofs.moves.size_at.Reads as size-at-reads
 
-seen-at-requires : tie.Need-seen-at-requires
-seen-at-requires c κs = search needs
-
 returns : tie.Need-returns
 returns c =
     let m = c .before in
     let g = m .before .before .args in
     gives-done (g .n) (g .table .now) (g .c) (g .to) (g .l) (m .seen-at .result) (m .seen-at .ensures .0) (c .if1 .taken)
-
-lowest-at-requires : tie.Need-lowest-at-requires
-lowest-at-requires c κs = search needs
 
 returns-2 : tie.Need-returns-2
 returns-2 c =
@@ -33,9 +27,6 @@ returns-2 c =
     let g = m .before .before .args in
     gives-outside (g .n) (g .table .now) (g .c) (g .to) (g .l) (m .seen-at .result) (m .seen-at .ensures .0) (e .if1 .left)
     (v .lowest-at .result) (v .lowest-at .ensures) (c .if2 .taken)
-
-search-requires : tie.Need-search-requires
-search-requires c κs = search needs
 
 returns-3 : tie.Need-returns-3
 returns-3 c =
@@ -97,13 +88,5 @@ returns-5 c =
 pub next-drop-spec : {M : Type 1} → statement M
 next-drop-spec =
     tie.close
-    (tie.spec
-    seen-at-requires
-    returns
-    lowest-at-requires
-    returns-2
-    search-requires
-    returns-3
-    size-at-requires
-    returns-4
-    returns-5)
+    (tie.spec (λ c κs. search needs) returns (λ c κs. search needs) returns-2 (λ c κs. search needs) returns-3
+    size-at-requires returns-4 returns-5)

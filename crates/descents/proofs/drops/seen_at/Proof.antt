@@ -11,12 +11,6 @@ use Rattle.descents.proofs.drops.seen_at.Lts as lts
 use Rattle.node_tables.proofs.moves.depth_at.Reads as depth-at-reads
 use Rattle.node_tables.proofs.moves.size_at.Reads as size-at-reads
 
-depth-at-requires : tie.Need-depth-at-requires
-depth-at-requires c κs = search needs
-
-size-at-requires : tie.Need-size-at-requires
-size-at-requires c κs = search needs
-
 -- a depth is a 16-bit number
 bound : (c : tie.After-depth-at) → c .depth-at .result ≤ 65535
 bound c =
@@ -35,9 +29,6 @@ returns c =
       omega (arith, bound (c .before .before)),
     )
 
-add-result-2 : tie.Need-add-result-2
-add-result-2 c = search needs
-
 returns-2 : tie.Need-returns-2
 returns-2 c =
     let s = c .before .before .before .before in (
@@ -50,4 +41,4 @@ returns-2 c =
 pub seen-at-spec : {M : Type 1} → statement M
 seen-at-spec =
     tie.close
-    (tie.spec depth-at-requires size-at-requires add-result returns add-result-2 returns-2)
+    (tie.spec (λ c κs. search needs) (λ c κs. search needs) add-result returns (λ c. search needs) returns-2)

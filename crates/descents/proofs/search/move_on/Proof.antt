@@ -10,18 +10,6 @@ use Rattle.descents.proofs.search.move_on.Tie as tie
 abbrev forest : tie.Start → Forest
 forest s = cellForest (s .args .n) (s .args .nums .now)
 
-next-move-requires : tie.Need-next-move-requires
-next-move-requires c κs = search needs
-
-enum-known-j : tie.Need-enum-known-j
-enum-known-j c = search needs
-
-enum-known-p : tie.Need-enum-known-p
-enum-known-p c = search needs
-
-enum-told : tie.Need-enum-told
-enum-told c = search needs
-
 returns : tie.Need-returns
 returns c =
     let m = c .before .before .before in
@@ -46,4 +34,5 @@ returns-3 c =
 pub move-on-spec : {M : Type 1} → statement M
 move-on-spec =
     tie.close
-    (tie.spec next-move-requires enum-known-j enum-known-p enum-told returns returns-2 returns-3)
+    (tie.spec (λ c κs. search needs) (λ c. search needs) (λ c. search needs) (λ c. search needs) returns returns-2
+    returns-3)

@@ -82,14 +82,5 @@ returns-2 c =
 pub search-spec : {M : Type 1} → statement M
 search-spec =
     tie.close
-    (tie.spec
-    Inv-loop
-    μ-loop
-    loop-holds
-    depth-at-requires
-    move-on-requires
-    returns
-    add-links
-    loop-less
-    loop-again
+    (tie.spec Inv-loop μ-loop loop-holds depth-at-requires move-on-requires returns add-links loop-less loop-again
     returns-2)

@@ -6,12 +6,6 @@ use Rattle.formats.proofs.BufferLaws.{plan-no, table-no, buffers-end}
 use Rattle.formats.proofs.buffers.buffers_fit.Statement.{statement}
 use Rattle.formats.proofs.buffers.buffers_fit.Tie as tie
 
-mul-if1 : tie.Need-mul-if1
-mul-if1 c = search needs
-
-add-if1 : tie.Need-add-if1
-add-if1 c = search needs
-
 returns : tie.Need-returns
 returns c =
     let g = c .before .args in
@@ -34,4 +28,4 @@ returns-3 c =
 
 pub buffers-fit-spec : {M : Type 1} → statement M
 buffers-fit-spec =
-    tie.close (tie.spec mul-if1 add-if1 returns returns-2 room-fits-requires returns-3)
+    tie.close (tie.spec (λ c. search needs) (λ c. search needs) returns returns-2 room-fits-requires returns-3)

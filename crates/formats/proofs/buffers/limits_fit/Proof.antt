@@ -12,9 +12,6 @@ returns c = let g = c .before .args in sym (limits-none (g .n) (g .s) (g .k) (c 
 returns-2 : tie.Need-returns-2
 returns-2 c = let g = c .before .before .args in sym (limits-many (g .n) (g .s) (g .k) (c .if2 .taken))
 
-counts-fit-requires : tie.Need-counts-fit-requires
-counts-fit-requires c κs = search needs
-
 returns-3 : tie.Need-returns-3
 returns-3 c =
     let e = c .before in
@@ -22,4 +19,4 @@ returns-3 c =
     c .counts-fit .ensures ∙ sym (limits-end (g .n) (g .s) (g .k) (omega arith) (omega arith))
 
 pub limits-fit-spec : {M : Type 1} → statement M
-limits-fit-spec = tie.close (tie.spec returns returns-2 counts-fit-requires returns-3)
+limits-fit-spec = tie.close (tie.spec returns returns-2 (λ c κs. search needs) returns-3)

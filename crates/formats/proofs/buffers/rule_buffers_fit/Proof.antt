@@ -7,9 +7,6 @@ use Rattle.formats.specs.Buffers.{buffersFit}
 use Rattle.formats.proofs.buffers.rule_buffers_fit.Statement.{statement}
 use Rattle.formats.proofs.buffers.rule_buffers_fit.Tie as tie
 
-add-exact : tie.Need-add-exact
-add-exact c = search needs
-
 inner-count-requires : tie.Need-inner-count-requires
 inner-count-requires c κs = record { states = c .pre .few; labels = c .pre .labels }
 
@@ -33,4 +30,4 @@ returns c =
 pub rule-buffers-fit-spec : {M : Type 1} → statement M
 rule-buffers-fit-spec =
     tie.close
-    (tie.spec add-exact inner-count-requires add-exact-2 add-exact-3 buffers-fit-requires returns)
+    (tie.spec (λ c. search needs) inner-count-requires add-exact-2 add-exact-3 buffers-fit-requires returns)

@@ -14,8 +14,5 @@ add-fours c = record { fits = fits-fours _ (c .pre) }
 add-result : tie.Need-add-result
 add-result c = record { fits = omega (arith, fits-sums _ (c .pre)) }
 
-returns : tie.Need-returns
-returns c = search needs
-
 pub sums-so-far-spec : {M : Type 1} → statement M
-sums-so-far-spec = tie.close (tie.spec add-pairs add-fours add-result returns)
+sums-so-far-spec = tie.close (tie.spec add-pairs add-fours add-result (λ c. search needs))

@@ -10,12 +10,6 @@ use Rattle.formats.proofs.EightKinds.{few-most}
 use Rattle.formats.proofs.eight.trees_suffice.Statement.{statement}
 use Rattle.formats.proofs.eight.trees_suffice.Tie as tie
 
-add-result : tie.Need-add-result
-add-result c = search needs
-
-few-requires : tie.Need-few-requires
-few-requires c κs = search needs
-
 mul-result : tie.Need-mul-result
 mul-result c = record { fits = omega (arith, c .few .ensures, few-most (c .before .args .trees)) }
 
@@ -26,4 +20,4 @@ returns : tie.Need-returns
 returns c = ap (λ (f : ℕ). eqb (bitAnd (spare (c .before .args .twice) f) 9259542123273814144) 0) (c .few .ensures)
 
 pub trees-suffice-spec : {M : Type 1} → statement M
-trees-suffice-spec = tie.close (tie.spec add-result few-requires mul-result sub-result returns)
+trees-suffice-spec = tie.close (tie.spec (λ c. search needs) (λ c κs. search needs) mul-result sub-result returns)

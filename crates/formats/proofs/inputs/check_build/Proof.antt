@@ -15,9 +15,6 @@ table-none : (e : tie.Else1)
     → firstNo (ruleTableChecks (e .before .before .before .before .args .plan .now) (e .before .before .before .before .args .rules .now)) ≡ 0
 table-none e = sym (e .before .check-rule-inputs .ensures) ∙ e .if1 .left
 
-check-rule-inputs-requires : tie.Need-check-rule-inputs-requires
-check-rule-inputs-requires c κs = search needs
-
 returns : tie.Need-returns
 unfolding buildChecks
 returns c = first-part _ _ _ (c .before .check-rule-inputs .ensures) (c .if1 .taken)
@@ -54,11 +51,5 @@ returns-3 c =
 pub check-build-spec : {M : Type 1} → statement M
 check-build-spec =
     tie.close
-    (tie.spec
-    check-rule-inputs-requires
-    returns
-    read32-requires
-    read32-requires-2
-    room-fits-requires
-    returns-2
+    (tie.spec (λ c κs. search needs) returns read32-requires read32-requires-2 room-fits-requires returns-2
     returns-3)

@@ -20,9 +20,6 @@ rules-of e = e .before .before .before .before .before .before .args .rules .now
 table-none : (e : tie.Else1) → firstNo (ruleTableChecks (plan-of e) (rules-of e)) ≡ 0
 table-none e = sym (e .before .check-rule-inputs .ensures) ∙ e .if1 .left
 
-check-rule-inputs-requires : tie.Need-check-rule-inputs-requires
-check-rule-inputs-requires c κs = search needs
-
 returns : tie.Need-returns
 unfolding freshRunChecks
 returns c = first-part _ _ _ (c .before .check-rule-inputs .ensures) (c .if1 .taken)
@@ -32,9 +29,6 @@ read32-requires c κs = omega (arith, rule-table-passes _ _ (table-none c) .0 .l
 
 read32-requires-2 : tie.Need-read32-requires-2
 read32-requires-2 c κs = omega (arith, rule-table-passes _ _ (table-none (c .before)) .1 .long)
-
-check-list-requires : tie.Need-check-list-requires
-check-list-requires c κs = search needs
 
 returns-2 : tie.Need-returns-2
 unfolding freshRunChecks
@@ -49,10 +43,4 @@ returns-2 c =
 pub check-fresh-run-spec : {M : Type 1} → statement M
 check-fresh-run-spec =
     tie.close
-    (tie.spec
-    check-rule-inputs-requires
-    returns
-    read32-requires
-    read32-requires-2
-    check-list-requires
-    returns-2)
+    (tie.spec (λ c κs. search needs) returns read32-requires read32-requires-2 (λ c κs. search needs) returns-2)

@@ -5,14 +5,8 @@ use borrow.Author.Needs.{needs}
 use Rattle.formats.proofs.inputs.room_fits.Statement.{statement}
 use Rattle.formats.proofs.inputs.room_fits.Tie as tie
 
-mul-if1 : tie.Need-mul-if1
-mul-if1 c = search needs
-
 returns : tie.Need-returns
 returns c = let a = c .before .args in room-links (a .n) (a .s) (a .node-table) (a .state-table) (c .if1 .taken)
-
-add-result : tie.Need-add-result
-add-result c = search needs
 
 mul-result : tie.Need-mul-result
 mul-result c =
@@ -23,4 +17,4 @@ returns-2 : tie.Need-returns-2
 returns-2 c = let a = c .before .args in room-states (a .n) (a .s) (a .node-table) (a .state-table) (c .if1 .left)
 
 pub room-fits-spec : {M : Type 1} → statement M
-room-fits-spec = tie.close (tie.spec mul-if1 returns add-result mul-result returns-2)
+room-fits-spec = tie.close (tie.spec (λ c. search needs) returns (λ c. search needs) mul-result returns-2)

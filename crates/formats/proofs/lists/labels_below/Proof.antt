@@ -11,14 +11,5 @@ returns c =
     let b = c .before in
     sym (at-allBelow (b .before .args .k) (b .before .args .labels .now) (λ j h. omega (arith, b .shared-slice-known .given j)))
 
-cast-all-below : tie.Need-cast-all-below
-cast-all-below c = search needs
-
-all-below-requires : tie.Need-all-below-requires
-all-below-requires c κs = search needs
-
-returns-2 : tie.Need-returns-2
-returns-2 c = search needs
-
 pub labels-below-spec : {M : Type 1} → statement M
-labels-below-spec = tie.close (tie.spec returns cast-all-below all-below-requires returns-2)
+labels-below-spec = tie.close (tie.spec returns (λ c. search needs) (λ c κs. search needs) (λ c. search needs))

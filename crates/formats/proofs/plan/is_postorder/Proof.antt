@@ -14,17 +14,8 @@ Inv-loop kinds whole waiting₀ i₀ waiting i = Blocks kinds waiting i
 abbrev μ-loop : tie.MeasureT-loop
 μ-loop kinds whole waiting₀ i₀ waiting i = whole - i
 
-sub-whole : tie.Need-sub-whole Inv-loop μ-loop
-sub-whole c = search needs
-
 loop-holds : tie.Need-loop-holds Inv-loop μ-loop
 loop-holds c = blocks-start _
-
-eight-kinds-requires : tie.Need-eight-kinds-requires Inv-loop μ-loop
-eight-kinds-requires c κs = search needs
-
-are-kinds-requires : tie.Need-are-kinds-requires Inv-loop μ-loop
-are-kinds-requires c κs = search needs
 
 returns : tie.Need-returns Inv-loop μ-loop
 returns c =
@@ -62,9 +53,6 @@ returns-2 c =
     (λ j. omega (arith, e .before .before .before .shared-slice-known .given j)) (sym (a .before .are-kinds .ensures) ∙ not-false _ (a .if1 .left)) _ (i .sums-so-far .ensures)
     (sym (c .before .trees-suffice .ensures) ∙ not-true _ (c .if2 .taken))
 
-add-waiting : tie.Need-add-waiting Inv-loop μ-loop
-add-waiting c = search needs
-
 sub-waiting : tie.Need-sub-waiting Inv-loop μ-loop
 sub-waiting c =
     let i = c .before .before in
@@ -75,12 +63,6 @@ sub-waiting c =
     (sym (c .before .trees-suffice .ensures) ∙ not-false _ (c .if2 .left)) in
     omega (arith, left)
 
-add-i : tie.Need-add-i Inv-loop μ-loop
-add-i c = search needs
-
-loop-less : tie.Need-loop-less Inv-loop μ-loop
-loop-less c = search needs
-
 loop-again : tie.Need-loop-again Inv-loop μ-loop
 loop-again c =
     let i = c .before .before in
@@ -90,31 +72,12 @@ loop-again c =
     (λ j. omega (arith, e .before .before .before .shared-slice-known .given j)) (sym (a .before .are-kinds .ensures) ∙ not-false _ (a .if1 .left)) _ (i .sums-so-far .ensures)
     (sym (c .before .trees-suffice .ensures) ∙ not-false _ (c .if2 .left))
 
-rest-in-postorder-requires : tie.Need-rest-in-postorder-requires Inv-loop μ-loop
-rest-in-postorder-requires c κs = search needs
-
 returns-3 : tie.Need-returns-3 Inv-loop μ-loop
 returns-3 c = c .rest-in-postorder .ensures ∙ c .before .before .loop .inv .answer
 
 pub is-postorder-spec : {M : Type 1} → statement M
 is-postorder-spec =
     tie.close
-    (tie.spec
-    Inv-loop
-    μ-loop
-    sub-whole
-    loop-holds
-    eight-kinds-requires
-    are-kinds-requires
-    returns
-    mul-sums-so-far
-    sums-so-far-requires
-    trees-suffice-requires
-    returns-2
-    add-waiting
-    sub-waiting
-    add-i
-    loop-less
-    loop-again
-    rest-in-postorder-requires
-    returns-3)
+    (tie.spec Inv-loop μ-loop (λ c. search needs) loop-holds (λ c κs. search needs) (λ c κs. search needs) returns
+    mul-sums-so-far sums-so-far-requires trees-suffice-requires returns-2 (λ c. search needs) sub-waiting
+    (λ c. search needs) (λ c. search needs) loop-again (λ c κs. search needs) returns-3)

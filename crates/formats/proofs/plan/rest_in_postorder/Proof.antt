@@ -14,40 +14,16 @@ Inv-loop kinds «from» waiting none trees₀ ok₀ i₀ trees ok i = Counted ki
 abbrev μ-loop : tie.MeasureT-loop
 μ-loop kinds «from» waiting none trees₀ ok₀ i₀ trees ok i = length kinds - i
 
-add-trees : tie.Need-add-trees Inv-loop μ-loop
-add-trees c = search needs
-
 loop-holds : tie.Need-loop-holds Inv-loop μ-loop
 loop-holds c = counted-start _ _ _ (c .pre .0) (c .pre .1)
 
-shared-slice-read-k : tie.Need-shared-slice-read-k Inv-loop μ-loop
-shared-slice-read-k c = search needs
-
 cast-k : tie.Need-cast-k Inv-loop μ-loop
 cast-k c = omega (arith, c .shared-slice-known .given (c .before .before .loop .i))
-
-add-trees-2 : tie.Need-add-trees-2 Inv-loop μ-loop
-add-trees-2 c = search needs
-
-mul-trees : tie.Need-mul-trees Inv-loop μ-loop
-mul-trees c = search needs
-
-sub-trees : tie.Need-sub-trees Inv-loop μ-loop
-sub-trees c = search needs
-
-add-i : tie.Need-add-i Inv-loop μ-loop
-add-i c = search needs
-
-loop-less : tie.Need-loop-less Inv-loop μ-loop
-loop-less c = search needs
 
 loop-again : tie.Need-loop-again Inv-loop μ-loop
 loop-again c =
     let l = c .before .before .loop in
     counted-iteration _ _ _ (l .trees) (l .i) (l .ok) (l .inv) (c .before .loop-test .taken)
-
-add-result : tie.Need-add-result Inv-loop μ-loop
-add-result c = search needs
 
 returns : tie.Need-returns Inv-loop μ-loop
 returns c =
@@ -57,18 +33,6 @@ returns c =
 pub rest-in-postorder-spec : {M : Type 1} → statement M
 rest-in-postorder-spec =
     tie.close
-    (tie.spec
-    Inv-loop
-    μ-loop
-    add-trees
-    loop-holds
-    shared-slice-read-k
-    cast-k
-    add-trees-2
-    mul-trees
-    sub-trees
-    add-i
-    loop-less
-    loop-again
-    add-result
+    (tie.spec Inv-loop μ-loop (λ c. search needs) loop-holds (λ c. search needs) cast-k (λ c. search needs)
+    (λ c. search needs) (λ c. search needs) (λ c. search needs) (λ c. search needs) loop-again (λ c. search needs)
     returns)

@@ -33,15 +33,6 @@ shaped f = sym (f .before .rule-shape .ensures) ∙ not-false _ (f .if3 .left)
 returns : tie.Need-returns
 returns c = rules-6 _ (c .if1 .taken)
 
-read32-requires : tie.Need-read32-requires
-read32-requires c κs = search needs
-
-read32-requires-2 : tie.Need-read32-requires-2
-read32-requires-2 c κs = search needs
-
-counts-fit-requires : tie.Need-counts-fit-requires
-counts-fit-requires c κs = search needs
-
 returns-2 : tie.Need-returns-2
 returns-2 c =
     let s = c .before .before .before in
@@ -79,14 +70,5 @@ returns-5 c =
 pub check-rule-bytes-spec : {M : Type 1} → statement M
 check-rule-bytes-spec =
     tie.close
-    (tie.spec
-    returns
-    read32-requires
-    read32-requires-2
-    counts-fit-requires
-    returns-2
-    rule-shape-requires
-    returns-3
-    rule-values-requires
-    returns-4
-    returns-5)
+    (tie.spec returns (λ c κs. search needs) (λ c κs. search needs) (λ c κs. search needs) returns-2
+    rule-shape-requires returns-3 rule-values-requires returns-4 returns-5)

@@ -52,14 +52,5 @@ returns c = join-done _ _ _ _ _ _ _ _ _ _ (c .before .loop .inv) (c .loop-test .
 pub join-spec : {M : Type 1} → statement M
 join-spec =
     tie.close
-    (tie.spec
-    Inv-loop
-    μ-loop
-    loop-holds
-    mul-join-row
-    element-copy-out-join-row
-    join-row-requires
-    add-p
-    loop-less
-    loop-again
-    returns)
+    (tie.spec Inv-loop μ-loop loop-holds mul-join-row element-copy-out-join-row join-row-requires add-p loop-less
+    loop-again returns)

@@ -27,9 +27,6 @@ element-copy-out-capped-times : tie.Need-element-copy-out-capped-times Inv-loop 
 element-copy-out-capped-times c =
     omega (arith, c .loop-test .taken, c .before .loop .inv .args .table .states-most)
 
-capped-times-requires : tie.Need-capped-times-requires Inv-loop μ-loop
-capped-times-requires c κs = search needs
-
 pour-requires : tie.Need-pour-requires Inv-loop μ-loop
 pour-requires c κs =
     row-args _ _ _ _ _ _ _ _ _ _ _ (c .before .before .before .before .loop .inv)
@@ -59,15 +56,5 @@ returns c = row-done _ _ _ _ _ _ _ _ _ _ _ (c .before .loop .inv) (c .loop-test 
 pub join-row-spec : {M : Type 1} → statement M
 join-row-spec =
     tie.close
-    (tie.spec
-    Inv-loop
-    μ-loop
-    loop-holds
-    mul-capped-times
-    element-copy-out-capped-times
-    capped-times-requires
-    pour-requires
-    add-q
-    loop-less
-    loop-again
-    returns)
+    (tie.spec Inv-loop μ-loop loop-holds mul-capped-times element-copy-out-capped-times (λ c κs. search needs)
+    pour-requires add-q loop-less loop-again returns)

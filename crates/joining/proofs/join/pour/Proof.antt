@@ -97,23 +97,5 @@ returns-2 c =
 pub pour-spec : {M : Type 1} → statement M
 pour-spec =
     tie.close
-    (tie.spec
-    Inv-loop
-    μ-loop
-    returns
-    loop-holds
-    mul-d
-    add-d
-    mul-d-2
-    add-d-2
-    shared-slice-read-d
-    cast-d
-    mul-capped-add
-    element-copy-out-capped-add
-    capped-add-requires
-    mul-out
-    element-write-out
-    add-b
-    loop-less
-    loop-again
-    returns-2)
+    (tie.spec Inv-loop μ-loop returns loop-holds mul-d add-d mul-d-2 add-d-2 shared-slice-read-d cast-d mul-capped-add
+    element-copy-out-capped-add capped-add-requires mul-out element-write-out add-b loop-less loop-again returns-2)

@@ -20,9 +20,6 @@ returns-2 : tie.Need-returns-2
 returns-2 c =
     let z = ap (λ (m : ℕ). c .before .before .args .a * m) (c .if2 .taken) in omega (arith, z)
 
-div-if3 : tie.Need-div-if3
-div-if3 c = search needs
-
 returns-3 : tie.Need-returns-3
 returns-3 c = omega (
   arith,
@@ -45,4 +42,4 @@ returns-4 c = omega (
 )
 
 pub capped-times-spec : {M : Type 1} → statement M
-capped-times-spec = tie.close (tie.spec returns returns-2 div-if3 returns-3 mul-result returns-4)
+capped-times-spec = tie.close (tie.spec returns returns-2 (λ c. search needs) returns-3 mul-result returns-4)

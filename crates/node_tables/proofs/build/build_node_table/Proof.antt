@@ -7,12 +7,6 @@ use borrow.Author.Needs.{needs}
 use Rattle.node_tables.proofs.build.build_node_table.Statement.{statement}
 use Rattle.node_tables.proofs.build.build_node_table.Tie as tie
 
-write-up-requires : tie.Need-write-up-requires
-write-up-requires c κs = search needs
-
-jump-lengths-requires : tie.Need-jump-lengths-requires
-jump-lengths-requires c κs = search needs
-
 write-down-requires : tie.Need-write-down-requires
 write-down-requires c κs =
     let l = c .before .before .before .before .before in
@@ -26,9 +20,6 @@ write-down-requires c κs =
       c .before .before .jump-lengths .ensures,
     )
 
-same-length : tie.Need-same-length
-same-length c = search needs
-
 returns : tie.Need-returns
 returns c =
     let d = c .before .before in
@@ -39,4 +30,5 @@ returns c =
     (d .write-down .ensures)
 
 pub build-node-table-spec : {M : Type 1} → statement M
-build-node-table-spec = tie.close (tie.spec write-up-requires jump-lengths-requires write-down-requires same-length returns)
+build-node-table-spec = tie.close (tie.spec (λ c κs. search needs) (λ c κs. search needs) write-down-requires
+    (λ c. search needs) returns)

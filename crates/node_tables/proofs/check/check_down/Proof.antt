@@ -32,15 +32,6 @@ below a h =
 sub-root : tie.Need-sub-root Inv-loop μ-loop
 sub-root c = pos (c .before)
 
-mul-if1 : tie.Need-mul-if1 Inv-loop μ-loop
-mul-if1 c = search needs
-
-add-if1 : tie.Need-add-if1 Inv-loop μ-loop
-add-if1 c = search needs
-
-mul-if1-2 : tie.Need-mul-if1-2 Inv-loop μ-loop
-mul-if1-2 c = search needs
-
 shared-slice-read-if1 : tie.Need-shared-slice-read-if1 Inv-loop μ-loop
 shared-slice-read-if1 c = omega (arith, pos (c .before .before), c .before .before .pre .0 .room)
 
@@ -51,15 +42,6 @@ returns : tie.Need-returns Inv-loop μ-loop
 returns c =
     let s = c .before .before .before in
     root-jump-no (s .args .n) (s .args .n - 1) (s .args .node-table .now) (omega (arith, pos s)) (c .if1 .taken)
-
-mul-if2 : tie.Need-mul-if2 Inv-loop μ-loop
-mul-if2 c = search needs
-
-add-if2 : tie.Need-add-if2 Inv-loop μ-loop
-add-if2 c = search needs
-
-mul-if2-2 : tie.Need-mul-if2-2 Inv-loop μ-loop
-mul-if2-2 c = search needs
 
 shared-slice-read-if2 : tie.Need-shared-slice-read-if2 Inv-loop μ-loop
 shared-slice-read-if2 c =
@@ -79,9 +61,6 @@ loop-holds c =
           (c .before .before .if1 .left) (c .if2 .left),
     )
 
-sub-v : tie.Need-sub-v Inv-loop μ-loop
-sub-v c = search needs
-
 down-matches-requires : tie.Need-down-matches-requires Inv-loop μ-loop
 down-matches-requires c κs =
     let a = c .before in
@@ -99,9 +78,6 @@ returns-3 c =
     downs-no (s .args .n) (a .loop .v - 1) (s .args .node-table .now)
     (omega (arith, a .loop .inv .0, c .before .before .loop-test .taken))
     (sym (c .before .down-matches .ensures) ∙ not-true _ (c .if3 .taken))
-
-loop-less : tie.Need-loop-less Inv-loop μ-loop
-loop-less c = search needs
 
 loop-again : tie.Need-loop-again Inv-loop μ-loop
 loop-again c =
@@ -123,25 +99,7 @@ returns-4 c =
 pub check-down-spec : {M : Type 1} → statement M
 check-down-spec =
     tie.close
-    (tie.spec
-    Inv-loop
-    μ-loop
-    sub-root
-    mul-if1
-    add-if1
-    mul-if1-2
-    shared-slice-read-if1
-    cast-if1
-    returns
-    mul-if2
-    add-if2
-    mul-if2-2
-    shared-slice-read-if2
-    returns-2
-    loop-holds
-    sub-v
-    down-matches-requires
-    returns-3
-    loop-less
-    loop-again
-    returns-4)
+    (tie.spec Inv-loop μ-loop sub-root (λ c. search needs) (λ c. search needs) (λ c. search needs)
+    shared-slice-read-if1 cast-if1 returns (λ c. search needs) (λ c. search needs) (λ c. search needs)
+    shared-slice-read-if2 returns-2 loop-holds (λ c. search needs) down-matches-requires returns-3 (λ c. search needs)
+    loop-again returns-4)

@@ -16,18 +16,12 @@ up-yes e =
     subst (λ (r : Bool). UpTells r (s .args .kinds .now) (s .args .node-table .now)) (not-false _ (e .if1 .left))
     (e .before .check-up .ensures)
 
-check-up-requires : tie.Need-check-up-requires
-check-up-requires c κs = search needs
-
 returns : tie.Need-returns
 returns c =
     let s = c .before .before .before .before in
     answer-no (s .args .kinds .now) (s .args .node-table .now)
     (subst (λ (r : Bool). UpTells r (s .args .kinds .now) (s .args .node-table .now)) (not-true _ (c .if1 .taken))
     (c .before .check-up .ensures))
-
-jump-lengths-requires : tie.Need-jump-lengths-requires
-jump-lengths-requires c κs = search needs
 
 check-down-requires : tie.Need-check-down-requires
 check-down-requires c κs =
@@ -43,4 +37,5 @@ returns-2 c =
     (c .check-down .ensures)
 
 pub check-node-table-spec : {M : Type 1} → statement M
-check-node-table-spec = tie.close (tie.spec check-up-requires returns jump-lengths-requires check-down-requires returns-2)
+check-node-table-spec = tie.close (tie.spec (λ c κs. search needs) returns (λ c κs. search needs) check-down-requires
+    returns-2)

@@ -35,12 +35,6 @@ returns c =
     ups-no (s .args .kinds .now) (a .loop .v) (s .args .node-table .now) (c .before .before .loop-test .taken)
     (sym (c .before .up-matches .ensures) ∙ not-true _ (c .if1 .taken))
 
-add-v : tie.Need-add-v Inv-loop μ-loop
-add-v c = search needs
-
-loop-less : tie.Need-loop-less Inv-loop μ-loop
-loop-less c = search needs
-
 loop-again : tie.Need-loop-again Inv-loop μ-loop
 loop-again c =
     let a = c .before .before .before in
@@ -54,12 +48,6 @@ loop-again c =
 
 sub-root : tie.Need-sub-root Inv-loop μ-loop
 sub-root c = some-node _ (c .before .before .before .before .pre .postorder)
-
-mul-result : tie.Need-mul-result Inv-loop μ-loop
-mul-result c = search needs
-
-mul-result-2 : tie.Need-mul-result-2 Inv-loop μ-loop
-mul-result-2 c = search needs
 
 shared-slice-read-result : tie.Need-shared-slice-read-result Inv-loop μ-loop
 shared-slice-read-result c =
@@ -82,18 +70,5 @@ returns-2 c =
 pub check-up-spec : {M : Type 1} → statement M
 check-up-spec =
     tie.close
-    (tie.spec
-    Inv-loop
-    μ-loop
-    loop-holds
-    up-matches-requires
-    returns
-    add-v
-    loop-less
-    loop-again
-    sub-root
-    mul-result
-    mul-result-2
-    shared-slice-read-result
-    cast-result
-    returns-2)
+    (tie.spec Inv-loop μ-loop loop-holds up-matches-requires returns (λ c. search needs) (λ c. search needs)
+    loop-again sub-root (λ c. search needs) (λ c. search needs) shared-slice-read-result cast-result returns-2)

@@ -37,38 +37,14 @@ down a =
 sub-root : tie.Need-sub-root Inv-loop μ-loop
 sub-root c = pos (c .before)
 
-cast-node-table : tie.Need-cast-node-table Inv-loop μ-loop
-cast-node-table c = search needs
-
-mul-node-table : tie.Need-mul-node-table Inv-loop μ-loop
-mul-node-table c = search needs
-
-add-node-table : tie.Need-add-node-table Inv-loop μ-loop
-add-node-table c = search needs
-
-mul-node-table-2 : tie.Need-mul-node-table-2 Inv-loop μ-loop
-mul-node-table-2 c = search needs
-
 slice-write-node-table : tie.Need-slice-write-node-table Inv-loop μ-loop
 slice-write-node-table c = omega (arith, pos (c .before))
-
-mul-node-table-3 : tie.Need-mul-node-table-3 Inv-loop μ-loop
-mul-node-table-3 c = search needs
-
-add-node-table-2 : tie.Need-add-node-table-2 Inv-loop μ-loop
-add-node-table-2 c = search needs
-
-mul-node-table-4 : tie.Need-mul-node-table-4 Inv-loop μ-loop
-mul-node-table-4 c = search needs
 
 slice-write-node-table-2 : tie.Need-slice-write-node-table-2 Inv-loop μ-loop
 slice-write-node-table-2 c = simp length-set (omega (arith, pos (c .before)))
 
 loop-holds : tie.Need-loop-holds Inv-loop μ-loop
 loop-holds c = (omega (arith, pos (c .before)), refl, λ b d. d)
-
-sub-v : tie.Need-sub-v Inv-loop μ-loop
-sub-v c = search needs
 
 write-node-requires : tie.Need-write-node-requires Inv-loop μ-loop
 write-node-requires c κs =
@@ -80,9 +56,6 @@ write-node-requires c κs =
           (omega (arith, a .loop .inv .0, c .before .loop-test .taken)) (room a) (s .pre .0),
       s .pre .1,
     )
-
-loop-less : tie.Need-loop-less Inv-loop μ-loop
-loop-less c = search needs
 
 loop-again : tie.Need-loop-again Inv-loop μ-loop
 loop-again c =
@@ -110,23 +83,6 @@ returns c =
 pub write-down-spec : {M : Type 1} → statement M
 write-down-spec =
     tie.close
-    (tie.spec
-    Inv-loop
-    μ-loop
-    sub-root
-    cast-node-table
-    mul-node-table
-    add-node-table
-    mul-node-table-2
-    slice-write-node-table
-    mul-node-table-3
-    add-node-table-2
-    mul-node-table-4
-    slice-write-node-table-2
-    loop-holds
-    sub-v
-    write-node-requires
-    loop-less
-    loop-again
-    same-length
-    returns)
+    (tie.spec Inv-loop μ-loop sub-root (λ c. search needs) (λ c. search needs) (λ c. search needs) (λ c. search needs)
+    slice-write-node-table (λ c. search needs) (λ c. search needs) (λ c. search needs) slice-write-node-table-2
+    loop-holds (λ c. search needs) write-node-requires (λ c. search needs) loop-again same-length returns)

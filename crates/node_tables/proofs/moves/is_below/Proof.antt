@@ -7,13 +7,10 @@ use Rattle.node_tables.proofs.moves.is_below.Tie as tie
 returns : tie.Need-returns
 returns c = let a = c .before .before .args in below-no (a .node-table .now) (a .c) (a .v) (c .if1 .taken)
 
-size-at-requires : tie.Need-size-at-requires
-size-at-requires c κs = search needs
-
 returns-2 : tie.Need-returns-2
 returns-2 c =
     let a = c .before .before .before .args in
     below-yes (a .node-table .now) (a .c) (a .v) (c .size-at .result) (c .size-at .ensures) (c .before .if1 .left)
 
 pub is-below-spec : {M : Type 1} → statement M
-is-below-spec = tie.close (tie.spec returns size-at-requires returns-2)
+is-below-spec = tie.close (tie.spec returns (λ c κs. search needs) returns-2)

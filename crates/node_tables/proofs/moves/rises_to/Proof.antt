@@ -7,14 +7,8 @@ use Rattle.node_tables.proofs.moves.rises_to.Tie as tie
 returns : tie.Need-returns
 returns c = rw (le-ltb _ _ (c .if1 .taken))
 
-depth-at-requires : tie.Need-depth-at-requires
-depth-at-requires c κs = search needs
-
-depth-at-requires-2 : tie.Need-depth-at-requires-2
-depth-at-requires-2 c κs = search needs
-
 returns-2 : tie.Need-returns-2
 returns-2 c = rw (c .depth-at2 .ensures, c .before .depth-at .ensures, lt-ltb _ _ (c .before .before .if1 .left))
 
 pub rises-to-spec : {M : Type 1} → statement M
-rises-to-spec = tie.close (tie.spec returns depth-at-requires depth-at-requires-2 returns-2)
+rises-to-spec = tie.close (tie.spec returns (λ c κs. search needs) (λ c κs. search needs) returns-2)

@@ -22,21 +22,6 @@ abbrev μ-loop : tie.MeasureT-loop
 loop-holds : tie.Need-loop-holds Inv-loop μ-loop
 loop-holds c = (search needs, refl, refl, nothing-written _ _)
 
-shared-slice-read-if1 : tie.Need-shared-slice-read-if1 Inv-loop μ-loop
-shared-slice-read-if1 c = search needs
-
-mul-node-table : tie.Need-mul-node-table Inv-loop μ-loop
-mul-node-table c = search needs
-
-add-node-table : tie.Need-add-node-table Inv-loop μ-loop
-add-node-table c = search needs
-
-mul-node-table-2 : tie.Need-mul-node-table-2 Inv-loop μ-loop
-mul-node-table-2 c = search needs
-
-slice-write-node-table : tie.Need-slice-write-node-table Inv-loop μ-loop
-slice-write-node-table c = search needs
-
 write-inner-requires : tie.Need-write-inner-requires Inv-loop μ-loop
 write-inner-requires c κs =
     let a = c .before .before .before .before in
@@ -44,12 +29,6 @@ write-inner-requires c κs =
     inner-room (s .args .kinds .now) (a .loop .v) (length (s .args .node-table .now)) (a .loop .node-table) (s .pre)
     (a .loop .inv .1)
     (c .before .before .before .loop-test .taken) (c .before .if1 .left) (λ t e. a .loop .inv .3 t e .cells)
-
-add-v : tie.Need-add-v Inv-loop μ-loop
-add-v c = search needs
-
-loop-less : tie.Need-loop-less Inv-loop μ-loop
-loop-less c = search needs
 
 loop-again : tie.Need-loop-again Inv-loop μ-loop
 loop-again c =
@@ -78,20 +57,8 @@ loop-again c =
 sub-root : tie.Need-sub-root Inv-loop μ-loop
 sub-root c = some-node _ (c .before .before .before .before .pre .postorder)
 
-cast-node-table : tie.Need-cast-node-table Inv-loop μ-loop
-cast-node-table c = search needs
-
-mul-node-table-3 : tie.Need-mul-node-table-3 Inv-loop μ-loop
-mul-node-table-3 c = search needs
-
-mul-node-table-4 : tie.Need-mul-node-table-4 Inv-loop μ-loop
-mul-node-table-4 c = search needs
-
 slice-write-node-table-2 : tie.Need-slice-write-node-table-2 Inv-loop μ-loop
 slice-write-node-table-2 c = omega (arith, some-node _ (c .before .before .before .before .pre .postorder))
-
-same-length : tie.Need-same-length Inv-loop μ-loop
-same-length c = search needs
 
 returns : tie.Need-returns Inv-loop μ-loop
 returns c =
@@ -104,23 +71,7 @@ returns c =
 pub write-up-spec : {M : Type 1} → statement M
 write-up-spec =
     tie.close
-    (tie.spec
-    Inv-loop
-    μ-loop
-    loop-holds
-    shared-slice-read-if1
-    mul-node-table
-    add-node-table
-    mul-node-table-2
-    slice-write-node-table
-    write-inner-requires
-    add-v
-    loop-less
-    loop-again
-    sub-root
-    cast-node-table
-    mul-node-table-3
-    mul-node-table-4
-    slice-write-node-table-2
-    same-length
+    (tie.spec Inv-loop μ-loop loop-holds (λ c. search needs) (λ c. search needs) (λ c. search needs)
+    (λ c. search needs) (λ c. search needs) write-inner-requires (λ c. search needs) (λ c. search needs) loop-again
+    sub-root (λ c. search needs) (λ c. search needs) (λ c. search needs) slice-write-node-table-2 (λ c. search needs)
     returns)

@@ -57,9 +57,6 @@ top-answer c =
     (kinds-cut (b .before .before .before .before .args .plan .now) (b .read32 .result) (b .read32 .ensures)
     (sized b .0))
 
-check-plan-requires : tie.Need-check-plan-requires
-check-plan-requires c κs = tt
-
 returns : tie.Need-returns
 returns c = sym (comes-no-plan _ (λ e. c .if1 .taken (c .before .check-plan .ensures ∙ e)))
 
@@ -110,9 +107,6 @@ part-one-top-start c = let z = sized (c .before .before .before .before) in omeg
 part-one-top-end : tie.Need-part-one-top-end
 part-one-top-end c = let z = sized (c .before .before .before .before) in omega arith
 
-one-top-requires : tie.Need-one-top-requires
-one-top-requires c κs = tt
-
 returns-3 : tie.Need-returns-3
 returns-3 c = sym (comes-no-top _ (passed (c .before .before .before .before .before .before .before .before))
     (sym (top-answer (c .before)) ∙ not-true _ (c .if3 .taken)))
@@ -129,9 +123,6 @@ part-runs-fit-start c = let z = sized (c .before .before .before .before .before
 part-runs-fit-end : tie.Need-part-runs-fit-end
 part-runs-fit-end c = let z = sized (c .before .before .before .before .before .before .before) in omega arith
 
-runs-fit-requires : tie.Need-runs-fit-requires
-runs-fit-requires c κs = tt
-
 returns-4 : tie.Need-returns-4
 returns-4 c =
     let b = c .before .before .before .before .before .before .before .before .before in
@@ -147,29 +138,7 @@ returns-4 c =
 pub comes-from-file-spec : {M : Type 1} → statement M
 comes-from-file-spec =
     tie.close
-    (tie.spec
-    check-plan-requires
-    returns
-    read32-requires
-    add-labels-fit
-    sub-labels-fit
-    part-labels-fit-start
-    part-labels-fit-end
-    add-labels-fit-2
-    sub-labels-fit-2
-    part-labels-fit-start-2
-    part-labels-fit-end-2
-    labels-fit-requires
-    returns-2
-    add-one-top
-    sub-one-top
-    part-one-top-start
-    part-one-top-end
-    one-top-requires
-    returns-3
-    add-runs-fit
-    sub-runs-fit
-    part-runs-fit-start
-    part-runs-fit-end
-    runs-fit-requires
-    returns-4)
+    (tie.spec (λ c κs. tt) returns read32-requires add-labels-fit sub-labels-fit part-labels-fit-start
+    part-labels-fit-end add-labels-fit-2 sub-labels-fit-2 part-labels-fit-start-2 part-labels-fit-end-2
+    labels-fit-requires returns-2 add-one-top sub-one-top part-one-top-start part-one-top-end (λ c κs. tt) returns-3
+    add-runs-fit sub-runs-fit part-runs-fit-start part-runs-fit-end (λ c κs. tt) returns-4)

@@ -23,26 +23,14 @@ abbrev μ-loop : tie.MeasureT-loop
 loop-holds : tie.Need-loop-holds Inv-loop μ-loop
 loop-holds c = (omega arith, refl)
 
-shared-slice-read-label-fits : tie.Need-shared-slice-read-label-fits Inv-loop μ-loop
-shared-slice-read-label-fits c = search needs
-
 shared-slice-read-label-fits-2 : tie.Need-shared-slice-read-label-fits-2 Inv-loop μ-loop
 shared-slice-read-label-fits-2 c = omega (arith, c .before .before .before .before .before .before .pre)
-
-label-fits-requires : tie.Need-label-fits-requires Inv-loop μ-loop
-label-fits-requires c κs = search needs
 
 returns : tie.Need-returns Inv-loop μ-loop
 returns c =
     let l = c .before .before .before .before .before .loop in
     sym (labels-no _ _ (l .i) (c .before .before .before .before .before .before .before .before .pre) (l .inv .1)
     (omega arith) (sym (c .before .label-fits .ensures) ∙ not-true _ (c .if1 .taken)))
-
-add-i : tie.Need-add-i Inv-loop μ-loop
-add-i c = search needs
-
-loop-less : tie.Need-loop-less Inv-loop μ-loop
-loop-less c = search needs
 
 loop-again : tie.Need-loop-again Inv-loop μ-loop
 loop-again c =
@@ -59,15 +47,5 @@ returns-2 c = let l = c .before .loop in
 pub labels-fit-spec : {M : Type 1} → statement M
 labels-fit-spec =
     tie.close
-    (tie.spec
-    Inv-loop
-    μ-loop
-    loop-holds
-    shared-slice-read-label-fits
-    shared-slice-read-label-fits-2
-    label-fits-requires
-    returns
-    add-i
-    loop-less
-    loop-again
-    returns-2)
+    (tie.spec Inv-loop μ-loop loop-holds (λ c. search needs) shared-slice-read-label-fits-2 (λ c κs. search needs)
+    returns (λ c. search needs) (λ c. search needs) loop-again returns-2)

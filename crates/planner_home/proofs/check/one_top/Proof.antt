@@ -11,14 +11,8 @@ use Rattle.planner_home.proofs.check.one_top.Lts as lts
 returns : tie.Need-returns
 returns c = sym (top-short _ (c .if1 .taken))
 
-sub-result : tie.Need-sub-result
-sub-result c = search needs
-
-shared-slice-read-result : tie.Need-shared-slice-read-result
-shared-slice-read-result c = search needs
-
 returns-2 : tie.Need-returns-2
 returns-2 c = top-kind (c .before .before .args .kinds .now) (omega arith)
 
 pub one-top-spec : {M : Type 1} → statement M
-one-top-spec = tie.close (tie.spec returns sub-result shared-slice-read-result returns-2)
+one-top-spec = tie.close (tie.spec returns (λ c. search needs) (λ c. search needs) returns-2)

@@ -10,11 +10,8 @@ use Rattle.planner_home.proofs.check.run_after.Lts as lts
 returns : tie.Need-returns
 returns c = after-leaf _ _ (c .if1 .taken)
 
-add-result : tie.Need-add-result
-add-result c = search needs
-
 returns-2 : tie.Need-returns-2
 returns-2 c = after-inner _ _ (c .if1 .left)
 
 pub run-after-spec : {M : Type 1} → statement M
-run-after-spec = tie.close (tie.spec returns add-result returns-2)
+run-after-spec = tie.close (tie.spec returns (λ c. search needs) returns-2)

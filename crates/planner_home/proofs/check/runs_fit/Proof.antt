@@ -22,22 +22,10 @@ abbrev μ-loop : tie.MeasureT-loop
 loop-holds : tie.Need-loop-holds Inv-loop μ-loop
 loop-holds c = (omega arith, omega arith, refl)
 
-shared-slice-read-run-after : tie.Need-shared-slice-read-run-after Inv-loop μ-loop
-shared-slice-read-run-after c = search needs
-
-run-after-requires : tie.Need-run-after-requires Inv-loop μ-loop
-run-after-requires c κs = search needs
-
 returns : tie.Need-returns Inv-loop μ-loop
 returns c = let l = c .before .before .before .before .loop in
     sym (runs-no _ (l .run) (l .i) (l .inv .2) (omega arith) (c .before .run-after .result)
     (c .before .run-after .ensures) (omega arith))
-
-add-i : tie.Need-add-i Inv-loop μ-loop
-add-i c = search needs
-
-loop-less : tie.Need-loop-less Inv-loop μ-loop
-loop-less c = search needs
 
 loop-again : tie.Need-loop-again Inv-loop μ-loop
 loop-again c =
@@ -54,14 +42,5 @@ returns-2 c = let l = c .before .loop in runs-end _ (l .run) (l .i) (l .inv .2) 
 pub runs-fit-spec : {M : Type 1} → statement M
 runs-fit-spec =
     tie.close
-    (tie.spec
-    Inv-loop
-    μ-loop
-    loop-holds
-    shared-slice-read-run-after
-    run-after-requires
-    returns
-    add-i
-    loop-less
-    loop-again
-    returns-2)
+    (tie.spec Inv-loop μ-loop loop-holds (λ c. search needs) (λ c κs. search needs) returns (λ c. search needs)
+    (λ c. search needs) loop-again returns-2)

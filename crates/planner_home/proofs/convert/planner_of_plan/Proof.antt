@@ -24,9 +24,6 @@ passes : (c : tie.Else1)
     (length (now (c .before .before .before .before .args .file)))) ≡ 0
 passes c = sym (c .before .check-home .ensures) ∙ omega arith
 
-check-home-requires : tie.Need-check-home-requires
-check-home-requires c κs = tt
-
 returns : tie.Need-returns
 returns c = home-refused _ _ _ (λ e. omega arith) (c .before .check-home .ensures)
 
@@ -39,9 +36,6 @@ write-home-requires c κs = record {
   count-is = ap (λ (n : ℕ). n / 2) (c .before .read32 .ensures) ∙ home-half _ _ (passes (c .before .before));
 }
 
-same-length : tie.Need-same-length
-same-length c = search needs
-
 returns-2 : tie.Need-returns-2
 returns-2 c = home-done _ _ _ _ refl (passes (c .before .before .before .before .before))
     (c .before .before .write-home .ensures)
@@ -49,10 +43,4 @@ returns-2 c = home-done _ _ _ _ refl (passes (c .before .before .before .before 
 pub planner-of-plan-spec : {M : Type 1} → statement M
 planner-of-plan-spec =
     tie.close
-    (tie.spec
-    check-home-requires
-    returns
-    read32-requires
-    write-home-requires
-    same-length
-    returns-2)
+    (tie.spec (λ c κs. tt) returns read32-requires write-home-requires (λ c. search needs) returns-2)

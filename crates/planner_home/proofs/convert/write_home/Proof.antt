@@ -56,9 +56,6 @@ write-header-requires c κs =
     (home-read-args _ _ _ (s .pre) _ _ (labels-part _ _ _ (s .pre)) (kinds-part _ _ _ (s .pre))) in
     (omega (arith, R .kept .same), omega arith)
 
-same-length : tie.Need-same-length
-same-length c = search needs
-
 returns : tie.Need-returns
 returns c =
     let s = c .before .before .before .before .before .before .before .before .before .before .before .before in
@@ -70,18 +67,6 @@ returns c =
 pub write-home-spec : {M : Type 1} → statement M
 write-home-spec =
     tie.close
-    (tie.spec
-    mul-size
-    add-size
-    add-read-nodes
-    sub-read-nodes
-    part-read-nodes-start
-    part-read-nodes-end
-    add-read-nodes-2
-    sub-read-nodes-2
-    part-read-nodes-start-2
-    part-read-nodes-end-2
-    read-nodes-requires
-    write-header-requires
-    same-length
-    returns)
+    (tie.spec mul-size add-size add-read-nodes sub-read-nodes part-read-nodes-start part-read-nodes-end
+    add-read-nodes-2 sub-read-nodes-2 part-read-nodes-start-2 part-read-nodes-end-2 read-nodes-requires
+    write-header-requires (λ c. search needs) returns)

@@ -7,9 +7,6 @@ use Rattle.planner_home.proofs.read.mark.Tie as tie
 use Rattle.planner_home.proofs.read.mark.Reads as reads
 use Rattle.planner_home.proofs.read.mark.Lts as lts
 
-add-result : tie.Need-add-result
-add-result c = search needs
-
 returns : tie.Need-returns
 returns c = marked-first _ _ (c .if1 .taken)
 
@@ -17,4 +14,4 @@ returns-2 : tie.Need-returns-2
 returns-2 c = marked-later _ _ (c .if1 .left)
 
 pub mark-spec : {M : Type 1} → statement M
-mark-spec = tie.close (tie.spec add-result returns returns-2)
+mark-spec = tie.close (tie.spec (λ c. search needs) returns returns-2)

@@ -15,18 +15,9 @@ push-requires : tie.Need-push-requires
 push-requires c κs = let s = c .before .before .before in
     push-args _ _ _ (s .args .kind) _ _ (s .args .w .run) (s .pre) (λ e. omega arith)
 
-add-t11 : tie.Need-add-t11
-add-t11 c = search needs
-
 sub-t12 : tie.Need-sub-t12
 sub-t12 c = let s = c .before .before .before .before .before .before .before .before in
     s .pre .some-left (λ e. omega arith)
-
-add-t13 : tie.Need-add-t13
-add-t13 c = search needs
-
-same-length : tie.Need-same-length
-same-length c = search needs
 
 returns : tie.Need-returns
 returns c = let s = c .before .before .before .before .before .before .before .before .before in
@@ -36,9 +27,6 @@ put-count-requires : tie.Need-put-count-requires
 put-count-requires c κs = let s = c .before .before .before .before .before in
     count-args _ _ (s .args .label) (s .args .kind) _ _ _ (s .pre) (λ e. omega arith)
 
-same-length-2 : tie.Need-same-length-2
-same-length-2 c = search needs
-
 returns-2 : tie.Need-returns-2
 returns-2 c = let s = c .before .before .before .before .before .before .before .before in
     node-count _ _ _ _ _ _ _ (s .pre) _ (omega arith) (c .before .before .put-count .ensures)
@@ -47,9 +35,6 @@ release-requires : tie.Need-release-requires
 release-requires c κs = let s = c .before .before .before .before .before in
     release-args _ _ (s .args .label) (s .args .kind) _ _ (s .args .w .run) (s .pre)
 
-same-length-3 : tie.Need-same-length-3
-same-length-3 c = search needs
-
 returns-3 : tie.Need-returns-3
 returns-3 c = let s = c .before .before .before .before .before .before .before .before in
     node-release _ _ _ _ _ _ _ (s .pre) _ _ (omega arith) (omega arith) (c .before .before .release .ensures)
@@ -57,16 +42,5 @@ returns-3 c = let s = c .before .before .before .before .before .before .before 
 pub read-node-spec : {M : Type 1} → statement M
 read-node-spec =
     tie.close
-    (tie.spec
-    push-requires
-    add-t11
-    sub-t12
-    add-t13
-    same-length
-    returns
-    put-count-requires
-    same-length-2
-    returns-2
-    release-requires
-    same-length-3
-    returns-3)
+    (tie.spec push-requires (λ c. search needs) sub-t12 (λ c. search needs) (λ c. search needs) returns
+    put-count-requires (λ c. search needs) returns-2 release-requires (λ c. search needs) returns-3)

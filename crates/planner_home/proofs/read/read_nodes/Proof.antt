@@ -27,12 +27,6 @@ abbrev μ-loop : tie.MeasureT-loop
 loop-holds : tie.Need-loop-holds Inv-loop μ-loop
 loop-holds c = (omega arith, refl, λ f A. reading-start f _ _ _ _ A)
 
-sub-v : tie.Need-sub-v Inv-loop μ-loop
-sub-v c = search needs
-
-shared-slice-read-read-node : tie.Need-shared-slice-read-read-node Inv-loop μ-loop
-shared-slice-read-read-node c = search needs
-
 shared-slice-read-read-node-2 : tie.Need-shared-slice-read-read-node-2 Inv-loop μ-loop
 shared-slice-read-read-node-2 c =
     let s = c .before .before .before .before .before .before .before .before in
@@ -44,9 +38,6 @@ read-node-requires c κs =
     let l = c .before .before .before .before .loop in
     reading-args (s .pre .0) _ _ _ _ (s .pre .1) (l .v) _ _ _ _ (l .inv .2 (s .pre .0) (s .pre .1)) (omega arith)
     (l .inv .0)
-
-loop-less : tie.Need-loop-less Inv-loop μ-loop
-loop-less c = search needs
 
 loop-again : tie.Need-loop-again Inv-loop μ-loop
 loop-again c =
@@ -66,15 +57,5 @@ returns c = λ f A. (let l = c .before .loop in reading-end f _ _ _ _ A (l .v) _
 pub read-nodes-spec : {M : Type 1} → statement M
 read-nodes-spec =
     tie.close
-    (tie.spec
-    Inv-loop
-    μ-loop
-    loop-holds
-    sub-v
-    shared-slice-read-read-node
-    shared-slice-read-read-node-2
-    read-node-requires
-    loop-less
-    loop-again
-    same-length
-    returns)
+    (tie.spec Inv-loop μ-loop loop-holds (λ c. search needs) (λ c. search needs) shared-slice-read-read-node-2
+    read-node-requires (λ c. search needs) loop-again same-length returns)

@@ -153,24 +153,6 @@ returns c = let l = c .before .loop in
 pub release-spec : {M : Type 1} → statement M
 release-spec =
     tie.close
-    (tie.spec
-    Inv-loop
-    μ-loop
-    loop-holds
-    sub-top
-    add-label
-    slice-read-label
-    add-count
-    add-count-2
-    slice-read-count
-    add-file
-    add-file-2
-    slice-write-file
-    add-file-3
-    add-file-4
-    add-file-5
-    slice-write-file-2
-    loop-less
-    loop-again
-    same-length
-    returns)
+    (tie.spec Inv-loop μ-loop loop-holds sub-top add-label slice-read-label add-count add-count-2 slice-read-count
+    add-file add-file-2 slice-write-file add-file-3 add-file-4 add-file-5 slice-write-file-2 loop-less loop-again
+    same-length returns)

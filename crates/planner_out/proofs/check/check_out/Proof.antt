@@ -47,9 +47,6 @@ room-answer c =
     c .room-fits .ensures
     ∙ ap (λ (n : ℕ). outRoom n (a .plan) (a .places)) (c .before .before .before .before .read32 .ensures)
 
-well-formed-requires : tie.Need-well-formed-requires
-well-formed-requires c κs = search needs
-
 returns : tie.Need-returns
 returns c = sym (out-19 _ _ _ (sym (c .before .well-formed .ensures) ∙ not-true _ (c .if1 .taken)))
 
@@ -59,24 +56,12 @@ read32-requires c κs = omega (arith, formed c .long)
 add-all-below : tie.Need-add-all-below
 add-all-below c = omega (arith, formed (c .before) .exact, c .read32 .ensures)
 
-sub-all-below : tie.Need-sub-all-below
-sub-all-below c = search needs
-
-part-all-below-start : tie.Need-part-all-below-start
-part-all-below-start c = search needs
-
 part-all-below-end : tie.Need-part-all-below-end
 part-all-below-end c = omega (arith, formed (c .before) .exact, c .read32 .ensures)
-
-all-below-requires : tie.Need-all-below-requires
-all-below-requires c κs = search needs
 
 returns-2 : tie.Need-returns-2
 returns-2 c = sym (out-20 _ _ _ (is-formed (c .before .before .before .before))
     (sym (labels-answer (c .before)) ∙ not-true _ (c .if2 .taken)))
-
-room-fits-requires : tie.Need-room-fits-requires
-room-fits-requires c κs = search needs
 
 returns-3 : tie.Need-returns-3
 returns-3 c =
@@ -93,16 +78,5 @@ returns-4 c =
 pub check-out-spec : {M : Type 1} → statement M
 check-out-spec =
     tie.close
-    (tie.spec
-    well-formed-requires
-    returns
-    read32-requires
-    add-all-below
-    sub-all-below
-    part-all-below-start
-    part-all-below-end
-    all-below-requires
-    returns-2
-    room-fits-requires
-    returns-3
-    returns-4)
+    (tie.spec (λ c κs. search needs) returns read32-requires add-all-below (λ c. search needs) (λ c. search needs)
+    part-all-below-end (λ c κs. search needs) returns-2 (λ c κs. search needs) returns-3 returns-4)

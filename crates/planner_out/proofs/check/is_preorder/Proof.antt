@@ -25,14 +25,8 @@ returns : tie.Need-returns Inv-loop μ-loop
 returns c = let l = c .before .before .loop in
     sym (waiting-none _ (l .wait) (l .i) (l .inv) (omega arith) (omega arith))
 
-sub-if2 : tie.Need-sub-if2 Inv-loop μ-loop
-sub-if2 c = search needs
-
 returns-2 : tie.Need-returns-2 Inv-loop μ-loop
 returns-2 c = let l = c .before .before .before .loop in sym (waiting-many _ (l .wait) (l .i) (l .inv) (omega arith))
-
-shared-slice-read-wait : tie.Need-shared-slice-read-wait Inv-loop μ-loop
-shared-slice-read-wait c = search needs
 
 cast-wait : tie.Need-cast-wait Inv-loop μ-loop
 cast-wait c = omega (arith, c .shared-slice-known .given (c .before .before .before .before .loop .i))
@@ -41,12 +35,6 @@ add-wait : tie.Need-add-wait Inv-loop μ-loop
 add-wait c =
     let l = c .before .before .before .before .loop in
     omega (arith, c .shared-slice-known .given (l .i), l .inv .few)
-
-add-i : tie.Need-add-i Inv-loop μ-loop
-add-i c = search needs
-
-loop-less : tie.Need-loop-less Inv-loop μ-loop
-loop-less c = search needs
 
 loop-again : tie.Need-loop-again Inv-loop μ-loop
 loop-again c =
@@ -60,17 +48,5 @@ returns-3 c = let l = c .before .loop in waiting-end _ (l .wait) (l .i) (l .inv)
 pub is-preorder-spec : {M : Type 1} → statement M
 is-preorder-spec =
     tie.close
-    (tie.spec
-    Inv-loop
-    μ-loop
-    loop-holds
-    returns
-    sub-if2
-    returns-2
-    shared-slice-read-wait
-    cast-wait
-    add-wait
-    add-i
-    loop-less
-    loop-again
-    returns-3)
+    (tie.spec Inv-loop μ-loop loop-holds returns (λ c. search needs) returns-2 (λ c. search needs) cast-wait add-wait
+    (λ c. search needs) (λ c. search needs) loop-again returns-3)

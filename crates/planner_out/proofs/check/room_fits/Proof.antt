@@ -11,18 +11,6 @@ use Rattle.planner_out.proofs.check.room_fits.Lts as lts
 returns : tie.Need-returns
 returns c = sym (room-many _ _ _ (c .if1 .taken))
 
-mul-if2 : tie.Need-mul-if2
-mul-if2 c = search needs
-
-add-if2 : tie.Need-add-if2
-add-if2 c = search needs
-
-mul-if2-2 : tie.Need-mul-if2-2
-mul-if2-2 c = search needs
-
-add-if2-2 : tie.Need-add-if2-2
-add-if2-2 c = search needs
-
 returns-2 : tie.Need-returns-2
 returns-2 c = sym (room-plan _ _ _ (omega arith) (c .if2 .taken))
 
@@ -31,4 +19,5 @@ returns-3 c = room-rest _ _ _ (omega arith) (omega arith)
 
 pub room-fits-spec : {M : Type 1} → statement M
 room-fits-spec =
-    tie.close (tie.spec returns mul-if2 add-if2 mul-if2-2 add-if2-2 returns-2 returns-3)
+    tie.close (tie.spec returns (λ c. search needs) (λ c. search needs) (λ c. search needs) (λ c. search needs)
+    returns-2 returns-3)

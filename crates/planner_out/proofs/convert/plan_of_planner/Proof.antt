@@ -23,9 +23,6 @@ passes : (c : tie.Else1)
     (length (now (c .before .before .before .before .before .args .places)))) ≡ 0
 passes c = sym (c .before .check-out .ensures) ∙ omega arith
 
-check-out-requires : tie.Need-check-out-requires
-check-out-requires c κs = search needs
-
 returns : tie.Need-returns
 returns c = out-refused _ _ _ _ (λ e. omega arith) (c .before .check-out .ensures)
 
@@ -36,12 +33,6 @@ write-out-requires : tie.Need-write-out-requires
 write-out-requires c κs =
     record { passes = passes (c .before .before .before); count = c .before .before .read32 .ensures }
 
-same-length : tie.Need-same-length
-same-length c = search needs
-
-same-length-2 : tie.Need-same-length-2
-same-length-2 c = search needs
-
 returns-2 : tie.Need-returns-2
 returns-2 c =
     out-done _ _ _ _ _ _ refl (passes (c .before .before .before .before .before .before .before .before))
@@ -50,11 +41,5 @@ returns-2 c =
 pub plan-of-planner-spec : {M : Type 1} → statement M
 plan-of-planner-spec =
     tie.close
-    (tie.spec
-    check-out-requires
-    returns
-    read32-requires
-    write-out-requires
-    same-length
-    same-length-2
-    returns-2)
+    (tie.spec (λ c κs. search needs) returns read32-requires write-out-requires (λ c. search needs)
+    (λ c. search needs) returns-2)

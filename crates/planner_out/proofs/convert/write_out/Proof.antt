@@ -26,9 +26,6 @@ sub-place-nodes c = let z = sized (c .before .before .before) in omega arith
 part-place-nodes-start : tie.Need-part-place-nodes-start
 part-place-nodes-start c = let z = sized (c .before .before .before) in omega arith
 
-part-place-nodes-end : tie.Need-part-place-nodes-end
-part-place-nodes-end c = search needs
-
 place-nodes-requires : tie.Need-place-nodes-requires
 place-nodes-requires c κs =
     let s = c .before .before .before .before .before .before in
@@ -37,12 +34,6 @@ place-nodes-requires c κs =
 add-write-plan : tie.Need-add-write-plan
 add-write-plan c = let z =
     sized (c .before .before .before .before .before .before .before .before .before .before .before) in omega arith
-
-sub-write-plan : tie.Need-sub-write-plan
-sub-write-plan c = search needs
-
-part-write-plan-start : tie.Need-part-write-plan-start
-part-write-plan-start c = search needs
 
 part-write-plan-end : tie.Need-part-write-plan-end
 part-write-plan-end c = let z =
@@ -58,12 +49,6 @@ write-plan-requires c κs =
           (labels-are _ _ _ _ (s .pre)),
     )
 
-same-length : tie.Need-same-length
-same-length c = search needs
-
-same-length-2 : tie.Need-same-length-2
-same-length-2 c = search needs
-
 returns : tie.Need-returns
 returns c =
     let d = c .before .before .before .before .before .before .before .before .before .before in
@@ -77,17 +62,6 @@ returns c =
 pub write-out-spec : {M : Type 1} → statement M
 write-out-spec =
     tie.close
-    (tie.spec
-    add-place-nodes
-    sub-place-nodes
-    part-place-nodes-start
-    part-place-nodes-end
-    place-nodes-requires
-    add-write-plan
-    sub-write-plan
-    part-write-plan-start
-    part-write-plan-end
-    write-plan-requires
-    same-length
-    same-length-2
-    returns)
+    (tie.spec add-place-nodes sub-place-nodes part-place-nodes-start (λ c. search needs) place-nodes-requires
+    add-write-plan (λ c. search needs) (λ c. search needs) part-write-plan-end write-plan-requires (λ c. search needs)
+    (λ c. search needs) returns)

@@ -36,9 +36,6 @@ small c = let s = c .before .before .before .before in size-fits (s .pre .0) _ _
 loop-holds : tie.Need-loop-holds Inv-loop μ-loop
 loop-holds c = (omega arith, refl, λ f A. laying-start f _ _ _ _ A)
 
-mul-place : tie.Need-mul-place Inv-loop μ-loop
-mul-place c = search needs
-
 shared-slice-read-place : tie.Need-shared-slice-read-place Inv-loop μ-loop
 shared-slice-read-place c =
     let s = c .before .before .before in
@@ -46,9 +43,6 @@ shared-slice-read-place c =
 
 cast-place : tie.Need-cast-place Inv-loop μ-loop
 cast-place c = omega (arith, c .shared-slice-known .given (c .before .before .loop .v))
-
-shared-slice-read-plan : tie.Need-shared-slice-read-plan Inv-loop μ-loop
-shared-slice-read-plan c = search needs
 
 add-plan : tie.Need-add-plan Inv-loop μ-loop
 add-plan c = omega (arith, inside c, small c)
@@ -68,12 +62,6 @@ slice-write-plan-2 c =
     simp length-set (omega
     (arith, inside c, c .before .before .before .before .pre .1 .room, c .before .before .before .loop .inv .1))
 
-add-v : tie.Need-add-v Inv-loop μ-loop
-add-v c = search needs
-
-loop-less : tie.Need-loop-less Inv-loop μ-loop
-loop-less c = search needs
-
 loop-again : tie.Need-loop-again Inv-loop μ-loop
 loop-again c =
     let l = c .before .before .before .loop in (
@@ -82,9 +70,6 @@ loop-again c =
       λ f A. laying-iteration f _ _ _ _ A (l .v) (omega arith) _ (l .inv .2 f A),
     )
 
-same-length : tie.Need-same-length Inv-loop μ-loop
-same-length c = search needs
-
 returns : tie.Need-returns Inv-loop μ-loop
 returns c = λ f A. (let l = c .before .loop in
     laying-end f _ _ _ _ A (l .v) _ (l .inv .2 f A) (omega (arith, l .inv .0)))
@@ -92,21 +77,6 @@ returns c = λ f A. (let l = c .before .loop in
 pub lay-nodes-spec : {M : Type 1} → statement M
 lay-nodes-spec =
     tie.close
-    (tie.spec
-    Inv-loop
-    μ-loop
-    loop-holds
-    mul-place
-    shared-slice-read-place
-    cast-place
-    shared-slice-read-plan
-    add-plan
-    slice-write-plan
-    add-plan-2
-    add-plan-3
-    slice-write-plan-2
-    add-v
-    loop-less
-    loop-again
-    same-length
-    returns)
+    (tie.spec Inv-loop μ-loop loop-holds (λ c. search needs) shared-slice-read-place cast-place (λ c. search needs)
+    add-plan slice-write-plan add-plan-2 add-plan-3 slice-write-plan-2 (λ c. search needs) (λ c. search needs)
+    loop-again (λ c. search needs) returns)

@@ -20,12 +20,6 @@ Room-at s = Room (s .args .labels .now) (s .args .plan .now)
 room-at : (s : tie.Start) → Room-at s
 room-at s = write-room (s .pre .0) _ _ _ (s .pre .1)
 
-mul-size : tie.Need-mul-size
-mul-size c = search needs
-
-add-size : tie.Need-add-size
-add-size c = search needs
-
 write-header-requires : tie.Need-write-header-requires
 write-header-requires c κs = let R = room-at (c .before .before .before .before) in
     (omega (arith, R .room), omega (arith, R .few))
@@ -84,9 +78,6 @@ lay-nodes-requires c κs =
           (c .before .before .before .fill2 .ensures),
     )
 
-same-length : tie.Need-same-length
-same-length c = search needs
-
 returns : tie.Need-returns
 returns c = λ f A. (
     let d = c .before .before .before .before .before .before .before .before .before .before in
@@ -101,16 +92,5 @@ returns c = λ f A. (
 pub write-plan-spec : {M : Type 1} → statement M
 write-plan-spec =
     tie.close
-    (tie.spec
-    mul-size
-    add-size
-    write-header-requires
-    add-fill
-    fill-requires
-    add-fill-2
-    mul-fill
-    add-fill-3
-    fill-requires-2
-    lay-nodes-requires
-    same-length
-    returns)
+    (tie.spec (λ c. search needs) (λ c. search needs) write-header-requires add-fill fill-requires add-fill-2 mul-fill
+    add-fill-3 fill-requires-2 lay-nodes-requires (λ c. search needs) returns)

@@ -9,14 +9,8 @@ use Rattle.planner_out.proofs.places.after_leaf.Tie as tie
 use Rattle.planner_out.proofs.places.after_leaf.Reads as reads
 use Rattle.planner_out.proofs.places.after_leaf.Lts as lts
 
-returns : tie.Need-returns
-returns c = search needs
-
-add-result : tie.Need-add-result
-add-result c = search needs
-
 returns-2 : tie.Need-returns-2
 returns-2 c = ap (λ (b : Bool). afterLeaf b (c .before .args .next)) (sym (c .if1 .left))
 
 pub after-leaf-spec : {M : Type 1} → statement M
-after-leaf-spec = tie.close (tie.spec returns add-result returns-2)
+after-leaf-spec = tie.close (tie.spec (λ c. search needs) (λ c. search needs) returns-2)

@@ -61,9 +61,6 @@ node-on-top-requires c κs =
 cast-put : tie.Need-cast-put Inv-loop μ-loop
 cast-put c = omega (arith, c .before .before .after-leaf .ensures, next-fits (c .before .before .before))
 
-put-requires : tie.Need-put-requires Inv-loop μ-loop
-put-requires c κs = search needs
-
 add-at : tie.Need-add-at Inv-loop μ-loop
 add-at c = omega (
   arith,
@@ -106,19 +103,5 @@ returns c =
 pub close-lists-spec : {M : Type 1} → statement M
 close-lists-spec =
     tie.close
-    (tie.spec
-    Inv-loop
-    μ-loop
-    loop-holds
-    goes-on-requires
-    sub-top
-    after-leaf-requires
-    node-on-top-requires
-    cast-put
-    put-requires
-    add-at
-    is-later-requires
-    loop-less
-    loop-again
-    same-length
-    returns)
+    (tie.spec Inv-loop μ-loop loop-holds goes-on-requires sub-top after-leaf-requires node-on-top-requires cast-put
+    (λ c κs. search needs) add-at is-later-requires loop-less loop-again same-length returns)

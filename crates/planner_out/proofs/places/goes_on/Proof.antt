@@ -11,26 +11,11 @@ use Rattle.planner_out.proofs.places.goes_on.Tie as tie
 use Rattle.planner_out.proofs.places.goes_on.Reads as reads
 use Rattle.planner_out.proofs.places.goes_on.Lts as lts
 
-returns : tie.Need-returns
-returns c = search needs
-
 returns-2 : tie.Need-returns-2
 returns-2 c =
     let a = c .before .before .args in
     sym (ap (λ (b : Bool). goesOn (now (a .plan)) (a .depth) b) (c .if2 .taken)
     ∙ goesOn-closing (now (a .plan)) (a .depth) (omega arith))
-
-sub-result : tie.Need-sub-result
-sub-result c = search needs
-
-mul-result : tie.Need-mul-result
-mul-result c = search needs
-
-add-result : tie.Need-add-result
-add-result c = search needs
-
-shared-slice-read-result : tie.Need-shared-slice-read-result
-shared-slice-read-result c = search needs
 
 returns-3 : tie.Need-returns-3
 returns-3 c =
@@ -41,11 +26,5 @@ returns-3 c =
 pub goes-on-spec : {M : Type 1} → statement M
 goes-on-spec =
     tie.close
-    (tie.spec
-    returns
-    returns-2
-    sub-result
-    mul-result
-    add-result
-    shared-slice-read-result
-    returns-3)
+    (tie.spec (λ c. search needs) returns-2 (λ c. search needs) (λ c. search needs) (λ c. search needs)
+    (λ c. search needs) returns-3)

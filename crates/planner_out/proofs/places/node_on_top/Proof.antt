@@ -7,23 +7,8 @@ use Rattle.planner_out.proofs.places.node_on_top.Tie as tie
 use Rattle.planner_out.proofs.places.node_on_top.Reads as reads
 use Rattle.planner_out.proofs.places.node_on_top.Lts as lts
 
-mul-result : tie.Need-mul-result
-mul-result c = search needs
-
-shared-slice-read-result : tie.Need-shared-slice-read-result
-shared-slice-read-result c = search needs
-
 cast-result : tie.Need-cast-result
 cast-result c = omega (arith, c .shared-slice-known .given (c .before .args .at * 4))
-
-mul-result-2 : tie.Need-mul-result-2
-mul-result-2 c = search needs
-
-add-result : tie.Need-add-result
-add-result c = search needs
-
-shared-slice-read-result-2 : tie.Need-shared-slice-read-result-2
-shared-slice-read-result-2 c = search needs
 
 cast-result-2 : tie.Need-cast-result-2
 cast-result-2 c = omega (arith, c .shared-slice-known2 .given (c .before .before .args .at * 4 + 1))
@@ -36,20 +21,8 @@ add-result-2 c =
     let at = c .before .before .args .at in
     omega (arith, c .before .shared-slice-known .given (at * 4), c .shared-slice-known2 .given (at * 4 + 1))
 
-returns : tie.Need-returns
-returns c = search needs
-
 pub node-on-top-spec : {M : Type 1} → statement M
 node-on-top-spec =
     tie.close
-    (tie.spec
-    mul-result
-    shared-slice-read-result
-    cast-result
-    mul-result-2
-    add-result
-    shared-slice-read-result-2
-    cast-result-2
-    mul-result-3
-    add-result-2
-    returns)
+    (tie.spec (λ c. search needs) (λ c. search needs) cast-result (λ c. search needs) (λ c. search needs)
+    (λ c. search needs) cast-result-2 mul-result-3 add-result-2 (λ c. search needs))

@@ -21,20 +21,11 @@ abbrev μ-loop : tie.MeasureT-loop
 loop-holds : tie.Need-loop-holds Inv-loop μ-loop
 loop-holds c = placing-start _ _ _
 
-shared-slice-read-read-node : tie.Need-shared-slice-read-read-node Inv-loop μ-loop
-shared-slice-read-read-node c = search needs
-
 read-node-requires : tie.Need-read-node-requires Inv-loop μ-loop
 read-node-requires c κs =
     let l = c .before .before .before .before .loop in
     placing-args _ _ _ _ _ (l .w .depth) (l .w .next) (l .w .left) (l .w .first) (l .v)
     (c .before .before .before .before .before .before .before .before .pre) (l .inv) (omega arith)
-
-add-v : tie.Need-add-v Inv-loop μ-loop
-add-v c = search needs
-
-loop-less : tie.Need-loop-less Inv-loop μ-loop
-loop-less c = search needs
 
 loop-again : tie.Need-loop-again Inv-loop μ-loop
 loop-again c =
@@ -42,12 +33,6 @@ loop-again c =
     let r = c .before .before .before .before .read-node in
     placing-iteration _ _ _ _ _ _ _ _ _ (b .loop .v) (b .before .before .before .before .pre) (b .loop .inv)
     (omega arith) _ _ _ _ _ _ (r .ensures)
-
-same-length : tie.Need-same-length Inv-loop μ-loop
-same-length c = search needs
-
-same-length-2 : tie.Need-same-length-2 Inv-loop μ-loop
-same-length-2 c = search needs
 
 returns : tie.Need-returns Inv-loop μ-loop
 returns c =
@@ -57,15 +42,5 @@ returns c =
 pub place-nodes-spec : {M : Type 1} → statement M
 place-nodes-spec =
     tie.close
-    (tie.spec
-    Inv-loop
-    μ-loop
-    loop-holds
-    shared-slice-read-read-node
-    read-node-requires
-    add-v
-    loop-less
-    loop-again
-    same-length
-    same-length-2
-    returns)
+    (tie.spec Inv-loop μ-loop loop-holds (λ c. search needs) read-node-requires (λ c. search needs)
+    (λ c. search needs) loop-again (λ c. search needs) (λ c. search needs) returns)

@@ -8,20 +8,9 @@ use Rattle.planner_out.proofs.places.put.Tie as tie
 use Rattle.planner_out.proofs.places.put.Reads as reads
 use Rattle.planner_out.proofs.places.put.Lts as lts
 
-mul-places : tie.Need-mul-places
-mul-places c = search needs
-
-slice-write-places : tie.Need-slice-write-places
-slice-write-places c = search needs
-
-same-length : tie.Need-same-length
-same-length c = search needs
-
-returns : tie.Need-returns
-returns c = search needs
-
 returns-2 : tie.Need-returns-2
 returns-2 c = sym (set-out _ _ _ (omega arith))
 
 pub put-spec : {M : Type 1} → statement M
-put-spec = tie.close (tie.spec mul-places slice-write-places same-length returns returns-2)
+put-spec = tie.close (tie.spec (λ c. search needs) (λ c. search needs) (λ c. search needs) (λ c. search needs)
+    returns-2)

@@ -12,27 +12,12 @@ use Rattle.planner_out.proofs.places.less_one.Reads as less-one-reads
 use Rattle.planner_out.proofs.places.push.Reads as push-reads
 use Rattle.planner_out.proofs.places.to_come.Reads as to-come-reads
 
-less-one-requires : tie.Need-less-one-requires
-less-one-requires c κs = search needs
-
-push-requires : tie.Need-push-requires
-push-requires c κs = search needs
-
-add-t12 : tie.Need-add-t12
-add-t12 c = search needs
-
-same-length : tie.Need-same-length
-same-length c = search needs
-
 returns : tie.Need-returns
 returns c =
     let a = c .before .before .before .before .before .before .before .before .before .args in
     node-inner (a .v) (a .w .depth) (a .w .next) (a .w .left) (a .w .first) _ (now (a .plan)) (now (a .places)) _
     (c .before .before .before .before .before .less-one .ensures) (c .before .before .before .before .push .ensures)
     (a .count) (λ e. omega arith)
-
-add-close-lists : tie.Need-add-close-lists
-add-close-lists c = search needs
 
 add-close-lists-2 : tie.Need-add-close-lists-2
 add-close-lists-2 c =
@@ -47,15 +32,6 @@ close-lists-requires c κs =
     (c .before .before .before .before .before .before .before .before .less-one .ensures)
     (c .before .before .before .before .before .before .before .push .ensures) (a .count) (omega arith) (s .pre)
 
-to-come-requires : tie.Need-to-come-requires
-to-come-requires c κs = search needs
-
-same-length-2 : tie.Need-same-length-2
-same-length-2 c = search needs
-
-same-length-3 : tie.Need-same-length-3
-same-length-3 c = search needs
-
 returns-2 : tie.Need-returns-2
 returns-2 c =
     let b = c .before .before .before .before in
@@ -69,16 +45,6 @@ returns-2 c =
 pub read-node-spec : {M : Type 1} → statement M
 read-node-spec =
     tie.close
-    (tie.spec
-    less-one-requires
-    push-requires
-    add-t12
-    same-length
-    returns
-    add-close-lists
-    add-close-lists-2
-    close-lists-requires
-    to-come-requires
-    same-length-2
-    same-length-3
-    returns-2)
+    (tie.spec (λ c κs. search needs) (λ c κs. search needs) (λ c. search needs) (λ c. search needs) returns
+    (λ c. search needs) add-close-lists-2 close-lists-requires (λ c κs. search needs) (λ c. search needs)
+    (λ c. search needs) returns-2)

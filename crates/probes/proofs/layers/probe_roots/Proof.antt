@@ -7,11 +7,8 @@ use Rattle.probes.proofs.layers.probe_roots.Reads as reads
 use Rattle.probes.proofs.layers.probe_roots.Lts as lts
 use Rattle.questions.proofs.roots.roots.Reads as roots-reads
 
-roots-requires : tie.Need-roots-requires
-roots-requires c κs = search needs
-
 returns : tie.Need-returns
 returns c = roots-probed _ _ (c .before .roots .ensures .result)
 
 pub probe-roots-spec : {M : Type 1} → statement M
-probe-roots-spec = tie.close (tie.spec roots-requires returns)
+probe-roots-spec = tie.close (tie.spec (λ c κs. search needs) returns)

@@ -5,17 +5,8 @@ use borrow.Author.Needs.{needs}
 use Rattle.probes.proofs.whole.call_number.Statement.{statement}
 use Rattle.probes.proofs.whole.call_number.Tie as tie
 
-enum-told : tie.Need-enum-told
-enum-told c = search needs
-
 returns : tie.Need-returns
 returns c = number-none _ (c .enum-told .given .1)
-
-enum-known-answer : tie.Need-enum-known-answer
-enum-known-answer c = search needs
-
-cast-result : tie.Need-cast-result
-cast-result c = search needs
 
 returns-2 : tie.Need-returns-2
 returns-2 c = number-some _ _ (c .before .answer .given .1)
@@ -23,9 +14,4 @@ returns-2 c = number-some _ _ (c .before .answer .given .1)
 pub call-number-spec : {M : Type 1} → statement M
 call-number-spec =
     tie.close
-    (tie.spec
-    enum-told
-    returns
-    enum-known-answer
-    cast-result
-    returns-2)
+    (tie.spec (λ c. search needs) returns (λ c. search needs) (λ c. search needs) returns-2)

@@ -8,12 +8,6 @@ use borrow.Author.Needs.{needs}
 use Rattle.probes.proofs.whole.probe_question.Statement.{statement}
 use Rattle.probes.proofs.whole.probe_question.Tie as tie
 
-loaded-requires : tie.Need-loaded-requires
-loaded-requires c κs = search needs
-
-question-on-requires : tie.Need-question-on-requires
-question-on-requires c κs = search needs
-
 returns : tie.Need-returns
 returns c =
     let l = c .before in
@@ -25,7 +19,4 @@ returns c =
 pub probe-question-spec : {M : Type 1} → statement M
 probe-question-spec =
     tie.close
-    (tie.spec
-    loaded-requires
-    question-on-requires
-    returns)
+    (tie.spec (λ c κs. search needs) (λ c κs. search needs) returns)

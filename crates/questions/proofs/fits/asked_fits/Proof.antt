@@ -18,12 +18,6 @@ returns-2 c =
     sym (roots-many (g .n) (g .roots .now) (g .states .now) (g .nodes .now) (g .labels .now) (c .before .if1 .left)
     (c .if2 .taken))
 
-mul-if3 : tie.Need-mul-if3
-mul-if3 c = search needs
-
-shared-slice-read-if3 : tie.Need-shared-slice-read-if3
-shared-slice-read-if3 c = search needs
-
 cast-if3 : tie.Need-cast-if3
 cast-if3 c = omega (arith, c .shared-slice-known .given (length (c .before .before .before .args .states .now)))
 
@@ -54,12 +48,4 @@ returns-5 c =
 pub asked-fits-spec : {M : Type 1} → statement M
 asked-fits-spec =
     tie.close
-    (tie.spec
-    returns
-    returns-2
-    mul-if3
-    shared-slice-read-if3
-    cast-if3
-    returns-3
-    returns-4
-    returns-5)
+    (tie.spec returns returns-2 (λ c. search needs) (λ c. search needs) cast-if3 returns-3 returns-4 returns-5)

@@ -13,15 +13,9 @@ returns c =
     let g = c .before .before .args in
     leaf-outside (leavesView (g .s) (g .k) (g .leaves .now)) (g .a) (c .if1 .taken)
 
-shared-slice-read-handled-state : tie.Need-shared-slice-read-handled-state
-shared-slice-read-handled-state c = search needs
-
 cast-handled-state : tie.Need-cast-handled-state
 cast-handled-state c =
     omega (arith, c .shared-slice-known2 .given (c .before .before .before .args .a))
-
-handled-state-requires : tie.Need-handled-state-requires
-handled-state-requires c κs = search needs
 
 returns-2 : tie.Need-returns-2
 returns-2 c =
@@ -32,4 +26,4 @@ returns-2 c =
 pub leaf-on-spec : {M : Type 1} → statement M
 leaf-on-spec =
     tie.close
-    (tie.spec returns shared-slice-read-handled-state cast-handled-state handled-state-requires returns-2)
+    (tie.spec returns (λ c. search needs) cast-handled-state (λ c κs. search needs) returns-2)

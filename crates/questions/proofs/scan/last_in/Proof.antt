@@ -16,29 +16,8 @@ Inv-loop list c z count at₀ i₀ at i =
 abbrev μ-loop : tie.MeasureT-loop
 μ-loop list c z count at₀ i₀ at i = length list - i
 
-cast-count : tie.Need-cast-count Inv-loop μ-loop
-cast-count c = search needs
-
 loop-holds : tie.Need-loop-holds Inv-loop μ-loop
 loop-holds c = (omega arith, (omega arith, refl))
-
-cast-e : tie.Need-cast-e Inv-loop μ-loop
-cast-e c = search needs
-
-mul-e : tie.Need-mul-e Inv-loop μ-loop
-mul-e c = search needs
-
-shared-slice-read-e : tie.Need-shared-slice-read-e Inv-loop μ-loop
-shared-slice-read-e c = search needs
-
-add-i : tie.Need-add-i Inv-loop μ-loop
-add-i c = search needs
-
-place-if-covered-requires : tie.Need-place-if-covered-requires Inv-loop μ-loop
-place-if-covered-requires c κs = search needs
-
-loop-less : tie.Need-loop-less Inv-loop μ-loop
-loop-less c = search needs
 
 loop-again : tie.Need-loop-again Inv-loop μ-loop
 loop-again c =
@@ -48,9 +27,6 @@ loop-again c =
     last-more (g .c) (g .z) (g .list .now) (a .loop .i) (a .loop .at) (c .before .place-if-covered .result)
     (c .before .before .before .loop-test .taken) (c .before .place-if-covered .ensures) (c .if1 .taken) in
     (omega (arith, c .before .before .before .loop-test .taken), (omega (arith, m .0), m .1 ∙ a .loop .inv .1 .1))
-
-loop-less-2 : tie.Need-loop-less-2 Inv-loop μ-loop
-loop-less-2 c = search needs
 
 loop-again-2 : tie.Need-loop-again-2 Inv-loop μ-loop
 loop-again-2 c =
@@ -73,18 +49,6 @@ returns c =
 pub last-in-spec : {M : Type 1} → statement M
 last-in-spec =
     tie.close
-    (tie.spec
-    Inv-loop
-    μ-loop
-    cast-count
-    loop-holds
-    cast-e
-    mul-e
-    shared-slice-read-e
-    add-i
-    place-if-covered-requires
-    loop-less
-    loop-again
-    loop-less-2
-    loop-again-2
-    returns)
+    (tie.spec Inv-loop μ-loop (λ c. search needs) loop-holds (λ c. search needs) (λ c. search needs)
+    (λ c. search needs) (λ c. search needs) (λ c κs. search needs) (λ c. search needs) loop-again (λ c. search needs)
+    loop-again-2 returns)

@@ -11,12 +11,6 @@ returns c =
     let a = c .before .before .args in
     rising-outside (cellForest (a .n) (a .node-table .now)) (a .v) (a .u) (c .if1 .taken)
 
-depth-at-requires : tie.Need-depth-at-requires
-depth-at-requires c κs = search needs
-
-depth-at-requires-2 : tie.Need-depth-at-requires-2
-depth-at-requires-2 c κs = search needs
-
 returns-2 : tie.Need-returns-2
 returns-2 c =
     let d = c .before .before in
@@ -33,4 +27,4 @@ returns-3 c =
 
 pub if-rising-spec : {M : Type 1} → statement M
 if-rising-spec =
-    tie.close (tie.spec returns depth-at-requires depth-at-requires-2 returns-2 returns-3)
+    tie.close (tie.spec returns (λ c κs. search needs) (λ c κs. search needs) returns-2 returns-3)

@@ -17,15 +17,6 @@ abbrev μ-loop : tie.MeasureT-loop
 loop-holds : tie.Need-loop-holds Inv-loop μ-loop
 loop-holds c = record { inside = search needs; same = refl }
 
-is-below-requires : tie.Need-is-below-requires Inv-loop μ-loop
-is-below-requires c κs = search needs
-
-next-unless-requires : tie.Need-next-unless-requires Inv-loop μ-loop
-next-unless-requires c κs = search needs
-
-enum-known-y : tie.Need-enum-known-y Inv-loop μ-loop
-enum-known-y c = search needs
-
 iteration : (c : tie.After-y Inv-loop μ-loop)
     → let a = c .before .before .before .before .before in
     let s = a .before .before .args in Iterated (s .n) (s .node-table .now) (s .u) (s .v) (a .loop .x) (c .y .given .0 .0)
@@ -43,9 +34,6 @@ loop-less c = iteration (c .before) .rises
 
 loop-again : tie.Need-loop-again Inv-loop μ-loop
 loop-again c = iteration (c .before) .searching
-
-enum-told : tie.Need-enum-told Inv-loop μ-loop
-enum-told c = search needs
 
 returns : tie.Need-returns Inv-loop μ-loop
 returns c =
@@ -68,15 +56,5 @@ returns-2 c =
 pub meet-spec : {M : Type 1} → statement M
 meet-spec =
     tie.close
-    (tie.spec
-    Inv-loop
-    μ-loop
-    loop-holds
-    is-below-requires
-    next-unless-requires
-    enum-known-y
-    loop-less
-    loop-again
-    enum-told
-    returns
-    returns-2)
+    (tie.spec Inv-loop μ-loop loop-holds (λ c κs. search needs) (λ c κs. search needs) (λ c. search needs) loop-less
+    loop-again (λ c. search needs) returns returns-2)

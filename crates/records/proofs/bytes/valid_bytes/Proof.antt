@@ -8,18 +8,12 @@ use Rattle.records.proofs.bytes.decode.Reads as decode-reads
 use Rattle.records.proofs.bytes.laid_out.Reads as laid-out-reads
 use Rattle.session.proofs.state.Session.valid.Reads as valid-reads
 
-laid-out-requires : tie.Need-laid-out-requires
-laid-out-requires c κs = search needs
-
 returns : tie.Need-returns
 returns c = valid-not (c .before .before .before .args .bytes .now) _ (c .before .laid-out .ensures) (c .if1 .taken)
 
 decode-requires : tie.Need-decode-requires
 decode-requires c κs =
     valid-laid (c .before .before .before .args .bytes .now) _ (c .before .laid-out .ensures) (c .if1 .left)
-
-valid-requires : tie.Need-valid-requires
-valid-requires c κs = search needs
 
 returns-2 : tie.Need-returns-2
 returns-2 c =
@@ -31,4 +25,4 @@ returns-2 c =
 
 pub valid-bytes-spec : {M : Type 1} → statement M
 valid-bytes-spec =
-    tie.close (tie.spec laid-out-requires returns decode-requires valid-requires returns-2)
+    tie.close (tie.spec (λ c κs. search needs) returns decode-requires (λ c κs. search needs) returns-2)

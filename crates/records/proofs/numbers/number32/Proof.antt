@@ -7,9 +7,6 @@ use Rattle.records.proofs.numbers.number32.Reads as reads
 use Rattle.records.proofs.numbers.number32.Lts as lts
 use Rattle.formats.proofs.bytes.read32.Reads as read32-reads
 
-read32-requires : tie.Need-read32-requires
-read32-requires c κs = search needs
-
 cast-result : tie.Need-cast-result
 cast-result c =
     let b = c .before .before in
@@ -17,8 +14,5 @@ cast-result c =
     let i = b .args .at in
     record { fits = omega (arith, g i, g (i + 1), g (i + 2), g (i + 3)) }
 
-returns : tie.Need-returns
-returns c = search needs
-
 pub number32-spec : {M : Type 1} → statement M
-number32-spec = tie.close (tie.spec read32-requires cast-result returns)
+number32-spec = tie.close (tie.spec (λ c κs. search needs) cast-result (λ c. search needs))

@@ -42,9 +42,6 @@ loop-holds : tie.Need-loop-holds Inv-loop μ-loop
 loop-holds c =
     let s = c .before .before .before .before .before in steps-start (s .pre .0 .rising) (s .pre .1)
 
-sub-a : tie.Need-sub-a Inv-loop μ-loop
-sub-a c = search needs
-
 shared-slice-read-a : tie.Need-shared-slice-read-a Inv-loop μ-loop
 shared-slice-read-a c =
     let l = c .before .before in omega (arith, entered l .pre .0 .labelled, l .loop .inv .rising)
@@ -56,9 +53,6 @@ cast-a c =
 
 slice-write-states : tie.Need-slice-write-states Inv-loop μ-loop
 slice-write-states c = top-most (c .before .before .loop .inv .stacked)
-
-shared-slice-read-if1 : tie.Need-shared-slice-read-if1 Inv-loop μ-loop
-shared-slice-read-if1 c = search needs
 
 shared-slice-read-last : tie.Need-shared-slice-read-last Inv-loop μ-loop
 shared-slice-read-last c =
@@ -96,12 +90,6 @@ rule-requires c κs =
     rule-args (left-below (l .loop .inv .stacked) (inside l t) (c .before .if1 .left)) (label-in l t)
     (l .loop .inv .stacked .last-state (omega (arith, two (c .before)))) (p .states) (p .letters) (p .inner-count)
 
-add-v : tie.Need-add-v Inv-loop μ-loop
-add-v c = search needs
-
-loop-less : tie.Need-loop-less Inv-loop μ-loop
-loop-less c = search needs
-
 loop-again : tie.Need-loop-again Inv-loop μ-loop
 loop-again c =
     let l = c .before .before .before .before in
@@ -122,24 +110,6 @@ returns c = steps-end (c .before .loop .inv) (c .loop-test .left)
 pub pass-over-spec : {M : Type 1} → statement M
 pass-over-spec =
     tie.close
-    (tie.spec
-    Inv-loop
-    μ-loop
-    loop-holds
-    sub-a
-    shared-slice-read-a
-    cast-a
-    slice-write-states
-    shared-slice-read-if1
-    shared-slice-read-last
-    add-top
-    sub-top
-    slice-read-p
-    cast-p
-    cast-q
-    rule-requires
-    add-v
-    loop-less
-    loop-again
-    same-length
-    returns)
+    (tie.spec Inv-loop μ-loop loop-holds (λ c. search needs) shared-slice-read-a cast-a slice-write-states
+    (λ c. search needs) shared-slice-read-last add-top sub-top slice-read-p cast-p cast-q rule-requires
+    (λ c. search needs) (λ c. search needs) loop-again same-length returns)

@@ -13,11 +13,8 @@ of a = whole (a .args .h) (a .args .nodes .now) (a .args .labels .now) (a .args 
 returns : tie.Need-returns
 returns c = allowed-no (valid (of (c .before))) _ (c .if1 .taken)
 
-fits-requires : tie.Need-fits-requires
-fits-requires c κs = search needs
-
 returns-2 : tie.Need-returns-2
 returns-2 c = allowed-yes _ _ _ (c .before .if1 .left) (c .fits2 .ensures)
 
 pub allowed-spec : {M : Type 1} → statement M
-allowed-spec = tie.close (tie.spec returns fits-requires returns-2)
+allowed-spec = tie.close (tie.spec returns (λ c κs. search needs) returns-2)

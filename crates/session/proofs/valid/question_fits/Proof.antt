@@ -14,18 +14,12 @@ of a = whole (a .args .h) (a .args .nodes .now) (a .args .labels .now) (a .args 
 abbrev at : tie.Else1 → tie.Start
 at a = a .before .before
 
-sizes-fit-requires : tie.Need-sizes-fit-requires
-sizes-fit-requires c κs = search needs
-
 returns : tie.Need-returns
 returns c =
     question-sizes (of (c .before .before)) _ (c .before .sizes-fit .ensures) (c .if1 .taken)
 
 returns-2 : tie.Need-returns-2
 returns-2 c = question-counts (of (at (c .before .before))) (c .if2 .taken)
-
-list-fits-requires : tie.Need-list-fits-requires
-list-fits-requires c κs = search needs
 
 parts-fit-requires : tie.Need-parts-fit-requires
 parts-fit-requires c κs =
@@ -44,10 +38,4 @@ returns-3 c =
 pub question-fits-spec : {M : Type 1} → statement M
 question-fits-spec =
     tie.close
-    (tie.spec
-    sizes-fit-requires
-    returns
-    returns-2
-    list-fits-requires
-    parts-fit-requires
-    returns-3)
+    (tie.spec (λ c κs. search needs) returns returns-2 (λ c κs. search needs) parts-fit-requires returns-3)

@@ -10,9 +10,6 @@ use Rattle.set_states.proofs.down.led_down.Lts as lts
 use Rattle.set_states.proofs.ups.ups_of.Reads as ups-of-reads
 use Rattle.set_steps.proofs.led.led_by_set.Reads as led-by-set-reads
 
-add-if1 : tie.Need-add-if1
-add-if1 c = search needs
-
 returns : tie.Need-returns
 returns c =
     let s = c .before .before .before .before .before in
@@ -54,11 +51,5 @@ returns-2 c =
 pub led-down-spec : {M : Type 1} → statement M
 led-down-spec =
     tie.close
-    (tie.spec
-    add-if1
-    returns
-    ups-of-requires
-    array-share-prefix-ups
-    slice-aggregate-led-by-set
-    led-by-set-requires
-    returns-2)
+    (tie.spec (λ c. search needs) returns ups-of-requires array-share-prefix-ups slice-aggregate-led-by-set
+    led-by-set-requires returns-2)

@@ -30,15 +30,6 @@ shared-slice-read-ups : tie.Need-shared-slice-read-ups Inv-loop μ-loop
 shared-slice-read-ups c =
     c .before .before .before .pre .inside (c .before .before .loop .q) (c .before .loop-test .taken)
 
-array-write-ups : tie.Need-array-write-ups Inv-loop μ-loop
-array-write-ups c = search needs
-
-add-q : tie.Need-add-q Inv-loop μ-loop
-add-q c = search needs
-
-loop-less : tie.Need-loop-less Inv-loop μ-loop
-loop-less c = search needs
-
 loop-again : tie.Need-loop-again Inv-loop μ-loop
 loop-again c =
     let a = c .before .before in
@@ -54,15 +45,5 @@ returns c =
 pub ups-from-spec : {M : Type 1} → statement M
 ups-from-spec =
     tie.close
-    (tie.spec
-    Inv-loop
-    μ-loop
-    loop-holds
-    mul-ups
-    add-ups
-    shared-slice-read-ups
-    array-write-ups
-    add-q
-    loop-less
-    loop-again
-    returns)
+    (tie.spec Inv-loop μ-loop loop-holds mul-ups add-ups shared-slice-read-ups (λ c. search needs) (λ c. search needs)
+    (λ c. search needs) loop-again returns)

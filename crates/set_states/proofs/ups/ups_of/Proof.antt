@@ -28,32 +28,17 @@ right z =
     let s = p .before .before .before .before .before in
     omega (arith, z .before .if1 .taken)
 
-parent-at-requires : tie.Need-parent-at-requires
-parent-at-requires c κs = search needs
-
-shared-slice-read-a : tie.Need-shared-slice-read-a
-shared-slice-read-a c = search needs
-
 cast-a : tie.Need-cast-a
 cast-a c =
     let p = c .before in
     let s = p .before .before .before .before .before in
     omega (arith, c .shared-slice-known5 .given (p .parent-at .result))
 
-add-if1 : tie.Need-add-if1
-add-if1 c = search needs
-
-size-at-requires : tie.Need-size-at-requires
-size-at-requires c κs = search needs
-
 sub-u : tie.Need-sub-u
 sub-u c =
     let p = c .before .before .before in
     let s = p .before .before .before .before .before in
     omega (arith, s .pre .size-in (c .before .if1 .taken ∙ p .parent-at .ensures), c .size-at .ensures)
-
-add-x : tie.Need-add-x
-add-x c = search needs
 
 mul-x : tie.Need-mul-x
 mul-x c =
@@ -146,12 +131,6 @@ returns c =
     (s .args .k)
     (s .args .v) (p .parent-at .result) _ (p .parent-at .ensures) refl (c .ups-from .result) (z .before .if1 .taken)
     (z .size-at .result) (z .size-at .ensures) (c .ups-from .ensures)
-
-sub-y : tie.Need-sub-y
-sub-y c = search needs
-
-add-y : tie.Need-add-y
-add-y c = search needs
 
 mul-y : tie.Need-mul-y
 mul-y c =
@@ -249,29 +228,7 @@ returns-2 c =
 pub ups-of-spec : {M : Type 1} → statement M
 ups-of-spec =
     tie.close
-    (tie.spec
-    parent-at-requires
-    shared-slice-read-a
-    cast-a
-    add-if1
-    size-at-requires
-    sub-u
-    add-x
-    mul-x
-    shared-slice-read-x
-    cast-x
-    mul-ups-from
-    add-ups-from
-    mul-ups-from-2
-    ups-from-requires
-    returns
-    sub-y
-    add-y
-    mul-y
-    shared-slice-read-y
-    cast-y
-    mul-ups-from-3
-    add-ups-from-2
-    mul-ups-from-4
-    ups-from-requires-2
-    returns-2)
+    (tie.spec (λ c κs. search needs) (λ c. search needs) cast-a (λ c. search needs) (λ c κs. search needs) sub-u
+    (λ c. search needs) mul-x shared-slice-read-x cast-x mul-ups-from add-ups-from mul-ups-from-2 ups-from-requires
+    returns (λ c. search needs) (λ c. search needs) mul-y shared-slice-read-y cast-y mul-ups-from-3 add-ups-from-2
+    mul-ups-from-4 ups-from-requires-2 returns-2)

@@ -6,11 +6,8 @@ use Rattle.set_steps.proofs.bits.bit_of.Tie as tie
 use Rattle.set_steps.proofs.bits.bit_of.Reads as reads
 use Rattle.set_steps.proofs.bits.bit_of.Lts as lts
 
-shr-result : tie.Need-shr-result
-shr-result c = search needs
-
 returns : tie.Need-returns
 returns c = bit-is (c .args .t) (c .args .k)
 
 pub bit-of-spec : {M : Type 1} → statement M
-bit-of-spec = tie.close (tie.spec shr-result returns)
+bit-of-spec = tie.close (tie.spec (λ c. search needs) returns)

@@ -25,9 +25,6 @@ loop-holds : tie.Need-loop-holds Inv-loop μ-loop
 loop-holds c =
     (omega arith, image-start _, lit< tt)
 
-shared-slice-read-bit-of : tie.Need-shared-slice-read-bit-of Inv-loop μ-loop
-shared-slice-read-bit-of c = search needs
-
 bit-of-requires : tie.Need-bit-of-requires Inv-loop μ-loop
 bit-of-requires c κs =
     c .before .before .before .before .pre .below (c .before .before .loop .i)
@@ -41,12 +38,6 @@ with-bit-requires c κs =
       few = omega (arith, s .pre .few, c .before .before .loop-test .taken);
       low = a .loop .inv .2;
     }
-
-add-i : tie.Need-add-i Inv-loop μ-loop
-add-i c = search needs
-
-loop-less : tie.Need-loop-less Inv-loop μ-loop
-loop-less c = search needs
 
 loop-again : tie.Need-loop-again Inv-loop μ-loop
 loop-again c =
@@ -67,14 +58,5 @@ returns c =
 pub preimage-spec : {M : Type 1} → statement M
 preimage-spec =
     tie.close
-    (tie.spec
-    Inv-loop
-    μ-loop
-    loop-holds
-    shared-slice-read-bit-of
-    bit-of-requires
-    with-bit-requires
-    add-i
-    loop-less
-    loop-again
-    returns)
+    (tie.spec Inv-loop μ-loop loop-holds (λ c. search needs) bit-of-requires with-bit-requires (λ c. search needs)
+    (λ c. search needs) loop-again returns)

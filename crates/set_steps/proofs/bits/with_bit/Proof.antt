@@ -6,12 +6,6 @@ use Rattle.set_steps.proofs.bits.with_bit.Tie as tie
 use Rattle.set_steps.proofs.bits.with_bit.Reads as reads
 use Rattle.set_steps.proofs.bits.with_bit.Lts as lts
 
-cast-result : tie.Need-cast-result
-cast-result c = search needs
-
-shl-result : tie.Need-shl-result
-shl-result c = search needs
-
 returns : tie.Need-returns
 returns c =
     let a = c .args in
@@ -19,4 +13,4 @@ returns c =
     (e, rw e (bound (a .b) (a .i) (a .r) (c .pre .one) (c .pre .low)))
 
 pub with-bit-spec : {M : Type 1} → statement M
-with-bit-spec = tie.close (tie.spec cast-result shl-result returns)
+with-bit-spec = tie.close (tie.spec (λ c. search needs) (λ c. search needs) returns)

@@ -20,21 +20,6 @@ abbrev μ-loop : tie.MeasureT-loop
 loop-holds : tie.Need-loop-holds Inv-loop μ-loop
 loop-holds c = (omega arith, led-start (c .before .args .ups .now) (c .before .args .t1) _ refl)
 
-array-read-preimage : tie.Need-array-read-preimage Inv-loop μ-loop
-array-read-preimage c = search needs
-
-preimage-requires : tie.Need-preimage-requires Inv-loop μ-loop
-preimage-requires c κs = search needs
-
-array-write-led : tie.Need-array-write-led Inv-loop μ-loop
-array-write-led c = search needs
-
-add-c : tie.Need-add-c Inv-loop μ-loop
-add-c c = search needs
-
-loop-less : tie.Need-loop-less Inv-loop μ-loop
-loop-less c = search needs
-
 loop-again : tie.Need-loop-again Inv-loop μ-loop
 loop-again c =
     let a = c .before .before in
@@ -55,14 +40,5 @@ returns c =
 pub led-by-set-spec : {M : Type 1} → statement M
 led-by-set-spec =
     tie.close
-    (tie.spec
-    Inv-loop
-    μ-loop
-    loop-holds
-    array-read-preimage
-    preimage-requires
-    array-write-led
-    add-c
-    loop-less
-    loop-again
-    returns)
+    (tie.spec Inv-loop μ-loop loop-holds (λ c. search needs) (λ c κs. search needs) (λ c. search needs)
+    (λ c. search needs) (λ c. search needs) loop-again returns)

@@ -31,9 +31,6 @@ loop-holds c =
           (g .inner .now) (g .s) (g .k) (g .state-table .now),
     )
 
-block-end-requires : tie.Need-block-end-requires Inv-loop μ-loop
-block-end-requires c κs = search needs
-
 block-match-requires : tie.Need-block-match-requires Inv-loop μ-loop
 block-match-requires c κs =
     let s = c .before .before .before .before .before .before .before .before .before .before .before in
@@ -50,9 +47,6 @@ block-match-requires c κs =
       s .pre .1,
     )
 
-same-length : tie.Need-same-length Inv-loop μ-loop
-same-length c = search needs
-
 returns : tie.Need-returns Inv-loop μ-loop
 returns c =
     let d = c .before .before .before .before .before .before .before .before in
@@ -66,9 +60,6 @@ returns c =
     (subst (λ (r : Bool). Means r (Nodes (g .kinds .now) (g .labels .now) (g .node-table .now) (g .leaves .now)
     (g .inner .now) (g .s) (g .k) (g .state-table .now) (l .b) (e .result)))
     (not-true (m .result) (c .if1 .taken)) (m .ensures))
-
-loop-less : tie.Need-loop-less Inv-loop μ-loop
-loop-less c = search needs
 
 loop-again : tie.Need-loop-again Inv-loop μ-loop
 loop-again c =
@@ -88,9 +79,6 @@ loop-again c =
           (not-false (m .result) (c .if1 .left)) (m .ensures)),
     )
 
-same-length-2 : tie.Need-same-length-2 Inv-loop μ-loop
-same-length-2 c = search needs
-
 returns-2 : tie.Need-returns-2 Inv-loop μ-loop
 returns-2 c =
     let s = c .before .before .before .before .before .before .before .before .before in
@@ -102,15 +90,5 @@ returns-2 c =
 pub blocks-match-spec : {M : Type 1} → statement M
 blocks-match-spec =
     tie.close
-    (tie.spec
-    Inv-loop
-    μ-loop
-    loop-holds
-    block-end-requires
-    block-match-requires
-    same-length
-    returns
-    loop-less
-    loop-again
-    same-length-2
-    returns-2)
+    (tie.spec Inv-loop μ-loop loop-holds (λ c κs. search needs) block-match-requires (λ c. search needs) returns
+    (λ c. search needs) loop-again (λ c. search needs) returns-2)

@@ -24,12 +24,6 @@ loop-holds : tie.Need-loop-holds Inv-loop μ-loop
 unfolding every
 loop-holds c = (omega arith, refl)
 
-mul-v : tie.Need-mul-v Inv-loop μ-loop
-mul-v c = search needs
-
-shared-slice-read-v : tie.Need-shared-slice-read-v Inv-loop μ-loop
-shared-slice-read-v c = search needs
-
 cast-v : tie.Need-cast-v Inv-loop μ-loop
 cast-v c = omega (arith, c .shared-slice-known7 .given (c .before .before .loop .i))
 
@@ -53,12 +47,6 @@ pair-differences-requires c κs =
     let i = c .before .before .before .loop .i in
     let h = c .before .before .loop-test .taken in
     record { table = s .pre .0 .table; pos = s .pre .0 .pos i h; inside = s .pre .0 .inside i h }
-
-add-i : tie.Need-add-i Inv-loop μ-loop
-add-i c = search needs
-
-loop-less : tie.Need-loop-less Inv-loop μ-loop
-loop-less c = search needs
 
 loop-again : tie.Need-loop-again Inv-loop μ-loop
 unfolding pairIs
@@ -86,16 +74,5 @@ returns c =
 pub pairs-match-spec : {M : Type 1} → statement M
 pairs-match-spec =
     tie.close
-    (tie.spec
-    Inv-loop
-    μ-loop
-    loop-holds
-    mul-v
-    shared-slice-read-v
-    cast-v
-    pair-nodes-match-requires
-    pair-differences-requires
-    add-i
-    loop-less
-    loop-again
-    returns)
+    (tie.spec Inv-loop μ-loop loop-holds (λ c. search needs) (λ c. search needs) cast-v pair-nodes-match-requires
+    pair-differences-requires (λ c. search needs) (λ c. search needs) loop-again returns)

@@ -21,36 +21,9 @@ Inv-loop stateTable s v p j table base stride at first second bad₀ q₀ bad q 
 abbrev μ-loop : tie.MeasureT-loop
 μ-loop stateTable s v p j table base stride at first second bad₀ q₀ bad q = s - q
 
-add-at : tie.Need-add-at Inv-loop μ-loop
-add-at c = search needs
-
-mul-at : tie.Need-mul-at Inv-loop μ-loop
-mul-at c = search needs
-
-add-first : tie.Need-add-first Inv-loop μ-loop
-add-first c = search needs
-
-mul-first : tie.Need-mul-first Inv-loop μ-loop
-mul-first c = search needs
-
-add-second : tie.Need-add-second Inv-loop μ-loop
-add-second c = search needs
-
-mul-second : tie.Need-mul-second Inv-loop μ-loop
-mul-second c = search needs
-
 loop-holds : tie.Need-loop-holds Inv-loop μ-loop
 unfolding every
 loop-holds c = (omega arith, refl)
-
-add-x : tie.Need-add-x Inv-loop μ-loop
-add-x c = search needs
-
-add-x-2 : tie.Need-add-x-2 Inv-loop μ-loop
-add-x-2 c = search needs
-
-shared-slice-read-x : tie.Need-shared-slice-read-x Inv-loop μ-loop
-shared-slice-read-x c = search needs
 
 mul-near : tie.Need-mul-near Inv-loop μ-loop
 mul-near c =
@@ -121,12 +94,6 @@ shared-slice-read-y c =
     let near = nearEntry (s .args .table .now) (s .args .base) (s .args .stride) (l .q) in
     omega (arith, s .pre .second, s .pre .first-below near (s .pre .near-below (l .q) h))
 
-add-q : tie.Need-add-q Inv-loop μ-loop
-add-q c = search needs
-
-loop-less : tie.Need-loop-less Inv-loop μ-loop
-loop-less c = search needs
-
 loop-again : tie.Need-loop-again Inv-loop μ-loop
 loop-again c =
     let l = c .before .before .before .before .before .loop in
@@ -143,31 +110,7 @@ returns c =
 pub far-differences-spec : {M : Type 1} → statement M
 far-differences-spec =
     tie.close
-    (tie.spec
-    Inv-loop
-    μ-loop
-    add-at
-    mul-at
-    add-first
-    mul-first
-    add-second
-    mul-second
-    loop-holds
-    add-x
-    add-x-2
-    shared-slice-read-x
-    mul-near
-    add-near
-    shared-slice-read-near
-    cast-near
-    add-next
-    add-next-2
-    shared-slice-read-next
-    cast-next
-    add-y
-    add-y-2
-    shared-slice-read-y
-    add-q
-    loop-less
-    loop-again
-    returns)
+    (tie.spec Inv-loop μ-loop (λ c. search needs) (λ c. search needs) (λ c. search needs) (λ c. search needs)
+    (λ c. search needs) (λ c. search needs) loop-holds (λ c. search needs) (λ c. search needs) (λ c. search needs)
+    mul-near add-near shared-slice-read-near cast-near add-next add-next-2 shared-slice-read-next cast-next add-y
+    add-y-2 shared-slice-read-y (λ c. search needs) (λ c. search needs) loop-again returns)

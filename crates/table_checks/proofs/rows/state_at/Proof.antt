@@ -7,15 +7,6 @@ use borrow.Author.Needs.{needs}
 use Rattle.table_checks.proofs.rows.state_at.Statement.{statement}
 use Rattle.table_checks.proofs.rows.state_at.Tie as tie
 
-add-result : tie.Need-add-result
-add-result c = search needs
-
-mul-result : tie.Need-mul-result
-mul-result c = search needs
-
-shared-slice-read-result : tie.Need-shared-slice-read-result
-shared-slice-read-result c = search needs
-
 cast-result : tie.Need-cast-result
 cast-result c = omega (arith, c .shared-slice-known .given (c .before .args .u * (c .before .args .s + 1)))
 
@@ -24,4 +15,4 @@ returns c = (refl, omega (arith, c .shared-slice-known .given (c .before .args .
 
 pub state-at-spec : {M : Type 1} → statement M
 state-at-spec =
-    tie.close (tie.spec add-result mul-result shared-slice-read-result cast-result returns)
+    tie.close (tie.spec (λ c. search needs) (λ c. search needs) (λ c. search needs) cast-result returns)

@@ -9,9 +9,6 @@ use Rattle.tables.proofs.branch_climb.after_label.Reads as reads
 use Rattle.tables.proofs.branch_climb.after_label.Lts as lts
 use Rattle.tables.proofs.branch_climb.after_map.Reads as after-map-reads
 
-shared-slice-read-a : tie.Need-shared-slice-read-a
-shared-slice-read-a c = search needs
-
 cast-a : tie.Need-cast-a
 cast-a c = omega (arith, c .shared-slice-known3 .given (c .before .before .before .before .args .v))
 
@@ -32,9 +29,6 @@ after-map-requires c κs =
     label-reads (g .s) (g .k) (g .labels .now) (g .steps .now) (g .v) (g .maps .now) (g .here) (s .pre)
     (c .before .if1 .left)
 
-same-length : tie.Need-same-length
-same-length c = search needs
-
 returns-2 : tie.Need-returns-2
 returns-2 c =
     let g = c .before .before .before .before .before .before .before .before .before .args in
@@ -44,4 +38,4 @@ returns-2 c =
 pub after-label-spec : {M : Type 1} → statement M
 after-label-spec =
     tie.close
-    (tie.spec shared-slice-read-a cast-a returns after-map-requires same-length returns-2)
+    (tie.spec (λ c. search needs) cast-a returns after-map-requires (λ c. search needs) returns-2)

@@ -25,9 +25,6 @@ inside : (c : tie.In-loop Inv-loop μ-loop)
     < length (c .before .before .args .from .now)
 inside c = c .before .before .pre .inside (c .before .loop .q) (c .loop-test .taken)
 
-sub-there : tie.Need-sub-there Inv-loop μ-loop
-sub-there c = search needs
-
 loop-holds : tie.Need-loop-holds Inv-loop μ-loop
 loop-holds c = iterated-start _ _ _ _ (c .pre .halves)
 
@@ -45,9 +42,6 @@ cast-x c =
     let g = c .before .before .before .args in
     omega (arith, c .shared-slice-known .given (g .at + c .before .before .loop .q * g .stride))
 
-same-length : tie.Need-same-length Inv-loop μ-loop
-same-length c = search needs
-
 returns : tie.Need-returns Inv-loop μ-loop
 returns c =
     let a = c .before .before .before in
@@ -55,33 +49,12 @@ returns c =
     iterated-lost (s .args .s) (read s) (s .args .here) (s .args .maps .now) (a .loop .q) (a .loop .maps)
     (c .before .before .loop-test .taken) (c .if1 .taken) (a .loop .inv)
 
-add-maps : tie.Need-add-maps Inv-loop μ-loop
-add-maps c = search needs
-
-slice-read-maps : tie.Need-slice-read-maps Inv-loop μ-loop
-slice-read-maps c = search needs
-
-add-maps-2 : tie.Need-add-maps-2 Inv-loop μ-loop
-add-maps-2 c = search needs
-
-slice-write-maps : tie.Need-slice-write-maps Inv-loop μ-loop
-slice-write-maps c = search needs
-
-add-q : tie.Need-add-q Inv-loop μ-loop
-add-q c = search needs
-
-loop-less : tie.Need-loop-less Inv-loop μ-loop
-loop-less c = search needs
-
 loop-again : tie.Need-loop-again Inv-loop μ-loop
 loop-again c =
     let a = c .before .before .before .before in
     let s = a .before in
     iterated-iteration (s .args .s) (read s) (s .args .here) (s .args .maps .now) (s .pre .halves) (a .loop .q) (a .loop .maps)
     (c .before .before .before .loop-test .taken) (c .before .if1 .left) (a .loop .inv)
-
-same-length-2 : tie.Need-same-length-2 Inv-loop μ-loop
-same-length-2 c = search needs
 
 returns-2 : tie.Need-returns-2 Inv-loop μ-loop
 returns-2 c =
@@ -95,23 +68,6 @@ returns-2 c =
 pub after-map-spec : {M : Type 1} → statement M
 after-map-spec =
     tie.close
-    (tie.spec
-    Inv-loop
-    μ-loop
-    sub-there
-    loop-holds
-    mul-x
-    add-x
-    shared-slice-read-x
-    cast-x
-    same-length
-    returns
-    add-maps
-    slice-read-maps
-    add-maps-2
-    slice-write-maps
-    add-q
-    loop-less
-    loop-again
-    same-length-2
-    returns-2)
+    (tie.spec Inv-loop μ-loop (λ c. search needs) loop-holds mul-x add-x shared-slice-read-x cast-x
+    (λ c. search needs) returns (λ c. search needs) (λ c. search needs) (λ c. search needs) (λ c. search needs)
+    (λ c. search needs) (λ c. search needs) loop-again (λ c. search needs) returns-2)

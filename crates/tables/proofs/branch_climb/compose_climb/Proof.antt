@@ -48,9 +48,6 @@ compose-move-requires c κs =
       state-table-room = p .state-table-room;
     }
 
-same-length : tie.Need-same-length Inv-loop μ-loop
-same-length c = search needs
-
 returns : tie.Need-returns Inv-loop μ-loop
 returns c =
     let m = c .before .before .before .before in
@@ -58,9 +55,6 @@ returns c =
     let a = t .before .before in
     climbing-lost _ _ _ _ _ _ _ _ _ _ (a .loop .maps) (a .loop .here) (a .loop .v) (a .loop .links) (a .loop .inv) (deeper t)
     (m .compose-move .result) _ (m .compose-move .ensures) (not-true _ (c .if2 .taken))
-
-sub-here : tie.Need-sub-here Inv-loop μ-loop
-sub-here c = search needs
 
 add-links : tie.Need-add-links Inv-loop μ-loop
 add-links c =
@@ -117,9 +111,6 @@ cast-t22 c =
       k .shared-slice-known3 .given (k .before .before .before .before .args .from * 4 + 2),
     )
 
-same-length-2 : tie.Need-same-length-2 Inv-loop μ-loop
-same-length-2 c = search needs
-
 returns-2 : tie.Need-returns-2 Inv-loop μ-loop
 returns-2 c =
     let e = c .before .before in
@@ -131,21 +122,6 @@ returns-2 c =
 pub compose-climb-spec : {M : Type 1} → statement M
 compose-climb-spec =
     tie.close
-    (tie.spec
-    Inv-loop
-    μ-loop
-    loop-holds
-    depth-at-requires
-    compose-move-requires
-    same-length
-    returns
-    sub-here
-    add-links
-    loop-less
-    loop-again
-    depth-at-requires-2
-    depth-at-requires-3
-    sub-passed
-    cast-t22
-    same-length-2
-    returns-2)
+    (tie.spec Inv-loop μ-loop loop-holds depth-at-requires compose-move-requires (λ c. search needs) returns
+    (λ c. search needs) add-links loop-less loop-again depth-at-requires-2 depth-at-requires-3 sub-passed cast-t22
+    (λ c. search needs) returns-2)

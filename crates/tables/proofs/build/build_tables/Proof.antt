@@ -19,9 +19,6 @@ passed : (c : tie.Else1)
     (c .before .before .before .before .before .before .args .state-table .now)
 passed c = sym (c .before .check-build .ensures) ∙ c .if1 .left
 
-check-build-requires : tie.Need-check-build-requires
-check-build-requires c κs = search needs
-
 returns : tie.Need-returns
 returns c =
     let k = c .before in
@@ -68,12 +65,6 @@ write-tables-requires c κs =
     (k .before .before .read32 .result) (k .before .read322 .result) (k .read323 .result)
     (passed e) (k .before .before .read32 .ensures) (k .before .read322 .ensures) (k .read323 .ensures)
 
-same-length : tie.Need-same-length
-same-length c = search needs
-
-same-length-2 : tie.Need-same-length-2
-same-length-2 c = search needs
-
 returns-2 : tie.Need-returns-2
 returns-2 c =
     let w = c .before .before .before .before in
@@ -89,13 +80,5 @@ returns-2 c =
 pub build-tables-spec : {M : Type 1} → statement M
 build-tables-spec =
     tie.close
-    (tie.spec
-    check-build-requires
-    returns
-    read32-requires
-    read32-requires-2
-    read32-requires-3
-    write-tables-requires
-    same-length
-    same-length-2
-    returns-2)
+    (tie.spec (λ c κs. search needs) returns read32-requires read32-requires-2 read32-requires-3 write-tables-requires
+    (λ c. search needs) (λ c. search needs) returns-2)

@@ -125,19 +125,5 @@ returns-2 c =
 pub climb-state-spec : {M : Type 1} → statement M
 climb-state-spec =
     tie.close
-    (tie.spec
-    Inv-loop
-    μ-loop
-    loop-holds
-    depth-at-requires
-    step-on-requires
-    returns
-    add-links
-    loop-less
-    loop-again
-    depth-at-requires-2
-    depth-at-requires-3
-    sub-passed
-    cast-t21
-    cast-t22
-    returns-2)
+    (tie.spec Inv-loop μ-loop loop-holds depth-at-requires step-on-requires returns add-links loop-less loop-again
+    depth-at-requires-2 depth-at-requires-3 sub-passed cast-t21 cast-t22 returns-2)

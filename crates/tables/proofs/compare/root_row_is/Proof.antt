@@ -19,35 +19,14 @@ Inv-loop stateTable s v at same₀ q₀ same q =
 abbrev μ-loop : tie.MeasureT-loop
 μ-loop stateTable s v at same₀ q₀ same q = s - q
 
-add-at : tie.Need-add-at Inv-loop μ-loop
-add-at c = search needs
-
-mul-at : tie.Need-mul-at Inv-loop μ-loop
-mul-at c = search needs
-
 loop-holds : tie.Need-loop-holds Inv-loop μ-loop
 unfolding every
 loop-holds c = (omega arith, refl)
-
-add-x : tie.Need-add-x Inv-loop μ-loop
-add-x c = search needs
-
-add-x-2 : tie.Need-add-x-2 Inv-loop μ-loop
-add-x-2 c = search needs
-
-shared-slice-read-x : tie.Need-shared-slice-read-x Inv-loop μ-loop
-shared-slice-read-x c = search needs
 
 cast-x : tie.Need-cast-x Inv-loop μ-loop
 cast-x c =
     let a = c .before .before .before .args in
     omega (arith, c .shared-slice-known .given (a .v * (a .s + 1) + (1 + c .before .before .loop .q)))
-
-add-q : tie.Need-add-q Inv-loop μ-loop
-add-q c = search needs
-
-loop-less : tie.Need-loop-less Inv-loop μ-loop
-loop-less c = search needs
 
 loop-again : tie.Need-loop-again Inv-loop μ-loop
 loop-again c =
@@ -70,17 +49,5 @@ returns c =
 pub root-row-is-spec : {M : Type 1} → statement M
 root-row-is-spec =
     tie.close
-    (tie.spec
-    Inv-loop
-    μ-loop
-    add-at
-    mul-at
-    loop-holds
-    add-x
-    add-x-2
-    shared-slice-read-x
-    cast-x
-    add-q
-    loop-less
-    loop-again
-    returns)
+    (tie.spec Inv-loop μ-loop (λ c. search needs) (λ c. search needs) loop-holds (λ c. search needs)
+    (λ c. search needs) (λ c. search needs) cast-x (λ c. search needs) (λ c. search needs) loop-again returns)

@@ -7,15 +7,6 @@ use Rattle.tables.specs.Climbs.{runOn}
 use Rattle.tables.proofs.lookups.run_on.Statement.{statement}
 use Rattle.tables.proofs.lookups.run_on.Tie as tie
 
-add-result : tie.Need-add-result
-add-result c = search needs
-
-mul-result : tie.Need-mul-result
-mul-result c = search needs
-
-shared-slice-read-result : tie.Need-shared-slice-read-result
-shared-slice-read-result c = search needs
-
 cast-result : tie.Need-cast-result
 cast-result c = let g = c .before .args in omega (arith, c .shared-slice-known .given (g .v * (g .s + 1)))
 
@@ -25,4 +16,4 @@ returns c = refl
 
 pub run-on-spec : {M : Type 1} → statement M
 run-on-spec =
-    tie.close (tie.spec add-result mul-result shared-slice-read-result cast-result returns)
+    tie.close (tie.spec (λ c. search needs) (λ c. search needs) (λ c. search needs) cast-result returns)

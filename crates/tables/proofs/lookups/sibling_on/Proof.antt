@@ -11,12 +11,6 @@ use Rattle.tables.proofs.LookupLaws.{sibling-outside, sibling-right, si
 use Rattle.tables.proofs.lookups.sibling_on.Statement.{statement}
 use Rattle.tables.proofs.lookups.sibling_on.Tie as tie
 
-add-if1 : tie.Need-add-if1
-add-if1 c = search needs
-
-size-at-requires : tie.Need-size-at-requires
-size-at-requires c κs = search needs
-
 returns : tie.Need-returns
 returns c =
     let s = c .before .before .before .before in
@@ -40,9 +34,6 @@ returns-3 c =
     below-no (g .n) (g .n) (le-refl _)
     ∙ sym (sibling-none (nodesView (g .n) (g .node-table .now)) (g .v) (g .p) (c .before .if1 .left) (c .if3 .taken))
 
-sub-result : tie.Need-sub-result
-sub-result c = search needs
-
 returns-4 : tie.Need-returns-4
 returns-4 c =
     let s = c .before .before .before in
@@ -53,4 +44,5 @@ returns-4 c =
 
 pub sibling-on-spec : {M : Type 1} → statement M
 sibling-on-spec =
-    tie.close (tie.spec add-if1 size-at-requires returns returns-2 returns-3 sub-result returns-4)
+    tie.close (tie.spec (λ c. search needs) (λ c κs. search needs) returns returns-2 returns-3 (λ c. search needs)
+    returns-4)

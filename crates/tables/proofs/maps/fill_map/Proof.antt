@@ -6,9 +6,6 @@ use borrow.Author.Needs.{needs}
 use Rattle.tables.proofs.maps.fill_map.Statement.{statement}
 use Rattle.tables.proofs.maps.fill_map.Tie as tie
 
-near-map-requires : tie.Need-near-map-requires
-near-map-requires c κs = search needs
-
 far-map-requires : tie.Need-far-map-requires
 far-map-requires c κs =
     let r = c .before .before .before in
@@ -16,9 +13,6 @@ far-map-requires c κs =
     far-map-args (s .args .labels .now) (s .args .node-table .now) (s .args .inner .now) (s .args .s) (s .args .k)
     (s .args .state-table .now) (s .args .v) (s .pre) (r .near-map .last .1 .1 .1 .1 .1 .1 .0) (r .near-map .ensures)
     (omega arith)
-
-same-length : tie.Need-same-length
-same-length c = search needs
 
 returns : tie.Need-returns
 returns c =
@@ -30,4 +24,4 @@ returns c =
     (f .far-map .last .1 .1 .1 .0) (f .far-map .ensures)
 
 pub fill-map-spec : {M : Type 1} → statement M
-fill-map-spec = tie.close (tie.spec near-map-requires far-map-requires same-length returns)
+fill-map-spec = tie.close (tie.spec (λ c κs. search needs) far-map-requires (λ c. search needs) returns)

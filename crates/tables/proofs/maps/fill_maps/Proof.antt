@@ -65,9 +65,6 @@ loop-holds c =
       λ e m. m,
     )
 
-sub-v-2 : tie.Need-sub-v-2 Inv-loop μ-loop
-sub-v-2 c = search needs
-
 fill-map-requires : tie.Need-fill-map-requires Inv-loop μ-loop
 fill-map-requires c κs =
     let a = c .before .before in
@@ -79,9 +76,6 @@ fill-map-requires c κs =
     (subst (λ (i : ℕ). Maps (s .args .labels .now) (s .args .node-table .now) (s .args .inner .now) (s .args .s) (s .args .k)
     i (s .args .state-table .now) (a .loop .state-table)) e
     (mapped a) (s .pre .leaves) [] (s .pre .tree) (s .pre .prepared))
-
-loop-less : tie.Need-loop-less Inv-loop μ-loop
-loop-less c = search needs
 
 loop-again : tie.Need-loop-again Inv-loop μ-loop
 loop-again c =
@@ -101,9 +95,6 @@ loop-again c =
           (a .loop .inv .2 e m)) (f .fill-map .ensures),
     )
 
-same-length : tie.Need-same-length Inv-loop μ-loop
-same-length c = search needs
-
 returns : tie.Need-returns Inv-loop μ-loop
 returns c =
     let a = c .before in
@@ -116,15 +107,5 @@ returns c =
 pub fill-maps-spec : {M : Type 1} → statement M
 fill-maps-spec =
     tie.close
-    (tie.spec
-    Inv-loop
-    μ-loop
-    sub-v
-    same-row-requires
-    loop-holds
-    sub-v-2
-    fill-map-requires
-    loop-less
-    loop-again
-    same-length
-    returns)
+    (tie.spec Inv-loop μ-loop sub-v same-row-requires loop-holds (λ c. search needs) fill-map-requires
+    (λ c. search needs) loop-again (λ c. search needs) returns)

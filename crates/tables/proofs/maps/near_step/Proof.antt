@@ -7,9 +7,6 @@ use borrow.Author.Needs.{needs}
 use Rattle.tables.proofs.maps.near_step.Statement.{statement}
 use Rattle.tables.proofs.maps.near_step.Tie as tie
 
-add-if1 : tie.Need-add-if1
-add-if1 c = search needs
-
 returns : tie.Need-returns
 returns c = rw (eq-eqb _ _ (c .if1 .taken))
 
@@ -20,4 +17,4 @@ returns-2 : tie.Need-returns-2
 returns-2 c = rw (ne-eqb _ _ (c .if1 .left))
 
 pub near-step-spec : {M : Type 1} → statement M
-near-step-spec = tie.close (tie.spec add-if1 returns mul-result returns-2)
+near-step-spec = tie.close (tie.spec (λ c. search needs) returns mul-result returns-2)

@@ -18,18 +18,6 @@ Inv-loop bytes₀ s v table base stride at q₀ stateTable q =
 abbrev μ-loop : tie.MeasureT-loop
 μ-loop bytes₀ s v table base stride at q₀ stateTable q = s - q
 
-add-at : tie.Need-add-at Inv-loop μ-loop
-add-at c = search needs
-
-mul-at : tie.Need-mul-at Inv-loop μ-loop
-mul-at c = search needs
-
-add-at-2 : tie.Need-add-at-2 Inv-loop μ-loop
-add-at-2 c = search needs
-
-loop-holds : tie.Need-loop-holds Inv-loop μ-loop
-loop-holds c = search needs
-
 mul-state-table : tie.Need-mul-state-table Inv-loop μ-loop
 mul-state-table c = omega (arith, c .before .before .pre .inside (c .before .loop .q) (c .loop-test .taken))
 
@@ -39,18 +27,6 @@ add-state-table c = omega (arith, c .before .before .pre .inside (c .before .loo
 shared-slice-read-state-table : tie.Need-shared-slice-read-state-table Inv-loop μ-loop
 shared-slice-read-state-table c = c .before .before .before .pre .inside (c .before .before .loop .q)
     (c .before .loop-test .taken)
-
-add-state-table-2 : tie.Need-add-state-table-2 Inv-loop μ-loop
-add-state-table-2 c = search needs
-
-slice-write-state-table : tie.Need-slice-write-state-table Inv-loop μ-loop
-slice-write-state-table c = search needs
-
-add-q : tie.Need-add-q Inv-loop μ-loop
-add-q c = search needs
-
-loop-less : tie.Need-loop-less Inv-loop μ-loop
-loop-less c = search needs
 
 loop-again : tie.Need-loop-again Inv-loop μ-loop
 loop-again c =
@@ -64,9 +40,6 @@ loop-again c =
           (a .loop .inv .2) (s .args .v * (s .args .s + 1) + 1 + a .loop .q) _ (omega arith) (omega arith) refl,
     )
 
-same-length : tie.Need-same-length Inv-loop μ-loop
-same-length c = search needs
-
 returns : tie.Need-returns Inv-loop μ-loop
 returns c =
     let a = c .before in
@@ -78,20 +51,6 @@ returns c =
 pub near-row-spec : {M : Type 1} → statement M
 near-row-spec =
     tie.close
-    (tie.spec
-    Inv-loop
-    μ-loop
-    add-at
-    mul-at
-    add-at-2
-    loop-holds
-    mul-state-table
-    add-state-table
-    shared-slice-read-state-table
-    add-state-table-2
-    slice-write-state-table
-    add-q
-    loop-less
-    loop-again
-    same-length
-    returns)
+    (tie.spec Inv-loop μ-loop (λ c. search needs) (λ c. search needs) (λ c. search needs) (λ c. search needs)
+    mul-state-table add-state-table shared-slice-read-state-table (λ c. search needs) (λ c. search needs)
+    (λ c. search needs) (λ c. search needs) loop-again (λ c. search needs) returns)

@@ -18,33 +18,6 @@ Inv-loop bytes₀ s v at q₀ stateTable q =
 abbrev μ-loop : tie.MeasureT-loop
 μ-loop bytes₀ s v at q₀ stateTable q = s - q
 
-add-at : tie.Need-add-at Inv-loop μ-loop
-add-at c = search needs
-
-mul-at : tie.Need-mul-at Inv-loop μ-loop
-mul-at c = search needs
-
-add-at-2 : tie.Need-add-at-2 Inv-loop μ-loop
-add-at-2 c = search needs
-
-loop-holds : tie.Need-loop-holds Inv-loop μ-loop
-loop-holds c = search needs
-
-cast-state-table : tie.Need-cast-state-table Inv-loop μ-loop
-cast-state-table c = search needs
-
-add-state-table : tie.Need-add-state-table Inv-loop μ-loop
-add-state-table c = search needs
-
-slice-write-state-table : tie.Need-slice-write-state-table Inv-loop μ-loop
-slice-write-state-table c = search needs
-
-add-q : tie.Need-add-q Inv-loop μ-loop
-add-q c = search needs
-
-loop-less : tie.Need-loop-less Inv-loop μ-loop
-loop-less c = search needs
-
 loop-again : tie.Need-loop-again Inv-loop μ-loop
 loop-again c =
     let a = c .before in
@@ -55,9 +28,6 @@ loop-again c =
       row-iteration (s .args .s) (λ x. x) (s .args .v) (a .loop .q) (s .args .state-table .now) (a .loop .state-table)
           (a .loop .inv .2) (s .args .v * (s .args .s + 1) + 1 + a .loop .q) _ (omega arith) (omega arith) refl,
     )
-
-same-length : tie.Need-same-length Inv-loop μ-loop
-same-length c = search needs
 
 returns : tie.Need-returns Inv-loop μ-loop
 returns c =
@@ -70,18 +40,6 @@ returns c =
 pub same-row-spec : {M : Type 1} → statement M
 same-row-spec =
     tie.close
-    (tie.spec
-    Inv-loop
-    μ-loop
-    add-at
-    mul-at
-    add-at-2
-    loop-holds
-    cast-state-table
-    add-state-table
-    slice-write-state-table
-    add-q
-    loop-less
-    loop-again
-    same-length
-    returns)
+    (tie.spec Inv-loop μ-loop (λ c. search needs) (λ c. search needs) (λ c. search needs) (λ c. search needs)
+    (λ c. search needs) (λ c. search needs) (λ c. search needs) (λ c. search needs) (λ c. search needs) loop-again
+    (λ c. search needs) returns)

@@ -34,20 +34,8 @@ place-in c =
       a .loop .inv .1,
     )
 
-add-w : tie.Need-add-w Inv-loop μ-loop
-add-w c = search needs
-
-loop-holds : tie.Need-loop-holds Inv-loop μ-loop
-loop-holds c = search needs
-
-shared-slice-read-a : tie.Need-shared-slice-read-a Inv-loop μ-loop
-shared-slice-read-a c = search needs
-
 cast-a : tie.Need-cast-a Inv-loop μ-loop
 cast-a c = omega (arith, c .shared-slice-known6 .given (c .before .before .loop .v))
-
-shared-slice-read-if1 : tie.Need-shared-slice-read-if1 Inv-loop μ-loop
-shared-slice-read-if1 c = search needs
 
 shared-slice-read-x : tie.Need-shared-slice-read-x Inv-loop μ-loop
 shared-slice-read-x c =
@@ -70,12 +58,6 @@ mul-state-table c = omega (arith, place-in (c .before .before .before))
 slice-write-state-table : tie.Need-slice-write-state-table Inv-loop μ-loop
 slice-write-state-table c = place-in (c .before .before .before)
 
-add-v : tie.Need-add-v Inv-loop μ-loop
-add-v c = search needs
-
-loop-less : tie.Need-loop-less Inv-loop μ-loop
-loop-less c = search needs
-
 loop-again : tie.Need-loop-again Inv-loop μ-loop
 loop-again c =
     let a = c .before .before .before .before in
@@ -96,9 +78,6 @@ loop-again c =
           (c .if1 .came),
     )
 
-same-length : tie.Need-same-length Inv-loop μ-loop
-same-length c = search needs
-
 returns : tie.Need-returns Inv-loop μ-loop
 returns c =
     let a = c .before in
@@ -111,20 +90,6 @@ returns c =
 pub run-states-spec : {M : Type 1} → statement M
 run-states-spec =
     tie.close
-    (tie.spec
-    Inv-loop
-    μ-loop
-    add-w
-    loop-holds
-    shared-slice-read-a
-    cast-a
-    shared-slice-read-if1
-    shared-slice-read-x
-    inner-state-requires
-    mul-state-table
-    slice-write-state-table
-    add-v
-    loop-less
-    loop-again
-    same-length
-    returns)
+    (tie.spec Inv-loop μ-loop (λ c. search needs) (λ c. search needs) (λ c. search needs) cast-a (λ c. search needs)
+    shared-slice-read-x inner-state-requires mul-state-table slice-write-state-table (λ c. search needs)
+    (λ c. search needs) loop-again (λ c. search needs) returns)

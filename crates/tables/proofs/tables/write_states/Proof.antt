@@ -6,9 +6,6 @@ use borrow.Author.Needs.{needs}
 use Rattle.tables.proofs.tables.write_states.Statement.{statement}
 use Rattle.tables.proofs.tables.write_states.Tie as tie
 
-run-states-requires : tie.Need-run-states-requires
-run-states-requires c κs = search needs
-
 fill-maps-requires : tie.Need-fill-maps-requires
 fill-maps-requires c κs =
     let r = c .before .before .before in
@@ -16,9 +13,6 @@ fill-maps-requires c κs =
     map-args (s .args .kinds .now) (s .args .labels .now) (s .args .node-table .now) (s .args .leaves .now)
     (s .args .inner .now) (s .args .s) (s .args .k)
     (s .args .state-table .now) (r .run-states .last .1 .1 .1 .1 .1 .1 .1 .0) (s .pre) (r .run-states .ensures) (omega arith)
-
-same-length : tie.Need-same-length
-same-length c = search needs
 
 returns : tie.Need-returns
 returns c =
@@ -31,4 +25,4 @@ returns c =
     (f .fill-maps .last .1 .1 .1 .1 .1 .0) (omega arith) (f .fill-maps .ensures)
 
 pub write-states-spec : {M : Type 1} → statement M
-write-states-spec = tie.close (tie.spec run-states-requires fill-maps-requires same-length returns)
+write-states-spec = tie.close (tie.spec (λ c κs. search needs) fill-maps-requires (λ c. search needs) returns)

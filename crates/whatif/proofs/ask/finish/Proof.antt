@@ -22,18 +22,6 @@ abbrev μ-loop : tie.MeasureT-loop
 loop-holds : tie.Need-loop-holds Inv-loop μ-loop
 loop-holds c = (omega arith, refl)
 
-advance-requires : tie.Need-advance-requires Inv-loop μ-loop
-advance-requires c κs = search needs
-
-enum-told : tie.Need-enum-told Inv-loop μ-loop
-enum-told c = search needs
-
-add-iterations : tie.Need-add-iterations Inv-loop μ-loop
-add-iterations c = search needs
-
-loop-less : tie.Need-loop-less Inv-loop μ-loop
-loop-less c = search needs
-
 loop-again : tie.Need-loop-again Inv-loop μ-loop
 loop-again c =
     let a = c .before .before .before .before .before .before .before .before .before .before .args in
@@ -44,12 +32,6 @@ loop-again c =
     let f = 254 - (l .iterations + 1) in
     let i = ap (λ (n : ℕ). finishedIn n (l .rec) x) e ∙ l .inv .1 in
     (omega arith, sym (more-iteration f (l .rec) (d .result .session) x (d .result .answer) (d .ensures) (c .enum-told .given .1)) ∙ i)
-
-enum-told-2 : tie.Need-enum-told-2 Inv-loop μ-loop
-enum-told-2 c = search needs
-
-read-requires : tie.Need-read-requires Inv-loop μ-loop
-read-requires c κs = search needs
 
 returns : tie.Need-returns Inv-loop μ-loop
 returns c =
@@ -63,9 +45,6 @@ returns c =
     let t = finished-iteration f (l .rec) (d .result .session) x (d .result .answer) (d .ensures) (c .before .enum-told2 .given .1) in
     c .read .ensures ∙ (sym t ∙ i)
 
-enum-known-answer : tie.Need-enum-known-answer Inv-loop μ-loop
-enum-known-answer c = search needs
-
 returns-2 : tie.Need-returns-2 Inv-loop μ-loop
 returns-2 c =
     let a = c .before .before .before .before .before .before .before .before .before .before .before .args in
@@ -76,9 +55,6 @@ returns-2 c =
     let f = 254 - (l .iterations + 1) in
     let i = ap (λ (n : ℕ). finishedIn n (l .rec) x) e ∙ l .inv .1 in
     sym (refused-iteration f (l .rec) (d .result .session) x (d .result .answer) (d .ensures) _ (c .before .answer .given .1)) ∙ i
-
-read-requires-2 : tie.Need-read-requires-2 Inv-loop μ-loop
-read-requires-2 c κs = search needs
 
 returns-3 : tie.Need-returns-3 Inv-loop μ-loop
 unfolding finishedIn
@@ -92,19 +68,6 @@ returns-3 c =
 pub finish-spec : {M : Type 1} → statement M
 finish-spec =
     tie.close
-    (tie.spec
-    Inv-loop
-    μ-loop
-    loop-holds
-    advance-requires
-    enum-told
-    add-iterations
-    loop-less
-    loop-again
-    enum-told-2
-    read-requires
-    returns
-    enum-known-answer
-    returns-2
-    read-requires-2
-    returns-3)
+    (tie.spec Inv-loop μ-loop loop-holds (λ c κs. search needs) (λ c. search needs) (λ c. search needs)
+    (λ c. search needs) loop-again (λ c. search needs) (λ c κs. search needs) returns (λ c. search needs) returns-2
+    (λ c κs. search needs) returns-3)

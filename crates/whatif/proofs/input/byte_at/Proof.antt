@@ -10,9 +10,6 @@ use Rattle.whatif.proofs.input.byte_at.Lts as lts
 returns : tie.Need-returns
 returns c = (sym (List·getD-eq-default (c .before .args .b .now) 0 (c .if1 .taken)), omega arith)
 
-shared-slice-read-result : tie.Need-shared-slice-read-result
-shared-slice-read-result c = search needs
-
 cast-result : tie.Need-cast-result
 cast-result c = omega (arith, c .shared-slice-known .given (c .before .before .args .at))
 
@@ -20,4 +17,4 @@ returns-2 : tie.Need-returns-2
 returns-2 c = (refl, omega (arith, c .shared-slice-known .given (c .before .before .args .at)))
 
 pub byte-at-spec : {M : Type 1} → statement M
-byte-at-spec = tie.close (tie.spec returns shared-slice-read-result cast-result returns-2)
+byte-at-spec = tie.close (tie.spec returns (λ c. search needs) cast-result returns-2)

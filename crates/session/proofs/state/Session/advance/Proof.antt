@@ -23,12 +23,6 @@ lent c = inputsOf (c .args .plan .now) (c .args .rules .now) (c .args .node-tabl
 found : (c : tie.After-next-step) → StepFound (of c .args .t1) (advance (lent (of c))) (c .next-step .result)
 found c = c .next-step .ensures
 
-next-step-requires : tie.Need-next-step-requires
-next-step-requires c κs = search needs
-
-cast-at : tie.Need-cast-at
-cast-at c = search needs
-
 array-write-states : tie.Need-array-write-states
 array-write-states c = found (stepped (c .before)) .room (c .if1 .taken)
 
@@ -40,4 +34,4 @@ returns c =
     (elim (j .if1 .came) [ inl w ↦ chosen _ _ _ _ (w .0 .taken) (w .1) | inr w ↦ not-chosen _ _ _ _ (w .0 .left) (w .1) ])
 
 pub advance-spec : {M : Type 1} → statement M
-advance-spec = tie.close (tie.spec next-step-requires cast-at array-write-states returns)
+advance-spec = tie.close (tie.spec (λ c κs. search needs) (λ c. search needs) array-write-states returns)

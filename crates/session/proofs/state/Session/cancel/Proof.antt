@@ -26,19 +26,10 @@ may : (m : tie.After-allowed) → m .allowed .result
     ≡ (valid (of m .args .t1) && isRunning (phaseOf (of m .args .t1 .head .phase)))
 may m = allowed-by isRunning (of m .args .t1) _ _ (tested m .may-advance .ensures) (m .allowed .ensures)
 
-may-advance-requires : tie.Need-may-advance-requires
-may-advance-requires c κs = search needs
-
-allowed-requires : tie.Need-allowed-requires
-allowed-requires c κs = search needs
-
 returns : tie.Need-returns
 returns c =
     let m = c .before in
     cancel-no (of m .args .t1) (shape (of m)) _ (may m) (c .if1 .taken)
-
-loaded-requires : tie.Need-loaded-requires
-loaded-requires c κs = search needs
 
 returns-2 : tie.Need-returns-2
 returns-2 c =
@@ -47,4 +38,5 @@ returns-2 c =
     cancel-yes (of m .args .t1) (shape (of m)) _ (may m) (e .if1 .left) _ (c .loaded .ensures)
 
 pub cancel-spec : {M : Type 1} → statement M
-cancel-spec = tie.close (tie.spec may-advance-requires allowed-requires returns loaded-requires returns-2)
+cancel-spec = tie.close (tie.spec (λ c κs. search needs) (λ c κs. search needs) returns (λ c κs. search needs)
+    returns-2)

@@ -1,4 +1,4 @@
--- `formats::lists::holds_one` meets its contract. The loop's invariant: the running answer or that of the numbers to come is the
+-- `formats::lists::is_listed` meets its contract. The loop's invariant: the running answer or that of the numbers to come is the
 -- answer for all. Assumes nothing.
 use Prim.Native.Nat.{_-_, _≤_}
 use mathlib.Core.Path.{_≡_, refl, sym, _∙_}
@@ -8,8 +8,8 @@ use Rattle.list_laws.specs.Tests.{holds}
 use Rattle.list_laws.proofs.LoopLaws.{holds-iteration, holds-end}
 use native.Mathlib.Omega.{arith}
 use borrow.Author.Needs.{needs}
-use Rattle.formats.proofs.lists.holds_one.Statement.{statement}
-use Rattle.formats.proofs.lists.holds_one.Tie as tie
+use Rattle.formats.proofs.lists.is_listed.Statement.{statement}
+use Rattle.formats.proofs.lists.is_listed.Tie as tie
 
 abbrev Inv-loop : tie.InvT-loop
 Inv-loop x nodes found₀ i₀ found i = (i ≤ length nodes) × ((found || holds x (drop i nodes)) ≡ holds x nodes)
@@ -20,37 +20,17 @@ abbrev μ-loop : tie.MeasureT-loop
 loop-holds : tie.Need-loop-holds Inv-loop μ-loop
 loop-holds c = (omega arith, refl)
 
-mul-found : tie.Need-mul-found Inv-loop μ-loop
-mul-found c = search needs
-
-shared-slice-read-found : tie.Need-shared-slice-read-found Inv-loop μ-loop
-shared-slice-read-found c = search needs
-
-add-i : tie.Need-add-i Inv-loop μ-loop
-add-i c = search needs
-
-loop-less : tie.Need-loop-less Inv-loop μ-loop
-loop-less c = search needs
-
 loop-again : tie.Need-loop-again Inv-loop μ-loop
 loop-again c =
     let l = c .before .before .loop in
     let a = c .before .before .before .args in
-    (omega arith, holds-iteration (a .nodes .now) (l .i) (a .x) (l .found) (c .before .loop-test .taken) ∙ l .inv .1)
+    (omega arith, holds-iteration (a .nodes .now) (l .i) (a .v) (l .found) (c .before .loop-test .taken) ∙ l .inv .1)
 
 returns : tie.Need-returns Inv-loop μ-loop
 returns c = sym (holds-end _ _ _ _ (c .loop-test .left)) ∙ c .before .loop .inv .1
 
-pub holds-one-spec : {M : Type 1} → statement M
-holds-one-spec =
+pub is-listed-spec : {M : Type 1} → statement M
+is-listed-spec =
     tie.close
-    (tie.spec
-    Inv-loop
-    μ-loop
-    loop-holds
-    mul-found
-    shared-slice-read-found
-    add-i
-    loop-less
-    loop-again
-    returns)
+    (tie.spec Inv-loop μ-loop loop-holds (λ c. search needs) (λ c. search needs) (λ c. search needs)
+    (λ c. search needs) loop-again returns)
