@@ -21,13 +21,13 @@ use Rattle.model.specs.Calls.{load, Answer, refused, isRefused, isRunning, mayL
 use Rattle.model.specs.Refusals.{refusal}
 use Rattle.model.specs.Model.{Record, freshRecord, stageOf, loadedRecord, proceeds, unless, act}
 use Rattle.screens.specs.ScreenCalls.{loadAll, ScreenAnswer, one, loads, answerIn, anyRuns, Target, nobody, everyScreen}
-use Rattle.screens.specs.ScreenCalls.{loadAllChecks, loadTarget, target}
+use Rattle.screens.specs.ScreenCalls.{loadAllChecks, loadTarget, target, Another}
 use Rattle.screens.proofs.RecordLaws.{idle-loads}
 use Rattle.screens.proofs.TargetLaws.{any-no}
 use Rattle.session.specs.declared.state.Session.{Session}
 use Rattle.session.specs.Records.{phaseOf, freshSession, recordOf, sessionOf, valid}
 use Rattle.session.specs.Promises.{CallDone, LoadDone, answerOn, recordOn, refusalOn}
-use Rattle.deals.specs.OnStructs.{at, isBusy, busy, targetIn, answerOf, structsOf, OwnDone, Another, ScreenDone}
+use Rattle.deals.specs.OnStructs.{at, isBusy, busy, targetIn, answerOf, structsOf, OwnDone, ScreenDone}
 use Rattle.session.specs.Answers.{callAnswer}
 use Rattle.session.proofs.Refine.{fresh-seen, narrow-seen}
 use Rattle.session.specs.declared.answers.CallAnswer.{CallAnswer}

@@ -1,0 +1,2 @@
+pub mod RunLayout
+pub mod ScreensExported
