@@ -4,7 +4,7 @@
 --     fresh-run-held     8 x 983 zeros are eight fresh records
 --     bytes-hold         all statements about every list of screen calls (crate screens), from 8 x 983 zeros
 -- Assumes nothing.
-use Prim.Native.Nat.{ℕ, _*_, _<_}
+use Prim.Native.Nat.{ℕ, _+_, _*_, _<_}
 use mathlib.Core.Path.{_≡_, refl, sym, _∙_, ap, subst}
 use mathlib.Core.List.{List}
 use native.Mathlib.Omega.{arith}
@@ -69,27 +69,29 @@ screens-refine b b′ rs c a Z (deals-one {k} {x} r k₀ k₁ f₀ f₁ e) = (
 
 -- ---- a fresh run
 
--- a part of zeros
-part-zeros : (w n i : ℕ) → i < n → part w i (replicate (w * n) 0) ≡ replicate w 0
+abbrev zeros : ℕ → List ℕ
+zeros n = replicate n 0
+
+part-zeros : (w n i : ℕ) → i < n → part w i (zeros (w * n)) ≡ zeros w
 part-zeros w n i h =
-    let z : length (replicate (w * n) 0) ≡ w * n = length-replicate (w * n) 0 in
-    let l : length (part w i (replicate (w * n) 0)) ≡ w = part-length w n (replicate (w * n) 0) z i h in
-    ext-getD 0 (part w i (replicate (w * n) 0)) (replicate w 0) (l ∙ sym (length-replicate w 0))
+    let z : length (zeros (w * n)) ≡ w * n = length-replicate {A = ℕ} (w * n) 0 in
+    let l : length (part w i (zeros (w * n))) ≡ w = part-length w n (zeros (w * n)) z i h in
+    ext-getD 0 (part w i (zeros (w * n))) (zeros w) (l ∙ sym (length-replicate {A = ℕ} w 0))
     (λ k m. each k (omega (arith, l)))
   where
-    each : (k : ℕ) → k < w → getD (part w i (replicate (w * n) 0)) k 0 ≡ getD (replicate w 0) k 0
+    each : (k : ℕ) → k < w → getD (part w i (zeros (w * n))) k 0 ≡ getD (zeros w) k 0
     each k m =
-        part-at w n (replicate (w * n) 0) (length-replicate (w * n) 0) i k m
-        ∙ getD-replicate (w * n) (w * i + k) 0 0 (omega (arith, part-stride w n i h))
-        ∙ sym (getD-replicate w k 0 0 m)
+        part-at w n (zeros (w * n)) (length-replicate {A = ℕ} (w * n) 0) i k m
+        ∙ getD-replicate {A = ℕ} (w * n) (w * i + k) 0 0 (omega (arith, part-stride w n i h))
+        ∙ sym (getD-replicate {A = ℕ} w k 0 0 m)
 
 pub fresh-run-held : HeldAll freshRun eightFresh
 fresh-run-held = record {
-  long = length-replicate runLength 0;
+  long = length-replicate {A = ℕ} runLength 0;
   records = refl;
   each = λ i h.
       subst (λ (p : List ℕ). Held p (getD eightFresh i freshRecord)) (sym (part-zeros recordLength 8 i h))
-      (subst (λ (r : Record). Held (replicate recordLength 0) r) (sym (getD-replicate 8 i freshRecord freshRecord h))
+      (subst (λ (r : Record). Held (zeros recordLength) r) (sym (getD-replicate 8 i freshRecord freshRecord h))
       fresh-held);
 }
 

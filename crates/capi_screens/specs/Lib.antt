@@ -1,2 +1,3 @@
 pub mod RunLayout
 pub mod ScreensExported
+pub mod DecodedScreens

@@ -1,6 +1,6 @@
 -- Whose a call is.
 --     one-past-in      the screen to try first is one of the eight
---     any-no, any-yes  whether any screen runs
+--     any-no, any-yes  whether any screen runs; or-no-left, or-no-right: neither of two
 --     next-runs        the screen that a deal serves is one of the eight, and runs
 --     number-in, number-out   a call that names a screen, or one to try first: up to 7, and above
 --     Rightly, rightly what holds of a call's target: a Load's screens are at rest, and what it lends passes 2 to 11;
@@ -38,11 +38,11 @@ one-past-in k h = go (ltb k 7) refl
 
 -- ---- any screen
 
-or-no-left : (a b : Bool) → (a || b) ≡ false → a ≡ false
+pub or-no-left : (a b : Bool) → (a || b) ≡ false → a ≡ false
 or-no-left true b e = e
 or-no-left false b e = refl
 
-or-no-right : (a b : Bool) → (a || b) ≡ false → b ≡ false
+pub or-no-right : (a b : Bool) → (a || b) ≡ false → b ≡ false
 or-no-right true b e = absurd (true-false e)
 or-no-right false b e = e
 
