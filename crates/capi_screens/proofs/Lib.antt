@@ -1,2 +1,4 @@
 pub mod PartLaws
 pub mod ExportedLaws
+pub mod StartReadLaws
+pub mod DealLaws
