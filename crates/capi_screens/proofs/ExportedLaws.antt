@@ -2,27 +2,26 @@
 --     not-run, nobody-exported        a refusal before any screen: 25, or the target's number
 --     screen-exported, turn-exported  the one-record call on the bytes of one screen, which are written where they stood
 --     beyond, on-screen               the same by the numbers that the code has, of a call that names a screen
---     beyond-deal, deal-none, deal-refused, deal-served    of a deal
+-- Starts, Reads and deals, which tell values besides: StartReadLaws, DealLaws.
 -- Assumes nothing.
-use Prim.Native.Nat.{ℕ, zero, suc, _+_, _-_, _*_, _<_, _≤_}
+use Prim.Native.Nat.{ℕ, _+_, _-_, _*_, _<_, _≤_}
 use mathlib.Core.Path.{_≡_, refl, sym, _∙_, ap, subst}
 use mathlib.Core.Bool.{Bool, true, false, cond}
-use mathlib.Core.List.{List, [], _∷_, _++_}
-use mathlib.Core.Option.{Option, none, some}
+use mathlib.Core.List.{List, _++_}
+use native.Mathlib.Nat.{add-zero}
 use native.Mathlib.Omega.{arith}
-use lib.Dec.{ltb, eqb}
-use lib.ListN.{length, take, drop, take-append-drop}
+use lib.Dec.{eqb}
+use lib.ListN.{length, getD, take, drop, take-append-drop}
 use borrow.Author.Tests.{eq-eqb, ne-eqb}
-use Rattle.list_laws.proofs.BoolLaws.{true-false}
+use Rattle.list_laws.proofs.SliceLaws.{run-part, length-part}
 use Rattle.formats.specs.Inputs.{Inputs}
 use Rattle.model.specs.Calls.{Call, start, cancel, read, advance, Answer, refused, parts, more, finished, outcome}
-use Rattle.model.specs.Calls.{isRefused}
-use Rattle.screens.specs.ScreenCalls.{ScreenCall, startOn, cancelOn, readOn, deal, ScreenAnswer, one, deals, answerIn}
-use Rattle.screens.specs.ScreenCalls.{Target, nobody, screen, turn, onePast, nextRunningIn, nextRunning, orEight, found}
-use Rattle.screens.specs.ScreenCalls.{dealTarget, numbered, target, Another, turnAnswer}
+use Rattle.screens.specs.ScreenCalls.{ScreenCall, startOn, cancelOn, readOn, ScreenAnswer, one, answerIn}
+use Rattle.screens.specs.ScreenCalls.{Target, nobody, screen, turn, numbered, target, Another}
 use Rattle.screens.proofs.TargetLaws.{number-in, number-out}
 use Rattle.screens.proofs.EightLaws.{answer-turn}
 use Rattle.records.specs.Layout.{encoded, decoded}
+use Rattle.records.proofs.RunLaws.{run-at}
 use Rattle.session.specs.Promises.{recordOn}
 use Rattle.capi_session.specs.SessionExported.{answerFor, answerNumber, unlessRefused, recordFor, CallExported}
 use Rattle.capi_screens.specs.RunLayout.{runLength, recordAt, withRecord, runs}
@@ -60,6 +59,12 @@ not-run b c h =
       own = λ l. absurd (h l);
       others = λ l. absurd (h l);
     }
+
+pub not-run-answer : (b : List ℕ) (c : ScreenCall) → (length b ≡ runLength → ⊥)
+    → answerAllFor b c ≡ one (refused 25)
+unfolding answerAllFor
+not-run-answer b c h =
+    ap (λ (t : Bool). cond t (answerOf b (targetIn b c)) (one (refused 25))) (ne-eqb (length b) runLength h)
 
 module _ (b : List ℕ) (c : ScreenCall) (l : length b ≡ runLength) where
   pub answer-by : (t : Target) → targetIn b c ≡ t → answerAllFor b c ≡ answerOf b t
@@ -123,6 +128,39 @@ module _ (b : List ℕ) (c : ScreenCall) (l : length b ≡ runLength) where
       others = λ _ j m z. other-record j m (subst (λ (t : Target). Another t j) e z);
     }
 
+-- ---- the bytes of a screen, as the code lends them
+
+abbrev width : ℕ → ℕ
+width i = 983 * i + 983 - 983 * i
+
+abbrev pub part : List ℕ → ℕ → List ℕ
+part b i = take (width i) (drop (983 * i) b)
+
+abbrev pub put : List ℕ → ℕ → List ℕ → List ℕ
+put b i p = take (983 * i) b ++ (p ++ drop (width i) (drop (983 * i) b))
+
+pub part-is : (b : List ℕ) (i : ℕ) → part b i ≡ recordAt b i
+part-is b i = run-part b (983 * i) 983
+
+pub put-is : (b : List ℕ) (i : ℕ) (p : List ℕ) → put b i p ≡ withRecord b i p
+put-is b i p =
+    let e : width i ≡ 983 = omega arith in
+    ap (λ (k : ℕ). take (983 * i) b ++ (p ++ drop k (drop (983 * i) b))) e
+
+pub part-length : (b : List ℕ) (i : ℕ) → length b ≡ runLength → i ≤ 7 → length (part b i) ≡ 983
+part-length b i l h = ap length (part-is b i) ∙ length-part b (983 * i) 983 (omega arith)
+
+-- ---- the state of a screen, as the code reads it
+
+state-at : (b : List ℕ) (i : ℕ) → getD (recordAt b i) 0 0 ≡ getD b (983 * i) 0
+state-at b i = run-at b (983 * i) 983 0 (omega arith) ∙ ap (λ (j : ℕ). getD b j 0) (add-zero (983 * i))
+
+pub runs-here : (b : List ℕ) (i : ℕ) → getD b (983 * i) 0 ≡ 2 → runs b i ≡ true
+runs-here b i e = eq-eqb (getD (recordAt b i) 0 0) 2 (state-at b i ∙ e)
+
+pub rests-here : (b : List ℕ) (i : ℕ) → (getD b (983 * i) 0 ≡ 2 → ⊥) → runs b i ≡ false
+rests-here b i z = ne-eqb (getD (recordAt b i) 0 0) 2 (λ e. z (sym (state-at b i) ∙ e))
+
 -- ---- by the numbers that the code has: a call on one screen
 
 -- the call of the screens that is d on screen i
@@ -142,17 +180,28 @@ unfolding targetIn target
 names-read b i = refl
 
 module _ (b : List ℕ) (c : ScreenCall) (i : ℕ) (d : Call) (e : Names b c i d) (l : length b ≡ runLength) where
+  beyond-target : 7 < i → targetIn b c ≡ nobody 25
+  beyond-target h = e ∙ number-out i (screen i d) h
+
   pub beyond : 7 < i → ScreensCallExported b c 25 b
-  beyond h = nobody-exported b c l 25 (e ∙ number-out i (screen i d) h)
+  beyond h = nobody-exported b c l 25 (beyond-target h)
+
+  pub beyond-answer : 7 < i → answerAllFor b c ≡ one (refused 25)
+  unfolding answerOf
+  beyond-answer h = answer-by b c l (nobody 25) (beyond-target h)
 
   module _ (h : i ≤ 7) where
     on-target : targetIn b c ≡ screen i d
     on-target = e ∙ number-in i (screen i d) (omega arith)
 
-    pub answer-on : answerIn (answerAllFor b c) ≡ answerFor (recordAt b i) d
+    pub answer-on : answerIn (answerAllFor b c) ≡ answerFor (part b i) d
     unfolding answerOf answerIn
-    answer-on = ap answerIn (answer-by b c l (screen i d) on-target)
+    answer-on =
+        ap answerIn (answer-by b c l (screen i d) on-target) ∙ ap (λ (t : List ℕ). answerFor t d) (sym (part-is b i))
 
-    pub on-screen : (r : ℕ) (p : List ℕ) → length p ≡ 983 → CallExported (recordAt b i) d r p
-        → ScreensCallExported b c r (withRecord b i p)
-    on-screen r p q E = screen-exported b c l i (omega arith) p q d r on-target E
+    pub on-screen : (r : ℕ) (p : List ℕ) → length p ≡ length (part b i) → CallExported (part b i) d r p
+        → ScreensCallExported b c r (put b i p)
+    on-screen r p q E =
+        subst (λ (t : List ℕ). ScreensCallExported b c r t) (sym (put-is b i p))
+        (screen-exported b c l i (omega arith) p (q ∙ part-length b i l h) d r on-target
+        (subst (λ (t : List ℕ). CallExported t d r p) (part-is b i) E))

@@ -1,5 +1,7 @@
 pub mod PartLaws
 pub mod ExportedLaws
+pub mod StartReadLaws
+pub mod DealLaws
 pub mod CopyLaws
 pub mod LoadLaws
 pub mod HeldRun

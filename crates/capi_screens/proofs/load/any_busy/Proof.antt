@@ -45,7 +45,11 @@ is-busy-requires : tie.Need-is-busy-requires Inv-loop μ-loop
 is-busy-requires c κs = search needs
 
 returns : tie.Need-returns Inv-loop μ-loop
-returns c = ?
+returns c =
+    let b = c .before .before .before .before .before .before .args .records .now in
+    let l = c .before .before .before .before .loop in
+    any-here (busy b) (l .left) (omega arith)
+    (sym (busy-part b (983 * (l .left - 1)) _ (c .before .is-busy .ensures)) ∙ c .if1 .taken) (l .inv .1)
 
 sub-left : tie.Need-sub-left Inv-loop μ-loop
 sub-left c = search needs
@@ -54,10 +58,16 @@ loop-less : tie.Need-loop-less Inv-loop μ-loop
 loop-less c = search needs
 
 loop-again : tie.Need-loop-again Inv-loop μ-loop
-loop-again c = ?
+loop-again c =
+    let b = c .before .before .before .before .before .before .args .records .now in
+    let l = c .before .before .before .before .loop in (
+      omega arith,
+      any-on (busy b) (l .left) (omega arith)
+          (sym (busy-part b (983 * (l .left - 1)) _ (c .before .is-busy .ensures)) ∙ c .if1 .left) (l .inv .1),
+    )
 
 returns-2 : tie.Need-returns-2 Inv-loop μ-loop
-returns-2 c = ?
+returns-2 c = any-end _ (c .before .loop .left) (omega arith) (c .before .loop .inv .1)
 
 pub any-busy-spec : {M : Type 1} → statement M
 any-busy-spec =

@@ -2,7 +2,7 @@
 -- Assumes nothing.
 use Prim.Native.Nat.{_-_, _≤_}
 use mathlib.Core.Path.{_≡_, refl, sym, _∙_}
-use lib.ListN.{length}
+use lib.ListN.{length, length-set}
 use Rattle.capi_screens.proofs.CopyLaws.{Copied, copied-first, copied-on, copied-all}
 use native.Mathlib.Omega.{arith}
 use borrow.Author.Needs.{needs}
@@ -19,7 +19,7 @@ abbrev μ-loop : tie.MeasureT-loop
 μ-loop records₀ at₀ records at = length records - at
 
 loop-holds : tie.Need-loop-holds Inv-loop μ-loop
-loop-holds c = ?
+loop-holds c = (refl, (omega arith, (omega (arith, c .pre), copied-first _)))
 
 sub-records : tie.Need-sub-records Inv-loop μ-loop
 sub-records c = search needs
@@ -34,16 +34,30 @@ add-at : tie.Need-add-at Inv-loop μ-loop
 add-at c = search needs
 
 loop-less : tie.Need-loop-less Inv-loop μ-loop
-loop-less c = search needs
+loop-less c = simp length-set (omega arith)
 
 loop-again : tie.Need-loop-again Inv-loop μ-loop
-loop-again c = ?
+loop-again c =
+    let l = c .before .before .loop in (
+      length-set _ _ _ ∙ l .inv .0,
+      (
+        omega (arith, l .inv .1 .0),
+        (
+          simp length-set (omega arith),
+          copied-on _ (l .records) (l .at) (l .inv .1 .1 .1) (l .inv .1 .0) (omega arith),
+        ),
+      ),
+    )
 
 same-length : tie.Need-same-length Inv-loop μ-loop
 same-length c = search needs
 
 returns : tie.Need-returns Inv-loop μ-loop
-returns c = ?
+returns c =
+    let l = c .before .loop in
+    let s = c .before .before in
+    copied-all (s .args .records .now) (l .records) (s .pre) (l .inv .0 ∙ s .pre)
+    (λ j h. l .inv .1 .1 .1 j (omega (arith, h, l .inv .0, s .pre)))
 
 pub copy-first-spec : {M : Type 1} → statement M
 copy-first-spec =
