@@ -13,7 +13,7 @@ use native.Mathlib.Decide.{ℕ-discrete}
 use native.Mathlib.Omega.{arith}
 use lib.Dec.{eqb}
 use lib.ListN.{length, getD, take, drop, take-append-drop}
-use lib.Seq.{take-at}
+use lib.Seq.{length-take-le, take-at}
 use borrow.Author.Tests.{eq-eqb, ne-eqb, not-true, not-false}
 use Rattle.list_laws.specs.Rows.{rows}
 use Rattle.list_laws.proofs.BoolLaws.{and-left, and-right}
@@ -227,10 +227,10 @@ module _ (b : List ℕ) (x : Inputs) (k : ℕ) where
                 let N = no-load n (sym e) in
                 record { call = N .call; next-after = N .next-after; node-table-written = nodes; state-table-written = states }
 
-        pub cleared-load : r ≡ 0 → length p ≡ 983 → (b′ : List ℕ) → b′ ≡ rows 8 (λ i. take 983 (p ++ drop 983 b))
-            → ScreensLoadExported b x 0 b′ nt st k 0
+        pub cleared-load : r ≡ 0 → length p ≡ length (take 983 b) → (b′ : List ℕ)
+            → b′ ≡ rows 8 (λ i. take 983 (p ++ drop 983 b)) → ScreensLoadExported b x 0 b′ nt st k 0
         unfolding loadTarget answerOf bytesOf answerIn answerNumber
-        cleared-load z w b′ c = record {
+        cleared-load z same b′ c = record {
           call = record {
             number = sym (ap (λ (a : ScreenAnswer). answerNumber (answerIn a)) (answer-by b (loadAll x) l (everyScreen x) t));
             left = left ∙ sym (bytes-by b (loadAll x) l (everyScreen x) t);
@@ -245,6 +245,9 @@ module _ (b : List ℕ) (x : Inputs) (k : ℕ) where
           state-table-written = states;
         }
           where
+            w : length p ≡ 983
+            w = same ∙ length-take-le 983 b (omega (arith, l))
+
             L : Session
             L = sessionOf (loadedRecord (sizesIn x))
 

@@ -2,7 +2,7 @@
 -- Assumes nothing.
 use Prim.Native.Nat.{_-_, _≤_}
 use mathlib.Core.Path.{_≡_, refl, sym, _∙_}
-use lib.ListN.{length, length-set}
+use lib.ListN.{length, getD, length-set}
 use Rattle.capi_screens.proofs.CopyLaws.{Copied, copied-first, copied-on, copied-all}
 use native.Mathlib.Omega.{arith}
 use borrow.Author.Needs.{needs}
@@ -19,7 +19,7 @@ abbrev μ-loop : tie.MeasureT-loop
 μ-loop records₀ at₀ records at = length records - at
 
 loop-holds : tie.Need-loop-holds Inv-loop μ-loop
-loop-holds c = (refl, (omega arith, (omega (arith, c .pre), copied-first _)))
+loop-holds c = (refl, (omega arith, (omega (arith, c .pre), copied-first (c .args .records .now))))
 
 sub-records : tie.Need-sub-records Inv-loop μ-loop
 sub-records c = search needs
@@ -39,12 +39,12 @@ loop-less c = simp length-set (omega arith)
 loop-again : tie.Need-loop-again Inv-loop μ-loop
 loop-again c =
     let l = c .before .before .loop in (
-      length-set _ _ _ ∙ l .inv .0,
+      length-set (l .records) (l .at) (getD (l .records) (l .at - 983) 0) ∙ l .inv .0,
       (
         omega (arith, l .inv .1 .0),
         (
           simp length-set (omega arith),
-          copied-on _ (l .records) (l .at) (l .inv .1 .1 .1) (l .inv .1 .0) (omega arith),
+          copied-on (c .before .before .before .args .records .now) (l .records) (l .at) (l .inv .1 .1 .1) (l .inv .1 .0) (omega arith),
         ),
       ),
     )
