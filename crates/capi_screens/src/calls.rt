@@ -93,7 +93,14 @@ pub extern "C" fn whatif_screens_read(
         return 25;
     }
     let i = screen as usize;
-    whatif_read(&records[983 * i..983 * i + 983], state, yes, parts, links, passed)
+    whatif_read(
+        &records[983 * i..983 * i + 983],
+        state,
+        yes,
+        parts,
+        links,
+        passed,
+    )
 }
 
 // One past a screen, 0 past 7.
