@@ -28,8 +28,8 @@ use Rattle.capi_session.proofs.DecodedAnswersLaws.{decoded-advance}
 use Rattle.capi_screens.specs.RunLayout.{runLength, recordAt, runs}
 use Rattle.capi_screens.specs.ScreensExported.{targetIn, answerOf, answerAllFor, ScreensCallExported}
 use Rattle.capi_screens.specs.ScreensExported.{ScreensDealExported}
-use Rattle.capi_screens.proofs.ExportedLaws.{nobody-exported, answer-by, turn-exported, part, put, part-is, put-is}
-use Rattle.capi_screens.proofs.ExportedLaws.{part-length}
+use Rattle.capi_screens.proofs.ExportedLaws.{nobody-exported, answer-by, turn-exported, part, put, part-is}
+use Rattle.capi_screens.proofs.ExportedLaws.{put-is, part-length}
 
 -- ---- the number of an advance's answer: 0 exactly where it is accepted
 

@@ -1,6 +1,6 @@
 -- What the exports end in: the promise of a call on a run of eight records.
 --     not-run, nobody-exported        a refusal before any screen: 25, or the target's number
---     screen-exported, turn-exported  the one-record call on the bytes of one screen, which are written where they stood
+--     screen-exported, turn-exported  the one-record call on the bytes of one screen, written where they stood
 --     beyond, on-screen               the same by the numbers that the code has, of a call that names a screen
 -- Starts, Reads and deals, which tell values besides: StartReadLaws, DealLaws.
 -- Assumes nothing.

@@ -8,7 +8,8 @@ use mathlib.Core.List.{List}
 use lib.ListN.{length}
 use Rattle.model.specs.Calls.{Call, read, Answer, refused}
 use Rattle.screens.specs.ScreenCalls.{ScreenCall, readOn, ScreenAnswer, one, answerIn}
-use Rattle.capi_session.specs.SessionExported.{answerNumber, partsOf, StartExported, Places, answeredPlaces, ReadExported}
+use Rattle.capi_session.specs.SessionExported.{answerNumber, partsOf, StartExported, Places, answeredPlaces}
+use Rattle.capi_session.specs.SessionExported.{ReadExported}
 use Rattle.capi_screens.specs.RunLayout.{runLength}
 use Rattle.capi_screens.specs.ScreensExported.{answerAllFor, ScreensCallExported, ScreensStartExported}
 use Rattle.capi_screens.specs.ScreensExported.{ScreensReadExported}

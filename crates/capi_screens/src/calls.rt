@@ -12,8 +12,8 @@ ghost use Rattle.screens.specs.ScreenCalls.{onePast, found};
 ghost use Rattle.screens.specs.ScreenCalls as screens;
 ghost use Rattle.capi_session.specs.Stored.{places};
 ghost use Rattle.capi_screens.specs.RunLayout.{runLength, runs};
-ghost use Rattle.capi_screens.specs.ScreensExported.{ScreensCallExported, ScreensStartExported, ScreensDealExported};
-ghost use Rattle.capi_screens.specs.ScreensExported.{ScreensReadExported};
+ghost use Rattle.capi_screens.specs.ScreensExported.{ScreensCallExported, ScreensStartExported};
+ghost use Rattle.capi_screens.specs.ScreensExported.{ScreensDealExported, ScreensReadExported};
 
 // Cancel of one screen: its question is forgotten, its last finished answer kept.
 #[no_mangle]
@@ -93,7 +93,14 @@ pub extern "C" fn whatif_screens_read(
         return 25;
     }
     let i = screen as usize;
-    whatif_read(&records[983 * i..983 * i + 983], state, yes, parts, links, passed)
+    whatif_read(
+        &records[983 * i..983 * i + 983],
+        state,
+        yes,
+        parts,
+        links,
+        passed,
+    )
 }
 
 // One past a screen, 0 past 7.
@@ -140,7 +147,8 @@ pub extern "C" fn whatif_screens_deal(
         ScreensDealExported (now (records .entry))
         (screens.deal first
         (inputsOf (now (plan .entry)) (now (rules .entry)) (now («node_table» .entry)) (now («state_table» .entry))))
-        r (now (records .exit)) (now (next .entry)) (now (next .exit)) (now (finished .entry)) (now (finished .exit)) ⌝ }
+        r (now (records .exit)) (now (next .entry)) (now (next .exit))
+        (now (finished .entry)) (now (finished .exit)) ⌝ }
 {
     if records.len() != 7864 {
         return 25;

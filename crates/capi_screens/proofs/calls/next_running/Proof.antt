@@ -52,7 +52,8 @@ loop-again c =
       a .1,
       (
         omega arith,
-        rw (a .0) (found-on _ (l .left) (l .at) _ (omega arith) (l .inv .1 .1) (rests-here _ (l .at) (c .before .if1 .left))),
+        rw (a .0) (found-on _ (l .left) (l .at) _ (omega arith) (l .inv .1 .1)
+            (rests-here _ (l .at) (c .before .if1 .left))),
       ),
     )
 

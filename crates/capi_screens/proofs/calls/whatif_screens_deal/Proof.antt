@@ -72,7 +72,8 @@ returns-5 c =
     let v = c .before .before .before .before in
     let n = v .before .before .before .before in
     turn-taken _ _ _ (omega arith) (omega arith) _ (n .next-running .ensures) (omega arith) _ _
-    (c .before .before .before .records .given .0) _ _ (v .whatif-advance .ensures) _ _ (omega arith) (c .one-past .ensures .0)
+    (c .before .before .before .records .given .0) _ _ (v .whatif-advance .ensures) _ _ (omega arith)
+    (c .one-past .ensures .0)
 
 pub whatif-screens-deal-spec : {M : Type 1} → statement M
 whatif-screens-deal-spec =
