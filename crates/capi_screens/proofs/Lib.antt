@@ -7,3 +7,4 @@ pub mod LoadLaws
 pub mod HeldRun
 pub mod DecodedLaws
 pub mod ScreensTheorem
+pub mod ScreenTies
