@@ -6,11 +6,10 @@
 -- Assumes nothing.
 use Prim.Native.Nat.{ℕ, _+_, _-_, _*_, _<_, _≤_}
 use mathlib.Core.Path.{_≡_, refl, sym, _∙_, ap, subst}
-use mathlib.Core.Bool.{Bool, true, false, cond}
+use mathlib.Core.Bool.{true, false}
 use mathlib.Core.List.{List, _++_}
 use native.Mathlib.Nat.{add-zero}
 use native.Mathlib.Omega.{arith}
-use lib.Dec.{eqb}
 use lib.ListN.{length, getD, take, drop, take-append-drop}
 use borrow.Author.Tests.{eq-eqb, ne-eqb}
 use Rattle.list_laws.proofs.SliceLaws.{run-part, length-part}
@@ -48,35 +47,33 @@ same-record b i =
 
 -- ---- by target
 
-pub not-run : (b : List ℕ) (c : ScreenCall) → (length b ≡ runLength → ⊥) → ScreensCallExported b c 25 b
-unfolding answerAllFor bytesFor answerIn answerNumber
-not-run b c h =
-    let e : eqb (length b) runLength ≡ false = ne-eqb (length b) runLength h in record {
-      number =
-          sym (ap (λ (t : Bool). answerNumber (answerIn (cond t (answerOf b (targetIn b c)) (one (refused 25))))) e);
-      left = sym (ap (λ (t : Bool). cond t (bytesOf b (targetIn b c)) b) e);
-      unchanged = λ _. refl;
-      own = λ l. absurd (h l);
-      others = λ l. absurd (h l);
-    }
-
 pub not-run-answer : (b : List ℕ) (c : ScreenCall) → (length b ≡ runLength → ⊥)
     → answerAllFor b c ≡ one (refused 25)
 unfolding answerAllFor
-not-run-answer b c h =
-    ap (λ (t : Bool). cond t (answerOf b (targetIn b c)) (one (refused 25))) (ne-eqb (length b) runLength h)
+not-run-answer b c h = rw (ne-eqb (length b) runLength h)
+
+not-run-bytes : (b : List ℕ) (c : ScreenCall) → (length b ≡ runLength → ⊥) → bytesFor b c ≡ b
+unfolding bytesFor
+not-run-bytes b c h = rw (ne-eqb (length b) runLength h)
+
+pub not-run : (b : List ℕ) (c : ScreenCall) → (length b ≡ runLength → ⊥) → ScreensCallExported b c 25 b
+unfolding answerIn answerNumber
+not-run b c h = record {
+  number = sym (ap (λ (a : ScreenAnswer). answerNumber (answerIn a)) (not-run-answer b c h));
+  left = sym (not-run-bytes b c h);
+  unchanged = λ _. refl;
+  own = λ l. absurd (h l);
+  others = λ l. absurd (h l);
+}
 
 module _ (b : List ℕ) (c : ScreenCall) (l : length b ≡ runLength) where
   pub answer-by : (t : Target) → targetIn b c ≡ t → answerAllFor b c ≡ answerOf b t
   unfolding answerAllFor
-  answer-by t e =
-      ap (λ (u : Bool). cond u (answerOf b (targetIn b c)) (one (refused 25))) (eq-eqb (length b) runLength l)
-      ∙ ap (answerOf b) e
+  answer-by t e = rw (eq-eqb (length b) runLength l) (ap (answerOf b) e)
 
   pub bytes-by : (t : Target) → targetIn b c ≡ t → bytesFor b c ≡ bytesOf b t
   unfolding bytesFor
-  bytes-by t e = ap (λ (u : Bool). cond u (bytesOf b (targetIn b c)) b) (eq-eqb (length b) runLength l)
-      ∙ ap (bytesOf b) e
+  bytes-by t e = rw (eq-eqb (length b) runLength l) (ap (bytesOf b) e)
 
   pub nobody-exported : (n : ℕ) → targetIn b c ≡ nobody n → ScreensCallExported b c n b
   unfolding answerOf bytesOf answerIn answerNumber
