@@ -82,7 +82,8 @@ module _ (rs : List Record) (long : length rs ≡ 8) where
       go zero = refl
       go (suc n) = refl
 
-  pub decoded-start-on : (p i : ℕ) (x : Inputs) (vs bs : List ℕ) → StartDecoded p (actAll rs (startOn i x vs bs) .answer)
+  pub decoded-start-on : (p i : ℕ) (x : Inputs) (vs bs : List ℕ)
+      → StartDecoded p (actAll rs (startOn i x vs bs) .answer)
   unfolding target answerIn answerNumber decodedStart partsOf
   decoded-start-on p i x vs bs =
       by-target (StartDecoded p) (startOn i x vs bs)

@@ -155,7 +155,8 @@ module _ (b : List ℕ) (rs : List Record) (Z : HeldAll b rs) where
   loaded-held b′ x n h left own = record {
     long = ap length left ∙ row-length recordLength 8 (λ i. encoded (sessionOf L)) (λ i l. wide);
     records = refl;
-    each = λ i l. subst (λ (r : Record). Held (recordAt b′ i) r) (sym (getD-replicate 8 i L freshRecord l)) (one-loaded i l);
+    each = λ i l. subst (λ (r : Record). Held (recordAt b′ i) r) (sym (getD-replicate 8 i L freshRecord l))
+        (one-loaded i l);
   }
     where
       L : Record
@@ -179,7 +180,8 @@ module _ (b : List ℕ) (rs : List Record) (Z : HeldAll b rs) where
   left-of (screen i c) h b′ n left own kept = one-held b′ i n c h left own kept
   left-of (turn i x) h b′ n left own kept = one-held b′ i n (advance x) (h .0) left own kept
 
-  pub left-held : (c : ScreenCall) (b′ : List ℕ) (n : ℕ) → ScreensCallExported b c n b′ → HeldAll b′ (actAll rs c .records′)
+  pub left-held : (c : ScreenCall) (b′ : List ℕ) (n : ℕ) → ScreensCallExported b c n b′
+      → HeldAll b′ (actAll rs c .records′)
   unfolding bytesFor
   left-held c b′ n e =
       let t = target (eight.runs rs) c in

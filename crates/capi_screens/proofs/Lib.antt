@@ -3,6 +3,7 @@ pub mod ExportedLaws
 pub mod StartReadLaws
 pub mod DealLaws
 pub mod CopyLaws
+pub mod RestLaws
 pub mod LoadLaws
 pub mod LoadClears
 pub mod HeldRun

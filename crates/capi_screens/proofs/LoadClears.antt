@@ -35,7 +35,8 @@ module _ (b b′ : List ℕ) (x : Inputs) (r k₀ k₁ : ℕ) (nodeTable′ stat
   pub load-clears : r ≡ 0 → (k₁ ≡ 0) × (b′ ≡ rows 8 (λ i. encoded (sessionOf (loadedRecord (sizesIn x)))))
   unfolding targetIn target answerAllFor bytesFor loadTarget answerOf bytesOf answerIn answerNumber
   load-clears z =
-      go (eqb (length b) runLength) (firstNo (loadAllChecks (busy b) x)) (E .call .number) (E .next-after) (E .call .left)
+      go (eqb (length b) runLength) (firstNo (loadAllChecks (busy b) x)) (E .call .number) (E .next-after)
+      (E .call .left)
     where
       go : (t : Bool) (n : ℕ) → r ≡ answerNumber (answerIn (cond t (answerOf b (loadTarget n x)) (one (refused 25))))
           → k₁ ≡ numberAfter k₀ (cond t (answerOf b (loadTarget n x)) (one (refused 25)))

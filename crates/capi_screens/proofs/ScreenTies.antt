@@ -1,6 +1,6 @@
 -- What the contracts of the five exported calls of the screens claim, as the prover itself reads them off the sources
--- (`Reads.Post`), is what the theorem over lists of screen calls takes (`ScreensExports`). A contract that promises less
--- is refused here.
+-- (`Reads.Post`), is what the theorem over lists of screen calls takes (`ScreensExports`). A contract that promises
+-- less is refused here.
 --     load-tied, start-tied, cancel-tied, read-tied, deal-tied
 -- Assumes nothing.
 use contract.Lifetimes.{Lfts}

@@ -19,8 +19,8 @@ use Rattle.screens.proofs.Theorems.{screens-hold, screens-hold-of}
 use Rattle.records.specs.Layout.{recordLength}
 use Rattle.capi_session.proofs.ExportedRefines.{Held, fresh-held}
 use Rattle.capi_screens.specs.RunLayout.{runLength, recordAt}
-use Rattle.capi_screens.specs.DecodedScreens.{ScreensExports, loads-all, starts-on, cancels-on, reads-on, deals-one}
-use Rattle.capi_screens.specs.DecodedScreens.{freshRun}
+use Rattle.capi_screens.specs.DecodedScreens.{ScreensExports, loads-all, starts-on, cancels-on, reads-on}
+use Rattle.capi_screens.specs.DecodedScreens.{deals-one, freshRun}
 use Rattle.capi_screens.proofs.PartLaws.{part, part-room, part-length, part-at, part-stride}
 use Rattle.capi_screens.proofs.HeldRun.{HeldAll, told-is, left-held, read-held}
 use Rattle.capi_screens.proofs.DecodedLaws.{decoded-load-all, decoded-start-on, decoded-cancel-on}
@@ -96,4 +96,5 @@ fresh-run-held = record {
 }
 
 pub bytes-hold : Screens freshRun ScreensExports
-bytes-hold = screens-hold-of ScreensExports DoesAll HeldAll screens-refine freshRun eightFresh fresh-run-held screens-hold
+bytes-hold = screens-hold-of ScreensExports DoesAll HeldAll screens-refine freshRun eightFresh fresh-run-held
+    screens-hold

@@ -39,8 +39,8 @@ deal-serves = of-records.deal-serves
 
 -- ---- "Each screen has a panel book of its own, fed with the accepted Loads, its own calls and its turns as advances."
 -- "The screen to try first travels beside the records as a number: 0 after a Load, else one past the screen served, 0
--- past 7. A deal tells that number and what the advance tells." "A deal with no screen running gives 1." "A screen number
--- above 7, the one to try first included, .. gives 25, before everything else."
+-- past 7. A deal tells that number and what the advance tells." "A deal with no screen running gives 1." "A screen
+-- number above 7, the one to try first included, .. gives 25, before everything else."
 
 demand-3-on-structs : ScreensDemand3 eightSessions ScreenInPlace
 demand-3-on-structs = structs-hold .demand-3

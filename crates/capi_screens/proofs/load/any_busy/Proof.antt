@@ -5,7 +5,7 @@ use mathlib.Core.Path.{_≡_, refl, sym, _∙_}
 use Rattle.screens.specs.ScreenCalls.{anyRuns}
 use Rattle.screens.proofs.AnyLaws.{any-here, any-on, any-end}
 use Rattle.capi_screens.specs.RunLayout.{busy}
-use Rattle.capi_screens.proofs.LoadLaws.{busy-part}
+use Rattle.capi_screens.proofs.RestLaws.{busy-part}
 use native.Mathlib.Omega.{arith}
 use borrow.Author.Needs.{needs}
 use Rattle.capi_screens.proofs.load.any_busy.Statement.{statement}

@@ -44,7 +44,8 @@ loop-again c =
         omega (arith, l .inv .1 .0),
         (
           simp length-set (omega arith),
-          copied-on (c .before .before .before .args .records .now) (l .records) (l .at) (l .inv .1 .1 .1) (l .inv .1 .0) (omega arith),
+          copied-on (c .before .before .before .args .records .now) (l .records) (l .at) (l .inv .1 .1 .1)
+              (l .inv .1 .0) (omega arith),
         ),
       ),
     )

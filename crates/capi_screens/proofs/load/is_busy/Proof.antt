@@ -1,6 +1,6 @@
 -- `capi_screens::load::is_busy` meets its contract.
 -- Assumes nothing.
-use Rattle.capi_screens.proofs.LoadLaws.{not-valid, valid-runs, valid-some}
+use Rattle.capi_screens.proofs.RestLaws.{not-valid, valid-runs, valid-some}
 use native.Mathlib.Omega.{arith}
 use borrow.Author.Needs.{needs}
 use Rattle.capi_screens.proofs.load.is_busy.Statement.{statement}

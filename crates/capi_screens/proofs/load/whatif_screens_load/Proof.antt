@@ -30,8 +30,8 @@ slice-relend-prefix-whatif-load c = search needs
 
 slice-aggregate-whatif-load : tie.Need-slice-aggregate-whatif-load
 slice-aggregate-whatif-load c =
-    sym (length-take-le 983 (c .before .before .before .before .before .before .before .before .before .before .args .records .now)
-    (omega arith))
+    let s = c .before .before .before .before .before .before .before .before .before .before in
+    sym (length-take-le 983 (s .args .records .now) (omega arith))
 
 whatif-load-requires : tie.Need-whatif-load-requires
 whatif-load-requires c κs = search needs
@@ -49,8 +49,8 @@ returns-3 : tie.Need-returns-3
 returns-3 c =
     let w = c .before .before .before .before .before .before .before in
     let e = w .before .before .before .before in
-    refused-load _ _ _ (omega arith) (sym (e .before .any-busy .ensures) ∙ e .if2 .left) _ _ _ _ (w .whatif-load .ensures)
-    (c .if3 .taken)
+    refused-load _ _ _ (omega arith) (sym (e .before .any-busy .ensures) ∙ e .if2 .left) _ _ _ _
+    (w .whatif-load .ensures) (c .if3 .taken)
 
 copy-first-requires : tie.Need-copy-first-requires
 copy-first-requires c κs = search needs
@@ -71,8 +71,8 @@ returns-4 c =
     let r = i .before .before .before .before .before .before in
     let w = r .before in
     let e = w .before .before .before .before in
-    cleared-load _ _ _ (omega arith) (sym (e .before .any-busy .ensures) ∙ e .if2 .left) _ _ _ _ (w .whatif-load .ensures)
-    (i .if3 .left) (r .records .given .0) _ (f .copy-first .ensures)
+    cleared-load _ _ _ (omega arith) (sym (e .before .any-busy .ensures) ∙ e .if2 .left) _ _ _ _
+    (w .whatif-load .ensures) (i .if3 .left) (r .records .given .0) _ (f .copy-first .ensures)
 
 pub whatif-screens-load-spec : {M : Type 1} → statement M
 whatif-screens-load-spec =
