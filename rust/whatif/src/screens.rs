@@ -113,7 +113,15 @@ impl Screens {
         let mut parts = 0;
         let records = &mut self.records;
         accepted(slices::screens_start(
-            records, screen, plan, rules, node_table, state_table, nodes, labels, &mut parts,
+            records,
+            screen,
+            plan,
+            rules,
+            node_table,
+            state_table,
+            nodes,
+            labels,
+            &mut parts,
         ))?;
         Ok(parts)
     }
