@@ -193,11 +193,11 @@ impl World<'_> {
         let broken = random.below(SCREENS);
         let record = &mut run[RECORD_BYTES * broken..RECORD_BYTES * (broken + 1)];
         let mut other = damaged_records::altered(record, random);
+        other.resize(RECORD_BYTES, 0);
         if random.below(3) == 0 {
             // still running, as far as the state says
             other[1..].fill(random.byte());
         }
-        other.resize(RECORD_BYTES, 0);
         record.copy_from_slice(&other);
         let whole = Record::of(&other).is_some();
         let on_it = matches!(call, ScreenCall::Start(..) | ScreenCall::Cancel(_) | ScreenCall::Read(_))
