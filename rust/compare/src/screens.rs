@@ -1,6 +1,6 @@
-//! Eight screens at work: a run of records and the screen to try first, which pass from call to call, with the eight panel
-//! books beside them; for each screen a single record that is fed its own calls and turns alone; and who was served since
-//! each screen's last turn.
+//! Eight screens at work: a run of records and the screen to try first, which pass from call to call, with the eight
+//! panel books beside them; for each screen a single record that is fed its own calls and turns alone; and who was
+//! served since each screen's last turn.
 
 use crate::calls::same;
 use crate::panel::{self, Lent};
@@ -97,8 +97,8 @@ impl Lab {
         &self.since[screen]
     }
 
-    /// "Each screen .. fed with the accepted Loads, its own calls and its turns as advances": a single session's record is,
-    /// and is told the same, whatever the others do. After every call the run is these eight records.
+    /// "Each screen .. fed with the accepted Loads, its own calls and its turns as advances": a single session's
+    /// record is, and is told the same, whatever the others do. After every call the run is these eight records.
     fn project(&mut self, whose: Whose, call: &ScreenCall, answer: ScreenAnswer, random: &mut Random) {
         let own = match (whose, answer) {
             (Whose::All, ScreenAnswer::Loaded(_)) => 0..SCREENS,
@@ -137,8 +137,8 @@ impl Lab {
     }
 }
 
-/// A call by the library, compared with the reference implementation: the answer, every byte of the run, the tables that
-/// an accepted Load writes, and all else that is lent, which stays.
+/// A call by the library, compared with the reference implementation: the answer, every byte of the run, the tables
+/// that an accepted Load writes, and all else that is lent, which stays.
 pub fn compared(run: &[u8], call: &ScreenCall, random: &mut Random) -> Done {
     let done = reference::screens::call(run, call);
     let mut own = Margins::new(run, random.bytes(2 * MARGIN));

@@ -101,8 +101,8 @@ fn start(lab: &mut Lab, case: &Case, lent: &Lent, screen: u32, random: &mut Rand
     }
 }
 
-/// Whoever is named as 259 or 2^32 - 1 is not there; nor is the run of a byte more or less. Both before 1, and before all
-/// that is lent.
+/// Whoever is named as 259 or 2^32 - 1 is not there; nor is the run of a byte more or less. Both before 1, and before
+/// all that is lent.
 #[test]
 fn numbers_and_lengths() {
     let random = &mut Random::new(2304);
@@ -207,8 +207,8 @@ fn load_waits_and_clears() {
     }
 }
 
-/// Two histories with the same calls and turns of one screen, and others that start, cancel and are served beside it in one
-/// of them: the screen is told the same.
+/// Two histories with the same calls and turns of one screen, and others that start, cancel and are served beside it
+/// in one of them: the screen is told the same.
 #[test]
 fn isolation() {
     let random = &mut Random::new(2308);
@@ -247,8 +247,8 @@ fn isolation() {
     }
 }
 
-/// A broken record on one screen: only its own calls and Load are refused; a deal goes by its state, and at its turn gives
-/// 1, by which nobody is served.
+/// A broken record on one screen: only its own calls and Load are refused; a deal goes by its state, and at its turn
+/// gives 1, by which nobody is served.
 #[test]
 fn a_broken_record() {
     let random = &mut Random::new(2309);

@@ -67,8 +67,8 @@ pub enum Whose {
     Turn(usize),
 }
 
-/// "A screen number above 7, the one to try first included, or a run of another length, gives 25, before everything else."
-/// Then 1: "Load is refused while any screen runs", "A deal with no screen running gives 1".
+/// "A screen number above 7, the one to try first included, or a run of another length, gives 25, before everything
+/// else." Then 1: "Load is refused while any screen runs", "A deal with no screen running gives 1".
 pub fn whose(
     call: &ScreenCall,
     right_length: bool,
@@ -198,8 +198,8 @@ pub fn alone<'a>(call: &ScreenCall<'a>) -> Call<'a> {
     }
 }
 
-/// "Each screen has a panel book of its own, fed with the accepted Loads, its own calls and its turns as advances." They
-/// are fed the calls and what is lent, never the run.
+/// "Each screen has a panel book of its own, fed with the accepted Loads, its own calls and its turns as advances."
+/// They are fed the calls and what is lent, never the run.
 #[derive(Clone, Default)]
 pub struct Books {
     books: [Book; SCREENS],

@@ -1,5 +1,5 @@
-//! `whatif-text screens`: a script of the calls of eight screens, a line each, with what each tells. The screen to try first
-//! is handed on by itself.
+//! `whatif-text screens`: a script of the calls of eight screens, a line each, with what each tells. The screen to
+//! try first is handed on by itself.
 //!
 //! ```text
 //! load                # the plan and the rules of the input, for all eight

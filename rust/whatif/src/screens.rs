@@ -6,11 +6,11 @@ use crate::{accepted, slices, Answer, Lent, Progress, Refusal, Session, State};
 /// Eight screens, numbered 0 to 7: the run of their records, and the screen that the next deal tries first, which is
 /// handed on by itself. Plan, rule table and tables are lent with each call.
 ///
-/// `load` is for all eight, and refused while one of them runs. `start`, `cancel` and `read` name a screen and do with it
-/// what [`Session`]'s calls do. `deal` makes one advance for the next running screen after the one served last, going from
-/// 7 back to 0: a screen that stays running is served within eight accepted deals, and no other twice between two of its
-/// turns in one question. What a screen is told does not depend on the other seven. A screen above 7 is refused with
-/// [`Refusal::Screen`], before anything else.
+/// `load` is for all eight, and refused while one of them runs. `start`, `cancel` and `read` name a screen and do
+/// with it what [`Session`]'s calls do. `deal` makes one advance for the next running screen after the one served
+/// last, going from 7 back to 0: a screen that stays running is served within eight accepted deals, and no other
+/// twice between two of its turns in one question. What a screen is told does not depend on the other seven. A screen
+/// above 7 is refused with [`Refusal::Screen`], before anything else.
 ///
 /// ```
 /// use whatif::{Deal, Lent, Progress, Refusal, Screens, State};
@@ -95,8 +95,8 @@ impl Screens {
         self.first
     }
 
-    /// Writes the tables as [`build`](crate::build) does. All eight sessions are loaded then, as after a first Load, and
-    /// have no answer. Refused with 1, where a screen is running or a record is broken, then 2 to 11.
+    /// Writes the tables as [`build`](crate::build) does. All eight sessions are loaded then, as after a first Load,
+    /// and have no answer. Refused with 1, where a screen is running or a record is broken, then 2 to 11.
     pub fn load(
         &mut self,
         plan: &[u8],
@@ -107,7 +107,8 @@ impl Screens {
         accepted(slices::screens_load(&mut self.records, plan, rules, node_table, state_table, &mut self.first))
     }
 
-    /// Puts a question on a screen, as [`Session::start`] does. Refused with 25, then 1, 17, 12, 13, 14, 18 (in this order).
+    /// Puts a question on a screen, as [`Session::start`] does. Refused with 25, then 1, 17, 12, 13, 14, 18 (in this
+    /// order).
     pub fn start(&mut self, screen: u32, lent: &Lent<'_>, nodes: &[u16], labels: &[u8]) -> Result<u32, Refusal> {
         let Lent { plan, rules, node_table, state_table } = *lent;
         let mut parts = 0;
@@ -126,8 +127,8 @@ impl Screens {
         Ok(parts)
     }
 
-    /// One advance for the next running screen, as [`Session::advance`] makes it. Refused with 1 where no screen is running,
-    /// then 17, 18: that was the screen's turn, nobody else is served, and the next deal tries the same one.
+    /// One advance for the next running screen, as [`Session::advance`] makes it. Refused with 1 where no screen is
+    /// running, then 17, 18: that was the screen's turn, nobody else is served, and the next deal tries the same one.
     pub fn deal(&mut self, lent: &Lent<'_>) -> Result<Deal, Refusal> {
         let Lent { plan, rules, node_table, state_table } = *lent;
         let mut told = [0; 2];

@@ -1,7 +1,7 @@
-//! Whole lists of screen calls, as chance has them, from fresh runs: screens that start, cancel and read beside each other,
-//! deals with what was lent before, with other plans and with altered tables, Loads while screens run, screen numbers that
-//! there are not, numbers to try first that were not told, runs of other lengths and broken records. Every answer is held
-//! to the reference implementation, to eight books and to single sessions (`screens::Lab`).
+//! Whole lists of screen calls, as chance has them, from fresh runs: screens that start, cancel and read beside each
+//! other, deals with what was lent before, with other plans and with altered tables, Loads while screens run, screen
+//! numbers that there are not, numbers to try first that were not told, runs of other lengths and broken records.
+//! Every answer is held to the reference implementation, to eight books and to single sessions (`screens::Lab`).
 
 use super::call_lists::{name, plans};
 use super::damaged_records;
@@ -41,8 +41,8 @@ pub const NO_SCREENS: [u32; 10] = [8, 9, 255, 256, 259, 263, 65_536 + 2, (1 << 2
 pub const OTHER_LENGTHS: [usize; 8] =
     [0, 1, RECORD_BYTES, RUN_BYTES - RECORD_BYTES, RUN_BYTES - 1, RUN_BYTES + 1, RUN_BYTES + RECORD_BYTES, 8 * 975];
 
-/// What a lab has at hand: some plans with their tables; which of them the last Load was about, what is lent usually since
-/// then, and how many screens are in use.
+/// What a lab has at hand: some plans with their tables; which of them the last Load was about, what is lent usually
+/// since then, and how many screens are in use.
 struct World<'a> {
     at_hand: Vec<(Case, Lent)>,
     counts: &'a mut Counts,
@@ -173,8 +173,8 @@ impl World<'_> {
         }
     }
 
-    /// A call on an altered copy of the run: one of another length gets 25, and a broken record is only in the way of the
-    /// calls that look at it. The screens go on without.
+    /// A call on an altered copy of the run: one of another length gets 25, and a broken record is only in the way of
+    /// the calls that look at it. The screens go on without.
     fn on_a_broken_run(&mut self, random: &mut Random) {
         let mut run = self.lab.run.clone();
         let (at, lent) = self.lent(random);
