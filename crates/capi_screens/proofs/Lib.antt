@@ -1,0 +1,9 @@
+pub mod PartLaws
+pub mod ExportedLaws
+pub mod StartReadLaws
+pub mod DealLaws
+pub mod CopyLaws
+pub mod LoadLaws
+pub mod HeldRun
+pub mod DecodedLaws
+pub mod ScreensTheorem
