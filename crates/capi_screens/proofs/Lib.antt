@@ -4,6 +4,8 @@ pub mod StartReadLaws
 pub mod DealLaws
 pub mod CopyLaws
 pub mod LoadLaws
+pub mod LoadClears
 pub mod HeldRun
 pub mod DecodedLaws
 pub mod ScreensTheorem
+pub mod ScreenTies
