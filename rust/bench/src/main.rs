@@ -33,7 +33,8 @@ const USAGE: &str = "usage: bench                      the whole table, in some 
        bench plot FILE.svg        time of a Start, of all advances and of a fresh run over N
        bench calls SHAPE N S M    nothing but 20 calls of each kind; bench/instructions counts their instructions
        bench screens KIND SHAPE N S M
-                                  nothing but 20 times advance, deal, load or load-of-eight, KIND; for the same
+                                  nothing but 4 times all advances or all deals of eight questions, load or
+                                  load-of-eight, by KIND: advance, deal, ..; for the same
        bench in-place --seed S --count C
                                   nothing is measured: C cases of calls in place against the same calls on record bytes
        bench --help

@@ -37,15 +37,19 @@ fn lists(one: &One, m: usize, random: &mut Random) -> Lists {
     [0; SCREENS].map(|_| list(&one.case, m, random))
 }
 
-/// Eight screens, loaded and with a question each; and eight single sessions with the same.
-fn started(one: &One, lists: &Lists) -> (Screens, [Session; SCREENS]) {
+/// Eight screens, loaded and with a question each.
+fn started(one: &One, lists: &Lists) -> Screens {
     let mut screens = loaded(one);
-    let mut sessions = [0; SCREENS].map(|_| screens.session(0).expect("a screen"));
     for (screen, (nodes, labels)) in (0..).zip(lists) {
         screens.start(screen, &one.lent(), nodes, labels).expect("accepted");
-        sessions[screen as usize].start(&one.lent(), nodes, labels).expect("accepted");
     }
-    (screens, sessions)
+    screens
+}
+
+/// The same as single sessions.
+fn alone(screens: &Screens) -> [Session; SCREENS] {
+    let mut screen = 0..SCREENS as u32;
+    [0; SCREENS].map(|_| screens.session(screen.next().expect("eight")).expect("a screen"))
 }
 
 fn loaded(one: &One) -> Screens {
@@ -91,8 +95,9 @@ fn deal_times(shape: &str, n: usize, m: usize) -> Pair {
     let random = &mut Random::new(9);
     let one = plan(shape, n, 16, random);
     let rounds: Vec<_> = (0..ROUNDS).map(|_| started(&one, &lists(&one, m, random))).collect();
-    let deals = || rounds.iter().map(|(screens, _)| deal(&one, &mut screens.clone())).sum::<usize>();
-    let advances = || rounds.iter().map(|(_, sessions)| advance(&one, &mut sessions.clone())).sum::<usize>();
+    let deals = || rounds.iter().map(|screens| deal(&one, &mut screens.clone())).sum::<usize>();
+    let sessions: Vec<_> = rounds.iter().map(alone).collect();
+    let advances = || sessions.iter().map(|sessions| advance(&one, &mut sessions.clone())).sum::<usize>();
     let count = deals();
     assert_eq!(count, advances(), "as many deals as advances");
     by_turns(count, || assert_eq!(deals(), count), || assert_eq!(advances(), count))
@@ -125,12 +130,12 @@ pub fn calls(kind: &str, shape: &str, [n, s, m]: [usize; 3]) -> Option<()> {
     let random = &mut Random::new(4);
     let one = plan(shape, n, s, random);
     let (mut node_table, mut state_table) = (one.node_table.clone(), one.state_table.clone());
-    for _ in 0..20 {
+    for _ in 0..4 {
         match kind {
             "load" => load(&one, &mut node_table, &mut state_table),
             "load-of-eight" => load_of_eight(&one, &mut node_table, &mut state_table),
-            "advance" => assert!(advance(&one, &mut started(&one, &lists(&one, m, random)).1) > 0),
-            "deal" => assert!(deal(&one, &mut started(&one, &lists(&one, m, random)).0) > 0),
+            "advance" => assert!(advance(&one, &mut alone(&started(&one, &lists(&one, m, random)))) > 0),
+            "deal" => assert!(deal(&one, &mut started(&one, &lists(&one, m, random))) > 0),
             _ => return None,
         }
     }
