@@ -57,7 +57,7 @@ impl Lab {
         trace::say(told(call));
         let (next, whose) = (self.books.next(call), self.books.whose(call));
         let done = compared(&self.run, call, random);
-        let before = std::mem::replace(&mut self.books, Books::default());
+        let before = std::mem::take(&mut self.books);
         self.books = match next {
             Next::Settled(answer, books) => {
                 self.settled += 1;

@@ -200,9 +200,16 @@ pub fn alone<'a>(call: &ScreenCall<'a>) -> Call<'a> {
 
 /// "Each screen has a panel book of its own, fed with the accepted Loads, its own calls and its turns as advances."
 /// They are fed the calls and what is lent, never the run.
-#[derive(Clone, Default)]
+#[derive(Clone)]
 pub struct Books {
-    books: [Book; SCREENS],
+    /// Eight.
+    books: Vec<Book>,
+}
+
+impl Default for Books {
+    fn default() -> Books {
+        Books { books: vec![Book::default(); SCREENS] }
+    }
 }
 
 /// The books' reply to a call.
