@@ -61,7 +61,7 @@ fn the_page() {
     let help = String::from_utf8(program(&["--help"], "/dev/null", Stdio::piped()).stdout).expect("text");
     let verbs: Vec<&str> =
         help.lines().filter_map(|line| line.strip_prefix("  ")).filter(|l| !l.starts_with(' ')).collect();
-    assert_eq!(verbs.len(), 19, "{}", help);
+    assert_eq!(verbs.len(), 20, "{}", help);
     for verb in verbs {
         let verb = verb.split([' ', ',']).next().unwrap();
         assert!(page.contains(&format!("`{}", verb)), "{}", verb);
