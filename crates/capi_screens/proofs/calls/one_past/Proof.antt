@@ -8,9 +8,6 @@ use Rattle.capi_screens.proofs.calls.one_past.Tie as tie
 use Rattle.capi_screens.proofs.calls.one_past.Reads as reads
 use Rattle.capi_screens.proofs.calls.one_past.Lts as lts
 
-add-result : tie.Need-add-result
-add-result c = search needs
-
 returns : tie.Need-returns
 returns c = (simp (lt-ltb _ _ (c .if1 .taken)) (omega arith), omega arith)
 
@@ -18,4 +15,4 @@ returns-2 : tie.Need-returns-2
 returns-2 c = (simp (le-ltb _ _ (c .if1 .left)), omega arith)
 
 pub one-past-spec : {M : Type 1} → statement M
-one-past-spec = tie.close (tie.spec add-result returns returns-2)
+one-past-spec = tie.close (tie.spec (λ c. search needs) returns returns-2)

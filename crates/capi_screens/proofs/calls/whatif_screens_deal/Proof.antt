@@ -18,38 +18,8 @@ returns c = deal-refused _ _ _ _ _ (not-run _ _ (c .if1 .taken)) (not-run-answer
 returns-2 : tie.Need-returns-2
 returns-2 c = deal-beyond _ _ _ (omega arith) _ _ (c .if2 .taken)
 
-next-running-requires : tie.Need-next-running-requires
-next-running-requires c κs = search needs
-
-same-length : tie.Need-same-length
-same-length c = search needs
-
 returns-3 : tie.Need-returns-3
 returns-3 c = deal-none _ _ _ (omega arith) (omega arith) _ (c .before .next-running .ensures) _ _ (c .if3 .taken)
-
-mul-whatif-advance : tie.Need-mul-whatif-advance
-mul-whatif-advance c = search needs
-
-mul-whatif-advance-2 : tie.Need-mul-whatif-advance-2
-mul-whatif-advance-2 c = search needs
-
-add-whatif-advance : tie.Need-add-whatif-advance
-add-whatif-advance c = search needs
-
-sub-whatif-advance : tie.Need-sub-whatif-advance
-sub-whatif-advance c = search needs
-
-part-whatif-advance-start : tie.Need-part-whatif-advance-start
-part-whatif-advance-start c = search needs
-
-part-whatif-advance-end : tie.Need-part-whatif-advance-end
-part-whatif-advance-end c = search needs
-
-whatif-advance-requires : tie.Need-whatif-advance-requires
-whatif-advance-requires c κs = search needs
-
-same-length-2 : tie.Need-same-length-2
-same-length-2 c = search needs
 
 returns-4 : tie.Need-returns-4
 returns-4 c =
@@ -57,15 +27,6 @@ returns-4 c =
     let n = v .before .before .before .before in
     turn-refused _ _ _ (omega arith) (omega arith) _ (n .next-running .ensures) (omega arith) _ _
     (c .before .before .records .given .0) _ _ (v .whatif-advance .ensures) _ (λ z. omega (arith, z, c .if4 .taken))
-
-one-past-requires : tie.Need-one-past-requires
-one-past-requires c κs = search needs
-
-cast-next : tie.Need-cast-next
-cast-next c = search needs
-
-same-length-3 : tie.Need-same-length-3
-same-length-3 c = search needs
 
 returns-5 : tie.Need-returns-5
 returns-5 c =
@@ -78,22 +39,7 @@ returns-5 c =
 pub whatif-screens-deal-spec : {M : Type 1} → statement M
 whatif-screens-deal-spec =
     tie.close
-    (tie.spec
-    returns
-    returns-2
-    next-running-requires
-    same-length
-    returns-3
-    mul-whatif-advance
-    mul-whatif-advance-2
-    add-whatif-advance
-    sub-whatif-advance
-    part-whatif-advance-start
-    part-whatif-advance-end
-    whatif-advance-requires
-    same-length-2
-    returns-4
-    one-past-requires
-    cast-next
-    same-length-3
-    returns-5)
+    (tie.spec returns returns-2 (λ c κs. search needs) (λ c. search needs) returns-3 (λ c. search needs)
+    (λ c. search needs) (λ c. search needs) (λ c. search needs) (λ c. search needs) (λ c. search needs)
+    (λ c κs. search needs) (λ c. search needs) returns-4 (λ c κs. search needs) (λ c. search needs)
+    (λ c. search needs) returns-5)

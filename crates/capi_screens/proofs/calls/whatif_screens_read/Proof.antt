@@ -17,41 +17,11 @@ returns c = read-refused _ _ _ _ (not-run-answer _ _ (c .if1 .taken))
 returns-2 : tie.Need-returns-2
 returns-2 c = read-refused _ _ _ _ (beyond-answer _ _ _ read (names-read _ _) (omega arith) (c .if2 .taken))
 
-mul-whatif-read : tie.Need-mul-whatif-read
-mul-whatif-read c = search needs
-
-mul-whatif-read-2 : tie.Need-mul-whatif-read-2
-mul-whatif-read-2 c = search needs
-
-add-whatif-read : tie.Need-add-whatif-read
-add-whatif-read c = search needs
-
-sub-whatif-read : tie.Need-sub-whatif-read
-sub-whatif-read c = search needs
-
-part-whatif-read-start : tie.Need-part-whatif-read-start
-part-whatif-read-start c = search needs
-
-part-whatif-read-end : tie.Need-part-whatif-read-end
-part-whatif-read-end c = search needs
-
-whatif-read-requires : tie.Need-whatif-read-requires
-whatif-read-requires c κs = search needs
-
 returns-3 : tie.Need-returns-3
 returns-3 c = read-on _ _ (omega arith) (omega arith) _ _ _ (c .whatif-read .ensures)
 
 pub whatif-screens-read-spec : {M : Type 1} → statement M
 whatif-screens-read-spec =
     tie.close
-    (tie.spec
-    returns
-    returns-2
-    mul-whatif-read
-    mul-whatif-read-2
-    add-whatif-read
-    sub-whatif-read
-    part-whatif-read-start
-    part-whatif-read-end
-    whatif-read-requires
-    returns-3)
+    (tie.spec returns returns-2 (λ c. search needs) (λ c. search needs) (λ c. search needs) (λ c. search needs)
+    (λ c. search needs) (λ c. search needs) (λ c κs. search needs) returns-3)

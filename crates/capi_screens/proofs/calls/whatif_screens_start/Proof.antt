@@ -19,30 +19,6 @@ returns-2 c =
     start-refused _ _ _ _ (beyond _ _ _ _ n (omega arith) (c .if2 .taken))
     (beyond-answer _ _ _ _ n (omega arith) (c .if2 .taken))
 
-mul-whatif-start : tie.Need-mul-whatif-start
-mul-whatif-start c = search needs
-
-mul-whatif-start-2 : tie.Need-mul-whatif-start-2
-mul-whatif-start-2 c = search needs
-
-add-whatif-start : tie.Need-add-whatif-start
-add-whatif-start c = search needs
-
-sub-whatif-start : tie.Need-sub-whatif-start
-sub-whatif-start c = search needs
-
-part-whatif-start-start : tie.Need-part-whatif-start-start
-part-whatif-start-start c = search needs
-
-part-whatif-start-end : tie.Need-part-whatif-start-end
-part-whatif-start-end c = search needs
-
-whatif-start-requires : tie.Need-whatif-start-requires
-whatif-start-requires c κs = search needs
-
-same-length : tie.Need-same-length
-same-length c = search needs
-
 returns-3 : tie.Need-returns-3
 returns-3 c =
     start-on _ _ _ _ (names-start _ _ _ _ _) (omega arith) (omega arith) _ _ _ _ (c .before .records .given .0)
@@ -51,15 +27,5 @@ returns-3 c =
 pub whatif-screens-start-spec : {M : Type 1} → statement M
 whatif-screens-start-spec =
     tie.close
-    (tie.spec
-    returns
-    returns-2
-    mul-whatif-start
-    mul-whatif-start-2
-    add-whatif-start
-    sub-whatif-start
-    part-whatif-start-start
-    part-whatif-start-end
-    whatif-start-requires
-    same-length
-    returns-3)
+    (tie.spec returns returns-2 (λ c. search needs) (λ c. search needs) (λ c. search needs) (λ c. search needs)
+    (λ c. search needs) (λ c. search needs) (λ c κs. search needs) (λ c. search needs) returns-3)

@@ -23,39 +23,12 @@ abbrev μ-loop : tie.MeasureT-loop
 loop-holds : tie.Need-loop-holds Inv-loop μ-loop
 loop-holds c = (omega arith, refl)
 
-sub-at : tie.Need-sub-at Inv-loop μ-loop
-sub-at c = search needs
-
-mul-at : tie.Need-mul-at Inv-loop μ-loop
-mul-at c = search needs
-
-add-is-busy : tie.Need-add-is-busy Inv-loop μ-loop
-add-is-busy c = search needs
-
-sub-is-busy : tie.Need-sub-is-busy Inv-loop μ-loop
-sub-is-busy c = search needs
-
-part-is-busy-start : tie.Need-part-is-busy-start Inv-loop μ-loop
-part-is-busy-start c = search needs
-
-part-is-busy-end : tie.Need-part-is-busy-end Inv-loop μ-loop
-part-is-busy-end c = search needs
-
-is-busy-requires : tie.Need-is-busy-requires Inv-loop μ-loop
-is-busy-requires c κs = search needs
-
 returns : tie.Need-returns Inv-loop μ-loop
 returns c =
     let b = c .before .before .before .before .before .before .args .records .now in
     let l = c .before .before .before .before .loop in
     any-here (busy b) (l .left) (omega arith)
     (sym (busy-part b (983 * (l .left - 1)) _ (c .before .is-busy .ensures)) ∙ c .if1 .taken) (l .inv .1)
-
-sub-left : tie.Need-sub-left Inv-loop μ-loop
-sub-left c = search needs
-
-loop-less : tie.Need-loop-less Inv-loop μ-loop
-loop-less c = search needs
 
 loop-again : tie.Need-loop-again Inv-loop μ-loop
 loop-again c =
@@ -72,19 +45,6 @@ returns-2 c = any-end _ (c .before .loop .left) (omega arith) (c .before .loop .
 pub any-busy-spec : {M : Type 1} → statement M
 any-busy-spec =
     tie.close
-    (tie.spec
-    Inv-loop
-    μ-loop
-    loop-holds
-    sub-at
-    mul-at
-    add-is-busy
-    sub-is-busy
-    part-is-busy-start
-    part-is-busy-end
-    is-busy-requires
-    returns
-    sub-left
-    loop-less
-    loop-again
-    returns-2)
+    (tie.spec Inv-loop μ-loop loop-holds (λ c. search needs) (λ c. search needs) (λ c. search needs)
+    (λ c. search needs) (λ c. search needs) (λ c. search needs) (λ c κs. search needs) returns (λ c. search needs)
+    (λ c. search needs) loop-again returns-2)

@@ -9,9 +9,6 @@ use Rattle.capi_screens.proofs.load.is_busy.Reads as reads
 use Rattle.capi_screens.proofs.load.is_busy.Lts as lts
 use Rattle.records.proofs.bytes.valid_bytes.Reads as valid-bytes-reads
 
-valid-bytes-requires : tie.Need-valid-bytes-requires
-valid-bytes-requires c κs = search needs
-
 returns : tie.Need-returns
 returns c = not-valid _ _ (c .before .valid-bytes .ensures) (c .if1 .taken)
 
@@ -22,4 +19,4 @@ returns-2 : tie.Need-returns-2
 returns-2 c = valid-runs _ _ (c .before .before .valid-bytes .ensures) (c .before .if1 .left)
 
 pub is-busy-spec : {M : Type 1} → statement M
-is-busy-spec = tie.close (tie.spec valid-bytes-requires returns shared-slice-read-result returns-2)
+is-busy-spec = tie.close (tie.spec (λ c κs. search needs) returns shared-slice-read-result returns-2)

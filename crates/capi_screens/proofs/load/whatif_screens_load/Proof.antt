@@ -16,34 +16,13 @@ use Rattle.capi_session.proofs.calls.whatif_load.Reads as whatif-load-reads
 returns : tie.Need-returns
 returns c = no-run-load _ _ _ (c .if1 .taken)
 
-any-busy-requires : tie.Need-any-busy-requires
-any-busy-requires c κs = search needs
-
-same-length : tie.Need-same-length
-same-length c = search needs
-
 returns-2 : tie.Need-returns-2
 returns-2 c = busy-load _ _ _ (omega arith) (sym (c .before .any-busy .ensures) ∙ c .if2 .taken)
-
-slice-relend-prefix-whatif-load : tie.Need-slice-relend-prefix-whatif-load
-slice-relend-prefix-whatif-load c = search needs
 
 slice-aggregate-whatif-load : tie.Need-slice-aggregate-whatif-load
 slice-aggregate-whatif-load c =
     let s = c .before .before .before .before .before .before .before .before .before .before in
     sym (length-take-le 983 (s .args .records .now) (omega arith))
-
-whatif-load-requires : tie.Need-whatif-load-requires
-whatif-load-requires c κs = search needs
-
-same-length-2 : tie.Need-same-length-2
-same-length-2 c = search needs
-
-same-length-3 : tie.Need-same-length-3
-same-length-3 c = search needs
-
-same-length-4 : tie.Need-same-length-4
-same-length-4 c = search needs
 
 returns-3 : tie.Need-returns-3
 returns-3 c =
@@ -51,18 +30,6 @@ returns-3 c =
     let e = w .before .before .before .before in
     refused-load _ _ _ (omega arith) (sym (e .before .any-busy .ensures) ∙ e .if2 .left) _ _ _ _
     (w .whatif-load .ensures) (c .if3 .taken)
-
-copy-first-requires : tie.Need-copy-first-requires
-copy-first-requires c κs = search needs
-
-same-length-5 : tie.Need-same-length-5
-same-length-5 c = search needs
-
-same-length-6 : tie.Need-same-length-6
-same-length-6 c = search needs
-
-same-length-7 : tie.Need-same-length-7
-same-length-7 c = search needs
 
 returns-4 : tie.Need-returns-4
 returns-4 c =
@@ -77,20 +44,6 @@ returns-4 c =
 pub whatif-screens-load-spec : {M : Type 1} → statement M
 whatif-screens-load-spec =
     tie.close
-    (tie.spec
-    returns
-    any-busy-requires
-    same-length
-    returns-2
-    slice-relend-prefix-whatif-load
-    slice-aggregate-whatif-load
-    whatif-load-requires
-    same-length-2
-    same-length-3
-    same-length-4
-    returns-3
-    copy-first-requires
-    same-length-5
-    same-length-6
-    same-length-7
-    returns-4)
+    (tie.spec returns (λ c κs. search needs) (λ c. search needs) returns-2 (λ c. search needs)
+    slice-aggregate-whatif-load (λ c κs. search needs) (λ c. search needs) (λ c. search needs) (λ c. search needs)
+    returns-3 (λ c κs. search needs) (λ c. search needs) (λ c. search needs) (λ c. search needs) returns-4)
