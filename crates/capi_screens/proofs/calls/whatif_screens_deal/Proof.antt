@@ -56,7 +56,7 @@ returns-4 c =
     let v = c .before .before .before in
     let n = v .before .before .before .before in
     turn-refused _ _ _ (omega arith) (omega arith) _ (n .next-running .ensures) (omega arith) _ _
-    (c .before .before .records .given .0) _ _ (v .whatif-advance .ensures) _ (c .if4 .taken)
+    (c .before .before .records .given .0) _ _ (v .whatif-advance .ensures) _ (λ z. omega (arith, z, c .if4 .taken))
 
 one-past-requires : tie.Need-one-past-requires
 one-past-requires c κs = search needs
