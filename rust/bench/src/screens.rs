@@ -124,8 +124,8 @@ pub fn singles(wanted: &str, keep: &mut dyn FnMut(Single)) {
     }
 }
 
-/// Nothing but calls of one kind, and what must be before them: for bench/instructions. Two kinds can't be counted in one
-/// run, where one calls the other.
+/// Nothing but calls of one kind, and what must be before them: for bench/instructions. Two kinds can't be counted in
+/// one run, where one calls the other.
 pub fn calls(kind: &str, shape: &str, [n, s, m]: [usize; 3]) -> Option<()> {
     let random = &mut Random::new(4);
     let one = plan(shape, n, s, random);
