@@ -6,6 +6,7 @@ pub mod CopyLaws
 pub mod RestLaws
 pub mod LoadLaws
 pub mod LoadClears
+pub mod OwnBytes
 pub mod HeldRun
 pub mod DecodedLaws
 pub mod ScreensTheorem

@@ -4,6 +4,7 @@
 --     demand-3-.., references-..           one statement about every list of screen calls; a panel book for each screen
 --     isolation-.., since-load-..          what the others start or cancel makes no difference
 --     served-soon-.., turns-apart-.., between-turns-.., deal-taken-..    turns
+--     named-alone-on-bytes, deal-alone-on-bytes    on any bytes: what is told of a screen goes by its own
 --     load-waits-.., load-clears-..        Load
 --     refused-..                           a refused call alters nothing
 -- Where each word of a statement is defined: screens/specs; the two forms: deals/specs, capi_screens/specs.
@@ -12,11 +13,12 @@ use Prim.Native.Nat.{ℕ, _<_}
 use mathlib.Core.Path.{_≡_}
 use mathlib.Core.Bool.{true}
 use mathlib.Core.List.{List}
+use mathlib.Core.Option.{some}
 use lib.ListN.{length}
 use Rattle.list_laws.specs.Rows.{rows}
 use Rattle.formats.specs.Inputs.{Inputs, sizesIn}
 use Rattle.model.specs.Model.{loadedRecord}
-use Rattle.screens.specs.ScreenCalls.{ScreenCall, ScreenAnswer, refuses}
+use Rattle.screens.specs.ScreenCalls.{ScreenCall, startOn, cancelOn, readOn, deal, ScreenAnswer, refuses, nextRunning}
 use Rattle.screens.specs.EightReferences.{ScreensDemand3}
 use Rattle.screens.specs.Statements as say
 use Rattle.screens.proofs.Theorems as of-records
@@ -26,10 +28,11 @@ use Rattle.records.specs.Layout.{encoded}
 use Rattle.deals.specs.OnStructs.{ScreenDone}
 use Rattle.deals.specs.ScreensInPlace.{ScreenInPlace, eightSessions}
 use Rattle.deals.proofs.RunTheorem.{structs-hold}
-use Rattle.capi_screens.specs.RunLayout.{runLength, busy}
-use Rattle.capi_screens.specs.ScreensExported.{ScreensCallExported, ScreensLoadExported}
+use Rattle.capi_screens.specs.RunLayout.{runLength, recordAt, runs, busy}
+use Rattle.capi_screens.specs.ScreensExported.{answerAllFor, ScreensCallExported, ScreensLoadExported}
 use Rattle.capi_screens.specs.DecodedScreens.{ScreensExports, freshRun}
 use Rattle.capi_screens.proofs.LoadClears.{load-waits, load-clears}
+use Rattle.capi_screens.proofs.OwnBytes.{start-alone, cancel-alone, read-alone, deal-alone}
 use Rattle.capi_screens.proofs.ScreensTheorem.{bytes-hold}
 
 -- ---- "One deal gives one advance to the next running screen after the one served last, going from 7 back to 0."
@@ -72,6 +75,22 @@ since-load-on-structs = structs-hold .isolation-since-load
 
 since-load-on-bytes : say.IsolationSinceLoad freshRun ScreensExports
 since-load-on-bytes = bytes-hold .isolation-since-load
+
+-- on any two runs of 8 x 983 bytes, records that are none included: Start, Cancel and Read go by the named record
+-- alone, a deal by the eight states and the record that it serves
+named-alone-on-bytes : (b c : List ℕ) → length b ≡ runLength → length c ≡ runLength → (i : ℕ)
+    → recordAt b i ≡ recordAt c i
+    → ((x : Inputs) (vs bs : List ℕ) → answerAllFor b (startOn i x vs bs) ≡ answerAllFor c (startOn i x vs bs))
+    × ((answerAllFor b (cancelOn i) ≡ answerAllFor c (cancelOn i))
+    × (answerAllFor b (readOn i) ≡ answerAllFor c (readOn i)))
+named-alone-on-bytes b c l m i same =
+    (start-alone b c l m i same, (cancel-alone b c l m i same, read-alone b c l m i same))
+
+deal-alone-on-bytes : (b c : List ℕ) → length b ≡ runLength → length c ≡ runLength → (k : ℕ) (x : Inputs)
+    → ((i : ℕ) → i < 8 → runs b i ≡ runs c i)
+    → ((i : ℕ) → nextRunning (runs b) k ≡ some i → recordAt b i ≡ recordAt c i)
+    → answerAllFor b (deal k x) ≡ answerAllFor c (deal k x)
+deal-alone-on-bytes = deal-alone
 
 -- ---- "a screen that stays running is served within eight accepted deals", whatever is lent
 
