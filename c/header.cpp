@@ -48,6 +48,22 @@ static int with_a_session() {
     return out[0] == 9 && out[1] == 9 && out[2] == 9 && out[3] == 9 && out[4] == 9 ? 0 : 5;
 }
 
+// No run at all has another length than eight records.
+static int with_screens() {
+    uint32_t out[5] = {9, 9, 9, 9, 9};
+    uint32_t answers[] = {
+        whatif_screens_load(NULL, 0, NULL, 0, NULL, 0, NULL, 0, NULL, 0, out),
+        whatif_screens_start(NULL, 0, 0, NULL, 0, NULL, 0, NULL, 0, NULL, 0, NULL, 0, NULL, 0, out),
+        whatif_screens_deal(NULL, 0, 0, NULL, 0, NULL, 0, NULL, 0, NULL, 0, out, out + 1),
+        whatif_screens_cancel(NULL, 0, 0),
+        whatif_screens_read(NULL, 0, 0, out, out + 1, out + 2, out + 3, out + 4),
+    };
+    for (unsigned i = 0; i < sizeof answers / sizeof *answers; i++)
+        if (answers[i] != WHATIF_REFUSED_SCREEN)
+            return 13;
+    return out[0] == 9 && out[1] == 9 && out[2] == 9 && out[3] == 9 && out[4] == 9 ? 0 : 14;
+}
+
 int main() {
     if (whatif_version() != WHATIF_VERSION_NUMBER || whatif_session_state(NULL, 0) != WHATIF_NO_STATE)
         return 7;
@@ -55,5 +71,6 @@ int main() {
         if (!*whatif_answer_text(answer))
             return 6;
     int failed = without_a_session();
-    return failed ? failed : with_a_session();
+    failed = failed ? failed : with_a_session();
+    return failed ? failed : with_screens();
 }

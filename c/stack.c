@@ -17,6 +17,7 @@
 #define ROOM ((size_t)1 << 18)
 
 static uint8_t plan[WHATIF_PLAN_BYTES(N)], record[WHATIF_RECORD_BYTES];
+static uint8_t screens[WHATIF_SCREENS_BYTES];
 static uint8_t rules[WHATIF_RULES_BYTES(STATES, LABELS)], branch[WHATIF_BRANCH_BYTES(STATES, LABELS)];
 static uint16_t node_table[WHATIF_NODE_TABLE_LEN(N)], nodes[WHATIF_MAX_CHANGES];
 static uint8_t state_table[WHATIF_STATE_TABLE_LEN(N, STATES)], labels[WHATIF_MAX_CHANGES];
@@ -27,7 +28,7 @@ static uint16_t places[N / 2];
 static uint16_t over_nodes[WHATIF_MAX_CHANGES];
 static uint8_t over_labels[WHATIF_MAX_CHANGES];
 static uint64_t counts[WHATIF_MAX_STATES];
-static uint32_t answer, out[4];
+static uint32_t answer, out[5];
 static _Alignas(64) uint8_t stack[ROOM];
 
 #define RULES plan, sizeof plan, rules, sizeof rules
@@ -35,6 +36,7 @@ static _Alignas(64) uint8_t stack[ROOM];
 #define TABLES node_table, WHATIF_NODE_TABLE_LEN(N), state_table, sizeof state_table
 #define LIST nodes, WHATIF_MAX_CHANGES, labels, WHATIF_MAX_CHANGES
 #define RECORD record, sizeof record
+#define RUN screens, sizeof screens
 #define FOUR four, sizeof four
 #define SIXTEEN rules, sizeof rules
 
@@ -70,6 +72,15 @@ static void advance(void) {
         answer = whatif_advance(RECORD, RULES, TABLES, out);
     while (!answer && !out[0]);
 }
+static void load_all(void) { answer = whatif_screens_load(RUN, RULES, TABLES, out); }
+static void start_on(void) { answer = whatif_screens_start(RUN, 5, RULES, TABLES, LIST, out); }
+static void cancel_on(void) { answer = whatif_screens_cancel(RUN, 5); }
+static void read_on(void) { answer = whatif_screens_read(RUN, 5, out, out + 1, out + 2, out + 3, out + 4); }
+static void deal(void) {
+    do
+        answer = whatif_screens_deal(RUN, 0, RULES, TABLES, out, out + 1);
+    while (!answer && !out[1]);
+}
 
 /* In an order in which every call is accepted; the bytes that the header allows it. */
 static const struct call {
@@ -86,6 +97,12 @@ static const struct call {
     {"start", start, 7 * 1024},
     {"advance", advance, 4096},
     {"read", read_answer, 4096},
+    {"load of eight", load_all, 4096},
+    {"start on a screen", start_on, 7 * 1024},
+    {"cancel on a screen", cancel_on, 4096},
+    {"start on a screen", start_on, 7 * 1024},
+    {"deal", deal, 4096},
+    {"read on a screen", read_on, 4096},
     {"count", count, 35 * 1024},
     {"branch build", branch_build, 3072},
     {"branch check", branch_check, 3072},
@@ -154,6 +171,7 @@ static void make_inputs(int left) {
         planner[12 + N / 2 + v] = left ? v + 1 < N / 2 : v == 0 ? 2 : v % 2 == 1 && v + 2 < N / 2 ? 2 : 0;
     }
     memset(record, 0, sizeof record);
+    memset(screens, 0, sizeof screens);
 }
 
 int main(void) {

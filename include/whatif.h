@@ -2,8 +2,8 @@
  * whatif.h: the what-if checker for C and C++.
  *
  * Order: version, limits, sizes, answers; the functions for tables and fresh runs, for branch questions, for counts of
- * choices, for two rule tables, for the planner's files, and of the panel session; then what is written here alone: what
- * a record tells, the session's calls with what is lent as one struct, the answers' texts.
+ * choices, for two rule tables, for the planner's files, of the panel session, and of eight screens; then what is written
+ * here alone: what a record tells, the session's and the screens' calls with what is lent as one struct, the answers' texts.
  * The bytes of plans, tables and records are in LAYOUT.md, the order of the checks of each call in REFUSALS.md: both
  * stand in docs/ of the sources, and beside this file where it is installed.
  *
@@ -12,8 +12,8 @@
  * thread writes during the call.
  * Stack of a call, as measured on plans of 65,535 nodes and the largest tables: a fresh run at most 40 KiB, a count of
  * choices at most 35 KiB, agreement of two rule tables at most 12 KiB, a Start, which makes the full check, at most
- * 7 KiB, the full check of a rule table's tables at most 6 KiB, any other session call at most 4 KiB, a build or a branch
- * table's full check at most 3 KiB, any other at most 1 KiB.
+ * 7 KiB, the full check of a rule table's tables at most 6 KiB, any other call of the session or of the screens at most
+ * 4 KiB, a build or a branch table's full check at most 3 KiB, any other at most 1 KiB.
  *
  * What holds for every function:
  * - A slice is a pointer, then its count of elements (not bytes).
@@ -75,6 +75,9 @@ extern "C" {
  * one of another length is refused with 1. */
 #define WHATIF_RECORD_BYTES 983u
 #define WHATIF_RECORD_LAYOUT 3u
+/* Screens on one mill, and bytes of their run: so many records, one after the other. All zero is fresh. */
+#define WHATIF_SCREENS 8u
+#define WHATIF_SCREENS_BYTES (WHATIF_SCREENS * WHATIF_RECORD_BYTES)
 
 /* Answers. The numbers are fixed for good. */
 enum whatif_answer {
@@ -128,6 +131,8 @@ enum whatif_answer {
     WHATIF_REFUSED_LABEL_COUNTS = 23,
     /* The product of the two rule tables' counts of states is above 16. */
     WHATIF_REFUSED_STATE_PRODUCT = 24,
+    /* A screen's number or the one to try first is above 7, or the run is not as long as eight records. */
+    WHATIF_REFUSED_SCREEN = 25,
     /* There are more than 10^18 assignments of labels to the nodes listed. */
     WHATIF_REFUSED_ASSIGNMENTS = 26
 };
@@ -405,6 +410,83 @@ uint32_t whatif_cancel(uint8_t *record, size_t record_len);
 uint32_t whatif_read(const uint8_t *record, size_t record_len, uint32_t *state, uint32_t *yes, uint32_t *parts,
                      uint32_t *links, uint32_t *passed);
 
+/*
+ * Eight screens on one mill: up to eight questions that run at once on one plan, numbered 0 to 7. Their sessions are a run
+ * of eight records, WHATIF_SCREENS_BYTES bytes, which belongs to the caller like a record: it is all zero at first and is
+ * written by these functions alone. Load is made for all eight; Start, Cancel and Read name a screen; a deal makes one
+ * advance for the next running screen after the one that was served last, going from 7 back to 0.
+ *
+ * Beside the run travels a number, the screen to try first. whatif_screens_load and whatif_screens_deal tell it: 0 after a
+ * Load, else one past the screen served, 0 past 7. The next deal is handed it. Handed on so, a screen that stays running is
+ * served within eight accepted deals, and no other screen twice between two of its turns in one question, whatever is lent
+ * and whatever the others start or cancel. While plan, rules and tables are as Load left them, every deal with a screen
+ * running is accepted.
+ *
+ * No screen's answers depend on another's record: Start, Cancel and Read look at the named one alone, a deal at the eight
+ * state bytes and at the whole of the one that it serves. A screen's calls and turns are answered as those of a session of
+ * its own would be, with its turns as advances. A deal lends one plan to whoever is next: where that is not what its Start
+ * was lent, whatif_advance says what may happen.
+ *
+ * The single records of the run may also be lent to the session's calls, WHATIF_RECORD_BYTES bytes each.
+ */
+
+/*
+ * Load of all eight: begins with a plan, and writes its tables as whatif_build does.
+ * Lent:    the run, altered; the plan and the rule table, read; node_table and state_table, written.
+ * Written: both tables as by whatif_build; each of the eight records, exactly as after a first Load of that plan: no answer
+ *          is there; *next, 0.
+ * Answers: WHATIF_ACCEPTED, or the first of 25, 1, 2, 3, 4, 5, 6, 7, 8, 9, 10, 11. 1 is given where a screen is running
+ *          or one of the eight records is broken. Refused, the run, both buffers and *next are as they were.
+ */
+uint32_t whatif_screens_load(uint8_t *records, size_t records_len, const uint8_t *plan, size_t plan_len,
+                             const uint8_t *rules, size_t rules_len, uint16_t *node_table, size_t node_table_len,
+                             uint8_t *state_table, size_t state_table_len, uint32_t *next);
+
+/*
+ * Start on a screen: puts a question there, as whatif_start does.
+ * Lent:    the run, altered; screen, 0 to 7; all else as for whatif_start.
+ * Written: *parts, and the record of this screen, as by whatif_start. The other seven stay.
+ * Answers: WHATIF_ACCEPTED, or the first of 25, 1, 17, 12, 13, 14, 18, from 1 on as whatif_start gives them on this
+ *          screen's record. Refused, the run and *parts are as they were.
+ */
+uint32_t whatif_screens_start(uint8_t *records, size_t records_len, uint32_t screen, const uint8_t *plan,
+                              size_t plan_len, const uint8_t *rules, size_t rules_len, const uint16_t *node_table,
+                              size_t node_table_len, const uint8_t *state_table, size_t state_table_len,
+                              const uint16_t *nodes, size_t nodes_len, const uint8_t *labels, size_t labels_len,
+                              uint32_t *parts);
+
+/*
+ * Deal: one advance for the next running screen, from screen `first` on, going from 7 back to 0.
+ * Lent:    the run, altered; first, the screen to try first, 0 to 7, as the last accepted Load or deal told it; the plan,
+ *          the rule table and both tables, read, as for whatif_advance.
+ * Written: *next, one past the screen served, 0 past 7 (whatif_screens_served, below, has the screen); *finished and the
+ *          record of that screen, as by whatif_advance. The other seven stay.
+ * Answers: WHATIF_ACCEPTED, or the first of 25, 1, 17, 18. 1 is given where no screen is running, or the record of the
+ *          next one is broken: a record is running where its state byte says so. A deal refused with 17 or 18 was this
+ *          screen's turn, and no other is served by it. Refused, the run, *next and *finished are as they were: with the
+ *          same number the next deal tries the same screen again.
+ */
+uint32_t whatif_screens_deal(uint8_t *records, size_t records_len, uint32_t first, const uint8_t *plan, size_t plan_len,
+                             const uint8_t *rules, size_t rules_len, const uint16_t *node_table, size_t node_table_len,
+                             const uint8_t *state_table, size_t state_table_len, uint32_t *next, uint32_t *finished);
+
+/*
+ * Cancel on a screen: drops its question, as whatif_cancel does.
+ * Lent:    the run, altered; screen, 0 to 7.
+ * Written: the record of this screen, as by whatif_cancel. The other seven stay.
+ * Answers: WHATIF_ACCEPTED, or the first of 25, 1. Refused, the run is as it was.
+ */
+uint32_t whatif_screens_cancel(uint8_t *records, size_t records_len, uint32_t screen);
+
+/*
+ * Read on a screen: tells its last finished answer, in every state, as whatif_read does.
+ * Lent:    the run, read; screen, 0 to 7.
+ * Written: *state, *yes, *parts, *links and *passed, as by whatif_read.
+ * Answers: WHATIF_ACCEPTED, or the first of 25, 1. Refused, the five are as they were.
+ */
+uint32_t whatif_screens_read(const uint8_t *records, size_t records_len, uint32_t screen, uint32_t *state,
+                             uint32_t *yes, uint32_t *parts, uint32_t *links, uint32_t *passed);
+
 /* What a record tells. These read single bytes of it, as LAYOUT.md places them. Bytes of another length, or without a
  * state, have WHATIF_NO_STATE and no parts; nothing else is tested. So a refusal 1 means: the call may not be made in the
  * state that is told, or, of a Read, there is no answer yet; or there is no state; or, where the call may be made in it,
@@ -429,6 +511,30 @@ static inline uint32_t whatif_parts(const uint8_t *record, size_t record_len) {
 /* How many of them are handled. */
 static inline uint32_t whatif_parts_done(const uint8_t *record, size_t record_len) {
     return whatif_session_state(record, record_len) == WHATIF_NO_STATE ? 0u : (uint32_t)record[8];
+}
+
+/* The same of a screen of a run. A run of another length and a screen above 7 have WHATIF_NO_STATE and no parts. */
+static inline uint32_t whatif_screens_state(const uint8_t *records, size_t records_len, uint32_t screen) {
+    return records_len == WHATIF_SCREENS_BYTES && screen < WHATIF_SCREENS
+               ? whatif_session_state(records + WHATIF_RECORD_BYTES * screen, WHATIF_RECORD_BYTES)
+               : (uint32_t)WHATIF_NO_STATE;
+}
+
+static inline uint32_t whatif_screens_parts(const uint8_t *records, size_t records_len, uint32_t screen) {
+    return whatif_screens_state(records, records_len, screen) == WHATIF_NO_STATE
+               ? 0u
+               : whatif_parts(records + WHATIF_RECORD_BYTES * screen, WHATIF_RECORD_BYTES);
+}
+
+static inline uint32_t whatif_screens_parts_done(const uint8_t *records, size_t records_len, uint32_t screen) {
+    return whatif_screens_state(records, records_len, screen) == WHATIF_NO_STATE
+               ? 0u
+               : whatif_parts_done(records + WHATIF_RECORD_BYTES * screen, WHATIF_RECORD_BYTES);
+}
+
+/* The screen that a deal served, of the number that it told. */
+static inline uint32_t whatif_screens_served(uint32_t next) {
+    return (next + WHATIF_SCREENS - 1u) % WHATIF_SCREENS;
 }
 
 /* What is lent with each Start and advance, as one struct: members have names, so plan and rules are not exchanged. */
@@ -456,6 +562,23 @@ static inline uint32_t whatif_advance_lent(uint8_t *record, size_t record_len, c
                                            uint32_t *finished) {
     return whatif_advance(record, record_len, lent->plan, lent->plan_len, lent->rules, lent->rules_len,
                           lent->node_table, lent->node_table_len, lent->state_table, lent->state_table_len, finished);
+}
+
+/* whatif_screens_start with what is lent as one struct, and count nodes with as many labels. */
+static inline uint32_t whatif_screens_start_lent(uint8_t *records, size_t records_len, uint32_t screen,
+                                                 const struct whatif_lent *lent, const uint16_t *nodes,
+                                                 const uint8_t *labels, size_t count, uint32_t *parts) {
+    return whatif_screens_start(records, records_len, screen, lent->plan, lent->plan_len, lent->rules, lent->rules_len,
+                                lent->node_table, lent->node_table_len, lent->state_table, lent->state_table_len, nodes,
+                                count, labels, count, parts);
+}
+
+/* whatif_screens_deal with what is lent as one struct. */
+static inline uint32_t whatif_screens_deal_lent(uint8_t *records, size_t records_len, uint32_t first,
+                                                const struct whatif_lent *lent, uint32_t *next, uint32_t *finished) {
+    return whatif_screens_deal(records, records_len, first, lent->plan, lent->plan_len, lent->rules, lent->rules_len,
+                               lent->node_table, lent->node_table_len, lent->state_table, lent->state_table_len, next,
+                               finished);
 }
 
 /* The text of an answer, in one sentence: that of its comment above. */
@@ -511,6 +634,8 @@ static inline const char *whatif_answer_text(uint32_t answer) {
         return "The two rule tables do not have the same count of labels.";
     case WHATIF_REFUSED_STATE_PRODUCT:
         return "The product of the two rule tables' counts of states is above 16.";
+    case WHATIF_REFUSED_SCREEN:
+        return "A screen's number or the one to try first is above 7, or the run is not as long as eight records.";
     case WHATIF_REFUSED_ASSIGNMENTS:
         return "There are more than 10^18 assignments of labels to the nodes listed.";
     default:

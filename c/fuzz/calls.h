@@ -28,11 +28,16 @@ enum try {
     PLANNER_HOME,
     LAY_OVER,
     COUNT,
+    SCREEN,
+    SCREENS,
     TRIES
 };
 
 /* The steps of a list of calls, each a byte, then what it needs; any other byte is an advance too. */
 enum step { DO_LOAD, DO_START, DO_CANCEL, DO_READ, DO_ALTER, DO_ADVANCE };
+
+/* The calls of the eight screens, and the steps of a list of them; a deal with a number of its own; any other byte is a deal. */
+enum screen_step { ON_LOAD, ON_START, ON_CANCEL, ON_READ, ON_ALTER, ON_NUMBER, ON_DEAL };
 
 /* One exported call on whatever the input lends; the call's answer. tables.c */
 uint32_t try_build(struct input *in);
@@ -67,5 +72,9 @@ uint32_t try_lay_over(struct input *in);
 
 /* How many choices end in each state. choices.c */
 uint32_t try_count(struct input *in);
+
+/* One call of the eight screens, and a list of them from a fresh run on. screens.c */
+uint32_t try_screen(struct input *in);
+uint32_t try_screens(struct input *in);
 
 #endif

@@ -32,6 +32,15 @@ uint32_t __real_whatif_cancel(uint8_t *record, size_t record_len);
 uint32_t __real_whatif_read(const uint8_t *record, size_t record_len, uint32_t *state, uint32_t *yes, uint32_t *parts,
                             uint32_t *links, uint32_t *passed);
 
+uint32_t __real_whatif_screens_load(uint8_t *records, size_t records_len, PLAN_RULES, WRITTEN, uint32_t *next);
+uint32_t __real_whatif_screens_start(uint8_t *records, size_t records_len, uint32_t screen, PLAN_RULES, READ, LIST,
+                                     uint32_t *parts);
+uint32_t __real_whatif_screens_deal(uint8_t *records, size_t records_len, uint32_t first, PLAN_RULES, READ,
+                                    uint32_t *next, uint32_t *finished);
+uint32_t __real_whatif_screens_cancel(uint8_t *records, size_t records_len, uint32_t screen);
+uint32_t __real_whatif_screens_read(const uint8_t *records, size_t records_len, uint32_t screen, uint32_t *state,
+                                    uint32_t *yes, uint32_t *parts, uint32_t *links, uint32_t *passed);
+
 static int laid(int fault) {
     const char *chosen = getenv("FUZZ_FAULT");
     return chosen && atoi(chosen) == fault;
@@ -149,4 +158,49 @@ uint32_t __wrap_whatif_count(PLAN_RULES, READ, const uint16_t *listed, size_t li
     if (laid(24) && answer == 0 && counts_len > 1) /* a choice ends in another state */
         counts[0]++, counts[1]--;
     return answer;
+}
+
+uint32_t __wrap_whatif_screens_load(uint8_t *records, size_t records_len, PLAN_RULES, WRITTEN, uint32_t *next) {
+    static uint8_t was[WHATIF_SCREENS_BYTES];
+    int whole = records_len == WHATIF_SCREENS_BYTES;
+    if (whole)
+        memcpy(was, records, sizeof was);
+    uint32_t answer = __real_whatif_screens_load(records, records_len, ALL, next);
+    if (laid(28) && answer == 0) /* one record alone is cleared */
+        memcpy(records + WHATIF_RECORD_BYTES, was + WHATIF_RECORD_BYTES, sizeof was - WHATIF_RECORD_BYTES);
+    return answer;
+}
+
+uint32_t __wrap_whatif_screens_start(uint8_t *records, size_t records_len, uint32_t screen, PLAN_RULES, READ, LIST,
+                                     uint32_t *parts) {
+    uint32_t answer = __real_whatif_screens_start(records, records_len, screen, ALL, listed, listed_len, labels,
+                                                  labels_len, parts);
+    if (laid(29) && answer == 0) /* the record of another screen is written */
+        records[WHATIF_RECORD_BYTES * ((screen + 1) % WHATIF_SCREENS) + 966] ^= 1;
+    return answer;
+}
+
+uint32_t __wrap_whatif_screens_deal(uint8_t *records, size_t records_len, uint32_t first, PLAN_RULES, READ,
+                                    uint32_t *next, uint32_t *finished) {
+    if (laid(30)) /* screen 0 is tried first */
+        first = 0;
+    uint32_t answer = __real_whatif_screens_deal(records, records_len, first, ALL, next, finished);
+    if (laid(31) && answer == 0) /* the screen served is told */
+        *next = whatif_screens_served(*next);
+    if (laid(32) && answer == 18) /* a refused deal tells the next screen */
+        *next = (first + 1) % WHATIF_SCREENS;
+    return answer;
+}
+
+uint32_t __wrap_whatif_screens_cancel(uint8_t *records, size_t records_len, uint32_t screen) {
+    if (laid(33)) /* screens are cut to 8 bits */
+        screen &= 255;
+    return __real_whatif_screens_cancel(records, records_len, screen);
+}
+
+uint32_t __wrap_whatif_screens_read(const uint8_t *records, size_t records_len, uint32_t screen, uint32_t *state,
+                                    uint32_t *yes, uint32_t *parts, uint32_t *links, uint32_t *passed) {
+    if (laid(34) && records_len > WHATIF_SCREENS_BYTES) /* a longer run is taken */
+        records_len = WHATIF_SCREENS_BYTES;
+    return __real_whatif_screens_read(records, records_len, screen, state, yes, parts, links, passed);
 }

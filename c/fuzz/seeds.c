@@ -84,6 +84,8 @@ static const char *const folders[TRIES] = {
     [PLANNER_HOME] = "planner-of-plan",
     [LAY_OVER] = "lay-over",
     [COUNT] = "count",
+    [SCREEN] = "screen",
+    [SCREENS] = "screens",
 };
 
 /* A file in the folder of its call. */
@@ -347,6 +349,70 @@ static void counts(const struct plan *p) {
     count_of(p, "-18", BEFORE, 3, list, p->s);
 }
 
+static void screen_call(const char *name, const char *which, enum side side, enum screen_step call, uint32_t number) {
+    begin(SCREEN, name, which), put(side, 1), put(call == ON_DEAL ? 4 : call, 1), put(number, 4);
+}
+
+/* The five calls on a run of loaded, running or answered records; a number that is cut to one below 8, a run a byte
+ * short and a byte long, a record that is broken, and nobody who runs. */
+static void on_screens(const struct plan *p, const struct question *list) {
+    uint8_t loaded[WHATIF_RECORD_BYTES] = {0}, running[WHATIF_RECORD_BYTES], answered[WHATIF_RECORD_BYTES];
+    uint32_t parts, finished = 0;
+    size_t numbers_len = WHATIF_NODE_TABLE_LEN(p->n), bytes_len = WHATIF_STATE_TABLE_LEN(p->n, p->s);
+    must(whatif_load(loaded, sizeof loaded, PLAN(p), RULES(p), nodes, numbers_len, states, bytes_len) == 0);
+    memcpy(running, loaded, sizeof running);
+    must(whatif_start(running, sizeof running, PLAN(p), RULES(p), nodes, numbers_len, states, bytes_len, list->nodes,
+                      list->m, list->labels, list->m, &parts) == 0);
+    memcpy(answered, running, sizeof answered);
+    while (!finished)
+        must(whatif_advance(answered, sizeof answered, PLAN(p), RULES(p), nodes, numbers_len, states, bytes_len,
+                            &finished) == 0);
+#define RUN(length, on, record) put(length, 1), put(on, 1), bytes(record, sizeof record)
+    screen_call(p->name, "-load", BEFORE, ON_LOAD, 0), RUN(0, 0xff, answered), changes(list), plan_and_rules(p);
+    lengths(p, p->s), end();
+    screen_call(p->name, "-load-1", BEHIND, ON_LOAD, 0), RUN(0, 0x40, running), changes(list), plan_and_rules(p);
+    lengths(p, p->s), end();
+    screen_call(p->name, "-start", BEHIND, ON_START, 7), RUN(0, 0xff, loaded), changes(list), plan_and_rules(p);
+    tables(p, p->s), end();
+    screen_call(p->name, "-cancel", BEFORE, ON_CANCEL, 2), RUN(0, 0x3c, running), end();
+    screen_call(p->name, "-cancel-25", BEFORE, ON_CANCEL, 259), RUN(0, 0xff, running), end();
+    screen_call(p->name, "-read", BEHIND, ON_READ, 0), RUN(0, 0x01, answered), end();
+    screen_call(p->name, "-read-short", BEFORE, ON_READ, 0), RUN(1, 0x01, answered), end();
+    screen_call(p->name, "-read-long", BEFORE, ON_READ, 0), RUN(2, 0x01, answered), end();
+    screen_call(p->name, "-deal", BEFORE, ON_DEAL, 5), RUN(0, 0x0e, running), changes(list), plan_and_rules(p);
+    tables(p, p->s), end();
+    screen_call(p->name, "-deal-last", BEHIND, ON_DEAL, 7), RUN(0, 0x81, running), changes(list), plan_and_rules(p);
+    tables(p, p->s), end();
+    screen_call(p->name, "-deal-25", BEFORE, ON_DEAL, 8), RUN(0, 0xff, loaded), changes(list), plan_and_rules(p);
+    tables(p, p->s), end();
+    screen_call(p->name, "-deal-1", BEFORE, ON_DEAL, 3), RUN(0, 0xff, answered), changes(list), plan_and_rules(p);
+    tables(p, p->s), end();
+    running[1] = 2;
+    screen_call(p->name, "-deal-broken", BEFORE, ON_DEAL, 3), RUN(0, 0x18, running), changes(list), plan_and_rules(p);
+    tables(p, p->s), end();
+#undef RUN
+}
+
+static void on(enum screen_step which, uint32_t screen) { put(which, 1), put(screen, 4); }
+
+/* Load, three screens started, deals, one cancelled, a Load too early, two leaf states of the rules altered to one that
+ * is none and back, a number of its own, deals to the end, Reads, Load, Read. */
+static void screens_list(const struct plan *p, const struct question *list) {
+    begin(SCREENS, p->name, ""), put(BEFORE, 1), plan_and_rules(p);
+    put(ON_LOAD, 1), on(ON_START, 1), changes(list), on(ON_START, 6), changes(list), on(ON_START, 7), changes(list);
+    for (int i = 0; i < 4; i++)
+        put(ON_DEAL, 1);
+    on(ON_CANCEL, 6), put(ON_LOAD, 1), on(ON_READ, 1), on(ON_START, 256), changes(list);
+    for (int i = 0; i < 4; i++)
+        put(ON_ALTER, 1), put(1, 1), put((uint32_t)(20 + i % 2), 2), put(i < 2 ? 99 : p->rules[20 + i % 2], 1),
+            put(ON_DEAL, 1);
+    on(ON_NUMBER, 3), on(ON_NUMBER, 8), on(ON_START, 0), changes(list);
+    for (int i = 0; i < 30; i++)
+        put(ON_DEAL, 1);
+    on(ON_READ, 0), on(ON_READ, 1), on(ON_READ, 7), on(ON_READ, 6), put(ON_LOAD, 1), on(ON_READ, 0);
+    on(ON_START, 3), changes(list), end();
+}
+
 int main(int argc, char **argv) {
     must(argc == 2);
     folder = argv[1];
@@ -364,6 +430,8 @@ int main(int argc, char **argv) {
     planner_files("nine", (const uint8_t[]){5, 6, 8, 7, 0, 62, 1, 1, 9}, (const uint8_t[]){3, 1, 0, 0, 2, 1, 1, 0, 0}, 9);
     lists_over();
     counts(&sample), counts(&comb);
+    on_screens(&sample, &questions[1]), screens_list(&sample, &questions[3]);
+    on_screens(&comb, &far), screens_list(&comb, &far);
     on_tables(&comb), on_records(&comb, &far), panel(&comb, &far), question(&comb, &far, "");
     for (size_t i = 0; i < QUESTIONS; i++) {
         char which[] = {'-', (char)('1' + i), 0};

@@ -12,6 +12,11 @@ struct session {
     struct lent record, plan, rules, nodes, states;
 };
 
+/* A fresh session with the plan and the rules of the input, and tables of the length that these name. walks.c */
+struct session fresh(struct input *in);
+/* One byte of what is lent becomes another; never the record, which nobody else writes. walks.c */
+void alter(struct session *s, struct input *in);
+
 /* What Read tells. */
 struct answer {
     uint32_t state, yes, parts, links, passed;

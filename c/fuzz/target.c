@@ -40,6 +40,8 @@ static const struct {
     [PLANNER_HOME] = {"whatif_planner_of_plan", try_planner_of_plan, 1u | FROM(19, 19) | FROM(21, 21)},
     [LAY_OVER] = {"whatif_lay_over", try_lay_over, 1u | FROM(11, 12) | FROM(22, 22)},
     [COUNT] = {"whatif_count", try_count, 1u | FROM(11, 13) | FROM(15, 15) | FROM(17, 18) | FROM(26, 26)},
+    [SCREEN] = {"a screen's call", try_screen, FROM(0, 14) | FROM(17, 18) | FROM(25, 25)},
+    [SCREENS] = {"a list of screen calls", try_screens, FROM(0, 14) | FROM(17, 18) | FROM(25, 25)},
 };
 
 #define MOST 27 /* the greatest number of a refusal */

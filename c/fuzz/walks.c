@@ -14,8 +14,7 @@ struct walk {
     struct answer last;
 };
 
-/* A fresh session with the plan and the rules of the input, and tables of the length that these name. */
-static struct session fresh(struct input *in) {
+struct session fresh(struct input *in) {
     struct lent plan = lend(in, 1), rules = lend(in, 1);
     size_t n = named(&plan, 0), s = named(&rules, 0), most = plan.count;
     n = n < most ? n : most;
@@ -73,8 +72,7 @@ uint32_t try_question(struct input *in) {
     return answer;
 }
 
-/* One byte of what is lent becomes another; never the record, which nobody else writes. */
-static void alter(struct session *s, struct input *in) {
+void alter(struct session *s, struct input *in) {
     struct lent *lends[] = {&s->plan, &s->rules, &s->nodes, &s->states};
     struct lent *one = lends[take(in, 1) % 4];
     size_t bytes = one->count * one->width, at = take(in, 2);

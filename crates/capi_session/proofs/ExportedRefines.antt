@@ -3,6 +3,8 @@
 --     step-is            a call on the bytes of a struct
 --     exports-is         the same of an exported function, its number and values decoded (DecodedAnswers)
 --     exported-refines   each call on bytes refines the session's call
+--     held-answer        the answer of a call on the bytes of a record is the model's
+--     held-after         and its bytes after the call are those of the model's record
 --     fresh-held         983 zeros are the fresh record
 --     record-stays       every record that a call leaves is one again
 -- Assumes nothing.
@@ -27,11 +29,11 @@ use Rattle.session.specs.Records.{recordOf, sessionOf, valid, freshSession}
 use Rattle.session.specs.Promises.{answerOn, recordOn}
 use Rattle.session.specs.inner.Shapes.{Shaped}
 use Rattle.session.proofs.Holds.{struct-is}
-use Rattle.session.proofs.Refine.{Seen, fresh-seen, read-keeps, call-refines}
+use Rattle.session.proofs.Refine.{Seen, fresh-seen, seen-answer, read-keeps, call-refines}
 use Rattle.records.specs.Layout.{encoded, decoded, laidOut, validBytes, InTypes, Bytes}
 use Rattle.records.proofs.Theorems.{decode-encode, encode-decode, encoded-valid, decoded-valid, decoded-types, fresh-bytes}
 use Rattle.records.proofs.ValidTypes.{valid-types}
-use Rattle.capi_session.specs.SessionExported.{answerFor, answerNumber, unlessRefused, recordFor, partsOf, finishedOf, answeredPlaces}
+use Rattle.capi_session.specs.SessionExported.{answerFor, answerNumber, unlessRefused, recordFor, CallExported, partsOf, finishedOf, answeredPlaces}
 use Rattle.capi_session.specs.DecodedAnswers.{decodedDone, decodedStart, decodedAdvance, decodedRead, Exports, loads, starts, advances, cancels, reads}
 use Rattle.capi_session.proofs.SessionExportedLaws.{laid-length}
 use Rattle.capi_session.proofs.DecodedAnswersLaws.{decoded-load, decoded-start, decoded-advance, decoded-cancel, decoded-read}
@@ -187,6 +189,22 @@ module _ (s : Session) (r : Record) (i : Seen s r) where
 pub exported-refines : Refines Exports Does Held
 exported-refines b b′ r c a h e =
     step-is (h .struct) r (h .seen) c a b′ (exports-is (h .struct) r (h .seen) c a b b′ (h .bytes) e)
+
+pub held-answer : (b : List ℕ) (r : Record) → Held b r → (c : Call) → answerFor b c ≡ act r c .answer
+held-answer b r h c =
+    ap (λ (t : List ℕ). answerFor t c) (h .bytes) ∙ answer-is (h .struct) r (h .seen) c
+    ∙ seen-answer (h .struct) r (h .seen) c
+
+pub held-after : (b b′ : List ℕ) (r : Record) → Held b r → (c : Call) (n : ℕ) → CallExported b c n b′
+    → Held b′ (act r c .record′)
+held-after b b′ r h c n e =
+    let k = step-is (h .struct) r (h .seen) c (answerFor (encoded (h .struct)) c) b′
+    (record {
+      tells = refl;
+      leaves = e .left ∙ ap (λ (t : List ℕ). recordFor t c) (h .bytes);
+      stays = subst (λ (t : List ℕ). Stays (h .struct) r (h .seen) c t) (h .bytes) (e .stays);
+    }) in
+    subst (λ (t : Record). Held b′ t) (k .1 .leaves) (k .2)
 
 pub fresh-held : Held (replicate 983 0) freshRecord
 fresh-held = record { struct = freshSession; bytes = sym fresh-bytes; seen = fresh-seen }

@@ -1,17 +1,15 @@
--- The search for a screen that may not be loaded, as the loop of any_busy goes through it.
+-- Whether a screen may not be loaded, as the code asks it.
 --     busy-broken, busy-valid    one struct: it is no record, or it is one and its state tells
 --     at-any, busy-at            an element of the run
---     any-here, any-on, any-end  the eight, from the last down
 -- Assumes nothing.
-use Prim.Native.Nat.{ℕ, zero, suc, _-_, _<_, _≤_}
-use mathlib.Core.Path.{_≡_, refl, sym, _∙_, ap, subst}
+use Prim.Native.Nat.{ℕ, zero, suc, _<_}
+use mathlib.Core.Path.{_≡_, refl, sym, _∙_, ap}
 use mathlib.Core.Bool.{Bool, true, false, not, _||_}
 use mathlib.Core.List.{List, [], _∷_}
 use native.Mathlib.Omega.{arith}
 use lib.ListN.{length, getD}
 use borrow.Author.Tests.{not-true, not-false}
 use Rattle.model.specs.Calls.{isRunning}
-use Rattle.screens.specs.ScreenCalls.{Running, anyRuns}
 use Rattle.session.specs.declared.state.Session.{Session}
 use Rattle.session.specs.Records.{phaseOf, valid}
 use Rattle.deals.specs.OnStructs.{at, isBusy, busy}
@@ -33,25 +31,3 @@ at-any (s ∷ ss) (suc i) d h = at-any ss i d (let z : suc i < suc (length ss) =
 
 pub busy-at : (ss : List Session) (i : ℕ) (d : Session) → length ss ≡ 8 → i < 8 → busy ss i ≡ isBusy (getD ss i d)
 busy-at ss i d l h = ap isBusy (sym (at-any ss i d (omega arith)))
-
--- ---- eight of them
-
-pub any-here : (run : Running) (left : ℕ) → 0 < left → run (left - 1) ≡ true → anyRuns 8 run ≡ anyRuns left run
-    → true ≡ anyRuns 8 run
-unfolding anyRuns
-any-here run zero h e q = absurd (let z : 1 ≤ 0 = h in omega arith)
-any-here run (suc n) h e q =
-    let z : suc n - 1 ≡ n = omega arith in
-    sym (q ∙ ap (λ (b : Bool). b || anyRuns n run) (ap run (sym z) ∙ e))
-
-pub any-on : (run : Running) (left : ℕ) → 0 < left → run (left - 1) ≡ false → anyRuns 8 run ≡ anyRuns left run
-    → anyRuns 8 run ≡ anyRuns (left - 1) run
-unfolding anyRuns
-any-on run zero h e q = absurd (let z : 1 ≤ 0 = h in omega arith)
-any-on run (suc n) h e q =
-    let z : suc n - 1 ≡ n = omega arith in
-    q ∙ ap (λ (b : Bool). b || anyRuns n run) (ap run (sym z) ∙ e) ∙ ap (λ (m : ℕ). anyRuns m run) (sym z)
-
-pub any-end : (run : Running) (left : ℕ) → left ≡ 0 → anyRuns 8 run ≡ anyRuns left run → false ≡ anyRuns 8 run
-unfolding anyRuns
-any-end run left z q = sym (q ∙ ap (λ (m : ℕ). anyRuns m run) z)

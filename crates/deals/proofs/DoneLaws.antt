@@ -8,27 +8,27 @@ use Prim.Native.Nat.{ℕ, zero, suc, _<_, _≤_}
 use mathlib.Core.Path.{_≡_, refl, sym, _∙_, ap, subst}
 use mathlib.Core.Bool.{Bool, true, false, cond}
 use mathlib.Core.List.{List, [], _∷_}
-use mathlib.Core.Option.{Option, none, some}
 use native.Mathlib.Omega.{arith}
-use lib.Dec.{ltb, eqb}
+use lib.Dec.{eqb}
 use lib.ListN.{length, set}
 use lib.Seq.{getD-set-same, getD-set-other}
-use borrow.Author.Tests.{lt-ltb, le-ltb, eq-eqb, ne-eqb}
+use borrow.Author.Tests.{eq-eqb, ne-eqb}
 use Rattle.list_laws.proofs.BoolLaws.{true-false}
 use Rattle.formats.specs.Inputs.{Inputs}
 use Rattle.model.specs.Calls.{Call, start, cancel, read, advance, Answer, refused, isRefused}
 use Rattle.screens.specs.ScreenCalls.{ScreenCall, startOn, cancelOn, readOn, deal, ScreenAnswer, one, deals, answerIn}
 use Rattle.screens.specs.ScreenCalls.{refuses, Target, nobody}
-use Rattle.screens.specs.ScreenCalls.{screen, turn, nextRunningIn, nextRunning, dealTarget, numbered, target}
-use Rattle.screens.specs.ScreenCalls.{turnAnswer}
+use Rattle.screens.specs.ScreenCalls.{screen, turn, nextRunning, dealTarget, numbered, target}
+use Rattle.screens.specs.ScreenCalls.{found, Another, turnAnswer}
 use Rattle.screens.proofs.RecordLaws.{refused-is}
-use Rattle.screens.proofs.TargetLaws.{next-runs}
+use Rattle.screens.proofs.TargetLaws.{number-in, number-out}
+use Rattle.screens.proofs.FoundLaws.{found-none, found-turn}
 use Rattle.screens.proofs.EightLaws.{answer-turn}
 use Rattle.session.specs.declared.state.Session.{Session}
 use Rattle.session.specs.Records.{freshSession}
 use Rattle.session.specs.Promises.{CallDone, answerOn, recordOn}
-use Rattle.deals.specs.OnStructs.{at, runs, runsIn, orEight, found, targetIn, answerOf, structsOf, answerAll}
-use Rattle.deals.specs.OnStructs.{structsAll, OwnDone, Another}
+use Rattle.deals.specs.OnStructs.{at, runs, runsIn, targetIn, answerOf, structsOf, answerAll}
+use Rattle.deals.specs.OnStructs.{structsAll, OwnDone}
 use Rattle.deals.specs.OnStructs.{ScreenDone}
 use Rattle.deals.proofs.FoundLaws.{phases, found-phases}
 
@@ -130,14 +130,6 @@ names-read : (ss : List Session) (i : ℕ) → Names ss (readOn i) i read
 unfolding targetIn target
 names-read ss i = refl
 
-number-in : (i : ℕ) (t : Target) → i < 8 → numbered i t ≡ t
-unfolding numbered
-number-in i t h = ap (λ (b : Bool). cond b t (nobody 25)) (lt-ltb i 8 h)
-
-number-out : (i : ℕ) (t : Target) → 7 < i → numbered i t ≡ nobody 25
-unfolding numbered
-number-out i t h = ap (λ (b : Bool). cond b t (nobody 25)) (le-ltb i 8 h)
-
 pub beyond-screen : (ss : List Session) (c : ScreenCall) (i : ℕ) (d : Call) → Names ss c i d → length ss ≡ 8 → 7 < i
     → ScreenDone ss c (one (refused 25)) ss
 beyond-screen ss c i d e l h = nobody-done ss c l 25 (e ∙ number-out i (screen i d) h)
@@ -155,39 +147,24 @@ pub beyond-deal : (ss : List Session) (k : ℕ) (x : Inputs) → length ss ≡ 8
 unfolding targetIn target
 beyond-deal ss k x l h = nobody-done ss (deal k x) l 25 (number-out k (dealTarget (nextRunning (runs ss) k) x) h)
 
-deal-to : (ss : List Session) (k : ℕ) (x : Inputs) (o : Option ℕ) → k < 8 → nextRunningIn 8 (runs ss) k ≡ o
-    → targetIn ss (deal k x) ≡ dealTarget o x
-unfolding targetIn target nextRunning
-deal-to ss k x o h e = number-in k (dealTarget (nextRunningIn 8 (runs ss) k) x) h
-    ∙ ap (λ (p : Option ℕ). dealTarget p x) e
-
-found-is : (ss : List Session) (k f : ℕ) → k ≤ 7 → f ≡ found (runsIn (phases ss)) k
-    → f ≡ orEight (nextRunningIn 8 (runs ss) k)
+found-is : (ss : List Session) (k f : ℕ) → k ≤ 7 → f ≡ found (runsIn (phases ss)) k → f ≡ found (runs ss) k
 found-is ss k f h e = e ∙ found-phases ss k (omega arith)
 
 pub deal-none : (ss : List Session) (k f : ℕ) (x : Inputs) → length ss ≡ 8 → k ≤ 7 → f ≡ found (runsIn (phases ss)) k
     → 7 < f
     → ScreenDone ss (deal k x) (one (refused 1)) ss
-unfolding orEight dealTarget
-deal-none ss k f x l h e big = go (nextRunningIn 8 (runs ss) k) refl (found-is ss k f h e)
-  where
-    go : (o : Option ℕ) → nextRunningIn 8 (runs ss) k ≡ o → f ≡ orEight o
-        → ScreenDone ss (deal k x) (one (refused 1)) ss
-    go none q z = nobody-done ss (deal k x) l 1 (deal-to ss k x none (omega arith) q)
-    go (some i) q z = absurd (omega (arith, next-runs 8 (runs ss) k i (omega arith) q .0, z, big))
+unfolding targetIn
+deal-none ss k f x l h e big =
+    nobody-done ss (deal k x) l 1 (found-none (runs ss) k f x (omega arith) (found-is ss k f h e) big)
 
 pub deal-served : (ss : List Session) (k f : ℕ) (x : Inputs) (b : ScreenAnswer) (a : Answer) (s′ : Session)
     → length ss ≡ 8 → k ≤ 7
     → f ≡ found (runsIn (phases ss)) k → f ≤ 7 → b ≡ turnAnswer f a → CallDone (at ss f) (advance x) a s′
     → ScreenDone ss (deal k x) b (set ss f s′)
-unfolding orEight dealTarget
-deal-served ss k f x b a s′ l h e small q D = go (nextRunningIn 8 (runs ss) k) refl (found-is ss k f h e)
-  where
-    go : (o : Option ℕ) → nextRunningIn 8 (runs ss) k ≡ o → f ≡ orEight o → ScreenDone ss (deal k x) b (set ss f s′)
-    go none w z = absurd (omega (arith, z, small))
-    go (some i) w z =
-        turn-done ss (deal k x) l f (omega arith) s′ x a b
-        (deal-to ss k x (some i) (omega arith) w ∙ ap (λ (m : ℕ). turn m x) (sym z)) D q
+unfolding targetIn
+deal-served ss k f x b a s′ l h e small q D =
+    turn-done ss (deal k x) l f (omega arith) s′ x a b
+    (found-turn (runs ss) k f x (omega arith) (found-is ss k f h e) small) D q
 
 -- ---- Read
 

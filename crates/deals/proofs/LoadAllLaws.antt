@@ -11,23 +11,24 @@ use mathlib.Core.List.{List, [], _∷_}
 use native.Mathlib.Omega.{arith}
 use lib.Dec.{eqb}
 use lib.ListN.{length, getD, replicate, getD-replicate}
+use borrow.Author.Tests.{not-false}
 use Rattle.list_laws.proofs.BoolLaws.{true-false}
 use Rattle.formats.specs.Built.{builtNodeTable, builtStateTable}
 use Rattle.formats.specs.Checks.{Check, check, firstNo, buildChecks}
 use Rattle.formats.specs.Inputs.{Inputs, sizesIn}
 use Rattle.formats.proofs.CheckLaws.{firstNo-yes, firstNo-no}
 use Rattle.tables.specs.Answers.{written}
-use Rattle.model.specs.Calls.{load, Answer, refused, isRefused, isRunning, mayLoad}
+use Rattle.model.specs.Calls.{load, Answer, refused, isRefused, isRunning}
 use Rattle.model.specs.Refusals.{refusal}
 use Rattle.model.specs.Model.{Record, freshRecord, stageOf, loadedRecord, proceeds, unless, act}
 use Rattle.screens.specs.ScreenCalls.{loadAll, ScreenAnswer, one, loads, answerIn, anyRuns, Target, nobody, everyScreen}
-use Rattle.screens.specs.ScreenCalls.{loadAllChecks, loadTarget, target}
-use Rattle.screens.proofs.RecordLaws.{idle-loads}
-use Rattle.screens.proofs.TargetLaws.{any-no}
+use Rattle.screens.specs.ScreenCalls.{loadAllChecks, loadTarget, target, Another}
+use Rattle.screens.proofs.RecordLaws.{load-refusal}
+use Rattle.screens.proofs.TargetLaws.{any-no, or-no-left, or-no-right}
 use Rattle.session.specs.declared.state.Session.{Session}
 use Rattle.session.specs.Records.{phaseOf, freshSession, recordOf, sessionOf, valid}
 use Rattle.session.specs.Promises.{CallDone, LoadDone, answerOn, recordOn, refusalOn}
-use Rattle.deals.specs.OnStructs.{at, isBusy, busy, targetIn, answerOf, structsOf, OwnDone, Another, ScreenDone}
+use Rattle.deals.specs.OnStructs.{at, isBusy, busy, targetIn, answerOf, structsOf, OwnDone, ScreenDone}
 use Rattle.session.specs.Answers.{callAnswer}
 use Rattle.session.proofs.Refine.{fresh-seen, narrow-seen}
 use Rattle.session.specs.declared.answers.CallAnswer.{CallAnswer}
@@ -45,23 +46,14 @@ load-to ss x n e = ap (λ (m : ℕ). loadTarget m x) e
 
 -- ---- a struct at rest
 
-rest-valid : (a b : Bool) → (not a || b) ≡ false → a ≡ true
-rest-valid true b e = refl
-rest-valid false b e = absurd (true-false e)
-
-rest-idle : (a b : Bool) → (not a || b) ≡ false → b ≡ false
-rest-idle true b e = e
-rest-idle false b e = absurd (true-false e)
-
 module _ (s : Session) (x : Inputs) (rest : isBusy s ≡ false) where
   passes : valid s ≡ true
-  passes = rest-valid (valid s) (isRunning (phaseOf (s .head .phase))) rest
+  passes = not-false (valid s) (or-no-left (not (valid s)) (isRunning (phaseOf (s .head .phase))) rest)
 
   number-is : refusal (stageOf (recordOf s)) (load x) ≡ firstNo (checksOf x)
-  unfolding refusal recordOf
+  unfolding recordOf
   number-is =
-      firstNo-yes 1 (mayLoad (phaseOf (s .head .phase))) (checksOf x)
-      (idle-loads (phaseOf (s .head .phase)) (rest-idle (valid s) (isRunning (phaseOf (s .head .phase))) rest))
+      load-refusal (recordOf s) x (or-no-right (not (valid s)) (isRunning (phaseOf (s .head .phase))) rest)
 
   refusal-is : refusalOn s (load x) ≡ firstNo (checksOf x)
   unfolding refusalOn

@@ -3,7 +3,6 @@
 -- at ss i == screen i's struct; runs ss == which screens run, by their states alone
 -- isBusy s, busy ss == whether a screen may not be loaded, and which: it runs, or its struct is no record
 -- runsIn ps == which screens run, by a list of states
--- found run k == the number of the next running screen from number k on; 8 where none runs, 9 where k is above 7
 -- targetIn ss c == whose call c is: a Load asks for eight records that are at rest, any other call goes by the states
 -- answerOf ss t, structsOf ss t == what a call that is t's tells, and the structs after it; answerAll ss c, structsAll
 --   ss c == of call c
@@ -15,16 +14,14 @@ use Prim.Native.Nat.{ℕ, _<_}
 use mathlib.Core.Path.{_≡_}
 use mathlib.Core.Bool.{Bool, true, cond, not, _||_}
 use mathlib.Core.List.{List}
-use mathlib.Core.Option.{Option, none, some}
-use lib.Dec.{ltb, eqb}
+use lib.Dec.{eqb}
 use lib.ListN.{length, getD, set, replicate}
 use Rattle.formats.specs.Inputs.{sizesIn}
 use Rattle.model.specs.Calls.{load, advance, Answer, refused, more, finished, isRunning}
 use Rattle.model.specs.Model.{loadedRecord}
 use Rattle.screens.specs.ScreenCalls.{ScreenCall, loadAll, startOn, cancelOn, readOn, deal, ScreenAnswer, one, loads}
 use Rattle.screens.specs.ScreenCalls.{deals, answerIn, refuses}
-use Rattle.screens.specs.ScreenCalls.{Running, nextRunning, Target, nobody, everyScreen, screen, turn, target}
-use Rattle.screens.specs.ScreenCalls.{turnAnswer}
+use Rattle.screens.specs.ScreenCalls.{Running, Target, nobody, everyScreen, screen, turn, target, Another, turnAnswer}
 use Rattle.session.specs.declared.state.Phase.{Phase}
 use Rattle.session.specs.declared.state.Phase.the-variants.{Empty}
 use Rattle.session.specs.declared.state.Session.{Session}
@@ -47,13 +44,6 @@ busy ss i = isBusy (at ss i)
 
 abbrev pub runsIn : List Phase → Running
 runsIn ps i = isRunning (phaseOf (getD ps i Empty))
-
-unfoldable pub orEight : Option ℕ → ℕ
-orEight none = 8
-orEight (some i) = i
-
-unfoldable pub found : Running → ℕ → ℕ
-found run k = cond (ltb k 8) (orEight (nextRunning run k)) 9
 
 unfoldable pub dealAnswer : DealAnswer → ScreenAnswer
 dealAnswer (More k) = deals k more
@@ -96,13 +86,6 @@ OwnDone ss ss′ (nobody n) a = Unit {0}
 OwnDone ss ss′ (everyScreen x) a = (i : ℕ) → i < 8 → CallDone (at ss i) (load x) a (at ss′ i)
 OwnDone ss ss′ (screen i c) a = CallDone (at ss i) c a (at ss′ i)
 OwnDone ss ss′ (turn i x) a = CallDone (at ss i) (advance x) a (at ss′ i)
-
--- screen j is not the one
-abbrev pub Another : Target → ℕ → Type 0
-Another (nobody n) j = Unit {0}
-Another (everyScreen x) j = ⊥
-Another (screen i c) j = i ≡ j → ⊥
-Another (turn i x) j = i ≡ j → ⊥
 
 pub record ScreenDone (ss : List Session) (c : ScreenCall) (a : ScreenAnswer) (ss′ : List Session) : Type 0 where
   -- what is told, and all eight structs after

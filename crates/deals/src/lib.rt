@@ -13,11 +13,11 @@ ghost use mathlib.Core.List.{[], _∷_};
 ghost use Prim.Native.Nat.{_<_};
 ghost use Rattle.formats.specs.Inputs.{inputsOf};
 ghost use Rattle.model.specs.Calls.{isRunning};
-ghost use Rattle.screens.specs.ScreenCalls.{onePast, turnAnswer};
+ghost use Rattle.screens.specs.ScreenCalls.{onePast, found, turnAnswer};
 ghost use Rattle.screens.specs.ScreenCalls as screens;
 ghost use Rattle.session.specs.Records.{phaseOf};
 ghost use Rattle.session.specs.Answers.{advanceAnswer, callAnswer, startAnswer, readAnswer};
-ghost use Rattle.deals.specs.OnStructs.{runsIn, found, dealAnswer, answerAll, ScreenDone};
+ghost use Rattle.deals.specs.OnStructs.{runsIn, dealAnswer, answerAll, ScreenDone};
 
 // A deal: more or finished, with the screen to try first next time; or a refusal's number.
 pub enum DealAnswer {

@@ -1,5 +1,7 @@
 pub mod RecordLaws
 pub mod TargetLaws
+pub mod AnyLaws
+pub mod FoundLaws
 pub mod EightLaws
 pub mod ProjectionTheorem
 pub mod LoadTheorem

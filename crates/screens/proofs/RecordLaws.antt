@@ -1,7 +1,8 @@
 -- All that the screens use of a single session's calls.
 --     act-runs        whether a session runs after a call is told by its answer
 --     act-own         a call tells its own kind of answer
---     load-accepted   a Load where no question runs goes by what is lent alone
+--     load-refusal, load-accepted
+--                     a Load where no question runs goes by what is lent alone
 --     refused-same    a refusal leaves the record as it is
 -- Assumes nothing.
 use Prim.Native.Nat.{ℕ, zero, suc}
@@ -88,15 +89,20 @@ idle-loads Phase.loaded e = refl
 idle-loads Phase.running e = absurd (true-false e)
 idle-loads Phase.answered e = refl
 
+pub load-refusal : (r : Record) (x : Inputs) → isRunning (r .phase) ≡ false
+    → refusal (stageOf r) (load x)
+    ≡ firstNo (buildChecks (x .plan) (x .rules) (length (x .nodeTable)) (length (x .stateTable)))
+unfolding refusal
+load-refusal r x m =
+    firstNo-yes 1 (mayLoad (r .phase)) (buildChecks (x .plan) (x .rules) (length (x .nodeTable))
+    (length (x .stateTable))) (idle-loads (r .phase) m)
+
 pub load-accepted : (r : Record) (x : Inputs) → isRunning (r .phase) ≡ false
     → firstNo (buildChecks (x .plan) (x .rules) (length (x .nodeTable)) (length (x .stateTable))) ≡ 0
     → Does r (load x) Answer.accepted (loadedRecord (sizesIn x))
-unfolding act unless proceeds refusal
+unfolding act unless proceeds
 load-accepted r x m e =
-    let k : refusal (stageOf r) (load x) ≡ 0 =
-    firstNo-yes 1 (mayLoad (r .phase)) (buildChecks (x .plan) (x .rules) (length (x .nodeTable))
-    (length (x .stateTable)))
-    (idle-loads (r .phase) m) ∙ e in
+    let k : refusal (stageOf r) (load x) ≡ 0 = load-refusal r x m ∙ e in
     record {
       tells = sym (ap (λ (n : ℕ). unless n r (load x) .answer) k);
       leaves = sym (ap (λ (n : ℕ). unless n r (load x) .record′) k);

@@ -1,7 +1,8 @@
 -- Whose a call is.
 --     one-past-in      the screen to try first is one of the eight
---     any-no, any-yes  whether any screen runs
+--     any-no, any-yes  whether any screen runs; or-no-left, or-no-right: neither of two
 --     next-runs        the screen that a deal serves is one of the eight, and runs
+--     number-in, number-out   a call that names a screen, or one to try first: up to 7, and above
 --     Rightly, rightly what holds of a call's target: a Load's screens are at rest, and what it lends passes 2 to 11;
 --                      a screen is one of the eight; a turn is a screen's that runs
 --     target-same      a target goes by who of the eight runs
@@ -15,7 +16,7 @@ use native.Mathlib.Decide.{ℕ-discrete}
 use native.Mathlib.Omega.{arith}
 use lib.Dec.{ltb, eqb}
 use lib.ListN.{length}
-use borrow.Author.Tests.{ltb-true, ltb-false, not-true}
+use borrow.Author.Tests.{ltb-true, ltb-false, lt-ltb, le-ltb, not-true}
 use Rattle.list_laws.proofs.BoolLaws.{true-false, or-first, or-second}
 use Rattle.list_laws.proofs.Choice.{by-lt}
 use Rattle.formats.specs.Checks.{Check, check, firstNo, buildChecks}
@@ -37,11 +38,11 @@ one-past-in k h = go (ltb k 7) refl
 
 -- ---- any screen
 
-or-no-left : (a b : Bool) → (a || b) ≡ false → a ≡ false
+pub or-no-left : (a b : Bool) → (a || b) ≡ false → a ≡ false
 or-no-left true b e = e
 or-no-left false b e = refl
 
-or-no-right : (a b : Bool) → (a || b) ≡ false → b ≡ false
+pub or-no-right : (a b : Bool) → (a || b) ≡ false → b ≡ false
 or-no-right true b e = absurd (true-false e)
 or-no-right false b e = e
 
@@ -71,6 +72,16 @@ any-which (suc n) run e = go (any-which n run) (run n) refl e
         → (i : ℕ) × (i < suc n) × (run i ≡ true)
     go later true q e = (n, omega arith, q)
     go later false q e = let w = later e in (w .0, omega (arith, w .1), w .2)
+
+-- ---- a number
+
+pub number-in : (i : ℕ) (t : Target) → i < 8 → numbered i t ≡ t
+unfolding numbered
+number-in i t h = ap (λ (b : Bool). cond b t (nobody 25)) (lt-ltb i 8 h)
+
+pub number-out : (i : ℕ) (t : Target) → 7 < i → numbered i t ≡ nobody 25
+unfolding numbered
+number-out i t h = ap (λ (b : Bool). cond b t (nobody 25)) (le-ltb i 8 h)
 
 -- ---- the next one that runs
 

@@ -8,14 +8,17 @@
 -- onePast i == the screen to try first after one that was served; servedBy k == the screen that was served, from that
 --   number
 -- nextRunning run k == the first screen that runs from number k on, round from 7 to 0; none where none runs
+-- found run k == its number as a program tells it: 8 where none runs, 9 where k is above 7
 -- anyRuns n run == whether one of the screens below n runs
 -- Target == whose a call is: nobody's, refused with a number; every screen's, an accepted Load; one screen's; one
 --   screen's turn
 -- target run c == whose call c is while run says who runs. The records and the reference models share it
+-- Another t j == a call that is t's is not screen j's
 -- turnAnswer i a == what a deal tells that served screen i, whose advance told a
 --
 -- Not here: 25 for a run of another length (EightRecords). Assumes nothing.
 use Prim.Native.Nat.{ℕ, zero, suc, _-_}
+use mathlib.Core.Path.{_≡_}
 use mathlib.Core.Bool.{Bool, true, false, cond, not, _||_}
 use mathlib.Core.List.{List, [], _∷_}
 use mathlib.Core.Option.{Option, none, some}
@@ -69,6 +72,13 @@ nextRunningIn (suc f) run k = cond (run k) (some k) (nextRunningIn f run (onePas
 unfoldable pub nextRunning : Running → ℕ → Option ℕ
 nextRunning run k = nextRunningIn 8 run k
 
+unfoldable pub orEight : Option ℕ → ℕ
+orEight none = 8
+orEight (some i) = i
+
+unfoldable pub found : Running → ℕ → ℕ
+found run k = cond (ltb k 8) (orEight (nextRunning run k)) 9
+
 unfoldable pub anyRuns : ℕ → Running → Bool
 anyRuns zero run = false
 anyRuns (suc n) run = run n || anyRuns n run
@@ -105,6 +115,12 @@ target run (startOn i x vs bs) = numbered i (screen i (start x vs bs))
 target run (cancelOn i) = numbered i (screen i cancel)
 target run (readOn i) = numbered i (screen i read)
 target run (deal k x) = numbered k (dealTarget (nextRunning run k) x)
+
+abbrev pub Another : Target → ℕ → Type 0
+Another (nobody n) j = Unit {0}
+Another (everyScreen x) j = ⊥
+Another (screen i c) j = i ≡ j → ⊥
+Another (turn i x) j = i ≡ j → ⊥
 
 -- a deal that is refused tells no number
 unfoldable pub turnAnswer : ℕ → Answer → ScreenAnswer

@@ -19,6 +19,7 @@ mod plot;
 #[cfg(feature = "probes")]
 mod probes;
 mod rule_tables;
+mod screens;
 mod sessions;
 mod table;
 mod tables;
@@ -31,6 +32,9 @@ const USAGE: &str = "usage: bench                      the whole table, in some 
        bench --markdown FILE      the table as Markdown, between the two lines of FILE that mark its place
        bench plot FILE.svg        time of a Start, of all advances and of a fresh run over N
        bench calls SHAPE N S M    nothing but 20 calls of each kind; bench/instructions counts their instructions
+       bench screens KIND SHAPE N S M
+                                  nothing but 4 times all advances or all deals of eight questions, load or
+                                  load-of-eight, by KIND: advance, deal, ..; for the same
        bench in-place --seed S --count C
                                   nothing is measured: C cases of calls in place against the same calls on record bytes
        bench --help
@@ -46,6 +50,10 @@ fn main() {
         ["plot", file] => std::fs::write(file, plot::svg()).expect(file),
         ["calls", shape, n, s, m] => {
             calls::make(shape, [n, s, m].map(|number| number.parse().unwrap_or_else(|_| usage())))
+        }
+        ["screens", kind, shape, n, s, m] => {
+            let numbers = [n, s, m].map(|number| number.parse().unwrap_or_else(|_| usage()));
+            screens::calls(kind, shape, numbers).unwrap_or_else(|| usage())
         }
         #[cfg(feature = "probes")]
         ["in-place", "--seed", seed, "--count", count] => {
@@ -77,12 +85,14 @@ fn rows(wanted: &str, mut measured: impl FnMut(&Row)) -> Vec<Row> {
     table::in_order(rows)
 }
 
-/// What is measured without a question: counts of choices, on rule tables alone, and on planner's files.
+/// What is measured without a question: counts of choices, on rule tables alone, on planner's files; and eight screens
+/// beside single sessions.
 fn singles(wanted: &str) -> Vec<Single> {
     let mut singles = Vec::new();
     choices::singles(wanted, &mut |single| singles.push(single));
     rule_tables::singles(wanted, &mut |single| singles.push(single));
     planner::singles(wanted, &mut |single| singles.push(single));
+    screens::singles(wanted, &mut |single| singles.push(single));
     singles
 }
 

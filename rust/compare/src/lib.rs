@@ -3,7 +3,7 @@
 //! `random` (a small seeded generator), `shapes` (kinds of trees), `inputs` (plans and tables as bytes), `calls` (the
 //! library's calls with everything lent held to account), `built` (a case with its tables), `faults` (one for each
 //! check); for the session `sides` (its calls, made by every side), `panel` (a record that passes from call to call,
-//! with the book beside it), `alterations` (lends that are not as built); `rounds` (random comparisons of every kind,
+//! with the book beside it), `screens` (eight records, with eight books), `alterations` (lends that are not as built); `rounds` (random comparisons of every kind,
 //! for the tests and for the program), `counts` (what came), `difference` and `trace` (what was found, and the case).
 
 pub mod alterations;
@@ -16,6 +16,7 @@ pub mod inputs;
 pub mod panel;
 pub mod random;
 pub mod rounds;
+pub mod screens;
 pub mod shapes;
 pub mod sides;
 pub mod trace;

@@ -113,7 +113,7 @@ impl Panel {
 }
 
 /// A call in short.
-fn told(call: &Call) -> String {
+pub fn told(call: &Call) -> String {
     match call {
         Call::Load(_) => "Load".to_string(),
         Call::Start(_, nodes, labels) => format!("Start, nodes {:?}, labels {:?}", nodes, labels),

@@ -15,7 +15,7 @@ type Side = fn(&Call, &mut [u8], &mut [u16], &mut [u8], &mut [u32; 5]) -> u32;
 
 const SIDES: &[(&str, Side)] = &[("the library", library::call), ("plain Rust", by_yardstick)];
 
-const MARGIN: usize = 9;
+pub const MARGIN: usize = 9;
 /// Lends above this many bytes are not copied to see whether they stay.
 const COPIED: usize = 50_000;
 
@@ -39,8 +39,7 @@ fn compare(name: &str, side: Side, record: &[u8], call: &Call, done: &Done, rand
     };
     let unset = [0; 5].map(|_: u32| random.word() as u32 | 1 << 20);
     let mut out = unset;
-    let lent =
-        lent(call).filter(|lends| lends.plan.len() + 2 * lends.node_table.len() + lends.state_table.len() < COPIED);
+    let lent = copied(call);
     let before = lent.map(copies);
     let number = side(call, own.lent(), node_table.lent(), state_table.lent(), &mut out);
     assert_eq!(answer(call, number, &out, &unset), done.answer, "{}: the answer", name);
@@ -56,6 +55,11 @@ fn compare(name: &str, side: Side, record: &[u8], call: &Call, done: &Done, rand
     assert!(lent.map(copies) == before, "{}: something lent was written", name);
 }
 
+/// What is lent with a call, where it is little enough to be copied.
+pub fn copied<'a>(call: &Call<'a>) -> Option<Lends<'a>> {
+    lent(call).filter(|lends| lends.plan.len() + 2 * lends.node_table.len() + lends.state_table.len() < COPIED)
+}
+
 fn lent<'a>(call: &Call<'a>) -> Option<Lends<'a>> {
     match *call {
         Call::Load(lends) | Call::Start(lends, ..) | Call::Advance(lends) => Some(lends),
@@ -63,12 +67,12 @@ fn lent<'a>(call: &Call<'a>) -> Option<Lends<'a>> {
     }
 }
 
-fn copies(lends: Lends) -> (Vec<u8>, Vec<u8>, Vec<u16>, Vec<u8>) {
+pub fn copies(lends: Lends) -> (Vec<u8>, Vec<u8>, Vec<u16>, Vec<u8>) {
     (lends.plan.to_vec(), lends.rules.to_vec(), lends.node_table.to_vec(), lends.state_table.to_vec())
 }
 
 /// What a number and the told values mean; the values that the call does not tell are as they were.
-fn answer(call: &Call, number: u32, out: &[u32; 5], unset: &[u32; 5]) -> Answer {
+pub fn answer(call: &Call, number: u32, out: &[u32; 5], unset: &[u32; 5]) -> Answer {
     let told = match call {
         _ if number != 0 => 0,
         Call::Load(_) | Call::Cancel => 0,
@@ -92,32 +96,32 @@ fn answer(call: &Call, number: u32, out: &[u32; 5], unset: &[u32; 5]) -> Answer 
 }
 
 /// A buffer that is lent, with something before and after it.
-struct Margins<T> {
+pub struct Margins<T> {
     all: Vec<T>,
     was: Vec<T>,
     around: usize,
 }
 
 impl<T: Copy + PartialEq + std::fmt::Debug> Margins<T> {
-    fn new(inside: &[T], margins: Vec<T>) -> Margins<T> {
+    pub fn new(inside: &[T], margins: Vec<T>) -> Margins<T> {
         let (before, after) = margins.split_at(margins.len() / 2);
         let all = [before, inside, after].concat();
         Margins { was: all.clone(), all, around: before.len() }
     }
 
-    fn lent(&mut self) -> &mut [T] {
+    pub fn lent(&mut self) -> &mut [T] {
         let end = self.all.len() - self.around;
         &mut self.all[self.around..end]
     }
 
     /// It begins with this now, and nothing else changed.
-    fn starts(&mut self, what: &str, with: &[T]) {
+    pub fn starts(&mut self, what: &str, with: &[T]) {
         self.was[self.around..self.around + with.len()].copy_from_slice(with);
         same(what, &self.all, &self.was);
     }
 
     /// It is this now.
-    fn is(&mut self, what: &str, wanted: &[T]) {
+    pub fn is(&mut self, what: &str, wanted: &[T]) {
         assert_eq!(wanted.len(), self.lent().len());
         self.starts(what, wanted);
     }

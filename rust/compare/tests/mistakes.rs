@@ -10,7 +10,7 @@ use reference::mistakes::{making, Mistake};
 const SEEDS: std::ops::Range<u64> = 1..201;
 
 /// A mistake, and the rounds that must notice it.
-const NOTICED: [(Mistake, &[&str]); 59] = [
+const NOTICED: [(Mistake, &[&str]); 71] = [
     (Mistake::ChildrenExchanged, &["builds", "fresh runs", "questions", "other bytes", "call lists"]),
     (Mistake::SiblingFromOldRun, &["questions", "other bytes", "damaged lends", "call lists"]),
     (Mistake::ClimbToTheRoot, &["questions", "other bytes", "damaged lends", "call lists"]),
@@ -73,6 +73,18 @@ const NOTICED: [(Mistake, &[&str]); 59] = [
     (Mistake::CountsNotCarried, &["choices"]),
     (Mistake::LimitRefused, &["choices"]),
     (Mistake::TwiceBeforeNodes, &["choices"]),
+    (Mistake::ServedFromZero, &["screen lists"]),
+    (Mistake::ServedTold, &["screen lists", "screen refusals"]),
+    (Mistake::EightToldPastSeven, &["screen lists", "screen refusals"]),
+    (Mistake::RefusedGoesOn, &["screen lists"]),
+    (Mistake::DealAsksAll, &["screen lists"]),
+    (Mistake::BrokenPassedOver, &["screen lists"]),
+    (Mistake::OneCleared, &["screen lists", "screen refusals"]),
+    (Mistake::AnswersStay, &["screen lists", "screen refusals"]),
+    (Mistake::NextOneWritten, &["screen lists", "screen refusals"]),
+    (Mistake::ScreenCut, &["screen lists", "screen refusals"]),
+    (Mistake::StateBeforeScreen, &["screen lists", "screen refusals"]),
+    (Mistake::LongerRun, &["screen lists", "screen refusals"]),
 ];
 
 /// The first difference in the rounds of a kind, and its seed.

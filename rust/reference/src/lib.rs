@@ -7,7 +7,7 @@
 //! rule for a part, on a tree), `count` (how many choices end in each state), `lent` (parts on lent tables, whatever they
 //! hold); `panel` (the session's calls and
 //! answers), `record` (its record as bytes), `session` (the five calls), `causes` (what 18 is given for), `book` (the
-//! panel book).
+//! panel book), `screens` (eight of both).
 //! The calls without a session are in this file. `mistakes` is for a test of the comparison; it does nothing else.
 //! A refusal is its number. Nothing here is fast, and nothing is shared with the library.
 
@@ -29,6 +29,7 @@ pub mod planner;
 pub mod ready;
 pub mod record;
 pub mod sample;
+pub mod screens;
 pub mod session;
 pub mod tables;
 pub mod tree;

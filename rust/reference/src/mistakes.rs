@@ -123,6 +123,30 @@ pub enum Mistake {
     LimitRefused,
     /// 15 is put before 13.
     TwiceBeforeNodes,
+    /// A deal tries screen 0 first, whatever number it is handed.
+    ServedFromZero,
+    /// A deal tells the screen served, not the one past it.
+    ServedTold,
+    /// Past screen 7 the number told is 8.
+    EightToldPastSeven,
+    /// A deal refused with 17 or 18 goes on to the next running screen.
+    RefusedGoesOn,
+    /// A deal is refused where any of the eight records is broken.
+    DealAsksAll,
+    /// A deal passes over a broken record whose state says running.
+    BrokenPassedOver,
+    /// An accepted Load clears the first screen alone.
+    OneCleared,
+    /// An accepted Load leaves the last finished answers.
+    AnswersStay,
+    /// A call on a screen is written to the record after it, too.
+    NextOneWritten,
+    /// Screen numbers are cut to 8 bits.
+    ScreenCut,
+    /// 1 is put before 25.
+    StateBeforeScreen,
+    /// A run that is one byte longer is taken.
+    LongerRun,
 }
 
 thread_local! {

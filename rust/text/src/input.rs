@@ -3,6 +3,7 @@
 use crate::outcome::Failure;
 use crate::questions::{self, Change};
 use crate::{parts_of, write};
+use reference::formats::number;
 
 /// Plan and rules as bytes, whatever they hold, and the questions.
 pub struct Input {
@@ -32,6 +33,11 @@ impl Input {
 
     fn of_parts([plan, rules, questions]: [&[u8]; 3]) -> Input {
         Input { plan: plan.to_vec(), rules: rules.to_vec(), questions: questions::of_bytes(questions) }
+    }
+
+    /// N, S and K, once the headers are known to be there.
+    pub fn counts(&self) -> [usize; 3] {
+        [(&self.plan, 0), (&self.rules, 0), (&self.rules, 4)].map(|(bytes, at)| number(bytes, at) as usize)
     }
 
     /// One of the questions, counted from 1.

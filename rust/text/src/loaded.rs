@@ -80,12 +80,21 @@ impl<'a> Loaded<'a> {
     }
 }
 
-/// Load, with tables as long as the greatest that a plan of so many bytes can need; cut to what they need.
+/// Load of a session.
 pub fn load(session: &mut Session, plan: &[u8], rules: &[u8]) -> Result<(Vec<u16>, Vec<u8>), Refusal> {
+    with_tables(plan, rules, |nodes, states| session.load(plan, rules, nodes, states))
+}
+
+/// A Load, with tables as long as the greatest that a plan of so many bytes can need; cut to what they need.
+pub fn with_tables(
+    plan: &[u8],
+    rules: &[u8],
+    load: impl FnOnce(&mut [u16], &mut [u8]) -> Result<(), Refusal>,
+) -> Result<(Vec<u16>, Vec<u8>), Refusal> {
     let most = (plan.len().saturating_sub(12) / 2).min(MAX_NODES);
     let mut node_table = vec![0; node_table_len(most)];
     let mut state_table = vec![0; state_table_len(most, MAX_STATES)];
-    session.load(plan, rules, &mut node_table, &mut state_table)?;
+    load(&mut node_table, &mut state_table)?;
     let (n, s) = (number(plan, 0) as usize, number(rules, 0) as usize);
     node_table.truncate(node_table_len(n));
     state_table.truncate(state_table_len(n, s));

@@ -25,6 +25,8 @@ INPUT is text or the bytes that the program whatif reads, a plan of up to 65,535
   branch-with-upper FILE UPPER LOWER [all|dot]
                             the same with the upper node's label as the first letter
   session SCRIPT-FILE       a script of the lines load, start NODE->LABEL .., advance [TIMES|all], cancel, read
+  screens SCRIPT-FILE       the same of eight screens on one mill: load, start SCREEN NODE->LABEL .., deal [TIMES|all],
+                            cancel SCREEN, read SCREEN
   build FILE FILE           writes node table and state table into two files
   check FILE FILE           are these the tables that build writes? else the first wrong node
   planner import|export|dot a planner's tree as text to our plan, home again, or both as a picture (Graphviz)
@@ -91,6 +93,10 @@ fn made(words: &[&str]) -> Result<Made, Failure> {
         ["session", script] => {
             let script = as_text(file(script)?).map_err(|what| of_file(script, what))?;
             text::script::run(&input()?, &script)
+        }
+        ["screens", script] => {
+            let script = as_text(file(script)?).map_err(|what| of_file(script, what))?;
+            text::screens::run(&input()?, &script)
         }
         ["build", nodes, states] => build(nodes, states),
         ["check", nodes, states] => text::stored::check(&input()?, &file(nodes)?, &file(states)?),

@@ -14,24 +14,26 @@ use crate::loaded::load;
 use crate::outcome::{Failure, Made};
 use crate::questions;
 use crate::sentences::{self, count, list_refused, load_refused};
-use reference::formats::number;
 use whatif::{Lent, Progress, Refusal, Session, State};
 
 /// A refused call is told in its place, and the script goes on.
 pub fn run(input: &Input, script: &str) -> Result<Made, Failure> {
     let mut panel =
-        Panel { input, session: Session::new(), tables: (vec![], vec![]), text: String::new(), refused: false };
+        Panel { input, session: Session::new(), tables: Tables::default(), text: String::new(), refused: false };
     for line in lines::of(script) {
         panel.take(&line).map_err(|wrong| Failure::Wrong(format!("in the script, {}", wrong)))?;
     }
     Ok(Made::with_refusals(panel.text, panel.refused))
 }
 
+/// Node table and state table.
+pub type Tables = (Vec<u16>, Vec<u8>);
+
 /// What a panel keeps, and what was told so far.
 struct Panel<'a> {
     input: &'a Input,
     session: Session,
-    tables: (Vec<u16>, Vec<u8>),
+    tables: Tables,
     text: String,
     refused: bool,
 }
@@ -84,7 +86,7 @@ impl Panel<'_> {
             Refusal::SessionState => in_state(refusal, self.session.state()),
             _ => load_refused(refusal, plan, rules),
         })?;
-        let [n, s, k] = self.counts();
+        let [n, s, k] = self.input.counts();
         Ok(format!("{}, {}, {}", count(n, "node"), count(s, "state"), count(k, "label")))
     }
 
@@ -93,7 +95,7 @@ impl Panel<'_> {
         let lent = lent(self.input, &self.tables);
         let parts = self.session.start(&lent, &nodes, &labels).map_err(|refusal| match self.session.state() {
             Some(State::Loaded) | Some(State::Answered) => {
-                list_refused(refusal, changes, self.counts()[0], self.counts()[2])
+                list_refused(refusal, changes, self.input.counts()[0], self.input.counts()[2])
             }
             other => in_state(refusal, other),
         })?;
@@ -121,16 +123,10 @@ impl Panel<'_> {
         let kept = if self.session.read().is_ok() { ", with the last answer kept" } else { "" };
         format!("the session is loaded, as after load{}", kept)
     }
-
-    /// N, S and K, once the headers are known to be there.
-    fn counts(&self) -> [usize; 3] {
-        [(&self.input.plan, 0), (&self.input.rules, 0), (&self.input.rules, 4)]
-            .map(|(bytes, at)| number(bytes, at) as usize)
-    }
 }
 
 /// A refusal 1 says in which state the session is.
-fn in_state(refusal: Refusal, state: Option<State>) -> Failure {
+pub fn in_state(refusal: Refusal, state: Option<State>) -> Failure {
     let name = match state {
         Some(State::Empty) => "empty",
         Some(State::Loaded) => "loaded",
@@ -144,6 +140,6 @@ fn in_state(refusal: Refusal, state: Option<State>) -> Failure {
     })
 }
 
-fn lent<'a>(input: &'a Input, tables: &'a (Vec<u16>, Vec<u8>)) -> Lent<'a> {
+pub fn lent<'a>(input: &'a Input, tables: &'a Tables) -> Lent<'a> {
     Lent { plan: &input.plan, rules: &input.rules, node_table: &tables.0, state_table: &tables.1 }
 }

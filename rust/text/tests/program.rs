@@ -61,7 +61,7 @@ fn the_page() {
     let help = String::from_utf8(program(&["--help"], "/dev/null", Stdio::piped()).stdout).expect("text");
     let verbs: Vec<&str> =
         help.lines().filter_map(|line| line.strip_prefix("  ")).filter(|l| !l.starts_with(' ')).collect();
-    assert_eq!(verbs.len(), 19, "{}", help);
+    assert_eq!(verbs.len(), 20, "{}", help);
     for verb in verbs {
         let verb = verb.split([' ', ',']).next().unwrap();
         assert!(page.contains(&format!("`{}", verb)), "{}", verb);
@@ -73,4 +73,6 @@ fn the_page() {
     let counted = include_str!("stored/count-0-2").trim_end_matches("status 0\n");
     let shown: Vec<String> = counted.lines().map(|line| format!("    {}", line).trim_end().to_string()).collect();
     assert!(page.contains(&shown.join("\n")), "{:?}", shown);
+    let dealt: Vec<String> = include_str!("stored/screens").lines().map(|line| format!("    {}", line)).collect();
+    assert!(page.contains(&dealt[2..8].join("\n")), "{:?}", &dealt[2..8]);
 }

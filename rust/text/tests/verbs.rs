@@ -10,6 +10,7 @@ use std::process::{Command, Output, Stdio};
 
 const SAMPLE: &str = include_str!("../../../examples/sample.txt");
 const SCRIPT: &str = concat!(env!("CARGO_MANIFEST_DIR"), "/../../examples/session.txt");
+const SCREENS: &str = concat!(env!("CARGO_MANIFEST_DIR"), "/../../examples/screens.txt");
 const TABLE: &str = concat!(env!("CARGO_MANIFEST_DIR"), "/../../examples/branch.txt");
 
 /// With the sample of 01, as text and as bytes, with random plans, and with what is wrong or refused.
@@ -23,6 +24,7 @@ fn on_the_sample() {
     holds("suggest-nodes", &["suggest", "2", "5"], SAMPLE);
     holds("outline-4", &["outline", "4"], SAMPLE);
     holds("session", &["session", SCRIPT], SAMPLE);
+    holds("screens", &["screens", SCREENS], SAMPLE);
     holds("over-4-9", &["over", "4", "9"], SAMPLE);
     holds("over-9-4", &["over", "9", "4"], SAMPLE);
     holds("over-none", &["over", "1", "1"], SAMPLE);
@@ -79,6 +81,7 @@ fn bytes_are_taken_like_text() {
         &["outline", "4"],
         &["dot", "4"],
         &["session", SCRIPT],
+        &["screens", SCREENS],
         &["over", "4", "9"],
         &["count", "0", "2"],
     ] {
@@ -123,6 +126,10 @@ fn wrong_input_is_told_by_its_line() {
     holds("wrong-script", &["session", path.to_str().unwrap()], SAMPLE);
     fs::write(&path, "load\n\nundo\n").unwrap();
     holds("wrong-call", &["session", path.to_str().unwrap()], SAMPLE);
+    fs::write(&path, "load\nstart 2 none\nadvance\n").unwrap();
+    holds("wrong-screens", &["screens", path.to_str().unwrap()], SAMPLE);
+    fs::write(&path, "load\nread 4294967296\n").unwrap();
+    holds("wrong-screen", &["screens", path.to_str().unwrap()], SAMPLE);
     fs::remove_file(&path).unwrap();
     holds("wrong-shape", &["random", "--nodes", "7", "--shape", "bush"], "");
     holds("wrong-even", &["random", "--nodes", "8", "--shape", "arch"], "");
@@ -145,6 +152,7 @@ fn refusals_are_sentences() {
     let many = SAMPLE.replace("none\n", &format!("{}\n", many.trim()));
     holds("refused-65", &["answer"], &many);
     holds("refused-over", &["over", "2", "1"], &many);
+    holds("refused-screens", &["screens", SCREENS], &format!("plan\nleaf 1\nleaf 1\n{}", rules));
 }
 
 /// Built, checked, and each of a few places altered.

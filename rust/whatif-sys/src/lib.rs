@@ -246,3 +246,72 @@ extern "C" {
         passed: *mut u32,
     ) -> u32;
 }
+
+extern "C" {
+    /// Load of all eight screens: begins with a plan, and writes its tables.
+    pub fn whatif_screens_load(
+        records: *mut u8,
+        records_len: usize,
+        plan: *const u8,
+        plan_len: usize,
+        rules: *const u8,
+        rules_len: usize,
+        node_table: *mut u16,
+        node_table_len: usize,
+        state_table: *mut u8,
+        state_table_len: usize,
+        next: *mut u32,
+    ) -> u32;
+
+    /// Start on a screen: puts a question there.
+    pub fn whatif_screens_start(
+        records: *mut u8,
+        records_len: usize,
+        screen: u32,
+        plan: *const u8,
+        plan_len: usize,
+        rules: *const u8,
+        rules_len: usize,
+        node_table: *const u16,
+        node_table_len: usize,
+        state_table: *const u8,
+        state_table_len: usize,
+        nodes: *const u16,
+        nodes_len: usize,
+        labels: *const u8,
+        labels_len: usize,
+        parts: *mut u32,
+    ) -> u32;
+
+    /// Deal: one advance for the next running screen.
+    pub fn whatif_screens_deal(
+        records: *mut u8,
+        records_len: usize,
+        first: u32,
+        plan: *const u8,
+        plan_len: usize,
+        rules: *const u8,
+        rules_len: usize,
+        node_table: *const u16,
+        node_table_len: usize,
+        state_table: *const u8,
+        state_table_len: usize,
+        next: *mut u32,
+        finished: *mut u32,
+    ) -> u32;
+
+    /// Cancel on a screen: drops its question.
+    pub fn whatif_screens_cancel(records: *mut u8, records_len: usize, screen: u32) -> u32;
+
+    /// Read on a screen: tells its answer.
+    pub fn whatif_screens_read(
+        records: *const u8,
+        records_len: usize,
+        screen: u32,
+        state: *mut u32,
+        yes: *mut u32,
+        parts: *mut u32,
+        links: *mut u32,
+        passed: *mut u32,
+    ) -> u32;
+}

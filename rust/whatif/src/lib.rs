@@ -6,7 +6,7 @@
 //!
 //! Order: `sizes` (limits and lengths), `Refusal`, the calls on tables, how many choices end in each state (`count`),
 //! the calls on two rule tables (`merge`, `agree`), those on the planner's files (`plan_of_planner`, `planner_of_plan`), on two lists (`lay_over`), `Session`, the panel
-//! session, with `Lent`.
+//! session, with `Lent`; `Screens`, eight of them on one mill.
 //! The crate `whatif-sys` has the library's own functions. Without the feature `std` this crate needs `core` alone.
 //!
 //! The sample of document 01: plan A of seven nodes, and table A, under which label 0 takes the greater state of two
@@ -49,6 +49,7 @@ mod agree;
 mod count;
 mod planner;
 mod refusal;
+mod screens;
 mod session;
 pub mod sizes;
 #[doc(hidden)]
@@ -58,6 +59,7 @@ pub use agree::{agree, Line, SeparatingPlan};
 pub use count::{count, Counts};
 pub use planner::{plan_of_planner, planner_of_plan};
 pub use refusal::Refusal;
+pub use screens::{Deal, Screens};
 pub use session::{Answer, Lent, Progress, Session, State};
 
 /// This crate's version.

@@ -77,6 +77,7 @@ refusals! {
     LaidOver = 22, "Of the two lists laid over one another more than 64 nodes would remain.";
     LabelCounts = 23, "The two rule tables do not have the same count of labels.";
     StateProduct = 24, "The product of the two rule tables' counts of states is above 16.";
+    Screen = 25, "A screen's number or the one to try first is above 7, or the run is not as long as eight records.";
     Assignments = 26, "There are more than 10^18 assignments of labels to the nodes listed.";
 }
 

@@ -24,6 +24,11 @@ pub const RECORD_BYTES: usize = 983;
 /// The version of the record's layout. Records of different versions differ in length.
 pub const RECORD_LAYOUT: usize = 3;
 
+/// Screens on one mill.
+pub const SCREENS: usize = 8;
+/// Bytes of the run of their records.
+pub const SCREENS_BYTES: usize = SCREENS * RECORD_BYTES;
+
 /// Bytes of a plan of `n` nodes.
 pub const fn plan_bytes(n: usize) -> usize {
     12 + 2 * n

@@ -254,7 +254,10 @@ pub fn lay_over(
     }
 }
 
+pub use screens::*;
 pub use session::*;
+
+mod screens;
 
 mod session {
     use whatif_sys as raw;

@@ -47,7 +47,7 @@ use denote.Triple.Clauses.{AtExit, Lasts, lasts, ensured}
 use Rattle.formats.specs.Inputs.{Inputs, inputsOf}
 use Rattle.model.specs.Calls as calls
 use Rattle.screens.specs.ScreenCalls as screens
-use Rattle.screens.specs.ScreenCalls.{turnAnswer}
+use Rattle.screens.specs.ScreenCalls.{found, turnAnswer}
 use Rattle.session.specs.Promises.{CallDone}
 use Rattle.session.specs.Answers.{advanceAnswer}
 use Rattle.session.specs.Records.{freshSession}
@@ -55,7 +55,7 @@ use Rattle.session.specs.declared.state.Session.{Session}
 use Rattle.session.specs.declared.answers.Advanced.{Advanced}
 use Rattle.deals.specs.declared.DealAnswer.{DealAnswer}
 use Rattle.deals.specs.declared.DealAnswer.the-variants.{Refused}
-use Rattle.deals.specs.OnStructs.{at, found, runsIn, dealAnswer, ScreenDone}
+use Rattle.deals.specs.OnStructs.{at, runsIn, dealAnswer, ScreenDone}
 use Rattle.session.proofs.state.Session as T
 use Rattle.session.proofs.state.Session.Laws as T′
 use Rattle.session.proofs.answers.Advanced as O

@@ -1,6 +1,6 @@
 -- `deals::next_running` meets its contract.
 -- Assumes nothing.
-use Rattle.deals.proofs.FoundLaws.{found-beyond, found-here, found-on, found-nothing}
+use Rattle.screens.proofs.FoundLaws.{found-beyond, found-here, found-on, found-nothing}
 use Prim.Native.Nat.{_<_, _≤_}
 use mathlib.Core.Path.{_≡_, refl, sym, _∙_}
 use Rattle.screens.specs.ScreenCalls.{nextRunningIn}

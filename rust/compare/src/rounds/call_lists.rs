@@ -44,7 +44,7 @@ pub fn list(calls: usize, most_leaves: usize, random: &mut Random, counts: &mut 
 }
 
 /// Three plans with the same N, S and K, one with the same lengths as these, where there are such, and one more.
-fn plans(most_leaves: usize, random: &mut Random) -> Vec<(Case, Lent)> {
+pub fn plans(most_leaves: usize, random: &mut Random) -> Vec<(Case, Lent)> {
     let (leaves, s, k) = (random.between(1, most_leaves), random.between(1, 5), random.between(1, 5));
     let (s, k) = if random.below(4) == 0 { (1, 3) } else { (s, k) };
     let mut cases: Vec<Case> = (0..3).map(|_| same_sizes(leaves, s, k, random)).collect();
@@ -219,7 +219,7 @@ impl World<'_> {
     }
 }
 
-fn name(answer: Answer) -> String {
+pub fn name(answer: Answer) -> String {
     match answer {
         Answer::Refused(number) => format!("refused {}", number),
         Answer::Parts(_) => "parts".to_string(),

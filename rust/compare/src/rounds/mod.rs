@@ -17,6 +17,8 @@ pub mod other_bytes;
 pub mod planner_files;
 pub mod questions;
 pub mod refusals;
+pub mod screen_lists;
+pub mod screen_refusals;
 pub mod session_refusals;
 
 use crate::counts::Counts;
@@ -31,7 +33,7 @@ pub struct Round {
     compare: fn(&mut Random, &mut Counts),
 }
 
-pub const ROUNDS: [Round; 17] = [
+pub const ROUNDS: [Round; 19] = [
     Round { name: "builds", compare: builds::round },
     Round { name: "full checks", compare: full_checks::round },
     Round { name: "fresh runs", compare: fresh_runs::round },
@@ -49,6 +51,8 @@ pub const ROUNDS: [Round; 17] = [
     Round { name: "planner files", compare: planner_files::round },
     Round { name: "laying over", compare: lay_overs::round },
     Round { name: "choices", compare: choices::round },
+    Round { name: "screen lists", compare: screen_lists::round },
+    Round { name: "screen refusals", compare: screen_refusals::round },
 ];
 
 impl Round {

@@ -130,7 +130,7 @@ impl Scene {
     }
 
     /// A record in one of these states; or in any other or none at all, where 1 is among the faults.
-    fn record(&self, allowed: &[Phase], faults: &[u32], random: &mut Random) -> Vec<u8> {
+    pub fn record(&self, allowed: &[Phase], faults: &[u32], random: &mut Random) -> Vec<u8> {
         let refused = faults.contains(&1);
         let in_phases = |allows: bool| {
             let fitting = PHASES.iter().zip(&self.records).filter(move |(phase, _)| allowed.contains(phase) == allows);
@@ -166,7 +166,7 @@ impl Scene {
     }
 
     /// Lays the faults of Start or advance but 18, the last checks first.
-    fn lay(&mut self, faults: &[u32], random: &mut Random) {
+    pub fn lay(&mut self, faults: &[u32], random: &mut Random) {
         trace::say(format!("faults {:?}", faults));
         let Case { n, k, .. } = self.case;
         let has = |number: &u32| faults.contains(number);

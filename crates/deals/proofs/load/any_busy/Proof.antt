@@ -8,7 +8,8 @@ use Rattle.session.proofs.state.Session.Laws as T′
 use mathlib.Core.Path.{_≡_, refl, sym, _∙_}
 use Rattle.screens.specs.ScreenCalls.{anyRuns}
 use Rattle.deals.specs.OnStructs.{busy}
-use Rattle.deals.proofs.BusyLaws.{busy-at, any-here, any-on, any-end}
+use Rattle.screens.proofs.AnyLaws.{any-here, any-on, any-end}
+use Rattle.deals.proofs.BusyLaws.{busy-at}
 use native.Mathlib.Omega.{arith}
 use borrow.Author.Needs.{needs}
 use Rattle.deals.proofs.load.any_busy.Statement.{statement}

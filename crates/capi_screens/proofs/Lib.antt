@@ -1,0 +1,13 @@
+pub mod PartLaws
+pub mod ExportedLaws
+pub mod StartReadLaws
+pub mod DealLaws
+pub mod CopyLaws
+pub mod RestLaws
+pub mod LoadLaws
+pub mod LoadClears
+pub mod OwnBytes
+pub mod HeldRun
+pub mod DecodedLaws
+pub mod ScreensTheorem
+pub mod ScreenTies

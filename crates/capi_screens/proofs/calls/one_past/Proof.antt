@@ -1,0 +1,18 @@
+-- `capi_screens::calls::one_past` meets its contract.
+-- Assumes nothing.
+use borrow.Author.Tests.{lt-ltb, le-ltb}
+use native.Mathlib.Omega.{arith}
+use borrow.Author.Needs.{needs}
+use Rattle.capi_screens.proofs.calls.one_past.Statement.{statement}
+use Rattle.capi_screens.proofs.calls.one_past.Tie as tie
+use Rattle.capi_screens.proofs.calls.one_past.Reads as reads
+use Rattle.capi_screens.proofs.calls.one_past.Lts as lts
+
+returns : tie.Need-returns
+returns c = (simp (lt-ltb _ _ (c .if1 .taken)) (omega arith), omega arith)
+
+returns-2 : tie.Need-returns-2
+returns-2 c = (simp (le-ltb _ _ (c .if1 .left)), omega arith)
+
+pub one-past-spec : {M : Type 1} → statement M
+one-past-spec = tie.close (tie.spec (λ c. search needs) returns returns-2)

@@ -1,0 +1,3 @@
+pub mod RunLayout
+pub mod ScreensExported
+pub mod DecodedScreens

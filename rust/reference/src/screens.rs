@@ -1,0 +1,280 @@
+//! Eight screens on one mill (document 02, S-8): the five calls on a run of eight records, and eight panel books beside
+//! it. Each is eight of what a single session has, and what the document says of who is meant, who is served and which
+//! number is told.
+
+use crate::book::{self, Book};
+use crate::mistakes::{made, unless, Mistake};
+use crate::panel::{Answer, Call, Lends, Phase};
+use crate::record::{Record, RECORD_BYTES};
+use crate::session;
+use crate::tables::Tables;
+use std::rc::Rc;
+
+/// "numbered 0 to 7"
+pub const SCREENS: usize = 8;
+/// "The sessions are handed in as a run of eight records."
+pub const RUN_BYTES: usize = SCREENS * RECORD_BYTES;
+
+/// "Start, Cancel and Read name a screen." A deal is handed the screen to try first.
+#[derive(Clone, Copy)]
+pub enum ScreenCall<'a> {
+    Load(Lends<'a>),
+    Start(u32, Lends<'a>, &'a [u16], &'a [u8]),
+    Cancel(u32),
+    Read(u32),
+    Deal(u32, Lends<'a>),
+}
+
+#[derive(Clone, Copy, Debug, PartialEq, Eq)]
+pub enum ScreenAnswer {
+    /// Of Start, Cancel and Read, and every refusal.
+    One(Answer),
+    /// An accepted Load: the screen to try first.
+    Loaded(u32),
+    /// "A deal tells that number and what the advance tells."
+    Dealt(u32, Answer),
+}
+
+impl ScreenAnswer {
+    pub const fn refused(number: u32) -> ScreenAnswer {
+        ScreenAnswer::One(Answer::Refused(number))
+    }
+
+    /// The screen to try first, where it is told.
+    pub fn number(self) -> Option<u32> {
+        match self {
+            ScreenAnswer::Loaded(number) | ScreenAnswer::Dealt(number, _) => Some(number),
+            ScreenAnswer::One(_) => None,
+        }
+    }
+}
+
+/// What a call leaves: the answer, the run's bytes, and the tables that an accepted Load writes.
+pub struct Done {
+    pub answer: ScreenAnswer,
+    pub run: Vec<u8>,
+    pub tables: Option<Tables>,
+}
+
+/// Whose a call is.
+#[derive(Clone, Copy, Debug, PartialEq, Eq)]
+pub enum Whose {
+    /// Refused, and nobody's.
+    Nobody(u32),
+    All,
+    Screen(usize),
+    /// A turn: the screen is served.
+    Turn(usize),
+}
+
+/// "A screen number above 7, the one to try first included, or a run of another length, gives 25, before everything
+/// else." Then 1: "Load is refused while any screen runs", "A deal with no screen running gives 1".
+pub fn whose(
+    call: &ScreenCall,
+    right_length: bool,
+    busy: impl Fn(usize) -> bool,
+    runs: impl Fn(usize) -> bool,
+) -> Whose {
+    let screen = |number: u32| unless(Mistake::ScreenCut, number as usize, number as u8 as usize);
+    let named = match *call {
+        ScreenCall::Load(_) => 0,
+        ScreenCall::Start(number, ..) | ScreenCall::Cancel(number) | ScreenCall::Read(number) => screen(number),
+        ScreenCall::Deal(number, _) => screen(number),
+    };
+    let wrong = !right_length || named >= SCREENS;
+    let late = made(Mistake::StateBeforeScreen);
+    if wrong && !late {
+        return Whose::Nobody(25);
+    }
+    let whose = match *call {
+        ScreenCall::Load(_) if (0..SCREENS).any(busy) => Whose::Nobody(1),
+        ScreenCall::Load(_) => Whose::All,
+        ScreenCall::Deal(..) => {
+            let from = unless(Mistake::ServedFromZero, named, 0);
+            next(from, runs).map_or(Whose::Nobody(1), Whose::Turn)
+        }
+        _ => Whose::Screen(named),
+    };
+    match whose {
+        Whose::Nobody(_) => whose,
+        _ if wrong => Whose::Nobody(25),
+        _ => whose,
+    }
+}
+
+/// "the next running screen .., going from 7 back to 0", the one to try first included
+fn next(first: usize, runs: impl Fn(usize) -> bool) -> Option<usize> {
+    (first..SCREENS).chain(0..first.min(SCREENS)).find(|&i| runs(i))
+}
+
+/// "one past the screen served, 0 past 7"
+fn after(served: usize) -> u32 {
+    let past = (served as u32 + 1) % unless(Mistake::EightToldPastSeven, 8, 9);
+    unless(Mistake::ServedTold, past, served as u32)
+}
+
+/// A call on the run's bytes.
+pub fn call(run: &[u8], call: &ScreenCall) -> Done {
+    let right_length = run.len() == RUN_BYTES || run.len() == RUN_BYTES + 1 && made(Mistake::LongerRun);
+    let record = |i: usize| run.get(RECORD_BYTES * i..RECORD_BYTES * (i + 1)).unwrap_or(&[]);
+    let is_running = |i: usize| record(i).first() == Some(&2);
+    let whole = |i: usize| Record::of(record(i)).is_some();
+    let busy = |i: usize| is_running(i) || !whole(i);
+    let runs = |i: usize| is_running(i) && (whole(i) || !made(Mistake::BrokenPassedOver));
+    let answer = |whose| match whose {
+        Whose::Nobody(number) => refused(run, number),
+        Whose::All => load_all(run, call),
+        Whose::Screen(i) | Whose::Turn(i) => on_screen(run, i, record(i), call),
+    };
+    let whose = whose(call, right_length, busy, runs);
+    let broken = (0..SCREENS).any(|i| !whole(i));
+    match (whose, answer(whose)) {
+        (Whose::Turn(_), _) if broken && made(Mistake::DealAsksAll) => refused(run, 1),
+        // a deal refused with 17 or 18 goes on to the next screen
+        (Whose::Turn(i), done) if done.answer.number().is_none() && made(Mistake::RefusedGoesOn) => {
+            next(i + 1, runs).map_or(done, |other| on_screen(run, other, record(other), call))
+        }
+        (_, done) => done,
+    }
+}
+
+fn refused(run: &[u8], number: u32) -> Done {
+    Done { answer: ScreenAnswer::refused(number), run: run.to_vec(), tables: None }
+}
+
+/// "Load .. clears them all", each as a first Load leaves a session.
+fn load_all(run: &[u8], call: &ScreenCall) -> Done {
+    let lends = match *call {
+        ScreenCall::Load(lends) => lends,
+        _ => unreachable!("a Load is for all"),
+    };
+    let one = session::call(&Record::fresh().bytes(), &Call::Load(lends));
+    if let Answer::Refused(number) = one.answer {
+        return refused(run, number);
+    }
+    let mut all = one.record.repeat(SCREENS);
+    all.extend(&run[RUN_BYTES..]);
+    if made(Mistake::OneCleared) {
+        all[RECORD_BYTES..].copy_from_slice(&run[RECORD_BYTES..]);
+    }
+    if made(Mistake::AnswersStay) {
+        for (now, was) in all.chunks_exact_mut(RECORD_BYTES).zip(run.chunks_exact(RECORD_BYTES)) {
+            now[967..975].copy_from_slice(&was[967..975]);
+            now[979..983].copy_from_slice(&was[979..983]);
+        }
+    }
+    Done { answer: ScreenAnswer::Loaded(0), run: all, tables: one.tables }
+}
+
+/// The call of a single session on the record of a screen; the others stay.
+fn on_screen(run: &[u8], i: usize, record: &[u8], call: &ScreenCall) -> Done {
+    let one = session::call(record, &alone(call));
+    let mut run = run.to_vec();
+    run[RECORD_BYTES * i..RECORD_BYTES * (i + 1)].copy_from_slice(&one.record);
+    let refused = matches!(one.answer, Answer::Refused(_));
+    if made(Mistake::NextOneWritten) && !refused && !matches!(call, ScreenCall::Read(_)) {
+        let other = (i + 1) % SCREENS;
+        run.copy_within(RECORD_BYTES * i..RECORD_BYTES * (i + 1), RECORD_BYTES * other);
+    }
+    Done { answer: told(call, i, one.answer), run, tables: None }
+}
+
+/// A deal that is accepted tells the number too.
+fn told(call: &ScreenCall, served: usize, answer: Answer) -> ScreenAnswer {
+    match (call, answer) {
+        (ScreenCall::Deal(..), Answer::More | Answer::Finished) => ScreenAnswer::Dealt(after(served), answer),
+        _ => ScreenAnswer::One(answer),
+    }
+}
+
+/// The call as a single session has it: "its own calls and its turns as advances".
+pub fn alone<'a>(call: &ScreenCall<'a>) -> Call<'a> {
+    match *call {
+        ScreenCall::Load(lends) => Call::Load(lends),
+        ScreenCall::Start(_, lends, nodes, labels) => Call::Start(lends, nodes, labels),
+        ScreenCall::Cancel(_) => Call::Cancel,
+        ScreenCall::Read(_) => Call::Read,
+        ScreenCall::Deal(_, lends) => Call::Advance(lends),
+    }
+}
+
+/// "Each screen has a panel book of its own, fed with the accepted Loads, its own calls and its turns as advances."
+/// They are fed the calls and what is lent, never the run.
+#[derive(Clone)]
+pub struct Books {
+    /// Eight.
+    books: Vec<Book>,
+}
+
+impl Default for Books {
+    fn default() -> Books {
+        Books { books: vec![Book::default(); SCREENS] }
+    }
+}
+
+/// The books' reply to a call.
+pub enum Next {
+    /// The answer, and the books then.
+    Settled(ScreenAnswer, Books),
+    /// Left to the program: the books after its answer; none where that answer is not allowed.
+    Left(Box<dyn Fn(ScreenAnswer) -> Option<Books>>),
+}
+
+impl Books {
+    pub fn of(&self, screen: usize) -> &Book {
+        &self.books[screen]
+    }
+
+    pub fn runs(&self, screen: usize) -> bool {
+        self.books[screen].phase() == Phase::Running
+    }
+
+    /// Whose a call on a run of the right length is.
+    pub fn whose(&self, call: &ScreenCall) -> Whose {
+        whose(call, true, |i| self.runs(i), |i| self.runs(i))
+    }
+
+    pub fn next(&self, call: &ScreenCall) -> Next {
+        match self.whose(call) {
+            Whose::Nobody(number) => Next::Settled(ScreenAnswer::refused(number), self.clone()),
+            Whose::All => self.load(call),
+            Whose::Screen(i) | Whose::Turn(i) => self.on_screen(i, call),
+        }
+    }
+
+    /// "the accepted Loads": each book takes it; a refused one is nobody's.
+    fn load(&self, call: &ScreenCall) -> Next {
+        let mut after = self.clone();
+        for at in &mut after.books {
+            match at.next(&alone(call)) {
+                book::Next::Settled(Answer::Accepted, book) => *at = book,
+                book::Next::Settled(answer, _) => return Next::Settled(ScreenAnswer::One(answer), self.clone()),
+                book::Next::Left(_) => unreachable!("a Load is settled"),
+            }
+        }
+        Next::Settled(ScreenAnswer::Loaded(0), after)
+    }
+
+    fn on_screen(&self, i: usize, call: &ScreenCall) -> Next {
+        match self.books[i].next(&alone(call)) {
+            book::Next::Settled(answer, book) => Next::Settled(told(call, i, answer), self.with(i, book)),
+            book::Next::Left(after) => {
+                let (as_is, is_deal) = (Rc::new(self.clone()), matches!(call, ScreenCall::Deal(..)));
+                Next::Left(Box::new(move |answer| {
+                    let one = match answer {
+                        ScreenAnswer::Dealt(number, answer) if is_deal && number == self::after(i) => answer,
+                        ScreenAnswer::One(answer) if !is_deal || matches!(answer, Answer::Refused(_)) => answer,
+                        _ => return None,
+                    };
+                    after(one).map(|book| as_is.with(i, book))
+                }))
+            }
+        }
+    }
+
+    fn with(&self, i: usize, book: Book) -> Books {
+        let mut books = self.clone();
+        books.books[i] = book;
+        books
+    }
+}
