@@ -47,6 +47,7 @@ Runs s k lv inn ks ls i before after =
 pub record StateArgs (ks ls b lv inn : List ℕ) (s k m : ℕ) : Type 0 where
   pub postorder : isPostorder ks ≡ true
   pub count : length ls ≡ length ks
+  pub most : length ks ≤ 65535
   pub below : (j : ℕ) → getD ls j 0 < k
   pub link-room : nodeTableLength (length ks) ≤ length b
   pub sizes : Sizes ks b
