@@ -84,7 +84,8 @@ module _ (ks : List ℕ) (b v c : ℕ) (l : List ℕ) (L : Listed ks b v c l) (r
       | yes z ↦ L .rest p
           (omega (arith, from-same b l c v c (omega arith), ap (from b (set l c v)) z))
           (omega (arith, new, ap (λ (x : ℕ). getD (set l c v) x 0) z))
-      | no z ↦ L .gaps i p (omega arith) (omega (arith, from-same b l c v i (omega arith))) (omega (arith, old i (omega arith)))
+      | no z ↦ L .gaps i p (omega arith) (omega (arith, from-same b l c v i (omega arith)))
+          (omega (arith, old i (omega arith)))
     ];
     rest = λ p f g. absurd (omega (arith, from-next b (set l c v) c, new));
   }

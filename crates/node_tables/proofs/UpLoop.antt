@@ -20,7 +20,8 @@ use Rattle.trees.proofs.NodeLaws.{Inner, inner, Up, up, sub-leaf, sub-size, siz
 use Rattle.trees.proofs.PostorderLaws.{size-of, kind-of, some-tree}
 use Rattle.node_tables.specs.Cells.{parentCell, sizeCell, NodeTableArgs}
 use Rattle.node_tables.specs.NodeCells.{UpTo, UpWritten, AllUpWritten}
-use Rattle.node_tables.specs.inner.UpPass.{leftOf, innerSize, iteration, innerIteration, cleared, before, upIteration}
+use Rattle.node_tables.specs.inner.UpPass.{leftOf, innerSize, iteration, innerIteration, cleared, before}
+use Rattle.node_tables.specs.inner.UpPass.{upIteration}
 use Rattle.node_tables.specs.inner.UpPass.{InnerArgs, TurnArgs}
 
 -- ---- what a turn leaves and what it writes
@@ -237,7 +238,8 @@ pub nothing-written : (ks b : List ℕ) → UpsWritten ks 0 b b
 nothing-written ks b t e = record { cells = none-yet t b; kept = λ j a. refl }
 
 module _ (ks : List ℕ) (i : ℕ) (b₀ b : List ℕ) (all : UpsWritten ks i b₀ b) where
-  pub turns : i < length ks → length ks * 4 ≤ length b → (c : ℕ) → c ≡ getD ks i 0 → UpsWritten ks (i + 1) b₀ (upIteration b i c)
+  pub turns : i < length ks → length ks * 4 ≤ length b → (c : ℕ) → c ≡ getD ks i 0 → UpsWritten ks (i + 1) b₀
+      (upIteration b i c)
   turns h room c e t f =
       let hi : i < size t = omega (arith, size-of t ks f) in
       let k : getD (kindsOf t) i 0 ≡ c = kind-of t ks i f ∙ sym e in

@@ -1,6 +1,7 @@
 -- The turns of the loop that writes the maps, from the root down, both children of an inner node at its turn.
 --     right-is, left-is       the values written are the children's maps
---     pairs-start, pairs-turn, pairs-lower, pairs-all   the root's map, one more inner node, leaves passed by, all of them
+--     pairs-start, pairs-turn, pairs-lower, pairs-all   the root's map, one more inner node, leaves passed by, all of
+--   them
 --     pair-args               what one node's writer needs
 -- Assumes nothing.
 use Prim.Native.Nat.{ℕ, _+_, _-_, _*_, _≤_, _<_}
@@ -78,7 +79,8 @@ module _ (s k : ℕ) (lv inn mk : List ℕ) (t : Tree) (ks ls b e : List ℕ) (P
     left-more : leftOf b v + 1 < v
     left-more = omega (arith, right-size, I .at, size-pos (sub t (v - 1)))
 
-    pub maps-from : (u q : ℕ) → v ≤ u → u < size t → q < s → mapCell s st u q ≡ stateMap (treeAutomaton s k lv inn mk) t u q
+    pub maps-from : (u q : ℕ) → v ≤ u → u < size t → q < s → mapCell s st u q ≡ stateMap
+        (treeAutomaton s k lv inn mk) t u q
     maps-from u q g l m = W .maps u q l (λ n. omega (arith, up t u n .above)) m
 
     pub state-is : (u : ℕ) → u < size t → stateCell s st u ≡ state (treeAutomaton s k lv inn mk) (sub t u)
@@ -90,7 +92,8 @@ module _ (s k : ℕ) (lv inn mk : List ℕ) (t : Tree) (ks ls b e : List ℕ) (P
     left-label : labelAt t (parent t (leftOf b v)) ≡ getD ls v 0
     left-label = ap₂ (λ (l : List ℕ) (n : ℕ). getD l n 0) (P .labels) left-up
 
-    right-step : (q : ℕ) → getD inn (rowStart ls b st s k v + q * 1) 0 ≡ stepUp (treeAutomaton s k lv inn mk) t (v - 1) q
+    right-step : (q : ℕ) → getD inn (rowStart ls b st s k v + q * 1) 0 ≡ stepUp (treeAutomaton s k lv inn mk) t
+        (v - 1) q
     right-step q =
         let u : ℕ = v - 1 - size (sub t (v - 1)) in
         let x : ℕ = state (treeAutomaton s k lv inn mk) (sub t u) in
@@ -102,7 +105,8 @@ module _ (s k : ℕ) (lv inn mk : List ℕ) (t : Tree) (ks ls b e : List ℕ) (P
         ap₂ (λ (x a : ℕ). getD inn ((x * k + a) * s + q * 1) 0) p (sym right-label) ∙ ap (λ (j : ℕ). getD inn j 0) i
         ∙ sym (stepUp-right (treeAutomaton s k lv inn mk) t (v - 1) (omega (arith, pos)) q up)
 
-    left-step : (q : ℕ) → getD inn (colStart ls st s v + q * (k * s)) 0 ≡ stepUp (treeAutomaton s k lv inn mk) t (leftOf b v) q
+    left-step : (q : ℕ) → getD inn (colStart ls st s v + q * (k * s)) 0 ≡ stepUp (treeAutomaton s k lv inn mk) t
+        (leftOf b v) q
     left-step q =
         let u : ℕ = leftOf b v in
         let x : ℕ = state (treeAutomaton s k lv inn mk) (sub t (parent t u - 1)) in
@@ -112,12 +116,14 @@ module _ (s k : ℕ) (lv inn mk : List ℕ) (t : Tree) (ks ls b e : List ℕ) (P
         state-is (v - 1) (omega arith) ∙ ap (λ (n : ℕ). state (treeAutomaton s k lv inn mk) (sub t n)) r in
         let i : a * s + x + q * (k * s) ≡ (q * k + a) * s + x = omega arith in
         ap₂ (λ (x a : ℕ). getD inn (a * s + x + q * (k * s)) 0) p (sym left-label) ∙ ap (λ (j : ℕ). getD inn j 0) i
-        ∙ sym (stepUp-left (treeAutomaton s k lv inn mk) t u (omega (arith, left-more)) q (λ z. omega (arith, left-up, left-more)))
+        ∙ sym (stepUp-left (treeAutomaton s k lv inn mk) t u (omega (arith, left-more)) q
+        (λ z. omega (arith, left-up, left-more)))
 
     -- both children's jumps go by their parent alone
     same-jump : jumpCell b (v - 1) ≡ jump t (leftOf b v)
     same-jump =
-        let F : ℕ → ℕ = λ p. twoDistances (depth t p) (depth t (jump t p)) (depth t (jump t (jump t p))) (jump t (jump t p)) p in
+        let F : ℕ → ℕ = λ p. twoDistances (depth t p) (depth t (jump t p)) (depth t (jump t (jump t p)))
+        (jump t (jump t p)) p in
         P .jumps (v - 1) (omega arith) ∙ jump-rule t (v - 1) (omega (arith, pos)) ∙ ap F (I .right-up ∙ sym left-up)
         ∙ sym (jump-rule t (leftOf b v) (omega (arith, left-more)))
 
@@ -144,15 +150,21 @@ module _ (s k : ℕ) (lv inn mk : List ℕ) (t : Tree) (ks ls b e : List ℕ) (P
           taken-is (v - 1) q (getD inn (rowStart ls b st s k v + q * 1) 0) (omega (arith, pos)) (I .right-up)
           (P .jumps (v - 1) (omega arith)) l (right-step q)
 
-      left-is : (q : ℕ) → q < s → leftValue ls b inn s k st v q ≡ stateMap (treeAutomaton s k lv inn mk) t (leftOf b v) q
+      left-is : (q : ℕ) → q < s → leftValue ls b inn s k st v q ≡ stateMap (treeAutomaton s k lv inn mk) t
+          (leftOf b v) q
       unfolding leftValue
       left-is q l =
           taken-is (leftOf b v) q (getD inn (colStart ls st s v + q * (k * s)) 0) (omega (arith, left-more)) left-up
           same-jump l (left-step q)
 
-      other-parent : (u : ℕ) → (u ≡ v - 1 → ⊥) → (u ≡ leftOf b v → ⊥) → u + 1 < size t → v ≤ parent t u → v + 1 ≤ parent t u
+      other-parent : (u : ℕ) → (u ≡ v - 1 → ⊥) → (u ≡ leftOf b v → ⊥) → u + 1 < size t → v ≤ parent t u
+          → v + 1 ≤ parent t u
       other-parent u z y n g = elim (ℕ-discrete (parent t u) v) [
-        | yes c ↦ absurd (elim (child-is t v I u (subst (Up t u) c (up t u n))) [ inl a ↦ z a | inr a ↦ y (a ∙ sym at-left) ])
+        | yes c ↦ absurd (elim (child-is t v I u (subst (Up t u) c (up t u n))) [
+          | inl a ↦ z a
+          | inr a ↦ y
+              (a ∙ sym at-left)
+        ])
         | no c ↦ omega arith
       ]
 
@@ -170,7 +182,8 @@ module _ (s k : ℕ) (lv inn mk : List ℕ) (t : Tree) (ks ls b e : List ℕ) (P
                 ∙ W .maps u q l (λ n. other-parent u z y n (g n)) m
           ]
         ];
-        kept = λ j a. R .kept j (λ q m. a (v - 1) q (omega arith) m) (λ q m. a (leftOf b v) q (omega (arith, left-more)) m)
+        kept = λ j a. R .kept j (λ q m. a (v - 1) q (omega arith) m)
+            (λ q m. a (leftOf b v) q (omega (arith, left-more)) m)
             ∙ W .kept j a;
       }
 
@@ -198,7 +211,8 @@ module _ (ks ls b inn : List ℕ) (s k : ℕ) (e st : List ℕ) where
       → PairRowed s (rightValue ls b inn s k st v) (leftValue ls b inn s k st v) (v - 1) (leftOf b v) st after
       → Pairs ks ls b inn s k v e after
   pairs-turn v after below h kind W R lv mk t P =
-      pair-turn s k lv inn mk t ks ls b e P st v (omega (arith, size-of t ks (P .kinds))) kind (W lv mk t P) below after R
+      pair-turn s k lv inn mk t ks ls b e P st v (omega (arith, size-of t ks (P .kinds))) kind
+      (W lv mk t P) below after R
 
   pub pairs-down : (lo hi : ℕ) → ((p : ℕ) → lo ≤ p → p < hi → getD ks p 0 ≡ 0) → Pairs ks ls b inn s k hi e st
       → Pairs ks ls b inn s k lo e st

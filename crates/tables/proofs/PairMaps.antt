@@ -75,7 +75,8 @@ module _ (ls b inn : List ℕ) (s k : ℕ) (st : List ℕ) (v : ℕ) (A : PairAr
       let x : ℕ = stateCell s st (leftOf b v) in
       omega (
         arith,
-        rule-in s k x (getD ls v 0) q (A .state-below (leftOf b v) (omega (arith, left-below, A .inside))) (A .below v) h,
+        rule-in s k x (getD ls v 0) q (A .state-below (leftOf b v) (omega (arith, left-below, A .inside)))
+            (A .below v) h,
         A .inner-count,
       )
 
@@ -122,7 +123,8 @@ module _ (ls b inn : List ℕ) (s k : ℕ) (st : List ℕ) (v : ℕ) (A : PairAr
 
 module _ (ls b inn : List ℕ) (s k : ℕ) (st : List ℕ) (v : ℕ) (after : List ℕ) where
   pub near-values : jumpCell b (v - 1) ≡ v
-      → PairRowed s (λ q. getD inn (rowStart ls b st s k v + q * 1) 0) (λ q. getD inn (colStart ls st s v + q * (k * s)) 0)
+      → PairRowed s (λ q. getD inn (rowStart ls b st s k v + q * 1) 0)
+      (λ q. getD inn (colStart ls st s v + q * (k * s)) 0)
       (v - 1) (leftOf b v) st after
       → PairRowed s (rightValue ls b inn s k st v) (leftValue ls b inn s k st v) (v - 1) (leftOf b v) st after
   unfolding rightValue leftValue

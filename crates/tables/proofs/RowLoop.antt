@@ -19,11 +19,13 @@ placed-is : (s : ℕ) (b : List ℕ) (v q : ℕ) → placed s b v q ≡ mapCell 
 placed-is s b v q = let e : v * (s + 1) + 1 + q ≡ v * (s + 1) + (1 + q) = omega arith in ap (λ (j : ℕ). getD b j 0) e
 
 module _ (s v p j i : ℕ) (table : List ℕ) (base stride : ℕ) (b₀ b : List ℕ)
-    (r : RowTo s (farCell s b₀ p j table base stride) v i b₀ b) (args : FarArgs b₀ s v p j table base stride) (h : i < s) where
+    (r : RowTo s (farCell s b₀ p j table base stride) v i b₀ b) (args : FarArgs b₀ s v p j table base stride)
+    (h : i < s) where
   far-near : placed s b p (getD table (base + i * stride) 0) ≡ mapCell s b₀ p (getD table (base + i * stride) 0)
   far-near =
       placed-is s b p (getD table (base + i * stride) 0)
-      ∙ row-other s (farCell s b₀ p j table base stride) v i b₀ b r p (getD table (base + i * stride) 0) (args .near-other)
+      ∙ row-other s (farCell s b₀ p j table base stride) v i b₀ b r p (getD table (base + i * stride) 0)
+      (args .near-other)
       (omega arith) (args .here-below i h)
 
   pub far-near-below : placed s b p (getD table (base + i * stride) 0) < s

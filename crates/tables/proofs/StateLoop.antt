@@ -73,7 +73,8 @@ module _ (A : Automaton) (t : Tree) (i e : ℕ) (b₀ b : List ℕ) (ran : RanTo
       (set b (i * (A .states + 1)) x)
   state-iteration x room z = record {
     states = λ v l g. elim (ℕ-discrete v i) [
-      | yes p ↦ rw p (getD-set-same b (i * (A .states + 1)) x 0 (omega (arith, stride (A .states + 1) i (size t) h)) ∙ z)
+      | yes p ↦ rw p (getD-set-same b (i * (A .states + 1)) x 0 (omega (arith, stride (A .states + 1) i (size t) h))
+          ∙ z)
       | no p ↦ getD-set-other b (i * (A .states + 1)) (v * (A .states + 1)) x 0
           (state-cells-apart (A .states + 1) v i (omega arith) p)
           ∙ ran .states v l (λ c. omega (arith, g c))
@@ -83,7 +84,7 @@ module _ (A : Automaton) (t : Tree) (i e : ℕ) (b₀ b : List ℕ) (ran : RanTo
 
   -- the children's states, where they stand
   module _ (nodeTable : List ℕ) (sizes : (v : ℕ) → v < size t → sizeCell nodeTable v ≡ size (sub t v))
-    (c : kindAt t i ≡ 0 → ⊥) (he : i < e)
+      (c : kindAt t i ≡ 0 → ⊥) (he : i < e)
     where
       kin : Children t i
       kin = children t i h c
@@ -117,7 +118,7 @@ leaf-states s k lv inn ks ls i e b₀ b after inside all L mk t x y =
             | no c ↦ absurd (omega (arith, g c))
           ])
           (λ n. L .kept (v * (s + 1)) (λ u m f. state-cells-apart (s + 1) v u (omega arith) (omega arith))
-              ∙ all mk t x y .states v n);
+          ∙ all mk t x y .states v n);
       kept = λ j a. L .kept j (λ u m f. a u (omega arith)) ∙ all mk t x y .kept j a;
     }
 

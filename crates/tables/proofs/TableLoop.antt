@@ -57,7 +57,8 @@ module _ (ks ls b lv inn : List ℕ) (s k : ℕ) (e st : List ℕ) (args : Table
         room = rw (args .run .count, same) (args .run .room);
       }
 
-  pub states-over : (after : List ℕ) → length after ≡ length e → Maps ks ls b inn s k 0 st after → StatesOver s k lv inn ks
+  pub states-over : (after : List ℕ) → length after ≡ length e → Maps ks ls b inn s k 0 st after
+      → StatesOver s k lv inn ks
       ls e after
   unfolding stateTableOf
   states-over after same M mk t x y =

@@ -69,8 +69,10 @@ fn fill_pair(
 )
     requires { ⌜ PairArgs (now labels) (now «node_table») (now inner) s k (now «state_table») v ⌝ }
     ensures { λ _. ⌜
-        PairRowed s (rightValue (now (labels .entry)) (now («node_table» .entry)) (now (inner .entry)) s k (now («state_table» .entry)) v)
-        (leftValue (now (labels .entry)) (now («node_table» .entry)) (now (inner .entry)) s k (now («state_table» .entry)) v)
+        PairRowed s (rightValue (now (labels .entry)) (now («node_table» .entry)) (now (inner .entry)) s k
+        (now («state_table» .entry)) v)
+        (leftValue (now (labels .entry)) (now («node_table» .entry)) (now (inner .entry)) s k
+        (now («state_table» .entry)) v)
         (v - 1) (leftOf (now («node_table» .entry)) v) (now («state_table» .entry)) (now («state_table» .exit)) ⌝ }
 {
     let right = v - 1;
@@ -101,7 +103,8 @@ fn fill_block(
     list: &mut [u16],
     state_table: &mut [u8],
 )
-    requires { ⌜ BlockArgs (now kinds) (now labels) (now «node_table») (now inner) s k b e (length (now list)) (now «state_table») ⌝ }
+    requires { ⌜ BlockArgs (now kinds) (now labels) (now «node_table») (now inner) s k b e (length (now list))
+        (now «state_table») ⌝ }
     ensures { λ _. ⌜
         BlockMapped (now (kinds .entry)) (now (labels .entry)) (now («node_table» .entry)) (now (inner .entry)) s k b e
         (now («state_table» .entry)) (now («state_table» .exit)) ⌝ }
@@ -109,7 +112,15 @@ fn fill_block(
     let mut i = list_inner(kinds, b, e, list);
     while 0 < i {
         i -= 1;
-        fill_pair(labels, node_table, inner, s, k, list[i] as usize, state_table);
+        fill_pair(
+            labels,
+            node_table,
+            inner,
+            s,
+            k,
+            list[i] as usize,
+            state_table,
+        );
     }
 }
 
@@ -133,7 +144,18 @@ pub fn fill_maps(
     let mut list = empty_list();
     while 0 < e {
         let b = block_start(e);
-        fill_block(kinds, labels, node_table, inner, s, k, b, e, &mut list, state_table);
+        fill_block(
+            kinds,
+            labels,
+            node_table,
+            inner,
+            s,
+            k,
+            b,
+            e,
+            &mut list,
+            state_table,
+        );
         e = b;
     }
 }

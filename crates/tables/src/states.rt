@@ -32,7 +32,8 @@ pub fn inner_state(
 // Writes the states of the nodes b, .. e - 1 as if all were leaves.
 fn leaf_states(labels: &[u8], leaves: &[u8], s: usize, b: usize, e: usize, state_table: &mut [u8])
     requires { ⌜ LeafArgs (now labels) (now leaves) s b e (length (now «state_table»)) ⌝ }
-    ensures { λ _. ⌜ Leaves s (now (leaves .entry)) (now (labels .entry)) b e (now («state_table» .entry)) (now («state_table» .exit)) ⌝ }
+    ensures { λ _. ⌜ Leaves s (now (leaves .entry)) (now (labels .entry)) b e (now («state_table» .entry))
+        (now («state_table» .exit)) ⌝ }
 {
     let mut v = b;
     while v < e {
@@ -55,7 +56,8 @@ fn run_block(
     list: &mut [u16],
     state_table: &mut [u8],
 )
-    requires { ⌜ RunBlockArgs (now kinds) (now labels) (now «node_table») (now leaves) (now inner) s k b e (length (now list))
+    requires { ⌜ RunBlockArgs (now kinds) (now labels) (now «node_table») (now leaves) (now inner) s k b e
+        (length (now list))
         (now «state_table») ⌝ }
     ensures { λ _. ⌜
         BlockRun s k (now (leaves .entry)) (now (inner .entry)) (now (kinds .entry)) (now (labels .entry)) b e

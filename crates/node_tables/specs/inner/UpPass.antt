@@ -4,7 +4,8 @@
 -- leftOf b v == the left child of inner node v, by the sizes in table b; its right child is v - 1
 -- innerSize b v == the size of inner node v, by the sizes of its children
 -- innerIteration b v == table b with inner node v's size and with v as the parent of its children
--- upIteration b v c == the same for node v of kind c: with its size cleared first, a leaf has no other children than itself
+-- upIteration b v c == the same for node v of kind c: with its size cleared first, a leaf has no other children than
+--   itself
 -- InnerArgs b v, TurnArgs b v c == what these need of the table
 --
 -- Assumes nothing.
@@ -35,7 +36,8 @@ before b r = r - sizeCell b r
 
 abbrev pub upIteration : List ℕ → ℕ → ℕ → List ℕ
 upIteration b v c =
-    iteration (cleared b v) v (sizeCell (cleared b v) (before (cleared b v) (v - c)) + sizeCell (cleared b v) (v - c) + 1)
+    iteration (cleared b v) v (sizeCell (cleared b v) (before (cleared b v) (v - c)) + sizeCell (cleared b v)
+    (v - c) + 1)
     (v - c) (before (cleared b v) (v - c))
 
 pub record InnerArgs (b : List ℕ) (v : ℕ) : Type 0 where

@@ -1,6 +1,7 @@
 -- The maps of a table of states: what the loop that writes them leaves, and what it needs.
 --
--- Prepared s k lv inn mk t ks ls b e == kinds ks, labels ls and links b are the tree's, and the state bytes of e are its run's
+-- Prepared s k lv inn mk t ks ls b e == kinds ks, labels ls and links b are the tree's, and the state bytes of e are
+--   its run's
 -- Mapped A t i before after == the nodes from i on have their maps, and no byte outside the maps is changed
 -- nearBase, nearStep == where node v's step to its parent stands in the inner states: entry q at
 --   nearBase + q * nearStep
@@ -8,7 +9,8 @@
 -- Maps ks ls b inn s k i before after == Mapped, for the tree and the rule tables that the table before is prepared for
 -- MapArgs == what fill_maps needs
 --
--- A node is its parent's right child exactly where its number is one less. How both children's maps are written at their
+-- A node is its parent's right child exactly where its number is one less. How both children's maps are written at
+-- their
 -- parent's turn is MapPairs.
 -- Assumes nothing.
 use Prim.Native.Nat.{ℕ, _+_, _-_, _*_, _≤_, _<_}

@@ -5,7 +5,8 @@
 -- Sizes ks b == the table of links b has the sizes of the tree with kinds ks
 -- Ran A t i before after == the state bytes of the nodes below i are the run's, and no byte but a state byte is changed
 -- Runs s k lv inn ks ls i before after == that, for the tree with kinds ks and labels ls, whatever the marks are
--- RanTo A t i e before after == the state bytes of the leaves below e are the run's, and of the inner nodes below e those
+-- RanTo A t i e before after == the state bytes of the leaves below e are the run's, and of the inner nodes below e
+--   those
 --   below i; RunsTo == that, for the tree with kinds ks and labels ls
 -- Leaves s lv ls b e before after == the state bytes of b, .. e - 1 are those of leaves with their labels
 -- BlockRun .. b e before after == the nodes b, .. e - 1 have their states, whatever buffer the pass began with

@@ -1,4 +1,5 @@
--- `maps::fill_block` meets its contract. The loop's invariant: whatever buffer the pass began with, the inner nodes after
+-- `maps::fill_block` meets its contract. The loop's invariant: whatever buffer the pass began with, the inner nodes
+-- after
 -- the first i listed ones have had their turns.
 -- Assumes nothing.
 use Prim.Native.Nat.{ℕ, _+_, _-_, _≤_, _<_}
@@ -31,7 +32,8 @@ list-inner-requires : tie.Need-list-inner-requires Inv-loop μ-loop
 list-inner-requires c κs =
     let s = c .before .before .before .before .before .before .before in
     let g = s .args in
-    list-args (g .kinds .now) (g .labels .now) (g .node-table .now) (g .inner .now) (g .s) (g .k) (s .pre .first) (s .pre .args) (g .b) (g .e) (length (g .list .now)) (s .pre .order) (s .pre .inside) (s .pre .fits)
+    list-args (g .kinds .now) (g .labels .now) (g .node-table .now) (g .inner .now) (g .s) (g .k) (s .pre .first)
+    (s .pre .args) (g .b) (g .e) (length (g .list .now)) (s .pre .order) (s .pre .inside) (s .pre .fits)
 
 loop-holds : tie.Need-loop-holds Inv-loop μ-loop
 loop-holds c =
@@ -41,7 +43,8 @@ loop-holds c =
     let L = li .list-inner .ensures in (
       omega arith,
       refl,
-      λ first W. pairs-down (g .kinds .now) (g .labels .now) (g .node-table .now) (g .inner .now) (g .s) (g .k) first (g .state-table .now)
+      λ first W. pairs-down (g .kinds .now) (g .labels .now) (g .node-table .now) (g .inner .now) (g .s) (g .k) first
+          (g .state-table .now)
           (from (g .b) (li .list-inner .last .1 .1 .1 .0) (li .list-inner .result)) (g .e) (L .rest) W,
     )
 
@@ -65,9 +68,11 @@ fill-pair-requires c κs =
     let l = li .list-inner .last .1 .1 .1 .0 in
     let i : ℕ = a .loop .i in
     let h : i - 1 < li .list-inner .result = omega (arith, a .loop .inv .0, c .before .before .loop-test .taken) in
-    pair-args (g .kinds .now) (g .labels .now) (g .node-table .now) (g .inner .now) (g .s) (g .k) (s .pre .first) (s .pre .args) (a .loop .state-table) (getD l (i - 1) 0)
+    pair-args (g .kinds .now) (g .labels .now) (g .node-table .now) (g .inner .now) (g .s) (g .k) (s .pre .first)
+    (s .pre .args) (a .loop .state-table) (getD l (i - 1) 0)
     (a .loop .inv .1 ∙ s .pre .same) (omega (arith, L .ends (i - 1) h, s .pre .inside)) (L .inner (i - 1) h)
-    (subst (λ (x : ℕ). Pairs (g .kinds .now) (g .labels .now) (g .node-table .now) (g .inner .now) (g .s) (g .k) x (s .pre .first) (a .loop .state-table))
+    (subst (λ (x : ℕ). Pairs (g .kinds .now) (g .labels .now) (g .node-table .now) (g .inner .now) (g .s) (g .k) x
+    (s .pre .first) (a .loop .state-table))
     (last-from (g .b) l i (c .before .before .loop-test .taken)) (a .loop .inv .2 (s .pre .first) (s .pre .done)))
 
 loop-again : tie.Need-loop-again Inv-loop μ-loop
@@ -85,10 +90,13 @@ loop-again c =
     let after = f .fill-pair .last .1 .1 .1 .1 .1 .1 .0 in (
       omega (arith, a .loop .inv .0),
       omega arith,
-      λ first W. pairs-down (g .kinds .now) (g .labels .now) (g .node-table .now) (g .inner .now) (g .s) (g .k) first after (from (g .b) l (i - 1)) (getD l (i - 1) 0) (λ p. L .gaps (i - 1) p h)
-          (pairs-turn (g .kinds .now) (g .labels .now) (g .node-table .now) (g .inner .now) (g .s) (g .k) first (a .loop .state-table) (getD l (i - 1) 0) after (s .pre .args .rules .inner-below)
+      λ first W. pairs-down (g .kinds .now) (g .labels .now) (g .node-table .now) (g .inner .now) (g .s)
+          (g .k) first after (from (g .b) l (i - 1)) (getD l (i - 1) 0) (λ p. L .gaps (i - 1) p h)
+          (pairs-turn (g .kinds .now) (g .labels .now) (g .node-table .now) (g .inner .now) (g .s) (g .k) first
+          (a .loop .state-table) (getD l (i - 1) 0) after (s .pre .args .rules .inner-below)
           (omega (arith, L .ends (i - 1) h, s .pre .inside)) (L .inner (i - 1) h)
-          (subst (λ (x : ℕ). Pairs (g .kinds .now) (g .labels .now) (g .node-table .now) (g .inner .now) (g .s) (g .k) x first (a .loop .state-table))
+          (subst (λ (x : ℕ). Pairs (g .kinds .now) (g .labels .now) (g .node-table .now) (g .inner .now) (g .s)
+          (g .k) x first (a .loop .state-table))
           (last-from (g .b) l i (t .loop-test .taken)) (a .loop .inv .2 first W)) (f .fill-pair .ensures)),
     )
 
@@ -100,7 +108,8 @@ returns c first W =
     let g = s .args in
     let l = li .list-inner .last .1 .1 .1 .0 in
     let z : a .loop .i ≡ 0 = omega (arith, c .loop-test .left) in
-    subst (λ (x : ℕ). Pairs (g .kinds .now) (g .labels .now) (g .node-table .now) (g .inner .now) (g .s) (g .k) x first (a .loop .state-table)) (ap (from (g .b) l) z ∙ from-zero (g .b) l)
+    subst (λ (x : ℕ). Pairs (g .kinds .now) (g .labels .now) (g .node-table .now) (g .inner .now) (g .s) (g .k) x first
+    (a .loop .state-table)) (ap (from (g .b) l) z ∙ from-zero (g .b) l)
     (a .loop .inv .2 first W)
 
 pub fill-block-spec : {M : Type 1} → statement M

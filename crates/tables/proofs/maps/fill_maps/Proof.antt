@@ -1,4 +1,5 @@
--- `maps::fill_maps` meets its contract. The loop's invariant: whatever buffer the root's map was written over, the inner
+-- `maps::fill_maps` meets its contract. The loop's invariant: whatever buffer the root's map was written over, the
+-- inner
 -- nodes from e on have had their turns.
 -- Assumes nothing.
 use Prim.Native.Nat.{ℕ, _+_, _-_, _≤_, _<_}
@@ -23,7 +24,8 @@ abbrev μ-loop : tie.MeasureT-loop
 
 -- over the buffer at entry
 done : (a : tie.At-loop Inv-loop μ-loop)
-    → Pairs (a .before .before .before .before .before .before .before .before .before .before .before .args .kinds .now)
+    → Pairs (a .before .before .before .before .before .before .before .before .before .before .before .args .kinds
+    .now)
     (a .before .before .before .before .before .before .before .before .before .before .before .args .labels .now)
     (a .before .before .before .before .before .before .before .before .before .before .before .args .node-table .now)
     (a .before .before .before .before .before .before .before .before .before .before .before .args .inner .now)
@@ -36,20 +38,27 @@ done a =
     let s = r .before .before .before .before .before .before .before in
     let g = s .args in
     a .loop .inv .3 (g .state-table .now)
-    (pairs-start (g .kinds .now) (g .labels .now) (g .node-table .now) (g .inner .now) (g .s) (g .k) (g .state-table .now) (r .same-row .last .0) (length (g .kinds .now) - 1)
-    (omega (arith, map-some (g .kinds .now) (g .labels .now) (g .node-table .now) (g .inner .now) (g .s) (g .k) (g .state-table .now) (s .pre))) (r .same-row .ensures))
+    (pairs-start (g .kinds .now) (g .labels .now) (g .node-table .now) (g .inner .now) (g .s) (g .k)
+    (g .state-table .now) (r .same-row .last .0) (length (g .kinds .now) - 1)
+    (omega (
+      arith,
+      map-some (g .kinds .now) (g .labels .now) (g .node-table .now) (g .inner .now) (g .s) (g .k)
+          (g .state-table .now) (s .pre),
+    )) (r .same-row .ensures))
 
 sub-same-row : tie.Need-sub-same-row Inv-loop μ-loop
 sub-same-row c =
     let s = c .before .before .before .before .before .before in
     let g = s .args in
-    map-some (g .kinds .now) (g .labels .now) (g .node-table .now) (g .inner .now) (g .s) (g .k) (g .state-table .now) (s .pre)
+    map-some (g .kinds .now) (g .labels .now) (g .node-table .now) (g .inner .now) (g .s) (g .k) (g .state-table .now)
+    (s .pre)
 
 same-row-requires : tie.Need-same-row-requires Inv-loop μ-loop
 same-row-requires c κs =
     let s = c .before .before .before .before .before .before in
     let g = s .args in
-    root-args (g .kinds .now) (g .labels .now) (g .node-table .now) (g .inner .now) (g .s) (g .k) (g .state-table .now) (s .pre)
+    root-args (g .kinds .now) (g .labels .now) (g .node-table .now) (g .inner .now) (g .s) (g .k) (g .state-table .now)
+    (s .pre)
 
 loop-holds : tie.Need-loop-holds Inv-loop μ-loop
 loop-holds c = (omega arith, refl, c .empty-list .ensures, λ first W. W)
@@ -86,8 +95,10 @@ returns c =
     let s = a .before .before .before .before .before .before .before .before .before .before .before in
     let g = s .args in
     let z : a .loop .e ≡ 0 = omega (arith, c .loop-test .left) in
-    pairs-all (g .kinds .now) (g .labels .now) (g .node-table .now) (g .inner .now) (g .s) (g .k) (g .state-table .now) (a .loop .state-table)
-    (subst (λ (x : ℕ). Pairs (g .kinds .now) (g .labels .now) (g .node-table .now) (g .inner .now) (g .s) (g .k) x (g .state-table .now) (a .loop .state-table)) z (done a))
+    pairs-all (g .kinds .now) (g .labels .now) (g .node-table .now) (g .inner .now) (g .s) (g .k) (g .state-table .now)
+    (a .loop .state-table)
+    (subst (λ (x : ℕ). Pairs (g .kinds .now) (g .labels .now) (g .node-table .now) (g .inner .now) (g .s) (g .k) x
+    (g .state-table .now) (a .loop .state-table)) z (done a))
 
 pub fill-maps-spec : {M : Type 1} → statement M
 fill-maps-spec =

@@ -23,7 +23,12 @@ left-in : (s : tie.Start)
 left-in s =
     let g = s .args in
     state-in s (leftOf (g .node-table .now) (g .v))
-    (omega (arith, left-below (g .labels .now) (g .node-table .now) (g .inner .now) (g .s) (g .k) (g .state-table .now) (g .v) (s .pre), s .pre .inside))
+    (omega (
+      arith,
+      left-below (g .labels .now) (g .node-table .now) (g .inner .now) (g .s) (g .k) (g .state-table .now)
+          (g .v) (s .pre),
+      s .pre .inside,
+    ))
 
 right-in : (s : tie.Start) → (s .args .v - 1) * (s .args .s + 1) < length (s .args .state-table .now)
 right-in s = state-in s (s .args .v - 1) (omega (arith, s .pre .inside))
@@ -36,7 +41,12 @@ row-small s =
     let g = s .args in
     let u : ℕ = leftOf (g .node-table .now) (g .v) in
     let x : stateCell (g .s) (g .state-table .now) u < g .s =
-    s .pre .state-below u (omega (arith, left-below (g .labels .now) (g .node-table .now) (g .inner .now) (g .s) (g .k) (g .state-table .now) (g .v) (s .pre), s .pre .inside)) in
+    s .pre .state-below u (omega (
+      arith,
+      left-below (g .labels .now) (g .node-table .now) (g .inner .now) (g .s) (g .k)
+          (g .state-table .now) (g .v) (s .pre),
+      s .pre .inside,
+    )) in
     small (g .s) (g .k) (stateCell (g .s) (g .state-table .now) u) (getD (g .labels .now) (g .v) 0) (s .pre .few)
     (s .pre .labels) (s .pre .below (g .v)) (omega (arith, x, s .pre .few))
 
@@ -47,7 +57,12 @@ right-below : (s : tie.Start) → stateCell (s .args .s) (s .args .state-table .
 right-below s = s .pre .state-below (s .args .v - 1) (omega (arith, s .pre .inside))
 
 cast-left : tie.Need-cast-left
-cast-left c = omega (arith, c .before .before .before .before .before .pre .right-in, c .before .before .before .before .before .pre .inside)
+cast-left c = omega (
+  arith,
+  c .before .before .before .before .before .pre .right-in,
+  c .before .before .before
+      .before .before .pre .inside,
+)
 
 sub-left : tie.Need-sub-left
 sub-left c = omega (arith, c .before .before .before .before .before .pre .right-in)
@@ -95,7 +110,11 @@ add-col c =
     omega (arith, row-small s .label, right-below s, s .pre .few)
 
 cast-j : tie.Need-cast-j
-cast-j c = omega (arith, c .shared-slice-known6 .given (c .before .before .before .before .before .before .before .before .before .args .v * 4 + 1))
+cast-j c = omega (
+  arith,
+  c .shared-slice-known6 .given (c .before .before .before .before .before .before .before
+      .before .before .args .v * 4 + 1),
+)
 
 cast-if1 : tie.Need-cast-if1
 cast-if1 c =
@@ -103,22 +122,32 @@ cast-if1 c =
     omega (arith, c .shared-slice-known7 .given ((s .args .v - 1) * 4 + 1))
 
 mul-near-pair : tie.Need-mul-near-pair
-mul-near-pair c = omega (arith, step-small (c .before .before .before .before .before .before .before .before .before .before .before .before))
+mul-near-pair c = omega (
+  arith,
+  step-small (c .before .before .before .before .before .before .before .before .before
+      .before .before .before),
+)
 
 near-pair-requires : tie.Need-near-pair-requires
 near-pair-requires c κs =
     let s = c .before .before .before .before .before .before .before .before .before .before .before .before in
     let g = s .args in
-    near-pair-args (g .labels .now) (g .node-table .now) (g .inner .now) (g .s) (g .k) (g .state-table .now) (g .v) (s .pre)
+    near-pair-args (g .labels .now) (g .node-table .now) (g .inner .now) (g .s) (g .k) (g .state-table .now) (g .v)
+    (s .pre)
 
 mul-far-pair : tie.Need-mul-far-pair
-mul-far-pair c = omega (arith, step-small (c .before .before .before .before .before .before .before .before .before .before .before .before))
+mul-far-pair c = omega (
+  arith,
+  step-small (c .before .before .before .before .before .before .before .before .before
+      .before .before .before),
+)
 
 far-pair-requires : tie.Need-far-pair-requires
 far-pair-requires c κs =
     let s = c .before .before .before .before .before .before .before .before .before .before .before .before in
     let g = s .args in
-    far-pair-args (g .labels .now) (g .node-table .now) (g .inner .now) (g .s) (g .k) (g .state-table .now) (g .v) (s .pre)
+    far-pair-args (g .labels .now) (g .node-table .now) (g .inner .now) (g .s) (g .k) (g .state-table .now) (g .v)
+    (s .pre)
 
 returns : tie.Need-returns
 returns c =

@@ -14,7 +14,8 @@ returns c =
     let r = l .before .before .before .before in
     let s = r .before .before .before .before in
     let g = s .args in
-    pair-rowed (g .s) (λ q. getD (g .table .now) (g .row + q * 1) 0) (λ q. getD (g .table .now) (g .col + q * g .step) 0)
+    pair-rowed (g .s) (λ q. getD (g .table .now) (g .row + q * 1) 0)
+    (λ q. getD (g .table .now) (g .col + q * g .step) 0)
     (g .right) (g .left) (g .state-table .now) (r .near-row .last .0) (l .near-row2 .last .0) (s .pre .apart)
     (r .near-row .ensures) (l .near-row2 .ensures)
 

@@ -1,4 +1,5 @@
--- `rows::far_row` meets its contract. The loop's invariant: the first q bytes of the map are the table's taken on by both
+-- `rows::far_row` meets its contract. The loop's invariant: the first q bytes of the map are the table's taken on by
+-- both
 -- maps, no other byte is changed.
 -- Assumes nothing.
 use Prim.Native.Nat.{ℕ, _+_, _-_, _*_, _≤_, _<_}
@@ -21,24 +22,29 @@ abbrev μ-loop : tie.MeasureT-loop
 μ-loop bytes₀ s v p j table base stride at near far q₀ stateTable q = s - q
 
 -- what a turn reads
-inside : (c : tie.In-loop Inv-loop μ-loop) → c .before .before .args .base + c .before .loop .q * c .before .before .args .stride
+inside : (c : tie.In-loop Inv-loop μ-loop) → c .before .before .args .base + c .before .loop .q * c .before .before
+    .args .stride
     < length (c .before .before .args .table .now)
 inside c = c .before .before .pre .inside (c .before .loop .q) (c .loop-test .taken)
 
 below : (c : tie.In-loop Inv-loop μ-loop)
-    → getD (c .before .before .args .table .now) (c .before .before .args .base + c .before .loop .q * c .before .before .args .stride) 0
+    → getD (c .before .before .args .table .now) (c .before .before .args .base + c .before .loop .q * c .before
+    .before .args .stride) 0
     < c .before .before .args .s
 below c = c .before .before .pre .here-below (c .before .loop .q) (c .loop-test .taken)
 
 near : (c : tie.In-loop Inv-loop μ-loop) → placed (c .before .before .args .s) (c .before .loop .state-table)
     (c .before .before .args .p)
-    (getD (c .before .before .args .table .now) (c .before .before .args .base + c .before .loop .q * c .before .before .args .stride) 0)
+    (getD (c .before .before .args .table .now) (c .before .before .args .base + c .before .loop .q * c .before
+    .before .args .stride) 0)
     < c .before .before .args .s
 near c =
     let a = c .before in
     let s = a .before in
-    far-near-below (s .args .s) (s .args .v) (s .args .p) (s .args .j) (a .loop .q) (s .args .table .now) (s .args .base)
-    (s .args .stride) (s .args .state-table .now) (a .loop .state-table) (a .loop .inv .2) (s .pre) (c .loop-test .taken)
+    far-near-below (s .args .s) (s .args .v) (s .args .p) (s .args .j) (a .loop .q) (s .args .table .now)
+    (s .args .base)
+    (s .args .stride) (s .args .state-table .now) (a .loop .state-table) (a .loop .inv .2) (s .pre)
+    (c .loop-test .taken)
 
 add-at : tie.Need-add-at Inv-loop μ-loop
 add-at c = search needs
@@ -143,7 +149,8 @@ returns c =
     let s = a .before in
     let e : a .loop .q ≡ s .args .s = omega arith in
     let g = s .args in
-    subst (λ (i : ℕ). RowTo (g .s) (farCell (g .s) (g .state-table .now) (g .p) (g .j) (g .table .now) (g .base) (g .stride))
+    subst (λ (i : ℕ). RowTo (g .s) (farCell (g .s) (g .state-table .now) (g .p) (g .j) (g .table .now) (g .base)
+    (g .stride))
     (g .v) i (g .state-table .now) (a .loop .state-table)) e (a .loop .inv .2)
 
 pub far-row-spec : {M : Type 1} → statement M

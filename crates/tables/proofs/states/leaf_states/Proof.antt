@@ -1,4 +1,5 @@
--- `states::leaf_states` meets its contract. The loop's invariant: the nodes below v have their states as leaves, no other
+-- `states::leaf_states` meets its contract. The loop's invariant: the nodes below v have their states as leaves, no
+-- other
 -- byte is changed.
 -- Assumes nothing.
 use Prim.Native.Nat.{ℕ, _+_, _-_, _*_, _≤_, _<_}
@@ -27,7 +28,8 @@ place-in c =
     let s = a .before in
     omega (
       arith,
-      stride (s .args .s + 1) (a .loop .v) (length (s .args .labels .now)) (omega (arith, c .loop-test .taken, s .pre .inside)),
+      stride (s .args .s + 1) (a .loop .v) (length (s .args .labels .now))
+          (omega (arith, c .loop-test .taken, s .pre .inside)),
       s .pre .room,
       a .loop .inv .2,
     )
@@ -50,7 +52,8 @@ loop-again c =
       omega (arith, a .loop .inv .0),
       omega (arith, t .loop-test .taken),
       simp length-set (a .loop .inv .2),
-      leaves-step (g .s) (g .leaves .now) (g .labels .now) (g .b) (a .loop .v) (g .state-table .now) (a .loop .state-table)
+      leaves-step (g .s) (g .leaves .now) (g .labels .now) (g .b) (a .loop .v) (g .state-table .now)
+          (a .loop .state-table)
           (a .loop .inv .0) (place-in t) (a .loop .inv .3),
     )
 
@@ -59,7 +62,8 @@ returns c =
     let a = c .before in
     let g = a .before .args in
     let z : a .loop .v ≡ g .e = omega (arith, a .loop .inv .1, c .loop-test .left) in
-    subst (λ (x : ℕ). Leaves (g .s) (g .leaves .now) (g .labels .now) (g .b) x (g .state-table .now) (a .loop .state-table)) z
+    subst (λ (x : ℕ). Leaves (g .s) (g .leaves .now) (g .labels .now) (g .b) x (g .state-table .now)
+    (a .loop .state-table)) z
     (a .loop .inv .3)
 
 pub leaf-states-spec : {M : Type 1} → statement M

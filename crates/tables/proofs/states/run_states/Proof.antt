@@ -1,4 +1,5 @@
--- `states::run_states` meets its contract. The loop's invariant: the state bytes below b are the run's, no other byte is
+-- `states::run_states` meets its contract. The loop's invariant: the state bytes below b are the run's, no other byte
+-- is
 -- changed.
 -- Assumes nothing.
 use Prim.Native.Nat.{ℕ, _+_, _-_, _≤_}
@@ -21,11 +22,24 @@ abbrev μ-loop : tie.MeasureT-loop
 
 loop-holds : tie.Need-loop-holds Inv-loop μ-loop
 loop-holds c =
-    let g = c .before .before .before .before .before .before .before .args in
-    (omega arith, refl, c .empty-list .ensures, refl, states-none (g .s) (g .k) (g .leaves .now) (g .inner .now) (g .kinds .now) (g .labels .now) (g .state-table .now))
+    let g = c .before .before .before .before .before .before .before .args in (
+      omega arith,
+      refl,
+      c .empty-list .ensures,
+      refl,
+      states-none (g .s) (g .k) (g .leaves .now) (g .inner .now)
+          (g .kinds .now) (g .labels .now) (g .state-table .now),
+    )
 
 block-end-requires : tie.Need-block-end-requires Inv-loop μ-loop
-block-end-requires c κs = (c .loop-test .taken, omega (arith, c .before .before .before .before .before .before .before .before .before .pre .most))
+block-end-requires c κs = (
+  c .loop-test .taken,
+  omega (
+    arith,
+    c .before .before .before .before .before .before
+        .before .before .before .pre .most,
+  ),
+)
 
 run-block-requires : tie.Need-run-block-requires Inv-loop μ-loop
 run-block-requires c κs =
@@ -35,7 +49,8 @@ run-block-requires c κs =
     let g = s .args in
     let z : length (g .state-table .now) ≡ length (a .loop .state-table) = omega (arith, a .loop .inv .1) in
     record {
-      args = subst (StateArgs (g .kinds .now) (g .labels .now) (g .node-table .now) (g .leaves .now) (g .inner .now) (g .s) (g .k))
+      args = subst (StateArgs (g .kinds .now) (g .labels .now) (g .node-table .now) (g .leaves .now) (g .inner .now)
+          (g .s) (g .k))
           z (s .pre);
       first = g .state-table .now;
       done = a .loop .inv .4;
@@ -67,7 +82,8 @@ returns c =
     let a = c .before in
     let g = a .before .before .before .before .before .before .before .before .args in
     let z : a .loop .b ≡ length (g .kinds .now) = omega (arith, a .loop .inv .0, c .loop-test .left) in
-    subst (λ (x : ℕ). Runs (g .s) (g .k) (g .leaves .now) (g .inner .now) (g .kinds .now) (g .labels .now) x (g .state-table .now) (a .loop .state-table)) z (a .loop .inv .4)
+    subst (λ (x : ℕ). Runs (g .s) (g .k) (g .leaves .now) (g .inner .now) (g .kinds .now) (g .labels .now) x
+    (g .state-table .now) (a .loop .state-table)) z (a .loop .inv .4)
 
 pub run-states-spec : {M : Type 1} → statement M
 run-states-spec =
