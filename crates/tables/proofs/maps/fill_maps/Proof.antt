@@ -50,8 +50,11 @@ sub-same-row : tie.Need-sub-same-row Inv-loop μ-loop
 sub-same-row c =
     let s = c .before .before .before .before .before .before in
     let g = s .args in
-    map-some (g .kinds .now) (g .labels .now) (g .node-table .now) (g .inner .now) (g .s) (g .k) (g .state-table .now)
-    (s .pre)
+    omega (
+      arith,
+      map-some (g .kinds .now) (g .labels .now) (g .node-table .now) (g .inner .now) (g .s) (g .k) (g .state-table .now)
+          (s .pre),
+    )
 
 same-row-requires : tie.Need-same-row-requires Inv-loop μ-loop
 same-row-requires c κs =

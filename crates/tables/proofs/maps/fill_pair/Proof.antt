@@ -34,21 +34,26 @@ right-in : (s : tie.Start) → (s .args .v - 1) * (s .args .s + 1) < length (s .
 right-in s = state-in s (s .args .v - 1) (omega (arith, s .pre .inside))
 
 -- and a rule's place is small
+left-state-below : (s : tie.Start)
+    → stateCell (s .args .s) (s .args .state-table .now) (leftOf (s .args .node-table .now) (s .args .v)) < s .args .s
+left-state-below s =
+    let g = s .args in
+    s .pre .state-below (leftOf (g .node-table .now) (g .v))
+    (omega (
+      arith,
+      left-below (g .labels .now) (g .node-table .now) (g .inner .now) (g .s) (g .k) (g .state-table .now)
+          (g .v) (s .pre),
+      s .pre .inside,
+    ))
+
 row-small : (s : tie.Start) → Small (s .args .s) (s .args .k)
     (stateCell (s .args .s) (s .args .state-table .now) (leftOf (s .args .node-table .now) (s .args .v)))
     (getD (s .args .labels .now) (s .args .v) 0)
 row-small s =
     let g = s .args in
-    let u : ℕ = leftOf (g .node-table .now) (g .v) in
-    let x : stateCell (g .s) (g .state-table .now) u < g .s =
-    s .pre .state-below u (omega (
-      arith,
-      left-below (g .labels .now) (g .node-table .now) (g .inner .now) (g .s) (g .k)
-          (g .state-table .now) (g .v) (s .pre),
-      s .pre .inside,
-    )) in
-    small (g .s) (g .k) (stateCell (g .s) (g .state-table .now) u) (getD (g .labels .now) (g .v) 0) (s .pre .few)
-    (s .pre .labels) (s .pre .below (g .v)) (omega (arith, x, s .pre .few))
+    small (g .s) (g .k) (stateCell (g .s) (g .state-table .now) (leftOf (g .node-table .now) (g .v)))
+    (getD (g .labels .now) (g .v) 0) (s .pre .few) (s .pre .labels) (s .pre .below (g .v))
+    (omega (arith, left-state-below s, s .pre .few))
 
 step-small : (s : tie.Start) → s .args .k * s .args .s < 65536
 step-small s = omega (arith, mul-le-mul-right (s .args .s) (s .pre .labels), s .pre .few)
@@ -107,7 +112,7 @@ mul-col c = omega (arith, row-small (c .before .before .before .before .before .
 add-col : tie.Need-add-col
 add-col c =
     let s = c .before .before .before .before .before .before .before .before in
-    omega (arith, row-small s .label, right-below s, s .pre .few)
+    omega (arith, row-small s .label, right-below s, left-state-below s, s .pre .few)
 
 cast-j : tie.Need-cast-j
 cast-j c = omega (
