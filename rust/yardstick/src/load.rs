@@ -142,8 +142,7 @@ fn down<const S: usize>(
                 two(rules, columns, state_table, [v, left, jump as usize, at, column], is_far);
                 continue;
             }
-            let pair =
-                Pair { parent: v as u16, left: left as u16, jump, row: at as u16, column: column as u16 };
+            let pair = Pair { parent: v as u16, left: left as u16, jump, row: at as u16, column: column as u16 };
             near[nears % BLOCK] = pair;
             far[fars % BLOCK] = pair;
             nears += !is_far as usize;
@@ -161,7 +160,13 @@ fn down<const S: usize>(
 
 /// Both rows of two states, without a branch.
 #[inline(always)]
-fn two(rules: &Rules, columns: &Columns, state_table: &mut [u8], [v, left, jump, at, column]: [usize; 5], is_far: bool) {
+fn two(
+    rules: &Rules,
+    columns: &Columns,
+    state_table: &mut [u8],
+    [v, left, jump, at, column]: [usize; 5],
+    is_far: bool,
+) {
     let map = |u: usize| [state_table[3 * u + 1], state_table[3 * u + 2]];
     let (of_v, of_jump, far) = (map(v), map(jump), is_far as u8);
     let (m0, m1) = (of_jump[of_v[0] as usize & 1] & far, of_jump[of_v[1] as usize & 1] | (1 - far));
@@ -192,8 +197,9 @@ fn near_rows<const S: usize>(s: usize, rules: &Rules, columns: &Columns, state_t
     if columns.turned {
         row.copy_from_slice(&columns.entries[pair.column as usize..][..s]);
     } else {
-        for (to, from) in row.iter_mut().zip(columns.entries[pair.column as usize..].iter().step_by(columns.stride)) {
-            *to = *from;
+        let entries = &columns.entries[pair.column as usize..];
+        for (q, to) in row.iter_mut().enumerate() {
+            *to = entries[q * columns.stride];
         }
     }
 }
@@ -218,8 +224,9 @@ fn far_rows<const S: usize>(s: usize, rules: &Rules, columns: &Columns, state_ta
             *to = through[x as usize & 15];
         }
     } else {
-        for (to, &x) in row.iter_mut().zip(columns.entries[pair.column as usize..].iter().step_by(columns.stride)) {
-            *to = through[x as usize & 15];
+        let entries = &columns.entries[pair.column as usize..];
+        for (q, to) in row.iter_mut().enumerate() {
+            *to = through[entries[q * columns.stride] as usize & 15];
         }
     }
 }
