@@ -32,7 +32,7 @@ use Rattle.node_tables.proofs.UpLoop.{child-is, inner-kind}
 use Rattle.tables.specs.StateCells.{stateCell, mapCell}
 use Rattle.tables.specs.inner.Rows.{Rowed, SameArgs}
 use Rattle.tables.specs.inner.Maps.{Prepared, MapArgs, Maps}
-use Rattle.tables.specs.inner.MapPairs.{PairRowed, takenOn, rowStart, colStart, rightValue, leftValue, PairArgs}
+use Rattle.tables.specs.inner.MapPairs.{PairRowed, takenOn, rowOf, colOf, rightValue, leftValue, PairArgs}
 use Rattle.tables.specs.inner.MapPairs.{PairsWritten, Pairs}
 use Rattle.tables.proofs.MapTableLaws.{state-no-map}
 use Rattle.tables.proofs.MapRowLaws.{row-other}
@@ -92,7 +92,7 @@ module _ (s k : ℕ) (lv inn mk : List ℕ) (t : Tree) (ks ls b e : List ℕ) (P
     left-label : labelAt t (parent t (leftOf b v)) ≡ getD ls v 0
     left-label = ap₂ (λ (l : List ℕ) (n : ℕ). getD l n 0) (P .labels) left-up
 
-    right-step : (q : ℕ) → getD inn (rowStart ls b st s k v + q * 1) 0 ≡ stepUp (treeAutomaton s k lv inn mk) t
+    right-step : (q : ℕ) → getD inn (rowOf ls b st s k v + q * 1) 0 ≡ stepUp (treeAutomaton s k lv inn mk) t
         (v - 1) q
     right-step q =
         let u : ℕ = v - 1 - size (sub t (v - 1)) in
@@ -105,7 +105,7 @@ module _ (s k : ℕ) (lv inn mk : List ℕ) (t : Tree) (ks ls b e : List ℕ) (P
         ap₂ (λ (x a : ℕ). getD inn ((x * k + a) * s + q * 1) 0) p (sym right-label) ∙ ap (λ (j : ℕ). getD inn j 0) i
         ∙ sym (stepUp-right (treeAutomaton s k lv inn mk) t (v - 1) (omega (arith, pos)) q up)
 
-    left-step : (q : ℕ) → getD inn (colStart ls st s v + q * (k * s)) 0 ≡ stepUp (treeAutomaton s k lv inn mk) t
+    left-step : (q : ℕ) → getD inn (colOf ls st s v + q * (k * s)) 0 ≡ stepUp (treeAutomaton s k lv inn mk) t
         (leftOf b v) q
     left-step q =
         let u : ℕ = leftOf b v in
@@ -147,14 +147,14 @@ module _ (s k : ℕ) (lv inn mk : List ℕ) (t : Tree) (ks ls b e : List ℕ) (P
       right-is : (q : ℕ) → q < s → rightValue ls b inn s k st v q ≡ stateMap (treeAutomaton s k lv inn mk) t (v - 1) q
       unfolding rightValue
       right-is q l =
-          taken-is (v - 1) q (getD inn (rowStart ls b st s k v + q * 1) 0) (omega (arith, pos)) (I .right-up)
+          taken-is (v - 1) q (getD inn (rowOf ls b st s k v + q * 1) 0) (omega (arith, pos)) (I .right-up)
           (P .jumps (v - 1) (omega arith)) l (right-step q)
 
       left-is : (q : ℕ) → q < s → leftValue ls b inn s k st v q ≡ stateMap (treeAutomaton s k lv inn mk) t
           (leftOf b v) q
       unfolding leftValue
       left-is q l =
-          taken-is (leftOf b v) q (getD inn (colStart ls st s v + q * (k * s)) 0) (omega (arith, left-more)) left-up
+          taken-is (leftOf b v) q (getD inn (colOf ls st s v + q * (k * s)) 0) (omega (arith, left-more)) left-up
           same-jump l (left-step q)
 
       other-parent : (u : ℕ) → (u ≡ v - 1 → ⊥) → (u ≡ leftOf b v → ⊥) → u + 1 < size t → v ≤ parent t u

@@ -15,7 +15,7 @@ use Rattle.node_tables.specs.Cells.{jumpCell, sizeCell}
 use Rattle.node_tables.specs.inner.UpPass.{leftOf}
 use Rattle.tables.specs.StateCells.{stateCell, mapCell}
 use Rattle.tables.specs.inner.Rows.{Rowed, RowIn, NearArgs, FarArgs, farCell}
-use Rattle.tables.specs.inner.MapPairs.{PairRowed, rowStart, colStart, rightValue, leftValue, NearPairArgs}
+use Rattle.tables.specs.inner.MapPairs.{PairRowed, rowOf, colOf, rightValue, leftValue, NearPairArgs}
 use Rattle.tables.specs.inner.MapPairs.{FarPairArgs, PairArgs}
 use Rattle.tables.proofs.MapRowLaws.{row-other}
 
@@ -70,7 +70,7 @@ module _ (ls b inn : List ℕ) (s k : ℕ) (st : List ℕ) (v : ℕ) (A : PairAr
   pub left-below : leftOf b v < v
   left-below = omega (arith, A .pos)
 
-  pub right-inside : (q : ℕ) → q < s → rowStart ls b st s k v + q * 1 < length inn
+  pub right-inside : (q : ℕ) → q < s → rowOf ls b st s k v + q * 1 < length inn
   right-inside q h =
       let x : ℕ = stateCell s st (leftOf b v) in
       omega (
@@ -80,7 +80,7 @@ module _ (ls b inn : List ℕ) (s k : ℕ) (st : List ℕ) (v : ℕ) (A : PairAr
         A .inner-count,
       )
 
-  pub left-inside : (q : ℕ) → q < s → colStart ls st s v + q * (k * s) < length inn
+  pub left-inside : (q : ℕ) → q < s → colOf ls st s v + q * (k * s) < length inn
   left-inside q h =
       let y : ℕ = stateCell s st (v - 1) in
       omega (
@@ -92,8 +92,8 @@ module _ (ls b inn : List ℕ) (s k : ℕ) (st : List ℕ) (v : ℕ) (A : PairAr
   pub pair-apart : v - 1 ≡ leftOf b v → ⊥
   pair-apart e = omega (arith, A .right-some, A .right-in, A .pos)
 
-  pub near-pair-args : NearPairArgs (length st) s (v - 1) (leftOf b v) (length inn) (rowStart ls b st s k v)
-      (colStart ls st s v) (k * s)
+  pub near-pair-args : NearPairArgs (length st) s (v - 1) (leftOf b v) (length inn) (rowOf ls b st s k v)
+      (colOf ls st s v) (k * s)
   near-pair-args = record {
     right = record { room = row-in (v - 1) (omega (arith, A .inside)); inside = right-inside };
     left = record { room = row-in (leftOf b v) (omega (arith, left-below, A .inside)); inside = left-inside };
@@ -113,18 +113,18 @@ module _ (ls b inn : List ℕ) (s k : ℕ) (st : List ℕ) (v : ℕ) (A : PairAr
     near-below = A .map-below;
   }
 
-  pub far-pair-args : FarPairArgs st s v (jumpCell b v) (v - 1) (leftOf b v) inn (rowStart ls b st s k v)
-      (colStart ls st s v) (k * s)
+  pub far-pair-args : FarPairArgs st s v (jumpCell b v) (v - 1) (leftOf b v) inn (rowOf ls b st s k v)
+      (colOf ls st s v) (k * s)
   far-pair-args = record {
-    right = far-args (v - 1) (rowStart ls b st s k v) 1 (omega (arith, A .pos)) right-inside;
-    left = far-args (leftOf b v) (colStart ls st s v) (k * s) left-below left-inside;
+    right = far-args (v - 1) (rowOf ls b st s k v) 1 (omega (arith, A .pos)) right-inside;
+    left = far-args (leftOf b v) (colOf ls st s v) (k * s) left-below left-inside;
     apart = pair-apart;
   }
 
 module _ (ls b inn : List ℕ) (s k : ℕ) (st : List ℕ) (v : ℕ) (after : List ℕ) where
   pub near-values : jumpCell b (v - 1) ≡ v
-      → PairRowed s (λ q. getD inn (rowStart ls b st s k v + q * 1) 0)
-      (λ q. getD inn (colStart ls st s v + q * (k * s)) 0)
+      → PairRowed s (λ q. getD inn (rowOf ls b st s k v + q * 1) 0)
+      (λ q. getD inn (colOf ls st s v + q * (k * s)) 0)
       (v - 1) (leftOf b v) st after
       → PairRowed s (rightValue ls b inn s k st v) (leftValue ls b inn s k st v) (v - 1) (leftOf b v) st after
   unfolding rightValue leftValue
@@ -133,8 +133,8 @@ module _ (ls b inn : List ℕ) (s k : ℕ) (st : List ℕ) (v : ℕ) (after : Li
       (λ q h. rw (eq-eqb (jumpCell b (v - 1)) v c))
 
   pub far-values : (jumpCell b (v - 1) ≡ v → ⊥)
-      → PairRowed s (farCell s st v (jumpCell b v) inn (rowStart ls b st s k v) 1)
-      (farCell s st v (jumpCell b v) inn (colStart ls st s v) (k * s)) (v - 1) (leftOf b v) st after
+      → PairRowed s (farCell s st v (jumpCell b v) inn (rowOf ls b st s k v) 1)
+      (farCell s st v (jumpCell b v) inn (colOf ls st s v) (k * s)) (v - 1) (leftOf b v) st after
       → PairRowed s (rightValue ls b inn s k st v) (leftValue ls b inn s k st v) (v - 1) (leftOf b v) st after
   unfolding rightValue leftValue
   far-values c =

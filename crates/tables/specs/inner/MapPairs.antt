@@ -1,7 +1,7 @@
 -- The maps of a node's two children, written at the parent's turn.
 --
 -- PairRowed s f g r l before after == node r's map is f's and node l's is g's, and no other byte is changed
--- rowStart, colStart == where the steps of the right and of the left child of inner node v begin in the inner states
+-- rowOf, colOf == where the steps of the right and of the left child of inner node v begin in the inner states
 -- takenOn b s st w p x == x where the jump w is the parent p, else what the maps of p and of its jump make of it
 -- rightValue, leftValue == the entries of both children's maps
 -- PairsWritten s t f i before after == the root, and the nodes whose parent is i or a later one, have the maps f, and
@@ -41,11 +41,11 @@ pub record PairRowed (s : ℕ) (f g : ℕ → ℕ) (r l : ℕ) (before after : L
 
 -- ---- one node's children
 
-abbrev pub rowStart : List ℕ → List ℕ → List ℕ → ℕ → ℕ → ℕ → ℕ
-rowStart ls b st s k v = (stateCell s st (leftOf b v) * k + getD ls v 0) * s
+abbrev pub rowOf : List ℕ → List ℕ → List ℕ → ℕ → ℕ → ℕ → ℕ
+rowOf ls b st s k v = (stateCell s st (leftOf b v) * k + getD ls v 0) * s
 
-abbrev pub colStart : List ℕ → List ℕ → ℕ → ℕ → ℕ
-colStart ls st s v = getD ls v 0 * s + stateCell s st (v - 1)
+abbrev pub colOf : List ℕ → List ℕ → ℕ → ℕ → ℕ
+colOf ls st s v = getD ls v 0 * s + stateCell s st (v - 1)
 
 abbrev pub takenOn : List ℕ → ℕ → List ℕ → ℕ → ℕ → ℕ → ℕ
 takenOn b s st w p x = cond (eqb w p) x (mapCell s st (jumpCell b p) (mapCell s st p x))
@@ -53,11 +53,11 @@ takenOn b s st w p x = cond (eqb w p) x (mapCell s st (jumpCell b p) (mapCell s 
 -- both children have the same jump
 unfoldable pub rightValue : List ℕ → List ℕ → List ℕ → ℕ → ℕ → List ℕ → ℕ → ℕ → ℕ
 rightValue ls b inn s k st v q =
-    takenOn b s st (jumpCell b (v - 1)) v (getD inn (rowStart ls b st s k v + q * 1) 0)
+    takenOn b s st (jumpCell b (v - 1)) v (getD inn (rowOf ls b st s k v + q * 1) 0)
 
 unfoldable pub leftValue : List ℕ → List ℕ → List ℕ → ℕ → ℕ → List ℕ → ℕ → ℕ → ℕ
 leftValue ls b inn s k st v q =
-    takenOn b s st (jumpCell b (v - 1)) v (getD inn (colStart ls st s v + q * (k * s)) 0)
+    takenOn b s st (jumpCell b (v - 1)) v (getD inn (colOf ls st s v + q * (k * s)) 0)
 
 pub record NearPairArgs (m s r l n row col step : ℕ) : Type 0 where
   pub right : NearArgs m s r n row 1
