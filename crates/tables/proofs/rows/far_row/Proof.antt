@@ -46,36 +46,6 @@ near c =
     (s .args .stride) (s .args .state-table .now) (a .loop .state-table) (a .loop .inv .2) (s .pre)
     (c .loop-test .taken)
 
-add-at : tie.Need-add-at Inv-loop μ-loop
-add-at c = search needs
-
-mul-at : tie.Need-mul-at Inv-loop μ-loop
-mul-at c = search needs
-
-add-at-2 : tie.Need-add-at-2 Inv-loop μ-loop
-add-at-2 c = search needs
-
-add-near : tie.Need-add-near Inv-loop μ-loop
-add-near c = search needs
-
-mul-near : tie.Need-mul-near Inv-loop μ-loop
-mul-near c = search needs
-
-add-near-2 : tie.Need-add-near-2 Inv-loop μ-loop
-add-near-2 c = search needs
-
-add-far : tie.Need-add-far Inv-loop μ-loop
-add-far c = search needs
-
-mul-far : tie.Need-mul-far Inv-loop μ-loop
-mul-far c = search needs
-
-add-far-2 : tie.Need-add-far-2 Inv-loop μ-loop
-add-far-2 c = search needs
-
-loop-holds : tie.Need-loop-holds Inv-loop μ-loop
-loop-holds c = search needs
-
 mul-x : tie.Need-mul-x Inv-loop μ-loop
 mul-x c = omega (arith, inside c)
 
@@ -113,18 +83,6 @@ slice-read-state-table c = omega (
   c .before .before .before .before .loop .inv .1,
 )
 
-add-state-table-2 : tie.Need-add-state-table-2 Inv-loop μ-loop
-add-state-table-2 c = search needs
-
-slice-write-state-table : tie.Need-slice-write-state-table Inv-loop μ-loop
-slice-write-state-table c = search needs
-
-add-q : tie.Need-add-q Inv-loop μ-loop
-add-q c = search needs
-
-loop-less : tie.Need-loop-less Inv-loop μ-loop
-loop-less c = search needs
-
 loop-again : tie.Need-loop-again Inv-loop μ-loop
 loop-again c =
     let a = c .before .before .before .before in
@@ -140,9 +98,6 @@ loop-again c =
           (a .loop .state-table) (a .loop .inv .2) (s .pre) l),
     )
 
-same-length : tie.Need-same-length Inv-loop μ-loop
-same-length c = search needs
-
 returns : tie.Need-returns Inv-loop μ-loop
 returns c =
     let a = c .before in
@@ -156,32 +111,8 @@ returns c =
 pub far-row-spec : {M : Type 1} → statement M
 far-row-spec =
     tie.close
-    (tie.spec
-    Inv-loop
-    μ-loop
-    add-at
-    mul-at
-    add-at-2
-    add-near
-    mul-near
-    add-near-2
-    add-far
-    mul-far
-    add-far-2
-    loop-holds
-    mul-x
-    add-x
-    shared-slice-read-x
-    cast-x
-    add-y
-    slice-read-y
-    cast-y
-    add-state-table
-    slice-read-state-table
-    add-state-table-2
-    slice-write-state-table
-    add-q
-    loop-less
-    loop-again
-    same-length
-    returns)
+    (tie.spec Inv-loop μ-loop (λ c. search needs) (λ c. search needs) (λ c. search needs) (λ c. search needs)
+    (λ c. search needs) (λ c. search needs) (λ c. search needs) (λ c. search needs) (λ c. search needs)
+    (λ c. search needs) mul-x add-x shared-slice-read-x cast-x add-y slice-read-y cast-y add-state-table
+    slice-read-state-table (λ c. search needs) (λ c. search needs) (λ c. search needs) (λ c. search needs) loop-again
+    (λ c. search needs) returns)
