@@ -73,4 +73,6 @@ fn the_page() {
     let counted = include_str!("stored/count-0-2").trim_end_matches("status 0\n");
     let shown: Vec<String> = counted.lines().map(|line| format!("    {}", line).trim_end().to_string()).collect();
     assert!(page.contains(&shown.join("\n")), "{:?}", shown);
+    let dealt: Vec<String> = include_str!("stored/screens").lines().map(|line| format!("    {}", line)).collect();
+    assert!(page.contains(&dealt[2..8].join("\n")), "{:?}", &dealt[2..8]);
 }
