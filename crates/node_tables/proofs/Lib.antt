@@ -1,6 +1,7 @@
 pub mod TableRule
 pub mod JumpLengthLaws
 pub mod UpLoop
+pub mod InnerNodeLaws
 pub mod DownLoop
 pub mod CellLaws
 pub mod CheckLoop

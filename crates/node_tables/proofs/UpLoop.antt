@@ -1,9 +1,9 @@
 -- The turns of the pass up that writes sizes and parents.
 --     iteration-other .. iteration-right        what a turn leaves and what it writes
 --     at-right .. inner-args          an inner node's children and size, from the table so far
---     leaf-iteration, inner-iteration           one node more
+--     cleared-written, leaf-turn, inner-iteration   one node more
 --     none-yet, all-up                before the first and after the last
---     leaf-turns .. all-written       the same of every tree with these kinds, as the loop has it
+--     turns .. turn-room              the same of every tree with these kinds, as the loop has it
 -- Assumes nothing.
 use Prim.Native.Nat.{ℕ, _+_, _-_, _*_, _≤_, _<_}
 use mathlib.Core.Path.{_≡_, refl, sym, ap, _∙_, subst}
@@ -20,7 +20,9 @@ use Rattle.trees.proofs.NodeLaws.{Inner, inner, Up, up, sub-leaf, sub-size, siz
 use Rattle.trees.proofs.PostorderLaws.{size-of, kind-of, some-tree}
 use Rattle.node_tables.specs.Cells.{parentCell, sizeCell, NodeTableArgs}
 use Rattle.node_tables.specs.NodeCells.{UpTo, UpWritten, AllUpWritten}
-use Rattle.node_tables.specs.inner.UpPass.{leftOf, innerSize, iteration, innerIteration, InnerArgs}
+use Rattle.node_tables.specs.inner.UpPass.{leftOf, innerSize, iteration, innerIteration, cleared, before}
+use Rattle.node_tables.specs.inner.UpPass.{upIteration}
+use Rattle.node_tables.specs.inner.UpPass.{InnerArgs, TurnArgs}
 
 -- ---- what a turn leaves and what it writes
 
@@ -51,6 +53,12 @@ module _ (b : List ℕ) (i s r l : ℕ) (room : i * 4 + 4 ≤ length b) (hr : r 
 pub no-parent : (t : Tree) (i v : ℕ) → getD (kindsOf t) i 0 ≡ 0 → v + 1 < size t → parent t v ≡ i → ⊥
 no-parent t i v k l e = omega (arith, up t v l .inside, ap (λ (n : ℕ). getD (kindsOf t) n 0) e)
 
+-- an inner node's kind is 1
+pub inner-kind : (t : Tree) (i : ℕ) → i < size t → (getD (kindsOf t) i 0 ≡ 0 → ⊥) → getD (kindsOf t) i 0 ≡ 1
+inner-kind t i h k =
+    let I : Inner t i = inner t i h k in
+    ap (λ (n : ℕ). getD (kindsOf t) n 0) (sym (I .right-up)) ∙ up t (i - 1) (omega (arith, I .at)) .inside
+
 -- an inner node's children are its right and its left one
 pub child-is : (t : Tree) (i : ℕ) (I : Inner t i) (v : ℕ) → Up t v i → (v ≡ i - 1) ⊎ (v ≡ I .left)
 child-is t i I v u = elim (u .child) [ inl c ↦ inl (omega arith) | inr c ↦ inr (omega (arith, I .at)) ]
@@ -77,6 +85,30 @@ module _ (t : Tree) (i : ℕ) (b : List ℕ) (p : UpTo t i b) (h : i < size t) (
     fits = omega (arith, new-size, sub-size t i h);
   }
 
+-- what a turn needs: of a leaf, and of an inner node once its size is cleared
+leaf-args : (b : List ℕ) (i : ℕ) → i ≤ 65535 → i * 4 + 4 ≤ length b → TurnArgs b i 0
+leaf-args b i m room =
+    let r : i - 0 ≡ i = omega arith in
+    let z : sizeCell (cleared b i) (i - 0) ≡ 0 =
+    ap (sizeCell (cleared b i)) r ∙ getD-set-same b (i * 4 + 3) 0 0 (omega arith) in
+    let l : before (cleared b i) (i - 0) ≡ i - 0 = omega (arith, z) in
+    record {
+      kind = omega arith;
+      small = m;
+      room = room;
+      right = omega (arith, z);
+      fits = omega (arith, ap (sizeCell (cleared b i)) l, z);
+    }
+
+one-args : (b : List ℕ) (i : ℕ) → InnerArgs (cleared b i) i → TurnArgs b i 1
+one-args b i a = record {
+  kind = a .pos;
+  small = a .small;
+  room = simp length-set at (a .room);
+  right = omega (arith, a .right);
+  fits = a .fits;
+}
+
 -- ---- one node more
 
 module _ (t : Tree) (i : ℕ) (b₀ b : List ℕ) (p : UpWritten t i b₀ b) (h : i < size t)
@@ -92,6 +124,16 @@ module _ (t : Tree) (i : ℕ) (b₀ b : List ℕ) (p : UpWritten t i b₀ b) (h 
           ∙ p .cells .parents v l (omega (arith, no-parent t i v k l));
     };
     kept = λ j a. getD-set-other b (i * 4 + 3) j 1 0 (a i h .1) ∙ p .kept j a;
+  }
+
+  -- the size of node i may be cleared before its turn, and its parent may be anything after it
+  cleared-written : UpWritten t i b₀ (cleared b i)
+  cleared-written = record {
+    cells = record {
+      sizes = λ v l. getD-set-other b (i * 4 + 3) (v * 4 + 3) 0 0 (omega arith) ∙ p .cells .sizes v l;
+      parents = λ v l q. getD-set-other b (i * 4 + 3) (v * 4) 0 0 (omega arith) ∙ p .cells .parents v l q;
+    };
+    kept = λ j a. getD-set-other b (i * 4 + 3) j 0 0 (a i h .1) ∙ p .kept j a;
   }
 
   module _ (I : Inner t i) where
@@ -127,6 +169,46 @@ module _ (t : Tree) (i : ℕ) (b₀ b : List ℕ) (p : UpWritten t i b₀ b) (h 
     inner-iteration : UpWritten t (i + 1) b₀ (innerIteration b i)
     inner-iteration = rw (new-size t i b (p .cells) h I, at-left t i b (p .cells) h I) iteration-written
 
+parent-later : (t : Tree) (i : ℕ) (b₀ b : List ℕ) (x : ℕ) → i < size t → UpWritten t (i + 1) b₀ b
+    → UpWritten t (i + 1) b₀ (set b (i * 4) x)
+parent-later t i b₀ b x h p = record {
+  cells = record {
+    sizes = λ v l. getD-set-other b (i * 4) (v * 4 + 3) x 0 (omega arith) ∙ p .cells .sizes v l;
+    parents = λ v l q. getD-set-other b (i * 4) (v * 4) x 0 (omega (arith, up t v l .above)) ∙ p .cells .parents v l q;
+  };
+  kept = λ j a. getD-set-other b (i * 4) j x 0 (omega (arith, a i h .0)) ∙ p .kept j a;
+}
+
+module _ (t : Tree) (i : ℕ) (b₀ b : List ℕ) (p : UpWritten t i b₀ b) (h : i < size t)
+    (room : i * 4 + 4 ≤ length b) where
+  room-cleared : i * 4 + 4 ≤ length (cleared b i)
+  room-cleared = simp length-set room
+
+  leaf-alone : getD (kindsOf t) i 0 ≡ 0 → UpWritten t (i + 1) b₀ (iteration (cleared b i) i 1 i i)
+  leaf-alone k =
+      parent-later t i b₀ (set (set (cleared b i) (i * 4 + 3) 1) (i * 4) i) i h
+      (parent-later t i b₀ (set (cleared b i) (i * 4 + 3) 1) i h
+      (leaf-iteration t i b₀ (cleared b i) (cleared-written t i b₀ b p h room) h room-cleared k))
+
+  -- a leaf's children are itself, and nothing is below it
+  leaf-turn : getD (kindsOf t) i 0 ≡ 0 → UpWritten t (i + 1) b₀ (upIteration b i 0)
+  leaf-turn k =
+      flat (i - 0) (sizeCell (cleared b i) (i - 0)) (before (cleared b i) (i - 0)) r (ap (sizeCell (cleared b i)) r ∙ z)
+      (omega (arith, ap (sizeCell (cleared b i)) r, z))
+    where
+      r : i - 0 ≡ i
+      r = omega arith
+
+      z : sizeCell (cleared b i) i ≡ 0
+      z = getD-set-same b (i * 4 + 3) 0 0 (omega arith)
+
+      flat : (r s l : ℕ) → r ≡ i → s ≡ 0 → l ≡ i
+          → UpWritten t (i + 1) b₀ (iteration (cleared b i) i (sizeCell (cleared b i) l + s + 1) r l)
+      flat r s l er es el = rw (er, es, el, z) (leaf-alone k)
+
+  inner-turn : Inner t i → UpWritten t (i + 1) b₀ (upIteration b i 1)
+  inner-turn I = inner-iteration t i b₀ (cleared b i) (cleared-written t i b₀ b p h room) h room-cleared I
+
 -- ---- before the first node and after the last
 
 pub none-yet : (t : Tree) (b : List ℕ) → UpTo t 0 b
@@ -156,15 +238,18 @@ pub nothing-written : (ks b : List ℕ) → UpsWritten ks 0 b b
 nothing-written ks b t e = record { cells = none-yet t b; kept = λ j a. refl }
 
 module _ (ks : List ℕ) (i : ℕ) (b₀ b : List ℕ) (all : UpsWritten ks i b₀ b) where
-  module _ (h : i < length ks) (room : length ks * 4 ≤ length b) where
-    pub leaf-turns : getD ks i 0 ≡ 0 → UpsWritten ks (i + 1) b₀ (set b (i * 4 + 3) 1)
-    leaf-turns k t e =
-        leaf-iteration t i b₀ b (all t e) (omega (arith, size-of t ks e)) (omega arith) (kind-of t ks i e ∙ k)
-
-    pub inner-turns : (getD ks i 0 ≡ 0 → ⊥) → UpsWritten ks (i + 1) b₀ (innerIteration b i)
-    inner-turns k t e =
-        let hi : i < size t = omega (arith, size-of t ks e) in
-        inner-iteration t i b₀ b (all t e) hi (omega arith) (inner t i hi (λ z. k (sym (kind-of t ks i e) ∙ z)))
+  pub turns : i < length ks → length ks * 4 ≤ length b → (c : ℕ) → c ≡ getD ks i 0 → UpsWritten ks (i + 1) b₀
+      (upIteration b i c)
+  turns h room c e t f =
+      let hi : i < size t = omega (arith, size-of t ks f) in
+      let k : getD (kindsOf t) i 0 ≡ c = kind-of t ks i f ∙ sym e in
+      elim (ℕ-discrete c 0) [
+        | yes z ↦ subst (λ (x : ℕ). UpWritten t (i + 1) b₀ (upIteration b i x)) (sym z)
+            (leaf-turn t i b₀ b (all t f) hi (omega arith) (k ∙ z))
+        | no z ↦ subst (λ (x : ℕ). UpWritten t (i + 1) b₀ (upIteration b i x))
+            (sym (inner-kind t i hi (λ y. z (sym k ∙ y))) ∙ k)
+            (inner-turn t i b₀ b (all t f) hi (omega arith) (inner t i hi (λ y. z (sym k ∙ y))))
+      ]
 
   pub all-written : length ks ≤ i → i ≤ length ks → length ks * 4 ≤ length b → (t : Tree) → kindsOf t ≡ ks
       → AllUpWritten t b₀ (set b ((length ks - 1) * 4) (length ks - 1))
@@ -173,7 +258,24 @@ module _ (ks : List ℕ) (i : ℕ) (b₀ b : List ℕ) (all : UpsWritten ks i b�
       all-up t b₀ b (subst (λ (n : ℕ). UpWritten t n b₀ b) z (all t e)) (omega (arith, size-of t ks e)) (length ks - 1)
       (omega (arith, size-of t ks e, size-pos t))
 
--- what an inner node's turn needs, from the kinds
+-- what a node's turn needs, from the kinds
+pub turn-room : (ks : List ℕ) (i m : ℕ) (b₀ b : List ℕ) → NodeTableArgs ks m → length b ≡ m → i < length ks
+    → UpsWritten ks i b₀ b → TurnArgs b i (getD ks i 0)
+turn-room ks i m b₀ b args lb h all =
+    let T : (t : Tree) × (kindsOf t ≡ ks) = some-tree ks (args .postorder) in
+    let s : length ks ≡ size (T .0) = size-of (T .0) ks (T .1) in
+    let hi : i < size (T .0) = omega arith in
+    let room : i * 4 + 4 ≤ length b = omega (arith, args .room) in
+    let k : getD (kindsOf (T .0)) i 0 ≡ getD ks i 0 = kind-of (T .0) ks i (T .1) in
+    let C : UpWritten (T .0) i b₀ (cleared b i) = cleared-written (T .0) i b₀ b (all (T .0) (T .1)) hi room in
+    elim (ℕ-discrete (getD ks i 0) 0) [
+      | yes z ↦ subst (TurnArgs b i) (sym z) (leaf-args b i (omega (arith, args .most)) room)
+      | no z ↦ subst (TurnArgs b i) (sym (inner-kind (T .0) i hi (λ y. z (sym k ∙ y))) ∙ k)
+          (one-args b i (inner-args (T .0) i (cleared b i) (C .cells) hi (inner (T .0) i hi (λ y. z (sym k ∙ y)))
+          (simp length-set room) (omega (arith, args .most))))
+    ]
+
+-- and an inner node's
 pub inner-room : (ks : List ℕ) (i m : ℕ) (b : List ℕ) → NodeTableArgs ks m → length b ≡ m → i < length ks
     → (getD ks i 0 ≡ 0 → ⊥) → ((t : Tree) → kindsOf t ≡ ks → UpTo t i b) → InnerArgs b i
 inner-room ks i m b args lb h k all =

@@ -4,7 +4,7 @@ ghost use lib.ListN.{length};
 ghost use Rattle.trees.specs.Tree.{Tree, kindsOf};
 ghost use Rattle.node_tables.specs.Cells.{NodeTableArgs};
 ghost use Rattle.node_tables.specs.NodeCells.{AllUpWritten};
-ghost use Rattle.node_tables.specs.inner.UpPass.{leftOf, innerSize, innerIteration, InnerArgs};
+ghost use Rattle.node_tables.specs.inner.UpPass.{leftOf, innerSize, upIteration, InnerArgs, TurnArgs};
 
 // The left child of inner node v: it stands before the subtree of the right child, v - 1.
 pub fn left_child(node_table: &[u16], v: usize) -> usize
@@ -25,15 +25,18 @@ pub fn inner_size(node_table: &[u16], v: usize) -> u16
     node_table[left * 4 + 3] + node_table[right * 4 + 3] + 1
 }
 
-// Inner node v's turn: its size, and itself as its children's parent.
-fn write_inner(node_table: &mut [u16], v: usize)
-    requires { ⌜ InnerArgs (now «node_table») v ⌝ }
-    ensures { λ _. ⌜ now («node_table» .exit) ≡ innerIteration (now («node_table» .entry)) v ⌝ }
+// Node v's turn, of kind c: its size, and itself as its children's parent. A leaf is taken for its own two children, of
+// size 0 so far: its size comes out as 1, its parent is written at its parent's turn, and nothing hangs on the kind.
+fn write_up_node(node_table: &mut [u16], v: usize, c: usize)
+    requires { ⌜ TurnArgs (now «node_table») v c ⌝ }
+    ensures { λ _. ⌜ now («node_table» .exit) ≡ upIteration (now («node_table» .entry)) v c ⌝ }
 {
-    let right = v - 1;
-    let left = left_child(node_table, v);
-    let size = inner_size(node_table, v);
-    node_table[v * 4 + 3] = size;
+    node_table[v * 4 + 3] = 0;
+    let right = v - c;
+    let size = node_table[right * 4 + 3];
+    let left = right - size as usize;
+    let sum = node_table[left * 4 + 3] + size + 1;
+    node_table[v * 4 + 3] = sum;
     node_table[right * 4] = v as u16;
     node_table[left * 4] = v as u16;
 }
@@ -47,11 +50,7 @@ pub fn write_up(kinds: &[u8], node_table: &mut [u16])
     let n = kinds.len();
     let mut v = 0;
     while v < n {
-        if kinds[v] == 0 {
-            node_table[v * 4 + 3] = 1;
-        } else {
-            write_inner(node_table, v);
-        }
+        write_up_node(node_table, v, kinds[v] as usize);
         v += 1;
     }
     let root = n - 1;

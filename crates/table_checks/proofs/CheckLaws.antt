@@ -37,8 +37,10 @@ use Rattle.tables.specs.inner.States.{RuleRuns, innerState}
 use Rattle.node_tables.specs.inner.UpPass.{leftOf}
 use Rattle.tables.proofs.CompareLaws.{every-all, every-at, rowIs-map, map-rowIs}
 use Rattle.table_checks.proofs.LocalLaws.{table-states, table-maps}
+use Rattle.node_tables.proofs.InnerNodeLaws.{kind-most}
 use Rattle.table_checks.specs.inner.PairNodes.{pairNodes, rootNode}
-use Rattle.table_checks.specs.inner.PairStates.{rowOf, colOf, rowsMatch, pairStates, leafIs, pairIs, TableRoom}
+use Rattle.tables.specs.inner.MapPairs.{rowOf, colOf}
+use Rattle.table_checks.specs.inner.PairStates.{rowsMatch, pairStates, leafIs, pairIs, TableRoom}
 use Rattle.table_checks.specs.inner.Blocks.{Listed, Means, Leaves, Nodes, Kinds}
 use Rattle.table_checks.specs.inner.Tested.{MatchArgs, TablesTested}
 use Rattle.table_checks.proofs.PairNodeLaws.{pair-told, tells-pair, NodePairs}
@@ -47,20 +49,12 @@ use Rattle.table_checks.proofs.PairLaws.{StatePairs, both-built, built-
 
 -- ---- kinds
 
-kind-small : (t : Tree) (v : ℕ) → v < size t → getD (kindsOf t) v 0 ≤ 1
-kind-small t v h = elim (ℕ-discrete (getD (kindsOf t) v 0) 0) [
-  | yes z ↦ omega arith
-  | no z ↦ (let I : Inner t v = inner t v h z in
-      let U : Up t (v - 1) (parent t (v - 1)) = up t (v - 1) (omega (arith, I .at)) in
-      omega (arith, U .inside, ap (λ (x : ℕ). getD (kindsOf t) x 0) (I .right-up)))
-]
-
 pub kinds-of : (ks : List ℕ) → isPostorder ks ≡ true → Kinds ks
 kinds-of ks h =
     let T : (t : Tree) × (kindsOf t ≡ ks) = some-tree ks h in
     let z : length ks ≡ size (T .0) = size-of (T .0) ks (T .1) in
     record {
-      small = λ j l. omega (arith, kind-small (T .0) j (omega arith), kind-of (T .0) ks j (T .1));
+      small = kind-most ks h;
       later = λ j l k. omega (arith, inner (T .0) j (omega arith) (λ e. k (sym (kind-of (T .0) ks j (T .1)) ∙ e)) .at);
     }
 

@@ -26,7 +26,7 @@ use Rattle.node_tables.proofs.UpLoop.{child-is}
 use Rattle.node_tables.proofs.CellLaws.{link-cells, cells-link}
 use Rattle.tables.specs.StateCells.{stateCell, mapCell}
 use Rattle.tables.specs.inner.Compare.{nearEntry}
-use Rattle.table_checks.specs.inner.PairStates.{rowOf, colOf}
+use Rattle.tables.specs.inner.MapPairs.{rowOf, colOf}
 use Rattle.tables.specs.inner.States.{innerState}
 use Rattle.node_tables.specs.inner.UpPass.{leftOf}
 use Rattle.table_checks.specs.inner.LocalTables.{stepCells, LocalStates, LocalMaps}

@@ -19,8 +19,9 @@ use Rattle.trees.proofs.MoveLaws.{both}
 use Rattle.node_tables.specs.Cells.{jumpCell}
 use Rattle.tables.specs.StateCells.{stateCell, mapCell}
 use Rattle.tables.specs.inner.Rows.{RowIn}
+use Rattle.tables.specs.inner.MapPairs.{rowOf, colOf}
 use Rattle.tables.specs.inner.Compare.{rowIs, nearEntry}
-use Rattle.table_checks.specs.inner.PairStates.{farEntry, FarEntryArgs, rowOf, colOf, rowsMatch, pairStates}
+use Rattle.table_checks.specs.inner.PairStates.{farEntry, FarEntryArgs, rowsMatch, pairStates}
 use Rattle.table_checks.specs.inner.PairStates.{RowsArgs, StateIn, TableRoom}
 use Rattle.node_tables.specs.inner.UpPass.{leftOf}
 use Rattle.tables.proofs.CompareLaws.{rowIs-map, map-rowIs}

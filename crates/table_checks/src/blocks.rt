@@ -1,11 +1,11 @@
 // Blocks of nodes: the inner ones listed without a branch on the kind, then tested; no test ends a block.
 use crate::rows::pair_differences;
 use crate::siblings::pair_nodes_match;
+use node_tables::blocks::block_end;
 ghost use mathlib.Core.Path.{_≡_};
 ghost use lib.ListN.{length, getD};
 ghost use Rattle.node_tables.specs.JumpLengths.{jumpLengths};
 ghost use Rattle.tables.specs.inner.Compare.{every};
-ghost use Prim.Native.Nat.{_+_, _≤_, _<_};
 ghost use Rattle.table_checks.specs.inner.PairStates.{pairIs};
 ghost use Rattle.table_checks.specs.inner.Blocks.{Means, BlockListed, PairsArgs, Nodes, BlockArgs, BlocksArgs};
 
@@ -136,14 +136,6 @@ fn block_match(
         list,
         c,
     )
-}
-
-// Where the block from b on ends.
-fn block_end(b: usize, n: usize) -> usize
-    requires { ⌜ (b < n) × (n ≤ 65535) ⌝ }
-    ensures { λ r. ⌜ (b < r) × (r ≤ n) × (r ≤ b + 1024) ⌝ }
-{
-    if b + 1024 < n { b + 1024 } else { n }
 }
 
 // Whether all nodes match, block by block.

@@ -2,18 +2,11 @@
 use crate::blocks::blocks_match;
 use crate::siblings::root_node_is;
 use formats::rules::all_below;
+use node_tables::blocks::empty_list;
 use node_tables::jump_lengths::jump_lengths;
 use tables::compare::root_row_is;
-ghost use mathlib.Core.Path.{_≡_};
 ghost use lib.ListN.{length};
 ghost use Rattle.table_checks.specs.inner.Tested.{MatchArgs, TablesTested};
-
-// Room for the inner nodes of a block.
-fn block() -> [u16; 1024]
-    ensures { λ r. ⌜ length r ≡ 1024 ⌝ }
-{
-    [0u16; 1024]
-}
 
 // Whether both buffers begin with the tables of the tree with these kinds and labels.
 pub fn tables_match(
@@ -42,7 +35,7 @@ pub fn tables_match(
         return false;
     }
     let lengths = jump_lengths();
-    let mut list = block();
+    let mut list = empty_list();
     blocks_match(
         kinds,
         labels,

@@ -104,6 +104,7 @@ module _ (p r nodeTable stateTable : List ℕ) (ok : Passed p r nodeTable stateT
             run = record {
               postorder = A .0 .postorder;
               count = labels-as-kinds p (A .0);
+              most = rw n (A .0 .most);
               below = label-below p r (A .1 .labels-least) (A .2);
               link-room = rw (n, same) (A .3);
               sizes = λ t e. links-cells t e .sizes;

@@ -6,6 +6,7 @@ pub mod MapRowLaws
 pub mod RowLoop
 pub mod StateLoop
 pub mod MapTableLaws
+pub mod PairMaps
 pub mod MapLoop
 pub mod MapPlaces
 pub mod TableLoop

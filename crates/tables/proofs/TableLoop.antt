@@ -29,10 +29,11 @@ length-stateTableOf A t = length-rows (size t) (A .states + 1) (stateRow A t) (�
 
 module _ (ks ls b lv inn : List ℕ) (s k : ℕ) (e st : List ℕ) (args : TableArgs ks ls b lv inn s k (length e))
     (R : Runs s k lv inn ks ls (length ks) e st) where
-  prepared : (mk : List ℕ) (t : Tree) → kindsOf t ≡ ks → labelsOf t ≡ ls → Prepared s k lv inn mk t ls b st
+  prepared : (mk : List ℕ) (t : Tree) → kindsOf t ≡ ks → labelsOf t ≡ ls → Prepared s k lv inn mk t ks ls b st
   prepared mk t x y =
       let L : NodeCells t b = args .links t x in
       record {
+        kinds = x;
         labels = y;
         parents = L .parents;
         jumps = L .jumps;
@@ -40,7 +41,7 @@ module _ (ks ls b lv inn : List ℕ) (s k : ℕ) (e st : List ℕ) (args : Table
         states = λ v h. R mk t x y .states v (omega (arith, size-of t ks x));
       }
 
-  pub map-args : length st ≡ length e → MapArgs ls b inn s k st
+  pub map-args : length st ≡ length e → MapArgs ks ls b inn s k st
   map-args same =
       let T : (t : Tree) × (kindsOf t ≡ ks) × (labelsOf t ≡ ls) = postorder-tree ks ls (args .run .count)
       (args .run .postorder) in
@@ -50,12 +51,14 @@ module _ (ks ls b lv inn : List ℕ) (s k : ℕ) (e st : List ℕ) (args : Table
         prepared = prepared [] (T .0) (T .1) (T .2);
         rules = args .run .rules;
         some = args .some;
+        most = args .run .most;
         below = args .run .below;
         link-room = omega (arith, args .run .link-room, args .run .count);
         room = rw (args .run .count, same) (args .run .room);
       }
 
-  pub states-over : (after : List ℕ) → length after ≡ length e → Maps ls b inn s k 0 st after → StatesOver s k lv inn ks
+  pub states-over : (after : List ℕ) → length after ≡ length e → Maps ks ls b inn s k 0 st after
+      → StatesOver s k lv inn ks
       ls e after
   unfolding stateTableOf
   states-over after same M mk t x y =

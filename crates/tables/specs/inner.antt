@@ -1,6 +1,7 @@
 pub mod Compare
 pub mod MapTable
 pub mod Maps
+pub mod MapPairs
 pub mod PathViews
 pub mod Rows
 pub mod States

@@ -1,59 +1,64 @@
-// The maps of a rule table's nodes, from the root down.
+// The maps of a rule table's nodes, from the root down: both children of an inner node at its turn.
 use crate::rows::far_row;
 use crate::rows::near_row;
 use crate::rows::same_row;
-ghost use mathlib.Core.Path.{_≡_};
-ghost use Prim.Native.Nat.{_+_, _*_};
-ghost use Rattle.tables.specs.StateCells.{mapCell};
-ghost use Rattle.tables.specs.inner.Rows.{Rowed};
-ghost use Rattle.tables.specs.inner.Maps.{SiblingArgs, BaseArgs, StepArgs, FillArgs, FarMapArgs, MapArgs};
-ghost use Rattle.tables.specs.inner.Maps.{siblingOf, nearBase, nearStep, nearValue, farValue, mapValue, Maps};
+use node_tables::blocks::block_start;
+use node_tables::blocks::empty_list;
+use node_tables::blocks::list_inner;
+ghost use Prim.Native.Nat.{_+_, _-_, _*_};
+ghost use lib.ListN.{length, getD};
+ghost use Rattle.node_tables.specs.inner.UpPass.{leftOf};
+ghost use Rattle.tables.specs.inner.Rows.{farCell};
+ghost use Rattle.tables.specs.inner.Maps.{MapArgs, Maps};
+ghost use Rattle.tables.specs.inner.MapPairs.{PairRowed, rightValue, leftValue, NearPairArgs, FarPairArgs};
+ghost use Rattle.tables.specs.inner.MapPairs.{PairArgs, BlockArgs, BlockMapped};
 
-// The other child of node v's parent p.
-pub fn sibling(node_table: &[u16], v: usize, p: usize) -> usize
-    requires { ⌜ SiblingArgs (now «node_table») v p ⌝ }
-    ensures { λ r. ⌜ r ≡ siblingOf (now («node_table» .entry)) v p ⌝ }
-{
-    if v + 1 == p {
-        return v - (node_table[v * 4 + 3] as usize);
-    }
-    p - 1
-}
-
-// Where the step from node v to its parent p of label a stands in the inner states.
-pub fn near_base(
-    node_table: &[u16],
-    state_table: &[u8],
+// The maps of two nodes, the right and the left child of one, from a table of states: entry q of the right one is the
+// table's at row + q, of the left one at col + q * step.
+fn near_pair(
+    state_table: &mut [u8],
     s: usize,
-    k: usize,
+    right: usize,
+    left: usize,
+    table: &[u8],
+    row: usize,
+    col: usize,
+    step: usize,
+)
+    requires { ⌜ NearPairArgs (length (now «state_table»)) s right left (length (now table)) row col step ⌝ }
+    ensures { λ _. ⌜
+        PairRowed s (λ q. getD (now (table .entry)) (row + q * 1) 0) (λ q. getD (now (table .entry)) (col + q * step) 0)
+        right left (now («state_table» .entry)) (now («state_table» .exit)) ⌝ }
+{
+    near_row(state_table, s, right, table, row, 1);
+    near_row(state_table, s, left, table, col, step);
+}
+
+// The same, followed by the maps of their parent v and of its jump j.
+fn far_pair(
+    state_table: &mut [u8],
+    s: usize,
     v: usize,
-    p: usize,
-    a: usize,
-) -> usize
-    requires { ⌜ BaseArgs (now «node_table») (now «state_table») s k v p a ⌝ }
-    ensures { λ r. ⌜ r ≡ nearBase (now («node_table» .entry)) (now («state_table» .entry)) s k v p a ⌝ }
+    j: usize,
+    right: usize,
+    left: usize,
+    table: &[u8],
+    row: usize,
+    col: usize,
+    step: usize,
+)
+    requires { ⌜ FarPairArgs (now «state_table») s v j right left (now table) row col step ⌝ }
+    ensures { λ _. ⌜
+        PairRowed s (farCell s (now («state_table» .entry)) v j (now (table .entry)) row 1)
+        (farCell s (now («state_table» .entry)) v j (now (table .entry)) col step)
+        right left (now («state_table» .entry)) (now («state_table» .exit)) ⌝ }
 {
-    let u = sibling(node_table, v, p);
-    let x = state_table[u * (s + 1)] as usize;
-    if v + 1 == p {
-        return (x * k + a) * s;
-    }
-    a * s + x
+    far_row(state_table, s, right, v, j, table, row, 1);
+    far_row(state_table, s, left, v, j, table, col, step);
 }
 
-// How far its entries stand apart.
-pub fn near_step(s: usize, k: usize, v: usize, p: usize) -> usize
-    requires { ⌜ StepArgs s k v p ⌝ }
-    ensures { λ r. ⌜ r ≡ nearStep s k v p ⌝ }
-{
-    if v + 1 == p {
-        return 1;
-    }
-    k * s
-}
-
-// Node v's map becomes the step to its parent.
-fn near_map(
+// The maps of both children of inner node v. Whether they jump to v is one test for the two.
+fn fill_pair(
     labels: &[u8],
     node_table: &[u16],
     inner: &[u8],
@@ -62,52 +67,66 @@ fn near_map(
     v: usize,
     state_table: &mut [u8],
 )
-    requires { ⌜ FillArgs (now labels) (now «node_table») (now inner) s k (now «state_table») v ⌝ }
+    requires { ⌜ PairArgs (now labels) (now «node_table») (now inner) s k (now «state_table») v ⌝ }
     ensures { λ _. ⌜
-        Rowed s (nearValue (now (labels .entry)) (now («node_table» .entry)) (now (inner .entry)) s k (now («state_table» .entry)) v) v
-        (now («state_table» .entry)) (now («state_table» .exit)) ⌝ }
+        PairRowed s (rightValue (now (labels .entry)) (now («node_table» .entry)) (now (inner .entry)) s k
+        (now («state_table» .entry)) v)
+        (leftValue (now (labels .entry)) (now («node_table» .entry)) (now (inner .entry)) s k
+        (now («state_table» .entry)) v)
+        (v - 1) (leftOf (now («node_table» .entry)) v) (now («state_table» .entry)) (now («state_table» .exit)) ⌝ }
 {
-    let p = node_table[v * 4] as usize;
-    let a = labels[p] as usize;
-    let base = near_base(node_table, state_table, s, k, v, p, a);
-    let step = near_step(s, k, v, p);
-    near_row(state_table, s, v, inner, base, step);
-}
-
-// Node v's map, where its jump is not the parent, goes on by the maps of the parent and of its jump.
-fn far_map(node_table: &[u16], s: usize, v: usize, state_table: &mut [u8])
-    requires { ⌜ FarMapArgs (now «node_table») s (now «state_table») v ⌝ }
-    ensures { λ _. ⌜
-        Rowed s (λ q. farValue (now («node_table» .entry)) s (now («state_table» .entry)) v (mapCell s (now («state_table» .entry)) v q)) v
-        (now («state_table» .entry)) (now («state_table» .exit)) ⌝ }
-{
-    let p = node_table[v * 4] as usize;
-    if (node_table[v * 4 + 1] as usize) != p {
-        far_row(state_table, s, v, p, node_table[p * 4 + 1] as usize);
+    let right = v - 1;
+    let left = right - node_table[right * 4 + 3] as usize;
+    let a = labels[v] as usize;
+    let x = state_table[left * (s + 1)] as usize;
+    let y = state_table[right * (s + 1)] as usize;
+    let row = (x * k + a) * s;
+    let col = a * s + y;
+    let j = node_table[v * 4 + 1] as usize;
+    if node_table[right * 4 + 1] as usize == v {
+        near_pair(state_table, s, right, left, inner, row, col, k * s);
+    } else {
+        far_pair(state_table, s, v, j, right, left, inner, row, col, k * s);
     }
 }
 
-// Node v's map.
-fn fill_map(
+// The maps of the children of the inner nodes b, .. e - 1, from the last one down.
+fn fill_block(
+    kinds: &[u8],
     labels: &[u8],
     node_table: &[u16],
     inner: &[u8],
     s: usize,
     k: usize,
-    v: usize,
+    b: usize,
+    e: usize,
+    list: &mut [u16],
     state_table: &mut [u8],
 )
-    requires { ⌜ FillArgs (now labels) (now «node_table») (now inner) s k (now «state_table») v ⌝ }
+    requires { ⌜ BlockArgs (now kinds) (now labels) (now «node_table») (now inner) s k b e (length (now list))
+        (now «state_table») ⌝ }
     ensures { λ _. ⌜
-        Rowed s (mapValue (now (labels .entry)) (now («node_table» .entry)) (now (inner .entry)) s k (now («state_table» .entry)) v) v
+        BlockMapped (now (kinds .entry)) (now (labels .entry)) (now («node_table» .entry)) (now (inner .entry)) s k b e
         (now («state_table» .entry)) (now («state_table» .exit)) ⌝ }
 {
-    near_map(labels, node_table, inner, s, k, v, state_table);
-    far_map(node_table, s, v, state_table);
+    let mut i = list_inner(kinds, b, e, list);
+    while 0 < i {
+        i -= 1;
+        fill_pair(
+            labels,
+            node_table,
+            inner,
+            s,
+            k,
+            list[i] as usize,
+            state_table,
+        );
+    }
 }
 
 // Writes each node's map.
 pub fn fill_maps(
+    kinds: &[u8],
     labels: &[u8],
     node_table: &[u16],
     inner: &[u8],
@@ -115,15 +134,28 @@ pub fn fill_maps(
     k: usize,
     state_table: &mut [u8],
 )
-    requires { ⌜ MapArgs (now labels) (now «node_table») (now inner) s k (now «state_table») ⌝ }
+    requires { ⌜ MapArgs (now kinds) (now labels) (now «node_table») (now inner) s k (now «state_table») ⌝ }
     ensures { λ _. ⌜
-        Maps (now (labels .entry)) (now («node_table» .entry)) (now (inner .entry)) s k 0
+        Maps (now (kinds .entry)) (now (labels .entry)) (now («node_table» .entry)) (now (inner .entry)) s k 0
         (now («state_table» .entry)) (now («state_table» .exit)) ⌝ }
 {
-    let mut v = labels.len() - 1;
-    same_row(state_table, s, v);
-    while 0 < v {
-        v -= 1;
-        fill_map(labels, node_table, inner, s, k, v, state_table);
+    let mut e = kinds.len();
+    same_row(state_table, s, e - 1);
+    let mut list = empty_list();
+    while 0 < e {
+        let b = block_start(e);
+        fill_block(
+            kinds,
+            labels,
+            node_table,
+            inner,
+            s,
+            k,
+            b,
+            e,
+            &mut list,
+            state_table,
+        );
+        e = b;
     }
 }

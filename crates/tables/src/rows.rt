@@ -24,17 +24,28 @@ pub fn near_row(
     }
 }
 
-// Node v's map, followed by the maps of p and then of j.
-pub fn far_row(state_table: &mut [u8], s: usize, v: usize, p: usize, j: usize)
-    requires { ⌜ FarArgs (now «state_table») s v p j ⌝ }
-    ensures { λ _. ⌜ Rowed s (farCell s (now («state_table» .entry)) v p j) v (now («state_table» .entry)) (now («state_table» .exit)) ⌝ }
+// Node v's map, from a table of states as above, followed by the maps of p and then of j.
+pub fn far_row(
+    state_table: &mut [u8],
+    s: usize,
+    v: usize,
+    p: usize,
+    j: usize,
+    table: &[u8],
+    base: usize,
+    stride: usize,
+)
+    requires { ⌜ FarArgs (now «state_table») s v p j (now table) base stride ⌝ }
+    ensures { λ _. ⌜
+        Rowed s (farCell s (now («state_table» .entry)) p j (now (table .entry)) base stride) v
+        (now («state_table» .entry)) (now («state_table» .exit)) ⌝ }
 {
     let at = v * (s + 1) + 1;
     let near = p * (s + 1) + 1;
     let far = j * (s + 1) + 1;
     let mut q = 0;
     while q < s {
-        let x = state_table[at + q] as usize;
+        let x = table[base + q * stride] as usize;
         let y = state_table[near + x] as usize;
         state_table[at + q] = state_table[far + y];
         q += 1;

@@ -21,5 +21,5 @@ pub fn write_states(
         (now («state_table» .entry)) (now («state_table» .exit)) ⌝ }
 {
     run_states(kinds, labels, node_table, leaves, inner, s, k, state_table);
-    fill_maps(labels, node_table, inner, s, k, state_table);
+    fill_maps(kinds, labels, node_table, inner, s, k, state_table);
 }

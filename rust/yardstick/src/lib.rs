@@ -1,7 +1,7 @@
 //! The what-if checker as one would write it in plain fast Rust: the yardstick of the bench.
 //!
-//! Order: `checks` (2 to 11 and the parts of the lent bytes), `node_tables` (parents, jumps, depths, sizes), `rules`, `full_check`
-//! and `branch` (the bytes, full checks, branch questions), `fresh`, `merge` and `agree` (two rule tables), `planner` (the
+//! Order: `checks` (2 to 11 and the parts of the lent bytes), `node_tables` (parents, jumps, depths, sizes), `rules`, `load`,
+//! `full_check` and `branch` (the bytes, full checks, branch questions), `fresh`, `merge` and `agree` (two rule tables), `planner` (the
 //! planner's files);
 //! `record` (the session's bytes), `question` (roots and parts), `count` (how many choices end in each state),
 //! `layers` (both alone), `session` (the five calls on bytes), `place` (the session as a struct). Each call gives the
@@ -15,6 +15,7 @@ mod count;
 mod fresh;
 mod full_check;
 pub mod layers;
+mod load;
 mod merge;
 mod node_tables;
 pub mod place;

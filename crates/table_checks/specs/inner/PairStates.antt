@@ -1,6 +1,5 @@
 -- The states and maps of a node's two children, tested at their parent with every place made safe.
 --
--- rowOf, colOf == where the steps of the right and of the left child of inner node v begin in the inner states
 -- farEntry s b p j table base stride q == nearEntry (tables) taken on by the maps of node p and then of node j
 -- rowsMatch == whether both children's maps are the steps to v (where the right child's jump is v), else the steps
 --   taken on by the maps of v and of its jump
@@ -23,15 +22,10 @@ use Rattle.node_tables.specs.Cells.{jumpCell, sizeCell}
 use Rattle.node_tables.specs.inner.UpPass.{leftOf}
 use Rattle.tables.specs.StateCells.{stateCell, mapCell}
 use Rattle.tables.specs.inner.Rows.{RowIn, NearArgs}
+use Rattle.tables.specs.inner.MapPairs.{rowOf, colOf}
 use Rattle.tables.specs.inner.Compare.{rowIs, nearEntry}
 use Rattle.tables.specs.inner.States.{RuleRuns, innerState}
 use Rattle.table_checks.specs.inner.PairNodes.{within, pairNodes, PairArgs}
-
-abbrev pub rowOf : List ℕ → List ℕ → List ℕ → ℕ → ℕ → ℕ → ℕ
-rowOf ls nodeTable b s k v = (stateCell s b (leftOf nodeTable v) * k + getD ls v 0) * s
-
-abbrev pub colOf : List ℕ → List ℕ → ℕ → ℕ → ℕ
-colOf ls b s v = getD ls v 0 * s + stateCell s b (v - 1)
 
 abbrev pub farEntry : ℕ → List ℕ → ℕ → ℕ → List ℕ → ℕ → ℕ → ℕ → ℕ
 farEntry s b p j table base stride q = mapCell s b j (mapCell s b p (nearEntry table base stride q))

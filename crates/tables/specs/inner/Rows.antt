@@ -2,7 +2,7 @@
 --
 -- RowTo s f v i before after == the first i bytes of node v's map are f's, and no other byte is changed
 -- Rowed s f v before after == node v's map is f's, and no other byte is changed
--- farCell s b v p j q == what the maps of p and then j make of node v's map at q
+-- farCell s b p j table base stride q == what the maps of p and then j make of the table's entry at base + q * stride
 -- NearArgs, FarArgs, SameArgs == what the three writers of a row need: places inside their lists, values below s
 --
 -- Assumes nothing.
@@ -19,8 +19,8 @@ pub record RowTo (s : ℕ) (f : ℕ → ℕ) (v i : ℕ) (before after : List �
 abbrev pub Rowed : ℕ → (ℕ → ℕ) → ℕ → List ℕ → List ℕ → Type 0
 Rowed s f v before after = RowTo s f v s before after
 
-abbrev pub farCell : ℕ → List ℕ → ℕ → ℕ → ℕ → ℕ → ℕ
-farCell s b v p j q = mapCell s b j (mapCell s b p (mapCell s b v q))
+abbrev pub farCell : ℕ → List ℕ → ℕ → ℕ → List ℕ → ℕ → ℕ → ℕ → ℕ
+farCell s b p j table base stride q = mapCell s b j (mapCell s b p (getD table (base + q * stride) 0))
 
 -- a row of node v in a buffer of m bytes
 abbrev pub RowIn : ℕ → ℕ → ℕ → Type 0
@@ -30,13 +30,14 @@ pub record NearArgs (m s v l base stride : ℕ) : Type 0 where
   pub room : RowIn m s v
   pub inside : (q : ℕ) → q < s → base + q * stride < l
 
-pub record FarArgs (b : List ℕ) (s v p j : ℕ) : Type 0 where
+pub record FarArgs (b : List ℕ) (s v p j : ℕ) (table : List ℕ) (base stride : ℕ) : Type 0 where
   pub room : RowIn (length b) s v
   pub near-room : RowIn (length b) s p
   pub far-room : RowIn (length b) s j
   pub near-other : p ≡ v → ⊥
   pub far-other : j ≡ v → ⊥
-  pub here-below : (q : ℕ) → q < s → mapCell s b v q < s
+  pub inside : (q : ℕ) → q < s → base + q * stride < length table
+  pub here-below : (q : ℕ) → q < s → getD table (base + q * stride) 0 < s
   pub near-below : (q : ℕ) → q < s → mapCell s b p q < s
 
 pub record SameArgs (m s v : ℕ) : Type 0 where

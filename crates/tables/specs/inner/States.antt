@@ -5,7 +5,12 @@
 -- Sizes ks b == the table of links b has the sizes of the tree with kinds ks
 -- Ran A t i before after == the state bytes of the nodes below i are the run's, and no byte but a state byte is changed
 -- Runs s k lv inn ks ls i before after == that, for the tree with kinds ks and labels ls, whatever the marks are
--- StateArgs == what run_states needs
+-- RanTo A t i e before after == the state bytes of the leaves below e are the run's, and of the inner nodes below e
+--   those
+--   below i; RunsTo == that, for the tree with kinds ks and labels ls
+-- Leaves s lv ls b e before after == the state bytes of b, .. e - 1 are those of leaves with their labels
+-- BlockRun .. b e before after == the nodes b, .. e - 1 have their states, whatever buffer the pass began with
+-- StateArgs == what run_states needs; LeafArgs, RunBlockArgs == what its parts need
 -- innerState == the rule at an inner node, from its children's state bytes; RuleArgs, InnerArgs == what it needs
 --
 -- Assumes nothing.
@@ -47,11 +52,49 @@ Runs s k lv inn ks ls i before after =
 pub record StateArgs (ks ls b lv inn : List ℕ) (s k m : ℕ) : Type 0 where
   pub postorder : isPostorder ks ≡ true
   pub count : length ls ≡ length ks
+  pub most : length ks ≤ 65535
   pub below : (j : ℕ) → getD ls j 0 < k
   pub link-room : nodeTableLength (length ks) ≤ length b
   pub sizes : Sizes ks b
   pub rules : RuleRuns s k lv inn
   pub room : stateTableLength (length ks) s ≤ m
+
+-- ---- a block of nodes: all as leaves, then the inner ones
+
+pub record RanTo (A : Automaton) (t : Tree) (i e : ℕ) (before after : List ℕ) : Type 0 where
+  pub states : (v : ℕ) → v < e → ((getD (kindsOf t) v 0 ≡ 0 → ⊥) → v < i)
+      → stateCell (A .states) after v ≡ state A (sub t v)
+  pub kept : (j : ℕ) → ((v : ℕ) → v < size t → j ≡ v * (A .states + 1) → ⊥) → getD after j 0 ≡ getD before j 0
+
+abbrev pub RunsTo : ℕ → ℕ → List ℕ → List ℕ → List ℕ → List ℕ → ℕ → ℕ → List ℕ → List ℕ → Type 0
+RunsTo s k lv inn ks ls i e before after =
+    (mk : List ℕ) (t : Tree) → kindsOf t ≡ ks → labelsOf t ≡ ls
+    → RanTo (treeAutomaton s k lv inn mk) t i e before after
+
+pub record Leaves (s : ℕ) (lv ls : List ℕ) (b e : ℕ) (before after : List ℕ) : Type 0 where
+  pub cells : (v : ℕ) → b ≤ v → v < e → stateCell s after v ≡ getD lv (getD ls v 0) 0
+  pub kept : (j : ℕ) → ((v : ℕ) → b ≤ v → v < e → j ≡ v * (s + 1) → ⊥) → getD after j 0 ≡ getD before j 0
+
+pub record LeafArgs (ls lv : List ℕ) (s b e m : ℕ) : Type 0 where
+  pub few : s ≤ 16
+  pub order : b ≤ e
+  pub inside : e ≤ length ls
+  pub label : (j : ℕ) → getD ls j 0 < length lv
+  pub room : stateTableLength (length ls) s ≤ m
+
+abbrev pub BlockRun : ℕ → ℕ → List ℕ → List ℕ → List ℕ → List ℕ → ℕ → ℕ → List ℕ → List ℕ → Type 0
+BlockRun s k lv inn ks ls b e before after =
+    (first : List ℕ) → Runs s k lv inn ks ls b first before → Runs s k lv inn ks ls e first after
+
+pub record RunBlockArgs (ks ls b lv inn : List ℕ) (s k from to m : ℕ) (st : List ℕ) : Type 0 where
+  pub args : StateArgs ks ls b lv inn s k (length st)
+  pub first : List ℕ
+  pub done : Runs s k lv inn ks ls from first st
+  pub order : from ≤ to
+  pub inside : to ≤ length ks
+  pub fits : to ≤ from + m
+
+-- ---- an inner node
 
 abbrev pub innerState : List ℕ → List ℕ → List ℕ → ℕ → ℕ → ℕ → ℕ → ℕ
 innerState b st inn s k v a = getD inn ((stateCell s st (leftOf b v) * k + a) * s + stateCell s st (v - 1)) 0

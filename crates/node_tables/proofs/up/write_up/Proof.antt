@@ -2,11 +2,9 @@
 -- other place has changed. Assumes nothing.
 use Prim.Native.Nat.{_≤_, _-_, _*_}
 use mathlib.Core.Path.{_≡_, refl, _∙_}
-use mathlib.Core.Logic.{⊎-elim}
 use lib.ListN.{length, length-set}
 use Rattle.trees.proofs.PostorderLaws.{some-node}
-use Rattle.node_tables.proofs.UpLoop.{UpsWritten, nothing-written, leaf-turns, inner-turns, inner-room}
-use Rattle.node_tables.proofs.UpLoop.{all-written}
+use Rattle.node_tables.proofs.UpLoop.{UpsWritten, nothing-written, turns, turn-room, all-written}
 use native.Mathlib.Omega.{arith}
 use borrow.Author.Needs.{needs}
 use Rattle.node_tables.proofs.up.write_up.Statement.{statement}
@@ -22,43 +20,35 @@ abbrev μ-loop : tie.MeasureT-loop
 loop-holds : tie.Need-loop-holds Inv-loop μ-loop
 loop-holds c = (search needs, refl, refl, nothing-written _ _)
 
-write-inner-requires : tie.Need-write-inner-requires Inv-loop μ-loop
-write-inner-requires c κs =
-    let a = c .before .before .before .before in
+cast-write-up-node : tie.Need-cast-write-up-node Inv-loop μ-loop
+cast-write-up-node c = omega (arith, c .shared-slice-known2 .given (c .before .before .before .loop .v))
+
+write-up-node-requires : tie.Need-write-up-node-requires Inv-loop μ-loop
+write-up-node-requires c κs =
+    let a = c .before .before .before in
     let s = a .before .before .before in
-    inner-room (s .args .kinds .now) (a .loop .v) (length (s .args .node-table .now)) (a .loop .node-table) (s .pre)
-    (a .loop .inv .1)
-    (c .before .before .before .loop-test .taken) (c .before .if1 .left) (λ t e. a .loop .inv .3 t e .cells)
+    turn-room (s .args .kinds .now) (a .loop .v) (length (s .args .node-table .now)) (s .args .node-table .now)
+    (a .loop .node-table) (s .pre) (a .loop .inv .1) (c .before .before .loop-test .taken) (a .loop .inv .3)
 
 loop-again : tie.Need-loop-again Inv-loop μ-loop
 loop-again c =
-    let a = c .before .before .before in
+    let a = c .before .before .before .before .before .before in
     let s = a .before .before .before in
     let ks = s .args .kinds .now in
-    let t = c .before .before .loop-test .taken in
-    let room : length ks * 4 ≤ length (a .loop .node-table) = omega (arith, s .pre .room, a .loop .inv .1) in
-    ⊎-elim
-    (λ w. (
+    let t = c .before .before .before .before .before .loop-test .taken in
+    let room : length ks * 4 ≤ length (a .loop .node-table) = omega (arith, s .pre .room, a .loop .inv .1) in (
       omega arith,
-      rw (w .1) (simp length-set (a .loop .inv .1)),
+      rw (c .before .before .write-up-node .ensures) (simp length-set (a .loop .inv .1)),
       refl,
-      rw (w .1) (leaf-turns ks (a .loop .v) (s .args .node-table .now) (a .loop .node-table) (a .loop .inv .3) t room
-          (w .0 .taken)),
-    ))
-    (λ w. (
-      omega arith,
-      rw (w .5 ∙ w .2 .ensures) (simp length-set (a .loop .inv .1)),
-      refl,
-      rw (w .5 ∙ w .2 .ensures)
-          (inner-turns ks (a .loop .v) (s .args .node-table .now) (a .loop .node-table) (a .loop .inv .3) t room (w .0 .left)),
-    ))
-    (c .if1 .came)
+      rw (c .before .before .write-up-node .ensures) (turns ks (a .loop .v) (s .args .node-table .now)
+          (a .loop .node-table) (a .loop .inv .3) t room _ refl),
+    )
 
 sub-root : tie.Need-sub-root Inv-loop μ-loop
 sub-root c = some-node _ (c .before .before .before .before .pre .postorder)
 
-slice-write-node-table-2 : tie.Need-slice-write-node-table-2 Inv-loop μ-loop
-slice-write-node-table-2 c = omega (arith, some-node _ (c .before .before .before .before .pre .postorder))
+slice-write-node-table : tie.Need-slice-write-node-table Inv-loop μ-loop
+slice-write-node-table c = omega (arith, some-node _ (c .before .before .before .before .pre .postorder))
 
 returns : tie.Need-returns Inv-loop μ-loop
 returns c =
@@ -71,7 +61,20 @@ returns c =
 pub write-up-spec : {M : Type 1} → statement M
 write-up-spec =
     tie.close
-    (tie.spec Inv-loop μ-loop loop-holds (λ c. search needs) (λ c. search needs) (λ c. search needs)
-    (λ c. search needs) (λ c. search needs) write-inner-requires (λ c. search needs) (λ c. search needs) loop-again
-    sub-root (λ c. search needs) (λ c. search needs) (λ c. search needs) slice-write-node-table-2 (λ c. search needs)
+    (tie.spec
+    Inv-loop
+    μ-loop
+    loop-holds
+    (λ c. search needs)
+    cast-write-up-node
+    write-up-node-requires
+    (λ c. search needs)
+    (λ c. search needs)
+    loop-again
+    sub-root
+    (λ c. search needs)
+    (λ c. search needs)
+    (λ c. search needs)
+    slice-write-node-table
+    (λ c. search needs)
     returns)

@@ -98,7 +98,7 @@ blocks-match-requires c κs =
             (g .k)
             (g .state-table .now) (s .pre) (sym (a .ensures) ∙ not-false (a .result) (e .left));
         kinds = kinds-of (g .kinds .now) (s .pre .postorder);
-        fits = omega (arith, c .before .before .block .ensures);
+        fits = omega (arith, c .before .before .empty-list .ensures);
       },
       c .before .before .before .jump-lengths .ensures,
     )

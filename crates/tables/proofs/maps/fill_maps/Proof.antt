@@ -1,111 +1,122 @@
--- `maps::fill_maps` meets its contract. The loop's invariant: whatever buffer e the root's map was written over, the
--- nodes from v on have their maps, and no byte outside the maps is changed.
+-- `maps::fill_maps` meets its contract. The loop's invariant: whatever buffer the root's map was written over, the
+-- inner
+-- nodes from e on have had their turns.
 -- Assumes nothing.
-use Prim.Native.Nat.{ℕ, _+_, _-_, _<_}
+use Prim.Native.Nat.{ℕ, _+_, _-_, _≤_, _<_}
 use mathlib.Core.Path.{_≡_, refl, subst}
-use mathlib.Core.List.{List, []}
+use mathlib.Core.List.{List}
 use lib.ListN.{length}
-use Rattle.tables.specs.inner.Maps.{Maps}
-use Rattle.tables.proofs.MapLoop.{map-some, root-args, maps-start, maps-iteration, fill-args}
+use Rattle.tables.specs.inner.MapPairs.{Pairs}
+use Rattle.tables.proofs.MapLoop.{map-some, root-args, pairs-start, pairs-all}
 use native.Mathlib.Omega.{arith}
 use borrow.Author.Needs.{needs}
 use Rattle.tables.proofs.maps.fill_maps.Statement.{statement}
 use Rattle.tables.proofs.maps.fill_maps.Tie as tie
 
 abbrev Inv-loop : tie.InvT-loop
-Inv-loop labels nodeTable inner s k bytes₀ v₀ stateTable v =
-    (v < length labels) × (length stateTable ≡ length bytes₀)
-    × ((e : List ℕ) → Maps labels nodeTable inner s k v₀ e bytes₀ → Maps labels nodeTable inner s k v e stateTable)
+Inv-loop kinds labels nodeTable inner s k bytes₀ e₀ list₀ stateTable e list =
+    (e ≤ length kinds) × (length stateTable ≡ length bytes₀) × (length list ≡ 1024)
+    × ((first : List ℕ) → Pairs kinds labels nodeTable inner s k (length kinds) first bytes₀
+    → Pairs kinds labels nodeTable inner s k e first stateTable)
 
 abbrev μ-loop : tie.MeasureT-loop
-μ-loop labels nodeTable inner s k bytes₀ v₀ stateTable v = v
+μ-loop kinds labels nodeTable inner s k bytes₀ e₀ list₀ stateTable e list = e
 
 -- over the buffer at entry
-mapped : (c : tie.At-loop Inv-loop μ-loop)
-    → Maps (c .before .before .before .before .before .before .before .before .before .args .labels .now)
-    (c .before .before .before .before .before .before .before .before .before .args .node-table .now)
-    (c .before .before .before .before .before .before .before .before .before .args .inner .now)
-    (c .before .before .before .before .before .before .before .before .before .args .s)
-    (c .before .before .before .before .before .before .before .before .before .args .k) (c .loop .v)
-    (c .before .before .before .before .before .before .before .before .before .args .state-table .now) (c .loop .state-table)
-mapped c =
-    let r = c .before .before .before in
-    let s = r .before .before .before .before .before .before in
-    let n : ℕ = length (s .args .labels .now) in
-    c .loop .inv .2 (s .args .state-table .now)
-    (maps-start (s .args .labels .now) (s .args .node-table .now) (s .args .inner .now) (s .args .s) (s .args .k)
-    (s .args .state-table .now)
-    (r .same-row .last .0) (n - 1) (omega (
+done : (a : tie.At-loop Inv-loop μ-loop)
+    → Pairs (a .before .before .before .before .before .before .before .before .before .before .before .args .kinds
+    .now)
+    (a .before .before .before .before .before .before .before .before .before .before .before .args .labels .now)
+    (a .before .before .before .before .before .before .before .before .before .before .before .args .node-table .now)
+    (a .before .before .before .before .before .before .before .before .before .before .before .args .inner .now)
+    (a .before .before .before .before .before .before .before .before .before .before .before .args .s)
+    (a .before .before .before .before .before .before .before .before .before .before .before .args .k) (a .loop .e)
+    (a .before .before .before .before .before .before .before .before .before .before .before .args .state-table .now)
+    (a .loop .state-table)
+done a =
+    let r = a .before .before .before .before in
+    let s = r .before .before .before .before .before .before .before in
+    let g = s .args in
+    a .loop .inv .3 (g .state-table .now)
+    (pairs-start (g .kinds .now) (g .labels .now) (g .node-table .now) (g .inner .now) (g .s) (g .k)
+    (g .state-table .now) (r .same-row .last .0) (length (g .kinds .now) - 1)
+    (omega (
       arith,
-      map-some (s .args .labels .now) (s .args .node-table .now)
-          (s .args .inner .now) (s .args .s) (s .args .k) (s .args .state-table .now) (s .pre),
+      map-some (g .kinds .now) (g .labels .now) (g .node-table .now) (g .inner .now) (g .s) (g .k)
+          (g .state-table .now) (s .pre),
     )) (r .same-row .ensures))
 
-sub-v : tie.Need-sub-v Inv-loop μ-loop
-sub-v c =
-    let s = c .before .before .before .before in
-    map-some (s .args .labels .now) (s .args .node-table .now) (s .args .inner .now) (s .args .s) (s .args .k)
-    (s .args .state-table .now) (s .pre)
+sub-same-row : tie.Need-sub-same-row Inv-loop μ-loop
+sub-same-row c =
+    let s = c .before .before .before .before .before .before in
+    let g = s .args in
+    omega (
+      arith,
+      map-some (g .kinds .now) (g .labels .now) (g .node-table .now) (g .inner .now) (g .s) (g .k) (g .state-table .now)
+          (s .pre),
+    )
 
 same-row-requires : tie.Need-same-row-requires Inv-loop μ-loop
 same-row-requires c κs =
-    let s = c .before .before .before .before .before in
-    root-args (s .args .labels .now) (s .args .node-table .now) (s .args .inner .now) (s .args .s) (s .args .k)
-    (s .args .state-table .now) (s .pre)
+    let s = c .before .before .before .before .before .before in
+    let g = s .args in
+    root-args (g .kinds .now) (g .labels .now) (g .node-table .now) (g .inner .now) (g .s) (g .k) (g .state-table .now)
+    (s .pre)
 
 loop-holds : tie.Need-loop-holds Inv-loop μ-loop
-loop-holds c =
-    let s = c .before .before .before .before .before .before .before .before in (
-      omega (
-        arith,
-        map-some (s .args .labels .now) (s .args .node-table .now) (s .args .inner .now) (s .args .s) (s .args .k)
-            (s .args .state-table .now) (s .pre),
-      ),
-      refl,
-      λ e m. m,
-    )
+loop-holds c = (omega arith, refl, c .empty-list .ensures, λ first W. W)
 
-fill-map-requires : tie.Need-fill-map-requires Inv-loop μ-loop
-fill-map-requires c κs =
-    let a = c .before .before in
-    let s = a .before .before .before .before .before .before .before .before .before in
-    let v : ℕ = a .loop .v in
-    let e : v ≡ v - 1 + 1 = omega arith in
-    fill-args (s .args .labels .now) (s .args .node-table .now) (s .args .inner .now) (s .args .s) (s .args .k)
-    (s .args .state-table .now) (a .loop .state-table) (v - 1) (s .pre) (omega arith) (omega arith)
-    (subst (λ (i : ℕ). Maps (s .args .labels .now) (s .args .node-table .now) (s .args .inner .now) (s .args .s) (s .args .k)
-    i (s .args .state-table .now) (a .loop .state-table)) e
-    (mapped a) (s .pre .leaves) [] (s .pre .tree) (s .pre .prepared))
+fill-block-requires : tie.Need-fill-block-requires Inv-loop μ-loop
+fill-block-requires c κs =
+    let b = c .before .before in
+    let a = b .before .before in
+    let s = a .before .before .before .before .before .before .before .before .before .before .before in
+    record {
+      first = s .args .state-table .now;
+      args = s .pre;
+      done = done a;
+      same = omega (arith, a .loop .inv .1);
+      order = omega (arith, b .block-start .ensures .0);
+      inside = a .loop .inv .0;
+      fits = omega (arith, b .block-start .ensures .1, a .loop .inv .2);
+    }
 
 loop-again : tie.Need-loop-again Inv-loop μ-loop
 loop-again c =
-    let f = c .before .before in
-    let a = f .before .before .before in
-    let s = a .before .before .before .before .before .before .before .before .before in
-    let v : ℕ = a .loop .v in
-    let z : v ≡ v - 1 + 1 = omega arith in (
-      omega arith,
-      omega arith,
-      λ e m.
-          maps-iteration (s .args .labels .now) (s .args .node-table .now) (s .args .inner .now) (s .args .s) (s .args .k) e
-          (a .loop .state-table) (v - 1)
-          (f .fill-map .last .1 .1 .1 .1 .1 .1 .0) (s .pre .rules .inner-below) (omega arith)
-          (subst (λ (i : ℕ). Maps (s .args .labels .now) (s .args .node-table .now) (s .args .inner .now) (s .args .s)
-          (s .args .k) i e (a .loop .state-table)) z
-          (a .loop .inv .2 e m)) (f .fill-map .ensures),
+    let f = c .before .before .before in
+    let b = f .before .before .before in
+    let a = b .before .before in (
+      omega (arith, b .block-start .ensures .0, a .loop .inv .0),
+      omega (arith, a .loop .inv .1),
+      omega (arith, a .loop .inv .2),
+      λ first W. f .fill-block .ensures first (a .loop .inv .3 first W),
     )
 
 returns : tie.Need-returns Inv-loop μ-loop
 returns c =
     let a = c .before in
-    let s = a .before .before .before .before .before .before .before .before .before in
-    let z : a .loop .v ≡ 0 = omega arith in
-    subst (λ (i : ℕ). Maps (s .args .labels .now) (s .args .node-table .now) (s .args .inner .now) (s .args .s) (s .args .k) i
-    (s .args .state-table .now) (a .loop .state-table)) z
-    (mapped a)
+    let s = a .before .before .before .before .before .before .before .before .before .before .before in
+    let g = s .args in
+    let z : a .loop .e ≡ 0 = omega (arith, c .loop-test .left) in
+    pairs-all (g .kinds .now) (g .labels .now) (g .node-table .now) (g .inner .now) (g .s) (g .k) (g .state-table .now)
+    (a .loop .state-table)
+    (subst (λ (x : ℕ). Pairs (g .kinds .now) (g .labels .now) (g .node-table .now) (g .inner .now) (g .s) (g .k) x
+    (g .state-table .now) (a .loop .state-table)) z (done a))
 
 pub fill-maps-spec : {M : Type 1} → statement M
 fill-maps-spec =
     tie.close
-    (tie.spec Inv-loop μ-loop sub-v same-row-requires loop-holds (λ c. search needs) fill-map-requires
-    (λ c. search needs) loop-again (λ c. search needs) returns)
+    (tie.spec
+    Inv-loop
+    μ-loop
+    sub-same-row
+    same-row-requires
+    (λ c κs. search needs)
+    loop-holds
+    (λ c κs. search needs)
+    (λ c. search needs)
+    fill-block-requires
+    (λ c. search needs)
+    loop-again
+    (λ c. search needs)
+    returns)

@@ -1,95 +1,102 @@
--- `states::run_states` meets its contract. The loop's invariant: the state bytes below v are the run's, no other byte
--- is changed.
+-- `states::run_states` meets its contract. The loop's invariant: the state bytes below b are the run's, no other byte
+-- is
+-- changed.
 -- Assumes nothing.
-use Prim.Native.Nat.{ℕ, _+_, _-_, _*_, _≤_, _<_}
-use mathlib.Core.Path.{_≡_, refl, subst, _∙_}
-use mathlib.Core.Logic.{⊎-elim}
-use lib.ListN.{length, length-set}
-use Rattle.list_laws.proofs.RowLaws.{stride}
-use Rattle.tables.specs.inner.States.{Runs}
-use Rattle.tables.proofs.StateLoop.{leaf-states, inner-states, inner-args}
+use Prim.Native.Nat.{ℕ, _+_, _-_, _≤_}
+use mathlib.Core.Path.{_≡_, refl, subst}
+use lib.ListN.{length}
+use Rattle.tables.specs.inner.States.{StateArgs, Runs}
+use Rattle.tables.proofs.StateLoop.{states-none}
 use native.Mathlib.Omega.{arith}
 use borrow.Author.Needs.{needs}
 use Rattle.tables.proofs.states.run_states.Statement.{statement}
 use Rattle.tables.proofs.states.run_states.Tie as tie
 
 abbrev Inv-loop : tie.InvT-loop
-Inv-loop kinds labels nodeTable leaves inner s k bytes₀ n w v₀ stateTable v =
-    (v ≤ length kinds) × (length stateTable ≡ length bytes₀) × (n ≡ length kinds) × Runs s k leaves inner kinds labels v
-    bytes₀ stateTable
+Inv-loop kinds labels nodeTable leaves inner s k bytes₀ n list₀ b₀ stateTable list b =
+    (b ≤ n) × (length stateTable ≡ length bytes₀) × (length list ≡ 1024) × (n ≡ length kinds)
+    × Runs s k leaves inner kinds labels b bytes₀ stateTable
 
 abbrev μ-loop : tie.MeasureT-loop
-μ-loop kinds labels nodeTable leaves inner s k bytes₀ n w v₀ stateTable v = n - v
+μ-loop kinds labels nodeTable leaves inner s k bytes₀ n list₀ b₀ stateTable list b = n - b
 
--- the place of the state byte that a turn writes
-place-in : (c : tie.In-loop Inv-loop μ-loop) → c .before .loop .v *
-    (c .before .before .before .before .before .before .before .before .args .s + 1) < length (c .before .loop .state-table)
-place-in c =
-    let a = c .before in
-    let s = a .before .before .before .before .before .before .before in
-    omega (
-      arith,
-      stride (s .args .s + 1) (a .loop .v) (length (s .args .kinds .now)) (c .loop-test .taken),
-      s .pre .room,
-      a .loop .inv .1,
+loop-holds : tie.Need-loop-holds Inv-loop μ-loop
+loop-holds c =
+    let g = c .before .before .before .before .before .before .before .args in (
+      omega arith,
+      refl,
+      c .empty-list .ensures,
+      refl,
+      states-none (g .s) (g .k) (g .leaves .now) (g .inner .now)
+          (g .kinds .now) (g .labels .now) (g .state-table .now),
     )
 
-cast-a : tie.Need-cast-a Inv-loop μ-loop
-cast-a c = omega (arith, c .shared-slice-known6 .given (c .before .before .loop .v))
+block-end-requires : tie.Need-block-end-requires Inv-loop μ-loop
+block-end-requires c κs = (
+  c .loop-test .taken,
+  omega (
+    arith,
+    c .before .before .before .before .before .before
+        .before .before .before .pre .most,
+  ),
+)
 
-shared-slice-read-x : tie.Need-shared-slice-read-x Inv-loop μ-loop
-shared-slice-read-x c =
-    let a = c .before .before .before .before .before in
-    let s = a .before .before .before .before .before .before .before in
-    omega (arith, s .pre .below (a .loop .v), s .pre .rules .leaf-count)
+run-block-requires : tie.Need-run-block-requires Inv-loop μ-loop
+run-block-requires c κs =
+    let e = c .before .before in
+    let a = e .before .before in
+    let s = a .before .before .before .before .before .before .before .before in
+    let g = s .args in
+    let z : length (g .state-table .now) ≡ length (a .loop .state-table) = omega (arith, a .loop .inv .1) in
+    record {
+      args = subst (StateArgs (g .kinds .now) (g .labels .now) (g .node-table .now) (g .leaves .now) (g .inner .now)
+          (g .s) (g .k))
+          z (s .pre);
+      first = g .state-table .now;
+      done = a .loop .inv .4;
+      order = omega (arith, e .block-end .ensures .0);
+      inside = omega (arith, e .block-end .ensures .1);
+      fits = omega (arith, e .block-end .ensures .2, a .loop .inv .2);
+    }
 
-inner-state-requires : tie.Need-inner-state-requires Inv-loop μ-loop
-inner-state-requires c κs =
-    let a = c .before .before .before .before .before in
-    let s = a .before .before .before .before .before .before .before in
-    inner-args (s .args .s) (s .args .k) (s .args .leaves .now) (s .args .inner .now) (s .args .kinds .now)
-    (s .args .labels .now)
-    (a .loop .v) (s .args .node-table .now) (s .args .state-table .now) (a .loop .state-table) (a .loop .inv .3) (s .pre)
-    (a .loop .inv .1) (c .before .before .before .before .loop-test .taken) (c .before .if1 .left)
-
-mul-state-table : tie.Need-mul-state-table Inv-loop μ-loop
-mul-state-table c = omega (arith, place-in (c .before .before .before))
-
-slice-write-state-table : tie.Need-slice-write-state-table Inv-loop μ-loop
-slice-write-state-table c = place-in (c .before .before .before)
+loop-less : tie.Need-loop-less Inv-loop μ-loop
+loop-less c =
+    let e = c .before .before .before .before .before .before in
+    omega (arith, e .block-end .ensures .0, e .block-end .ensures .1)
 
 loop-again : tie.Need-loop-again Inv-loop μ-loop
 loop-again c =
-    let a = c .before .before .before .before in
-    let s = a .before .before .before .before .before .before .before in
-    let l = c .before .before .before .loop-test .taken in (
-      omega arith,
-      simp length-set (a .loop .inv .1),
+    let r = c .before .before .before in
+    let e = r .before .before .before in
+    let a = e .before .before in
+    let g = a .before .before .before .before .before .before .before .before .args in (
+      omega (arith, e .block-end .ensures .1),
+      omega (arith, a .loop .inv .1),
+      omega (arith, a .loop .inv .2),
       refl,
-      ⊎-elim
-          (λ w. rw (w .2) (leaf-states (s .args .s) (s .args .k) (s .args .leaves .now) (s .args .inner .now)
-          (s .args .kinds .now) (s .args .labels .now)
-          (a .loop .v) (s .args .node-table .now) (s .args .state-table .now) (a .loop .state-table) (a .loop .inv .3) (s .pre)
-          (a .loop .inv .1) l (w .0 .taken)))
-          (λ w. rw (w .3 ∙ w .2 .ensures) (inner-states (s .args .s) (s .args .k) (s .args .leaves .now)
-          (s .args .inner .now) (s .args .kinds .now) (s .args .labels .now)
-          (a .loop .v) (s .args .node-table .now) (s .args .state-table .now) (a .loop .state-table) (a .loop .inv .3) (s .pre)
-          (a .loop .inv .1) l (w .0 .left)))
-          (c .if1 .came),
+      r .run-block .ensures (g .state-table .now) (a .loop .inv .4),
     )
 
 returns : tie.Need-returns Inv-loop μ-loop
 returns c =
     let a = c .before in
-    let s = a .before .before .before .before .before .before .before in
-    let e : a .loop .v ≡ length (s .args .kinds .now) = omega arith in
-    subst (λ (i : ℕ). Runs (s .args .s) (s .args .k) (s .args .leaves .now) (s .args .inner .now) (s .args .kinds .now)
-    (s .args .labels .now)
-    i (s .args .state-table .now) (a .loop .state-table)) e (a .loop .inv .3)
+    let g = a .before .before .before .before .before .before .before .before .args in
+    let z : a .loop .b ≡ length (g .kinds .now) = omega (arith, a .loop .inv .0, c .loop-test .left) in
+    subst (λ (x : ℕ). Runs (g .s) (g .k) (g .leaves .now) (g .inner .now) (g .kinds .now) (g .labels .now) x
+    (g .state-table .now) (a .loop .state-table)) z (a .loop .inv .4)
 
 pub run-states-spec : {M : Type 1} → statement M
 run-states-spec =
     tie.close
-    (tie.spec Inv-loop μ-loop (λ c. search needs) (λ c. search needs) (λ c. search needs) cast-a (λ c. search needs)
-    shared-slice-read-x inner-state-requires mul-state-table slice-write-state-table (λ c. search needs)
-    (λ c. search needs) loop-again (λ c. search needs) returns)
+    (tie.spec
+    Inv-loop
+    μ-loop
+    (λ c κs. search needs)
+    loop-holds
+    block-end-requires
+    (λ c. search needs)
+    run-block-requires
+    loop-less
+    loop-again
+    (λ c. search needs)
+    returns)

@@ -22,7 +22,7 @@ returns c =
     states-over (s .args .kinds .now) (s .args .labels .now) (s .args .node-table .now) (s .args .leaves .now)
     (s .args .inner .now) (s .args .s) (s .args .k)
     (s .args .state-table .now) (r .run-states .last .1 .1 .1 .1 .1 .1 .1 .0) (s .pre) (r .run-states .ensures)
-    (f .fill-maps .last .1 .1 .1 .1 .1 .0) (omega arith) (f .fill-maps .ensures)
+    (f .fill-maps .last .1 .1 .1 .1 .1 .1 .0) (omega arith) (f .fill-maps .ensures)
 
 pub write-states-spec : {M : Type 1} → statement M
 write-states-spec = tie.close (tie.spec (λ c κs. search needs) fill-maps-requires (λ c. search needs) returns)
