@@ -4,8 +4,9 @@
 --                            byte, and behind it what was there
 --     branch-build-coloured  so the buffers are as built, whatever their excess is
 --     branch-build-refused   a build that answers another number leaves both as they were
---     branch-descent-answers on tables as built: the word automaton's state and mark, for either reading; the drops are
---                            the places on the path where the colour falls, at most S - 1, the links at most 45 for each
+--     branch-descent-answers on tables as built: the word automaton's state and mark, for either reading; the drops
+--                            are the places on the path where the colour falls, at most S - 1, the links at most 45
+--                            for each
 --     branch-descent-apart   16 where the lower node is not at or below the upper
 --     branch-descent-usable  18 never comes on tables as built
 --     branch-descent-kept    refused: the places are as they were
@@ -70,7 +71,8 @@ module _ (p r numbers bytes : List ℕ) (n : ℕ) (numbers′ bytes′ : List �
 
 module _ (reading : Reading) (p r nodeTable numbers bytes : List ℕ)
     (u l n state₀ yes₀ drops₀ links₀ state₁ yes₁ drops₁ links₁ : ℕ)
-    (E : DescentExported reading p r nodeTable numbers bytes u l n state₀ yes₀ drops₀ links₀ state₁ yes₁ drops₁ links₁) where
+    (E : DescentExported reading p r nodeTable numbers bytes u l n state₀ yes₀ drops₀ links₀ state₁ yes₁ drops₁ links₁)
+    where
   pub record WordAnswered : Type 0 where
     pub accepted : n ≡ 0
     pub state : state₁ ≡ wordRun (branchAutomaton r) 0 (wordOf reading (planTree p) u l)
@@ -109,6 +111,7 @@ module _ (reading : Reading) (p r nodeTable numbers bytes : List ℕ)
       (N .state-answer ∙ w .0, N .yes-answer ∙ w .1, N .drops-answer ∙ w .2, N .links-answer ∙ w .3)
     where
       not-answered : (a : Descending) → (descendingNumber a ≡ 0 → ⊥)
-          → (endOf a state₀ ≡ state₀) × (acceptedOf a yes₀ ≡ yes₀) × (dropsOf a drops₀ ≡ drops₀) × (linksOf a links₀ ≡ links₀)
+          → (endOf a state₀ ≡ state₀) × (acceptedOf a yes₀ ≡ yes₀) × (dropsOf a drops₀ ≡ drops₀)
+          × (linksOf a links₀ ≡ links₀)
       not-answered (Answered q marked d k) z = absurd (z refl)
       not-answered (Refused m) z = (refl, refl, refl, refl)

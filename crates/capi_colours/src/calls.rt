@@ -24,7 +24,8 @@ pub extern "C" fn whatif_colour_branch_build(
         BuildExported
         (firstNo (branchColourChecks (now (plan .entry)) (now (branch .entry)) (length (now («colour_numbers» .entry)))
         (length (now («colour_bytes» .entry)))))
-        (builtColourNumbers (now (plan .entry)) (now (branch .entry))) (builtCopies (now (plan .entry)) (now (branch .entry)))
+        (builtColourNumbers (now (plan .entry)) (now (branch .entry)))
+        (builtCopies (now (plan .entry)) (now (branch .entry)))
         (now («colour_numbers» .entry)) (now («colour_bytes» .entry)) r (now («colour_numbers» .exit))
         (now («colour_bytes» .exit)) ⌝ }
 {
