@@ -8,7 +8,8 @@
 --                            are the places on the path where the colour falls, at most S - 1, the links at most 45
 --                            for each
 --     branch-descent-apart   16 where the lower node is not at or below the upper
---     branch-descent-usable  18 never comes on tables as built
+--     branch-descent-usable, branch-descent-built  18 never comes where the numbers are as built, the states below S
+--                            and state 0 in each copy; so on tables as built, whatever the two nodes' numbers are
 --     branch-descent-kept    refused: the places are as they were
 -- Assumes nothing.
 use Prim.Native.Nat.{ℕ, zero, suc, _-_, _*_, _≤_, _<_}
@@ -31,7 +32,8 @@ use Rattle.branch_colours.proofs.BuildLaws.{built-coloured}
 use Rattle.branch_descents.specs.declared.answers.Descending.{Descending}
 use Rattle.branch_descents.specs.declared.answers.Descending.the-variants.{Answered, Refused}
 use Rattle.branch_descents.specs.Question.{descendingNumber}
-use Rattle.branch_descents.specs.Promise.{BranchColoursBuilt, DescentAnswer}
+use Rattle.branch_descents.specs.Promise.{BranchColoursBuilt, BranchColoursUsable, wordDrops, DescentAnswer}
+use Rattle.branch_descents.proofs.AskBuilt.{built-usable}
 use Rattle.capi_numbers.specs.Numbers.{bitOf, BuildExported}
 use Rattle.capi_colours.specs.DescentExported.{endOf, acceptedOf, dropsOf, linksOf, DescentExported}
 
@@ -77,6 +79,7 @@ module _ (reading : Reading) (p r nodeTable numbers bytes : List ℕ)
     pub accepted : n ≡ 0
     pub state : state₁ ≡ wordRun (branchAutomaton r) 0 (wordOf reading (planTree p) u l)
     pub yes : yes₁ ≡ bitOf (branchAutomaton r .accepting state₁)
+    pub drops-are : drops₁ ≡ wordDrops reading (branchAutomaton r) (planTree p) u l
     pub falls : drops₁ ≤ stateCount r - 1
     pub few : links₁ ≤ drops₁ * 45
 
@@ -94,6 +97,7 @@ module _ (reading : Reading) (p r nodeTable numbers bytes : List ℕ)
           state = s;
           yes = E .number .yes-answer ∙ ap (λ (x : Descending). acceptedOf x yes₀) i
               ∙ ap (λ (q : ℕ). bitOf (branchAutomaton r .accepting q)) (sym s);
+          drops-are = d ∙ W .drops-are;
           falls = rw d (W .falls);
           few = rw (d, k) (W .few);
         }
@@ -101,6 +105,12 @@ module _ (reading : Reading) (p r nodeTable numbers bytes : List ℕ)
     pub branch-descent-apart : (AtOrBelow (planTree p) u l → ⊥) → n ≡ 16
     unfolding descendingNumber
     branch-descent-apart h = E .number .result ∙ ap descendingNumber (E .done .apart D hu hl h)
+
+  pub branch-descent-usable : BranchColoursUsable p r nodeTable numbers bytes → n ≡ 18 → ⊥
+  branch-descent-usable U e = E .done .usable U (sym (E .number .result) ∙ e)
+
+  pub branch-descent-built : BranchColoursBuilt p r nodeTable numbers bytes → n ≡ 18 → ⊥
+  branch-descent-built D e = branch-descent-usable (built-usable p r nodeTable numbers bytes D) e
 
   pub branch-descent-kept : (n ≡ 0 → ⊥)
       → (state₁ ≡ state₀) × (yes₁ ≡ yes₀) × (drops₁ ≡ drops₀) × (links₁ ≡ links₀)
