@@ -73,55 +73,55 @@ module _ (p r numbers bytes : List ℕ) (n : ℕ) (numbers′ bytes′ : List �
 
 module _ (reading : Reading) (p r nodeTable numbers bytes : List ℕ)
     (u l n state₀ yes₀ drops₀ links₀ state₁ yes₁ drops₁ links₁ : ℕ)
-    (E : DescentExported reading p r nodeTable numbers bytes u l n state₀ yes₀ drops₀ links₀ state₁ yes₁ drops₁ links₁)
-  where
-    pub record WordAnswered : Type 0 where
-      pub accepted : n ≡ 0
-      pub state : state₁ ≡ wordRun (branchAutomaton r) 0 (wordOf reading (planTree p) u l)
-      pub yes : yes₁ ≡ bitOf (branchAutomaton r .accepting state₁)
-      pub drops-are : drops₁ ≡ wordDrops reading (branchAutomaton r) (planTree p) u l
-      pub falls : drops₁ ≤ stateCount r - 1
-      pub few : links₁ ≤ drops₁ * 45
+    (E : DescentExported reading p r nodeTable numbers bytes u l n state₀ yes₀ drops₀ links₀ state₁ yes₁ drops₁
+    links₁) where
+  pub record WordAnswered : Type 0 where
+    pub accepted : n ≡ 0
+    pub state : state₁ ≡ wordRun (branchAutomaton r) 0 (wordOf reading (planTree p) u l)
+    pub yes : yes₁ ≡ bitOf (branchAutomaton r .accepting state₁)
+    pub drops-are : drops₁ ≡ wordDrops reading (branchAutomaton r) (planTree p) u l
+    pub falls : drops₁ ≤ stateCount r - 1
+    pub few : links₁ ≤ drops₁ * 45
 
-    module _ (D : BranchColoursBuilt p r nodeTable numbers bytes) (hu : u < nodeCount p) (hl : l < nodeCount p) where
-      pub branch-descent-answers : AtOrBelow (planTree p) u l → WordAnswered
-      unfolding descendingNumber
-      branch-descent-answers A =
-          let W : DescentAnswer reading p r u l (E .answer) = E .done .built D hu hl A in
-          let i = W .is in
-          let s = E .number .state-answer ∙ ap (λ (x : Descending). endOf x state₀) i in
-          let d : drops₁ ≡ drops (W .way) = E .number .drops-answer ∙ ap (λ (x : Descending). dropsOf x drops₀) i in
-          let k : links₁ ≡ links (W .way) = E .number .links-answer ∙ ap (λ (x : Descending). linksOf x links₀) i in
-          record {
-            accepted = E .number .result ∙ ap descendingNumber i;
-            state = s;
-            yes = E .number .yes-answer ∙ ap (λ (x : Descending). acceptedOf x yes₀) i
-                ∙ ap (λ (q : ℕ). bitOf (branchAutomaton r .accepting q)) (sym s);
-            drops-are = d ∙ W .drops-are;
-            falls = rw d (W .falls);
-            few = rw (d, k) (W .few);
-          }
-
-      pub branch-descent-apart : (AtOrBelow (planTree p) u l → ⊥) → n ≡ 16
-      unfolding descendingNumber
-      branch-descent-apart h = E .number .result ∙ ap descendingNumber (E .done .apart D hu hl h)
-
-    pub branch-descent-usable : BranchColoursUsable p r nodeTable numbers bytes → n ≡ 18 → ⊥
-    branch-descent-usable U e = E .done .usable U (sym (E .number .result) ∙ e)
-
-    pub branch-descent-built : BranchColoursBuilt p r nodeTable numbers bytes → n ≡ 18 → ⊥
-    branch-descent-built D e = branch-descent-usable (built-usable p r nodeTable numbers bytes D) e
-
-    pub branch-descent-kept : (n ≡ 0 → ⊥)
-        → (state₁ ≡ state₀) × (yes₁ ≡ yes₀) × (drops₁ ≡ drops₀) × (links₁ ≡ links₀)
+  module _ (D : BranchColoursBuilt p r nodeTable numbers bytes) (hu : u < nodeCount p) (hl : l < nodeCount p) where
+    pub branch-descent-answers : AtOrBelow (planTree p) u l → WordAnswered
     unfolding descendingNumber
-    branch-descent-kept h =
-        let N = E .number in
-        let w = not-answered (E .answer) (λ e. h (N .result ∙ e)) in
-        (N .state-answer ∙ w .0, N .yes-answer ∙ w .1, N .drops-answer ∙ w .2, N .links-answer ∙ w .3)
-      where
-        not-answered : (a : Descending) → (descendingNumber a ≡ 0 → ⊥)
-            → (endOf a state₀ ≡ state₀) × (acceptedOf a yes₀ ≡ yes₀) × (dropsOf a drops₀ ≡ drops₀)
-            × (linksOf a links₀ ≡ links₀)
-        not-answered (Answered q marked d k) z = absurd (z refl)
-        not-answered (Refused m) z = (refl, refl, refl, refl)
+    branch-descent-answers A =
+        let W : DescentAnswer reading p r u l (E .answer) = E .done .built D hu hl A in
+        let i = W .is in
+        let s = E .number .state-answer ∙ ap (λ (x : Descending). endOf x state₀) i in
+        let d : drops₁ ≡ drops (W .way) = E .number .drops-answer ∙ ap (λ (x : Descending). dropsOf x drops₀) i in
+        let k : links₁ ≡ links (W .way) = E .number .links-answer ∙ ap (λ (x : Descending). linksOf x links₀) i in
+        record {
+          accepted = E .number .result ∙ ap descendingNumber i;
+          state = s;
+          yes = E .number .yes-answer ∙ ap (λ (x : Descending). acceptedOf x yes₀) i
+              ∙ ap (λ (q : ℕ). bitOf (branchAutomaton r .accepting q)) (sym s);
+          drops-are = d ∙ W .drops-are;
+          falls = rw d (W .falls);
+          few = rw (d, k) (W .few);
+        }
+
+    pub branch-descent-apart : (AtOrBelow (planTree p) u l → ⊥) → n ≡ 16
+    unfolding descendingNumber
+    branch-descent-apart h = E .number .result ∙ ap descendingNumber (E .done .apart D hu hl h)
+
+  pub branch-descent-usable : BranchColoursUsable p r nodeTable numbers bytes → n ≡ 18 → ⊥
+  branch-descent-usable U e = E .done .usable U (sym (E .number .result) ∙ e)
+
+  pub branch-descent-built : BranchColoursBuilt p r nodeTable numbers bytes → n ≡ 18 → ⊥
+  branch-descent-built D e = branch-descent-usable (built-usable p r nodeTable numbers bytes D) e
+
+  pub branch-descent-kept : (n ≡ 0 → ⊥)
+      → (state₁ ≡ state₀) × (yes₁ ≡ yes₀) × (drops₁ ≡ drops₀) × (links₁ ≡ links₀)
+  unfolding descendingNumber
+  branch-descent-kept h =
+      let N = E .number in
+      let w = not-answered (E .answer) (λ e. h (N .result ∙ e)) in
+      (N .state-answer ∙ w .0, N .yes-answer ∙ w .1, N .drops-answer ∙ w .2, N .links-answer ∙ w .3)
+    where
+      not-answered : (a : Descending) → (descendingNumber a ≡ 0 → ⊥)
+          → (endOf a state₀ ≡ state₀) × (acceptedOf a yes₀ ≡ yes₀) × (dropsOf a drops₀ ≡ drops₀)
+          × (linksOf a links₀ ≡ links₀)
+      not-answered (Answered q marked d k) z = absurd (z refl)
+      not-answered (Refused m) z = (refl, refl, refl, refl)
