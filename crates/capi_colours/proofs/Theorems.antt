@@ -12,7 +12,7 @@
 --                            and state 0 in each copy; so on tables as built, whatever the two nodes' numbers are
 --     branch-descent-kept    refused: the places are as they were
 -- Assumes nothing.
-use Prim.Native.Nat.{ℕ, zero, suc, _-_, _*_, _≤_, _<_}
+use Prim.Native.Nat.{ℕ, _-_, _*_, _≤_, _<_}
 use mathlib.Core.Path.{_≡_, refl, sym, ap, _∙_}
 use mathlib.Core.List.{List, _++_}
 use native.Mathlib.Omega.{arith}
@@ -22,8 +22,6 @@ use Rattle.trees.specs.Numbering.{AtOrBelow}
 use Rattle.formats.specs.Plan.{nodeCount, planTree}
 use Rattle.formats.specs.Rules.{stateCount, branchAutomaton}
 use Rattle.formats.specs.Checks.{firstNo}
-use Rattle.tables.specs.Answers.{written}
-use Rattle.tables.proofs.BuildLaws.{built-lists}
 use Rattle.branches.specs.declared.answers.Reading.{Reading}
 use Rattle.branches.specs.Promise.{wordOf}
 use Rattle.colours.specs.Descents.{drops, links}
@@ -35,39 +33,28 @@ use Rattle.branch_descents.specs.Question.{descendingNumber}
 use Rattle.branch_descents.specs.Promise.{BranchColoursBuilt, BranchColoursUsable, wordDrops, DescentAnswer}
 use Rattle.branch_descents.proofs.AskBuilt.{built-usable}
 use Rattle.capi_numbers.specs.Numbers.{bitOf, BuildExported}
+use Rattle.capi_numbers.proofs.BuildExportedLaws.{exported-number, exported-lists, exported-kept}
 use Rattle.capi_colours.specs.DescentExported.{endOf, acceptedOf, dropsOf, linksOf, DescentExported}
 
 -- ---- the build
-
-written-kept : (n : ℕ) (table entry : List ℕ) → (n ≡ 0 → ⊥) → written n table entry ≡ entry
-unfolding written
-written-kept zero table entry h = absurd (h refl)
-written-kept (suc n) table entry h = refl
 
 module _ (p r numbers bytes : List ℕ) (n : ℕ) (numbers′ bytes′ : List ℕ)
     (E : BuildExported (firstNo (branchColourChecks p r (length numbers) (length bytes))) (builtColourNumbers p r)
     (builtCopies p r) numbers bytes n numbers′ bytes′) where
   pub branch-build-number : n ≡ firstNo (branchColourChecks p r (length numbers) (length bytes))
-  branch-build-number = E .result ∙ E .done .number
+  branch-build-number = exported-number _ (builtColourNumbers p r) (builtCopies p r) numbers bytes n numbers′ bytes′ E
 
   pub branch-build-writes : n ≡ 0
       → (numbers′ ≡ builtColourNumbers p r ++ drop (length (builtColourNumbers p r)) numbers)
       × (bytes′ ≡ builtCopies p r ++ drop (length (builtCopies p r)) bytes)
-  branch-build-writes e =
-      let w =
-      built-lists _ (builtColourNumbers p r) (builtCopies p r) numbers bytes (E .answer) numbers′ bytes′ (E .done)
-      (sym (E .result) ∙ e) in
-      (w .1, w .2)
+  branch-build-writes = exported-lists _ (builtColourNumbers p r) (builtCopies p r) numbers bytes n numbers′ bytes′ E
 
   pub branch-build-coloured : n ≡ 0 → BranchColoured p r numbers′ bytes′
   branch-build-coloured e =
       built-coloured p r numbers bytes numbers′ bytes′ (E .answer) (E .done) (sym (E .result) ∙ e)
 
   pub branch-build-refused : (n ≡ 0 → ⊥) → (numbers′ ≡ numbers) × (bytes′ ≡ bytes)
-  branch-build-refused h = (
-    E .done .node-table-written ∙ written-kept _ (builtColourNumbers p r) numbers (λ z. h (branch-build-number ∙ z)),
-    E .done .state-table-written ∙ written-kept _ (builtCopies p r) bytes (λ z. h (branch-build-number ∙ z)),
-  )
+  branch-build-refused = exported-kept _ (builtColourNumbers p r) (builtCopies p r) numbers bytes n numbers′ bytes′ E
 
 -- ---- the questions
 

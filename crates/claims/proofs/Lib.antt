@@ -6,4 +6,5 @@ pub mod BrokenBytes
 pub mod QuestionForms
 pub mod Kept
 pub mod PassedOver
+pub mod Colours
 pub mod ProvedToo
