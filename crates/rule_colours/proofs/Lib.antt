@@ -1,0 +1,4 @@
+pub mod BuildLaws
+pub mod CheckAnswers
+pub mod FillLaws
+pub mod TableLaws
