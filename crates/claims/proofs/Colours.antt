@@ -135,8 +135,7 @@ module _ (reading : Reading) (p r nodeTable stateTable numbers bytes : List ℕ)
       let i = F .done .built B hu hl A in
       let s = F .number .state-answer ∙ ap (λ (x : Branching). endOf x s₀) i in
       let y = F .number .yes-answer ∙ ap (λ (x : Branching). acceptedOf x y₀) i in
-      let w = word-answers in
-      (
+      let w = word-answers in (
         w .accepted ∙ sym (F .number .result ∙ ap branchNumber i),
         w .state ∙ sym s,
         w .yes ∙ ap (λ (q : ℕ). bitOf (branchAutomaton r .accepting q)) (w .state) ∙ sym y,
