@@ -1,8 +1,8 @@
--- The build of the tables of colours for a rule table as C and Rust call it (document 02, S-14), from the promise of the
--- exported function.
+-- The build of the tables of colours for a rule table as C and Rust call it (document 02, S-14), from the promise of
+-- the exported function.
 --     rule-build-number      the first check that fails: 2 to 9, 27, 10, 11
---     rule-build-writes      what a build that answers 0 leaves is the definition's, number for number and byte for byte,
---                            and behind it what was there
+--     rule-build-writes      what a build that answers 0 leaves is the definition's, number for number and byte for
+--                            byte, and behind it what was there
 --     rule-build-coloured    so the buffers are as built, whatever their excess is
 --     rule-build-refused     a build that answers another number leaves both as they were
 -- Assumes nothing.

@@ -22,7 +22,8 @@ module _ (n : ℕ) (links states nodeTable stateTable : List ℕ) (r : ℕ) (nod
   exported-number = E .result ∙ E .done .number
 
   pub exported-lists : r ≡ 0
-      → (nodeTable′ ≡ links ++ drop (length links) nodeTable) × (stateTable′ ≡ states ++ drop (length states) stateTable)
+      → (nodeTable′ ≡ links ++ drop (length links) nodeTable)
+      × (stateTable′ ≡ states ++ drop (length states) stateTable)
   exported-lists e =
       let w = built-lists n links states nodeTable stateTable (E .answer) nodeTable′ stateTable′ (E .done)
       (sym (E .result) ∙ e) in

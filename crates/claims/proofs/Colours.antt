@@ -1,19 +1,18 @@
 -- Document 02, S-14: questions whose cost forgets the depth, by colours.
 --     top-for-words, top-for-sets, top-colours   the top copy: above the root for words, the root's own for sets
 --     in-turn, lowest-state       at each node colours take states in turn
---     one-each, only-fall, drops-fewer   any count of states and any steps: each state has one colour, a colour lands on
---                                 itself or a lower one, a way down has fewer drops than there are colours
+--     one-each, only-fall, drops-fewer   any count of states and any steps: each state has one colour, a colour lands
+--                                 on itself or a lower one, a way down has fewer drops than there are colours
 --     as-the-climb                a branch answer by colours is that of the climb, for either reading of the word
 --     word-answers, word-drops    it is the word automaton's; its drops, the places on the path where the colour falls,
 --                                 are at most S-1; its links at most 45 for each
---     set-numbers, step-down      sets of states by their numbers, and a step down
---     side-tried                  a part with members below one child only: the climb's state, at most 60 drops
 --     next-drop, next-drop-links, links-few   a next drop is found by 01's jumps and climb; its links are at most 45
 --     words-built, words-refused, words-short   what the build for a branch table writes; 11 where it is too short
 --     words-short-asked, never-18 17 where it is too short for a question; on tables as built 18 never comes
--- The promises of the calls themselves, on every input, are their contracts (crates capi_colours, capi_colour_sets).
+-- Sets of states and rule questions: ColourSets. The promises of the calls themselves, on every input, are their
+-- contracts (crates capi_colours, capi_colour_sets).
 -- Assumes nothing.
-use Prim.Native.Nat.{ℕ, suc, _+_, _-_, _*_, _^_, _≤_, _<_}
+use Prim.Native.Nat.{ℕ, suc, _+_, _-_, _*_, _≤_, _<_}
 use mathlib.Core.Path.{_≡_, refl, sym, ap, _∙_}
 use mathlib.Core.Bool.{Bool, true, false}
 use mathlib.Core.List.{List, [], _∷_, _++_}
@@ -21,9 +20,8 @@ use lib.ListN.{length, getD, take, drop}
 use Rattle.list_laws.specs.Tests.{holds}
 use Rattle.trees.specs.Tree.{Tree, size, height}
 use Rattle.trees.specs.Automaton.{Automaton, WordAutomaton}
-use Rattle.trees.specs.Numbering.{word, wordBelow, InSubtree, AtOrBelow}
+use Rattle.trees.specs.Numbering.{word, wordBelow, AtOrBelow}
 use Rattle.trees.specs.Climb.{digits}
-use Rattle.trees.specs.Tables.{stepUp}
 use Rattle.formats.specs.Plan.{nodeCount, planTree}
 use Rattle.formats.specs.Rules.{stateCount, branchAutomaton}
 use Rattle.formats.specs.Checks.{firstNo, branchTableChecks}
@@ -32,27 +30,20 @@ use Rattle.branches.specs.declared.answers.Reading.{Reading}
 use Rattle.branches.specs.declared.answers.Branching.{Branching}
 use Rattle.branches.specs.Question.{branchNumber}
 use Rattle.branches.specs.Promise.{wordAnswer}
-use Rattle.ready.specs.Parts.{Given, Part, stateOf, highestBelow}
-use Rattle.ready.specs.StaysInside.{StaysInside}
-use Rattle.ready.proofs.PartsRun.{RunGiven}
 use Rattle.marks.specs.Marks.{marksIn, marksAt}
 use Rattle.marks.proofs.NextMark.{NextMark, next-mark, next-mark-limit}
 use Rattle.colours.specs.Colouring.{lowestFree, takes, recolour, placeOf, Colouring}
 use Rattle.colours.specs.Copies.{topCopy, copy, copyAbove, landsAt, dropsDown}
 use Rattle.colours.specs.Words.{withUpper, belowUpper}
-use Rattle.colours.specs.StateSets.{setOf, member, setStep, setCount}
+use Rattle.colours.specs.StateSets.{setStep, setCount}
 use Rattle.colours.proofs.ColouringLaws.{Free, lowest-free}
 use Rattle.colours.proofs.TurnLaws.{recolour-turn}
 use Rattle.colours.proofs.CopyLaws.{top-colour, copyAbove-root}
 use Rattle.colours.proofs.RootLaws.{set-root}
-use Rattle.colours.proofs.BitLaws.{member-setOf}
-use Rattle.colours.proofs.SetLaws.{setStep-down}
 use Rattle.colours.proofs.DescentLaws.{AllLe}
 use Rattle.colours.proofs.WordLaws.{WordAnswer}
 use Rattle.colours.proofs.Theorems.{colours-one-each, colours-only-fall, drops-below-colours, word-upper, word-below}
 use Rattle.colours.proofs.Theorems.{links-limit}
-use Rattle.colour_parts.specs.Sides.{SideFound}
-use Rattle.colour_parts.proofs.SideLaws.{side-found}
 use Rattle.branch_colours.specs.Build.{coloursFit, branchColourChecks, builtColourNumbers, builtCopies, BranchColoured}
 use Rattle.branch_colours.proofs.BuildLaws.{room-no}
 use Rattle.branch_descents.specs.Question.{colourBuffersFit, descendingNumber}
@@ -61,8 +52,8 @@ use Rattle.branch_descents.proofs.AskChecks.{ask-17}
 use Rattle.capi_numbers.specs.Numbers.{bitOf, BuildExported}
 use Rattle.capi_branches.specs.BranchExported.{AskExported, endOf, acceptedOf}
 use Rattle.capi_colours.specs.DescentExported.{DescentExported}
-use Rattle.capi_colours.proofs.Theorems.{WordAnswered, branch-build-writes, branch-build-refused, branch-descent-answers}
-use Rattle.capi_colours.proofs.Theorems.{branch-build-number, branch-descent-built}
+use Rattle.capi_colours.proofs.Theorems.{WordAnswered, branch-build-number, branch-build-writes, branch-build-refused}
+use Rattle.capi_colours.proofs.Theorems.{branch-descent-answers, branch-descent-built}
 
 -- ---- colours
 
@@ -77,8 +68,8 @@ top-for-sets : (A : Automaton) (t : Tree) (v : ℕ) → v + 1 ≡ size t
     → copy (setCount A) (setStep A t) t v ≡ topCopy (setCount A)
 top-for-sets = set-root
 
--- "At each node colours take states in turn: the state that the colour's state above leads to, or, if a lower colour has
--- it, the lowest state that no lower colour has."
+-- "At each node colours take states in turn: the state that the colour's state above leads to, or, if a lower colour
+-- has it, the lowest state that no lower colour has."
 in-turn : (f : ℕ → ℕ) (above : List ℕ) (c : ℕ) → c < length above
     → recolour f (take (suc c) above)
     ≡ recolour f (take c above) ++ (takes (recolour f (take c above)) (f (getD above c 0)) ∷ [])
@@ -114,18 +105,19 @@ word-without = word-below
 
 -- "On tables as built from what is lent, a branch answer by colours is that of the climb, for either reading of the
 -- word, and its drops, the places on the path where the colour falls, are at most S-1.": of the exported calls
-module _ (reading : Reading) (p r nodeTable stateTable numbers bytes : List ℕ) (B : BranchBuilt p r nodeTable stateTable)
-    (C : BranchColoured p r numbers bytes) (u l : ℕ) (hu : u < nodeCount p) (hl : l < nodeCount p)
-    (A : AtOrBelow (planTree p) u l) (n state₀ yes₀ drops₀ links₀ state₁ yes₁ drops₁ links₁ : ℕ)
+module _ (reading : Reading) (p r nodeTable stateTable numbers bytes : List ℕ)
+    (B : BranchBuilt p r nodeTable stateTable) (C : BranchColoured p r numbers bytes) (u l : ℕ) (hu : u < nodeCount p)
+    (hl : l < nodeCount p) (A : AtOrBelow (planTree p) u l) (n state₀ yes₀ drops₀ links₀ state₁ yes₁ drops₁ links₁ : ℕ)
     (E : DescentExported reading p r nodeTable numbers bytes u l n state₀ yes₀ drops₀ links₀ state₁ yes₁ drops₁
     links₁) where
   built : BranchColoursBuilt p r nodeTable numbers bytes
   built = record { coloured = C; links = B .links }
 
-  word-answers : WordAnswered reading p r nodeTable numbers bytes u l n state₀ yes₀ drops₀ links₀ state₁ yes₁ drops₁ links₁ E
+  word-answers : WordAnswered reading p r nodeTable numbers bytes u l n state₀ yes₀ drops₀ links₀ state₁ yes₁ drops₁
+      links₁ E
   word-answers =
-      branch-descent-answers reading p r nodeTable numbers bytes u l n state₀ yes₀ drops₀ links₀ state₁ yes₁ drops₁ links₁
-      E built hu hl A
+      branch-descent-answers reading p r nodeTable numbers bytes u l n state₀ yes₀ drops₀ links₀ state₁ yes₁ drops₁
+      links₁ E built hu hl A
 
   as-the-climb : (m s₀ y₀ l₀ p₀ s₁ y₁ l₁ p₁ : ℕ)
       → AskExported reading p r nodeTable stateTable u l m s₀ y₀ l₀ p₀ s₁ y₁ l₁ p₁
@@ -147,30 +139,10 @@ never-18 : (reading : Reading) (p r nodeTable numbers bytes : List ℕ)
     → BranchColoursBuilt p r nodeTable numbers bytes → n ≡ 18 → ⊥
 never-18 = branch-descent-built
 
--- ---- sets of states
-
--- "sets of states, numbered by adding 2 to the power k for each member k"
-set-numbers : (n : ℕ) (p : ℕ → Bool) (k : ℕ) → k < n → member (setOf n p) k ≡ p k
-set-numbers = member-setOf
-
--- "a step down takes a set to the states at the child that lead into it"
-step-down : (A : Automaton) (t : Tree) (v T : ℕ) → v + 1 < size t → (s : ℕ) → s < A .states
-    → member (setStep A t v T) s ≡ member T (stepUp A t v s)
-step-down A t v T h s b =
-    ap (λ (x : ℕ). member x s) (setStep-down A t v T h) ∙ member-setOf (A .states) (λ q. member T (stepUp A t v q)) s b
-
--- "where a part has members below one child only, the state its climb gives is found by trying target states in rising
--- order up to it, and the drops add up to at most 60 for each such part"
-side-tried : (G : Given) (u : Tree) → RunGiven G u → StaysInside (G .automaton) → G .automaton .states ≤ 4
-    → (ms : List ℕ) (ps : List Part) (c : ℕ) → c < size (G .tree) → highestBelow ms (G .tree) c < size (G .tree)
-    → InSubtree (G .tree) c (highestBelow ms (G .tree) c)
-    → stateOf ps (highestBelow ms (G .tree) c) < G .automaton .states → SideFound G ms ps c
-side-tried = side-found
-
 -- ---- the next drop
 
--- "A next drop is found by 01's jumps and climb among the nodes where that colour falls, depth being their number above,
--- from the lowest left on the path to the highest": for any set m of nodes, of which k on the path end at l
+-- "A next drop is found by 01's jumps and climb among the nodes where that colour falls, depth being their number
+-- above, from the lowest left on the path to the highest": for any set m of nodes, of which k on the path end at l
 next-drop : (t : Tree) (m : ℕ → Bool) (l k to : ℕ) → l < size t → marksAt t m l ≡ marksIn t m l k + to
     → 0 < marksIn t m l k → NextMark t m l k to
 next-drop = next-mark
@@ -212,6 +184,7 @@ words-short-asked : (reading : Reading) (p r nodeTable numbers bytes : List ℕ)
     → DescentExported reading p r nodeTable numbers bytes u l n state₀ yes₀ drops₀ links₀ state₁ yes₁ drops₁ links₁
     → colourBuffersFit p r (length nodeTable) (length numbers) (length bytes) ≡ false → n ≡ 17
 unfolding descendingNumber
-words-short-asked reading p r nodeTable numbers bytes u l n state₀ yes₀ drops₀ links₀ state₁ yes₁ drops₁ links₁ E short =
+words-short-asked reading p r nodeTable numbers bytes u l n state₀ yes₀ drops₀ links₀ state₁ yes₁ drops₁ links₁ E
+    short =
     E .number .result
     ∙ ap descendingNumber (E .done .result ∙ sym (ask-17 reading p r nodeTable numbers bytes u l short))

@@ -7,4 +7,5 @@ pub mod QuestionForms
 pub mod Kept
 pub mod PassedOver
 pub mod Colours
+pub mod ColourSets
 pub mod ProvedToo

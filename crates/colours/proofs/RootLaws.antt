@@ -44,7 +44,9 @@ module _ (n : ℕ) (step : ℕ → ℕ → ℕ) (t : Tree) (keeps : (v q : ℕ) 
       ext-getD 0 (copy n step t v) (topCopy n) (a ∙ sym b)
       (λ c l.
       let h : c < n = omega arith in
-      ap (λ (x : ℕ). getD (copy n step t v) x 0) (sym (kept (suc c) c (omega arith) h)) ∙ leads c h ∙ sym (top-at n c h))
+      ap (λ (x : ℕ). getD (copy n step t v) x 0) (sym (kept (suc c) c (omega arith) h))
+      ∙ leads c h
+      ∙ sym (top-at n c h))
 
 pub set-root : (A : Automaton) (t : Tree) (v : ℕ) → v + 1 ≡ size t
     → copy (setCount A) (setStep A t) t v ≡ topCopy (setCount A)
