@@ -123,6 +123,14 @@ pub enum Mistake {
     LimitRefused,
     /// 15 is put before 13.
     TwiceBeforeNodes,
+    /// A colour whose state is taken gets the lowest state that no colour leads to, not the lowest that no lower one has.
+    FreeOfAll,
+    /// The last drop on a path is told as none.
+    LastDropFree,
+    /// The depth among the nodes where a colour falls counts the node itself.
+    DepthsWithTheNode,
+    /// The word from below the upper node begins in the copy above it.
+    CopyAbove,
 }
 
 thread_local! {

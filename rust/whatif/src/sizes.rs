@@ -58,3 +58,13 @@ pub const fn planner_bytes(n: usize) -> usize {
 pub const fn planner_plan_bytes(n: usize) -> usize {
     14 + 4 * n
 }
+
+/// 16-bit numbers of the colour tables for `n` nodes and a branch table of `s` states.
+pub const fn colour_branch_numbers(n: usize, s: usize) -> usize {
+    4 * n * s
+}
+
+/// Bytes of the colour tables for `n` nodes and a branch table of `s` states.
+pub const fn colour_branch_bytes(n: usize, s: usize) -> usize {
+    n * s
+}
