@@ -84,6 +84,8 @@ static const char *const folders[TRIES] = {
     [PLANNER_HOME] = "planner-of-plan",
     [LAY_OVER] = "lay-over",
     [COUNT] = "count",
+    [COLOUR_BRANCH_BUILD] = "colour-branch-build",
+    [COLOUR_BRANCH] = "colour-branch",
 };
 
 /* A file in the folder of its call. */
@@ -347,6 +349,43 @@ static void counts(const struct plan *p) {
     count_of(p, "-18", BEFORE, 3, list, p->s);
 }
 
+static uint16_t colour_numbers[WHATIF_COLOUR_BRANCH_NUMBERS(N, S)];
+static uint8_t colour_bytes[WHATIF_COLOUR_BRANCH_BYTES(N, S)];
+
+/* The build with some excess, exact behind a page, and too short. */
+static void colour_build(const struct plan *p, const char *which, enum side side, size_t numbers_len, size_t bytes_len) {
+    begin(COLOUR_BRANCH_BUILD, p->name, which), put(side, 1), plan_and_branch(p), put((uint32_t)numbers_len, 2);
+    put((uint32_t)bytes_len, 2), put(p->lower, 2), end();
+}
+
+static void colour_question(const struct plan *p, const char *which, enum side side, uint32_t upper, uint32_t lower) {
+    size_t s = p->branch_states;
+    begin(COLOUR_BRANCH, p->name, which), put(side, 1), put(upper, 4), put(lower, 4), plan_and_branch(p);
+    numbers(nodes, WHATIF_NODE_TABLE_LEN(p->n)), numbers(colour_numbers, WHATIF_COLOUR_BRANCH_NUMBERS(p->n, s));
+    bytes(colour_bytes, WHATIF_COLOUR_BRANCH_BYTES(p->n, s)), end();
+}
+
+/* Questions on tables as built, from the upper node and from the root, and each refusal but 17. */
+static void colours(const struct plan *p) {
+    size_t s = p->branch_states, numbers_len = WHATIF_COLOUR_BRANCH_NUMBERS(p->n, s);
+    size_t bytes_len = WHATIF_COLOUR_BRANCH_BYTES(p->n, s);
+    must(whatif_colour_branch_build(PLAN(p), BRANCH_TABLE(p), colour_numbers, numbers_len, colour_bytes, bytes_len) == 0);
+    memcpy(nodes, colour_numbers, 2 * WHATIF_NODE_TABLE_LEN(p->n));
+    colour_build(p, "", BEFORE, numbers_len + 1, bytes_len + 1);
+    colour_build(p, "-behind", BEHIND, numbers_len, bytes_len);
+    colour_build(p, "-11", BEFORE, numbers_len, bytes_len - 1);
+    uint32_t root = (uint32_t)p->n - 1;
+    colour_question(p, "", BEFORE, p->upper, p->lower);
+    colour_question(p, "-behind", BEHIND, root, p->lower);
+    colour_question(p, "-root", BEFORE, root, 0);
+    colour_question(p, "-13", BEFORE, root, root + 65537);
+    colour_question(p, "-16", BEFORE, 0, root);
+    memset(colour_bytes, 31, bytes_len);
+    colour_question(p, "-18", BEFORE, root, p->lower);
+    memset(colour_bytes, 0, bytes_len), memset(colour_numbers, 1, 2 * numbers_len);
+    colour_question(p, "-other", BEFORE, root, 0);
+}
+
 int main(int argc, char **argv) {
     must(argc == 2);
     folder = argv[1];
@@ -364,6 +403,7 @@ int main(int argc, char **argv) {
     planner_files("nine", (const uint8_t[]){5, 6, 8, 7, 0, 62, 1, 1, 9}, (const uint8_t[]){3, 1, 0, 0, 2, 1, 1, 0, 0}, 9);
     lists_over();
     counts(&sample), counts(&comb);
+    colours(&sample), colours(&comb);
     on_tables(&comb), on_records(&comb, &far), panel(&comb, &far), question(&comb, &far, "");
     for (size_t i = 0; i < QUESTIONS; i++) {
         char which[] = {'-', (char)('1' + i), 0};
