@@ -6,6 +6,8 @@ use crate::calls::same;
 use crate::random::Random;
 use reference::branch::Reading;
 use reference::colour_branch::{self, ColourTables, Lends};
+use reference::colour_rules::{self, Said};
+use reference::panel;
 use whatif::slices;
 
 const MARGIN: usize = 9;
@@ -82,3 +84,49 @@ pub fn branch(reading: Reading, lent: Lends, upper: u32, lower: u32, random: &mu
 
 type Ask = fn(&[u8], &[u8], &[u16], &[u16], &[u8], [u32; 2], &mut [u32; 4]) -> u32;
 type Plain = fn(&[u8], &[u8], &[u16], &[u16], &[u8], u32, u32) -> Result<yardstick::ColourTold, u32>;
+
+/// A build of the colour tables of a rule table.
+pub fn rule_build(plan: &[u8], rules: &[u8], lens: (usize, usize), random: &mut Random) -> Built {
+    let plain: Build =
+        |plan, rules, numbers, bytes| yardstick::colour_build(plan, rules, numbers, bytes).err().unwrap_or(0);
+    let expected = colour_rules::build(plan, rules, lens.0, lens.1);
+    build([("the library", slices::colour_build), ("plain Rust", plain)], plan, rules, lens, expected, random)
+}
+
+/// A question by colours on any tables: compared with plain Rust always, and with the reference where the documents say what
+/// is told. State, yes, drops, links and parts, and nothing on a refusal.
+pub fn question(
+    lent: &colour_rules::Lends,
+    nodes: &[u16],
+    labels: &[u8],
+    random: &mut Random,
+) -> Result<[u32; 5], u32> {
+    let panel::Lends { plan, rules, node_table, state_table } = lent.tables;
+    let unset = [0; 5].map(|_: u32| random.word() as u32 | 1 << 20);
+    let mut out = unset;
+    let number =
+        slices::colour_ask(plan, rules, node_table, state_table, lent.numbers, lent.bytes, nodes, labels, &mut out);
+    let answer = match number {
+        0 => Ok(out),
+        _ => {
+            assert_eq!(out, unset, "refused with {}, and told something", number);
+            Err(number)
+        }
+    };
+    match colour_rules::question(lent, nodes, labels) {
+        Said::Refused(wanted) => assert_eq!(answer, Err(wanted), "the answer of the question by colours"),
+        Said::Answered(told, parts) => {
+            let want = [told.state as u32, told.yes as u32, told.drops as u32, told.links as u32, told.parts as u32];
+            assert_eq!(answer, Ok(want), "the question by colours with {:?} and {:?}", nodes, labels);
+            for part in parts {
+                assert!(part.searches.len() <= 60, "{} drops for one part", part.searches.len());
+                assert!(part.searches.iter().all(|&links| links <= 45), "a search of {:?}", part.searches);
+            }
+        }
+        Said::Left => assert!([0, 18].contains(&number), "the answer of the question by colours is {}", number),
+    }
+    let plain = yardstick::colour_ask(plan, rules, node_table, state_table, lent.numbers, lent.bytes, nodes, labels);
+    let plain = plain.map(|told| [told.state as u32, told.yes as u32, told.drops, told.links, told.parts]);
+    assert_eq!(plain, answer, "plain Rust's answer");
+    answer
+}

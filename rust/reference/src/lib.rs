@@ -8,7 +8,7 @@
 //! hold); `panel` (the session's calls and
 //! answers), `record` (its record as bytes), `session` (the five calls), `causes` (what 18 is given for), `book` (the
 //! panel book); `colours` (document 02's colours, by the path and on lent tables), `colour_branch` (branch questions by
-//! them).
+//! them), `colour_rules` (questions by them, over sets of states).
 //! The calls without a session are in this file. `mistakes` is for a test of the comparison; it does nothing else.
 //! A refusal is its number. Nothing here is fast, and nothing is shared with the library.
 
@@ -18,6 +18,7 @@ pub mod branch;
 pub mod causes;
 pub mod climb;
 pub mod colour_branch;
+pub mod colour_rules;
 pub mod colours;
 pub mod count;
 pub mod formats;

@@ -131,6 +131,14 @@ pub enum Mistake {
     DepthsWithTheNode,
     /// The word from below the upper node begins in the copy above it.
     CopyAbove,
+    /// The drops of a target state that is not the one are left out.
+    FailedTrialFree,
+    /// Target states are tried in falling order.
+    TargetsFalling,
+    /// A step down goes by the side of the other child.
+    PreimageOfTheOtherSide,
+    /// 27 is put after 10.
+    StatesAfterLabels,
 }
 
 thread_local! {

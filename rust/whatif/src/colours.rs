@@ -1,4 +1,4 @@
-//! Branch questions by colours.
+//! Branch questions and questions by colours.
 
 use crate::{accepted, slices, Refusal};
 
@@ -79,13 +79,77 @@ fn verdict([state, yes, drops, links]: [u32; 4]) -> ColourVerdict {
     ColourVerdict { state: state as u8, yes: yes == 1, drops, links }
 }
 
+/// What a question by colours tells.
+#[derive(Clone, Copy, Debug, PartialEq, Eq)]
+pub struct ColourAnswer {
+    /// The root's state: the fresh run's.
+    pub state: u8,
+    /// Is that state marked?
+    pub yes: bool,
+    /// The drops of all target states that were tried: at most 60 for each part with changes below one child only.
+    pub drops: u32,
+    /// The moves of the searches for them: at most 45 for each.
+    pub links: u32,
+    /// The number of parts, as of a question in the session.
+    pub parts: u32,
+}
+
+/// Writes the colour tables of a plan and a rule table of at most four states into the first `4N` times 2 to the power S
+/// numbers and the first `N` times (S + 1 + 2 to the power S) bytes of the lent buffers (`sizes::colour_numbers`,
+/// `sizes::colour_bytes`); the rest is untouched. Refused with 2 to 9, 27, 10, 11 (in this order). `RuleColours` has buffers
+/// of its own.
+pub fn colour_build(plan: &[u8], rules: &[u8], numbers: &mut [u16], bytes: &mut [u8]) -> Result<(), Refusal> {
+    accepted(slices::colour_build(plan, rules, numbers, bytes))
+}
+
+/// A question by colours, whole and outside the session: what would the plan's state be if node `nodes[i]` took `labels[i]`,
+/// for every i? A node may be listed several times: its last entry holds. Lent are the tables of `build` and those of
+/// `colour_build`, which begin with them. Refused with 17, 27, 12, 13, 14, 18 (in this order); never 18 on tables as built
+/// for what is lent.
+///
+/// ```
+/// # fn main() -> Result<(), whatif::Refusal> {
+/// // the sample of document 01: label 0 takes the greater state of two children, label 1 the lesser
+/// let plan: Vec<u8> = [7u32, 12, 19].iter().flat_map(|n| n.to_le_bytes())
+///     .chain([1, 1, 1, 0, 1, 0, 1]).chain([0, 0, 1, 0, 0, 1, 1]).collect();
+/// let rules: Vec<u8> = [2u32, 2, 20, 22, 30].iter().flat_map(|n| n.to_le_bytes())
+///     .chain([0, 1]).chain([0, 1, 0, 0, 1, 1, 0, 1]).chain([0, 1]).collect();
+/// let mut numbers = [0u16; whatif::sizes::colour_numbers(7, 2)];
+/// let mut bytes = [0u8; whatif::sizes::colour_bytes(7, 2)];
+/// whatif::colour_build(&plan, &rules, &mut numbers, &mut bytes)?;
+///
+/// // they begin with the tables of `build`
+/// let told = whatif::colour_ask(&plan, &rules, &numbers, &bytes, &numbers, &bytes, &[0], &[0])?;
+/// assert_eq!((told.state, told.yes, told.parts), (0, false, 2));
+/// # Ok(())
+/// # }
+/// ```
+#[allow(clippy::too_many_arguments)] // those of the call
+pub fn colour_ask(
+    plan: &[u8],
+    rules: &[u8],
+    node_table: &[u16],
+    state_table: &[u8],
+    numbers: &[u16],
+    bytes: &[u8],
+    nodes: &[u16],
+    labels: &[u8],
+) -> Result<ColourAnswer, Refusal> {
+    let mut told = [0; 5];
+    accepted(slices::colour_ask(plan, rules, node_table, state_table, numbers, bytes, nodes, labels, &mut told))?;
+    let [state, yes, drops, links, parts] = told;
+    Ok(ColourAnswer { state: state as u8, yes: yes == 1, drops, links, parts })
+}
+
 #[cfg(feature = "std")]
-pub use owned::BranchColours;
+pub use owned::{BranchColours, RuleColours};
 
 #[cfg(feature = "std")]
 mod owned {
-    use super::{colour_branch, colour_branch_build, colour_branch_with_upper, ColourVerdict};
-    use crate::sizes::{colour_branch_bytes, colour_branch_numbers, MAX_NODES, MAX_STATES};
+    use super::{colour_ask, colour_branch, colour_branch_build, colour_branch_with_upper, colour_build};
+    use super::{ColourAnswer, ColourVerdict};
+    use crate::sizes::{colour_branch_bytes, colour_branch_numbers, colour_bytes, colour_numbers};
+    use crate::sizes::{MAX_COLOUR_STATES, MAX_NODES, MAX_STATES};
     use crate::Refusal;
     use std::vec;
     use std::vec::Vec;
@@ -151,8 +215,63 @@ mod owned {
         }
     }
 
+    /// A plan and a rule table of at most four states with their colour tables, which this owns: 149 bytes a node for four
+    /// states.
+    ///
+    /// ```
+    /// # fn main() -> Result<(), whatif::Refusal> {
+    /// // the sample of document 01: label 0 takes the greater state of two children, label 1 the lesser
+    /// let plan: Vec<u8> = [7u32, 12, 19].iter().flat_map(|n| n.to_le_bytes())
+    ///     .chain([1, 1, 1, 0, 1, 0, 1]).chain([0, 0, 1, 0, 0, 1, 1]).collect();
+    /// let rules: Vec<u8> = [2u32, 2, 20, 22, 30].iter().flat_map(|n| n.to_le_bytes())
+    ///     .chain([0, 1]).chain([0, 1, 0, 0, 1, 1, 0, 1]).chain([0, 1]).collect();
+    /// let colours = whatif::RuleColours::build(&plan, &rules)?;
+    /// let told = colours.ask(&[0, 3], &[0, 1])?;
+    /// assert_eq!((told.state, told.yes, told.parts), (0, false, 5));
+    /// assert_eq!(colours.ask(&[7], &[0]), Err(whatif::Refusal::Node));
+    ///
+    /// // five states are too many
+    /// let many: Vec<u8> = [5u32, 2, 20, 22, 72].iter().flat_map(|n| n.to_le_bytes()).chain([0; 57]).collect();
+    /// assert_eq!(whatif::RuleColours::build(&plan, &many).err(), Some(whatif::Refusal::ColourStates));
+    /// # Ok(())
+    /// # }
+    /// ```
+    #[derive(Clone, Debug)]
+    pub struct RuleColours<'a> {
+        plan: &'a [u8],
+        rules: &'a [u8],
+        numbers: Vec<u16>,
+        bytes: Vec<u8>,
+    }
+
+    impl<'a> RuleColours<'a> {
+        /// Builds the colour tables. Refused with 2 to 9, 27, 10.
+        pub fn build(plan: &'a [u8], rules: &'a [u8]) -> Result<Self, Refusal> {
+            let (n, s) = (count(plan, MAX_NODES), count(rules, MAX_COLOUR_STATES));
+            let (mut numbers, mut bytes) = (vec![0; colour_numbers(n, s)], vec![0; colour_bytes(n, s)]);
+            colour_build(plan, rules, &mut numbers, &mut bytes)?;
+            Ok(RuleColours { plan, rules, numbers, bytes })
+        }
+
+        /// What would the plan's state be if node `nodes[i]` took `labels[i]`, for every i? Refused with 12, 13, 14.
+        pub fn ask(&self, nodes: &[u16], labels: &[u8]) -> Result<ColourAnswer, Refusal> {
+            let (numbers, bytes) = (&self.numbers, &self.bytes);
+            colour_ask(self.plan, self.rules, numbers, bytes, numbers, bytes, nodes, labels)
+        }
+
+        /// The colour tables' numbers; the first `4N` of them are the plan's node table.
+        pub fn numbers(&self) -> &[u16] {
+            &self.numbers
+        }
+
+        /// The colour tables' bytes; the first `(S+1)N` of them are the state table of `build`.
+        pub fn bytes(&self) -> &[u8] {
+            &self.bytes
+        }
+    }
+
     /// The first number of a header; 0 where it is cut short or above its limit, which the build refuses.
-    pub(super) fn count(bytes: &[u8], most: usize) -> usize {
+    fn count(bytes: &[u8], most: usize) -> usize {
         match *bytes {
             [a, b, c, d, ..] => Some(u32::from_le_bytes([a, b, c, d]) as usize).filter(|&n| n <= most).unwrap_or(0),
             _ => 0,

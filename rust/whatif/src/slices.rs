@@ -347,6 +347,52 @@ fn colour_branch_by(
     }
 }
 
+pub fn colour_build(plan: &[u8], rules: &[u8], numbers: &mut [u16], bytes: &mut [u8]) -> u32 {
+    build_by(raw::whatif_colour_build, plan, rules, numbers, bytes)
+}
+
+/// Tells state, yes, drops, links and parts.
+#[allow(clippy::too_many_arguments)] // those of the call
+pub fn colour_ask(
+    plan: &[u8],
+    rules: &[u8],
+    node_table: &[u16],
+    state_table: &[u8],
+    numbers: &[u16],
+    bytes: &[u8],
+    nodes: &[u16],
+    labels: &[u8],
+    told: &mut [u32; 5],
+) -> u32 {
+    let [state, yes, drops, links, parts] = told;
+    // SAFETY: as in `build_by`
+    unsafe {
+        raw::whatif_colour_ask(
+            plan.as_ptr(),
+            plan.len(),
+            rules.as_ptr(),
+            rules.len(),
+            node_table.as_ptr(),
+            node_table.len(),
+            state_table.as_ptr(),
+            state_table.len(),
+            numbers.as_ptr(),
+            numbers.len(),
+            bytes.as_ptr(),
+            bytes.len(),
+            nodes.as_ptr(),
+            nodes.len(),
+            labels.as_ptr(),
+            labels.len(),
+            state,
+            yes,
+            drops,
+            links,
+            parts,
+        )
+    }
+}
+
 pub use session::*;
 
 mod session {

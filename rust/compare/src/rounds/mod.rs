@@ -7,6 +7,7 @@ pub mod builds;
 pub mod call_lists;
 pub mod choices;
 pub mod colour_branches;
+pub mod colour_questions;
 pub mod damaged_lends;
 pub mod damaged_records;
 pub mod damaged_tables;
@@ -32,7 +33,7 @@ pub struct Round {
     compare: fn(&mut Random, &mut Counts),
 }
 
-pub const ROUNDS: [Round; 18] = [
+pub const ROUNDS: [Round; 19] = [
     Round { name: "builds", compare: builds::round },
     Round { name: "full checks", compare: full_checks::round },
     Round { name: "fresh runs", compare: fresh_runs::round },
@@ -51,6 +52,7 @@ pub const ROUNDS: [Round; 18] = [
     Round { name: "laying over", compare: lay_overs::round },
     Round { name: "choices", compare: choices::round },
     Round { name: "colours of words", compare: colour_branches::round },
+    Round { name: "colours of sets", compare: colour_questions::round },
 ];
 
 impl Round {
