@@ -27,7 +27,9 @@ static uint16_t places[N / 2];
 static uint16_t over_nodes[WHATIF_MAX_CHANGES];
 static uint8_t over_labels[WHATIF_MAX_CHANGES];
 static uint64_t counts[WHATIF_MAX_STATES];
-static uint32_t answer, out[4];
+static uint16_t colour_numbers[WHATIF_COLOUR_BRANCH_NUMBERS(N, STATES)];
+static uint8_t colour_bytes[WHATIF_COLOUR_BRANCH_BYTES(N, STATES)];
+static uint32_t answer, out[5];
 static _Alignas(64) uint8_t stack[ROOM];
 
 #define RULES plan, sizeof plan, rules, sizeof rules
@@ -37,6 +39,7 @@ static _Alignas(64) uint8_t stack[ROOM];
 #define RECORD record, sizeof record
 #define FOUR four, sizeof four
 #define SIXTEEN rules, sizeof rules
+#define COLOURS colour_numbers, WHATIF_COLOUR_BRANCH_NUMBERS(N, STATES), colour_bytes, sizeof colour_bytes
 
 static void nothing(void) { answer = 0; }
 static void build(void) { answer = whatif_build(RULES, TABLES); }
@@ -60,6 +63,15 @@ static void lay_over(void) {
 /* nine nodes with 64 labels are the most that 26 lets through */
 static void count(void) {
     answer = whatif_count(RULES, TABLES, nodes, 9, counts, WHATIF_MAX_STATES, out, out + 1);
+}
+static void colour_branch_build(void) { answer = whatif_colour_branch_build(BRANCH, COLOURS); }
+static void colour_ask(void) {
+    answer = whatif_colour_branch(BRANCH, node_table, WHATIF_NODE_TABLE_LEN(N), COLOURS, N - 1, 1, out, out + 1, out + 2,
+                                  out + 3);
+}
+static void colour_ask_with_upper(void) {
+    answer = whatif_colour_branch_with_upper(BRANCH, node_table, WHATIF_NODE_TABLE_LEN(N), COLOURS, N - 1, 1, out,
+                                             out + 1, out + 2, out + 3);
 }
 static void load(void) { answer = whatif_load(RECORD, RULES, TABLES); }
 static void start(void) { answer = whatif_start(RECORD, RULES, TABLES, LIST, out); }
@@ -96,6 +108,9 @@ static const struct call {
     {"planner out", planner_out, 1024},
     {"planner home", planner_home, 1024},
     {"laying over", lay_over, 1024},
+    {"colour branch build", colour_branch_build, 3072},
+    {"colour branch question", colour_ask, 1024},
+    {"colour branch question with upper", colour_ask_with_upper, 1024},
 };
 
 static void *run(void *make) {

@@ -42,8 +42,8 @@ impl Way {
 fn taken(led: &[u8]) -> Vec<u8> {
     let mut taken: Vec<u8> = Vec::new();
     for &q in led {
-        let free = |x: &u8| !taken.contains(x) && !(made(Mistake::FreeOfAll) && led.contains(x));
-        let lowest = || (0..).find(free).expect("a state is free");
+        let has = |x: &u8| taken.contains(x) || made(Mistake::FreeOfAll) && led.contains(x);
+        let lowest = || (0..).find(|x| !has(x)).expect("a state is free");
         taken.push(if taken.contains(&q) { lowest() } else { q });
     }
     taken
