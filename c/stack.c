@@ -28,7 +28,7 @@ static uint16_t over_nodes[WHATIF_MAX_CHANGES];
 static uint8_t over_labels[WHATIF_MAX_CHANGES];
 static uint64_t counts[WHATIF_MAX_STATES];
 static uint16_t colour_numbers[WHATIF_COLOUR_BRANCH_NUMBERS(N, STATES)];
-static uint8_t colour_bytes[WHATIF_COLOUR_BRANCH_BYTES(N, STATES)];
+static uint8_t colour_bytes[WHATIF_COLOUR_BYTES(N, WHATIF_MAX_COLOUR_STATES)];
 static uint32_t answer, out[5];
 static _Alignas(64) uint8_t stack[ROOM];
 
@@ -40,6 +40,7 @@ static _Alignas(64) uint8_t stack[ROOM];
 #define FOUR four, sizeof four
 #define SIXTEEN rules, sizeof rules
 #define COLOURS colour_numbers, WHATIF_COLOUR_BRANCH_NUMBERS(N, STATES), colour_bytes, sizeof colour_bytes
+#define FOUR_STATES node_table, WHATIF_NODE_TABLE_LEN(N), state_table, WHATIF_STATE_TABLE_LEN(N, 4)
 
 static void nothing(void) { answer = 0; }
 static void build(void) { answer = whatif_build(RULES, TABLES); }
@@ -72,6 +73,13 @@ static void colour_ask(void) {
 static void colour_ask_with_upper(void) {
     answer = whatif_colour_branch_with_upper(BRANCH, node_table, WHATIF_NODE_TABLE_LEN(N), COLOURS, N - 1, 1, out,
                                              out + 1, out + 2, out + 3);
+}
+/* with the rule table of four states */
+static void build_of_four(void) { answer = whatif_build(plan, sizeof plan, FOUR, FOUR_STATES); }
+static void colour_build(void) { answer = whatif_colour_build(plan, sizeof plan, FOUR, COLOURS); }
+static void colour_question(void) {
+    answer = whatif_colour_ask(plan, sizeof plan, FOUR, FOUR_STATES, COLOURS, LIST, out, out + 1, out + 2, out + 3,
+                               out + 4);
 }
 static void load(void) { answer = whatif_load(RECORD, RULES, TABLES); }
 static void start(void) { answer = whatif_start(RECORD, RULES, TABLES, LIST, out); }
@@ -111,6 +119,9 @@ static const struct call {
     {"colour branch build", colour_branch_build, 3072},
     {"colour branch question", colour_ask, 1024},
     {"colour branch question with upper", colour_ask_with_upper, 1024},
+    {"build of four states", build_of_four, 3072},
+    {"colour build", colour_build, 3072},
+    {"colour question", colour_question, 4096},
 };
 
 static void *run(void *make) {

@@ -30,6 +30,8 @@ enum try {
     COUNT,
     COLOUR_BRANCH_BUILD,
     COLOUR_BRANCH,
+    COLOUR_BUILD,
+    COLOUR_ASK,
     TRIES
 };
 
@@ -73,5 +75,8 @@ uint32_t try_count(struct input *in);
 /* Branch questions by colours: the build of their tables, and a question in both readings. colours.c */
 uint32_t try_colour_branch_build(struct input *in);
 uint32_t try_colour_branch(struct input *in);
+/* The same for questions. colours.c */
+uint32_t try_colour_build(struct input *in);
+uint32_t try_colour_ask(struct input *in);
 
 #endif

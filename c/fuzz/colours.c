@@ -1,4 +1,4 @@
-/* Branch questions by colours, on whatever an input lends. */
+/* Branch questions and questions by colours, on whatever an input lends. */
 #include "calls.h"
 #include "whatif.h"
 
@@ -140,4 +140,75 @@ uint32_t try_colour_branch(struct input *in) {
     int either = answer == WHATIF_REFUSED_LENT_VALUE || below == WHATIF_REFUSED_LENT_VALUE;
     sure(answer == below || either, "both readings are refused alike, 18 apart");
     return below;
+}
+
+uint32_t try_colour_build(struct input *in) {
+    struct lent plan = lend(in, 1), rules = lend(in, 1);
+    struct lent numbers = lend_filled(take(in, 2), 2, 0x77), bytes = lend_filled(take(in, 2), 1, 0x77);
+    uint32_t answer = whatif_colour_build(LENT(plan), LENT(rules), LENT(numbers), LENT(bytes));
+    held(&plan, 0, "the plan stays");
+    held(&rules, 0, "the rule table stays");
+    if (answer != WHATIF_ACCEPTED) {
+        held(&numbers, 0, "a refused build writes no number");
+        held(&bytes, 0, "a refused build writes no byte");
+        return answer;
+    }
+    size_t n = named(&plan, 0), s = named(&rules, 0), sets = (size_t)1 << s;
+    held(&numbers, WHATIF_COLOUR_NUMBERS(n, s), "the excess of the colour numbers stays");
+    held(&bytes, WHATIF_COLOUR_BYTES(n, s), "the excess of the colour bytes stays");
+    uint32_t yes = 0;
+    sure(whatif_check(LENT(plan), LENT(rules), LENT(numbers), LENT(bytes), &yes) == 0 && yes, "the build's tables first");
+    const uint8_t *copies = (const uint8_t *)bytes.at + WHATIF_STATE_TABLE_LEN(n, s);
+    for (size_t v = 0; v < n; v++) {
+        uint32_t taken = 0;
+        for (size_t c = 0; c < sets; c++)
+            taken |= 1u << (copies[v * sets + c] & 31);
+        sure(taken == (1u << sets) - 1, "each set has one colour");
+    }
+    return answer;
+}
+
+/* What is lent for a question by colours. */
+struct set_question {
+    struct lent listed, labels, plan, rules, nodes, states, numbers, bytes;
+};
+
+/* Are the tables, colour tables too, as built? */
+static int sets_as_built(const struct set_question *q) {
+    size_t n = named(&q->plan, 0), s = named(&q->rules, 0);
+    size_t numbers_len = WHATIF_COLOUR_NUMBERS(n, s), bytes_len = WHATIF_COLOUR_BYTES(n, s);
+    uint32_t yes = 0;
+    if (q->numbers.count < numbers_len || q->bytes.count < bytes_len ||
+        whatif_check(LENT(q->plan), LENT(q->rules), LENT(q->nodes), LENT(q->states), &yes) || !yes)
+        return 0;
+    struct lent numbers = lend_filled(numbers_len, 2, 0), bytes = lend_filled(bytes_len, 1, 0);
+    int same = whatif_colour_build(LENT(q->plan), LENT(q->rules), LENT(numbers), LENT(bytes)) == 0 &&
+               memcmp(numbers.at, q->numbers.at, 2 * numbers_len) == 0 && memcmp(bytes.at, q->bytes.at, bytes_len) == 0;
+    give_back_last(2);
+    return same;
+}
+
+uint32_t try_colour_ask(struct input *in) {
+    struct lent listed = lend(in, 2), labels = lend(in, 1), plan = lend(in, 1), rules = lend(in, 1);
+    struct lent nodes = lend(in, 2), states = lend(in, 1), numbers = lend(in, 2), bytes = lend(in, 1);
+    struct set_question q = {listed, labels, plan, rules, nodes, states, numbers, bytes};
+    uint32_t out[5] = {UNSET, UNSET, UNSET, UNSET, UNSET}, fresh[2];
+    uint32_t answer = whatif_colour_ask(LENT(plan), LENT(rules), LENT(nodes), LENT(states), LENT(numbers), LENT(bytes),
+                                        LENT(listed), LENT(labels), &out[0], &out[1], &out[2], &out[3], &out[4]);
+    const struct lent all[] = {listed, labels, plan, rules, nodes, states, numbers, bytes};
+    for (size_t i = 0; i < sizeof all / sizeof *all; i++)
+        held(&all[i], 0, "what is lent stays");
+    told(answer, out, 5);
+    if (answer == WHATIF_ACCEPTED) {
+        sure(out[0] < named(&rules, 0) && out[1] <= 1, "a question by colours tells a state");
+        sure(out[4] >= 1 && out[4] <= WHATIF_MAX_PARTS && out[2] <= 60 * out[4], "at most 60 drops for each part");
+    }
+    if ((answer != WHATIF_ACCEPTED && answer != WHATIF_REFUSED_LENT_VALUE) || !sets_as_built(&q))
+        return answer;
+    sure(answer == WHATIF_ACCEPTED, "18 is not given on tables as built");
+    sure(whatif_fresh_run(LENT(plan), LENT(rules), LENT(listed), LENT(labels), &fresh[0], &fresh[1]) == 0 &&
+             fresh[0] == out[0] && fresh[1] == out[1],
+         "by colours the answer is the fresh run's");
+    sure(out[3] <= 45 * out[2], "at most 45 links for each drop");
+    return answer;
 }

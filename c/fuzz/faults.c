@@ -35,6 +35,9 @@ uint32_t __real_whatif_read(const uint8_t *record, size_t record_len, uint32_t *
 uint32_t __real_whatif_colour_branch_build(PLAN_RULES, WRITTEN);
 uint32_t __real_whatif_colour_branch(PLAN_RULES, const uint16_t *nodes, size_t nodes_len, COLOURS, uint32_t upper,
                                      uint32_t lower, uint32_t *state, uint32_t *yes, uint32_t *drops, uint32_t *links);
+uint32_t __real_whatif_colour_build(PLAN_RULES, WRITTEN);
+uint32_t __real_whatif_colour_ask(PLAN_RULES, READ, COLOURS, LIST, uint32_t *state, uint32_t *yes, uint32_t *drops,
+                                  uint32_t *links, uint32_t *parts);
 
 static int laid(int fault) {
     const char *chosen = getenv("FUZZ_FAULT");
@@ -174,5 +177,25 @@ uint32_t __wrap_whatif_colour_branch(PLAN_RULES, const uint16_t *nodes, size_t n
         *state = bytes[lower * rules[0]];
     if (laid(32) && answer != 0) /* refused, and told */
         *links = 0;
+    return answer;
+}
+
+uint32_t __wrap_whatif_colour_build(PLAN_RULES, WRITTEN) {
+    uint32_t answer = __real_whatif_colour_build(ALL);
+    if (laid(33) && answer == 27 && nodes_len > 0) /* with too many states a number is written */
+        nodes[0]++;
+    if (laid(34) && answer == 0) /* the last node's sets are exchanged */
+        states[states_len - 1] = states[states_len - 2];
+    return answer;
+}
+
+uint32_t __wrap_whatif_colour_ask(PLAN_RULES, READ, COLOURS, LIST, uint32_t *state, uint32_t *yes, uint32_t *drops,
+                                  uint32_t *links, uint32_t *parts) {
+    uint32_t answer = __real_whatif_colour_ask(ALL, numbers, numbers_len, bytes, bytes_len, listed, listed_len, labels,
+                                               labels_len, state, yes, drops, links, parts);
+    if (laid(35) && answer == 0) /* yes to everything */
+        *yes = 1;
+    if (laid(36) && answer != 0) /* refused, and told */
+        *parts = 1;
     return answer;
 }

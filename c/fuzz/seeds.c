@@ -86,6 +86,8 @@ static const char *const folders[TRIES] = {
     [COUNT] = "count",
     [COLOUR_BRANCH_BUILD] = "colour-branch-build",
     [COLOUR_BRANCH] = "colour-branch",
+    [COLOUR_BUILD] = "colour-build",
+    [COLOUR_ASK] = "colour-ask",
 };
 
 /* A file in the folder of its call. */
@@ -386,6 +388,59 @@ static void colours(const struct plan *p) {
     colour_question(p, "-other", BEFORE, root, 0);
 }
 
+static uint16_t set_numbers[WHATIF_COLOUR_NUMBERS(N, 2)];
+static uint8_t set_bytes[WHATIF_COLOUR_BYTES(N, 2)];
+
+/* A rule table of two states for the comb, since that of four states would need more bytes than an input has. */
+static void sets_build(const char *name, const uint8_t *p, size_t n, const uint8_t *r, size_t k, size_t s) {
+    size_t plan_len = WHATIF_PLAN_BYTES(n), rules_len = WHATIF_RULES_BYTES(s, k);
+    size_t numbers_len = WHATIF_COLOUR_NUMBERS(n, s), bytes_len = WHATIF_COLOUR_BYTES(n, s);
+    begin(COLOUR_BUILD, name, ""), put(BEFORE, 1), bytes(p, plan_len), bytes(r, rules_len);
+    put((uint32_t)numbers_len + 1, 2), put((uint32_t)bytes_len + 1, 2), end();
+    begin(COLOUR_BUILD, name, "-behind"), put(BEHIND, 1), bytes(p, plan_len), bytes(r, rules_len);
+    put((uint32_t)numbers_len, 2), put((uint32_t)bytes_len, 2), end();
+    begin(COLOUR_BUILD, name, "-11"), put(BEFORE, 1), bytes(p, plan_len), bytes(r, rules_len);
+    put((uint32_t)numbers_len - 1, 2), put((uint32_t)bytes_len, 2), end();
+}
+
+static void sets_ask(const char *name, const char *which, enum side side, const struct question *list, const uint8_t *p,
+                     size_t n, const uint8_t *r, size_t k) {
+    begin(COLOUR_ASK, name, which), put(side, 1), changes(list), bytes(p, WHATIF_PLAN_BYTES(n));
+    bytes(r, WHATIF_RULES_BYTES(2, k)), numbers(set_numbers, WHATIF_NODE_TABLE_LEN(n));
+    bytes(set_bytes, WHATIF_STATE_TABLE_LEN(n, 2)), numbers(set_numbers, WHATIF_COLOUR_NUMBERS(n, 2));
+    bytes(set_bytes, WHATIF_COLOUR_BYTES(n, 2)), end();
+}
+
+/* Questions on tables as built, and each refusal but 12 and 17; the tables begin with those of whatif_build. */
+static void sets_of(const char *name, const uint8_t *p, size_t n, const uint8_t *r, size_t k) {
+    const struct question none_there = {1, {(uint16_t)n}, {0}}, no_label = {1, {0}, {(uint8_t)k}};
+    must(whatif_colour_build(p, WHATIF_PLAN_BYTES(n), r, WHATIF_RULES_BYTES(2, k), set_numbers,
+                             WHATIF_COLOUR_NUMBERS(n, 2), set_bytes, WHATIF_COLOUR_BYTES(n, 2)) == 0);
+    sets_build(name, p, n, r, k, 2);
+    sets_ask(name, "", BEFORE, &questions[1], p, n, r, k);
+    sets_ask(name, "-none", BEFORE, &questions[0], p, n, r, k);
+    sets_ask(name, "-behind", BEHIND, &questions[3], p, n, r, k);
+    sets_ask(name, "-13", BEFORE, &none_there, p, n, r, k);
+    sets_ask(name, "-14", BEFORE, &no_label, p, n, r, k);
+    memset(set_bytes + WHATIF_STATE_TABLE_LEN(n, 2), 0, n * 4);
+    sets_ask(name, "-18", BEFORE, &questions[1], p, n, r, k);
+}
+
+/* The comb under a table that keeps the state from below where a label is odd; five states get 27. */
+static void sets(void) {
+    static uint8_t two[WHATIF_RULES_BYTES(2, K)] = {2, 0, 0, 0, K, 0, 0, 0, 20, 0, 0, 0, 20 + K, 0, 0, 0, 20 + 5 * K};
+    static uint8_t five[WHATIF_RULES_BYTES(5, 2)] = {5, 0, 0, 0, 2, 0, 0, 0, 20, 0, 0, 0, 22, 0, 0, 0, 72};
+    for (size_t i = 0; i < K; i++) {
+        two[20 + i] = i % 2;
+        for (size_t l = 0; l < 2; l++)
+            for (size_t q = 0; q < 2; q++)
+                two[20 + K + (l * K + i) * 2 + q] = i % 2 ? (uint8_t)l : (uint8_t)(i % 4 < 2 ? l & q : l ^ q);
+    }
+    two[sizeof two - 1] = 1;
+    sets_of("a", plan, SAMPLE_NODES, rules, 2), sets_of("b", plan_b, N, two, K);
+    sets_build("five", plan, SAMPLE_NODES, five, 2, 5);
+}
+
 int main(int argc, char **argv) {
     must(argc == 2);
     folder = argv[1];
@@ -403,7 +458,7 @@ int main(int argc, char **argv) {
     planner_files("nine", (const uint8_t[]){5, 6, 8, 7, 0, 62, 1, 1, 9}, (const uint8_t[]){3, 1, 0, 0, 2, 1, 1, 0, 0}, 9);
     lists_over();
     counts(&sample), counts(&comb);
-    colours(&sample), colours(&comb);
+    colours(&sample), colours(&comb), sets();
     on_tables(&comb), on_records(&comb, &far), panel(&comb, &far), question(&comb, &far, "");
     for (size_t i = 0; i < QUESTIONS; i++) {
         char which[] = {'-', (char)('1' + i), 0};

@@ -167,7 +167,7 @@ pub fn build(plan: &[u8], rules: &[u8], numbers_len: usize, bytes_len: usize) ->
 /// The numbers and the bytes that colour tables need: a table for each of 2 to the power S colours; the state table, then a
 /// set for each colour and node.
 pub fn lens(n: usize, s: usize) -> (usize, usize) {
-    (4 * n << s, n * (s + 1) + (n << s))
+    ((4 * n) << s, n * (s + 1) + (n << s))
 }
 
 /// What is lent: that of a question in the session, and the colour tables.
@@ -219,7 +219,7 @@ fn checks(lends: &Lends, nodes: &[u16], labels: &[u8]) -> Result<(), u32> {
 
 fn is_as_built(lends: &Lends, built: &ColourTables) -> bool {
     let rules = read_rules(lends.tables.rules).expect("built");
-    let n = built.numbers.len() / 4 >> rules.states;
+    let n = (built.numbers.len() / 4) >> rules.states;
     // both begin with the session's tables
     lends.numbers.starts_with(&built.numbers)
         && lends.bytes.starts_with(&built.bytes)
