@@ -110,6 +110,15 @@ impl Branches {
         sums(self.pairs.iter().map(ask))
     }
 
+    fn by_plain_climb(&self) -> [u32; 2] {
+        let Branches { plan, branch, node_table, state_table, .. } = self;
+        let ask = |&(upper, lower)| {
+            let told = yardstick::ask(plan, branch, node_table, state_table, upper, lower).expect("accepted");
+            [told.links, u32::from(told.state)]
+        };
+        sums(self.pairs.iter().map(ask))
+    }
+
     fn question(&self) -> Pair {
         let wanted = self.by_library();
         assert_eq!(self.by_climb()[1], wanted[2], "the climbs tell the same");
@@ -130,12 +139,13 @@ impl Branches {
         )
     }
 
-    /// Every question once by colours, by plain Rust and by the climb, for a count of instructions: questions, drops, links,
+    /// Every question once by colours and by the climb, by the library and by plain Rust, for a count of instructions: questions, drops, links,
     /// links of the climbs.
     pub fn once(&self) -> [u32; 4] {
         let wanted = self.by_library();
         assert_eq!(self.by_yardstick(), wanted, "both tell the same");
         let [links, states] = self.by_climb();
+        assert_eq!(self.by_plain_climb(), [links, states], "both tell the same");
         assert_eq!(states, wanted[2], "the climbs tell the same");
         [self.pairs.len() as u32, wanted[0], wanted[1], links]
     }
