@@ -28,6 +28,10 @@ enum try {
     PLANNER_HOME,
     LAY_OVER,
     COUNT,
+    COLOUR_BRANCH_BUILD,
+    COLOUR_BRANCH,
+    COLOUR_BUILD,
+    COLOUR_ASK,
     TRIES
 };
 
@@ -67,5 +71,12 @@ uint32_t try_lay_over(struct input *in);
 
 /* How many choices end in each state. choices.c */
 uint32_t try_count(struct input *in);
+
+/* Branch questions by colours: the build of their tables, and a question in both readings. colours.c */
+uint32_t try_colour_branch_build(struct input *in);
+uint32_t try_colour_branch(struct input *in);
+/* The same for questions. colours.c */
+uint32_t try_colour_build(struct input *in);
+uint32_t try_colour_ask(struct input *in);
 
 #endif

@@ -40,6 +40,10 @@ static const struct {
     [PLANNER_HOME] = {"whatif_planner_of_plan", try_planner_of_plan, 1u | FROM(19, 19) | FROM(21, 21)},
     [LAY_OVER] = {"whatif_lay_over", try_lay_over, 1u | FROM(11, 12) | FROM(22, 22)},
     [COUNT] = {"whatif_count", try_count, 1u | FROM(11, 13) | FROM(15, 15) | FROM(17, 18) | FROM(26, 26)},
+    [COLOUR_BRANCH_BUILD] = {"whatif_colour_branch_build", try_colour_branch_build, 1u | FROM(2, 11)},
+    [COLOUR_BRANCH] = {"whatif_colour_branch, both readings", try_colour_branch, 1u | FROM(13, 13) | FROM(16, 18)},
+    [COLOUR_BUILD] = {"whatif_colour_build", try_colour_build, 1u | FROM(2, 11) | FROM(27, 27)},
+    [COLOUR_ASK] = {"whatif_colour_ask", try_colour_ask, 1u | FROM(12, 14) | FROM(17, 18) | FROM(27, 27)},
 };
 
 #define MOST 27 /* the greatest number of a refusal */

@@ -9,6 +9,7 @@
 mod calls;
 mod cases;
 mod choices;
+mod colours;
 #[cfg(feature = "probes")]
 mod in_place;
 mod measure;
@@ -31,6 +32,9 @@ const USAGE: &str = "usage: bench                      the whole table, in some 
        bench --markdown FILE      the table as Markdown, between the two lines of FILE that mark its place
        bench plot FILE.svg        time of a Start, of all advances and of a fresh run over N
        bench calls SHAPE N S M    nothing but 20 calls of each kind; bench/instructions counts their instructions
+       bench descents DEPTH S FALLS
+                                  nothing but branch questions by colours and by the climb, on a comb of this depth, under a
+                                  table whose colours fall often, seldom or never; bench/colours counts their instructions
        bench in-place --seed S --count C
                                   nothing is measured: C cases of calls in place against the same calls on record bytes
        bench --help
@@ -47,6 +51,7 @@ fn main() {
         ["calls", shape, n, s, m] => {
             calls::make(shape, [n, s, m].map(|number| number.parse().unwrap_or_else(|_| usage())))
         }
+        ["descents", depth, s, falls] => descents([depth, s].map(|word| word.parse().ok()), falls),
         #[cfg(feature = "probes")]
         ["in-place", "--seed", seed, "--count", count] => {
             let [seed, count] = [seed, count].map(|number| number.parse().unwrap_or_else(|_| usage()));
@@ -58,6 +63,18 @@ fn main() {
         ["--help"] => println!("{}", USAGE),
         _ => usage(),
     }
+}
+
+/// Prints how many questions there were, their drops and links, and the links of the climbs.
+fn descents(numbers: [Option<usize>; 2], falls: &str) {
+    const QUESTIONS: usize = 500;
+    let made = match (numbers, colours::Falls::named(falls)) {
+        ([Some(depth @ 1..=32_767), Some(s @ 1..=16)], Some(falls)) => {
+            colours::Branches::new(compare::shapes::Shape::LeftComb, depth + 1, s, falls, QUESTIONS).once()
+        }
+        _ => usage(),
+    };
+    println!("{}", made.map(|number| number.to_string()).join(" "));
 }
 
 fn usage() -> ! {
@@ -77,12 +94,13 @@ fn rows(wanted: &str, mut measured: impl FnMut(&Row)) -> Vec<Row> {
     table::in_order(rows)
 }
 
-/// What is measured without a question: counts of choices, on rule tables alone, and on planner's files.
+/// What is measured without a session: counts of choices, on rule tables alone, on planner's files, and by colours.
 fn singles(wanted: &str) -> Vec<Single> {
     let mut singles = Vec::new();
     choices::singles(wanted, &mut |single| singles.push(single));
     rule_tables::singles(wanted, &mut |single| singles.push(single));
     planner::singles(wanted, &mut |single| singles.push(single));
+    colours::singles(wanted, &mut |single| singles.push(single));
     singles
 }
 

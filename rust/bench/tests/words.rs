@@ -15,7 +15,9 @@ fn help() {
 
 #[test]
 fn other_words() {
-    for words in [&["-h", "x"][..], &["calls", "random", "many", "2", "0"], &["only"]] {
+    for words in
+        [&["-h", "x"][..], &["calls", "random", "many", "2", "0"], &["only"], &["descents", "9", "17", "often"]]
+    {
         let done = bench(words);
         assert_eq!((done.status.code(), done.stdout.len()), (Some(2), 0), "{:?}", words);
         assert!(done.stderr.starts_with(b"usage: bench"), "{:?}", words);

@@ -10,7 +10,7 @@ use reference::mistakes::{making, Mistake};
 const SEEDS: std::ops::Range<u64> = 1..201;
 
 /// A mistake, and the rounds that must notice it.
-const NOTICED: [(Mistake, &[&str]); 59] = [
+const NOTICED: [(Mistake, &[&str]); 67] = [
     (Mistake::ChildrenExchanged, &["builds", "fresh runs", "questions", "other bytes", "call lists"]),
     (Mistake::SiblingFromOldRun, &["questions", "other bytes", "damaged lends", "call lists"]),
     (Mistake::ClimbToTheRoot, &["questions", "other bytes", "damaged lends", "call lists"]),
@@ -73,6 +73,14 @@ const NOTICED: [(Mistake, &[&str]); 59] = [
     (Mistake::CountsNotCarried, &["choices"]),
     (Mistake::LimitRefused, &["choices"]),
     (Mistake::TwiceBeforeNodes, &["choices"]),
+    (Mistake::FreeOfAll, &["colours of words", "colours of sets"]),
+    (Mistake::LastDropFree, &["colours of words"]),
+    (Mistake::DepthsWithTheNode, &["colours of words", "colours of sets"]),
+    (Mistake::CopyAbove, &["colours of words"]),
+    (Mistake::FailedTrialFree, &["colours of sets"]),
+    (Mistake::TargetsFalling, &["colours of sets"]),
+    (Mistake::PreimageOfTheOtherSide, &["colours of sets"]),
+    (Mistake::StatesAfterLabels, &["colours of sets"]),
 ];
 
 /// The first difference in the rounds of a kind, and its seed.

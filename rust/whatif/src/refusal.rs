@@ -78,6 +78,7 @@ refusals! {
     LabelCounts = 23, "The two rule tables do not have the same count of labels.";
     StateProduct = 24, "The product of the two rule tables' counts of states is above 16.";
     Assignments = 26, "There are more than 10^18 assignments of labels to the nodes listed.";
+    ColourStates = 27, "The rule table has more than 4 states, too many for colours.";
 }
 
 impl fmt::Display for Refusal {

@@ -6,6 +6,8 @@ pub mod branch_questions;
 pub mod builds;
 pub mod call_lists;
 pub mod choices;
+pub mod colour_branches;
+pub mod colour_questions;
 pub mod damaged_lends;
 pub mod damaged_records;
 pub mod damaged_tables;
@@ -31,7 +33,7 @@ pub struct Round {
     compare: fn(&mut Random, &mut Counts),
 }
 
-pub const ROUNDS: [Round; 17] = [
+pub const ROUNDS: [Round; 19] = [
     Round { name: "builds", compare: builds::round },
     Round { name: "full checks", compare: full_checks::round },
     Round { name: "fresh runs", compare: fresh_runs::round },
@@ -49,6 +51,8 @@ pub const ROUNDS: [Round; 17] = [
     Round { name: "planner files", compare: planner_files::round },
     Round { name: "laying over", compare: lay_overs::round },
     Round { name: "choices", compare: choices::round },
+    Round { name: "colours of words", compare: colour_branches::round },
+    Round { name: "colours of sets", compare: colour_questions::round },
 ];
 
 impl Round {
