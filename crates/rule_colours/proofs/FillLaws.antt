@@ -2,11 +2,11 @@
 --     set-args, colour-args   what each needs
 --     filled                  what they leave together
 -- Assumes nothing.
-use Prim.Native.Nat.{ℕ, _+_, _*_, _^_, _≤_, _<_}
+use Prim.Native.Nat.{ℕ, _+_, _*_, _^_, _≤_}
 use mathlib.Core.Path.{_≡_, sym, ap, _∙_}
 use mathlib.Core.List.{List}
 use native.Mathlib.Omega.{arith}
-use lib.ListN.{length, getD}
+use lib.ListN.{length}
 use lib.Pow.{pow-mono}
 use Rattle.trees.specs.Tree.{Tree, size}
 use Rattle.trees.proofs.NodeLaws.{length-labels}

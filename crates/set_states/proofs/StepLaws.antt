@@ -21,7 +21,7 @@ use Rattle.formats.specs.Rules.{treeAutomaton}
 use Rattle.node_tables.specs.Cells.{parentCell, sizeCell}
 use Rattle.tables.specs.StateCells.{stateCell}
 use Rattle.tables.specs.inner.Maps.{nearValue}
-use Rattle.colours.specs.StateSets.{setOf, member, setStep}
+use Rattle.colours.specs.StateSets.{member, setStep}
 use Rattle.colours.proofs.SetLaws.{setStep-root, setStep-down}
 use Rattle.colour_states.specs.Written.{Elsewhere}
 use Rattle.set_states.specs.Down.{downSet}
