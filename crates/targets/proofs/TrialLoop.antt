@@ -1,0 +1,4 @@
+-- The trials of target states, one by one.
+--     test-lost, test-end    one trial, from its descent
+--     Trying                 the loop's state: the searches so far, and the same answer from here
+-- Assumes nothing.
