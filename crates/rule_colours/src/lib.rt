@@ -1,0 +1,1 @@
+// Rule questions by colours: the tables of colours of a plan and a rule table with at most four states.
