@@ -1,3 +1,6 @@
+-- `single` meets its contract. Assumes nothing.
+use native.Mathlib.Nat.{one-mul, mod-eq-of-lt}
+use lib.Pow.{pow-lt}
 use native.Mathlib.Omega.{arith}
 use borrow.Author.Needs.{needs}
 use Rattle.targets.proofs.trials.single.Statement.{statement}
@@ -12,7 +15,7 @@ shl-result : tie.Need-shl-result
 shl-result c = search needs
 
 returns : tie.Need-returns
-returns c = search needs
+returns c = rw one-mul (mod-eq-of-lt (omega (arith, pow-lt {i = c .args .x} {j = 8} (c .pre))))
 
 pub single-spec : {M : Type 1} → statement M
 single-spec = tie.close (tie.spec cast-result shl-result returns)
