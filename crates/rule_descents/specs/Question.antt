@@ -4,7 +4,7 @@
 --   those of the colours
 -- lentColours p r nodeTable stateTable numbers bytes == what is lent, cut by N, S and K of the headers
 -- Handled == the result of all parts, and how many there were
--- handledOn V left vs bs == the parts of a list vs, bs that leaves the nodes `left` in W; none: 18
+-- handledOn L left vs bs == the parts of a list vs, bs that leaves the nodes `left` in W; none: 18
 -- ruleAskChecks .. == 17, 27, 12, 13, 14 and 18, in this order; askedChecks == those before 18
 -- ruleAskNumber .. == the first that fails, 0 where none does
 -- ruleAskAnswer .. == the answer, on whatever is lent; ruleDescendingNumber == document 01's number of an answer
@@ -59,9 +59,9 @@ abbrev pub handled : Tried → ℕ → Handled
 handled r m = record { result = r; parts = m }
 
 unfoldable pub handledOn : ColourView → List ℕ → List ℕ → List ℕ → Option Handled
-handledOn V left vs bs =
-    andThen (rootsGiven (V .view .n) (V .view .nodeTable) left) (λ ms.
-    andThen (handledFrom V vs bs [] [] (tried 0 []) ms) (λ r. some (handled r (length ms))))
+handledOn L left vs bs =
+    andThen (rootsGiven (L .view .n) (L .view .nodeTable) left) (λ ms.
+    andThen (handledFrom L vs bs [] [] (tried 0 []) ms) (λ r. some (handled r (length ms))))
 
 abbrev pub askedOn : List ℕ → List ℕ → List ℕ → List ℕ → List ℕ → List ℕ → List ℕ → List ℕ → Option Handled
 askedOn p r nodeTable stateTable numbers bytes vs bs =
