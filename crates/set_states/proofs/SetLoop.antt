@@ -4,7 +4,7 @@
 -- Assumes nothing.
 use Prim.Native.Nat.{ℕ, _+_, _*_, _^_, _≤_, _<_}
 use mathlib.Core.Path.{_≡_, sym, ap, _∙_, subst}
-use mathlib.Core.List.{List, []}
+use mathlib.Core.List.{List}
 use native.Mathlib.Omega.{arith}
 use lib.ListN.{length, getD}
 use lib.Pow.{pow-mono}
@@ -83,22 +83,25 @@ module _ (ls inn : List ℕ) (s k count base : ℕ) (e₀ m₀ : List ℕ) (A : 
     abbrev lv₀ : List ℕ
     lv₀ = A .leaves
 
+    abbrev mk₀ : List ℕ
+    mk₀ = A .marks
+
     abbrev t₀ : Tree
     t₀ = A .tree
 
     is₀ : size t₀ ≡ n
-    is₀ = is lv₀ [] t₀ (A .given)
+    is₀ = is lv₀ mk₀ t₀ (A .given)
 
     room : base + size t₀ * count ≤ length b
-    room = rw (nodes lv₀ [] t₀ (A .given), lb) (A .byte-room)
+    room = rw (nodes lv₀ mk₀ t₀ (A .given), lb) (A .byte-room)
 
     space : count * (size t₀ * 4) ≤ length m
-    space = rw (nodes lv₀ [] t₀ (A .given), lm) (A .number-room)
+    space = rw (nodes lv₀ mk₀ t₀ (A .given), lm) (A .number-room)
 
     pub sets-above : AboveArgs b m n base count v
     sets-above =
-        rw (← is₀) (above-in count (setStep (treeAutomaton s k lv₀ inn []) t₀) t₀ base (keeps lv₀ [] t₀) e₀ m₀
-        (parents lv₀ [] t₀ (A .given)) v b m (from lv₀ [] t₀ (A .given)) (omega (arith, is₀)) (count-few .0)
+        rw (← is₀) (above-in count (setStep (treeAutomaton s k lv₀ inn mk₀) t₀) t₀ base (keeps lv₀ mk₀ t₀) e₀ m₀
+        (parents lv₀ mk₀ t₀ (A .given)) v b m (from lv₀ mk₀ t₀ (A .given)) (omega (arith, is₀)) (count-few .0)
         (count-few .1)
         (omega (arith, is₀, q, A .most)) room space)
 
@@ -107,8 +110,8 @@ module _ (ls inn : List ℕ) (s k count base : ℕ) (e₀ m₀ : List ℕ) (A : 
     ups c =
         let l : v + 1 < size t₀ = omega (arith, is₀) in
         let U : Up t₀ v (parent t₀ v) = up t₀ v l in
-        let p : parentCell m v ≡ parent t₀ v = parent-is lv₀ [] t₀ (A .given) l in
-        let z : sizeCell m v ≡ size (sub t₀ v) = size-is lv₀ [] t₀ (A .given) (omega arith) in
+        let p : parentCell m v ≡ parent t₀ v = parent-is lv₀ mk₀ t₀ (A .given) l in
+        let z : sizeCell m v ≡ size (sub t₀ v) = size-is lv₀ mk₀ t₀ (A .given) (omega arith) in
         record {
           few = A .few;
           labels = A .rules .labels;
@@ -125,8 +128,8 @@ module _ (ls inn : List ℕ) (s k count base : ℕ) (e₀ m₀ : List ℕ) (A : 
             stride (s + 1) (parent t₀ v) (length ls)
                 (omega (arith, U .below, is₀, q)),
           ));
-          state-below = λ u i. rw (state-is lv₀ [] t₀ (A .given) u (omega (arith, U .below)))
-              (rules-below s k lv₀ inn [] (A .rules) (sub t₀ u));
+          state-below = λ u i. rw (state-is lv₀ mk₀ t₀ (A .given) u (omega (arith, U .below)))
+              (rules-below s k lv₀ inn mk₀ (A .rules) (sub t₀ u));
           inner-room = omega (arith, A .rules .inner-count);
         }
 
@@ -143,8 +146,8 @@ module _ (ls inn : List ℕ) (s k count base : ℕ) (e₀ m₀ : List ℕ) (A : 
       module _ (led : List ℕ) (L : RowOf count (λ c. downSet ls m inn b n s k v (getD row c 0)) led) where
         pub sets-place : TurnArgs led b m n base count v
         sets-place =
-            rw (← is₀) (place-in count (setStep (treeAutomaton s k lv₀ inn []) t₀) t₀ base (keeps lv₀ [] t₀) e₀ m₀
-            (parents lv₀ [] t₀ (A .given)) v b m (from lv₀ [] t₀ (A .given)) (omega (arith, is₀)) led (L .long)
+            rw (← is₀) (place-in count (setStep (treeAutomaton s k lv₀ inn mk₀) t₀) t₀ base (keeps lv₀ mk₀ t₀) e₀ m₀
+            (parents lv₀ mk₀ t₀ (A .given)) v b m (from lv₀ mk₀ t₀ (A .given)) (omega (arith, is₀)) led (L .long)
             (count-few .1)
             (omega (arith, is₀, q, A .most)) room space)
 

@@ -8,7 +8,7 @@
 -- Assumes nothing.
 use Prim.Native.Nat.{ℕ, _+_, _*_, _^_, _≤_, _<_}
 use mathlib.Core.Path.{_≡_}
-use mathlib.Core.List.{List, []}
+use mathlib.Core.List.{List}
 use lib.ListN.{length, getD}
 use Rattle.trees.specs.Tree.{Tree}
 use Rattle.formats.specs.Rules.{treeAutomaton}
@@ -25,7 +25,8 @@ SetsFrom s k lv inn mk count base t i bytes numbers bytes′ numbers′ =
 pub record SetArgs (ls inn : List ℕ) (s k count base : ℕ) (numbers bytes : List ℕ) : Type 0 where
   pub tree : Tree
   pub leaves : List ℕ
-  pub given : Prepared s k leaves inn [] tree ls numbers bytes
+  pub marks : List ℕ
+  pub given : Prepared s k leaves inn marks tree ls numbers bytes
   pub rules : RuleRuns s k leaves inn
   pub few : s ≤ 4
   pub most : length ls ≤ 65535
