@@ -1,0 +1,2 @@
+// The rule question by colours, on whatever is lent: superseding and equal labels as in the session.
+pub mod answers;
