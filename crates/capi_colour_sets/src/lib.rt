@@ -2,4 +2,6 @@
 // its result is the answer's number, 0 where it is accepted, and what is answered goes through single places, which
 // keep what they held where it is refused.
 //     whatif_colour_build   the tables of colours for a rule table
+//     whatif_colour_ask     the rule question by colours
+pub mod ask;
 pub mod build;
