@@ -13,6 +13,7 @@ use reference::tree::Tree;
 use whatif::{BranchColours, RuleColours};
 
 const LABELS: usize = 64;
+/// Of a branch question by colours; for the other works none is set.
 const GOAL: f64 = 2.0;
 /// Questions of a turn, on one plan.
 const QUESTIONS: usize = 2_000;
@@ -129,6 +130,16 @@ impl Branches {
         )
     }
 
+    /// The library beside itself: by colours, and by the climb.
+    fn beside_the_climb(&self) -> Pair {
+        let (by_colours, by_climb) = (self.by_library(), self.by_climb());
+        by_turns(
+            self.pairs.len(),
+            || assert_eq!(self.by_library(), by_colours),
+            || assert_eq!(self.by_climb(), by_climb),
+        )
+    }
+
     fn build(&mut self) -> Pair {
         let (mut numbers, mut bytes) = (self.numbers.clone(), self.bytes.clone());
         let (plan, branch) = (&self.plan, &self.branch);
@@ -213,6 +224,9 @@ fn build_times() -> Pair {
     )
 }
 
+/// The columns of this work are the library by colours and the library by the climb.
+const BESIDE: &str = "branch question, colours : climb";
+
 const SHAPES: [(&str, Shape, usize, Falls); 6] = [
     ("left comb, N 65,535, S 16, falls often", Shape::LeftComb, 16, Falls::Often),
     ("left comb, N 65,535, S 16, falls seldom", Shape::LeftComb, 16, Falls::Seldom),
@@ -234,18 +248,24 @@ pub fn singles(wanted: &str, keep: &mut dyn FnMut(Single)) {
         if question.contains(wanted) || build.contains(wanted) {
             let mut branches = Branches::new(shape, 32_768, s, falls, QUESTIONS);
             keep(Single { work: question, on, goal: GOAL, times: branches.question() });
+            keep(Single { work: BESIDE, on, goal: f64::INFINITY, times: branches.beside_the_climb() });
             if falls == Falls::Often {
-                keep(Single { work: build, on, goal: GOAL, times: branches.build() });
+                keep(Single { work: build, on, goal: f64::INFINITY, times: branches.build() });
             }
         }
     }
     if "question by colours".contains(wanted) {
         for (on, shape, m) in LISTS_OF {
-            keep(Single { work: "question by colours", on, goal: GOAL, times: question_times(shape, m) });
+            keep(Single { work: "question by colours", on, goal: f64::INFINITY, times: question_times(shape, m) });
         }
     }
     if "colour build".contains(wanted) {
-        keep(Single { work: "colour build", on: "random, N 65,535, S 4, K 64", goal: GOAL, times: build_times() });
+        keep(Single {
+            work: "colour build",
+            on: "random, N 65,535, S 4, K 64",
+            goal: f64::INFINITY,
+            times: build_times(),
+        });
     }
 }
 

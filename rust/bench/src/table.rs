@@ -181,7 +181,8 @@ fn without_climb(rows: &[Row]) -> String {
     format!("\nAn advance through bytes that does not climb takes {}, at most {} (goal: 500 ns).\n", median, greatest)
 }
 
-/// A work that is not in the table by shapes: on what, the greatest ratio that is wanted, nanoseconds of a call of library and plain.
+/// A work that is not in the table by shapes: on what, the greatest ratio that is wanted (infinite where none is), nanoseconds of
+/// a call of library and plain.
 pub struct Single {
     pub work: &'static str,
     pub on: &'static str,
@@ -199,7 +200,8 @@ pub fn singles(singles: &[Single]) -> String {
         let ratio = library / plain;
         let bold = if ratio > *goal { "**" } else { "" };
         let times = (short(*library), short(*plain));
-        writeln!(out, "| {} | {} | {:.1} | {}{:.2}{} | {} | {} |", work, on, goal, bold, ratio, bold, times.0, times.1)
+        let goal = goal_of(Some(*goal).filter(|goal| goal.is_finite()));
+        writeln!(out, "| {} | {} | {} | {}{:.2}{} | {} | {} |", work, on, goal, bold, ratio, bold, times.0, times.1)
             .unwrap();
     }
     out
