@@ -1,0 +1,2 @@
+pub mod PartsLoop
+pub mod AskChecks

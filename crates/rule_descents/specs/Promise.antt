@@ -58,8 +58,8 @@ pub record RuleColourAnswer (p r vs bs : List ℕ) (answer : RuleDescending) : T
   pub few : sum searches ≤ length searches * 45
 
 abbrev pub stateKept : List ℕ → RuleDescending → Type 0
-stateKept r (Answered state yes drops links parts) =
-    (state < stateCount r) × (yes ≡ ruleAutomaton r .accepting state)
+stateKept r (Answered state marked drops links parts) =
+    (state < stateCount r) × (marked ≡ ruleAutomaton r .accepting state)
 stateKept r (Refused n) = Unit {0}
 
 pub record RuleAskDone (p r nodeTable stateTable numbers bytes vs bs : List ℕ) (answer : RuleDescending) : Type 0 where

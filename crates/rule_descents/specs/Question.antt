@@ -87,7 +87,7 @@ ruleAskNumber p r nodeTable stateTable numbers bytes vs bs =
 -- ---- the answer
 
 unfoldable pub ruleDescendingNumber : RuleDescending → ℕ
-ruleDescendingNumber (Answered q yes drops links parts) = 0
+ruleDescendingNumber (Answered q marked drops links parts) = 0
 ruleDescendingNumber (Refused n) = n
 
 -- the answer of state q, searches ls and so many parts
