@@ -1,2 +1,4 @@
 pub mod PartsLoop
 pub mod AskChecks
+pub mod StateLaws
+pub mod AnswerLaws
