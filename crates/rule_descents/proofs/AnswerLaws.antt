@@ -273,6 +273,9 @@ module _ (p r nodeTable stateTable numbers bytes vs bs : List ℕ) (A : LentArgs
       lent-answer a e =
           e
           ∙ ap (λ (ms : List ℕ). answeredFor n s k p r nodeTable stateTable numbers bytes vs bs ms) (found .taken)
-          ∙ rw (n-is, s-is, k-is) (ap (λ (o : Option (List ℕ)). ruleAnswer r 0 (andThen o (λ ms.
+          ∙ ap (λ (i : ℕ). answeredFor i s k p r nodeTable stateTable numbers bytes vs bs (found .list)) n-is
+          ∙ ap (λ (i : ℕ). answeredFor (nodeCount p) i k p r nodeTable stateTable numbers bytes vs bs (found .list)) s-is
+          ∙ ap (λ (i : ℕ). answeredFor (nodeCount p) (stateCount r) i p r nodeTable stateTable numbers bytes vs bs (found .list)) k-is
+          ∙ ap (λ (o : Option (List ℕ)). ruleAnswer r 0 (andThen o (λ ms.
           andThen (handledFrom (lentColours p r nodeTable stateTable numbers bytes) vs bs [] [] (tried 0 []) ms)
-          (λ x. some (handled x (length ms)))))) (sym (roots-are (some (found .list)) (found .is))))
+          (λ x. some (handled x (length ms)))))) (sym (roots-are (some (found .list)) (found .is)))

@@ -68,9 +68,3 @@ pub record RuleAskDone (p r nodeTable stateTable numbers bytes vs bs : List ℕ)
   pub number : ruleDescendingNumber answer ≡ ruleAskNumber p r nodeTable stateTable numbers bytes vs bs
   -- an answer's state is below S, and yes is its mark
   pub properties : stateKept r answer
-  -- 18 only where a value leads outside the plan, the states or the labels, does not rise, or no target state is found
-  pub out-of-range : ruleDescendingNumber answer ≡ 18
-      → RuleColoursOutOfRange (lentColours p r nodeTable stateTable numbers bytes) vs bs
-  -- on tables as built and a list that passes 12 to 14: the fresh run's answer of the changed plan, never 18
-  pub built : RuleColoursBuilt p r nodeTable stateTable numbers bytes
-      → firstNo (listChecks (nodeCount p) (labelCount r) vs bs) ≡ 0 → RuleColourAnswer p r vs bs answer

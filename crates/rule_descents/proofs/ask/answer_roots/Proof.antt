@@ -178,34 +178,97 @@ all-by-colours-requires c κs =
     all-args _ _ _ _ _ _ _ _ _ _ _ _ (s .pre) (a .set-count .result) (a .set-count .ensures .0) (a .set-count .ensures .1)
 
 returns : tie.Need-returns
-returns c = ?
+returns c =
+    let e = c in
+    let t = e .before .before in
+    let s = t .before .before .before .before .before .before .before .before .before .before .before .before .before .before .before .before .before .before in
+    let g = s .args in
+    roots-lost (g .n) (g .s) (g .k) (g .plan .now) (g .rules .now) (g .node-table .now) (g .state-table .now) (g .numbers .now)
+    (g .bytes .now) (g .nodes .now) (g .labels .now) (g .roots .now) (s .pre)
+    (t .all-by-colours .result) (t .all-by-colours .ensures) (not-true _ (e .if1 .taken))
 
 add-yes : tie.Need-add-yes
-add-yes c = ?
+add-yes c =
+    let e = c in
+    let t = e .before .before in
+    let s = t .before .before .before .before .before .before .before .before .before .before .before .before .before .before .before .before .before .before in
+    let g = s .args in
+    omega (arith, runs s)
 
 mul-yes : tie.Need-mul-yes
-mul-yes c = ?
+mul-yes c =
+    let e = c in
+    let t = e .before .before in
+    let s = t .before .before .before .before .before .before .before .before .before .before .before .before .before .before .before .before .before .before in
+    let g = s .args in
+    omega (arith, runs s)
 
 mul-yes-2 : tie.Need-mul-yes-2
-mul-yes-2 c = ?
+mul-yes-2 c =
+    let e = c in
+    let t = e .before .before in
+    let s = t .before .before .before .before .before .before .before .before .before .before .before .before .before .before .before .before .before .before in
+    let g = s .args in
+    omega (arith, runs s)
 
 add-yes-2 : tie.Need-add-yes-2
-add-yes-2 c = ?
+add-yes-2 c =
+    let e = c in
+    let t = e .before .before in
+    let s = t .before .before .before .before .before .before .before .before .before .before .before .before .before .before .before .before .before .before in
+    let g = s .args in
+    omega (arith, runs s)
 
 cast-yes : tie.Need-cast-yes
-cast-yes c = ?
+cast-yes c =
+    let e = c in
+    let t = e .before .before in
+    let s = t .before .before .before .before .before .before .before .before .before .before .before .before .before .before .before .before .before .before in
+    let g = s .args in
+    let l = mark-place (g .n) (g .s) (g .k) (g .plan .now) (g .rules .now) (g .node-table .now) (g .state-table .now) (g .numbers .now)
+    (g .bytes .now) (g .nodes .now) (g .labels .now) (g .roots .now) (s .pre)
+    (t .all-by-colours .result) (t .all-by-colours .ensures) (not-false _ (e .if1 .left)) in
+    omega (arith, l, s .pre .states)
 
 add-yes-3 : tie.Need-add-yes-3
-add-yes-3 c = ?
+add-yes-3 c =
+    let e = c in
+    let t = e .before .before in
+    let s = t .before .before .before .before .before .before .before .before .before .before .before .before .before .before .before .before .before .before in
+    let g = s .args in
+    let l = mark-place (g .n) (g .s) (g .k) (g .plan .now) (g .rules .now) (g .node-table .now) (g .state-table .now) (g .numbers .now)
+    (g .bytes .now) (g .nodes .now) (g .labels .now) (g .roots .now) (s .pre)
+    (t .all-by-colours .result) (t .all-by-colours .ensures) (not-false _ (e .if1 .left)) in
+    omega (arith, l, s .pre .states, runs s)
 
 shared-slice-read-yes : tie.Need-shared-slice-read-yes
-shared-slice-read-yes c = ?
+shared-slice-read-yes c =
+    let e = c .before in
+    let t = e .before .before in
+    let s = t .before .before .before .before .before .before .before .before .before .before .before .before .before .before .before .before .before .before in
+    let g = s .args in
+    let l = mark-place (g .n) (g .s) (g .k) (g .plan .now) (g .rules .now) (g .node-table .now) (g .state-table .now) (g .numbers .now)
+    (g .bytes .now) (g .nodes .now) (g .labels .now) (g .roots .now) (s .pre)
+    (t .all-by-colours .result) (t .all-by-colours .ensures) (not-false _ (e .if1 .left)) in
+    omega (arith, l, runs s .lengths .table-is)
 
 cast-t57 : tie.Need-cast-t57
-cast-t57 c = ?
+cast-t57 c =
+    let e = c .before in
+    let t = e .before .before in
+    let s = t .before .before .before .before .before .before .before .before .before .before .before .before .before .before .before .before .before .before in
+    let g = s .args in
+    omega (arith, s .pre .few)
 
 returns-2 : tie.Need-returns-2
-returns-2 c = ?
+returns-2 c =
+    let e = c .before in
+    let t = e .before .before in
+    let s = t .before .before .before .before .before .before .before .before .before .before .before .before .before .before .before .before .before .before in
+    let g = s .args in
+    roots-answer (g .n) (g .s) (g .k) (g .plan .now) (g .rules .now) (g .node-table .now) (g .state-table .now) (g .numbers .now)
+    (g .bytes .now) (g .nodes .now) (g .labels .now) (g .roots .now) (s .pre)
+    (t .all-by-colours .result) (t .all-by-colours .ensures) (not-false _ (e .if1 .left))
 
 pub answer-roots-spec : {M : Type 1} → statement M
 answer-roots-spec =
