@@ -47,11 +47,11 @@ module _ (p r nodeTable stateTable numbers bytes vs bs : List ℕ) where
       one : firstNo last ≡ cond (isSome on) 0 18
       one = unfold firstNo in refl
 
-  pub refused-is : (no : ℕ) → no ≡ firstNo asked → (no ≡ 0 → ⊥)
-      → Refused no ≡ ruleAskAnswer p r nodeTable stateTable numbers bytes vs bs
+  pub refused-is : (m : ℕ) → m ≡ firstNo asked → (m ≡ 0 → ⊥)
+      → Refused m ≡ ruleAskAnswer p r nodeTable stateTable numbers bytes vs bs
   unfolding ruleAskAnswer ruleAnswer
-  refused-is no e h =
-      go no h ∙ ap (λ (n : ℕ). ruleAnswer r n on) (sym (number-asked (λ z. h (e ∙ z)) ∙ sym e))
+  refused-is m e h =
+      go m h ∙ ap (λ (n : ℕ). ruleAnswer r n on) (sym (number-asked (λ z. h (e ∙ z)) ∙ sym e))
     where
       go : (n : ℕ) → (n ≡ 0 → ⊥) → Refused n ≡ ruleAnswer r n on
       go zero f = absurd (f refl)
@@ -78,8 +78,8 @@ module _ (p r nodeTable stateTable numbers bytes vs bs : List ℕ) where
       named (suc n) none f = refl
       named (suc n) (some h) f = refl
 
-      found : (o : Option Handled) → cond (isSome o) 0 18 ≡ 0 → (x : Handled) × (o ≡ some x)
-      found none e = absurd (let w : 18 ≡ 0 = e in omega arith)
+      found : (o : Option Handled) → _≡_ {A = ℕ} (cond (isSome o) 0 18) 0 → (x : Handled) × (o ≡ some x)
+      found none e = absurd (omega arith)
       found (some h) e = (h, refl)
 
       go : (n : ℕ) → firstNo asked ≡ n
@@ -87,5 +87,5 @@ module _ (p r nodeTable stateTable numbers bytes vs bs : List ℕ) where
           ≡ ruleAskNumber p r nodeTable stateTable numbers bytes vs bs
       go zero z = named _ on (λ e. found on (sym (number-last z) ∙ e))
       go (suc n) z =
-          let f : firstNo asked ≡ 0 → ⊥ = λ e. (let w : suc n ≡ 0 = sym z ∙ e in omega arith) in
+          let f : firstNo asked ≡ 0 → ⊥ = λ e. (let w : _≡_ {A = ℕ} (suc n) 0 = sym z ∙ e in omega arith) in
           named _ on (λ e. absurd (f (sym (number-asked f) ∙ e)))

@@ -21,9 +21,11 @@ use Rattle.part_descents.specs.Part.{ColourView, handledFrom}
 use Rattle.rule_descents.specs.declared.answers.RuleDescending.{RuleDescending}
 use Rattle.rule_descents.specs.Question.{Handled, handled, handledOn, askedOn, leftIn, lentColours, ruleAskNumber, ruleAnswer}
 use Rattle.rule_descents.specs.Question.{ruleAskAnswer, ruleDescendingNumber}
-use Rattle.rule_descents.specs.Promise.{stateKept, RuleAskDone}
+use Rattle.rule_descents.specs.Promise.{RuleColourAnswer, stateKept, RuleAskDone}
 use Rattle.rule_descents.proofs.StateLaws.{handled-state}
 use Rattle.rule_descents.proofs.AskNumbers.{on-number}
+use Rattle.rule_descents.proofs.AskRange.{ask-range}
+use Rattle.rule_descents.proofs.AskBuilt.{ask-built}
 
 on-kept : (L : ColourView) (left vs bs : List ℕ) (h : Handled) → handledOn L left vs bs ≡ some h
     → h .result .state < L .view .s
@@ -69,4 +71,8 @@ module _ (p r nodeTable stateTable numbers bytes vs bs : List ℕ) where
     result = e;
     number = ap ruleDescendingNumber e ∙ on-number p r nodeTable stateTable numbers bytes vs bs;
     properties = subst (stateKept r) (sym e) ask-kept;
+    out-of-range = λ i. ask-range p r nodeTable stateTable numbers bytes vs bs
+        (sym (ap ruleDescendingNumber e ∙ on-number p r nodeTable stateTable numbers bytes vs bs) ∙ i);
+    built = λ D ok. subst (RuleColourAnswer p r vs bs) (sym e)
+        (ask-built p r nodeTable stateTable numbers bytes vs bs D ok);
   }

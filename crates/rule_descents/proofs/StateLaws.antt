@@ -22,7 +22,7 @@ use Rattle.colours.specs.StateSets.{Tried, tried}
 use Rattle.part_descents.specs.Part.{ColourView, Sides, sidesIn, untried, joinTried, forkTried, leafTried, partTried}
 use Rattle.part_descents.specs.Part.{sideTried, handledFrom}
 
-untried-state : (s q : ℕ) (x : Tried) → untried (below s q) ≡ some x → x .state < s
+pub untried-state : (s q : ℕ) (x : Tried) → untried (below s q) ≡ some x → x .state < s
 untried-state s q x e = go (below s q) refl e
   where
     go : (o : Option ℕ) → below s q ≡ o → untried o ≡ some x → x .state < s
