@@ -2,33 +2,26 @@
 --
 -- RuleColoursBuilt p r .. == node table, state table and tables of colours are as built from plan and rules
 -- rootsLeft p vs bs == the roots of the parts: those of a question in the session
--- isOneSided t ms v == whether root v has members below one child only; oneSided t ms == how many roots of ms have
 -- RuleColourAnswer p r vs bs answer == the answer is the fresh run's of the changed plan, with as many parts as in the
 --   session, at most 60 drops for each one-sided part, and at most 45 links for each drop
 -- stateKept r answer == an answer's state is below S, and yes is its mark
--- linksKept n answer == on whatever is lent: at most 60 drops for each part, and 65,535 links for each drop
 -- RuleAskDone .. == the promise of a rule question by colours
 --
 -- Assumes nothing.
 use Prim.Native.Nat.{ℕ, _*_, _≤_, _<_}
 use mathlib.Core.Path.{_≡_}
-use mathlib.Core.Bool.{Bool, not, cond, _&&_}
 use mathlib.Core.List.{List}
-use lib.Dec.{eqb}
 use lib.ListN.{length}
-use Rattle.trees.specs.Tree.{Tree, kindAt}
 use Rattle.formats.specs.Plan.{nodeCount, planTree, labelsIn}
 use Rattle.formats.specs.Rules.{stateCount, labelCount, ruleAutomaton}
 use Rattle.formats.specs.Checks.{firstNo, listChecks}
 use Rattle.formats.specs.Built.{AsBuilt}
 use Rattle.runs.specs.FreshRun.{rootState}
 use Rattle.changes.specs.Differing.{differing}
-use Rattle.ready.specs.Ready.{leftChild, rightChild}
 use Rattle.ready.specs.Members.{roots}
-use Rattle.ready.specs.Parts.{anyBelow, sumOf}
-use Rattle.marks.specs.Marks.{bit}
 use Rattle.colours.specs.Descents.{sum}
 use Rattle.rule_colours.specs.Build.{RuleColoured}
+use Rattle.part_descents.specs.OneSided.{oneSided}
 use Rattle.rule_descents.specs.declared.answers.RuleDescending.{RuleDescending}
 use Rattle.rule_descents.specs.declared.answers.RuleDescending.the-variants.{Answered, Refused}
 use Rattle.rule_descents.specs.Question.{lentColours, ruleAskNumber, ruleAskAnswer, ruleDescendingNumber, answeredWith}
@@ -41,20 +34,11 @@ pub record RuleColoursBuilt (p r nodeTable stateTable numbers bytes : List ℕ) 
 abbrev pub rootsLeft : List ℕ → List ℕ → List ℕ → List ℕ
 rootsLeft p vs bs = roots (planTree p) (differing (labelsIn p) vs bs)
 
--- "where a part has members below one child only"
-unfoldable pub isOneSided : Tree → List ℕ → ℕ → Bool
-isOneSided t ms v =
-    not (eqb (kindAt t v) 0)
-    && cond (anyBelow ms t (leftChild t v)) (not (anyBelow ms t (rightChild v))) (anyBelow ms t (rightChild v))
-
-unfoldable pub oneSided : Tree → List ℕ → ℕ
-oneSided t ms = sumOf (λ v. bit (isOneSided t ms v)) ms
-
 pub record RuleColourAnswer (p r vs bs : List ℕ) (answer : RuleDescending) : Type 0 where
   pub searches : List ℕ
   pub is : answer ≡ answeredWith r (rootState p r vs bs) searches (length (rootsLeft p vs bs))
   -- "the drops add up to at most 60 for each such part"
-  pub falls : length searches ≤ 60 * oneSided (planTree p) (rootsLeft p vs bs)
+  pub falls : length searches ≤ 60 * oneSided (planTree p) (rootsLeft p vs bs) (rootsLeft p vs bs)
   pub few : sum searches ≤ length searches * 45
 
 abbrev pub stateKept : List ℕ → RuleDescending → Type 0
