@@ -17,10 +17,11 @@ use Rattle.formats.specs.Rules.{labelCount, ruleAutomaton}
 use Rattle.formats.specs.Checks.{check, firstNo, listChecks}
 use Rattle.runs.specs.FreshRun.{rootState}
 use Rattle.colours.specs.Descents.{sum}
+use Rattle.part_descents.specs.OneSided.{oneSided}
 use Rattle.rule_descents.specs.declared.answers.RuleDescending.{RuleDescending}
 use Rattle.rule_descents.specs.declared.answers.RuleDescending.the-variants.{Answered, Refused}
 use Rattle.rule_descents.specs.Question.{ruleDescendingNumber, askedChecks, ruleAskChecks, ruleAskNumber}
-use Rattle.rule_descents.specs.Promise.{RuleColoursBuilt, RuleColourAnswer, rootsLeft, oneSided}
+use Rattle.rule_descents.specs.Promise.{RuleColoursBuilt, RuleColourAnswer, rootsLeft}
 use Rattle.capi_numbers.specs.Numbers.{bitOf}
 use Rattle.capi_colour_sets.specs.RuleExported.{endOf, acceptedOf, dropsOf, linksOf, partsOf, RuleExported}
 
@@ -45,7 +46,7 @@ module _ (p r nodeTable stateTable numbers bytes vs bs : List ℕ)
     pub state : state₁ ≡ rootState p r vs bs
     pub yes : yes₁ ≡ bitOf (ruleAutomaton r .accepting state₁)
     pub parts : parts₁ ≡ length (rootsLeft p vs bs)
-    pub falls : drops₁ ≤ 60 * oneSided (planTree p) (rootsLeft p vs bs)
+    pub falls : drops₁ ≤ 60 * oneSided (planTree p) (rootsLeft p vs bs) (rootsLeft p vs bs)
     pub few : links₁ ≤ drops₁ * 45
 
   pub rule-descent-answers : RuleColoursBuilt p r nodeTable stateTable numbers bytes
