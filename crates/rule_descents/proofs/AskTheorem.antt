@@ -21,7 +21,7 @@ use Rattle.part_descents.specs.Part.{ColourView, handledFrom}
 use Rattle.rule_descents.specs.declared.answers.RuleDescending.{RuleDescending}
 use Rattle.rule_descents.specs.Question.{Handled, handled, handledOn, askedOn, leftIn, lentColours, ruleAskNumber, ruleAnswer}
 use Rattle.rule_descents.specs.Question.{ruleAskAnswer, ruleDescendingNumber}
-use Rattle.rule_descents.specs.Promise.{RuleColourAnswer, stateKept, RuleAskDone}
+use Rattle.rule_descents.specs.Promise.{RuleColourAnswer, stateKept, linksKept, RuleAskDone}
 use Rattle.rule_descents.proofs.StateLaws.{handled-state}
 use Rattle.rule_descents.proofs.AskNumbers.{on-number}
 use Rattle.rule_descents.proofs.AskRange.{ask-range}
@@ -66,11 +66,12 @@ module _ (p r nodeTable stateTable numbers bytes vs bs : List ℕ) where
       go (suc n) o e = tt
 
   pub ask-done : (answer : RuleDescending) → answer ≡ ruleAskAnswer p r nodeTable stateTable numbers bytes vs bs
-      → RuleAskDone p r nodeTable stateTable numbers bytes vs bs answer
-  ask-done answer e = record {
+      → linksKept answer → RuleAskDone p r nodeTable stateTable numbers bytes vs bs answer
+  ask-done answer e few = record {
     result = e;
     number = ap ruleDescendingNumber e ∙ on-number p r nodeTable stateTable numbers bytes vs bs;
     properties = subst (stateKept r) (sym e) ask-kept;
+    few = few;
     out-of-range = λ i. ask-range p r nodeTable stateTable numbers bytes vs bs
         (sym (ap ruleDescendingNumber e ∙ on-number p r nodeTable stateTable numbers bytes vs bs) ∙ i);
     built = λ D ok. subst (RuleColourAnswer p r vs bs) (sym e)

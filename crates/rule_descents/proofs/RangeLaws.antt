@@ -3,7 +3,7 @@
 --     part-none       a part: a value leads outside the plan, the states or the labels, or no target state is found
 --     handled-none    all parts
 -- Assumes nothing.
-use Prim.Native.Nat.{ℕ, zero, suc, _+_, _-_, _*_, _≤_, _<_}
+use Prim.Native.Nat.{ℕ, zero, suc, _+_, _-_, _*_, _^_, _≤_, _<_}
 use mathlib.Core.Path.{_≡_, refl, sym, ap, _∙_, subst}
 use mathlib.Core.Bool.{Bool, true, false, cond, _&&_}
 use mathlib.Core.List.{List, [], _∷_, _++_}
@@ -11,7 +11,7 @@ use mathlib.Core.Logic.{_⊎_, inl, inr}
 use mathlib.Core.Option.{Option, none, some, Option·some-injective}
 use native.Mathlib.Omega.{arith}
 use lib.Dec.{leb, ltb, eqb}
-use lib.ListN.{length, getD}
+use lib.ListN.{length, getD, drop, length-take}
 use borrow.Author.Tests.{ltb-true, ltb-false, leb-true, eqb-false}
 use Rattle.list_laws.specs.Tests.{allBelow}
 use Rattle.list_laws.proofs.BoolLaws.{and-left, and-right}
@@ -31,8 +31,9 @@ use Rattle.colours.specs.Descents.{ColourTable, Descent, descend}
 use Rattle.colours.specs.StateSets.{member, Tried, tried, targetColour, setAt, afterTrial, tryOne, tryFrom}
 use Rattle.part_descents.specs.Part.{ColourView, Sides, sidesIn, untried, colourFrom, sideTried, joinTried, forkTried}
 use Rattle.part_descents.specs.Part.{leafTried, partTried, handledFrom}
-use Rattle.rule_descents.specs.OutOfRange.{RuleColoursOutOfRange, part, targets}
+use Rattle.rule_descents.specs.OutOfRange.{RuleColoursOutOfRange, part, colour, target, unheld}
 use Rattle.rule_descents.proofs.StateLaws.{untried-state, part-state}
+use Rattle.rule_descents.proofs.TriesRange.{TriesFail, stops, uncoloured, unheldBy, tries-none}
 
 -- ---- the target states tried
 
@@ -115,6 +116,18 @@ module _ (L : ColourView) (vs bs : List ℕ) where
   unfolding runOn
   run-none c h e = part (run c h (below-none (X .s) (stateCell (X .s) (X .stateTable) c) e))
 
+  trials-none : (c w q : ℕ) → c < X .n → w < X .n → q < X .s
+      → tryFrom (sidesIn L .table) (sidesIn L .copies) c w q (X .s) 0 ≡ none → Lost
+  trials-none c w q hc hw hq e =
+      let rows : ℕ → List ℕ = sidesIn L .copies in
+      let few : length (rows c) ≤ 2 ^ X .s = omega (arith, length-take (2 ^ X .s) (drop (c * 2 ^ X .s) (L .copies))) in
+      by (tries-none (X .n) (2 ^ X .s) (sidesIn L .table) rows c w q (λ a. refl) hw few (X .s) 0 e)
+    where
+      by : TriesFail (X .n) (2 ^ X .s) (sidesIn L .table) (sidesIn L .copies) c w q 0 (X .s) → Lost
+      by (stops z) = colour z
+      by (uncoloured y a b l) = target c y hc (omega arith) l
+      by (unheldBy g) = unheld c w q hc hw hq (λ x h. g x (omega arith) (omega arith))
+
   side-none : (c : ℕ) (f g : Option Found) → c < X .n → ((x : Found) → f ≡ some x → Inside c x)
       → sideTried (sidesIn L) c f g ≡ none → Lost
   unfolding sideTried colourFrom
@@ -126,7 +139,7 @@ module _ (L : ColourView) (vs bs : List ℕ) where
       go none b i = absurd (omega (arith, I f refl .state, below-none (X .s) (f .state) b))
       go (some q) b i =
           let s = below-state (X .s) (f .state) q b in
-          targets c (f .node) q h (omega (arith, I f refl .node)) (omega (arith, s .0, s .1)) i
+          trials-none c (f .node) q h (omega (arith, I f refl .node)) (omega (arith, s .0, s .1)) i
   side-none c (some f) (some g) h I e =
       absurd (omega (arith, I f refl .state, below-none (X .s) (f .state) (still-none (below (X .s) (f .state)) e)))
 

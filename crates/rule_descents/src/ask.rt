@@ -13,7 +13,7 @@ ghost use Prim.Native.Nat.{_*_};
 ghost use lib.ListN.{take, drop};
 ghost use Rattle.changes.specs.inner.LastDiffering.{givenDiffering};
 ghost use Rattle.questions.specs.Promises.{RootsDone};
-ghost use Rattle.rule_descents.specs.Promise.{RuleAskDone};
+ghost use Rattle.rule_descents.specs.Promise.{linksKept, RuleAskDone};
 ghost use Rattle.rule_descents.specs.inner.Args.{LeftArgs, RootArgs, LentArgs, answeredFor, answeredOn};
 
 // The roots of the parts of the listed nodes whose label, after superseding, is not the plan's. The others are no change.
@@ -46,9 +46,9 @@ fn answer_roots(
 ) -> RuleDescending
     requires { ⌜ RootArgs n s k (now plan) (now rules) (now «node_table») (now «state_table») (now numbers) (now bytes)
         (now nodes) (now labels) (now roots) ⌝ }
-    ensures { λ r. ⌜ r ≡ answeredFor n s k (now (plan .entry)) (now (rules .entry)) (now («node_table» .entry))
+    ensures { λ r. ⌜ (r ≡ answeredFor n s k (now (plan .entry)) (now (rules .entry)) (now («node_table» .entry))
         (now («state_table» .entry)) (now (numbers .entry)) (now (bytes .entry)) (now (nodes .entry))
-        (now (labels .entry)) (now (roots .entry)) ⌝ }
+        (now (labels .entry)) (now (roots .entry))) × linksKept r ⌝ }
 {
     let m = set_count(s);
     let t = all_by_colours(
@@ -89,9 +89,9 @@ fn answer_lent(
 ) -> RuleDescending
     requires { ⌜ LentArgs (now plan) (now rules) (now «node_table») (now «state_table») (now numbers) (now bytes)
         (now nodes) (now labels) ⌝ }
-    ensures { λ r. ⌜ r ≡ answeredOn (now (plan .entry)) (now (rules .entry)) (now («node_table» .entry))
+    ensures { λ r. ⌜ (r ≡ answeredOn (now (plan .entry)) (now (rules .entry)) (now («node_table» .entry))
         (now («state_table» .entry)) (now (numbers .entry)) (now (bytes .entry)) (now (nodes .entry))
-        (now (labels .entry)) ⌝ }
+        (now (labels .entry))) × linksKept r ⌝ }
 {
     let n = read32(plan, 0);
     let s = read32(rules, 0);

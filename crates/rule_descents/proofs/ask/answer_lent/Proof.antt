@@ -56,9 +56,11 @@ returns c =
     let y = z .before in
     let x = y .before in
     let s = x .before .before .before .before .before .before .before .before .before in
-    let g = s .args in
-    lent-lost (g .plan .now) (g .rules .now) (g .node-table .now) (g .state-table .now) (g .numbers .now) (g .bytes .now)
-    (g .nodes .now) (g .labels .now) (s .pre) (x .read32 .result) (y .read322 .result) (z .read323 .result) (x .read32 .ensures) (y .read322 .ensures) (z .read323 .ensures) (q .roots-left .result) (q .roots-left .ensures) (not-true _ (c .if1 .taken))
+    let g = s .args in (
+      lent-lost (g .plan .now) (g .rules .now) (g .node-table .now) (g .state-table .now) (g .numbers .now) (g .bytes .now)
+          (g .nodes .now) (g .labels .now) (s .pre) (x .read32 .result) (y .read322 .result) (z .read323 .result) (x .read32 .ensures) (y .read322 .ensures) (z .read323 .ensures) (q .roots-left .result) (q .roots-left .ensures) (not-true _ (c .if1 .taken)),
+      tt,
+    )
 
 array-share-prefix-list : tie.Need-array-share-prefix-list
 array-share-prefix-list c =
@@ -104,10 +106,12 @@ returns-2 c =
     let y = z .before in
     let x = y .before in
     let s = x .before .before .before .before .before .before .before .before .before in
-    let g = s .args in
-    lent-answer (g .plan .now) (g .rules .now) (g .node-table .now) (g .state-table .now) (g .numbers .now) (g .bytes .now)
-    (g .nodes .now) (g .labels .now) (s .pre) (x .read32 .result) (y .read322 .result) (z .read323 .result) (x .read32 .ensures) (y .read322 .ensures) (z .read323 .ensures) (q .roots-left .result) (q .roots-left .ensures) (not-false _ (e .if1 .left))
-    (c .answer-roots .result) (c .answer-roots .ensures)
+    let g = s .args in (
+      lent-answer (g .plan .now) (g .rules .now) (g .node-table .now) (g .state-table .now) (g .numbers .now) (g .bytes .now)
+          (g .nodes .now) (g .labels .now) (s .pre) (x .read32 .result) (y .read322 .result) (z .read323 .result) (x .read32 .ensures) (y .read322 .ensures) (z .read323 .ensures) (q .roots-left .result) (q .roots-left .ensures) (not-false _ (e .if1 .left))
+          (c .answer-roots .result) (c .answer-roots .ensures .0),
+      c .answer-roots .ensures .1,
+    )
 
 pub answer-lent-spec : {M : Type 1} → statement M
 answer-lent-spec =

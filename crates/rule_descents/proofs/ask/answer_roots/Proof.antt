@@ -182,10 +182,12 @@ returns c =
     let e = c in
     let t = e .before .before in
     let s = t .before .before .before .before .before .before .before .before .before .before .before .before .before .before .before .before .before .before in
-    let g = s .args in
-    roots-lost (g .n) (g .s) (g .k) (g .plan .now) (g .rules .now) (g .node-table .now) (g .state-table .now) (g .numbers .now)
-    (g .bytes .now) (g .nodes .now) (g .labels .now) (g .roots .now) (s .pre)
-    (t .all-by-colours .result) (t .all-by-colours .ensures) (not-true _ (e .if1 .taken))
+    let g = s .args in (
+      roots-lost (g .n) (g .s) (g .k) (g .plan .now) (g .rules .now) (g .node-table .now) (g .state-table .now) (g .numbers .now)
+          (g .bytes .now) (g .nodes .now) (g .labels .now) (g .roots .now) (s .pre)
+          (t .all-by-colours .result) (t .all-by-colours .ensures) (not-true _ (e .if1 .taken)),
+      tt,
+    )
 
 add-yes : tie.Need-add-yes
 add-yes c =
@@ -265,10 +267,12 @@ returns-2 c =
     let e = c .before in
     let t = e .before .before in
     let s = t .before .before .before .before .before .before .before .before .before .before .before .before .before .before .before .before .before .before in
-    let g = s .args in
-    roots-answer (g .n) (g .s) (g .k) (g .plan .now) (g .rules .now) (g .node-table .now) (g .state-table .now) (g .numbers .now)
-    (g .bytes .now) (g .nodes .now) (g .labels .now) (g .roots .now) (s .pre)
-    (t .all-by-colours .result) (t .all-by-colours .ensures) (not-false _ (e .if1 .left))
+    let g = s .args in (
+      roots-answer (g .n) (g .s) (g .k) (g .plan .now) (g .rules .now) (g .node-table .now) (g .state-table .now) (g .numbers .now)
+          (g .bytes .now) (g .nodes .now) (g .labels .now) (g .roots .now) (s .pre)
+          (t .all-by-colours .result) (t .all-by-colours .ensures) (not-false _ (e .if1 .left)),
+      (t .all-by-colours .ensures .falls, t .all-by-colours .ensures .links),
+    )
 
 pub answer-roots-spec : {M : Type 1} → statement M
 answer-roots-spec =
