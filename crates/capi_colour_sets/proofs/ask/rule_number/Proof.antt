@@ -8,21 +8,6 @@ use Rattle.capi_colour_sets.proofs.ask.rule_number.Reads as reads
 use Rattle.capi_colour_sets.proofs.ask.rule_number.Lts as lts
 use Rattle.capi_numbers.proofs.numbers.bit.Reads as bit-reads
 
-enum-known-answer : tie.Need-enum-known-answer
-enum-known-answer c = search needs
-
-cast-state : tie.Need-cast-state
-cast-state c = search needs
-
-bit-requires : tie.Need-bit-requires
-bit-requires c κs = search needs
-
-enum-known-answer-2 : tie.Need-enum-known-answer-2
-enum-known-answer-2 c = search needs
-
-cast-result : tie.Need-cast-result
-cast-result c = search needs
-
 returns : tie.Need-returns
 returns c = answered _ _ _ _ _ _ _ _ _ _ _ _ (c .before .before .answer .given .1) (c .bit .ensures)
 
@@ -32,11 +17,5 @@ returns-2 c = not-answered _ _ _ _ _ _ _ (c .before .answer2 .given .1)
 pub rule-number-spec : {M : Type 1} → statement M
 rule-number-spec =
     tie.close
-    (tie.spec
-    enum-known-answer
-    cast-state
-    bit-requires
-    enum-known-answer-2
-    cast-result
-    returns
-    returns-2)
+    (tie.spec (λ c. search needs) (λ c. search needs) (λ c κs. search needs) (λ c. search needs) (λ c. search needs)
+    returns returns-2)

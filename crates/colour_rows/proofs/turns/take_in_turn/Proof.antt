@@ -41,9 +41,6 @@ taken i =
 slice-aggregate-place-of : tie.Need-slice-aggregate-place-of Inv-loop μ-loop
 slice-aggregate-place-of c = sym (taken (c .before .before))
 
-place-of-requires : tie.Need-place-of-requires Inv-loop μ-loop
-place-of-requires c κs = search needs
-
 free-from-requires : tie.Need-free-from-requires Inv-loop μ-loop
 free-from-requires c κs =
     let a = c .before .before .before .before in
@@ -73,9 +70,6 @@ cast-lands c =
 
 array-write-lands : tie.Need-array-write-lands Inv-loop μ-loop
 array-write-lands c = small c
-
-add-c : tie.Need-add-c Inv-loop μ-loop
-add-c c = search needs
 
 loop-less : tie.Need-loop-less Inv-loop μ-loop
 loop-less c = omega (arith, c .before .before .before .before .before .loop-test .taken)
@@ -110,20 +104,6 @@ returns c =
 pub take-in-turn-spec : {M : Type 1} → statement M
 take-in-turn-spec =
     tie.close
-    (tie.spec
-    Inv-loop
-    μ-loop
-    loop-holds
-    shared-slice-read-q
-    array-share-prefix-row
-    slice-aggregate-place-of
-    place-of-requires
-    free-from-requires
-    cast-x
-    array-write-row
-    cast-lands
-    array-write-lands
-    add-c
-    loop-less
-    loop-again
-    returns)
+    (tie.spec Inv-loop μ-loop loop-holds shared-slice-read-q array-share-prefix-row slice-aggregate-place-of
+    (λ c κs. search needs) free-from-requires cast-x array-write-row cast-lands array-write-lands (λ c. search needs)
+    loop-less loop-again returns)

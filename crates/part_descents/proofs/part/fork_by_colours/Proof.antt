@@ -17,15 +17,6 @@ use Rattle.part_descents.proofs.part.side_by_colours.Reads as side-by-c
 use Rattle.questions.proofs.part.last_below.Reads as last-below-reads
 use Rattle.tables.proofs.lookups.rule_on.Reads as rule-on-reads
 
-last-below-requires : tie.Need-last-below-requires
-last-below-requires c κs = search needs
-
-sub-last-below : tie.Need-sub-last-below
-sub-last-below c = search needs
-
-last-below-requires-2 : tie.Need-last-below-requires-2
-last-below-requires-2 c κs = search needs
-
 side-by-colours-requires : tie.Need-side-by-colours-requires
 side-by-colours-requires c κs =
     let b = c in
@@ -40,9 +31,6 @@ side-by-colours-requires c κs =
           omega (arith, s .pre .at, s .pre .left, last-covers (g .l) (sizeCell (g .node-table .now) (g .l)) (g .earlier .now) i (sym (b .before .last-below .ensures) ∙ z));
     }
 
-lost-requires : tie.Need-lost-requires
-lost-requires c κs = search needs
-
 returns : tie.Need-returns
 returns c =
     let t = c .before in
@@ -54,9 +42,6 @@ returns c =
     (g .node-table .now) (g .earlier .now) (g .states .now) (g .v) (g .l) (g .a) (b .before .last-below .result)
     (b .last-below2 .result) (s .pre .same) (b .before .last-below .ensures) (b .last-below2 .ensures)
     (x .side-by-colours .result) (x .side-by-colours .ensures) (c .lost .result) (not-true _ (t .if1 .taken)) (c .lost .ensures)
-
-sub-side-by-colours : tie.Need-sub-side-by-colours
-sub-side-by-colours c = search needs
 
 side-by-colours-requires-2 : tie.Need-side-by-colours-requires-2
 side-by-colours-requires-2 c κs =
@@ -73,9 +58,6 @@ side-by-colours-requires-2 c κs =
           omega (arith, s .pre .at, s .pre .left, last-covers (g .v - 1) (sizeCell (g .node-table .now) (g .v - 1)) (g .earlier .now) i (sym (b .last-below2 .ensures) ∙ z));
     }
 
-lost-requires-2 : tie.Need-lost-requires-2
-lost-requires-2 c κs = search needs
-
 returns-2 : tie.Need-returns-2
 returns-2 c =
     let t = c .before in
@@ -90,12 +72,6 @@ returns-2 c =
     (b .last-below2 .result) (s .pre .same) (b .before .last-below .ensures) (b .last-below2 .ensures)
     (x .side-by-colours .result) (x .side-by-colours .ensures) (not-false _ (e1 .if1 .left)) (y .side-by-colours2 .result) (y .side-by-colours2 .ensures)
     (c .lost2 .result) (not-true _ (t .if2 .taken)) (c .lost2 .ensures)
-
-cast-rule-on : tie.Need-cast-rule-on
-cast-rule-on c = search needs
-
-cast-rule-on-2 : tie.Need-cast-rule-on-2
-cast-rule-on-2 c = search needs
 
 rule-on-requires : tie.Need-rule-on-requires
 rule-on-requires c κs =
@@ -113,9 +89,6 @@ rule-on-requires c κs =
       right = y .side-by-colours2 .ensures .bounds .all .state (not-false _ (e2 .if2 .left));
       room = s .pre .inner-room;
     }
-
-lost-requires-3 : tie.Need-lost-requires-3
-lost-requires-3 c κs = search needs
 
 returns-3 : tie.Need-returns-3
 returns-3 c =
@@ -212,23 +185,7 @@ returns-4 c =
 pub fork-by-colours-spec : {M : Type 1} → statement M
 fork-by-colours-spec =
     tie.close
-    (tie.spec
-    last-below-requires
-    sub-last-below
-    last-below-requires-2
-    side-by-colours-requires
-    lost-requires
-    returns
-    sub-side-by-colours
-    side-by-colours-requires-2
-    lost-requires-2
-    returns-2
-    cast-rule-on
-    cast-rule-on-2
-    rule-on-requires
-    lost-requires-3
-    returns-3
-    cast-t23
-    add-t24
-    add-t25
+    (tie.spec (λ c κs. search needs) (λ c. search needs) (λ c κs. search needs) side-by-colours-requires
+    (λ c κs. search needs) returns (λ c. search needs) side-by-colours-requires-2 (λ c κs. search needs) returns-2
+    (λ c. search needs) (λ c. search needs) rule-on-requires (λ c κs. search needs) returns-3 cast-t23 add-t24 add-t25
     returns-4)

@@ -10,23 +10,14 @@ use Rattle.part_descents.proofs.part.leaf_state.Lts as lts
 use Rattle.part_descents.proofs.part.lost.Reads as lost-reads
 use Rattle.part_descents.proofs.part.untried_state.Reads as untried-state-reads
 
-lost-requires : tie.Need-lost-requires
-lost-requires c κs = search needs
-
 returns : tie.Need-returns
 returns c =
     let g = c .before .before .before .args in
     c .lost .ensures ∙ leaf-outside (g .s) (g .k) (g .leaves .now) (g .a) (c .before .if1 .taken)
 
-shared-slice-read-untried-state : tie.Need-shared-slice-read-untried-state
-shared-slice-read-untried-state c = search needs
-
 cast-untried-state : tie.Need-cast-untried-state
 cast-untried-state c =
     omega (arith, c .shared-slice-known2 .given (c .before .before .before .args .a))
-
-untried-state-requires : tie.Need-untried-state-requires
-untried-state-requires c κs = search needs
 
 returns-2 : tie.Need-returns-2
 returns-2 c =
@@ -37,10 +28,4 @@ returns-2 c =
 pub leaf-state-spec : {M : Type 1} → statement M
 leaf-state-spec =
     tie.close
-    (tie.spec
-    lost-requires
-    returns
-    shared-slice-read-untried-state
-    cast-untried-state
-    untried-state-requires
-    returns-2)
+    (tie.spec (λ c κs. search needs) returns (λ c. search needs) cast-untried-state (λ c κs. search needs) returns-2)

@@ -15,15 +15,6 @@ use Rattle.part_descents.proofs.part.leaf_state.Reads as leaf-state-rea
 use Rattle.part_descents.proofs.part.lost.Reads as lost-reads
 use Rattle.questions.proofs.part.label_on.Reads as label-on-reads
 
-label-on-requires : tie.Need-label-on-requires
-label-on-requires c κs = search needs
-
-shared-slice-read-if1 : tie.Need-shared-slice-read-if1
-shared-slice-read-if1 c = search needs
-
-leaf-state-requires : tie.Need-leaf-state-requires
-leaf-state-requires c κs = search needs
-
 returns : tie.Need-returns
 returns c =
     let a = c .before .before .before in
@@ -35,9 +26,6 @@ returns c =
     (c .leaf-state .result) (c .before .if1 .taken) (c .leaf-state .ensures)
     (leaf-few (g .s) (g .k) (g .leaves .now) (a .label-on .result) (c .leaf-state .result) (c .leaf-state .ensures))
 
-lost-requires : tie.Need-lost-requires
-lost-requires c κs = search needs
-
 returns-2 : tie.Need-returns-2
 returns-2 c =
     let a = c .before .before .before .before in
@@ -47,18 +35,6 @@ returns-2 c =
     (g .state-table .now) (g .numbers .now) (g .copies .now)) (g .earlier .now) (g .states .now) (g .nodes .now)
     (g .changes .now) (g .v) (a .label-on .result) (a .label-on .ensures)
     (c .before .before .if1 .left) (c .lost .result) (c .before .if2 .taken) (c .lost .ensures)
-
-sub-size-at : tie.Need-sub-size-at
-sub-size-at c = search needs
-
-size-at-requires : tie.Need-size-at-requires
-size-at-requires c κs = search needs
-
-sub-if3 : tie.Need-sub-if3
-sub-if3 c = search needs
-
-lost-requires-2 : tie.Need-lost-requires-2
-lost-requires-2 c κs = search needs
 
 returns-3 : tie.Need-returns-3
 returns-3 c =
@@ -73,15 +49,6 @@ returns-3 c =
     (g .state-table .now) (g .numbers .now) (g .copies .now)) (g .earlier .now) (g .states .now) (g .nodes .now)
     (g .changes .now) (g .v) (a .label-on .result) (a .label-on .ensures)
     (e1 .if1 .left) (e2 .if2 .left) (c .lost2 .result) (omega (arith, t .if3 .taken, z .size-at .ensures)) (c .lost2 .ensures)
-
-sub-fork-by-colours : tie.Need-sub-fork-by-colours
-sub-fork-by-colours c = search needs
-
-sub-fork-by-colours-2 : tie.Need-sub-fork-by-colours-2
-sub-fork-by-colours-2 c = search needs
-
-fork-by-colours-requires : tie.Need-fork-by-colours-requires
-fork-by-colours-requires c κs = search needs
 
 returns-4 : tie.Need-returns-4
 returns-4 c =
@@ -101,19 +68,6 @@ returns-4 c =
 pub part-by-colours-spec : {M : Type 1} → statement M
 part-by-colours-spec =
     tie.close
-    (tie.spec
-    label-on-requires
-    shared-slice-read-if1
-    leaf-state-requires
-    returns
-    lost-requires
-    returns-2
-    sub-size-at
-    size-at-requires
-    sub-if3
-    lost-requires-2
-    returns-3
-    sub-fork-by-colours
-    sub-fork-by-colours-2
-    fork-by-colours-requires
-    returns-4)
+    (tie.spec (λ c κs. search needs) (λ c. search needs) (λ c κs. search needs) returns (λ c κs. search needs)
+    returns-2 (λ c. search needs) (λ c κs. search needs) (λ c. search needs) (λ c κs. search needs) returns-3
+    (λ c. search needs) (λ c. search needs) (λ c κs. search needs) returns-4)

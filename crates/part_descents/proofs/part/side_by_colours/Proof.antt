@@ -25,9 +25,6 @@ run-on-requires c κs =
       at = state-place (g .n) (g .s) (g .c) (length (g .state-table .now)) (s .pre .at) (s .pre .reads .state-table-room);
     }
 
-untried-state-requires : tie.Need-untried-state-requires
-untried-state-requires c κs = search needs
-
 returns : tie.Need-returns
 returns c =
     let r = c .before in
@@ -36,18 +33,9 @@ returns c =
     (g .earlier .now) (g .states .now) (g .own) (g .other) (r .run-on .result) (c .untried-state .result)
     (r .before .if1 .taken) (r .run-on .ensures) (c .untried-state .ensures)
 
-sub-q : tie.Need-sub-q
-sub-q c = search needs
-
-shared-slice-read-q : tie.Need-shared-slice-read-q
-shared-slice-read-q c = search needs
-
 cast-untried-state : tie.Need-cast-untried-state
 cast-untried-state c =
     omega (arith, c .before .shared-slice-known6 .given (c .before .before .before .before .before .before .before .before .args .own - 1))
-
-untried-state-requires-2 : tie.Need-untried-state-requires-2
-untried-state-requires-2 c κs = search needs
 
 returns-2 : tie.Need-returns-2
 returns-2 c =
@@ -62,9 +50,6 @@ cast-if3 : tie.Need-cast-if3
 cast-if3 c =
     omega (arith, c .before .shared-slice-known6 .given (c .before .before .before .before .before .before .before .before .args .own - 1))
 
-lost-requires : tie.Need-lost-requires
-lost-requires c κs = search needs
-
 returns-3 : tie.Need-returns-3
 returns-3 c =
     let t = c .before in
@@ -74,15 +59,6 @@ returns-3 c =
     side-outside (sidesOf (g .n) (g .s) (g .m) (g .state-table .now) (g .numbers .now) (g .copies .now)) (g .c)
     (g .earlier .now) (g .states .now) (g .own) (g .other) (e .if1 .left) (e2 .if2 .left)
     (c .lost .result) (t .if3 .taken) (c .lost .ensures)
-
-sub-try-targets : tie.Need-sub-try-targets
-sub-try-targets c = search needs
-
-mul-try-targets : tie.Need-mul-try-targets
-mul-try-targets c = search needs
-
-shared-slice-read-try-targets : tie.Need-shared-slice-read-try-targets
-shared-slice-read-try-targets c = search needs
 
 cast-try-targets : tie.Need-cast-try-targets
 cast-try-targets c =
@@ -122,21 +98,6 @@ returns-4 c =
 pub side-by-colours-spec : {M : Type 1} → statement M
 side-by-colours-spec =
     tie.close
-    (tie.spec
-    run-on-requires
-    untried-state-requires
-    returns
-    sub-q
-    shared-slice-read-q
-    cast-untried-state
-    untried-state-requires-2
-    returns-2
-    cast-if3
-    lost-requires
-    returns-3
-    sub-try-targets
-    mul-try-targets
-    shared-slice-read-try-targets
-    cast-try-targets
-    try-targets-requires
-    returns-4)
+    (tie.spec run-on-requires (λ c κs. search needs) returns (λ c. search needs) (λ c. search needs)
+    cast-untried-state (λ c κs. search needs) returns-2 cast-if3 (λ c κs. search needs) returns-3 (λ c. search needs)
+    (λ c. search needs) (λ c. search needs) cast-try-targets try-targets-requires returns-4)

@@ -9,20 +9,14 @@ use Rattle.part_descents.proofs.part.untried_state.Reads as reads
 use Rattle.part_descents.proofs.part.untried_state.Lts as lts
 use Rattle.part_descents.proofs.part.lost.Reads as lost-reads
 
-lost-requires : tie.Need-lost-requires
-lost-requires c κs = search needs
-
 returns : tie.Need-returns
 returns c =
     let g = c .before .before .args in
     c .lost .ensures ∙ untried-no (g .s) (g .q) (c .before .if1 .taken)
-
-cast-t4 : tie.Need-cast-t4
-cast-t4 c = search needs
 
 returns-2 : tie.Need-returns-2
 returns-2 c =
     untried-yes (c .before .args .s) (c .before .args .q) (c .if1 .left)
 
 pub untried-state-spec : {M : Type 1} → statement M
-untried-state-spec = tie.close (tie.spec lost-requires returns cast-t4 returns-2)
+untried-state-spec = tie.close (tie.spec (λ c κs. search needs) returns (λ c. search needs) returns-2)

@@ -26,9 +26,6 @@ accepts c =
     let g = c .before .before .before .before .before .before .args in
     accepted (g .plan .now) (g .rules .now) (length (g .numbers .now)) (length (g .bytes .now)) (passed c)
 
-check-rule-colours-requires : tie.Need-check-rule-colours-requires
-check-rule-colours-requires c κs = search needs
-
 returns : tie.Need-returns
 returns c =
     let g = c .before .before .before .before .before .before .args in
@@ -53,12 +50,6 @@ write-rule-colours-requires c κs =
     (c .before .before .before .before .read32 .ensures) (c .before .before .before .read322 .ensures)
     (c .before .before .read323 .ensures)
 
-same-length : tie.Need-same-length
-same-length c = search needs
-
-same-length-2 : tie.Need-same-length-2
-same-length-2 c = search needs
-
 returns-2 : tie.Need-returns-2
 returns-2 c =
     let w = c .before .before .before .before in
@@ -72,13 +63,5 @@ returns-2 c =
 pub build-rule-colours-spec : {M : Type 1} → statement M
 build-rule-colours-spec =
     tie.close
-    (tie.spec
-    check-rule-colours-requires
-    returns
-    read32-requires
-    read32-requires-2
-    read32-requires-3
-    write-rule-colours-requires
-    same-length
-    same-length-2
-    returns-2)
+    (tie.spec (λ c κs. search needs) returns read32-requires read32-requires-2 read32-requires-3
+    write-rule-colours-requires (λ c. search needs) (λ c. search needs) returns-2)

@@ -53,17 +53,11 @@ below-is x =
     x .all-below .ensures
     ∙ ap (allBelow (h .before .read323 .result)) (labels-part p (n .read32 .result) (n .read32 .ensures))
 
-check-plan-requires : tie.Need-check-plan-requires
-check-plan-requires c κs = search needs
-
 returns : tie.Need-returns
 returns c =
     let a = c .before .before .before .before .args in
     plan-refused (a .plan .now) (a .rules .now) (a .numbers) (a .bytes) _ (c .before .check-plan .ensures)
     (c .if1 .taken)
-
-check-rule-bytes-requires : tie.Need-check-rule-bytes-requires
-check-rule-bytes-requires c κs = search needs
 
 returns-2 : tie.Need-returns-2
 returns-2 c =
@@ -94,12 +88,6 @@ returns-3 c =
 add-all-below : tie.Need-add-all-below
 add-all-below c = omega (arith, nodes-few c)
 
-sub-all-below : tie.Need-sub-all-below
-sub-all-below c = search needs
-
-part-all-below-start : tie.Need-part-all-below-start
-part-all-below-start c = search needs
-
 part-all-below-end : tie.Need-part-all-below-end
 part-all-below-end c =
     omega (arith, plan-is (c .before .before .before .before) .exact, c .before .before .before .read32 .ensures)
@@ -108,9 +96,6 @@ cast-all-below : tie.Need-cast-all-below
 cast-all-below c =
     let k = c .before .before in
     omega (arith, table-is (k .before .before .before) .labels-most, k .read323 .ensures)
-
-all-below-requires : tie.Need-all-below-requires
-all-below-requires c κs = search needs
 
 returns-4 : tie.Need-returns-4
 returns-4 c =
@@ -158,22 +143,6 @@ returns-6 c =
 pub check-rule-colours-spec : {M : Type 1} → statement M
 check-rule-colours-spec =
     tie.close
-    (tie.spec
-    check-plan-requires
-    returns
-    check-rule-bytes-requires
-    returns-2
-    read32-requires
-    read32-requires-2
-    read32-requires-3
-    returns-3
-    add-all-below
-    sub-all-below
-    part-all-below-start
-    part-all-below-end
-    cast-all-below
-    all-below-requires
-    returns-4
-    set-colours-fit-requires
-    returns-5
-    returns-6)
+    (tie.spec (λ c κs. search needs) returns (λ c κs. search needs) returns-2 read32-requires read32-requires-2
+    read32-requires-3 returns-3 add-all-below (λ c. search needs) (λ c. search needs) part-all-below-end
+    cast-all-below (λ c κs. search needs) returns-4 set-colours-fit-requires returns-5 returns-6)

@@ -8,12 +8,6 @@ use Rattle.rule_colours.proofs.build.set_colours_fit.Reads as reads
 use Rattle.rule_colours.proofs.build.set_colours_fit.Lts as lts
 use Rattle.set_states.proofs.sets.set_count.Reads as set-count-reads
 
-set-count-requires : tie.Need-set-count-requires
-set-count-requires c κs = search needs
-
-mul-if1 : tie.Need-mul-if1
-mul-if1 c = search needs
-
 mul-if1-2 : tie.Need-mul-if1-2
 mul-if1-2 c =
     let s = c .before in
@@ -29,9 +23,6 @@ returns c =
     let a = k .before .args in
     fit-numbers (a .n) (a .s) (a .numbers) (a .bytes) (k .set-count .result) (k .set-count .ensures .0) (c .if1 .taken)
 
-add-result : tie.Need-add-result
-add-result c = search needs
-
 mul-result : tie.Need-mul-result
 mul-result c =
     let k = c .before in
@@ -41,9 +32,6 @@ mul-result c =
       products (s .args .n) (s .args .s) (k .set-count .result) (s .pre .nodes) (s .pre .states)
           (k .set-count .ensures .1) .1,
     )
-
-mul-result-2 : tie.Need-mul-result-2
-mul-result-2 c = search needs
 
 add-result-2 : tie.Need-add-result-2
 add-result-2 c =
@@ -62,13 +50,5 @@ returns-2 c =
 pub set-colours-fit-spec : {M : Type 1} → statement M
 set-colours-fit-spec =
     tie.close
-    (tie.spec
-    set-count-requires
-    mul-if1
-    mul-if1-2
-    returns
-    add-result
-    mul-result
-    mul-result-2
-    add-result-2
-    returns-2)
+    (tie.spec (λ c κs. search needs) (λ c. search needs) mul-if1-2 returns (λ c. search needs) mul-result
+    (λ c. search needs) add-result-2 returns-2)

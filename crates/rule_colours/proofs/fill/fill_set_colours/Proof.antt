@@ -11,15 +11,6 @@ use Rattle.colour_forests.proofs.all_colours.write_colours.Reads as write-colou
 use Rattle.set_states.proofs.sets.set_count.Reads as set-count-reads
 use Rattle.set_states.proofs.sets.write_sets.Reads as write-sets-reads
 
-set-count-requires : tie.Need-set-count-requires
-set-count-requires c κs = search needs
-
-add-base : tie.Need-add-base
-add-base c = search needs
-
-mul-base : tie.Need-mul-base
-mul-base c = search needs
-
 write-sets-requires : tie.Need-write-sets-requires
 write-sets-requires c κs =
     let k = c .before .before in
@@ -37,12 +28,6 @@ write-colours-requires c κs =
     (w .write-sets .last .1 .1 .1 .1 .1 .1 .1 .0) (w .write-sets .last .1 .1 .1 .1 .1 .1 .0) (w .write-sets .ensures)
     (w .write-sets .kept .1 .1 .1 .1 .1 .1 .0)
 
-same-length : tie.Need-same-length
-same-length c = search needs
-
-same-length-2 : tie.Need-same-length-2
-same-length-2 c = search needs
-
 returns : tie.Need-returns
 returns c =
     let d = c .before .before in
@@ -57,12 +42,5 @@ returns c =
 pub fill-set-colours-spec : {M : Type 1} → statement M
 fill-set-colours-spec =
     tie.close
-    (tie.spec
-    set-count-requires
-    add-base
-    mul-base
-    write-sets-requires
-    write-colours-requires
-    same-length
-    same-length-2
-    returns)
+    (tie.spec (λ c κs. search needs) (λ c. search needs) (λ c. search needs) write-sets-requires
+    write-colours-requires (λ c. search needs) (λ c. search needs) returns)

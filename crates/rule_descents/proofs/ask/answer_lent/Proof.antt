@@ -116,13 +116,5 @@ returns-2 c =
 pub answer-lent-spec : {M : Type 1} → statement M
 answer-lent-spec =
     tie.close
-    (tie.spec
-    read32-requires
-    read32-requires-2
-    read32-requires-3
-    roots-left-requires
-    returns
-    array-share-prefix-list
-    slice-aggregate-answer-roots
-    answer-roots-requires
-    returns-2)
+    (tie.spec read32-requires read32-requires-2 read32-requires-3 roots-left-requires returns array-share-prefix-list
+    slice-aggregate-answer-roots answer-roots-requires returns-2)

@@ -18,9 +18,6 @@ runs : (s : tie.Start) → let g = s .args in
     (g .bytes .now) (g .nodes .now) (g .labels .now) (g .roots .now) (s .pre)
 runs s = runs-by _ _ _ _ _ _ _ _ _ _ _ _ (s .pre)
 
-set-count-requires : tie.Need-set-count-requires
-set-count-requires c κs = search needs
-
 add-all-by-colours : tie.Need-add-all-by-colours
 add-all-by-colours c =
     let s = c .before .before .before .before .before .before .before .before .before .before in
@@ -277,46 +274,12 @@ returns-2 c =
 pub answer-roots-spec : {M : Type 1} → statement M
 answer-roots-spec =
     tie.close
-    (tie.spec
-    set-count-requires
-    add-all-by-colours
-    sub-all-by-colours
-    part-all-by-colours-start
-    part-all-by-colours-end
-    add-all-by-colours-2
-    sub-all-by-colours-2
-    part-all-by-colours-start-2
-    part-all-by-colours-end-2
-    add-all-by-colours-3
-    sub-all-by-colours-3
-    part-all-by-colours-start-3
-    part-all-by-colours-end-3
-    add-all-by-colours-4
-    add-all-by-colours-5
-    mul-all-by-colours
-    mul-all-by-colours-2
-    add-all-by-colours-6
-    sub-all-by-colours-4
-    part-all-by-colours-start-4
-    part-all-by-colours-end-4
-    mul-all-by-colours-3
-    slice-aggregate-all-by-colours
-    add-all-by-colours-7
-    mul-all-by-colours-4
-    slice-aggregate-all-by-colours-2
-    add-all-by-colours-8
-    mul-all-by-colours-5
-    sub-all-by-colours-5
-    part-all-by-colours-start-5
-    part-all-by-colours-end-5
-    all-by-colours-requires
-    returns
-    add-yes
-    mul-yes
-    mul-yes-2
-    add-yes-2
-    cast-yes
-    add-yes-3
-    shared-slice-read-yes
-    cast-t57
-    returns-2)
+    (tie.spec (λ c κs. search needs) add-all-by-colours sub-all-by-colours part-all-by-colours-start
+    part-all-by-colours-end add-all-by-colours-2 sub-all-by-colours-2 part-all-by-colours-start-2
+    part-all-by-colours-end-2 add-all-by-colours-3 sub-all-by-colours-3 part-all-by-colours-start-3
+    part-all-by-colours-end-3 add-all-by-colours-4 add-all-by-colours-5 mul-all-by-colours mul-all-by-colours-2
+    add-all-by-colours-6 sub-all-by-colours-4 part-all-by-colours-start-4 part-all-by-colours-end-4
+    mul-all-by-colours-3 slice-aggregate-all-by-colours add-all-by-colours-7 mul-all-by-colours-4
+    slice-aggregate-all-by-colours-2 add-all-by-colours-8 mul-all-by-colours-5 sub-all-by-colours-5
+    part-all-by-colours-start-5 part-all-by-colours-end-5 all-by-colours-requires returns add-yes mul-yes mul-yes-2
+    add-yes-2 cast-yes add-yes-3 shared-slice-read-yes cast-t57 returns-2)

@@ -11,9 +11,6 @@ use Rattle.rule_descents.proofs.ask.ask_rule_colours.Lts as lts
 use Rattle.rule_descents.proofs.ask.answer_lent.Reads as answer-lent-reads
 use Rattle.rule_descents.proofs.checks.check_asked.Reads as check-asked-reads
 
-check-asked-requires : tie.Need-check-asked-requires
-check-asked-requires c κs = search needs
-
 returns : tie.Need-returns
 returns c =
     let g = c .before .before .before .before .before .before .before .before .before .before .args in
@@ -39,4 +36,4 @@ returns-2 c =
 
 pub ask-rule-colours-spec : {M : Type 1} → statement M
 ask-rule-colours-spec =
-    tie.close (tie.spec check-asked-requires returns answer-lent-requires returns-2)
+    tie.close (tie.spec (λ c κs. search needs) returns answer-lent-requires returns-2)

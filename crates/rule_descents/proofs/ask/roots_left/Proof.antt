@@ -32,24 +32,6 @@ handed n plan b vs bs r R D F =
     (left-taken (take (12 + n - 12) (drop 12 plan)) vs bs r D
     ∙ ap (λ (ls : List ℕ). givenDiffering ls vs bs) (cut n plan)) F
 
-add-differing : tie.Need-add-differing
-add-differing c = search needs
-
-sub-differing : tie.Need-sub-differing
-sub-differing c = search needs
-
-part-differing-start : tie.Need-part-differing-start
-part-differing-start c = search needs
-
-part-differing-end : tie.Need-part-differing-end
-part-differing-end c = search needs
-
-differing-requires : tie.Need-differing-requires
-differing-requires c κs = search needs
-
-mul-roots : tie.Need-mul-roots
-mul-roots c = search needs
-
 slice-aggregate-roots : tie.Need-slice-aggregate-roots
 slice-aggregate-roots c =
     let a = c .before .before .before .before .before .before .before .before in
@@ -63,9 +45,6 @@ slice-aggregate-roots-2 c =
     let r = c .before .before .before .differing in
     sym (length-take-le (r .result .count) (r .result .nodes) (left-wide _ _ _ _ (r .ensures)))
 
-roots-requires : tie.Need-roots-requires
-roots-requires c κs = search needs
-
 returns : tie.Need-returns
 returns c =
     let a = c .before .before .before .before .before .before .before .before .before .before .args in
@@ -76,15 +55,6 @@ returns c =
 pub roots-left-spec : {M : Type 1} → statement M
 roots-left-spec =
     tie.close
-    (tie.spec
-    add-differing
-    sub-differing
-    part-differing-start
-    part-differing-end
-    differing-requires
-    mul-roots
-    slice-aggregate-roots
-    array-share-prefix-kept
-    slice-aggregate-roots-2
-    roots-requires
+    (tie.spec (λ c. search needs) (λ c. search needs) (λ c. search needs) (λ c. search needs) (λ c κs. search needs)
+    (λ c. search needs) slice-aggregate-roots array-share-prefix-kept slice-aggregate-roots-2 (λ c κs. search needs)
     returns)

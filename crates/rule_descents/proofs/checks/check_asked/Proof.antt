@@ -23,9 +23,6 @@ heads : (c : tie.Else1) → let g = c .before .before .before .before .before .b
     Headers 20 (g .plan .now) (g .rules .now)
 heads c = fits-are _ _ _ _ _ _ (fits c) .headed .headers
 
-tables-fit-requires : tie.Need-tables-fit-requires
-tables-fit-requires c κs = search needs
-
 returns : tie.Need-returns
 returns c =
     let g = c .before .before .before .before .before .before .args in
@@ -53,9 +50,6 @@ returns-2 c =
     let g = e .before .before .before .before .before .before .args in
     no-27 (g .plan .now) (g .rules .now) (g .node-table) (g .state-table) (g .numbers) (g .bytes) (g .nodes .now) (g .labels .now) (fits e) (y .read322 .result) (y .read322 .ensures) (c .if2 .taken)
 
-check-list-requires : tie.Need-check-list-requires
-check-list-requires c κs = search needs
-
 returns-3 : tie.Need-returns-3
 returns-3 c =
     let z = c .before .before in
@@ -70,12 +64,5 @@ returns-3 c =
 pub check-asked-spec : {M : Type 1} → statement M
 check-asked-spec =
     tie.close
-    (tie.spec
-    tables-fit-requires
-    returns
-    read32-requires
-    read32-requires-2
-    read32-requires-3
-    returns-2
-    check-list-requires
-    returns-3)
+    (tie.spec (λ c κs. search needs) returns read32-requires read32-requires-2 read32-requires-3 returns-2
+    (λ c κs. search needs) returns-3)

@@ -23,9 +23,6 @@ fits c = sym (c .before .headers-fit .ensures) ∙ not-false _ (c .if1 .left)
 heads : (c : tie.Else1) → let g = c .before .before .before .before .args in Headers 20 (g .plan .now) (g .rules .now)
 heads c = headers-are 20 _ _ (fits c)
 
-headers-fit-requires : tie.Need-headers-fit-requires
-headers-fit-requires c κs = search needs
-
 returns : tie.Need-returns
 returns c =
     let g = c .before .before .before .before .args in
@@ -104,14 +101,5 @@ returns-4 c =
 pub tables-fit-spec : {M : Type 1} → statement M
 tables-fit-spec =
     tie.close
-    (tie.spec
-    headers-fit-requires
-    returns
-    read32-requires
-    read32-requires-2
-    read32-requires-3
-    rule-buffers-fit-requires
-    returns-2
-    returns-3
-    set-colours-fit-requires
-    returns-4)
+    (tie.spec (λ c κs. search needs) returns read32-requires read32-requires-2 read32-requires-3
+    rule-buffers-fit-requires returns-2 returns-3 set-colours-fit-requires returns-4)

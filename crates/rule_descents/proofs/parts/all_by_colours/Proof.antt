@@ -77,9 +77,6 @@ part-by-colours-requires c κs =
     next-args (g .n) (g .s) (g .k) (g .m) (g .labels .now) (g .kinds .now) (g .leaves .now) (g .inner .now) (g .node-table .now)
     (g .state-table .now) (g .numbers .now) (g .copies .now) (g .nodes .now) (g .changes .now) (g .roots .now) (o .states) (o .last) (o .drops) (o .links) (o .i) (o .inv) (e .loop-test .taken)
 
-lost-requires : tie.Need-lost-requires Inv-loop μ-loop
-lost-requires c κs = search needs
-
 returns : tie.Need-returns Inv-loop μ-loop
 returns c =
     let r = c .before .before .before in
@@ -158,23 +155,7 @@ returns-2 c =
 pub all-by-colours-spec : {M : Type 1} → statement M
 all-by-colours-spec =
     tie.close
-    (tie.spec
-    Inv-loop
-    μ-loop
-    loop-holds
-    slice-aggregate-part-by-colours
-    array-share-prefix-states
-    slice-aggregate-part-by-colours-2
-    mul-part-by-colours
-    shared-slice-read-part-by-colours
-    cast-part-by-colours
-    part-by-colours-requires
-    lost-requires
-    returns
-    array-write-states
-    add-drops
-    add-links
-    add-i
-    loop-less
-    loop-again
-    returns-2)
+    (tie.spec Inv-loop μ-loop loop-holds slice-aggregate-part-by-colours array-share-prefix-states
+    slice-aggregate-part-by-colours-2 mul-part-by-colours shared-slice-read-part-by-colours cast-part-by-colours
+    part-by-colours-requires (λ c κs. search needs) returns array-write-states add-drops add-links add-i loop-less
+    loop-again returns-2)

@@ -10,9 +10,6 @@ use Rattle.set_states.proofs.sets.set_count.Tie as tie
 use Rattle.set_states.proofs.sets.set_count.Reads as reads
 use Rattle.set_states.proofs.sets.set_count.Lts as lts
 
-shl-result : tie.Need-shl-result
-shl-result c = search needs
-
 returns : tie.Need-returns
 returns c =
     let s = c .args .s in
@@ -22,4 +19,4 @@ returns c =
     (e, omega arith)
 
 pub set-count-spec : {M : Type 1} → statement M
-set-count-spec = tie.close (tie.spec shl-result returns)
+set-count-spec = tie.close (tie.spec (λ c. search needs) returns)

@@ -83,9 +83,6 @@ loop-holds c =
           (s .args .bytes .now) (s .args .numbers .now) (s .pre) (length (s .args .labels .now)) refl,
     )
 
-sub-v : tie.Need-sub-v Inv-loop μ-loop
-sub-v c = search needs
-
 row-above-requires : tie.Need-row-above-requires Inv-loop μ-loop
 row-above-requires c κs = above (c .before .before)
 
@@ -96,9 +93,6 @@ put-copy-requires : tie.Need-put-copy-requires Inv-loop μ-loop
 put-copy-requires c κs =
     let d = c .before .before in
     place (d .before .before .before) (d .led-down .result) (d .led-down .ensures)
-
-loop-less : tie.Need-loop-less Inv-loop μ-loop
-loop-less c = search needs
 
 loop-again : tie.Need-loop-again Inv-loop μ-loop
 loop-again c =
@@ -121,12 +115,6 @@ loop-again c =
           (p .put-copy .ensures),
     )
 
-same-length : tie.Need-same-length Inv-loop μ-loop
-same-length c = search needs
-
-same-length-2 : tie.Need-same-length-2 Inv-loop μ-loop
-same-length-2 c = search needs
-
 returns : tie.Need-returns Inv-loop μ-loop
 returns c =
     let a = c .before in
@@ -139,16 +127,5 @@ returns c =
 pub write-sets-spec : {M : Type 1} → statement M
 write-sets-spec =
     tie.close
-    (tie.spec
-    Inv-loop
-    μ-loop
-    loop-holds
-    sub-v
-    row-above-requires
-    led-down-requires
-    put-copy-requires
-    loop-less
-    loop-again
-    same-length
-    same-length-2
-    returns)
+    (tie.spec Inv-loop μ-loop loop-holds (λ c. search needs) row-above-requires led-down-requires put-copy-requires
+    (λ c. search needs) loop-again (λ c. search needs) (λ c. search needs) returns)

@@ -8,14 +8,8 @@ use Rattle.targets.proofs.trials.single.Tie as tie
 use Rattle.targets.proofs.trials.single.Reads as reads
 use Rattle.targets.proofs.trials.single.Lts as lts
 
-cast-result : tie.Need-cast-result
-cast-result c = search needs
-
-shl-result : tie.Need-shl-result
-shl-result c = search needs
-
 returns : tie.Need-returns
 returns c = rw one-mul (mod-eq-of-lt (omega (arith, pow-lt {i = c .args .x} {j = 8} (c .pre))))
 
 pub single-spec : {M : Type 1} → statement M
-single-spec = tie.close (tie.spec cast-result shl-result returns)
+single-spec = tie.close (tie.spec (λ c. search needs) (λ c. search needs) returns)

@@ -38,20 +38,8 @@ add-place-of : tie.Need-add-place-of
 add-place-of c =
     omega (arith, product (c .before .before) (c .before .before .args .c) (c .before .before .pre .all .upper), c .before .before .pre .all .few)
 
-sub-place-of : tie.Need-sub-place-of
-sub-place-of c = search needs
-
-part-place-of-start : tie.Need-part-place-of-start
-part-place-of-start c = search needs
-
 part-place-of-end : tie.Need-part-place-of-end
 part-place-of-end c = inside (c .before .before) (c .before .before .args .c) (c .before .before .pre .all .upper)
-
-single-requires : tie.Need-single-requires
-single-requires c κs = search needs
-
-place-of-requires : tie.Need-place-of-requires
-place-of-requires c κs = search needs
 
 returns : tie.Need-returns
 returns c =
@@ -113,9 +101,6 @@ shared-slice-read-set c =
     let s = c .before .before .before .before .before .before .before .before .before .before in
     omega (arith, inside s (s .args .w) (s .pre .all .lower), low (c .before))
 
-bit-of-requires : tie.Need-bit-of-requires
-bit-of-requires c κs = search needs
-
 returns-3 : tie.Need-returns-3
 returns-3 c =
     let e2 = c .before .before in
@@ -133,20 +118,6 @@ returns-3 c =
 pub try-target-spec : {M : Type 1} → statement M
 try-target-spec =
     tie.close
-    (tie.spec
-    mul-place-of
-    mul-place-of-2
-    add-place-of
-    sub-place-of
-    part-place-of-start
-    part-place-of-end
-    single-requires
-    place-of-requires
-    returns
-    descend-from-requires
-    returns-2
-    mul-set
-    add-set
-    shared-slice-read-set
-    bit-of-requires
-    returns-3)
+    (tie.spec mul-place-of mul-place-of-2 add-place-of (λ c. search needs) (λ c. search needs) part-place-of-end
+    (λ c κs. search needs) (λ c κs. search needs) returns descend-from-requires returns-2 mul-set add-set
+    shared-slice-read-set (λ c κs. search needs) returns-3)

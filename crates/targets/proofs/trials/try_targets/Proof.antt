@@ -137,17 +137,5 @@ returns-3 c =
 pub try-targets-spec : {M : Type 1} → statement M
 try-targets-spec =
     tie.close
-    (tie.spec
-    Inv-loop
-    μ-loop
-    loop-holds
-    try-target-requires
-    returns
-    add-drops
-    add-links
-    cast-t14
-    returns-2
-    add-x
-    loop-less
-    loop-again
-    returns-3)
+    (tie.spec Inv-loop μ-loop loop-holds try-target-requires returns add-drops add-links cast-t14 returns-2 add-x
+    loop-less loop-again returns-3)
