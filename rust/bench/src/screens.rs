@@ -7,6 +7,7 @@ use crate::sessions::One;
 use crate::table::Single;
 use compare::inputs::Case;
 use compare::random::Random;
+use std::cell::RefCell;
 use whatif::sizes::SCREENS;
 use whatif::{Progress, Screens, Session};
 
@@ -88,8 +89,9 @@ fn load_of_eight(one: &One, node_table: &mut [u16], state_table: &mut [u8]) {
     Screens::new().load(&one.case.plan, &one.case.rules, node_table, state_table).expect("accepted");
 }
 
-/// Rounds of eight questions in a turn.
+/// Rounds of eight questions in a turn, and Loads in one.
 const ROUNDS: usize = 16;
+const LOADED: usize = 4;
 
 fn deal_times(shape: &str, n: usize, m: usize) -> Pair {
     let random = &mut Random::new(9);
@@ -105,9 +107,13 @@ fn deal_times(shape: &str, n: usize, m: usize) -> Pair {
 
 fn load_times(shape: &str, n: usize, s: usize) -> Pair {
     let one = plan(shape, n, s, &mut Random::new(9));
-    let buffers = || (one.node_table.clone(), one.state_table.clone());
-    let (mut mine, mut other) = (buffers(), buffers());
-    by_turns(1, || load_of_eight(&one, &mut mine.0, &mut mine.1), || load(&one, &mut other.0, &mut other.1))
+    // the same buffers for both
+    let tables = RefCell::new((one.node_table.clone(), one.state_table.clone()));
+    let with_tables = |load: fn(&One, &mut [u16], &mut [u8])| {
+        let (node_table, state_table) = &mut *tables.borrow_mut();
+        (0..LOADED).for_each(|_| load(&one, node_table, state_table));
+    };
+    by_turns(LOADED, || with_tables(load_of_eight), || with_tables(load))
 }
 
 /// Those whose work has this text in its name, each handed on when it is measured.
@@ -124,8 +130,8 @@ pub fn singles(wanted: &str, keep: &mut dyn FnMut(Single)) {
     }
 }
 
-/// Nothing but calls of one kind, and what must be before them: for bench/instructions. Two kinds can't be counted in one
-/// run, where one calls the other.
+/// Nothing but calls of one kind, and what must be before them: for bench/instructions. Two kinds can't be counted in
+/// one run, where one calls the other.
 pub fn calls(kind: &str, shape: &str, [n, s, m]: [usize; 3]) -> Option<()> {
     let random = &mut Random::new(4);
     let one = plan(shape, n, s, random);

@@ -75,4 +75,6 @@ fn the_page() {
         let shown: Vec<String> = told.lines().map(|line| format!("    {}", line).trim_end().to_string()).collect();
         assert!(page.contains(&shown.join("\n")), "{:?}", shown);
     }
+    let dealt: Vec<String> = include_str!("stored/screens").lines().map(|line| format!("    {}", line)).collect();
+    assert!(page.contains(&dealt[2..8].join("\n")), "{:?}", &dealt[2..8]);
 }
