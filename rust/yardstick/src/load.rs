@@ -120,9 +120,9 @@ fn down<const S: usize>(
     while end > 0 {
         let start = (end - 1) / BLOCK * BLOCK;
         let mut count = 0;
-        for v in start..end {
+        for (v, &kind) in (start..).zip(&kinds[start..end]) {
             list[count % BLOCK] = v as u16;
-            count += kinds[v] as usize;
+            count += kind as usize;
         }
         let (mut nears, mut fars) = (0, 0);
         for &v in list[..count].iter().rev() {
