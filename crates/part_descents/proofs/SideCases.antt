@@ -67,7 +67,8 @@ module _ (Y : Sides) (c : ℕ) (es qs : List ℕ) (own other : ℕ) where
       side-outside r l e =
           still-side r
           (e
-          ∙ ap (λ (o : Option ℕ). trialOf (andThen o (λ q. tryFrom (Y .table) (Y .copies) c (getD es (own - 1) 0) q (Y .s) 0)))
+          ∙ ap (λ (o : Option ℕ). trialOf (andThen o (λ q. tryFrom (Y .table) (Y .copies) c (getD es (own - 1) 0) q (Y
+          .s) 0)))
           (sym (below-no (Y .s) (getD qs (own - 1) 0) l))
           ∙ alone)
           (none-few (Y .s) r e)
@@ -78,7 +79,8 @@ module _ (Y : Sides) (c : ℕ) (es qs : List ℕ) (own other : ℕ) where
       unfolding colourFrom
       side-found r few l D = record {
         result = D .result
-            ∙ ap (λ (o : Option ℕ). trialOf (andThen o (λ q. tryFrom (Y .table) (Y .copies) c (getD es (own - 1) 0) q (Y .s) 0)))
+            ∙ ap (λ (o : Option ℕ). trialOf (andThen o (λ q. tryFrom (Y .table) (Y .copies) c (getD es (own - 1) 0) q
+            (Y .s) 0)))
             (sym (below-yes (Y .s) (getD qs (own - 1) 0) l))
             ∙ alone;
         bounds = record {

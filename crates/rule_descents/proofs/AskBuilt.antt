@@ -70,7 +70,8 @@ use Rattle.part_descents.specs.Part.{ColourView, sidesIn, handledFrom}
 use Rattle.part_descents.specs.OneSided.{oneSided}
 use Rattle.part_descents.proofs.TriesBuilt.{SidesBuilt}
 use Rattle.rule_descents.specs.declared.answers.RuleDescending.{RuleDescending}
-use Rattle.rule_descents.specs.Question.{Handled, handled, handledOn, askedOn, leftIn, lentColours, ruleColoursFit, askedChecks}
+use Rattle.rule_descents.specs.Question.{Handled, handled, handledOn, askedOn, leftIn, lentColours}
+use Rattle.rule_descents.specs.Question.{ruleColoursFit, askedChecks}
 use Rattle.rule_descents.specs.Question.{ruleAnswer, ruleAskAnswer, answeredWith}
 use Rattle.rule_descents.specs.Promise.{RuleColoursBuilt, rootsLeft, RuleColourAnswer}
 use Rattle.rule_descents.proofs.AskChecks.{few-states, then-list}
@@ -124,10 +125,12 @@ module _ (p r nodeTable stateTable numbers bytes vs bs : List ℕ)
 
   numbers-room : setNumbersLength (nodeCount p) (stateCount r) ≤ length numbers
   numbers-room =
-      begins (setNumbersLength n s) numbers (builtSetNumbers p r) (D .coloured .numbers-are) (length-setNumbers p r plan-passes)
+      begins (setNumbersLength n s) numbers (builtSetNumbers p r) (D .coloured .numbers-are) (length-setNumbers p r
+      plan-passes)
 
   bytes-room : setBytesLength (nodeCount p) (stateCount r) ≤ length bytes
-  bytes-room = begins (setBytesLength n s) bytes (builtSetBytes p r) (D .coloured .bytes-are) (length-setBytes p r plan-passes)
+  bytes-room = begins (setBytesLength n s) bytes (builtSetBytes p r) (D .coloured .bytes-are) (length-setBytes p r
+      plan-passes)
 
   lengths : buffersFit (nodeCount p) (stateCount r) (ruleLength (stateCount r) (labelCount r)) (length p) (length r)
       (length nodeTable) (length stateTable) ≡ true
@@ -164,11 +167,13 @@ module _ (p r nodeTable stateTable numbers bytes vs bs : List ℕ)
 
   fit : ruleColoursFit p r (length nodeTable) (length stateTable) (length numbers) (length bytes) ≡ true
   fit =
-      sym (few-states p r (length nodeTable) (length stateTable) (length numbers) (length bytes) heads n s (labelCount r)
+      sym (few-states p r (length nodeTable) (length stateTable) (length numbers) (length bytes) heads n s (labelCount
+      r)
       refl refl refl lengths four)
       ∙ room
 
-  pub asked-built : firstNo (askedChecks p r (length nodeTable) (length stateTable) (length numbers) (length bytes) vs bs) ≡ 0
+  pub asked-built : firstNo (askedChecks p r (length nodeTable) (length stateTable) (length numbers) (length bytes) vs
+      bs) ≡ 0
   asked-built =
       sym (then-list p r (length nodeTable) (length stateTable) (length numbers) (length bytes) vs bs fit s refl n
       (labelCount r) refl refl four)
@@ -226,7 +231,8 @@ module _ (p r nodeTable stateTable numbers bytes vs bs : List ℕ)
       let hv : v < n = omega (arith, h, size-is) in
       let long : length (copyRow m rest v) ≡ m =
       length-part rest (v * m) m (omega (arith, stride m v n hv, bytes-room, length-drop base bytes)) in
-      let own : length (setCopies A t v) ≡ m = copy-colouring (setCount A) (setStep A t) t (setStep-below A t) v .count in
+      let own : length (setCopies A t v) ≡ m = copy-colouring (setCount A) (setStep A t) t (setStep-below A t) v .count
+      in
       ext-getD 0 (copyRow m rest v) (setCopies A t v) (long ∙ sym own) (λ c l.
       getD-take m (drop (v * m) rest) c 0 (omega (arith, l, long))
       ∙ getD-drop (v * m) rest c 0
@@ -242,7 +248,8 @@ module _ (p r nodeTable stateTable numbers bytes vs bs : List ℕ)
   left-is : leftIn p vs bs ≡ lastDiffering (labelsIn p) vs bs
   left-is =
       ap (λ (b : Bool). cond b (lastDiffering (labelsIn p) vs bs) [])
-      (and-both (eqb (length vs) (length bs)) (leb (length vs) changeLimit) (eq-eqb (length vs) (length bs) (listed .lengths))
+      (and-both (eqb (length vs) (length bs)) (leb (length vs) changeLimit) (eq-eqb (length vs) (length bs) (listed
+      .lengths))
       (le-leb (length vs) changeLimit (listed .most)))
 
   left-few : length (leftIn p vs bs) ≤ 64
@@ -269,7 +276,8 @@ module _ (p r nodeTable stateTable numbers bytes vs bs : List ℕ)
 
   record Whole : Type 0 where
     pub searches : List ℕ
-    pub found : handledFrom (lentColours p r nodeTable stateTable numbers bytes) vs bs [] [] (tried 0 []) (rootsLeft p vs bs)
+    pub found : handledFrom (lentColours p r nodeTable stateTable numbers bytes) vs bs [] [] (tried 0 []) (rootsLeft p
+        vs bs)
         ≡ some (tried (rootState p r vs bs) searches)
     pub falls : length searches ≤ 60 * oneSided (planTree p) (rootsLeft p vs bs) (rootsLeft p vs bs)
     pub few : AllLe (3 * digits (height (planTree p))) searches
@@ -280,7 +288,11 @@ module _ (p r nodeTable stateTable numbers bytes vs bs : List ℕ)
       let w : ℕ → Bool = λ v. holds v (differing (labelsIn p) vs bs) in
       let N = handled-built L G (changedTree p vs bs) (reads z x vs bs x settled) (given-run z q built table-built)
       (rules-inside r (rules-of z x built)) four sides w (rootsLeft p vs bs) (list-members w t) vs bs
-      (ap (λ (ls : List ℕ). changed ls vs bs) (sym (labels-planTree p plan-passes))) (omega (arith, rules-pass .states-least))
+      (ap (λ (ls : List ℕ). changed ls vs bs) (sym (labels-planTree p plan-passes))) (omega (
+        arith,
+        rules-pass
+            .states-least,
+      ))
       (rootsLeft p vs bs) [] (tried 0 []) refl refl refl in
       record {
         searches = N .searches;
@@ -303,7 +315,8 @@ module _ (p r nodeTable stateTable numbers bytes vs bs : List ℕ)
       let small : size t ≤ 65535 = omega (arith, size-is, plan-passes .most) in
       record {
         searches = whole .searches;
-        is = sym (lent-is p r nodeTable stateTable numbers bytes vs bs _ asked-built refl) ∙ ap (ruleAnswer r 0) on-built;
+        is = sym (lent-is p r nodeTable stateTable numbers bytes vs bs _ asked-built refl)
+            ∙ ap (ruleAnswer r 0) on-built;
         falls = whole .falls;
         few = sum-le 45 (whole .searches) (links-limit t (whole .searches) small (whole .few));
       }

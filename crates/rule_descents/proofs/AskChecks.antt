@@ -34,7 +34,8 @@ module _ (p r : List ℕ) (nodeTable stateTable numbers bytes : ℕ) where
   unfolding ruleColoursFit
   fit-no h = rw (headers-no ruleTables p r nodeTable stateTable h)
 
-  module _ (h : headersFit 20 p r ≡ true) (n s k : ℕ) (a : n ≡ nodeCount p) (b : s ≡ stateCount r) (c : k ≡ labelCount r) where
+  module _ (h : headersFit 20 p r ≡ true) (n s k : ℕ) (a : n ≡ nodeCount p) (b : s ≡ stateCount r) (c : k
+      ≡ labelCount r) where
     head-is : buffersFit n s (ruleLength s k) (length p) (length r) nodeTable stateTable ≡ head
     head-is = headed-by ruleTables p r nodeTable stateTable n s k (ruleLength s k) a b c refl h
 
@@ -123,8 +124,10 @@ module _ (p r : List ℕ) (nodeTable stateTable numbers bytes : ℕ) where
           bytes-room = leb-true (setBytesLength (nodeCount p) (stateCount r)) bytes
               (and-right (leb (setNumbersLength (nodeCount p) (stateCount r)) numbers)
               (leb (setBytesLength (nodeCount p) (stateCount r)) bytes) room);
-          same-list = eqb-true (length vs) (length bs) (and-left (eqb (length vs) (length bs)) (leb (length vs) changeLimit) both);
-          few-list = leb-true (length vs) changeLimit (and-right (eqb (length vs) (length bs)) (leb (length vs) changeLimit) both);
+          same-list = eqb-true (length vs) (length bs) (and-left (eqb (length vs) (length bs)) (leb (length vs)
+              changeLimit) both);
+          few-list = leb-true (length vs) changeLimit (and-right (eqb (length vs) (length bs)) (leb (length vs)
+              changeLimit) both);
           nodes-below = firstNo-head 13 _ _ (omega arith) c;
           labels-below = firstNo-head 14 _ _ (omega arith) d;
         }

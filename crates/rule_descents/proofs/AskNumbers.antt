@@ -36,11 +36,13 @@ module _ (p r nodeTable stateTable numbers bytes vs bs : List ℕ) where
   unfolding askedChecks
   numbered = (omega arith, (omega arith, list-numbered (nodeCount p) (labelCount r) vs bs))
 
-  pub number-asked : (firstNo asked ≡ 0 → ⊥) → ruleAskNumber p r nodeTable stateTable numbers bytes vs bs ≡ firstNo asked
+  pub number-asked : (firstNo asked ≡ 0 → ⊥) → ruleAskNumber p r nodeTable stateTable numbers bytes vs bs
+      ≡ firstNo asked
   unfolding ruleAskNumber ruleAskChecks
   number-asked h = firstNo-append-no asked last h
 
-  pub number-last : firstNo asked ≡ 0 → ruleAskNumber p r nodeTable stateTable numbers bytes vs bs ≡ cond (isSome on) 0 18
+  pub number-last : firstNo asked ≡ 0 → ruleAskNumber p r nodeTable stateTable numbers bytes vs bs
+      ≡ cond (isSome on) 0 18
   unfolding ruleAskNumber ruleAskChecks
   number-last h = firstNo-append-zero asked last numbered h ∙ one
     where
@@ -72,7 +74,8 @@ module _ (p r nodeTable stateTable numbers bytes vs bs : List ℕ) where
   unfolding ruleAskAnswer ruleAnswer ruleDescendingNumber
   on-number = go (firstNo asked) refl
     where
-      named : (n : ℕ) (o : Option Handled) → (n ≡ 0 → (x : Handled) × (o ≡ some x)) → ruleDescendingNumber (ruleAnswer r n o) ≡ n
+      named : (n : ℕ) (o : Option Handled) → (n ≡ 0 → (x : Handled) × (o ≡ some x))
+          → ruleDescendingNumber (ruleAnswer r n o) ≡ n
       named zero none f = absurd (let y = f refl .1 in let w : _≡_ {A = ℕ} 0 1 = cc in omega arith)
       named zero (some h) f = refl
       named (suc n) none f = refl

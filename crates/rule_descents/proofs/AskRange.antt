@@ -31,7 +31,8 @@ use Rattle.model.specs.Calls.{isSome}
 use Rattle.colours.specs.StateSets.{Tried, tried}
 use Rattle.part_descents.specs.Part.{ColourView, handledFrom}
 use Rattle.rule_colours.specs.Build.{setStatesFit}
-use Rattle.rule_descents.specs.Question.{Handled, handled, handledOn, askedOn, leftIn, lentColours, ruleColoursFit, askedChecks}
+use Rattle.rule_descents.specs.Question.{Handled, handled, handledOn, askedOn, leftIn, lentColours}
+use Rattle.rule_descents.specs.Question.{ruleColoursFit, askedChecks}
 use Rattle.rule_descents.specs.Question.{ruleAskNumber}
 use Rattle.rule_descents.specs.OutOfRange.{RuleColoursOutOfRange, part}
 use Rattle.rule_descents.proofs.AskChecks.{Passed, passed-are}
@@ -72,7 +73,8 @@ module _ (p r nodeTable stateTable numbers bytes vs bs : List ℕ) where
   abbrev table : List ℕ
   table = take (nodeTableLength (nodeCount p)) nodeTable
 
-  module _ (ok : firstNo (askedChecks p r (length nodeTable) (length stateTable) (length numbers) (length bytes) vs bs) ≡ 0) where
+  module _ (ok : firstNo (askedChecks p r (length nodeTable) (length stateTable) (length numbers) (length bytes) vs bs)
+      ≡ 0) where
     P : Passed p r (length nodeTable) (length stateTable) (length numbers) (length bytes) vs bs
     P = passed-are p r (length nodeTable) (length stateTable) (length numbers) (length bytes) vs bs ok
 
@@ -99,13 +101,18 @@ module _ (p r nodeTable stateTable numbers bytes vs bs : List ℕ) where
         last (some y) m i = absurd (none-some (sym i))
 
         go : (o : Option (List ℕ)) → rootsGiven (nodeCount p) table left ≡ o
-            → andThen o (λ ms. andThen (handledFrom L vs bs [] [] (tried 0 []) ms) (λ y. some (handled y (length ms)))) ≡ none
+            → andThen o (λ ms. andThen (handledFrom L vs bs [] [] (tried 0 []) ms) (λ y. some (handled y (length ms))))
+            ≡ none
             → RuleColoursOutOfRange L vs bs
         go none q i = roots-none q
         go (some ms) q i =
             let R = given-are (nodeCount p) table left ms q in
             handled-none L vs bs ms [] [] (tried 0 []) refl
-            (λ j h. omega (arith, below-entry (nodeCount p - 1 + 1) ms (to-below (nodeCount p - 1) ms (R .to)) j h, some-node))
+            (λ j h. omega (
+              arith,
+              below-entry (nodeCount p - 1 + 1) ms (to-below (nodeCount p - 1) ms (R .to)) j h,
+              some-node,
+            ))
             (last (handledFrom L vs bs [] [] (tried 0 []) ms) (length ms) i)
 
   is-none : (o : Option Handled) → _≡_ {A = ℕ} (cond (isSome o) 0 18) 18 → o ≡ none
@@ -116,10 +123,12 @@ module _ (p r nodeTable stateTable numbers bytes vs bs : List ℕ) where
       → RuleColoursOutOfRange (lentColours p r nodeTable stateTable numbers bytes) vs bs
   unfolding askedChecks listChecks firstNo
   ask-range e =
-      elim (ℕ-discrete (firstNo (askedChecks p r (length nodeTable) (length stateTable) (length numbers) (length bytes) vs bs)) 0) [
+      elim (ℕ-discrete (firstNo (askedChecks p r (length nodeTable) (length stateTable) (length numbers) (length bytes)
+      vs bs)) 0) [
         | yes ok ↦ lost ok (is-none (askedOn p r nodeTable stateTable numbers bytes vs bs)
             (sym (number-last p r nodeTable stateTable numbers bytes vs bs ok) ∙ e))
-        | no h ↦ absurd (not-18 (ruleColoursFit p r (length nodeTable) (length stateTable) (length numbers) (length bytes))
+        | no h ↦ absurd (not-18 (ruleColoursFit p r (length nodeTable) (length stateTable) (length numbers) (length
+            bytes))
             (setStatesFit (stateCount r)) (eqb (length vs) (length bs) && leb (length vs) changeLimit)
             (allBelow (nodeCount p) vs) (allBelow (labelCount r) bs)
             (sym (number-asked p r nodeTable stateTable numbers bytes vs bs h) ∙ e))

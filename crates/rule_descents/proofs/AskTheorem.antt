@@ -19,7 +19,8 @@ use Rattle.questions.proofs.PlaceLaws.{to-some}
 use Rattle.colours.specs.StateSets.{Tried, tried}
 use Rattle.part_descents.specs.Part.{ColourView, handledFrom}
 use Rattle.rule_descents.specs.declared.answers.RuleDescending.{RuleDescending}
-use Rattle.rule_descents.specs.Question.{Handled, handled, handledOn, askedOn, leftIn, lentColours, ruleAskNumber, ruleAnswer}
+use Rattle.rule_descents.specs.Question.{Handled, handled, handledOn, askedOn, leftIn, lentColours, ruleAskNumber}
+use Rattle.rule_descents.specs.Question.{ruleAnswer}
 use Rattle.rule_descents.specs.Question.{ruleAskAnswer, ruleDescendingNumber}
 use Rattle.rule_descents.specs.Promise.{RuleColourAnswer, stateKept, linksKept, RuleAskDone}
 use Rattle.rule_descents.proofs.StateLaws.{handled-state}
@@ -41,7 +42,8 @@ on-kept L left vs bs h e = go (rootsGiven (L .view .n) (L .view .nodeTable) left
         (handled-state L vs bs [] [] (tried 0 []) ms x (λ w. absurd (omega arith)) q)
 
     go : (o : Option (List ℕ)) → rootsGiven (L .view .n) (L .view .nodeTable) left ≡ o
-        → andThen o (λ ms. andThen (handledFrom L vs bs [] [] (tried 0 []) ms) (λ r. some (handled r (length ms)))) ≡ some h
+        → andThen o (λ ms. andThen (handledFrom L vs bs [] [] (tried 0 []) ms) (λ r. some (handled r (length ms))))
+        ≡ some h
         → h .result .state < L .view .s
     go none q i = absurd (none-some i)
     go (some ms) q i =

@@ -93,7 +93,8 @@ module _ (L : ColourView) (G : Given) (u : Tree) (R : Reads (L .view) G) (RG : R
                 (tried (x .state) (r .searches ++ x .searches)) rest)) (P .found)
                 ∙ ap₂ (λ (a c : List ℕ). handledFrom L vs bs a c next rest) (sym nodes) (sym states)
                 ∙ N .found
-                ∙ ap (λ (l : List ℕ). some (tried (lastState (partsFrom G ms (ps ++ (partOf G ms ps v ∷ [])) rest) 0) l))
+                ∙ ap (λ (l : List ℕ). some (tried (lastState (partsFrom G ms (ps ++ (partOf G ms ps v ∷ [])) rest) 0)
+                l))
                 (append-assoc (r .searches) (P .searches) (N .searches));
             falls = omega (arith, length-append (P .searches) (N .searches), P .falls, N .falls);
             few = all-append (3 * digits (height (G .tree))) (P .searches) (N .searches) (P .few) (N .few);

@@ -42,7 +42,8 @@ join-state X a (some l) (some r) x e = go (ruleOn X (l .state) a (r .state)) ref
         → andThen o (λ q. some (tried q (l .searches ++ r .searches))) ≡ some x → x .state < X .s
     go none b i = absurd (none-some i)
     go (some q) b i =
-        let z : q ≡ x .state = ap (λ (t : Tried). t .state) (Option·some-injective (tried q (l .searches ++ r .searches)) x i) in
+        let z : q ≡ x .state = ap (λ (t : Tried). t .state) (Option·some-injective (tried q (l .searches ++ r
+        .searches)) x i) in
         subst (λ (y : ℕ). y < X .s) z (rule-state X (l .state) a (r .state) q b)
 
 module _ (L : ColourView) where
