@@ -3,8 +3,8 @@
 --     part-leaf, part-first, part-outside, part-fork   by the root's kind and children
 -- Assumes nothing.
 use Prim.Native.Nat.{ℕ, _+_, _-_, _*_, _^_, _≤_, _<_}
-use mathlib.Core.Path.{_≡_, refl, sym, ap, ap₂, _∙_, subst}
-use mathlib.Core.Bool.{Bool, true, false}
+use mathlib.Core.Path.{_≡_, sym, ap, ap₂, _∙_}
+use mathlib.Core.Bool.{true, false}
 use mathlib.Core.List.{List, _++_}
 use mathlib.Core.Option.{Option, none, some}
 use native.Mathlib.Decide.{ℕ-discrete}
@@ -25,11 +25,11 @@ use Rattle.colours.specs.StateSets.{Tried, tried}
 use Rattle.targets.specs.declared.trials.Trial.{Trial}
 use Rattle.targets.specs.Trials.{trialOf}
 use Rattle.targets.proofs.TrialLoop.{sum-append}
-use Rattle.part_descents.specs.Part.{ColourView, Sides, sidesOf, sidesIn, sideTried, joinTried, forkTried}
+use Rattle.part_descents.specs.Part.{ColourView, Sides, sidesOf, sideTried, joinTried, forkTried}
 use Rattle.part_descents.specs.Part.{leafTried}
 use Rattle.part_descents.specs.Part.{partTried}
-use Rattle.part_descents.specs.inner.Args.{FewTried, SideFew, SideDone, PartDone}
-use Rattle.part_descents.proofs.TrialLaws.{trial-none, Is, trial-some, Still, none-few}
+use Rattle.part_descents.specs.inner.Args.{FewTried, SideDone, PartDone}
+use Rattle.part_descents.proofs.TrialLaws.{trial-none, Is, trial-some, none-few}
 
 lost-part : (s : ℕ) (o : Option Tried) (r : Trial) → o ≡ none → r ≡ trialOf none → PartDone s o r
 lost-part s o r e i = record { result = i ∙ ap trialOf (sym e); bounds = none-few s r i .all }

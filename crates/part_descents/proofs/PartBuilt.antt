@@ -3,14 +3,13 @@
 --     PartIs       so, with at most 60 drops where it is one-sided, none elsewhere, each found by few links
 --     part-built   of every part
 -- Assumes nothing.
-use Prim.Native.Nat.{ℕ, zero, suc, _+_, _-_, _*_, _^_, _≤_, _<_}
+use Prim.Native.Nat.{ℕ, _+_, _-_, _*_, _≤_, _<_}
 use mathlib.Core.Path.{_≡_, refl, sym, ap, ap₂, _∙_, subst}
-use mathlib.Core.Bool.{Bool, true, false, cond, not, _&&_}
-use mathlib.Core.List.{List, [], _∷_, _++_, append-nil, List·Memᴰ, List·Memᴰ·head, Memᴰ·append-right}
+use mathlib.Core.Bool.{Bool, true, false, cond, not}
+use mathlib.Core.List.{List, [], _∷_, _++_, List·Memᴰ, List·Memᴰ·head, Memᴰ·append-right}
 use mathlib.Core.Option.{Option, none, some}
 use native.Mathlib.Decide.{ℕ-discrete}
 use native.Mathlib.Omega.{arith}
-use lib.Dec.{leb, ltb, eqb}
 use lib.ListN.{length, getD, length-append}
 use borrow.Author.Tests.{lt-ltb, le-leb, eq-eqb, ne-eqb}
 use Rattle.trees.specs.Tree.{Tree, size, height, kindAt, labelsOf}
@@ -20,7 +19,7 @@ use Rattle.trees.specs.Numbering.{sub}
 use Rattle.trees.proofs.NodeLaws.{Inner, inner}
 use Rattle.node_tables.specs.Cells.{sizeCell}
 use Rattle.tables.specs.Climbs.{View, below, runOn, ruleOn}
-use Rattle.tables.specs.inner.PathViews.{rulesView, statesView}
+use Rattle.tables.specs.inner.PathViews.{rulesView}
 use Rattle.ready.specs.Ready.{leftChild, rightChild}
 use Rattle.ready.specs.StaysInside.{StaysInside}
 use Rattle.ready.specs.Parts.{Given, Part, anyBelow, highestBelow, nodesOf, statesOf, stateOf, climbedState, innerState}

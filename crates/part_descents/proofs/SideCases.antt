@@ -1,11 +1,10 @@
 -- The state at a child, by the tests of the code.
 --     side-run, side-own, side-outside, side-found
 -- Assumes nothing.
-use Prim.Native.Nat.{ℕ, _+_, _-_, _≤_, _<_}
-use mathlib.Core.Path.{_≡_, refl, sym, ap, _∙_, subst}
+use Prim.Native.Nat.{ℕ, _-_, _≤_, _<_}
+use mathlib.Core.Path.{_≡_, sym, ap, _∙_}
 use mathlib.Core.List.{List}
 use mathlib.Core.Option.{Option, none, some}
-use native.Mathlib.Omega.{arith}
 use lib.ListN.{getD}
 use Rattle.trees.specs.Climb.{andThen}
 use Rattle.tables.specs.Climbs.{below, runOn}
@@ -18,7 +17,7 @@ use Rattle.colours.specs.StateSets.{Tried, tryFrom}
 use Rattle.targets.specs.declared.trials.Trial.{Trial}
 use Rattle.targets.specs.Trials.{trialOf, TargetsDone}
 use Rattle.part_descents.specs.Part.{Sides, untried, colourFrom, sideTried}
-use Rattle.part_descents.specs.inner.Args.{FewTried, SideFew, SideDone}
+use Rattle.part_descents.specs.inner.Args.{SideDone}
 use Rattle.part_descents.proofs.TrialLaws.{Still, none-few, untried-few, targets-few}
 
 module _ (Y : Sides) (c : ℕ) (es qs : List ℕ) (own other : ℕ) where

@@ -3,23 +3,22 @@
 --     roots-lost, roots-answer  the answer for the roots: a part without a result, and the state of the last
 --     rooted-room, lent-lost, root-args, lent-answer   the roots: none, and those that were found
 -- Assumes nothing.
-use Prim.Native.Nat.{ℕ, zero, suc, _+_, _-_, _*_, _^_, _≤_, _<_}
+use Prim.Native.Nat.{ℕ, _+_, _-_, _*_, _^_, _≤_, _<_}
 use mathlib.Core.Path.{_≡_, refl, sym, ap, ap₂, _∙_, subst}
 use mathlib.Core.Bool.{Bool, true, false, cond}
-use mathlib.Core.List.{List, [], _∷_, _++_}
+use mathlib.Core.List.{List, []}
 use mathlib.Core.Option.{Option, none, some}
 use native.Mathlib.Decide.{ℕ-discrete}
 use native.Mathlib.Omega.{arith}
 use lib.Dec.{eqb}
 use lib.ListN.{length, getD, take, drop, replicate, length-take, length-drop, length-append}
-use lib.Seq.{length-take-le, take-append-seam, getD-take, getD-drop}
+use lib.Seq.{take-append-seam, getD-take, getD-drop}
 use Rattle.list_laws.proofs.BoolLaws.{true-false}
 use Rattle.list_laws.proofs.SliceLaws.{rest-part}
 use Rattle.trees.specs.Climb.{andThen}
-use Rattle.formats.specs.Plan.{nodeCount, labelsIn}
-use Rattle.formats.specs.Rules.{stateCount, labelCount, ruleLength, ruleMarks, ruleAutomaton}
+use Rattle.formats.specs.Plan.{nodeCount}
+use Rattle.formats.specs.Rules.{stateCount, labelCount, ruleLength, ruleAutomaton}
 use Rattle.formats.specs.Checks.{nodeTableLength}
-use Rattle.formats.specs.Buffers.{ruleTables}
 use Rattle.formats.proofs.PlanLaws.{product-most}
 use Rattle.formats.proofs.BufferLaws.{Limits, limits-are, Lengths, lengths-are, are-limits, are-lengths}
 use Rattle.formats.specs.inner.InnerChecks.{listsFit}
@@ -28,19 +27,15 @@ use Rattle.changes.proofs.LastDifferingLaws.{last-most}
 use Rattle.questions.specs.declared.roots.Rooted.{Rooted}
 use Rattle.questions.specs.RootsAnswers.{rootedOf, rootsGiven}
 use Rattle.questions.specs.Promises.{RootsAre, RootsDone}
-use Rattle.questions.specs.inner.PartArgs.{partView}
 use Rattle.questions.proofs.PlaceLaws.{to-below, to-some, below-entry}
-use Rattle.colours.specs.Descents.{sum}
 use Rattle.colours.specs.StateSets.{Tried, tried}
 use Rattle.targets.specs.declared.trials.Trial.{Trial}
-use Rattle.targets.specs.Trials.{trialOf}
 use Rattle.part_descents.specs.Part.{ColourView, handledFrom}
-use Rattle.part_descents.specs.inner.Args.{colourView, PartReads}
+use Rattle.part_descents.specs.inner.Args.{colourView}
 use Rattle.part_descents.proofs.TrialLaws.{trial-none, Is, trial-some}
 use Rattle.rule_descents.specs.declared.answers.RuleDescending.{RuleDescending}
 use Rattle.rule_descents.specs.declared.answers.RuleDescending.the-variants.{Answered, Refused}
-use Rattle.rule_descents.specs.Question.{Handled, handled, handledOn, askedOn, leftIn, lentColours, ruleAnswer}
-use Rattle.rule_descents.specs.Question.{answeredWith}
+use Rattle.rule_descents.specs.Question.{handled, handledOn, leftIn, lentColours, ruleAnswer}
 use Rattle.rule_descents.specs.inner.Args.{AllArgs, AllDone, RootArgs, LentArgs, lentAs, answeredFor, answeredOn}
 use Rattle.rule_descents.proofs.AskChecks.{Passed, passed-are}
 

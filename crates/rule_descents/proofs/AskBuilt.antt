@@ -3,13 +3,13 @@
 --     ask-built     the answer is the fresh run's of the changed plan
 -- Assumes nothing.
 use Prim.Native.Nat.{ℕ, _+_, _-_, _*_, _^_, _≤_, _<_}
-use mathlib.Core.Path.{_≡_, refl, sym, ap, ap₂, _∙_, subst}
-use mathlib.Core.Bool.{Bool, true, false, cond, _&&_}
-use mathlib.Core.List.{List, [], _∷_, _++_}
-use mathlib.Core.Option.{Option, none, some}
+use mathlib.Core.Path.{_≡_, refl, sym, ap, _∙_}
+use mathlib.Core.Bool.{Bool, true, cond}
+use mathlib.Core.List.{List, []}
+use mathlib.Core.Option.{Option, some}
 use native.Mathlib.Omega.{arith}
 use lib.Dec.{leb, eqb}
-use lib.ListN.{length, getD, take, drop, length-take, length-drop}
+use lib.ListN.{length, take, drop, length-take, length-drop}
 use lib.Seq.{ext-getD, getD-take, getD-drop, length-take-le}
 use borrow.Author.Tests.{le-leb, leb-true, eq-eqb}
 use Rattle.list_laws.specs.Tests.{allBelow, holds}
@@ -17,8 +17,8 @@ use Rattle.list_laws.proofs.BoolLaws.{and-both}
 use Rattle.list_laws.proofs.RowLaws.{stride}
 use Rattle.list_laws.proofs.SliceLaws.{length-part}
 use Rattle.list_laws.proofs.TestLaws.{sameList-is}
-use Rattle.trees.specs.Tree.{Tree, size, height, labelsOf}
-use Rattle.trees.specs.Automaton.{Automaton, state}
+use Rattle.trees.specs.Tree.{Tree, size, height}
+use Rattle.trees.specs.Automaton.{Automaton}
 use Rattle.trees.specs.Changes.{changed}
 use Rattle.trees.specs.Climb.{andThen, digits}
 use Rattle.formats.specs.Limits.{changeLimit}
@@ -26,8 +26,7 @@ use Rattle.formats.specs.Plan.{nodeCount, planTree, labelsIn}
 use Rattle.formats.specs.Rules.{stateCount, labelCount, ruleLength, ruleAutomaton}
 use Rattle.formats.specs.Checks.{firstNo, listChecks, nodeTableLength, stateTableLength}
 use Rattle.formats.specs.Buffers.{buffersFit, headersFit}
-use Rattle.formats.specs.Inputs.{Inputs, inputsOf, Sizes, sizesIn, fits, usedStateTable, stateTableBuilt, statesBelow}
-use Rattle.formats.specs.inner.InnerChecks.{listsFit}
+use Rattle.formats.specs.Inputs.{Inputs, inputsOf, Sizes, sizesIn, fits, usedStateTable, stateTableBuilt}
 use Rattle.formats.proofs.PlanLaws.{PlanPasses, size-planTree, labels-planTree}
 use Rattle.formats.proofs.RuleLaws.{RulesPass}
 use Rattle.formats.proofs.InputLaws.{rule-table-passes, ListPasses, list-passes}
@@ -36,27 +35,23 @@ use Rattle.formats.proofs.InputsLaws.{Built, built-node-table, node-inputs-same
 use Rattle.node_tables.proofs.CellLaws.{length-nodeTableOf}
 use Rattle.tables.proofs.BuildLaws.{length-builtStates}
 use Rattle.changes.specs.Differing.{differing}
-use Rattle.changes.specs.inner.LastDiffering.{lastDiffering, givenDiffering}
+use Rattle.changes.specs.inner.LastDiffering.{lastDiffering}
 use Rattle.changes.proofs.LastDifferingLaws.{last-same, last-most, last-below}
-use Rattle.ready.specs.Members.{roots, readyList}
+use Rattle.ready.specs.Members.{roots}
 use Rattle.ready.specs.Parts.{Given, partsOf, lastState}
-use Rattle.ready.specs.StaysInside.{StaysInside}
 use Rattle.ready.proofs.ListLaws.{list-members}
 use Rattle.ready.proofs.MonotoneLaws.{roots-same}
-use Rattle.ready.proofs.PartsRun.{Members, RunGiven}
 use Rattle.runs.specs.FreshRun.{changedTree, rootState}
 use Rattle.questions.specs.Roots.{rootsOn}
 use Rattle.questions.specs.RootsAnswers.{rootsGiven}
-use Rattle.questions.specs.Promises.{Reads}
 use Rattle.questions.proofs.FitLaws.{fit-all, given-yes}
 use Rattle.questions.proofs.Promised.{all-small}
 use Rattle.questions.proofs.RootsBuilt.{roots-built}
 use Rattle.model.specs.PartInputs.{givenOf}
 use Rattle.model.proofs.Facts.{SettledInputs}
-use Rattle.model.proofs.LayersHold.{tree-size, cells, reads}
-use Rattle.reference.specs.Reference.{Question, asked, givenBy, rootsOf}
+use Rattle.model.proofs.LayersHold.{cells, reads}
+use Rattle.reference.specs.Reference.{Question, asked, givenBy}
 use Rattle.reference.proofs.FreshLaws.{rules-inside, sound-below, given-run, whole-state}
-use Rattle.colours.specs.Descents.{sum}
 use Rattle.colours.specs.StateSets.{Tried, tried, setStep, setCount, setCopies}
 use Rattle.colours.proofs.CopyLaws.{copy-colouring}
 use Rattle.colours.proofs.DescentLaws.{AllLe, sum-le}
@@ -66,17 +61,16 @@ use Rattle.rule_colours.specs.Build.{setNumbersLength, setBytesLength, setColou
 use Rattle.rule_colours.proofs.BuildLaws.{length-setNumbers, length-setBytes}
 use Rattle.rule_colours.proofs.ColouredLaws.{coloured-cells, coloured-copies}
 use Rattle.targets.specs.Trials.{copyRow}
-use Rattle.part_descents.specs.Part.{ColourView, sidesIn, handledFrom}
+use Rattle.part_descents.specs.Part.{ColourView, handledFrom}
 use Rattle.part_descents.specs.OneSided.{oneSided}
 use Rattle.part_descents.proofs.TriesBuilt.{SidesBuilt}
-use Rattle.rule_descents.specs.declared.answers.RuleDescending.{RuleDescending}
-use Rattle.rule_descents.specs.Question.{Handled, handled, handledOn, askedOn, leftIn, lentColours}
+use Rattle.rule_descents.specs.Question.{handled, handledOn, askedOn, leftIn, lentColours}
 use Rattle.rule_descents.specs.Question.{ruleColoursFit, askedChecks}
-use Rattle.rule_descents.specs.Question.{ruleAnswer, ruleAskAnswer, answeredWith}
+use Rattle.rule_descents.specs.Question.{ruleAnswer, ruleAskAnswer}
 use Rattle.rule_descents.specs.Promise.{RuleColoursBuilt, rootsLeft, RuleColourAnswer}
 use Rattle.rule_descents.proofs.AskChecks.{few-states, then-list}
 use Rattle.rule_descents.proofs.AskNumbers.{lent-is}
-use Rattle.rule_descents.proofs.PartsBuilt.{AllIs, handled-built}
+use Rattle.rule_descents.proofs.PartsBuilt.{handled-built}
 
 -- a buffer that begins with a list of n elements has n
 begins : (n : ℕ) (b l : List ℕ) → take n b ≡ l → length l ≡ n → n ≤ length b

@@ -5,19 +5,19 @@
 -- Assumes nothing.
 use Prim.Native.Nat.{ℕ, zero, suc}
 use mathlib.Core.Path.{_≡_, refl, sym, ap, _∙_}
-use mathlib.Core.Bool.{Bool, true, false, cond}
-use mathlib.Core.List.{List, [], _∷_, _++_}
+use mathlib.Core.Bool.{cond}
+use mathlib.Core.List.{List, [], _∷_}
 use mathlib.Core.Option.{Option, none, some}
 use native.Mathlib.Omega.{arith}
 use lib.ListN.{length}
 use Rattle.formats.specs.Plan.{nodeCount}
-use Rattle.formats.specs.Rules.{labelCount, stateCount}
-use Rattle.formats.specs.Checks.{Check, check, firstNo, listChecks}
+use Rattle.formats.specs.Rules.{labelCount}
+use Rattle.formats.specs.Checks.{Check, check, firstNo}
 use Rattle.formats.proofs.CheckLaws.{firstNo-append-zero, firstNo-append-no, Numbered}
 use Rattle.formats.proofs.InputLaws.{list-numbered}
 use Rattle.model.specs.Calls.{isSome}
 use Rattle.rule_descents.specs.declared.answers.RuleDescending.{RuleDescending}
-use Rattle.rule_descents.specs.declared.answers.RuleDescending.the-variants.{Answered, Refused}
+use Rattle.rule_descents.specs.declared.answers.RuleDescending.the-variants.{Refused}
 use Rattle.rule_descents.specs.Question.{Handled, askedOn, askedChecks, ruleAskChecks, ruleAskNumber, ruleAnswer}
 use Rattle.rule_descents.specs.Question.{ruleAskAnswer, ruleDescendingNumber}
 use Rattle.rule_descents.specs.inner.Args.{answeredOn}

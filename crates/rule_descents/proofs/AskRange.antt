@@ -1,15 +1,15 @@
 -- Where a rule question by colours is refused with 18.
 --     ask-range   a value leads outside the plan, the states or the labels, or no target state is found
 -- Assumes nothing.
-use Prim.Native.Nat.{ℕ, zero, suc, _+_, _-_, _*_, _≤_, _<_}
-use mathlib.Core.Path.{_≡_, refl, sym, ap, _∙_, subst}
+use Prim.Native.Nat.{ℕ, _+_, _-_, _≤_, _<_}
+use mathlib.Core.Path.{_≡_, refl, sym, _∙_}
 use mathlib.Core.Bool.{Bool, true, false, cond, _&&_}
-use mathlib.Core.List.{List, [], _∷_}
+use mathlib.Core.List.{List, []}
 use mathlib.Core.Option.{Option, none, some}
 use native.Mathlib.Decide.{ℕ-discrete}
 use native.Mathlib.Omega.{arith}
 use lib.Dec.{leb, eqb}
-use lib.ListN.{length, getD, take}
+use lib.ListN.{length, take}
 use lib.Seq.{length-take-le}
 use Rattle.list_laws.specs.Tests.{allBelow}
 use Rattle.trees.specs.Climb.{andThen}
@@ -21,7 +21,6 @@ use Rattle.formats.specs.Checks.{firstNo, listChecks, nodeTableLength}
 use Rattle.formats.specs.inner.InnerChecks.{listsFit}
 use Rattle.changes.specs.inner.LastDiffering.{lastDiffering, givenDiffering}
 use Rattle.changes.proofs.LastDifferingLaws.{last-most, last-below}
-use Rattle.questions.specs.Roots.{rootsOn}
 use Rattle.questions.specs.RootsAnswers.{rootsGiven}
 use Rattle.questions.specs.OutOfRange.{links}
 use Rattle.questions.proofs.FitLaws.{fit-all, given-yes, given-are}

@@ -4,15 +4,12 @@
 -- Assumes nothing.
 use Prim.Native.Nat.{ℕ, zero, suc, _<_}
 use mathlib.Core.Path.{_≡_, refl, sym, ap, _∙_, subst}
-use mathlib.Core.Bool.{Bool, true, false}
-use mathlib.Core.List.{List, [], _∷_}
+use mathlib.Core.List.{List, []}
 use mathlib.Core.Option.{Option, none, some, Option·some-injective}
 use native.Mathlib.Omega.{arith}
 use lib.ListN.{length}
 use Rattle.trees.specs.Climb.{andThen}
 use Rattle.trees.proofs.MoveLaws.{none-some}
-use Rattle.formats.specs.Plan.{nodeCount}
-use Rattle.formats.specs.Rules.{stateCount}
 use Rattle.questions.specs.RootsAnswers.{rootsGiven}
 use Rattle.questions.proofs.FitLaws.{given-are}
 use Rattle.questions.proofs.PlaceLaws.{to-some}

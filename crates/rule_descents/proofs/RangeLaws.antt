@@ -4,7 +4,7 @@
 --     handled-none    all parts
 -- Assumes nothing.
 use Prim.Native.Nat.{ℕ, zero, suc, _+_, _-_, _*_, _^_, _≤_, _<_}
-use mathlib.Core.Path.{_≡_, refl, sym, ap, _∙_, subst}
+use mathlib.Core.Path.{_≡_, refl, sym, ap, subst}
 use mathlib.Core.Bool.{Bool, true, false, cond, _&&_}
 use mathlib.Core.List.{List, [], _∷_, _++_}
 use mathlib.Core.Logic.{_⊎_, inl, inr}
@@ -24,12 +24,12 @@ use Rattle.tables.specs.Climbs.{View, below, runOn, ruleOn}
 use Rattle.tables.specs.inner.PathViews.{rulesView, statesView}
 use Rattle.tables.proofs.LookupLaws.{below-state, below-none}
 use Rattle.questions.specs.Part.{Found, found, lastFound, foundBelow, labelOn}
-use Rattle.questions.specs.OutOfRange.{PartOutOfRange, children, run, leaf, rule, changed}
+use Rattle.questions.specs.OutOfRange.{children, run, leaf, rule, changed}
 use Rattle.questions.proofs.RootsRange.{fork-test}
 use Rattle.model.proofs.ResultLaws.{below-more}
 use Rattle.colours.specs.Descents.{ColourTable, Descent, descend}
 use Rattle.colours.specs.StateSets.{member, Tried, tried, targetColour, setAt, afterTrial, tryOne, tryFrom}
-use Rattle.part_descents.specs.Part.{ColourView, Sides, sidesIn, untried, colourFrom, sideTried, joinTried, forkTried}
+use Rattle.part_descents.specs.Part.{ColourView, sidesIn, untried, colourFrom, sideTried, joinTried, forkTried}
 use Rattle.part_descents.specs.Part.{leafTried, partTried, handledFrom}
 use Rattle.rule_descents.specs.OutOfRange.{RuleColoursOutOfRange, part, colour, target, unheld}
 use Rattle.rule_descents.proofs.StateLaws.{untried-state, part-state}

@@ -20,15 +20,15 @@ use Rattle.marks.specs.Marks.{bit}
 use Rattle.colours.specs.Colouring.{placeOf}
 use Rattle.colours.specs.Descents.{ColourTable, Descent, drops, links, sum, descend}
 use Rattle.colours.specs.StateSets.{member, Tried, tried, targetColour, setAt, afterTrial, tryOne, tryFrom}
-use Rattle.colours.proofs.DescentLaws.{AllLe, sum-le}
+use Rattle.colours.proofs.DescentLaws.{sum-le}
 use Rattle.colours.proofs.SetLaws.{try-uncoloured, try-lost, try-found, try-on}
-use Rattle.colour_tables.specs.ColourCells.{colourPart, cellTable}
+use Rattle.colour_tables.specs.ColourCells.{cellTable}
 use Rattle.colour_tables.proofs.RangeLaws.{descend-low}
 use Rattle.descents.specs.declared.descend.Descended.{Descended}
 use Rattle.descents.specs.Descended.{descendedOf}
 use Rattle.targets.specs.declared.trials.Trial.{Trial}
 use Rattle.targets.specs.declared.trials.Tested.{Tested}
-use Rattle.targets.specs.Trials.{copyRow, trialOf, TargetsArgs, TargetArgs, Outcome, TestDone, TargetsDone}
+use Rattle.targets.specs.Trials.{copyRow, trialOf, TargetArgs, Outcome, TestDone, TargetsDone}
 use Rattle.targets.proofs.DescentBounds.{Short, descend-few}
 
 -- ---- a descent as the code has it

@@ -1,6 +1,6 @@
 -- `fork_by_colours` meets its contract. Assumes nothing.
-use Prim.Native.Nat.{ℕ, _+_, _-_, _*_, _≤_, _<_}
-use mathlib.Core.Path.{_≡_, sym, _∙_}
+use Prim.Native.Nat.{_-_, _<_}
+use mathlib.Core.Path.{sym, _∙_}
 use borrow.Author.Tests.{not-true, not-false}
 use Rattle.node_tables.specs.Cells.{sizeCell}
 use Rattle.questions.proofs.ScanLaws.{last-bound, last-covers}

@@ -1,13 +1,11 @@
 -- `answer_lent` meets its contract. Assumes nothing.
-use Prim.Native.Nat.{_+_, _*_}
-use mathlib.Core.Path.{_≡_, sym}
+use mathlib.Core.Path.{sym}
 use lib.Seq.{length-take-le}
 use borrow.Author.Tests.{not-true, not-false}
 use Rattle.formats.proofs.BufferLaws.{Headers}
 use Rattle.rule_descents.proofs.AskChecks.{passed-are}
 use Rattle.rule_descents.proofs.AnswerLaws.{lent-passed, lent-lost, rooted-room, root-args, lent-answer}
 use native.Mathlib.Omega.{arith}
-use borrow.Author.Needs.{needs}
 use Rattle.rule_descents.proofs.ask.answer_lent.Statement.{statement}
 use Rattle.rule_descents.proofs.ask.answer_lent.Tie as tie
 use Rattle.rule_descents.proofs.ask.answer_lent.Reads as reads

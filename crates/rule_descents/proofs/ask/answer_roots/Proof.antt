@@ -1,6 +1,5 @@
 -- `answer_roots` meets its contract. Assumes nothing.
-use Prim.Native.Nat.{ℕ, _+_, _*_, _≤_, _<_}
-use mathlib.Core.Path.{_≡_, sym}
+use mathlib.Core.Path.{sym}
 use lib.Seq.{length-take-le}
 use borrow.Author.Tests.{not-true, not-false}
 use Rattle.rule_descents.proofs.AnswerLaws.{Runs, runs-by, all-args, roots-lost, mark-place, roots-answer}

@@ -2,7 +2,6 @@
 use mathlib.Core.Path.{_≡_, sym, _∙_}
 use Rattle.rule_descents.proofs.AskNumbers.{refused-is, lent-is}
 use Rattle.rule_descents.proofs.AskTheorem.{ask-done}
-use native.Mathlib.Omega.{arith}
 use borrow.Author.Needs.{needs}
 use Rattle.rule_descents.proofs.ask.ask_rule_colours.Statement.{statement}
 use Rattle.rule_descents.proofs.ask.ask_rule_colours.Tie as tie

@@ -1,7 +1,7 @@
 -- `try_target` meets its contract: each way out cites its law. Assumes nothing.
 use Prim.Native.Nat.{ℕ, _+_, _*_, _≤_, _<_}
 use native.Mathlib.Nat.{mul-le-mul}
-use lib.ListN.{length, getD}
+use lib.ListN.{length}
 use borrow.Author.Tests.{not-true, not-false}
 use Rattle.list_laws.proofs.RowLaws.{stride}
 use Rattle.targets.proofs.TrialLoop.{row-in, test-uncoloured, test-lost, end-low, test-end}

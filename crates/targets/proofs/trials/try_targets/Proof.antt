@@ -6,7 +6,6 @@ use Rattle.targets.specs.Trials.{copyRow}
 use Rattle.targets.proofs.TrialLoop.{Trying, trying-start, trying-lost, trying-found, trying-on, trying-end}
 use Rattle.targets.proofs.TrialLoop.{trying-falls, trying-few}
 use native.Mathlib.Omega.{arith}
-use borrow.Author.Needs.{needs}
 use Rattle.targets.proofs.trials.try_targets.Statement.{statement}
 use Rattle.targets.proofs.trials.try_targets.Tie as tie
 use Rattle.targets.proofs.trials.try_targets.Reads as reads
