@@ -6,7 +6,7 @@
 --     built-coloured                     the buffers afterwards are as built, whatever their excess is
 -- Assumes nothing.
 use Prim.Native.Nat.{ℕ, _+_, _*_, _^_, _≤_, _<_}
-use mathlib.Core.Path.{_≡_, sym, ap, _∙_}
+use mathlib.Core.Path.{_≡_, ap, _∙_}
 use mathlib.Core.Bool.{Bool, true, false}
 use mathlib.Core.List.{List, [], _∷_, _++_}
 use native.Mathlib.Omega.{arith}
@@ -17,11 +17,9 @@ use lib.Seq.{take-at}
 use borrow.Author.Tests.{le-leb, lt-leb, leb-true}
 use Rattle.list_laws.specs.Tests.{allBelow}
 use Rattle.list_laws.proofs.BoolLaws.{and-left, and-right}
-use Rattle.trees.specs.Tree.{Tree, size}
 use Rattle.formats.specs.Plan.{nodeCount, labelsIn, planTree}
 use Rattle.formats.specs.Rules.{stateCount, labelCount, ruleAutomaton}
 use Rattle.formats.specs.Checks.{Check, check, firstNo, planChecks, ruleChecks, labelCheck, ruleTableChecks}
-use Rattle.formats.specs.Checks.{stateTableLength}
 use Rattle.formats.specs.Built.{builtStateTable}
 use Rattle.formats.proofs.CheckLaws.{firstNo-head, firstNo-tail, firstNo-append-left, firstNo-append-right}
 use Rattle.formats.proofs.PlanLaws.{PlanPasses, plan-passes, plan-numbered, size-planTree}

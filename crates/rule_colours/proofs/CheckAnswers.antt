@@ -6,13 +6,12 @@
 use Prim.Native.Nat.{ℕ, _≤_, _<_}
 use mathlib.Core.Path.{_≡_, sym, ap, ap₂, _∙_}
 use mathlib.Core.Bool.{Bool, true, false, not}
-use mathlib.Core.List.{List, [], _∷_, _++_}
-use lib.Dec.{leb}
+use mathlib.Core.List.{List, [], _∷_}
 use borrow.Author.Tests.{le-leb, lt-leb, not-true, not-false}
 use Rattle.list_laws.specs.Tests.{allBelow}
 use Rattle.formats.specs.Plan.{nodeCount, labelsIn}
 use Rattle.formats.specs.Rules.{stateCount, labelCount}
-use Rattle.formats.specs.Checks.{Check, check, firstNo, planChecks, ruleChecks, labelCheck}
+use Rattle.formats.specs.Checks.{check, firstNo, planChecks, ruleChecks, labelCheck}
 use Rattle.formats.proofs.CheckLaws.{firstNo-none, firstNo-yes, firstNo-no}
 use Rattle.formats.proofs.PlanLaws.{plan-numbered}
 use Rattle.formats.proofs.RuleLaws.{rules-numbered}

@@ -12,7 +12,6 @@ use lib.Pow.{pow-mono}
 use lib.Seq.{ext-getD, length-take-le, getD-append-add, getD-drop, getD-take, drop-drop}
 use Rattle.list_laws.proofs.RowLaws.{stride}
 use Rattle.trees.specs.Tree.{Tree, size}
-use Rattle.trees.specs.Tables.{nodeTableOf, stateTableOf}
 use Rattle.trees.proofs.TableRows.{stateTableOf-state}
 use Rattle.formats.specs.Plan.{nodeCount, labelsIn, planTree}
 use Rattle.formats.specs.Rules.{stateCount, labelCount, leafStates, innerStates, ruleMarks, ruleAutomaton}
@@ -29,14 +28,13 @@ use Rattle.tables.specs.Answers.{buildingNumber, BuildDone}
 use Rattle.tables.specs.inner.States.{RuleRuns}
 use Rattle.tables.specs.inner.Maps.{Prepared}
 use Rattle.tables.proofs.BuildLaws.{built-lists, built-as-built, length-builtNodeTable, length-builtStates}
-use Rattle.colours.specs.Copies.{copy}
 use Rattle.colours.specs.StateSets.{setStep}
 use Rattle.colours.proofs.SetLaws.{setStep-below}
 use Rattle.colour_tables.proofs.LayoutLaws.{numbers-over, copies-over}
-use Rattle.rule_colours.specs.Build.{setNumbersLength, setBytesLength, ruleColourChecks, builtSetNumbers}
+use Rattle.rule_colours.specs.Build.{setNumbersLength, ruleColourChecks, builtSetNumbers}
 use Rattle.rule_colours.specs.Build.{builtSetCopies, builtSetBytes}
 use Rattle.rule_colours.specs.inner.Filled.{SetFillArgs, SetsFilled, AllFilled, PartArgs, SetColoursWritten}
-use Rattle.rule_colours.proofs.BuildLaws.{Accepted, accepted, table-passed, length-setNumbers, length-setBytes}
+use Rattle.rule_colours.proofs.BuildLaws.{accepted, table-passed, length-setNumbers, length-setBytes}
 
 -- ---- a table in front of a buffer
 
