@@ -197,7 +197,8 @@ module _ (p r nodeTable stateTable numbers bytes vs bs : List ℕ)
       nodeTable = D .tables .links;
     }
 
-    table-built : stateTableBuilt (sizesIn (inputsOf p r nodeTable stateTable)) (inputsOf p r nodeTable stateTable) ≡ true
+    table-built : stateTableBuilt (sizesIn (inputsOf p r nodeTable stateTable)) (inputsOf p r nodeTable stateTable)
+        ≡ true
     unfolding stateTableBuilt
     table-built = sameList-is (usedStateTable z x) _ (D .tables .states)
 
@@ -229,7 +230,8 @@ module _ (p r nodeTable stateTable numbers bytes vs bs : List ℕ)
         let hv : v < n = omega (arith, h, size-is) in
         let long : length (copyRow m rest v) ≡ m =
         length-part rest (v * m) m (omega (arith, stride m v n hv, bytes-room, length-drop base bytes)) in
-        let own : length (setCopies A t v) ≡ m = copy-colouring (setCount A) (setStep A t) t (setStep-below A t) v .count
+        let own : length (setCopies A t v) ≡ m = copy-colouring (setCount A) (setStep A t) t (setStep-below A t) v
+        .count
         in
         ext-getD 0 (copyRow m rest v) (setCopies A t v) (long ∙ sym own) (λ c l.
         getD-take m (drop (v * m) rest) c 0 (omega (arith, l, long))
