@@ -3,7 +3,7 @@
 --     tries-none    so
 -- Assumes nothing.
 use Prim.Native.Nat.{ℕ, zero, suc, _+_, _≤_, _<_}
-use mathlib.Core.Path.{_≡_, refl, sym, ap, _∙_, subst}
+use mathlib.Core.Path.{_≡_, refl, sym, _∙_, subst}
 use mathlib.Core.Bool.{Bool, true, false, cond}
 use mathlib.Core.List.{List}
 use mathlib.Core.Option.{Option, none, some, Option·some-injective}
@@ -29,7 +29,8 @@ module _ (n k : ℕ) (T : ColourTable) (rows : ℕ → List ℕ) (c w q : ℕ) w
     stops : ColourOutOfRange n k T → TriesFail x f
     uncoloured : (y : ℕ) → x ≤ y → y < x + f → length (rows c) ≤ targetColour rows c y → TriesFail x f
     unheldBy : ((y : ℕ) → x ≤ y → y < x + f → (d : Descent)
-        → descend T (targetColour rows c y) (some c) w (targetColour rows c y) ≡ some d → member (setAt rows w d) q ≡ false)
+        → descend T (targetColour rows c y) (some c) w (targetColour rows c y) ≡ some d → member (setAt rows w d) q
+        ≡ false)
         → TriesFail x f
 
   more : (x f : ℕ) → Fails x → TriesFail (suc x) f → TriesFail x (suc f)
@@ -64,15 +65,18 @@ module _ (n k : ℕ) (T : ColourTable) (rows : ℕ → List ℕ) (c w q : ℕ) w
 
         ends : (o : Option Descent) → descend T (targetColour rows c x) (some c) w (targetColour rows c x) ≡ o
             → targetColour rows c x < length (rows c)
-            → andThen o (λ d. cond (member (setAt rows w d) q) (some (tried x (d .searches))) (afterTrial (d .searches) later)) ≡ none
+            → andThen o (λ d. cond (member (setAt rows w d) q) (some (tried x (d .searches))) (afterTrial (d .searches)
+            later)) ≡ none
             → (tryFrom T rows c w q f (suc x) ≡ none → TriesFail (suc x) f) → TriesFail x (suc f)
         ends none g l i ih =
-            stops (descend-cause n k T sizes w hw (targetColour rows c x) (some c) (targetColour rows c x) (omega (arith, l, few)) g)
+            stops (descend-cause n k T sizes w hw (targetColour rows c x) (some c) (targetColour rows c x) (omega
+            (arith, l, few)) g)
         ends (some d) g l i ih = by d g (member (setAt rows w d) q) refl i ih
 
         go : (b : Bool) → ltb (targetColour rows c x) (length (rows c)) ≡ b
             → cond b (andThen (descend T (targetColour rows c x) (some c) w (targetColour rows c x)) (λ d.
-            cond (member (setAt rows w d) q) (some (tried x (d .searches))) (afterTrial (d .searches) later))) none ≡ none
+            cond (member (setAt rows w d) q) (some (tried x (d .searches))) (afterTrial (d .searches) later))) none
+            ≡ none
             → (tryFrom T rows c w q f (suc x) ≡ none → TriesFail (suc x) f) → TriesFail x (suc f)
         go true t i ih =
             ends (descend T (targetColour rows c x) (some c) w (targetColour rows c x)) refl

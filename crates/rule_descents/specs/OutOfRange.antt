@@ -27,6 +27,7 @@ pub data RuleColoursOutOfRange (L : ColourView) (vs bs : List ℕ) : Type 0 wher
   -- .. or sets at node w of which none, for no target state at node c, holds state q
   unheld : (c w q : ℕ) → c < L .view .n → w < L .view .n → q < L .view .s
       → ((x : ℕ) → x < L .view .s → (d : Descent)
-      → descend (sidesIn L .table) (targetColour (sidesIn L .copies) c x) (some c) w (targetColour (sidesIn L .copies) c x) ≡ some d
+      → descend (sidesIn L .table) (targetColour (sidesIn L .copies) c x) (some c) w (targetColour (sidesIn L .copies)
+      c x) ≡ some d
       → member (setAt (sidesIn L .copies) w d) q ≡ false)
       → RuleColoursOutOfRange L vs bs

@@ -25,7 +25,8 @@ use Rattle.rule_colours.specs.Build.{RuleColoured}
 use Rattle.part_descents.specs.OneSided.{oneSided}
 use Rattle.rule_descents.specs.declared.answers.RuleDescending.{RuleDescending}
 use Rattle.rule_descents.specs.declared.answers.RuleDescending.the-variants.{Answered, Refused}
-use Rattle.rule_descents.specs.Question.{lentColours, ruleAskNumber, ruleAskAnswer, ruleDescendingNumber, answeredWith}
+use Rattle.rule_descents.specs.Question.{lentColours, ruleAskNumber, ruleAskAnswer, ruleDescendingNumber}
+use Rattle.rule_descents.specs.Question.{answeredWith}
 use Rattle.rule_descents.specs.OutOfRange.{RuleColoursOutOfRange}
 
 pub record RuleColoursBuilt (p r nodeTable stateTable numbers bytes : List ℕ) : Type 0 where

@@ -16,7 +16,8 @@ ghost use Rattle.questions.specs.Promises.{RootsDone};
 ghost use Rattle.rule_descents.specs.Promise.{linksKept, RuleAskDone};
 ghost use Rattle.rule_descents.specs.inner.Args.{LeftArgs, RootArgs, LentArgs, answeredFor, answeredOn};
 
-// The roots of the parts of the listed nodes whose label, after superseding, is not the plan's. The others are no change.
+// The roots of the parts of the listed nodes whose label, after superseding, is not the plan's. The others are no
+// change.
 fn roots_left(n: usize, plan: &[u8], node_table: &[u16], nodes: &[u16], labels: &[u8]) -> Rooted
     requires { ⌜ LeftArgs n (now plan) (now «node_table») ⌝ }
     ensures { λ r. ⌜ RootsDone n (take (n * 4) (now («node_table» .entry)))
@@ -118,8 +119,8 @@ fn answer_lent(
     )
 }
 
-// A rule question by colours, outside the session: N, S and K are those of the headers. Asks 17, 27, 12, 13, 14 and 18 in
-// this order; of two entries for a node the last holds, and one that changes nothing is none.
+// A rule question by colours, outside the session: N, S and K are those of the headers. Asks 17, 27, 12, 13, 14 and 18
+// in this order; of two entries for a node the last holds, and one that changes nothing is none.
 pub fn ask_rule_colours(
     plan: &[u8],
     rules: &[u8],
