@@ -120,13 +120,15 @@ module _ (A : Automaton) (t : Tree) where
       pub record Trial (x : ℕ) : Type 0 where
         pub way : Descent
         pub has-it : targetColour (setCopies A t) c x < length (setCopies A t c)
-        pub found : descend (setTable A t) (targetColour (setCopies A t) c x) (some c) w (targetColour (setCopies A t) c x) ≡ some way
+        pub found : descend (setTable A t) (targetColour (setCopies A t) c x) (some c) w (targetColour (setCopies A t)
+            c x) ≡ some way
         pub holds-it : member (setAt (setCopies A t) w way) q ≡ eqb (walk (stepUp A t) t w k q) x
         pub falls : length (way .searches) ≤ setCount A - 1
         pub few : AllLe (3 * digits (height t)) (way .searches)
 
       -- the copy k places above w is c's
-      begins : copyIn (setCount A) (setStep A t) t (ancestor t w k) (suc (depth t w) - k) ≡ copy (setCount A) (setStep A t) t c
+      begins : copyIn (setCount A) (setStep A t) t (ancestor t w k) (suc (depth t w) - k)
+          ≡ copy (setCount A) (setStep A t) t c
       unfolding copy
       begins =
           let a : depth t c + k ≡ depth t w =
@@ -177,7 +179,8 @@ module _ (A : Automaton) (t : Tree) where
           elim (ℕ-discrete (walk (stepUp A t) t w k q) x) [
             | yes i ↦ record {
               searches = T .way .searches;
-              found = try-found (setTable A t) (setCopies A t) c w q x (tryFrom (setTable A t) (setCopies A t) c w q f (suc x))
+              found = try-found (setTable A t) (setCopies A t) c w q x (tryFrom (setTable A t) (setCopies A t) c w q f
+                  (suc x))
                   (T .has-it) (T .way) (T .found) (T .holds-it ∙ eq-eqb (walk (stepUp A t) t w k q) x i)
                   ∙ ap (λ (y : ℕ). some (tried y (T .way .searches))) (sym i);
               falls = once f (setCount A - 1) (length (T .way .searches)) (T .falls);
@@ -186,11 +189,13 @@ module _ (A : Automaton) (t : Tree) where
             | no i ↦ (let R : Found f (suc x) = tries f (suc x) (omega arith) (omega arith) (omega arith) in
                 record {
                   searches = T .way .searches ++ R .searches;
-                  found = try-on (setTable A t) (setCopies A t) c w q x (tryFrom (setTable A t) (setCopies A t) c w q f (suc x))
+                  found = try-on (setTable A t) (setCopies A t) c w q x (tryFrom (setTable A t) (setCopies A t) c w q f
+                      (suc x))
                       (T .has-it) (T .way) (T .found) (T .holds-it ∙ ne-eqb (walk (stepUp A t) t w k q) x i)
                       ∙ ap (afterTrial (T .way .searches)) (R .found);
                   falls = rw (length-append (T .way .searches) (R .searches))
-                      (more f (setCount A - 1) (length (T .way .searches)) (length (R .searches)) (T .falls) (R .falls));
+                      (more f (setCount A - 1) (length (T .way .searches)) (length (R .searches)) (T .falls) (R
+                      .falls));
                   few = all-append (3 * digits (height t)) (T .way .searches) (R .searches) (T .few) (R .few);
                 })
           ]

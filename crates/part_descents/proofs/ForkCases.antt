@@ -3,8 +3,8 @@
 --     part-leaf, part-first, part-outside, part-fork   by the root's kind and children
 -- Assumes nothing.
 use Prim.Native.Nat.{ℕ, _+_, _-_, _*_, _^_, _≤_, _<_}
-use mathlib.Core.Path.{_≡_, refl, sym, ap, ap₂, _∙_, subst}
-use mathlib.Core.Bool.{Bool, true, false}
+use mathlib.Core.Path.{_≡_, sym, ap, ap₂, _∙_}
+use mathlib.Core.Bool.{true, false}
 use mathlib.Core.List.{List, _++_}
 use mathlib.Core.Option.{Option, none, some}
 use native.Mathlib.Decide.{ℕ-discrete}
@@ -25,10 +25,11 @@ use Rattle.colours.specs.StateSets.{Tried, tried}
 use Rattle.targets.specs.declared.trials.Trial.{Trial}
 use Rattle.targets.specs.Trials.{trialOf}
 use Rattle.targets.proofs.TrialLoop.{sum-append}
-use Rattle.part_descents.specs.Part.{ColourView, Sides, sidesOf, sidesIn, sideTried, joinTried, forkTried, leafTried}
+use Rattle.part_descents.specs.Part.{ColourView, Sides, sidesOf, sideTried, joinTried, forkTried}
+use Rattle.part_descents.specs.Part.{leafTried}
 use Rattle.part_descents.specs.Part.{partTried}
-use Rattle.part_descents.specs.inner.Args.{FewTried, SideFew, SideDone, PartDone}
-use Rattle.part_descents.proofs.TrialLaws.{trial-none, Is, trial-some, Still, none-few}
+use Rattle.part_descents.specs.inner.Args.{FewTried, SideDone, PartDone}
+use Rattle.part_descents.proofs.TrialLaws.{trial-none, Is, trial-some, none-few}
 
 lost-part : (s : ℕ) (o : Option Tried) (r : Trial) → o ≡ none → r ≡ trialOf none → PartDone s o r
 lost-part s o r e i = record { result = i ∙ ap trialOf (sym e); bounds = none-few s r i .all }
@@ -52,7 +53,8 @@ module _ (Y : Sides) (k : ℕ) (inner nodeTable es qs : List ℕ) (v l a i j : �
   unfolding forkTried
   fork-by =
       let p : foundBelow nodeTable l es qs ≡ f = found-scan nodeTable l es qs same ∙ ap (foundOf es qs) (sym is-i) in
-      let q : foundBelow nodeTable (v - 1) es qs ≡ g = found-scan nodeTable (v - 1) es qs same ∙ ap (foundOf es qs) (sym is-j) in
+      let q : foundBelow nodeTable (v - 1) es qs ≡ g = found-scan nodeTable (v - 1) es qs same
+      ∙ ap (foundOf es qs) (sym is-j) in
       ap₂ (λ (x y : Option Found). joinTried X a (sideTried Y l x y) (sideTried Y (v - 1) y x)) p q
 
   module _ (x : Trial) (D : SideDone (Y .s) i j (sideTried Y l (foundOf es qs i) (foundOf es qs j)) x) where
@@ -75,7 +77,8 @@ module _ (Y : Sides) (k : ℕ) (inner nodeTable es qs : List ℕ) (v l a i j : �
           let n = trial-none (sideTried Y (v - 1) g f) y (E .result) w in
           lost-part (Y .s) _ r (fork-by ∙ ap₂ (λ (o u : Option Tried). joinTried X a o u) (left .is) n) e
 
-      module _ (w : y .ok ≡ true) (q : ℕ) (R : below (Y .s) q ≡ ruleOn (rulesView (Y .s) k inner) (x .state) a (y .state)) where
+      module _ (w : y .ok ≡ true) (q : ℕ) (R : below (Y .s) q ≡ ruleOn (rulesView (Y .s) k inner) (x .state) a (y
+          .state)) where
         right : Is (sideTried Y (v - 1) (foundOf es qs j) (foundOf es qs i)) y
         right = trial-some (sideTried Y (v - 1) g f) y (E .result) w
 
@@ -161,7 +164,8 @@ module _ (L : ColourView) (es qs vs bs : List ℕ) (v a : ℕ) (is-a : a ≡ get
           )) e
 
       pub part-fork : (m z : ℕ) (r : Trial) → m ≡ 2 ^ L .view .s → z ≡ sizeCell (L .view .nodeTable) (v - 1) → z ≤ v - 1
-          → PartDone (L .view .s) (forkTried (sidesOf (L .view .n) (L .view .s) m (L .view .stateTable) (L .numbers) (L .copies))
+          → PartDone (L .view .s) (forkTried (sidesOf (L .view .n) (L .view .s) m (L .view .stateTable) (L .numbers) (L
+          .copies))
           (L .view .k) (L .view .inner) (L .view .nodeTable) es qs v (v - 1 - z) a) r
           → PartDone (L .view .s) (partTried L es qs vs bs v) r
       unfolding partTried labelOn
@@ -171,7 +175,8 @@ module _ (L : ColourView) (es qs vs bs : List ℕ) (v a : ℕ) (is-a : a ≡ get
       }
         where
           go : partTried L es qs vs bs v
-              ≡ forkTried (sidesOf (L .view .n) (L .view .s) m (L .view .stateTable) (L .numbers) (L .copies)) (L .view .k)
+              ≡ forkTried (sidesOf (L .view .n) (L .view .s) m (L .view .stateTable) (L .numbers) (L .copies)) (L .view
+              .k)
               (L .view .inner) (L .view .nodeTable) es qs v (v - 1 - z) a
           go = rw (
             ne-eqb (getD (W .kinds) v 0) 0 h,

@@ -1,15 +1,15 @@
--- On tables as built a part by colours has the state of "Parts of a question", found by the trials of its one-sided child.
+-- On tables as built a part by colours has the state of "Parts of a question", found by the trials of its one-sided
+-- child.
 --     PartIs       so, with at most 60 drops where it is one-sided, none elsewhere, each found by few links
 --     part-built   of every part
 -- Assumes nothing.
-use Prim.Native.Nat.{ℕ, zero, suc, _+_, _-_, _*_, _^_, _≤_, _<_}
+use Prim.Native.Nat.{ℕ, _+_, _-_, _*_, _≤_, _<_}
 use mathlib.Core.Path.{_≡_, refl, sym, ap, ap₂, _∙_, subst}
-use mathlib.Core.Bool.{Bool, true, false, cond, not, _&&_}
-use mathlib.Core.List.{List, [], _∷_, _++_, append-nil, List·Memᴰ, List·Memᴰ·head, Memᴰ·append-right}
+use mathlib.Core.Bool.{Bool, true, false, cond, not}
+use mathlib.Core.List.{List, [], _∷_, _++_, List·Memᴰ, List·Memᴰ·head, Memᴰ·append-right}
 use mathlib.Core.Option.{Option, none, some}
 use native.Mathlib.Decide.{ℕ-discrete}
 use native.Mathlib.Omega.{arith}
-use lib.Dec.{leb, ltb, eqb}
 use lib.ListN.{length, getD, length-append}
 use borrow.Author.Tests.{lt-ltb, le-leb, eq-eqb, ne-eqb}
 use Rattle.trees.specs.Tree.{Tree, size, height, kindAt, labelsOf}
@@ -19,10 +19,11 @@ use Rattle.trees.specs.Numbering.{sub}
 use Rattle.trees.proofs.NodeLaws.{Inner, inner}
 use Rattle.node_tables.specs.Cells.{sizeCell}
 use Rattle.tables.specs.Climbs.{View, below, runOn, ruleOn}
-use Rattle.tables.specs.inner.PathViews.{rulesView, statesView}
+use Rattle.tables.specs.inner.PathViews.{rulesView}
 use Rattle.ready.specs.Ready.{leftChild, rightChild}
 use Rattle.ready.specs.StaysInside.{StaysInside}
-use Rattle.ready.specs.Parts.{Given, Part, anyBelow, highestBelow, nodesOf, statesOf, stateOf, climbedState, innerState, partState}
+use Rattle.ready.specs.Parts.{Given, Part, anyBelow, highestBelow, nodesOf, statesOf, stateOf, climbedState, innerState}
+use Rattle.ready.specs.Parts.{partState}
 use Rattle.ready.proofs.BelowLaws.{some-below}
 use Rattle.ready.proofs.ClosedForm.{kind-one}
 use Rattle.ready.proofs.HighestLaws.{Highest}
@@ -38,7 +39,8 @@ use Rattle.colour_tables.specs.ColourCells.{cellTable}
 use Rattle.colours.proofs.DescentLaws.{AllLe}
 use Rattle.colour_parts.specs.Sides.{SideFound}
 use Rattle.colour_parts.proofs.SideLaws.{side-found}
-use Rattle.part_descents.specs.Part.{ColourView, sidesIn, untried, colourFrom, sideTried, joinTried, forkTried, leafTried}
+use Rattle.part_descents.specs.Part.{ColourView, sidesIn, untried, colourFrom, sideTried, joinTried, forkTried}
+use Rattle.part_descents.specs.Part.{leafTried}
 use Rattle.part_descents.specs.Part.{partTried}
 use Rattle.part_descents.specs.OneSided.{isOneSided}
 use Rattle.part_descents.proofs.TriesBuilt.{SidesBuilt, tries-built}
@@ -77,14 +79,16 @@ module _ (L : ColourView) (G : Given) (u : Tree) (R : Reads (L .view) G) (RG : R
     unfolding sideTried runOn
     run-side g = ap untried (unfold runOn in run-built X G R c (omega (arith, hv)))
 
-    own-side : (h : ℕ) (g : Found) → sideTried (sidesIn L) c (some (found h (stateOf ps h))) (some g) ≡ some (tried (stateOf ps h) [])
+    own-side : (h : ℕ) (g : Found) → sideTried (sidesIn L) c (some (found h (stateOf ps h))) (some g)
+        ≡ some (tried (stateOf ps h) [])
     unfolding sideTried
     own-side h g = ap untried (is-below (X .s) (stateOf ps h) (small h))
 
     -- "the state its climb gives is found by trying target states in rising order up to it"
     tried-side : anyBelow ms (G .tree) c ≡ true
         → PartIs (G .tree)
-        (sideTried (sidesIn L) c (some (found (highestBelow ms (G .tree) c) (stateOf ps (highestBelow ms (G .tree) c)))) none)
+        (sideTried (sidesIn L) c (some (found (highestBelow ms (G .tree) c) (stateOf ps (highestBelow ms (G .tree)
+        c)))) none)
         (climbedState G ms ps c) 60
     unfolding sideTried colourFrom
     tried-side a =
@@ -109,7 +113,8 @@ module _ (L : ColourView) (G : Given) (u : Tree) (R : Reads (L .view) G) (RG : R
             → tryFrom (sidesIn L .table) (sidesIn L .copies) c h q (X .s) 0
             ≡ tryTargets (G .automaton) (G .tree) c h q
         by-tree c h q hc hh =
-            ap₂ (λ (n s : ℕ). tryFrom (cellTable n (L .numbers)) (sidesIn L .copies) c h q s 0) (R .count) (sym (R .states))
+            ap₂ (λ (n s : ℕ). tryFrom (cellTable n (L .numbers)) (sidesIn L .copies) c h q s 0) (R .count) (sym (R
+            .states))
             ∙ tries-built (G .automaton) t (L .numbers) (sidesIn L .copies) B c h q hc hh
 
     -- a child that is a member is the highest below itself
@@ -148,7 +153,13 @@ module _ (L : ColourView) (G : Given) (u : Tree) (R : Reads (L .view) G) (RG : R
     own p q =
         let N = some-below t l ms (M .rising) p in
         let O = some-below t r ms (M .rising) q in
-        M .closed .has-children v _ _ v-member (N .member) (O .member) (record { inside = hv; inner = k; left = N .below; right = O .below })
+        M .closed .has-children v _ _ v-member (N .member) (O .member) (record {
+          inside = hv;
+          inner = k;
+          left = N
+              .below;
+          right = O .below;
+        })
 
     joined-sides : (x y : Option Tried) (p q m n : ℕ) → PartIs (G .tree) x p m → PartIs (G .tree) y q n
         → PartIs (G .tree) (joinTried (rulesView (X .s) (X .k) (X .inner)) (getD (G .labels) v 0) x y)
@@ -164,15 +175,19 @@ module _ (L : ColourView) (G : Given) (u : Tree) (R : Reads (L .view) G) (RG : R
     still : (o : Option Tried) (q : ℕ) → o ≡ some (tried q []) → PartIs (G .tree) o q 0
     still o q e = record { searches = []; found = e; falls = omega arith; few = tt }
 
-    fork-is : (c d : Bool) → anyBelow ms (G .tree) (leftChild (G .tree) v) ≡ c → anyBelow ms (G .tree) (rightChild v) ≡ d
+    fork-is : (c d : Bool) → anyBelow ms (G .tree) (leftChild (G .tree) v) ≡ c → anyBelow ms (G .tree) (rightChild v)
+        ≡ d
         → PartIs (G .tree)
         (joinTried (rulesView (X .s) (X .k) (X .inner)) (getD (G .labels) v 0)
-        (sideTried (sidesIn L) (leftChild (G .tree) v) (foundBelow (X .nodeTable) (leftChild (G .tree) v) (nodesOf ps) (statesOf ps))
+        (sideTried (sidesIn L) (leftChild (G .tree) v) (foundBelow (X .nodeTable) (leftChild (G .tree) v) (nodesOf ps)
+        (statesOf ps))
         (foundBelow (X .nodeTable) (v - 1) (nodesOf ps) (statesOf ps)))
         (sideTried (sidesIn L) (v - 1) (foundBelow (X .nodeTable) (v - 1) (nodesOf ps) (statesOf ps))
         (foundBelow (X .nodeTable) (leftChild (G .tree) v) (nodesOf ps) (statesOf ps))))
-        (cond c (cond d (G .automaton .δ (stateOf ps l) b (stateOf ps r)) (G .automaton .δ (climbedState G ms ps l) b (G .runState r)))
-        (cond d (G .automaton .δ (G .runState l) b (climbedState G ms ps r)) (G .automaton .δ (G .runState l) b (G .runState r))))
+        (cond c (cond d (G .automaton .δ (stateOf ps l) b (stateOf ps r)) (G .automaton .δ (climbedState G ms ps l) b
+        (G .runState r)))
+        (cond d (G .automaton .δ (G .runState l) b (climbedState G ms ps r)) (G .automaton .δ (G .runState l) b (G
+        .runState r))))
         (60 * bit (cond c (not d) d))
     fork-is true true p q =
         let m = own p q in
@@ -215,7 +230,10 @@ module _ (L : ColourView) (G : Given) (u : Tree) (R : Reads (L .view) G) (RG : R
         )
             (record { searches = []; found = refl; falls = omega arith; few = tt })
         | no n ↦ (let i : Inner t v = inner t v hv n in
-            let s : sizeCell (X .nodeTable) (v - 1) ≡ size (sub t (v - 1)) = R .cells .sizes (v - 1) (omega (arith, hv)) in
+            let s : sizeCell (X .nodeTable) (v - 1) ≡ size (sub t (v - 1)) = R .cells .sizes (v - 1) (omega (
+              arith,
+              hv,
+            )) in
             rw (
               kind,
               ne-eqb (kindAt t v) 0 n,

@@ -1,11 +1,10 @@
 -- The state at a child, by the tests of the code.
 --     side-run, side-own, side-outside, side-found
 -- Assumes nothing.
-use Prim.Native.Nat.{ℕ, _+_, _-_, _≤_, _<_}
-use mathlib.Core.Path.{_≡_, refl, sym, ap, _∙_, subst}
+use Prim.Native.Nat.{ℕ, _-_, _≤_, _<_}
+use mathlib.Core.Path.{_≡_, sym, ap, _∙_}
 use mathlib.Core.List.{List}
 use mathlib.Core.Option.{Option, none, some}
-use native.Mathlib.Omega.{arith}
 use lib.ListN.{getD}
 use Rattle.trees.specs.Climb.{andThen}
 use Rattle.tables.specs.Climbs.{below, runOn}
@@ -18,7 +17,7 @@ use Rattle.colours.specs.StateSets.{Tried, tryFrom}
 use Rattle.targets.specs.declared.trials.Trial.{Trial}
 use Rattle.targets.specs.Trials.{trialOf, TargetsDone}
 use Rattle.part_descents.specs.Part.{Sides, untried, colourFrom, sideTried}
-use Rattle.part_descents.specs.inner.Args.{FewTried, SideFew, SideDone}
+use Rattle.part_descents.specs.inner.Args.{SideDone}
 use Rattle.part_descents.proofs.TrialLaws.{Still, none-few, untried-few, targets-few}
 
 module _ (Y : Sides) (c : ℕ) (es qs : List ℕ) (own other : ℕ) where
@@ -67,7 +66,8 @@ module _ (Y : Sides) (c : ℕ) (es qs : List ℕ) (own other : ℕ) where
       side-outside r l e =
           still-side r
           (e
-          ∙ ap (λ (o : Option ℕ). trialOf (andThen o (λ q. tryFrom (Y .table) (Y .copies) c (getD es (own - 1) 0) q (Y .s) 0)))
+          ∙ ap (λ (o : Option ℕ). trialOf (andThen o (λ q. tryFrom (Y .table) (Y .copies) c (getD es (own - 1) 0) q (Y
+          .s) 0)))
           (sym (below-no (Y .s) (getD qs (own - 1) 0) l))
           ∙ alone)
           (none-few (Y .s) r e)
@@ -78,7 +78,8 @@ module _ (Y : Sides) (c : ℕ) (es qs : List ℕ) (own other : ℕ) where
       unfolding colourFrom
       side-found r few l D = record {
         result = D .result
-            ∙ ap (λ (o : Option ℕ). trialOf (andThen o (λ q. tryFrom (Y .table) (Y .copies) c (getD es (own - 1) 0) q (Y .s) 0)))
+            ∙ ap (λ (o : Option ℕ). trialOf (andThen o (λ q. tryFrom (Y .table) (Y .copies) c (getD es (own - 1) 0) q
+            (Y .s) 0)))
             (sym (below-yes (Y .s) (getD qs (own - 1) 0) l))
             ∙ alone;
         bounds = record {

@@ -4,10 +4,10 @@
 --     untried-few, none-few, targets-few   bounds
 --     leaf-outside, leaf-at, leaf-few   the part of a leaf
 -- Assumes nothing.
-use Prim.Native.Nat.{ℕ, _+_, _*_, _≤_, _<_}
-use mathlib.Core.Path.{_≡_, refl, sym, ap, _∙_, subst}
+use Prim.Native.Nat.{ℕ, _≤_, _<_}
+use mathlib.Core.Path.{_≡_, refl, sym, ap, _∙_}
 use mathlib.Core.Bool.{Bool, true, false, cond}
-use mathlib.Core.List.{List, []}
+use mathlib.Core.List.{List}
 use mathlib.Core.Option.{Option, none, some}
 use native.Mathlib.Omega.{arith}
 use lib.Dec.{ltb}
@@ -17,7 +17,7 @@ use Rattle.list_laws.proofs.BoolLaws.{true-false}
 use Rattle.tables.specs.Climbs.{below}
 use Rattle.tables.proofs.LookupLaws.{below-yes, below-no, below-state}
 use Rattle.colours.specs.Descents.{ColourTable, sum}
-use Rattle.colours.specs.StateSets.{Tried, tried}
+use Rattle.colours.specs.StateSets.{Tried}
 use Rattle.targets.specs.declared.trials.Trial.{Trial}
 use Rattle.targets.specs.Trials.{trialOf, TargetsDone}
 use Rattle.part_descents.specs.Part.{untried, leafTried}

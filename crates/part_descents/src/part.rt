@@ -45,7 +45,8 @@ fn untried_state(q: usize, s: usize) -> Trial
     }
 }
 
-// The state at child c, where `own` is the place of the last earlier root below c and `other` that of the last below its
+// The state at child c, where `own` is the place of the last earlier root below c and `other` that of the last below
+// its
 // sibling: the run's without a root below, the root's own with roots below both, else what the trials find.
 fn side_by_colours(
     state_table: &[u8],
@@ -101,8 +102,9 @@ fn fork_by_colours(
         (now (copies .entry))) k (now (inner .entry)) (now («node_table» .entry)) (now (earlier .entry))
         (now (states .entry)) v l a) r ⌝ }
 {
+    let r = v - 1;
     let i = last_below(node_table, earlier, l);
-    let j = last_below(node_table, earlier, v - 1);
+    let j = last_below(node_table, earlier, r);
     let x = side_by_colours(
         state_table,
         numbers,
@@ -128,7 +130,7 @@ fn fork_by_colours(
         m,
         earlier,
         states,
-        v - 1,
+        r,
         j,
         i,
     );
@@ -179,11 +181,14 @@ pub fn part_by_colours(
     changes: &[u8],
     v: usize,
 ) -> Trial
-    requires { ⌜ PartArgs n s k m (now labels) (now kinds) (now leaves) (now inner) (now «node_table») (now «state_table»)
+    requires { ⌜ PartArgs n s k m (now labels) (now kinds) (now leaves) (now inner) (now «node_table») (now
+        «state_table»)
         (now numbers) (now copies) (now earlier) (now states) (now nodes) (now changes) v ⌝ }
-    ensures { λ r. ⌜ PartDone s (partTried (colourView n s k (now (labels .entry)) (now (kinds .entry)) (now (leaves .entry))
+    ensures { λ r. ⌜ PartDone s (partTried (colourView n s k (now (labels .entry)) (now (kinds .entry)) (now (leaves
+        .entry))
         (now (inner .entry)) (now («node_table» .entry)) (now («state_table» .entry)) (now (numbers .entry))
-        (now (copies .entry))) (now (earlier .entry)) (now (states .entry)) (now (nodes .entry)) (now (changes .entry)) v)
+        (now (copies .entry))) (now (earlier .entry)) (now (states .entry)) (now (nodes .entry)) (now (changes .entry))
+        v)
         r ⌝ }
 {
     let a = label_on(labels, nodes, changes, v);

@@ -16,9 +16,9 @@ use Rattle.tables.specs.inner.Maps.{Prepared}
 use Rattle.colours.specs.StateSets.{setStep}
 use Rattle.colour_tables.proofs.LayoutLaws.{part-at}
 use Rattle.colour_states.specs.Written.{CopiesFrom}
+use Rattle.colour_states.proofs.CopyLoop.{first-elsewhere, past-elsewhere}
 use Rattle.colour_forests.specs.Colours.{Landed, ColoursTo, ColoursArgs}
 use Rattle.set_states.specs.SetPass.{SetsFrom, SetArgs}
-use Rattle.set_states.proofs.StepLaws.{first-elsewhere, past-elsewhere}
 use Rattle.rule_colours.specs.inner.Filled.{SetFillArgs, SetsFilled, AllFilled}
 
 -- what the pass over the sets leaves

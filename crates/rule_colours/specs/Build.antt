@@ -1,7 +1,7 @@
 -- The build of the tables of colours for a rule table: its checks, and what it writes.
 --
--- setNumbersLength n s, setBytesLength n s == how many numbers and bytes n nodes and s states need: a colour for each of
---   2 to the power s sets of states; the bytes begin with the state table of a Load, and the copies follow
+-- setNumbersLength n s, setBytesLength n s == how many numbers and bytes n nodes and s states need: a colour for each
+--   of 2 to the power s sets of states; the bytes begin with the state table of a Load, and the copies follow
 -- setColoursFit n s numbers bytes == buffers of these lengths have room for n nodes and s states
 -- setStatesFit s == check 27 as a test
 -- ruleColourChecks p r numbers bytes == 2 to 9, 27, 10, then 11; the last two are the lengths of the buffers

@@ -3,23 +3,22 @@
 --     roots-lost, roots-answer  the answer for the roots: a part without a result, and the state of the last
 --     rooted-room, lent-lost, root-args, lent-answer   the roots: none, and those that were found
 -- Assumes nothing.
-use Prim.Native.Nat.{ℕ, zero, suc, _+_, _-_, _*_, _^_, _≤_, _<_}
+use Prim.Native.Nat.{ℕ, _+_, _-_, _*_, _^_, _≤_, _<_}
 use mathlib.Core.Path.{_≡_, refl, sym, ap, ap₂, _∙_, subst}
 use mathlib.Core.Bool.{Bool, true, false, cond}
-use mathlib.Core.List.{List, [], _∷_, _++_}
+use mathlib.Core.List.{List, []}
 use mathlib.Core.Option.{Option, none, some}
 use native.Mathlib.Decide.{ℕ-discrete}
 use native.Mathlib.Omega.{arith}
 use lib.Dec.{eqb}
 use lib.ListN.{length, getD, take, drop, replicate, length-take, length-drop, length-append}
-use lib.Seq.{length-take-le, take-append-seam, getD-take, getD-drop}
+use lib.Seq.{take-append-seam, getD-take, getD-drop}
 use Rattle.list_laws.proofs.BoolLaws.{true-false}
 use Rattle.list_laws.proofs.SliceLaws.{rest-part}
 use Rattle.trees.specs.Climb.{andThen}
-use Rattle.formats.specs.Plan.{nodeCount, labelsIn}
-use Rattle.formats.specs.Rules.{stateCount, labelCount, ruleLength, ruleMarks, ruleAutomaton}
+use Rattle.formats.specs.Plan.{nodeCount}
+use Rattle.formats.specs.Rules.{stateCount, labelCount, ruleLength, ruleAutomaton}
 use Rattle.formats.specs.Checks.{nodeTableLength}
-use Rattle.formats.specs.Buffers.{ruleTables}
 use Rattle.formats.proofs.PlanLaws.{product-most}
 use Rattle.formats.proofs.BufferLaws.{Limits, limits-are, Lengths, lengths-are, are-limits, are-lengths}
 use Rattle.formats.specs.inner.InnerChecks.{listsFit}
@@ -28,18 +27,15 @@ use Rattle.changes.proofs.LastDifferingLaws.{last-most}
 use Rattle.questions.specs.declared.roots.Rooted.{Rooted}
 use Rattle.questions.specs.RootsAnswers.{rootedOf, rootsGiven}
 use Rattle.questions.specs.Promises.{RootsAre, RootsDone}
-use Rattle.questions.specs.inner.PartArgs.{partView}
 use Rattle.questions.proofs.PlaceLaws.{to-below, to-some, below-entry}
-use Rattle.colours.specs.Descents.{sum}
 use Rattle.colours.specs.StateSets.{Tried, tried}
 use Rattle.targets.specs.declared.trials.Trial.{Trial}
-use Rattle.targets.specs.Trials.{trialOf}
 use Rattle.part_descents.specs.Part.{ColourView, handledFrom}
-use Rattle.part_descents.specs.inner.Args.{colourView, PartReads}
+use Rattle.part_descents.specs.inner.Args.{colourView}
 use Rattle.part_descents.proofs.TrialLaws.{trial-none, Is, trial-some}
 use Rattle.rule_descents.specs.declared.answers.RuleDescending.{RuleDescending}
 use Rattle.rule_descents.specs.declared.answers.RuleDescending.the-variants.{Answered, Refused}
-use Rattle.rule_descents.specs.Question.{Handled, handled, handledOn, askedOn, leftIn, lentColours, ruleAnswer, answeredWith}
+use Rattle.rule_descents.specs.Question.{handled, handledOn, leftIn, lentColours, ruleAnswer}
 use Rattle.rule_descents.specs.inner.Args.{AllArgs, AllDone, RootArgs, LentArgs, lentAs, answeredFor, answeredOn}
 use Rattle.rule_descents.proofs.AskChecks.{Passed, passed-are}
 
@@ -61,7 +57,8 @@ module _ (n s k : ℕ) (p r nodeTable stateTable numbers bytes vs bs ms : List �
       let x = product-most s k 16 64 (l .few) (l .labels-most) in
       record {
         limits = l;
-        lengths = lengths-are n s (ruleLength s k) (length p) (length r) (length nodeTable) (length stateTable) (A .lengths);
+        lengths = lengths-are n s (ruleLength s k) (length p) (length r) (length nodeTable) (length stateTable) (A
+            .lengths);
         rows = x;
         rules-few = product-most (s * k) s 1024 16 x (l .few);
         cells = product-most n (s + 1) 65535 17 (l .most) (omega (arith, l .few));
@@ -85,7 +82,8 @@ module _ (n s k : ℕ) (p r nodeTable stateTable numbers bytes vs bs ms : List �
       let F = runs-by in
       let a = F .lengths .plan-is in
       let b = F .lengths .table-is in
-      let room : m * (n * 4) ≤ length numbers = subst (λ (x : ℕ). x * (n * 4) ≤ length numbers) (sym e) (A .numbers-room) in
+      let room : m * (n * 4) ≤ length numbers = subst (λ (x : ℕ). x * (n * 4) ≤ length numbers) (sym e) (A
+      .numbers-room) in
       let all : n * (s + 1) + n * m ≤ length bytes =
       subst (λ (x : ℕ). n * (s + 1) + n * x ≤ length bytes) (sym e) (A .bytes-room) in
       record {
@@ -147,16 +145,19 @@ module _ (n s k : ℕ) (p r nodeTable stateTable numbers bytes vs bs ms : List �
       marked : eqb (getD r (20 + k + s * k * s + t .state) 0) 1 ≡ ruleAutomaton r .accepting (t .state)
       marked =
           ap (λ (x : ℕ). eqb x 1)
-          (sym (ap₂ (λ (i j : ℕ). getD (take i (drop (20 + j + i * j * i) r)) (t .state) 0) (sym (A .s-is)) (sym (A .k-is))
+          (sym (ap₂ (λ (i j : ℕ). getD (take i (drop (20 + j + i * j * i) r)) (t .state) 0) (sym (A .s-is)) (sym (A
+          .k-is))
           ∙ getD-take s (drop (20 + k + s * k * s) r) (t .state) 0 mark-place
           ∙ getD-drop (20 + k + s * k * s) r (t .state) 0))
 
-      pub roots-answer : Answered (t .state) (eqb (getD r (20 + k + s * k * s + t .state) 0) 1) (t .drops) (t .links) (length ms)
+      pub roots-answer : Answered (t .state) (eqb (getD r (20 + k + s * k * s + t .state) 0) 1) (t .drops) (t .links)
+          (length ms)
           ≡ answeredFor n s k p r nodeTable stateTable numbers bytes vs bs ms
       unfolding ruleAnswer
       roots-answer =
           let I : Is (handledFrom given vs bs [] [] (tried 0 []) ms) t = trial-some _ t (D .result) f in
-          let e : handledFrom (lentAs n s k p r nodeTable stateTable numbers bytes) vs bs [] [] (tried 0 []) ms ≡ some (I .found) =
+          let e : handledFrom (lentAs n s k p r nodeTable stateTable numbers bytes) vs bs [] [] (tried 0 []) ms
+          ≡ some (I .found) =
           sym given-is ∙ I .is in
           ap (λ (b : Bool). Answered (t .state) b (t .drops) (t .links) (length ms)) marked
           ∙ ap (λ (q : ℕ). Answered q (ruleAutomaton r .accepting q) (t .drops) (t .links) (length ms)) (I .state)
@@ -205,7 +206,8 @@ given-most ls vs bs h = go (listsFit vs bs)
     go true = omega (arith, last-most ls vs bs)
     go false = omega arith
 
-module _ (p r nodeTable stateTable numbers bytes vs bs : List ℕ) (A : LentArgs p r nodeTable stateTable numbers bytes vs bs)
+module _ (p r nodeTable stateTable numbers bytes vs bs : List ℕ) (A : LentArgs p r nodeTable stateTable numbers bytes
+    vs bs)
     (n s k : ℕ) (n-is : n ≡ nodeCount p) (s-is : s ≡ stateCount r) (k-is : k ≡ labelCount r) where
   pub lent-passed : Passed p r (length nodeTable) (length stateTable) (length numbers) (length bytes) vs bs
   lent-passed = passed-are p r (length nodeTable) (length stateTable) (length numbers) (length bytes) vs bs (A .passed)
@@ -243,7 +245,8 @@ module _ (p r nodeTable stateTable numbers bytes vs bs : List ℕ) (A : LentArgs
           let H = P .fits .headed in
           let l = H .headers .in-limits in
           let some : 0 < n = omega (arith, l .nodes, n-is) in
-          subst (λ (ms : List ℕ). RootArgs n s k p r nodeTable stateTable numbers bytes vs bs ms) (sym (found .taken)) (record {
+          subst (λ (ms : List ℕ). RootArgs n s k p r nodeTable stateTable numbers bytes vs bs ms) (sym (found .taken))
+          (record {
             limits = rw (n-is, s-is, k-is) (are-limits (nodeCount p) (stateCount r) (labelCount r) l);
             lengths = rw (n-is, s-is, k-is) (are-lengths (nodeCount p) (stateCount r)
                 (ruleLength (stateCount r) (labelCount r)) (length p) (length r) (length nodeTable) (length stateTable)
@@ -261,7 +264,12 @@ module _ (p r nodeTable stateTable numbers bytes vs bs : List ℕ) (A : LentArgs
             bytes-room = rw (n-is, s-is) (P .bytes-room);
             some-root = to-some (n - 1) (found .list) (are .to);
             few = roots-few n (length left) (found .list) (given-most (take n (drop 12 p)) vs bs (P .few-list)) are;
-            nodes = λ i h. omega (arith, below-entry (n - 1 + 1) (found .list) (to-below (n - 1) (found .list) (are .to)) i h, some);
+            nodes = λ i h. omega (
+              arith,
+              below-entry (n - 1 + 1) (found .list) (to-below (n - 1) (found .list) (are
+                  .to)) i h,
+              some,
+            );
             same-list = P .same-list;
             many-list = P .few-list;
           })
@@ -274,8 +282,10 @@ module _ (p r nodeTable stateTable numbers bytes vs bs : List ℕ) (A : LentArgs
           e
           ∙ ap (λ (ms : List ℕ). answeredFor n s k p r nodeTable stateTable numbers bytes vs bs ms) (found .taken)
           ∙ ap (λ (i : ℕ). answeredFor i s k p r nodeTable stateTable numbers bytes vs bs (found .list)) n-is
-          ∙ ap (λ (i : ℕ). answeredFor (nodeCount p) i k p r nodeTable stateTable numbers bytes vs bs (found .list)) s-is
-          ∙ ap (λ (i : ℕ). answeredFor (nodeCount p) (stateCount r) i p r nodeTable stateTable numbers bytes vs bs (found .list)) k-is
+          ∙ ap (λ (i : ℕ). answeredFor (nodeCount p) i k p r nodeTable stateTable numbers bytes vs bs (found .list))
+          s-is
+          ∙ ap (λ (i : ℕ). answeredFor (nodeCount p) (stateCount r) i p r nodeTable stateTable numbers bytes vs bs
+          (found .list)) k-is
           ∙ ap (λ (o : Option (List ℕ)). ruleAnswer r 0 (andThen o (λ ms.
           andThen (handledFrom (lentColours p r nodeTable stateTable numbers bytes) vs bs [] [] (tried 0 []) ms)
           (λ x. some (handled x (length ms)))))) (sym (roots-are (some (found .list)) (found .is)))

@@ -3,13 +3,13 @@
 --     ask-built     the answer is the fresh run's of the changed plan
 -- Assumes nothing.
 use Prim.Native.Nat.{ℕ, _+_, _-_, _*_, _^_, _≤_, _<_}
-use mathlib.Core.Path.{_≡_, refl, sym, ap, ap₂, _∙_, subst}
-use mathlib.Core.Bool.{Bool, true, false, cond, _&&_}
-use mathlib.Core.List.{List, [], _∷_, _++_}
-use mathlib.Core.Option.{Option, none, some}
+use mathlib.Core.Path.{_≡_, refl, sym, ap, _∙_}
+use mathlib.Core.Bool.{Bool, true, cond}
+use mathlib.Core.List.{List, []}
+use mathlib.Core.Option.{Option, some}
 use native.Mathlib.Omega.{arith}
 use lib.Dec.{leb, eqb}
-use lib.ListN.{length, getD, take, drop, length-take, length-drop}
+use lib.ListN.{length, take, drop, length-take, length-drop}
 use lib.Seq.{ext-getD, getD-take, getD-drop, length-take-le}
 use borrow.Author.Tests.{le-leb, leb-true, eq-eqb}
 use Rattle.list_laws.specs.Tests.{allBelow, holds}
@@ -17,8 +17,8 @@ use Rattle.list_laws.proofs.BoolLaws.{and-both}
 use Rattle.list_laws.proofs.RowLaws.{stride}
 use Rattle.list_laws.proofs.SliceLaws.{length-part}
 use Rattle.list_laws.proofs.TestLaws.{sameList-is}
-use Rattle.trees.specs.Tree.{Tree, size, height, labelsOf}
-use Rattle.trees.specs.Automaton.{Automaton, state}
+use Rattle.trees.specs.Tree.{Tree, size, height}
+use Rattle.trees.specs.Automaton.{Automaton}
 use Rattle.trees.specs.Changes.{changed}
 use Rattle.trees.specs.Climb.{andThen, digits}
 use Rattle.formats.specs.Limits.{changeLimit}
@@ -26,8 +26,7 @@ use Rattle.formats.specs.Plan.{nodeCount, planTree, labelsIn}
 use Rattle.formats.specs.Rules.{stateCount, labelCount, ruleLength, ruleAutomaton}
 use Rattle.formats.specs.Checks.{firstNo, listChecks, nodeTableLength, stateTableLength}
 use Rattle.formats.specs.Buffers.{buffersFit, headersFit}
-use Rattle.formats.specs.Inputs.{Inputs, inputsOf, Sizes, sizesIn, fits, usedStateTable, stateTableBuilt, statesBelow}
-use Rattle.formats.specs.inner.InnerChecks.{listsFit}
+use Rattle.formats.specs.Inputs.{Inputs, inputsOf, Sizes, sizesIn, fits, usedStateTable, stateTableBuilt}
 use Rattle.formats.proofs.PlanLaws.{PlanPasses, size-planTree, labels-planTree}
 use Rattle.formats.proofs.RuleLaws.{RulesPass}
 use Rattle.formats.proofs.InputLaws.{rule-table-passes, ListPasses, list-passes}
@@ -36,27 +35,23 @@ use Rattle.formats.proofs.InputsLaws.{Built, built-node-table, node-inputs-same
 use Rattle.node_tables.proofs.CellLaws.{length-nodeTableOf}
 use Rattle.tables.proofs.BuildLaws.{length-builtStates}
 use Rattle.changes.specs.Differing.{differing}
-use Rattle.changes.specs.inner.LastDiffering.{lastDiffering, givenDiffering}
+use Rattle.changes.specs.inner.LastDiffering.{lastDiffering}
 use Rattle.changes.proofs.LastDifferingLaws.{last-same, last-most, last-below}
-use Rattle.ready.specs.Members.{roots, readyList}
+use Rattle.ready.specs.Members.{roots}
 use Rattle.ready.specs.Parts.{Given, partsOf, lastState}
-use Rattle.ready.specs.StaysInside.{StaysInside}
 use Rattle.ready.proofs.ListLaws.{list-members}
 use Rattle.ready.proofs.MonotoneLaws.{roots-same}
-use Rattle.ready.proofs.PartsRun.{Members, RunGiven}
 use Rattle.runs.specs.FreshRun.{changedTree, rootState}
 use Rattle.questions.specs.Roots.{rootsOn}
 use Rattle.questions.specs.RootsAnswers.{rootsGiven}
-use Rattle.questions.specs.Promises.{Reads}
 use Rattle.questions.proofs.FitLaws.{fit-all, given-yes}
 use Rattle.questions.proofs.Promised.{all-small}
 use Rattle.questions.proofs.RootsBuilt.{roots-built}
 use Rattle.model.specs.PartInputs.{givenOf}
 use Rattle.model.proofs.Facts.{SettledInputs}
-use Rattle.model.proofs.LayersHold.{tree-size, cells, reads}
-use Rattle.reference.specs.Reference.{Question, asked, givenBy, rootsOf}
+use Rattle.model.proofs.LayersHold.{cells, reads}
+use Rattle.reference.specs.Reference.{Question, asked, givenBy}
 use Rattle.reference.proofs.FreshLaws.{rules-inside, sound-below, given-run, whole-state}
-use Rattle.colours.specs.Descents.{sum}
 use Rattle.colours.specs.StateSets.{Tried, tried, setStep, setCount, setCopies}
 use Rattle.colours.proofs.CopyLaws.{copy-colouring}
 use Rattle.colours.proofs.DescentLaws.{AllLe, sum-le}
@@ -66,16 +61,16 @@ use Rattle.rule_colours.specs.Build.{setNumbersLength, setBytesLength, setColou
 use Rattle.rule_colours.proofs.BuildLaws.{length-setNumbers, length-setBytes}
 use Rattle.rule_colours.proofs.ColouredLaws.{coloured-cells, coloured-copies}
 use Rattle.targets.specs.Trials.{copyRow}
-use Rattle.part_descents.specs.Part.{ColourView, sidesIn, handledFrom}
+use Rattle.part_descents.specs.Part.{ColourView, handledFrom}
 use Rattle.part_descents.specs.OneSided.{oneSided}
 use Rattle.part_descents.proofs.TriesBuilt.{SidesBuilt}
-use Rattle.rule_descents.specs.declared.answers.RuleDescending.{RuleDescending}
-use Rattle.rule_descents.specs.Question.{Handled, handled, handledOn, askedOn, leftIn, lentColours, ruleColoursFit, askedChecks}
-use Rattle.rule_descents.specs.Question.{ruleAnswer, ruleAskAnswer, answeredWith}
+use Rattle.rule_descents.specs.Question.{handled, handledOn, askedOn, leftIn, lentColours}
+use Rattle.rule_descents.specs.Question.{ruleColoursFit, askedChecks}
+use Rattle.rule_descents.specs.Question.{ruleAnswer, ruleAskAnswer}
 use Rattle.rule_descents.specs.Promise.{RuleColoursBuilt, rootsLeft, RuleColourAnswer}
 use Rattle.rule_descents.proofs.AskChecks.{few-states, then-list}
 use Rattle.rule_descents.proofs.AskNumbers.{lent-is}
-use Rattle.rule_descents.proofs.PartsBuilt.{AllIs, handled-built}
+use Rattle.rule_descents.proofs.PartsBuilt.{handled-built}
 
 -- a buffer that begins with a list of n elements has n
 begins : (n : ℕ) (b l : List ℕ) → take n b ≡ l → length l ≡ n → n ≤ length b
@@ -124,10 +119,12 @@ module _ (p r nodeTable stateTable numbers bytes vs bs : List ℕ)
 
   numbers-room : setNumbersLength (nodeCount p) (stateCount r) ≤ length numbers
   numbers-room =
-      begins (setNumbersLength n s) numbers (builtSetNumbers p r) (D .coloured .numbers-are) (length-setNumbers p r plan-passes)
+      begins (setNumbersLength n s) numbers (builtSetNumbers p r) (D .coloured .numbers-are) (length-setNumbers p r
+      plan-passes)
 
   bytes-room : setBytesLength (nodeCount p) (stateCount r) ≤ length bytes
-  bytes-room = begins (setBytesLength n s) bytes (builtSetBytes p r) (D .coloured .bytes-are) (length-setBytes p r plan-passes)
+  bytes-room = begins (setBytesLength n s) bytes (builtSetBytes p r) (D .coloured .bytes-are) (length-setBytes p r
+      plan-passes)
 
   lengths : buffersFit (nodeCount p) (stateCount r) (ruleLength (stateCount r) (labelCount r)) (length p) (length r)
       (length nodeTable) (length stateTable) ≡ true
@@ -164,11 +161,13 @@ module _ (p r nodeTable stateTable numbers bytes vs bs : List ℕ)
 
   fit : ruleColoursFit p r (length nodeTable) (length stateTable) (length numbers) (length bytes) ≡ true
   fit =
-      sym (few-states p r (length nodeTable) (length stateTable) (length numbers) (length bytes) heads n s (labelCount r)
+      sym (few-states p r (length nodeTable) (length stateTable) (length numbers) (length bytes) heads n s (labelCount
+      r)
       refl refl refl lengths four)
       ∙ room
 
-  pub asked-built : firstNo (askedChecks p r (length nodeTable) (length stateTable) (length numbers) (length bytes) vs bs) ≡ 0
+  pub asked-built : firstNo (askedChecks p r (length nodeTable) (length stateTable) (length numbers) (length bytes) vs
+      bs) ≡ 0
   asked-built =
       sym (then-list p r (length nodeTable) (length stateTable) (length numbers) (length bytes) vs bs fit s refl n
       (labelCount r) refl refl four)
@@ -226,7 +225,8 @@ module _ (p r nodeTable stateTable numbers bytes vs bs : List ℕ)
       let hv : v < n = omega (arith, h, size-is) in
       let long : length (copyRow m rest v) ≡ m =
       length-part rest (v * m) m (omega (arith, stride m v n hv, bytes-room, length-drop base bytes)) in
-      let own : length (setCopies A t v) ≡ m = copy-colouring (setCount A) (setStep A t) t (setStep-below A t) v .count in
+      let own : length (setCopies A t v) ≡ m = copy-colouring (setCount A) (setStep A t) t (setStep-below A t) v .count
+      in
       ext-getD 0 (copyRow m rest v) (setCopies A t v) (long ∙ sym own) (λ c l.
       getD-take m (drop (v * m) rest) c 0 (omega (arith, l, long))
       ∙ getD-drop (v * m) rest c 0
@@ -242,7 +242,8 @@ module _ (p r nodeTable stateTable numbers bytes vs bs : List ℕ)
   left-is : leftIn p vs bs ≡ lastDiffering (labelsIn p) vs bs
   left-is =
       ap (λ (b : Bool). cond b (lastDiffering (labelsIn p) vs bs) [])
-      (and-both (eqb (length vs) (length bs)) (leb (length vs) changeLimit) (eq-eqb (length vs) (length bs) (listed .lengths))
+      (and-both (eqb (length vs) (length bs)) (leb (length vs) changeLimit) (eq-eqb (length vs) (length bs) (listed
+      .lengths))
       (le-leb (length vs) changeLimit (listed .most)))
 
   left-few : length (leftIn p vs bs) ≤ 64
@@ -269,7 +270,8 @@ module _ (p r nodeTable stateTable numbers bytes vs bs : List ℕ)
 
   record Whole : Type 0 where
     pub searches : List ℕ
-    pub found : handledFrom (lentColours p r nodeTable stateTable numbers bytes) vs bs [] [] (tried 0 []) (rootsLeft p vs bs)
+    pub found : handledFrom (lentColours p r nodeTable stateTable numbers bytes) vs bs [] [] (tried 0 []) (rootsLeft p
+        vs bs)
         ≡ some (tried (rootState p r vs bs) searches)
     pub falls : length searches ≤ 60 * oneSided (planTree p) (rootsLeft p vs bs) (rootsLeft p vs bs)
     pub few : AllLe (3 * digits (height (planTree p))) searches
@@ -280,7 +282,11 @@ module _ (p r nodeTable stateTable numbers bytes vs bs : List ℕ)
       let w : ℕ → Bool = λ v. holds v (differing (labelsIn p) vs bs) in
       let N = handled-built L G (changedTree p vs bs) (reads z x vs bs x settled) (given-run z q built table-built)
       (rules-inside r (rules-of z x built)) four sides w (rootsLeft p vs bs) (list-members w t) vs bs
-      (ap (λ (ls : List ℕ). changed ls vs bs) (sym (labels-planTree p plan-passes))) (omega (arith, rules-pass .states-least))
+      (ap (λ (ls : List ℕ). changed ls vs bs) (sym (labels-planTree p plan-passes))) (omega (
+        arith,
+        rules-pass
+            .states-least,
+      ))
       (rootsLeft p vs bs) [] (tried 0 []) refl refl refl in
       record {
         searches = N .searches;
@@ -303,7 +309,8 @@ module _ (p r nodeTable stateTable numbers bytes vs bs : List ℕ)
       let small : size t ≤ 65535 = omega (arith, size-is, plan-passes .most) in
       record {
         searches = whole .searches;
-        is = sym (lent-is p r nodeTable stateTable numbers bytes vs bs _ asked-built refl) ∙ ap (ruleAnswer r 0) on-built;
+        is = sym (lent-is p r nodeTable stateTable numbers bytes vs bs _ asked-built refl)
+            ∙ ap (ruleAnswer r 0) on-built;
         falls = whole .falls;
         few = sum-le 45 (whole .searches) (links-limit t (whole .searches) small (whole .few));
       }

@@ -4,9 +4,9 @@
 --     Fits, fits-are                                what a yes of check 17 says
 --     Passed, passed-are                            what it says that all checks before 18 pass
 -- Assumes nothing.
-use Prim.Native.Nat.{ℕ, _+_, _*_, _^_, _≤_, _<_}
-use mathlib.Core.Path.{_≡_, refl, sym, ap, ap₂, _∙_, subst}
-use mathlib.Core.Bool.{Bool, true, false, cond, _&&_, _||_}
+use Prim.Native.Nat.{ℕ, _≤_, _<_}
+use mathlib.Core.Path.{_≡_, refl, sym, ap, _∙_}
+use mathlib.Core.Bool.{Bool, true, false, _&&_, _||_}
 use mathlib.Core.List.{List}
 use native.Mathlib.Omega.{arith}
 use lib.Dec.{leb, ltb, eqb}
@@ -17,11 +17,11 @@ use Rattle.list_laws.proofs.BoolLaws.{and-left, and-right}
 use Rattle.formats.specs.Limits.{changeLimit}
 use Rattle.formats.specs.Plan.{nodeCount}
 use Rattle.formats.specs.Rules.{stateCount, labelCount, ruleLength}
-use Rattle.formats.specs.Checks.{Check, check, firstNo, listChecks}
+use Rattle.formats.specs.Checks.{firstNo, listChecks}
 use Rattle.formats.specs.Buffers.{buffersFit, headersFit, headedBuffersFit, ruleTables}
 use Rattle.formats.proofs.CheckLaws.{firstNo-head, firstNo-tail}
 use Rattle.formats.proofs.BufferLaws.{headers-no, headed-by, Headed, headed-are}
-use Rattle.rule_colours.specs.Build.{setNumbersLength, setBytesLength, setColoursFit, setStatesFit}
+use Rattle.rule_colours.specs.Build.{setNumbersLength, setBytesLength, setColoursFit}
 use Rattle.rule_descents.specs.Question.{ruleColoursFit, askedChecks}
 
 module _ (p r : List ℕ) (nodeTable stateTable numbers bytes : ℕ) where
@@ -34,7 +34,8 @@ module _ (p r : List ℕ) (nodeTable stateTable numbers bytes : ℕ) where
   unfolding ruleColoursFit
   fit-no h = rw (headers-no ruleTables p r nodeTable stateTable h)
 
-  module _ (h : headersFit 20 p r ≡ true) (n s k : ℕ) (a : n ≡ nodeCount p) (b : s ≡ stateCount r) (c : k ≡ labelCount r) where
+  module _ (h : headersFit 20 p r ≡ true) (n s k : ℕ) (a : n ≡ nodeCount p) (b : s ≡ stateCount r) (c : k
+      ≡ labelCount r) where
     head-is : buffersFit n s (ruleLength s k) (length p) (length r) nodeTable stateTable ≡ head
     head-is = headed-by ruleTables p r nodeTable stateTable n s k (ruleLength s k) a b c refl h
 
@@ -123,8 +124,10 @@ module _ (p r : List ℕ) (nodeTable stateTable numbers bytes : ℕ) where
           bytes-room = leb-true (setBytesLength (nodeCount p) (stateCount r)) bytes
               (and-right (leb (setNumbersLength (nodeCount p) (stateCount r)) numbers)
               (leb (setBytesLength (nodeCount p) (stateCount r)) bytes) room);
-          same-list = eqb-true (length vs) (length bs) (and-left (eqb (length vs) (length bs)) (leb (length vs) changeLimit) both);
-          few-list = leb-true (length vs) changeLimit (and-right (eqb (length vs) (length bs)) (leb (length vs) changeLimit) both);
+          same-list = eqb-true (length vs) (length bs) (and-left (eqb (length vs) (length bs)) (leb (length vs)
+              changeLimit) both);
+          few-list = leb-true (length vs) changeLimit (and-right (eqb (length vs) (length bs)) (leb (length vs)
+              changeLimit) both);
           nodes-below = firstNo-head 13 _ _ (omega arith) c;
           labels-below = firstNo-head 14 _ _ (omega arith) d;
         }

@@ -1,15 +1,15 @@
 -- Where a rule question by colours is refused with 18.
 --     ask-range   a value leads outside the plan, the states or the labels, or no target state is found
 -- Assumes nothing.
-use Prim.Native.Nat.{ℕ, zero, suc, _+_, _-_, _*_, _≤_, _<_}
-use mathlib.Core.Path.{_≡_, refl, sym, ap, _∙_, subst}
+use Prim.Native.Nat.{ℕ, _+_, _-_, _≤_, _<_}
+use mathlib.Core.Path.{_≡_, refl, sym, _∙_}
 use mathlib.Core.Bool.{Bool, true, false, cond, _&&_}
-use mathlib.Core.List.{List, [], _∷_}
+use mathlib.Core.List.{List, []}
 use mathlib.Core.Option.{Option, none, some}
 use native.Mathlib.Decide.{ℕ-discrete}
 use native.Mathlib.Omega.{arith}
 use lib.Dec.{leb, eqb}
-use lib.ListN.{length, getD, take}
+use lib.ListN.{length, take}
 use lib.Seq.{length-take-le}
 use Rattle.list_laws.specs.Tests.{allBelow}
 use Rattle.trees.specs.Climb.{andThen}
@@ -21,7 +21,6 @@ use Rattle.formats.specs.Checks.{firstNo, listChecks, nodeTableLength}
 use Rattle.formats.specs.inner.InnerChecks.{listsFit}
 use Rattle.changes.specs.inner.LastDiffering.{lastDiffering, givenDiffering}
 use Rattle.changes.proofs.LastDifferingLaws.{last-most, last-below}
-use Rattle.questions.specs.Roots.{rootsOn}
 use Rattle.questions.specs.RootsAnswers.{rootsGiven}
 use Rattle.questions.specs.OutOfRange.{links}
 use Rattle.questions.proofs.FitLaws.{fit-all, given-yes, given-are}
@@ -31,7 +30,8 @@ use Rattle.model.specs.Calls.{isSome}
 use Rattle.colours.specs.StateSets.{Tried, tried}
 use Rattle.part_descents.specs.Part.{ColourView, handledFrom}
 use Rattle.rule_colours.specs.Build.{setStatesFit}
-use Rattle.rule_descents.specs.Question.{Handled, handled, handledOn, askedOn, leftIn, lentColours, ruleColoursFit, askedChecks}
+use Rattle.rule_descents.specs.Question.{Handled, handled, handledOn, askedOn, leftIn, lentColours}
+use Rattle.rule_descents.specs.Question.{ruleColoursFit, askedChecks}
 use Rattle.rule_descents.specs.Question.{ruleAskNumber}
 use Rattle.rule_descents.specs.OutOfRange.{RuleColoursOutOfRange, part}
 use Rattle.rule_descents.proofs.AskChecks.{Passed, passed-are}
@@ -72,7 +72,8 @@ module _ (p r nodeTable stateTable numbers bytes vs bs : List ℕ) where
   abbrev table : List ℕ
   table = take (nodeTableLength (nodeCount p)) nodeTable
 
-  module _ (ok : firstNo (askedChecks p r (length nodeTable) (length stateTable) (length numbers) (length bytes) vs bs) ≡ 0) where
+  module _ (ok : firstNo (askedChecks p r (length nodeTable) (length stateTable) (length numbers) (length bytes) vs bs)
+      ≡ 0) where
     P : Passed p r (length nodeTable) (length stateTable) (length numbers) (length bytes) vs bs
     P = passed-are p r (length nodeTable) (length stateTable) (length numbers) (length bytes) vs bs ok
 
@@ -99,13 +100,18 @@ module _ (p r nodeTable stateTable numbers bytes vs bs : List ℕ) where
         last (some y) m i = absurd (none-some (sym i))
 
         go : (o : Option (List ℕ)) → rootsGiven (nodeCount p) table left ≡ o
-            → andThen o (λ ms. andThen (handledFrom L vs bs [] [] (tried 0 []) ms) (λ y. some (handled y (length ms)))) ≡ none
+            → andThen o (λ ms. andThen (handledFrom L vs bs [] [] (tried 0 []) ms) (λ y. some (handled y (length ms))))
+            ≡ none
             → RuleColoursOutOfRange L vs bs
         go none q i = roots-none q
         go (some ms) q i =
             let R = given-are (nodeCount p) table left ms q in
             handled-none L vs bs ms [] [] (tried 0 []) refl
-            (λ j h. omega (arith, below-entry (nodeCount p - 1 + 1) ms (to-below (nodeCount p - 1) ms (R .to)) j h, some-node))
+            (λ j h. omega (
+              arith,
+              below-entry (nodeCount p - 1 + 1) ms (to-below (nodeCount p - 1) ms (R .to)) j h,
+              some-node,
+            ))
             (last (handledFrom L vs bs [] [] (tried 0 []) ms) (length ms) i)
 
   is-none : (o : Option Handled) → _≡_ {A = ℕ} (cond (isSome o) 0 18) 18 → o ≡ none
@@ -116,10 +122,12 @@ module _ (p r nodeTable stateTable numbers bytes vs bs : List ℕ) where
       → RuleColoursOutOfRange (lentColours p r nodeTable stateTable numbers bytes) vs bs
   unfolding askedChecks listChecks firstNo
   ask-range e =
-      elim (ℕ-discrete (firstNo (askedChecks p r (length nodeTable) (length stateTable) (length numbers) (length bytes) vs bs)) 0) [
+      elim (ℕ-discrete (firstNo (askedChecks p r (length nodeTable) (length stateTable) (length numbers) (length bytes)
+      vs bs)) 0) [
         | yes ok ↦ lost ok (is-none (askedOn p r nodeTable stateTable numbers bytes vs bs)
             (sym (number-last p r nodeTable stateTable numbers bytes vs bs ok) ∙ e))
-        | no h ↦ absurd (not-18 (ruleColoursFit p r (length nodeTable) (length stateTable) (length numbers) (length bytes))
+        | no h ↦ absurd (not-18 (ruleColoursFit p r (length nodeTable) (length stateTable) (length numbers) (length
+            bytes))
             (setStatesFit (stateCount r)) (eqb (length vs) (length bs) && leb (length vs) changeLimit)
             (allBelow (nodeCount p) vs) (allBelow (labelCount r) bs)
             (sym (number-asked p r nodeTable stateTable numbers bytes vs bs h) ∙ e))

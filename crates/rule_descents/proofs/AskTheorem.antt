@@ -4,24 +4,22 @@
 -- Assumes nothing.
 use Prim.Native.Nat.{ℕ, zero, suc, _<_}
 use mathlib.Core.Path.{_≡_, refl, sym, ap, _∙_, subst}
-use mathlib.Core.Bool.{Bool, true, false}
-use mathlib.Core.List.{List, [], _∷_}
+use mathlib.Core.List.{List, []}
 use mathlib.Core.Option.{Option, none, some, Option·some-injective}
 use native.Mathlib.Omega.{arith}
 use lib.ListN.{length}
 use Rattle.trees.specs.Climb.{andThen}
 use Rattle.trees.proofs.MoveLaws.{none-some}
-use Rattle.formats.specs.Plan.{nodeCount}
-use Rattle.formats.specs.Rules.{stateCount}
 use Rattle.questions.specs.RootsAnswers.{rootsGiven}
 use Rattle.questions.proofs.FitLaws.{given-are}
 use Rattle.questions.proofs.PlaceLaws.{to-some}
 use Rattle.colours.specs.StateSets.{Tried, tried}
 use Rattle.part_descents.specs.Part.{ColourView, handledFrom}
 use Rattle.rule_descents.specs.declared.answers.RuleDescending.{RuleDescending}
-use Rattle.rule_descents.specs.Question.{Handled, handled, handledOn, askedOn, leftIn, lentColours, ruleAskNumber, ruleAnswer}
+use Rattle.rule_descents.specs.Question.{Handled, handled, handledOn, askedOn, leftIn, lentColours, ruleAskNumber}
+use Rattle.rule_descents.specs.Question.{ruleAnswer}
 use Rattle.rule_descents.specs.Question.{ruleAskAnswer, ruleDescendingNumber}
-use Rattle.rule_descents.specs.Promise.{RuleColourAnswer, stateKept, RuleAskDone}
+use Rattle.rule_descents.specs.Promise.{RuleColourAnswer, stateKept, linksKept, RuleAskDone}
 use Rattle.rule_descents.proofs.StateLaws.{handled-state}
 use Rattle.rule_descents.proofs.AskNumbers.{on-number}
 use Rattle.rule_descents.proofs.AskRange.{ask-range}
@@ -41,7 +39,8 @@ on-kept L left vs bs h e = go (rootsGiven (L .view .n) (L .view .nodeTable) left
         (handled-state L vs bs [] [] (tried 0 []) ms x (λ w. absurd (omega arith)) q)
 
     go : (o : Option (List ℕ)) → rootsGiven (L .view .n) (L .view .nodeTable) left ≡ o
-        → andThen o (λ ms. andThen (handledFrom L vs bs [] [] (tried 0 []) ms) (λ r. some (handled r (length ms)))) ≡ some h
+        → andThen o (λ ms. andThen (handledFrom L vs bs [] [] (tried 0 []) ms) (λ r. some (handled r (length ms))))
+        ≡ some h
         → h .result .state < L .view .s
     go none q i = absurd (none-some i)
     go (some ms) q i =
@@ -66,11 +65,12 @@ module _ (p r nodeTable stateTable numbers bytes vs bs : List ℕ) where
       go (suc n) o e = tt
 
   pub ask-done : (answer : RuleDescending) → answer ≡ ruleAskAnswer p r nodeTable stateTable numbers bytes vs bs
-      → RuleAskDone p r nodeTable stateTable numbers bytes vs bs answer
-  ask-done answer e = record {
+      → linksKept answer → RuleAskDone p r nodeTable stateTable numbers bytes vs bs answer
+  ask-done answer e few = record {
     result = e;
     number = ap ruleDescendingNumber e ∙ on-number p r nodeTable stateTable numbers bytes vs bs;
     properties = subst (stateKept r) (sym e) ask-kept;
+    few = few;
     out-of-range = λ i. ask-range p r nodeTable stateTable numbers bytes vs bs
         (sym (ap ruleDescendingNumber e ∙ on-number p r nodeTable stateTable numbers bytes vs bs) ∙ i);
     built = λ D ok. subst (RuleColourAnswer p r vs bs) (sym e)

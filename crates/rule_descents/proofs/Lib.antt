@@ -3,6 +3,7 @@ pub mod AskChecks
 pub mod StateLaws
 pub mod AnswerLaws
 pub mod AskNumbers
+pub mod TriesRange
 pub mod RangeLaws
 pub mod AskRange
 pub mod PartsBuilt

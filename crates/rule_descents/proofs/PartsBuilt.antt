@@ -1,8 +1,8 @@
 -- On tables as built all parts by colours have the states of "Parts of a question".
 --     handled-built   so, with at most 60 drops for each one-sided part, each found by few links
 -- Assumes nothing.
-use Prim.Native.Nat.{ℕ, zero, suc, _+_, _*_, _≤_, _<_}
-use mathlib.Core.Path.{_≡_, refl, sym, ap, ap₂, _∙_, subst}
+use Prim.Native.Nat.{ℕ, _+_, _*_, _≤_, _<_}
+use mathlib.Core.Path.{_≡_, refl, sym, ap, ap₂, _∙_}
 use mathlib.Core.Bool.{Bool, true}
 use mathlib.Core.List.{List, [], _∷_, _++_, append-assoc, append-nil}
 use mathlib.Core.Option.{Option, some}
@@ -13,7 +13,7 @@ use Rattle.trees.specs.Tree.{Tree, height, labelsOf}
 use Rattle.trees.specs.Changes.{changed}
 use Rattle.trees.specs.Climb.{andThen, digits}
 use Rattle.ready.specs.StaysInside.{StaysInside}
-use Rattle.ready.specs.Parts.{Given, Part, nodesOf, statesOf, stateOf, partState, partOf, partsFrom, lastState, sumOf}
+use Rattle.ready.specs.Parts.{Given, Part, nodesOf, statesOf, partState, partOf, partsFrom, lastState, sumOf}
 use Rattle.ready.proofs.PartsRun.{Members, RunGiven, nodes-more}
 use Rattle.marks.specs.Marks.{bit}
 use Rattle.questions.specs.Promises.{Reads}
@@ -93,7 +93,8 @@ module _ (L : ColourView) (G : Given) (u : Tree) (R : Reads (L .view) G) (RG : R
                 (tried (x .state) (r .searches ++ x .searches)) rest)) (P .found)
                 ∙ ap₂ (λ (a c : List ℕ). handledFrom L vs bs a c next rest) (sym nodes) (sym states)
                 ∙ N .found
-                ∙ ap (λ (l : List ℕ). some (tried (lastState (partsFrom G ms (ps ++ (partOf G ms ps v ∷ [])) rest) 0) l))
+                ∙ ap (λ (l : List ℕ). some (tried (lastState (partsFrom G ms (ps ++ (partOf G ms ps v ∷ [])) rest) 0)
+                l))
                 (append-assoc (r .searches) (P .searches) (N .searches));
             falls = omega (arith, length-append (P .searches) (N .searches), P .falls, N .falls);
             few = all-append (3 * digits (height (G .tree))) (P .searches) (N .searches) (P .few) (N .few);

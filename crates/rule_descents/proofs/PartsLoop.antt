@@ -1,9 +1,9 @@
 -- All parts, one at a time: the rest still to do gives what all of them give.
 --     going-start, part-args, going-lost, going-next, going-done
 -- Assumes nothing.
-use Prim.Native.Nat.{ℕ, zero, suc, _+_, _-_, _*_, _≤_, _<_}
-use mathlib.Core.Path.{_≡_, refl, sym, ap, ap₂, _∙_, subst}
-use mathlib.Core.Bool.{Bool, true, false}
+use Prim.Native.Nat.{ℕ, _+_, _-_, _*_, _≤_, _<_}
+use mathlib.Core.Path.{_≡_, refl, sym, ap, ap₂, _∙_}
+use mathlib.Core.Bool.{true, false}
 use mathlib.Core.List.{List, [], _∷_, _++_}
 use mathlib.Core.Option.{Option, none, some}
 use native.Mathlib.Omega.{arith}
@@ -36,8 +36,10 @@ module _ (n s k m : ℕ) (ls ks lv inn nodeTable stateTable numbers copies vs bs
     pub low : 0 < i → last < s
     pub falls : drops ≤ i * 60
     pub few : links ≤ drops * 65535
-    pub rest : handledFrom (colourView n s k ls ks lv inn nodeTable stateTable numbers copies) vs bs [] [] (tried 0 []) ms
-        ≡ handledFrom (colourView n s k ls ks lv inn nodeTable stateTable numbers copies) vs bs (take i ms) (take i states)
+    pub rest : handledFrom (colourView n s k ls ks lv inn nodeTable stateTable numbers copies) vs bs [] [] (tried 0 [])
+        ms
+        ≡ handledFrom (colourView n s k ls ks lv inn nodeTable stateTable numbers copies) vs bs (take i ms) (take i
+        states)
         (tried last searches) (drop i ms)
 
   pub going-start : AllArgs n s k m ls ks lv inn nodeTable stateTable numbers copies vs bs ms
@@ -81,7 +83,8 @@ module _ (n s k m : ℕ) (ls ks lv inn nodeTable stateTable numbers copies vs bs
       pub states-length : length (take i states) ≡ i
       states-length = length-take-le i states (omega (arith, G .long, G .args .few))
 
-      pub next-args : PartArgs n s k m ls ks lv inn nodeTable stateTable numbers copies (take i ms) (take i states) vs bs
+      pub next-args : PartArgs n s k m ls ks lv inn nodeTable stateTable numbers copies (take i ms) (take i states) vs
+          bs
           (getD ms i 0)
       next-args = record {
         reads = G .args .reads;
@@ -157,7 +160,8 @@ module _ (n s k m : ℕ) (ls ks lv inn nodeTable stateTable numbers copies vs bs
                   ≡ handledFrom L vs bs (take i ms ++ (v ∷ [])) (take i states ++ (x ∷ []))
                   (tried x (G .searches ++ I .found .searches)) (drop (i + 1) ms)
               same q x e =
-                  ap₂ (λ (a b : List ℕ). handledFrom L vs bs a b (tried q (G .searches ++ I .found .searches)) (drop (i + 1) ms))
+                  ap₂ (λ (a b : List ℕ). handledFrom L vs bs a b (tried q (G .searches ++ I .found .searches)) (drop (i
+                  + 1) ms))
                   more
                   (ap (λ (y : ℕ). take y (set states i q)) (add-one i)
                   ∙ take-suc-set states i q (omega (arith, G .long, G .args .few)))

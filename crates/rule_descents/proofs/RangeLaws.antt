@@ -3,15 +3,15 @@
 --     part-none       a part: a value leads outside the plan, the states or the labels, or no target state is found
 --     handled-none    all parts
 -- Assumes nothing.
-use Prim.Native.Nat.{ℕ, zero, suc, _+_, _-_, _*_, _≤_, _<_}
-use mathlib.Core.Path.{_≡_, refl, sym, ap, _∙_, subst}
+use Prim.Native.Nat.{ℕ, zero, suc, _+_, _-_, _*_, _^_, _≤_, _<_}
+use mathlib.Core.Path.{_≡_, refl, sym, ap, subst}
 use mathlib.Core.Bool.{Bool, true, false, cond, _&&_}
 use mathlib.Core.List.{List, [], _∷_, _++_}
 use mathlib.Core.Logic.{_⊎_, inl, inr}
 use mathlib.Core.Option.{Option, none, some, Option·some-injective}
 use native.Mathlib.Omega.{arith}
 use lib.Dec.{leb, ltb, eqb}
-use lib.ListN.{length, getD}
+use lib.ListN.{length, getD, drop, length-take}
 use borrow.Author.Tests.{ltb-true, ltb-false, leb-true, eqb-false}
 use Rattle.list_laws.specs.Tests.{allBelow}
 use Rattle.list_laws.proofs.BoolLaws.{and-left, and-right}
@@ -24,15 +24,16 @@ use Rattle.tables.specs.Climbs.{View, below, runOn, ruleOn}
 use Rattle.tables.specs.inner.PathViews.{rulesView, statesView}
 use Rattle.tables.proofs.LookupLaws.{below-state, below-none}
 use Rattle.questions.specs.Part.{Found, found, lastFound, foundBelow, labelOn}
-use Rattle.questions.specs.OutOfRange.{PartOutOfRange, children, run, leaf, rule, changed}
+use Rattle.questions.specs.OutOfRange.{children, run, leaf, rule, changed}
 use Rattle.questions.proofs.RootsRange.{fork-test}
 use Rattle.model.proofs.ResultLaws.{below-more}
 use Rattle.colours.specs.Descents.{ColourTable, Descent, descend}
 use Rattle.colours.specs.StateSets.{member, Tried, tried, targetColour, setAt, afterTrial, tryOne, tryFrom}
-use Rattle.part_descents.specs.Part.{ColourView, Sides, sidesIn, untried, colourFrom, sideTried, joinTried, forkTried}
+use Rattle.part_descents.specs.Part.{ColourView, sidesIn, untried, colourFrom, sideTried, joinTried, forkTried}
 use Rattle.part_descents.specs.Part.{leafTried, partTried, handledFrom}
-use Rattle.rule_descents.specs.OutOfRange.{RuleColoursOutOfRange, part, targets}
+use Rattle.rule_descents.specs.OutOfRange.{RuleColoursOutOfRange, part, colour, target, unheld}
 use Rattle.rule_descents.proofs.StateLaws.{untried-state, part-state}
+use Rattle.rule_descents.proofs.TriesRange.{TriesFail, stops, uncoloured, unheldBy, tries-none}
 
 -- ---- the target states tried
 
@@ -45,24 +46,28 @@ module _ (T : ColourTable) (rows : ℕ → List ℕ) (c w q : ℕ) where
       after : (ls : List ℕ) (o : Option Tried) → later ≡ o → afterTrial ls o ≡ some r → r .state < n
       after ls none z i = absurd (none-some i)
       after ls (some y) z i =
-          let s : y .state ≡ r .state = ap (λ (a : Tried). a .state) (Option·some-injective (tried (y .state) (ls ++ y .searches)) r i) in
+          let s : y .state ≡ r .state = ap (λ (a : Tried). a .state) (Option·some-injective (tried (y .state) (ls ++ y
+          .searches)) r i) in
           omega (arith, ih y z)
 
-      by : (d : Descent) (b : Bool) → cond b (some (tried x (d .searches))) (afterTrial (d .searches) later) ≡ some r → r .state < n
+      by : (d : Descent) (b : Bool) → cond b (some (tried x (d .searches))) (afterTrial (d .searches) later) ≡ some r
+          → r .state < n
       by d true i =
           let s : x ≡ r .state = ap (λ (a : Tried). a .state) (Option·some-injective (tried x (d .searches)) r i) in
           omega arith
       by d false i = after (d .searches) later refl i
 
       ends : (o : Option Descent)
-          → andThen o (λ d. cond (member (setAt rows w d) q) (some (tried x (d .searches))) (afterTrial (d .searches) later)) ≡ some r
+          → andThen o (λ d. cond (member (setAt rows w d) q) (some (tried x (d .searches))) (afterTrial (d .searches)
+          later)) ≡ some r
           → r .state < n
       ends none i = absurd (none-some i)
       ends (some d) i = by d (member (setAt rows w d) q) i
 
       go : (b : Bool)
           → cond b (andThen (descend T (targetColour rows c x) (some c) w (targetColour rows c x)) (λ d.
-          cond (member (setAt rows w d) q) (some (tried x (d .searches))) (afterTrial (d .searches) later))) none ≡ some r
+          cond (member (setAt rows w d) q) (some (tried x (d .searches))) (afterTrial (d .searches) later))) none
+          ≡ some r
           → r .state < n
       go true i = ends (descend T (targetColour rows c x) (some c) w (targetColour rows c x)) i
       go false i = absurd (none-some i)
@@ -93,10 +98,12 @@ module _ (L : ColourView) (vs bs : List ℕ) where
   found-inside c [] rs o b i f e = i f e
   found-inside c (e ∷ es) [] o b i f q = i f q
   found-inside c (e ∷ es) (r ∷ rs) o b i f q =
-      found-inside c es rs (cond (isInSubtreeOn (X .nodeTable) c e) (some (found e r)) o) (and-right (ltb r (X .s)) (allBelow (X .s) rs) b)
+      found-inside c es rs (cond (isInSubtreeOn (X .nodeTable) c e) (some (found e r)) o) (and-right (ltb r (X .s))
+      (allBelow (X .s) rs) b)
       (λ g. go (isInSubtreeOn (X .nodeTable) c e) refl g) f q
     where
-      go : (t : Bool) → isInSubtreeOn (X .nodeTable) c e ≡ t → (g : Found) → cond t (some (found e r)) o ≡ some g → Inside c g
+      go : (t : Bool) → isInSubtreeOn (X .nodeTable) c e ≡ t → (g : Found) → cond t (some (found e r)) o ≡ some g
+          → Inside c g
       go true t g j =
           subst (Inside c) (Option·some-injective (found e r) g j)
           (record {
@@ -115,6 +122,18 @@ module _ (L : ColourView) (vs bs : List ℕ) where
   unfolding runOn
   run-none c h e = part (run c h (below-none (X .s) (stateCell (X .s) (X .stateTable) c) e))
 
+  trials-none : (c w q : ℕ) → c < X .n → w < X .n → q < X .s
+      → tryFrom (sidesIn L .table) (sidesIn L .copies) c w q (X .s) 0 ≡ none → Lost
+  trials-none c w q hc hw hq e =
+      let rows : ℕ → List ℕ = sidesIn L .copies in
+      let few : length (rows c) ≤ 2 ^ X .s = omega (arith, length-take (2 ^ X .s) (drop (c * 2 ^ X .s) (L .copies))) in
+      by (tries-none (X .n) (2 ^ X .s) (sidesIn L .table) rows c w q (λ a. refl) hw few (X .s) 0 e)
+    where
+      by : TriesFail (X .n) (2 ^ X .s) (sidesIn L .table) (sidesIn L .copies) c w q 0 (X .s) → Lost
+      by (stops z) = colour z
+      by (uncoloured y a b l) = target c y hc (omega arith) l
+      by (unheldBy g) = unheld c w q hc hw hq (λ x h. g x (omega arith) (omega arith))
+
   side-none : (c : ℕ) (f g : Option Found) → c < X .n → ((x : Found) → f ≡ some x → Inside c x)
       → sideTried (sidesIn L) c f g ≡ none → Lost
   unfolding sideTried colourFrom
@@ -126,7 +145,7 @@ module _ (L : ColourView) (vs bs : List ℕ) where
       go none b i = absurd (omega (arith, I f refl .state, below-none (X .s) (f .state) b))
       go (some q) b i =
           let s = below-state (X .s) (f .state) q b in
-          targets c (f .node) q h (omega (arith, I f refl .node)) (omega (arith, s .0, s .1)) i
+          trials-none c (f .node) q h (omega (arith, I f refl .node)) (omega (arith, s .0, s .1)) i
   side-none c (some f) (some g) h I e =
       absurd (omega (arith, I f refl .state, below-none (X .s) (f .state) (still-none (below (X .s) (f .state)) e)))
 
@@ -135,7 +154,8 @@ module _ (L : ColourView) (vs bs : List ℕ) where
   side-state c none g x e = untried-state (X .s) _ x e
   side-state c (some f) none x e = go (below (X .s) (f .state)) e
     where
-      go : (o : Option ℕ) → andThen o (λ q. tryFrom (sidesIn L .table) (sidesIn L .copies) c (f .node) q (X .s) 0) ≡ some x
+      go : (o : Option ℕ) → andThen o (λ q. tryFrom (sidesIn L .table) (sidesIn L .copies) c (f .node) q (X .s) 0)
+          ≡ some x
           → x .state < X .s
       go none i = absurd (none-some i)
       go (some q) i = omega (arith, tried-state (sidesIn L .table) (sidesIn L .copies) c (f .node) q (X .s) 0 x i)
@@ -143,11 +163,13 @@ module _ (L : ColourView) (vs bs : List ℕ) where
 
   -- ---- an inner node
 
-  rule-none : (m a n : ℕ) → m < X .s → n < X .s → ruleOn (rulesView (X .s) (X .k) (X .inner)) m a n ≡ none → (X .k ≤ a) ⊎ Lost
+  rule-none : (m a n : ℕ) → m < X .s → n < X .s → ruleOn (rulesView (X .s) (X .k) (X .inner)) m a n ≡ none
+      → (X .k ≤ a) ⊎ Lost
   unfolding ruleOn
   rule-none m a n hm hn = go (ltb a (X .k)) refl
     where
-      go : (b : Bool) → ltb a (X .k) ≡ b → cond b (below (X .s) (getD (X .inner) ((m * X .k + a) * X .s + n) 0)) none ≡ none
+      go : (b : Bool) → ltb a (X .k) ≡ b → cond b (below (X .s) (getD (X .inner) ((m * X .k + a) * X .s + n) 0)) none
+          ≡ none
           → (X .k ≤ a) ⊎ Lost
       go true t e = inr (part (rule m a n hm (ltb-true a (X .k) t) hn (below-none (X .s) _ e)))
       go false t e = inl (ltb-false a (X .k) t)
@@ -158,7 +180,8 @@ module _ (L : ColourView) (vs bs : List ℕ) where
   unfolding joinTried
   join-none a none y f g w i j e = f refl
   join-none a (some l) none f g w i j e = g refl
-  join-none a (some l) (some r) f g w i j e = go (ruleOn (rulesView (X .s) (X .k) (X .inner)) (l .state) a (r .state)) refl e
+  join-none a (some l) (some r) f g w i j e = go (ruleOn (rulesView (X .s) (X .k) (X .inner)) (l .state) a (r .state))
+      refl e
     where
       by-rule : (X .k ≤ a) ⊎ Lost → Lost
       by-rule (inl h) = w h
@@ -214,7 +237,8 @@ module _ (L : ColourView) (vs bs : List ℕ) where
         by-kind : (b : Bool) → eqb (getD (X .kinds) v 0) 0 ≡ b → (c : Bool)
             → (ltb 0 v && leb (sizeCell (X .nodeTable) (v - 1)) (v - 1)) ≡ c
             → cond b (leafTried (X .s) (X .k) (X .leaves) (labelOn X vs bs v))
-            (cond c (forkTried (sidesIn L) (X .k) (X .inner) (X .nodeTable) es qs v l (labelOn X vs bs v)) none) ≡ none → Lost
+            (cond c (forkTried (sidesIn L) (X .k) (X .inner) (X .nodeTable) es qs v l (labelOn X vs bs v)) none)
+            ≡ none → Lost
         by-kind true q c t e = leaf-none v h e
         by-kind false q true t e =
             fork-none v l h (omega arith)

@@ -2,8 +2,8 @@
 --     part-state      of one part
 --     handled-state   of the last of all
 -- Assumes nothing.
-use Prim.Native.Nat.{ℕ, _+_, _-_, _*_, _≤_, _<_}
-use mathlib.Core.Path.{_≡_, refl, sym, ap, _∙_, subst}
+use Prim.Native.Nat.{ℕ, _+_, _-_, _<_}
+use mathlib.Core.Path.{_≡_, refl, ap, subst}
 use mathlib.Core.Bool.{Bool, true, false, cond, _&&_}
 use mathlib.Core.List.{List, [], _∷_, _++_}
 use mathlib.Core.Option.{Option, none, some, Option·some-injective}
@@ -19,8 +19,8 @@ use Rattle.tables.proofs.LookupLaws.{below-state}
 use Rattle.tables.proofs.ClimbBounds.{rule-state}
 use Rattle.questions.specs.Part.{labelOn}
 use Rattle.colours.specs.StateSets.{Tried, tried}
-use Rattle.part_descents.specs.Part.{ColourView, Sides, sidesIn, untried, joinTried, forkTried, leafTried, partTried}
-use Rattle.part_descents.specs.Part.{sideTried, handledFrom}
+use Rattle.part_descents.specs.Part.{ColourView, sidesIn, untried, joinTried, forkTried, leafTried, partTried}
+use Rattle.part_descents.specs.Part.{handledFrom}
 
 pub untried-state : (s q : ℕ) (x : Tried) → untried (below s q) ≡ some x → x .state < s
 untried-state s q x e = go (below s q) refl e
@@ -42,7 +42,8 @@ join-state X a (some l) (some r) x e = go (ruleOn X (l .state) a (r .state)) ref
         → andThen o (λ q. some (tried q (l .searches ++ r .searches))) ≡ some x → x .state < X .s
     go none b i = absurd (none-some i)
     go (some q) b i =
-        let z : q ≡ x .state = ap (λ (t : Tried). t .state) (Option·some-injective (tried q (l .searches ++ r .searches)) x i) in
+        let z : q ≡ x .state = ap (λ (t : Tried). t .state) (Option·some-injective (tried q (l .searches ++ r
+        .searches)) x i) in
         subst (λ (y : ℕ). y < X .s) z (rule-state X (l .state) a (r .state) q b)
 
 module _ (L : ColourView) where

@@ -5,6 +5,7 @@
 -- RuleColourAnswer p r vs bs answer == the answer is the fresh run's of the changed plan, with as many parts as in the
 --   session, at most 60 drops for each one-sided part, and at most 45 links for each drop
 -- stateKept r answer == an answer's state is below S, and yes is its mark
+-- linksKept answer == its drops and links are few
 -- RuleAskDone .. == the promise of a rule question by colours
 --
 -- Assumes nothing.
@@ -24,7 +25,8 @@ use Rattle.rule_colours.specs.Build.{RuleColoured}
 use Rattle.part_descents.specs.OneSided.{oneSided}
 use Rattle.rule_descents.specs.declared.answers.RuleDescending.{RuleDescending}
 use Rattle.rule_descents.specs.declared.answers.RuleDescending.the-variants.{Answered, Refused}
-use Rattle.rule_descents.specs.Question.{lentColours, ruleAskNumber, ruleAskAnswer, ruleDescendingNumber, answeredWith}
+use Rattle.rule_descents.specs.Question.{lentColours, ruleAskNumber, ruleAskAnswer, ruleDescendingNumber}
+use Rattle.rule_descents.specs.Question.{answeredWith}
 use Rattle.rule_descents.specs.OutOfRange.{RuleColoursOutOfRange}
 
 pub record RuleColoursBuilt (p r nodeTable stateTable numbers bytes : List ℕ) : Type 0 where
@@ -46,12 +48,19 @@ stateKept r (Answered state marked drops links parts) =
     (state < stateCount r) × (marked ≡ ruleAutomaton r .accepting state)
 stateKept r (Refused n) = Unit {0}
 
+-- whatever is lent: at most 60 drops for each part, and a search takes fewer links than a plan can have nodes
+abbrev pub linksKept : RuleDescending → Type 0
+linksKept (Answered state marked drops links parts) = (drops ≤ parts * 60) × (links ≤ drops * 65535)
+linksKept (Refused n) = Unit {0}
+
 pub record RuleAskDone (p r nodeTable stateTable numbers bytes vs bs : List ℕ) (answer : RuleDescending) : Type 0 where
   -- on every input: the first failing check of 17, 27, 12, 13, 14 and 18, or the named result
   pub result : answer ≡ ruleAskAnswer p r nodeTable stateTable numbers bytes vs bs
   pub number : ruleDescendingNumber answer ≡ ruleAskNumber p r nodeTable stateTable numbers bytes vs bs
   -- an answer's state is below S, and yes is its mark
   pub properties : stateKept r answer
+  -- at most 60 drops for each part, and 65,535 links for each drop
+  pub few : linksKept answer
   -- 18 only where a value leads outside the plan, the states or the labels, does not rise, or no target state is found
   pub out-of-range : ruleDescendingNumber answer ≡ 18
       → RuleColoursOutOfRange (lentColours p r nodeTable stateTable numbers bytes) vs bs

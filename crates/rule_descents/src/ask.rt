@@ -13,10 +13,11 @@ ghost use Prim.Native.Nat.{_*_};
 ghost use lib.ListN.{take, drop};
 ghost use Rattle.changes.specs.inner.LastDiffering.{givenDiffering};
 ghost use Rattle.questions.specs.Promises.{RootsDone};
-ghost use Rattle.rule_descents.specs.Promise.{RuleAskDone};
+ghost use Rattle.rule_descents.specs.Promise.{linksKept, RuleAskDone};
 ghost use Rattle.rule_descents.specs.inner.Args.{LeftArgs, RootArgs, LentArgs, answeredFor, answeredOn};
 
-// The roots of the parts of the listed nodes whose label, after superseding, is not the plan's. The others are no change.
+// The roots of the parts of the listed nodes whose label, after superseding, is not the plan's. The others are no
+// change.
 fn roots_left(n: usize, plan: &[u8], node_table: &[u16], nodes: &[u16], labels: &[u8]) -> Rooted
     requires { ⌜ LeftArgs n (now plan) (now «node_table») ⌝ }
     ensures { λ r. ⌜ RootsDone n (take (n * 4) (now («node_table» .entry)))
@@ -46,9 +47,9 @@ fn answer_roots(
 ) -> RuleDescending
     requires { ⌜ RootArgs n s k (now plan) (now rules) (now «node_table») (now «state_table») (now numbers) (now bytes)
         (now nodes) (now labels) (now roots) ⌝ }
-    ensures { λ r. ⌜ r ≡ answeredFor n s k (now (plan .entry)) (now (rules .entry)) (now («node_table» .entry))
+    ensures { λ r. ⌜ (r ≡ answeredFor n s k (now (plan .entry)) (now (rules .entry)) (now («node_table» .entry))
         (now («state_table» .entry)) (now (numbers .entry)) (now (bytes .entry)) (now (nodes .entry))
-        (now (labels .entry)) (now (roots .entry)) ⌝ }
+        (now (labels .entry)) (now (roots .entry))) × linksKept r ⌝ }
 {
     let m = set_count(s);
     let t = all_by_colours(
@@ -89,9 +90,9 @@ fn answer_lent(
 ) -> RuleDescending
     requires { ⌜ LentArgs (now plan) (now rules) (now «node_table») (now «state_table») (now numbers) (now bytes)
         (now nodes) (now labels) ⌝ }
-    ensures { λ r. ⌜ r ≡ answeredOn (now (plan .entry)) (now (rules .entry)) (now («node_table» .entry))
+    ensures { λ r. ⌜ (r ≡ answeredOn (now (plan .entry)) (now (rules .entry)) (now («node_table» .entry))
         (now («state_table» .entry)) (now (numbers .entry)) (now (bytes .entry)) (now (nodes .entry))
-        (now (labels .entry)) ⌝ }
+        (now (labels .entry))) × linksKept r ⌝ }
 {
     let n = read32(plan, 0);
     let s = read32(rules, 0);
@@ -118,7 +119,8 @@ fn answer_lent(
     )
 }
 
-// A rule question by colours, outside the session: N, S and K are those of the headers. Asks 17, 27, 12, 13, 14 and 18 in
+// A rule question by colours, outside the session: N, S and K are those of the headers. Asks 17, 27, 12, 13, 14 and 18
+// in
 // this order; of two entries for a node the last holds, and one that changes nothing is none.
 pub fn ask_rule_colours(
     plan: &[u8],

@@ -8,7 +8,8 @@ ghost use mathlib.Core.Path.{_≡_};
 ghost use Rattle.formats.specs.Checks.{firstNo};
 ghost use Rattle.rule_descents.specs.Question.{ruleColoursFit, askedChecks};
 
-// Check 17: N, S and K are those of the headers; the last four are lengths. Where S is above 4 those of the colours' tables
+// Check 17: N, S and K are those of the headers; the last four are lengths. Where S is above 4 those of the colours'
+// tables
 // are not asked.
 fn tables_fit(
     plan: &[u8],
@@ -18,7 +19,8 @@ fn tables_fit(
     numbers: usize,
     bytes: usize,
 ) -> bool
-    ensures { λ r. ⌜ r ≡ ruleColoursFit (now (plan .entry)) (now (rules .entry)) «node_table» «state_table» numbers bytes ⌝ }
+    ensures { λ r. ⌜ r ≡ ruleColoursFit (now (plan .entry)) (now (rules .entry)) «node_table» «state_table» numbers
+        bytes ⌝ }
 {
     if !headers_fit(plan, rules, 20) {
         return false;
@@ -46,7 +48,8 @@ pub fn check_asked(
     nodes: &[u16],
     labels: &[u8],
 ) -> u8
-    ensures { λ r. ⌜ r ≡ firstNo (askedChecks (now (plan .entry)) (now (rules .entry)) «node_table» «state_table» numbers
+    ensures { λ r. ⌜ r ≡ firstNo (askedChecks (now (plan .entry)) (now (rules .entry)) «node_table» «state_table»
+        numbers
         bytes (now (nodes .entry)) (now (labels .entry))) ⌝ }
 {
     if !tables_fit(plan, rules, node_table, state_table, numbers, bytes) {

@@ -23,7 +23,8 @@ pub fn all_by_colours(
     nodes: &[u16],
     changes: &[u8],
 ) -> Trial
-    requires { ⌜ AllArgs n s k m (now labels) (now kinds) (now leaves) (now inner) (now «node_table») (now «state_table»)
+    requires { ⌜ AllArgs n s k m (now labels) (now kinds) (now leaves) (now inner) (now «node_table») (now
+        «state_table»)
         (now numbers) (now copies) (now nodes) (now changes) (now roots) ⌝ }
     ensures { λ r. ⌜ AllDone (colourView n s k (now (labels .entry)) (now (kinds .entry)) (now (leaves .entry))
         (now (inner .entry)) (now («node_table» .entry)) (now («state_table» .entry)) (now (numbers .entry))

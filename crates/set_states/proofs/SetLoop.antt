@@ -22,11 +22,12 @@ use Rattle.tables.proofs.StateLoop.{rules-below}
 use Rattle.colours.specs.StateSets.{setStep}
 use Rattle.colours.proofs.SetLaws.{setStep-below}
 use Rattle.colour_states.specs.inner.Rows.{RowOf, aboveCell, AboveArgs, TurnArgs, Turned}
-use Rattle.colour_states.proofs.CopyLoop.{copies-start, copies-next, above-is, above-in, place-in, led-is}
+use Rattle.colour_states.proofs.CopyLoop.{first-elsewhere, copies-start, copies-next, above-is, above-in, place-in}
+use Rattle.colour_states.proofs.CopyLoop.{led-is}
 use Rattle.set_states.specs.Ups.{UpArgs}
 use Rattle.set_states.specs.Down.{downSet, DownArgs}
 use Rattle.set_states.specs.SetPass.{SetsFrom, SetArgs}
-use Rattle.set_states.proofs.StepLaws.{first-elsewhere, down-is}
+use Rattle.set_states.proofs.StepLaws.{down-is}
 
 -- the nodes from v on are done, for every tree and rule table that was given
 abbrev pub Sets : List ℕ → List ℕ → ℕ → ℕ → ℕ → ℕ → List ℕ → List ℕ → ℕ → List ℕ → List ℕ → Type 0

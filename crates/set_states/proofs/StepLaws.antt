@@ -1,16 +1,14 @@
 -- A step down over sets of states, as the code has it, is the tree's own.
---     first-elsewhere, past-elsewhere   the first table is no landing, nor is what follows the tables
---     near-is                           the state at the parent that is read is the one that follows
---     down-is                           so the set that is reckoned is the step's
+--     near-is   the state at the parent that is read is the one that follows
+--     down-is   so the set that is reckoned is the step's
 -- Assumes nothing.
-use Prim.Native.Nat.{ℕ, _+_, _-_, _*_, _≤_, _<_}
+use Prim.Native.Nat.{ℕ, _+_, _-_, _*_, _<_}
 use mathlib.Core.Path.{_≡_, sym, ap, _∙_}
 use mathlib.Core.List.{List}
 use native.Mathlib.Decide.{ℕ-discrete}
 use native.Mathlib.Omega.{arith}
 use borrow.Author.Tests.{eq-eqb, ne-eqb}
 use lib.ListN.{getD}
-use Rattle.list_laws.proofs.RowLaws.{stride}
 use Rattle.trees.specs.Tree.{Tree, size, labelAt, labelsOf}
 use Rattle.trees.specs.Automaton.{state}
 use Rattle.trees.specs.Numbering.{sub, parent}
@@ -23,15 +21,8 @@ use Rattle.tables.specs.StateCells.{stateCell}
 use Rattle.tables.specs.inner.Maps.{nearValue}
 use Rattle.colours.specs.StateSets.{member, setStep}
 use Rattle.colours.proofs.SetLaws.{setStep-root, setStep-down}
-use Rattle.colour_states.specs.Written.{Elsewhere}
 use Rattle.set_states.specs.Down.{downSet}
 use Rattle.set_states.proofs.DownLaws.{setOf-ext}
-
-pub first-elsewhere : (n k j : ℕ) → j < n * 4 → Elsewhere n k j
-first-elsewhere n k j h c v p l i e = omega (arith, stride (n * 4) 0 c p)
-
-pub past-elsewhere : (n k j : ℕ) → k * (n * 4) ≤ j → Elsewhere n k j
-past-elsewhere n k j h c v p l i e = omega (arith, stride (n * 4) c k l)
 
 -- node v's parent and size, and the run's states of all nodes
 module _ (s k : ℕ) (lv inn mk : List ℕ) (t : Tree) (ls b st : List ℕ) (v : ℕ) (labels : labelsOf t ≡ ls)

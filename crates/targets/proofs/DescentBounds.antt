@@ -2,8 +2,8 @@
 --     fell-few       a search takes no more links than its start is deep
 --     descend-few    a descent from colour c has at most c drops, each found by few links
 -- Assumes nothing.
-use Prim.Native.Nat.{ℕ, zero, suc, _+_, _-_, _≤_, _<_}
-use mathlib.Core.Path.{_≡_, refl, sym, ap, _∙_, subst}
+use Prim.Native.Nat.{ℕ, zero, suc, _-_, _≤_, _<_}
+use mathlib.Core.Path.{_≡_, refl, subst}
 use mathlib.Core.Bool.{Bool, true, false, cond}
 use mathlib.Core.List.{List, [], _∷_}
 use mathlib.Core.Option.{Option, none, some, Option·some-injective}
@@ -13,7 +13,8 @@ use lib.ListN.{length}
 use Rattle.trees.specs.Climb.{Forest, Move, climb, climbEnd}
 use Rattle.trees.proofs.MoveLaws.{none-some}
 use Rattle.trees.proofs.ClimbLaws.{climb-most}
-use Rattle.colours.specs.Descents.{ColourTable, Place, Next, done, lost, fell, lowestIn, seenAt, fellAt, fellBy, nextFrom}
+use Rattle.colours.specs.Descents.{ColourTable, Place, Next, done, lost, fell, lowestIn, seenAt, fellAt, fellBy}
+use Rattle.colours.specs.Descents.{nextFrom}
 use Rattle.colours.specs.Descents.{seen, nextDrop, Descent, descent, withSearch, afterNext, descend}
 use Rattle.colours.proofs.DescentLaws.{AllLe, fell-lower}
 
@@ -53,7 +54,11 @@ pub record Short (b c : ℕ) (d : Descent) : Type 0 where
 
 module _ (T : ColourTable) (b l : ℕ) (deep : (c v : ℕ) → T .forest c .depth v ≤ b) where
   at-once : (c f : ℕ) (d : Descent) → some (descent c []) ≡ some d → Short b f d
-  at-once c f d e = subst (Short b f) (Option·some-injective (descent c []) d e) (record { falls = omega arith; few = tt })
+  at-once c f d e = subst (Short b f) (Option·some-injective (descent c []) d e) (record {
+    falls = omega arith;
+    few =
+        tt;
+  })
 
   pub descend-few : (f : ℕ) (z : Place) (c : ℕ) (d : Descent) → descend T f z l c ≡ some d → Short b c d
   unfolding descend

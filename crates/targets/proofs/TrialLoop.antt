@@ -20,15 +20,15 @@ use Rattle.marks.specs.Marks.{bit}
 use Rattle.colours.specs.Colouring.{placeOf}
 use Rattle.colours.specs.Descents.{ColourTable, Descent, drops, links, sum, descend}
 use Rattle.colours.specs.StateSets.{member, Tried, tried, targetColour, setAt, afterTrial, tryOne, tryFrom}
-use Rattle.colours.proofs.DescentLaws.{AllLe, sum-le}
+use Rattle.colours.proofs.DescentLaws.{sum-le}
 use Rattle.colours.proofs.SetLaws.{try-uncoloured, try-lost, try-found, try-on}
-use Rattle.colour_tables.specs.ColourCells.{colourPart, cellTable}
+use Rattle.colour_tables.specs.ColourCells.{cellTable}
 use Rattle.colour_tables.proofs.RangeLaws.{descend-low}
 use Rattle.descents.specs.declared.descend.Descended.{Descended}
 use Rattle.descents.specs.Descended.{descendedOf}
 use Rattle.targets.specs.declared.trials.Trial.{Trial}
 use Rattle.targets.specs.declared.trials.Tested.{Tested}
-use Rattle.targets.specs.Trials.{copyRow, trialOf, TargetsArgs, TargetArgs, Outcome, TestDone, TargetsDone}
+use Rattle.targets.specs.Trials.{copyRow, trialOf, TargetArgs, Outcome, TestDone, TargetsDone}
 use Rattle.targets.proofs.DescentBounds.{Short, descend-few}
 
 -- ---- a descent as the code has it
@@ -42,8 +42,14 @@ descended-some : (o : Option Descent) (d : Descended) → d ≡ descendedOf o �
     → (x : Descent) × (o ≡ some x) × (d .colour ≡ x .colour) × (d .drops ≡ drops x) × (d .links ≡ links x)
 unfolding descendedOf
 descended-some none d e f = absurd (true-false (sym f ∙ ap (λ (y : Descended). y .ok) e))
-descended-some (some x) d e f =
-    (x, refl, ap (λ (y : Descended). y .colour) e, ap (λ (y : Descended). y .drops) e, ap (λ (y : Descended). y .links) e)
+descended-some (some x) d e f = (
+  x,
+  refl,
+  ap (λ (y : Descended). y .colour) e,
+  ap (λ (y : Descended). y .drops) e,
+  ap (λ (y : Descended). y .links)
+      e,
+)
 
 -- what holds of every number holds of a part's
 taken-most : (l : List ℕ) (i j b : ℕ) → ((k : ℕ) → getD l k 0 ≤ b) → getD (take i l) j 0 ≤ b
@@ -80,20 +86,27 @@ module _ (n m : ℕ) (numbers copies : List ℕ) (c w q x : ℕ) (A : TargetArgs
       → TestDone (cellTable n numbers) (copyRow m copies) c w q x noTest
   none-tested f = record { lost = λ e later. f later; found = λ e. absurd (true-false (sym e)) }
 
-  module _ (k one : ℕ) (single : one ≡ 2 ^ x) (place : k ≡ placeOf one (take (c * m + m - c * m) (drop (c * m) copies))) where
+  module _ (k one : ℕ) (single : one ≡ 2 ^ x) (place : k ≡ placeOf one (take (c * m + m - c * m) (drop (c * m)
+      copies))) where
     colour-is : k ≡ targetColour (copyRow m copies) c x
     colour-is = place ∙ ap₂ placeOf single (run-part copies (c * m) m)
 
     pub test-uncoloured : m ≤ k → TestDone (cellTable n numbers) (copyRow m copies) c w q x noTest
     test-uncoloured h =
-        none-tested (λ later. try-uncoloured T rows c w q x later (omega (arith, colour-is, row-long c (A .all .upper))))
+        none-tested (λ later. try-uncoloured T rows c w q x later (omega (
+          arith,
+          colour-is,
+          row-long c (A .all
+              .upper),
+        )))
 
     module _ (h : k < m) (d : Descended) (D : d ≡ descendedOf (descend (cellTable n numbers) k (some c) w k)) where
       low : targetColour (copyRow m copies) c x < length (copyRow m copies c)
       low = omega (arith, colour-is, row-long c (A .all .upper))
 
       way-is : (o : Option Descent) → descend (cellTable n numbers) k (some c) w k ≡ o
-          → descend (cellTable n numbers) (targetColour (copyRow m copies) c x) (some c) w (targetColour (copyRow m copies) c x) ≡ o
+          → descend (cellTable n numbers) (targetColour (copyRow m copies) c x) (some c) w (targetColour (copyRow m
+          copies) c x) ≡ o
       way-is o e = subst (λ (y : ℕ). descend T y (some c) w y ≡ o) colour-is e
 
       pub test-lost : d .ok ≡ false → TestDone (cellTable n numbers) (copyRow m copies) c w q x noTest
@@ -141,7 +154,8 @@ module _ (n m : ℕ) (numbers copies : List ℕ) (c w q x : ℕ) (A : TargetArgs
                 ∙ getD-take m (drop (w * m) copies) i 0 l ∙ getD-drop (w * m) copies i 0)
 
             by-test : (later : Option Tried) (y : Descent)
-                → descend (cellTable n numbers) (targetColour (copyRow m copies) c x) (some c) w (targetColour (copyRow m copies) c x) ≡ some y
+                → descend (cellTable n numbers) (targetColour (copyRow m copies) c x) (some c) w (targetColour (copyRow
+                m copies) c x) ≡ some y
                 → (t : Bool) → t ≡ member (setAt (copyRow m copies) w y) q
                 → tryOne (cellTable n numbers) (copyRow m copies) c w q x later
                 ≡ cond t (some (tried x (y .searches))) (afterTrial (y .searches) later)
@@ -213,7 +227,8 @@ module _ (s : ℕ) (T : ColourTable) (rows : ℕ → List ℕ) (c w q : ℕ) whe
           let e : s - x ≡ suc (s - (x + 1)) = omega arith in
           G .rest
           ∙ ap (λ (f : ℕ). afterTrial (G .searches) (tryFrom T rows c w q f x)) e
-          ∙ ap (λ (y : ℕ). afterTrial (G .searches) (tryOne T rows c w q x (tryFrom T rows c w q (s - (x + 1)) y))) (sym (add-one x))
+          ∙ ap (λ (y : ℕ). afterTrial (G .searches) (tryOne T rows c w q x (tryFrom T rows c w q (s - (x + 1)) y)))
+          (sym (add-one x))
 
       pub trying-lost : t .ok ≡ false → TargetsDone s T rows c w q noTrial
       trying-lost f = nothing (turn ∙ ap (afterTrial (G .searches)) (D .lost f later))
@@ -242,7 +257,13 @@ module _ (s : ℕ) (T : ColourTable) (rows : ℕ → List ℕ) (c w q : ℕ) whe
             ∙ ap (λ (z : Bool). cond z (some (tried x (O .searches))) (afterTrial (O .searches) later)) e)
 
         pub trying-found : t .holds ≡ true
-            → TargetsDone s T rows c w q (record { ok = true; state = x; drops = drops + t .drops; links = links + t .links })
+            → TargetsDone s T rows c w q (record {
+              ok = true;
+              state = x;
+              drops = drops + t .drops;
+              links = links + t
+                  .links;
+            })
         unfolding trialOf
         trying-found e = record {
           result = sym (ap trialOf (after true e)

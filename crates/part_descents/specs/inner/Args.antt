@@ -66,7 +66,8 @@ pub record PartReads (n s k m : ℕ) (ls ks lv inn nodeTable stateTable numbers 
   pub same-list : length vs ≡ length bs
   pub many-list : length vs ≤ 65535
 
-pub record PartArgs (n s k m : ℕ) (ls ks lv inn nodeTable stateTable numbers copies es qs vs bs : List ℕ) (v : ℕ) : Type 0 where
+pub record PartArgs (n s k m : ℕ) (ls ks lv inn nodeTable stateTable numbers copies es qs vs bs : List ℕ) (v : ℕ) :
+    Type 0 where
   pub reads : PartReads n s k m ls ks lv inn nodeTable stateTable numbers copies vs bs
   pub at : v < n
   pub same : length es ≡ length qs

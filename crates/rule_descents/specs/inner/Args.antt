@@ -1,9 +1,11 @@
 -- What the functions of a rule question by colours are lent, and what they promise.
 --
--- AllArgs == what all parts read is inside, and the roots are nodes, at most 254; AllDone L vs bs ms r == r is what comes
+-- AllArgs == what all parts read is inside, and the roots are nodes, at most 254; AllDone L vs bs ms r == r is what
+--   comes
 --   of all parts of the roots ms, with at most 60 drops for each
 -- LeftArgs, RootArgs, LentArgs == what the functions of the question read is inside
--- answeredFor n s k .. ms == the answer for the roots ms, with N, S and K as given; answeredOn .. == the answer where the
+-- answeredFor n s k .. ms == the answer for the roots ms, with N, S and K as given; answeredOn .. == the answer where
+--   the
 --   checks before 18 pass
 --
 -- Assumes nothing.
@@ -54,7 +56,8 @@ lentAs n s k p r nodeTable stateTable numbers bytes = record {
 abbrev pub answeredFor : ℕ → ℕ → ℕ → List ℕ → List ℕ → List ℕ → List ℕ → List ℕ → List ℕ → List ℕ → List ℕ → List ℕ
     → RuleDescending
 answeredFor n s k p r nodeTable stateTable numbers bytes vs bs ms =
-    ruleAnswer r 0 (andThen (handledFrom (lentAs n s k p r nodeTable stateTable numbers bytes) vs bs [] [] (tried 0 []) ms)
+    ruleAnswer r 0 (andThen (handledFrom (lentAs n s k p r nodeTable stateTable numbers bytes) vs bs [] [] (tried 0 [])
+    ms)
     (λ x. some (handled x (length ms))))
 
 pub record RootArgs (n s k : ℕ) (p r nodeTable stateTable numbers bytes vs bs ms : List ℕ) : Type 0 where
@@ -77,4 +80,5 @@ answeredOn p r nodeTable stateTable numbers bytes vs bs =
     ruleAnswer r 0 (askedOn p r nodeTable stateTable numbers bytes vs bs)
 
 pub record LentArgs (p r nodeTable stateTable numbers bytes vs bs : List ℕ) : Type 0 where
-  pub passed : firstNo (askedChecks p r (length nodeTable) (length stateTable) (length numbers) (length bytes) vs bs) ≡ 0
+  pub passed : firstNo (askedChecks p r (length nodeTable) (length stateTable) (length numbers) (length bytes) vs bs)
+      ≡ 0

@@ -1,6 +1,6 @@
 -- `fork_by_colours` meets its contract. Assumes nothing.
-use Prim.Native.Nat.{ℕ, _+_, _-_, _*_, _≤_, _<_}
-use mathlib.Core.Path.{_≡_, sym, _∙_}
+use Prim.Native.Nat.{_-_, _<_}
+use mathlib.Core.Path.{sym, _∙_}
 use borrow.Author.Tests.{not-true, not-false}
 use Rattle.node_tables.specs.Cells.{sizeCell}
 use Rattle.questions.proofs.ScanLaws.{last-bound, last-covers}
@@ -20,8 +20,8 @@ use Rattle.tables.proofs.lookups.rule_on.Reads as rule-on-reads
 last-below-requires : tie.Need-last-below-requires
 last-below-requires c κs = search needs
 
-sub-last-below : tie.Need-sub-last-below
-sub-last-below c = search needs
+sub-r : tie.Need-sub-r
+sub-r c = search needs
 
 last-below-requires-2 : tie.Need-last-below-requires-2
 last-below-requires-2 c κs = search needs
@@ -35,9 +35,20 @@ side-by-colours-requires c κs =
       reads = s .pre .reads;
       at = omega (arith, s .pre .left, s .pre .at);
       same = s .pre .same;
-      place = omega (arith, b .before .last-below .ensures, last-bound (g .l) (sizeCell (g .node-table .now) (g .l)) (g .earlier .now));
+      place = omega (
+        arith,
+        b .before .last-below .ensures,
+        last-bound (g .l) (sizeCell (g .node-table .now) (g .l)) (g
+            .earlier .now),
+      );
       inside = λ i z.
-          omega (arith, s .pre .at, s .pre .left, last-covers (g .l) (sizeCell (g .node-table .now) (g .l)) (g .earlier .now) i (sym (b .before .last-below .ensures) ∙ z));
+          omega (
+            arith,
+            s .pre .at,
+            s .pre .left,
+            last-covers (g .l) (sizeCell (g .node-table .now) (g .l)) (g .earlier
+                .now) i (sym (b .before .last-below .ensures) ∙ z),
+          );
     }
 
 lost-requires : tie.Need-lost-requires
@@ -50,13 +61,12 @@ returns c =
     let b = x .before in
     let s = b .before .before .before .before .before .before .before .before .before in
     let g = s .args in
-    fork-left (sidesOf (g .n) (g .s) (g .m) (g .state-table .now) (g .numbers .now) (g .copies .now)) (g .k) (g .inner .now)
+    fork-left (sidesOf (g .n) (g .s) (g .m) (g .state-table .now) (g .numbers .now) (g .copies .now)) (g .k) (g .inner
+    .now)
     (g .node-table .now) (g .earlier .now) (g .states .now) (g .v) (g .l) (g .a) (b .before .last-below .result)
     (b .last-below2 .result) (s .pre .same) (b .before .last-below .ensures) (b .last-below2 .ensures)
-    (x .side-by-colours .result) (x .side-by-colours .ensures) (c .lost .result) (not-true _ (t .if1 .taken)) (c .lost .ensures)
-
-sub-side-by-colours : tie.Need-sub-side-by-colours
-sub-side-by-colours c = search needs
+    (x .side-by-colours .result) (x .side-by-colours .ensures) (c .lost .result) (not-true _ (t .if1 .taken)) (c .lost
+    .ensures)
 
 side-by-colours-requires-2 : tie.Need-side-by-colours-requires-2
 side-by-colours-requires-2 c κs =
@@ -68,9 +78,20 @@ side-by-colours-requires-2 c κs =
       reads = s .pre .reads;
       at = omega (arith, s .pre .left, s .pre .at);
       same = s .pre .same;
-      place = omega (arith, b .last-below2 .ensures, last-bound (g .v - 1) (sizeCell (g .node-table .now) (g .v - 1)) (g .earlier .now));
+      place = omega (
+        arith,
+        b .last-below2 .ensures,
+        last-bound (g .v - 1) (sizeCell (g .node-table .now) (g .v - 1))
+            (g .earlier .now),
+      );
       inside = λ i z.
-          omega (arith, s .pre .at, s .pre .left, last-covers (g .v - 1) (sizeCell (g .node-table .now) (g .v - 1)) (g .earlier .now) i (sym (b .last-below2 .ensures) ∙ z));
+          omega (
+            arith,
+            s .pre .at,
+            s .pre .left,
+            last-covers (g .v - 1) (sizeCell (g .node-table .now) (g .v - 1)) (g
+                .earlier .now) i (sym (b .last-below2 .ensures) ∙ z),
+          );
     }
 
 lost-requires-2 : tie.Need-lost-requires-2
@@ -85,10 +106,12 @@ returns-2 c =
     let b = x .before in
     let s = b .before .before .before .before .before .before .before .before .before in
     let g = s .args in
-    fork-right (sidesOf (g .n) (g .s) (g .m) (g .state-table .now) (g .numbers .now) (g .copies .now)) (g .k) (g .inner .now)
+    fork-right (sidesOf (g .n) (g .s) (g .m) (g .state-table .now) (g .numbers .now) (g .copies .now)) (g .k) (g .inner
+    .now)
     (g .node-table .now) (g .earlier .now) (g .states .now) (g .v) (g .l) (g .a) (b .before .last-below .result)
     (b .last-below2 .result) (s .pre .same) (b .before .last-below .ensures) (b .last-below2 .ensures)
-    (x .side-by-colours .result) (x .side-by-colours .ensures) (not-false _ (e1 .if1 .left)) (y .side-by-colours2 .result) (y .side-by-colours2 .ensures)
+    (x .side-by-colours .result) (x .side-by-colours .ensures) (not-false _ (e1 .if1 .left)) (y .side-by-colours2
+    .result) (y .side-by-colours2 .ensures)
     (c .lost2 .result) (not-true _ (t .if2 .taken)) (c .lost2 .ensures)
 
 cast-rule-on : tie.Need-cast-rule-on
@@ -128,15 +151,17 @@ returns-3 c =
     let b = x .before in
     let s = b .before .before .before .before .before .before .before .before .before in
     let g = s .args in
-    fork-rule (sidesOf (g .n) (g .s) (g .m) (g .state-table .now) (g .numbers .now) (g .copies .now)) (g .k) (g .inner .now)
+    fork-rule (sidesOf (g .n) (g .s) (g .m) (g .state-table .now) (g .numbers .now) (g .copies .now)) (g .k) (g .inner
+    .now)
     (g .node-table .now) (g .earlier .now) (g .states .now) (g .v) (g .l) (g .a) (b .before .last-below .result)
     (b .last-below2 .result) (s .pre .same) (b .before .last-below .ensures) (b .last-below2 .ensures)
-    (x .side-by-colours .result) (x .side-by-colours .ensures) (not-false _ (e1 .if1 .left)) (y .side-by-colours2 .result) (y .side-by-colours2 .ensures) (not-false _ (e2 .if2 .left))
+    (x .side-by-colours .result) (x .side-by-colours .ensures) (not-false _ (e1 .if1 .left)) (y .side-by-colours2
+    .result) (y .side-by-colours2 .ensures) (not-false _ (e2 .if2 .left))
     (r .rule-on .result) (r .rule-on .ensures)
     (c .lost3 .result) (t .if3 .taken) (c .lost3 .ensures)
 
-cast-t23 : tie.Need-cast-t23
-cast-t23 c =
+cast-t24 : tie.Need-cast-t24
+cast-t24 c =
     let e3 = c in
     let r = e3 .before in
     let e2 = r .before .before .before in
@@ -149,8 +174,8 @@ cast-t23 c =
     let h : r .rule-on .result < g .s = e3 .if3 .left in
     omega (arith, h, s .pre .reads .states)
 
-add-t24 : tie.Need-add-t24
-add-t24 c =
+add-t25 : tie.Need-add-t25
+add-t25 c =
     let e3 = c .before .before in
     let r = e3 .before in
     let e2 = r .before .before .before in
@@ -162,15 +187,17 @@ add-t24 c =
     let g = s .args in
     omega (
       arith,
-      fork-falls (sidesOf (g .n) (g .s) (g .m) (g .state-table .now) (g .numbers .now) (g .copies .now)) (g .k) (g .inner .now)
+      fork-falls (sidesOf (g .n) (g .s) (g .m) (g .state-table .now) (g .numbers .now) (g .copies .now)) (g .k) (g
+          .inner .now)
           (g .node-table .now) (g .earlier .now) (g .states .now) (g .v) (g .l) (g .a) (b .before .last-below .result)
           (b .last-below2 .result) (s .pre .same) (b .before .last-below .ensures) (b .last-below2 .ensures)
-          (x .side-by-colours .result) (x .side-by-colours .ensures) (not-false _ (e1 .if1 .left)) (y .side-by-colours2 .result) (y .side-by-colours2 .ensures) (not-false _ (e2 .if2 .left))
+          (x .side-by-colours .result) (x .side-by-colours .ensures) (not-false _ (e1 .if1 .left)) (y .side-by-colours2
+          .result) (y .side-by-colours2 .ensures) (not-false _ (e2 .if2 .left))
           (r .rule-on .result) (r .rule-on .ensures),
     )
 
-add-t25 : tie.Need-add-t25
-add-t25 c =
+add-t26 : tie.Need-add-t26
+add-t26 c =
     let e3 = c .before .before .before .before in
     let r = e3 .before in
     let e2 = r .before .before .before in
@@ -180,15 +207,19 @@ add-t25 c =
     let b = x .before in
     let s = b .before .before .before .before .before .before .before .before .before in
     let g = s .args in
-    let a = fork-falls (sidesOf (g .n) (g .s) (g .m) (g .state-table .now) (g .numbers .now) (g .copies .now)) (g .k) (g .inner .now)
+    let a = fork-falls (sidesOf (g .n) (g .s) (g .m) (g .state-table .now) (g .numbers .now) (g .copies .now)) (g .k)
+    (g .inner .now)
     (g .node-table .now) (g .earlier .now) (g .states .now) (g .v) (g .l) (g .a) (b .before .last-below .result)
     (b .last-below2 .result) (s .pre .same) (b .before .last-below .ensures) (b .last-below2 .ensures)
-    (x .side-by-colours .result) (x .side-by-colours .ensures) (not-false _ (e1 .if1 .left)) (y .side-by-colours2 .result) (y .side-by-colours2 .ensures) (not-false _ (e2 .if2 .left))
+    (x .side-by-colours .result) (x .side-by-colours .ensures) (not-false _ (e1 .if1 .left)) (y .side-by-colours2
+    .result) (y .side-by-colours2 .ensures) (not-false _ (e2 .if2 .left))
     (r .rule-on .result) (r .rule-on .ensures) in
-    let f = fork-few (sidesOf (g .n) (g .s) (g .m) (g .state-table .now) (g .numbers .now) (g .copies .now)) (g .k) (g .inner .now)
+    let f = fork-few (sidesOf (g .n) (g .s) (g .m) (g .state-table .now) (g .numbers .now) (g .copies .now)) (g .k) (g
+    .inner .now)
     (g .node-table .now) (g .earlier .now) (g .states .now) (g .v) (g .l) (g .a) (b .before .last-below .result)
     (b .last-below2 .result) (s .pre .same) (b .before .last-below .ensures) (b .last-below2 .ensures)
-    (x .side-by-colours .result) (x .side-by-colours .ensures) (not-false _ (e1 .if1 .left)) (y .side-by-colours2 .result) (y .side-by-colours2 .ensures) (not-false _ (e2 .if2 .left))
+    (x .side-by-colours .result) (x .side-by-colours .ensures) (not-false _ (e1 .if1 .left)) (y .side-by-colours2
+    .result) (y .side-by-colours2 .ensures) (not-false _ (e2 .if2 .left))
     (r .rule-on .result) (r .rule-on .ensures) in
     omega (arith, a, f)
 
@@ -203,23 +234,24 @@ returns-4 c =
     let b = x .before in
     let s = b .before .before .before .before .before .before .before .before .before in
     let g = s .args in
-    fork-made (sidesOf (g .n) (g .s) (g .m) (g .state-table .now) (g .numbers .now) (g .copies .now)) (g .k) (g .inner .now)
+    fork-made (sidesOf (g .n) (g .s) (g .m) (g .state-table .now) (g .numbers .now) (g .copies .now)) (g .k) (g .inner
+    .now)
     (g .node-table .now) (g .earlier .now) (g .states .now) (g .v) (g .l) (g .a) (b .before .last-below .result)
     (b .last-below2 .result) (s .pre .same) (b .before .last-below .ensures) (b .last-below2 .ensures)
-    (x .side-by-colours .result) (x .side-by-colours .ensures) (not-false _ (e1 .if1 .left)) (y .side-by-colours2 .result) (y .side-by-colours2 .ensures) (not-false _ (e2 .if2 .left))
+    (x .side-by-colours .result) (x .side-by-colours .ensures) (not-false _ (e1 .if1 .left)) (y .side-by-colours2
+    .result) (y .side-by-colours2 .ensures) (not-false _ (e2 .if2 .left))
     (r .rule-on .result) (r .rule-on .ensures) (e3 .if3 .left)
 
 pub fork-by-colours-spec : {M : Type 1} → statement M
 fork-by-colours-spec =
     tie.close
     (tie.spec
+    sub-r
     last-below-requires
-    sub-last-below
     last-below-requires-2
     side-by-colours-requires
     lost-requires
     returns
-    sub-side-by-colours
     side-by-colours-requires-2
     lost-requires-2
     returns-2
@@ -228,7 +260,7 @@ fork-by-colours-spec =
     rule-on-requires
     lost-requires-3
     returns-3
-    cast-t23
-    add-t24
+    cast-t24
     add-t25
+    add-t26
     returns-4)

@@ -1,8 +1,6 @@
 -- `lost` meets its contract. Assumes nothing.
 use mathlib.Core.Path.{sym}
 use Rattle.part_descents.proofs.TrialLaws.{none-is}
-use native.Mathlib.Omega.{arith}
-use borrow.Author.Needs.{needs}
 use Rattle.part_descents.proofs.part.lost.Statement.{statement}
 use Rattle.part_descents.proofs.part.lost.Tie as tie
 use Rattle.part_descents.proofs.part.lost.Reads as reads

@@ -29,7 +29,8 @@ returns c =
     let a = c .before .before .before in
     let s = a .before .before .before .before .before .before .before .before .before .before .before .before .before in
     let g = s .args in
-    part-leaf (colourView (g .n) (g .s) (g .k) (g .labels .now) (g .kinds .now) (g .leaves .now) (g .inner .now) (g .node-table .now)
+    part-leaf (colourView (g .n) (g .s) (g .k) (g .labels .now) (g .kinds .now) (g .leaves .now) (g .inner .now) (g
+    .node-table .now)
     (g .state-table .now) (g .numbers .now) (g .copies .now)) (g .earlier .now) (g .states .now) (g .nodes .now)
     (g .changes .now) (g .v) (a .label-on .result) (a .label-on .ensures)
     (c .leaf-state .result) (c .before .if1 .taken) (c .leaf-state .ensures)
@@ -43,7 +44,8 @@ returns-2 c =
     let a = c .before .before .before .before in
     let s = a .before .before .before .before .before .before .before .before .before .before .before .before .before in
     let g = s .args in
-    part-first (colourView (g .n) (g .s) (g .k) (g .labels .now) (g .kinds .now) (g .leaves .now) (g .inner .now) (g .node-table .now)
+    part-first (colourView (g .n) (g .s) (g .k) (g .labels .now) (g .kinds .now) (g .leaves .now) (g .inner .now) (g
+    .node-table .now)
     (g .state-table .now) (g .numbers .now) (g .copies .now)) (g .earlier .now) (g .states .now) (g .nodes .now)
     (g .changes .now) (g .v) (a .label-on .result) (a .label-on .ensures)
     (c .before .before .if1 .left) (c .lost .result) (c .before .if2 .taken) (c .lost .ensures)
@@ -69,10 +71,12 @@ returns-3 c =
     let a = e1 .before .before in
     let s = a .before .before .before .before .before .before .before .before .before .before .before .before .before in
     let g = s .args in
-    part-outside (colourView (g .n) (g .s) (g .k) (g .labels .now) (g .kinds .now) (g .leaves .now) (g .inner .now) (g .node-table .now)
+    part-outside (colourView (g .n) (g .s) (g .k) (g .labels .now) (g .kinds .now) (g .leaves .now) (g .inner .now) (g
+    .node-table .now)
     (g .state-table .now) (g .numbers .now) (g .copies .now)) (g .earlier .now) (g .states .now) (g .nodes .now)
     (g .changes .now) (g .v) (a .label-on .result) (a .label-on .ensures)
-    (e1 .if1 .left) (e2 .if2 .left) (c .lost2 .result) (omega (arith, t .if3 .taken, z .size-at .ensures)) (c .lost2 .ensures)
+    (e1 .if1 .left) (e2 .if2 .left) (c .lost2 .result) (omega (arith, t .if3 .taken, z .size-at .ensures)) (c .lost2
+    .ensures)
 
 sub-fork-by-colours : tie.Need-sub-fork-by-colours
 sub-fork-by-colours c = search needs
@@ -92,7 +96,8 @@ returns-4 c =
     let a = e1 .before .before in
     let s = a .before .before .before .before .before .before .before .before .before .before .before .before .before in
     let g = s .args in
-    part-fork (colourView (g .n) (g .s) (g .k) (g .labels .now) (g .kinds .now) (g .leaves .now) (g .inner .now) (g .node-table .now)
+    part-fork (colourView (g .n) (g .s) (g .k) (g .labels .now) (g .kinds .now) (g .leaves .now) (g .inner .now) (g
+    .node-table .now)
     (g .state-table .now) (g .numbers .now) (g .copies .now)) (g .earlier .now) (g .states .now) (g .nodes .now)
     (g .changes .now) (g .v) (a .label-on .result) (a .label-on .ensures)
     (e1 .if1 .left) (e2 .if2 .left) (g .m) (z .size-at .result) (c .fork-by-colours .result) (s .pre .reads .sets)

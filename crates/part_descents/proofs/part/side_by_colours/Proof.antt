@@ -1,5 +1,5 @@
 -- `side_by_colours` meets its contract. Assumes nothing.
-use Prim.Native.Nat.{ℕ, _+_, _-_, _<_}
+use Prim.Native.Nat.{_+_, _-_, _<_}
 use mathlib.Core.Path.{_≡_}
 use lib.ListN.{length, getD}
 use Rattle.tables.proofs.LookupLaws.{state-place}
@@ -22,7 +22,8 @@ run-on-requires c κs =
     let g = s .args in
     record {
       few = omega (arith, s .pre .reads .states);
-      at = state-place (g .n) (g .s) (g .c) (length (g .state-table .now)) (s .pre .at) (s .pre .reads .state-table-room);
+      at = state-place (g .n) (g .s) (g .c) (length (g .state-table .now)) (s .pre .at) (s .pre .reads
+          .state-table-room);
     }
 
 untried-state-requires : tie.Need-untried-state-requires
@@ -44,7 +45,11 @@ shared-slice-read-q c = search needs
 
 cast-untried-state : tie.Need-cast-untried-state
 cast-untried-state c =
-    omega (arith, c .before .shared-slice-known6 .given (c .before .before .before .before .before .before .before .before .args .own - 1))
+    omega (
+      arith,
+      c .before .shared-slice-known6 .given (c .before .before .before .before .before .before .before
+          .before .args .own - 1),
+    )
 
 untried-state-requires-2 : tie.Need-untried-state-requires-2
 untried-state-requires-2 c κs = search needs
@@ -60,7 +65,11 @@ returns-2 c =
 
 cast-if3 : tie.Need-cast-if3
 cast-if3 c =
-    omega (arith, c .before .shared-slice-known6 .given (c .before .before .before .before .before .before .before .before .args .own - 1))
+    omega (
+      arith,
+      c .before .shared-slice-known6 .given (c .before .before .before .before .before .before .before
+          .before .args .own - 1),
+    )
 
 lost-requires : tie.Need-lost-requires
 lost-requires c κs = search needs
@@ -86,7 +95,11 @@ shared-slice-read-try-targets c = search needs
 
 cast-try-targets : tie.Need-cast-try-targets
 cast-try-targets c =
-    omega (arith, c .shared-slice-known7 .given (c .before .before .before .before .before .before .before .before .before .before .args .own - 1))
+    omega (
+      arith,
+      c .shared-slice-known7 .given (c .before .before .before .before .before .before .before .before
+          .before .before .args .own - 1),
+    )
 
 try-targets-requires : tie.Need-try-targets-requires
 try-targets-requires c κs =

@@ -1,7 +1,6 @@
 -- `untried_state` meets its contract. Assumes nothing.
 use mathlib.Core.Path.{_∙_}
 use Rattle.part_descents.proofs.TrialLaws.{untried-no, untried-yes}
-use native.Mathlib.Omega.{arith}
 use borrow.Author.Needs.{needs}
 use Rattle.part_descents.proofs.part.untried_state.Statement.{statement}
 use Rattle.part_descents.proofs.part.untried_state.Tie as tie

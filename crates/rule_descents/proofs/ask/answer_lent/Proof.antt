@@ -1,13 +1,11 @@
 -- `answer_lent` meets its contract. Assumes nothing.
-use Prim.Native.Nat.{_+_, _*_}
-use mathlib.Core.Path.{_≡_, sym}
+use mathlib.Core.Path.{sym}
 use lib.Seq.{length-take-le}
 use borrow.Author.Tests.{not-true, not-false}
 use Rattle.formats.proofs.BufferLaws.{Headers}
 use Rattle.rule_descents.proofs.AskChecks.{passed-are}
 use Rattle.rule_descents.proofs.AnswerLaws.{lent-passed, lent-lost, rooted-room, root-args, lent-answer}
 use native.Mathlib.Omega.{arith}
-use borrow.Author.Needs.{needs}
 use Rattle.rule_descents.proofs.ask.answer_lent.Statement.{statement}
 use Rattle.rule_descents.proofs.ask.answer_lent.Tie as tie
 use Rattle.rule_descents.proofs.ask.answer_lent.Reads as reads
@@ -41,8 +39,10 @@ roots-left-requires c κs =
     let x = y .before in
     let s = x .before .before .before .before .before .before .before .before .before in
     let g = s .args in
-    let h = lent-passed (g .plan .now) (g .rules .now) (g .node-table .now) (g .state-table .now) (g .numbers .now) (g .bytes .now)
-    (g .nodes .now) (g .labels .now) (s .pre) (x .read32 .result) (y .read322 .result) (z .read323 .result) (x .read32 .ensures) (y .read322 .ensures) (z .read323 .ensures) .fits .headed in
+    let h = lent-passed (g .plan .now) (g .rules .now) (g .node-table .now) (g .state-table .now) (g .numbers .now) (g
+    .bytes .now)
+    (g .nodes .now) (g .labels .now) (s .pre) (x .read32 .result) (y .read322 .result) (z .read323 .result) (x .read32
+    .ensures) (y .read322 .ensures) (z .read323 .ensures) .fits .headed in
     record {
       most = omega (arith, h .headers .in-limits .most, x .read32 .ensures);
       labels = omega (arith, h .plan-exact, x .read32 .ensures);
@@ -56,9 +56,14 @@ returns c =
     let y = z .before in
     let x = y .before in
     let s = x .before .before .before .before .before .before .before .before .before in
-    let g = s .args in
-    lent-lost (g .plan .now) (g .rules .now) (g .node-table .now) (g .state-table .now) (g .numbers .now) (g .bytes .now)
-    (g .nodes .now) (g .labels .now) (s .pre) (x .read32 .result) (y .read322 .result) (z .read323 .result) (x .read32 .ensures) (y .read322 .ensures) (z .read323 .ensures) (q .roots-left .result) (q .roots-left .ensures) (not-true _ (c .if1 .taken))
+    let g = s .args in (
+      lent-lost (g .plan .now) (g .rules .now) (g .node-table .now) (g .state-table .now) (g .numbers .now) (g .bytes
+          .now)
+          (g .nodes .now) (g .labels .now) (s .pre) (x .read32 .result) (y .read322 .result) (z .read323 .result) (x
+          .read32 .ensures) (y .read322 .ensures) (z .read323 .ensures) (q .roots-left .result) (q .roots-left
+          .ensures) (not-true _ (c .if1 .taken)),
+      tt,
+    )
 
 array-share-prefix-list : tie.Need-array-share-prefix-list
 array-share-prefix-list c =
@@ -69,8 +74,11 @@ array-share-prefix-list c =
     let x = y .before in
     let s = x .before .before .before .before .before .before .before .before .before in
     let g = s .args in
-    rooted-room (g .plan .now) (g .rules .now) (g .node-table .now) (g .state-table .now) (g .numbers .now) (g .bytes .now)
-    (g .nodes .now) (g .labels .now) (s .pre) (x .read32 .result) (y .read322 .result) (z .read323 .result) (x .read32 .ensures) (y .read322 .ensures) (z .read323 .ensures) (q .roots-left .result) (q .roots-left .ensures) (not-false _ (e .if1 .left))
+    rooted-room (g .plan .now) (g .rules .now) (g .node-table .now) (g .state-table .now) (g .numbers .now) (g .bytes
+    .now)
+    (g .nodes .now) (g .labels .now) (s .pre) (x .read32 .result) (y .read322 .result) (z .read323 .result) (x .read32
+    .ensures) (y .read322 .ensures) (z .read323 .ensures) (q .roots-left .result) (q .roots-left .ensures) (not-false _
+    (e .if1 .left))
 
 slice-aggregate-answer-roots : tie.Need-slice-aggregate-answer-roots
 slice-aggregate-answer-roots c =
@@ -81,8 +89,11 @@ slice-aggregate-answer-roots c =
     let x = y .before in
     let s = x .before .before .before .before .before .before .before .before .before in
     let g = s .args in
-    sym (length-take-le _ _ (rooted-room (g .plan .now) (g .rules .now) (g .node-table .now) (g .state-table .now) (g .numbers .now) (g .bytes .now)
-    (g .nodes .now) (g .labels .now) (s .pre) (x .read32 .result) (y .read322 .result) (z .read323 .result) (x .read32 .ensures) (y .read322 .ensures) (z .read323 .ensures) (q .roots-left .result) (q .roots-left .ensures) (not-false _ (e .if1 .left))))
+    sym (length-take-le _ _ (rooted-room (g .plan .now) (g .rules .now) (g .node-table .now) (g .state-table .now) (g
+    .numbers .now) (g .bytes .now)
+    (g .nodes .now) (g .labels .now) (s .pre) (x .read32 .result) (y .read322 .result) (z .read323 .result) (x .read32
+    .ensures) (y .read322 .ensures) (z .read323 .ensures) (q .roots-left .result) (q .roots-left .ensures) (not-false _
+    (e .if1 .left))))
 
 answer-roots-requires : tie.Need-answer-roots-requires
 answer-roots-requires c κs =
@@ -93,8 +104,11 @@ answer-roots-requires c κs =
     let x = y .before in
     let s = x .before .before .before .before .before .before .before .before .before in
     let g = s .args in
-    root-args (g .plan .now) (g .rules .now) (g .node-table .now) (g .state-table .now) (g .numbers .now) (g .bytes .now)
-    (g .nodes .now) (g .labels .now) (s .pre) (x .read32 .result) (y .read322 .result) (z .read323 .result) (x .read32 .ensures) (y .read322 .ensures) (z .read323 .ensures) (q .roots-left .result) (q .roots-left .ensures) (not-false _ (e .if1 .left))
+    root-args (g .plan .now) (g .rules .now) (g .node-table .now) (g .state-table .now) (g .numbers .now) (g .bytes
+    .now)
+    (g .nodes .now) (g .labels .now) (s .pre) (x .read32 .result) (y .read322 .result) (z .read323 .result) (x .read32
+    .ensures) (y .read322 .ensures) (z .read323 .ensures) (q .roots-left .result) (q .roots-left .ensures) (not-false _
+    (e .if1 .left))
 
 returns-2 : tie.Need-returns-2
 returns-2 c =
@@ -104,10 +118,15 @@ returns-2 c =
     let y = z .before in
     let x = y .before in
     let s = x .before .before .before .before .before .before .before .before .before in
-    let g = s .args in
-    lent-answer (g .plan .now) (g .rules .now) (g .node-table .now) (g .state-table .now) (g .numbers .now) (g .bytes .now)
-    (g .nodes .now) (g .labels .now) (s .pre) (x .read32 .result) (y .read322 .result) (z .read323 .result) (x .read32 .ensures) (y .read322 .ensures) (z .read323 .ensures) (q .roots-left .result) (q .roots-left .ensures) (not-false _ (e .if1 .left))
-    (c .answer-roots .result) (c .answer-roots .ensures)
+    let g = s .args in (
+      lent-answer (g .plan .now) (g .rules .now) (g .node-table .now) (g .state-table .now) (g .numbers .now) (g .bytes
+          .now)
+          (g .nodes .now) (g .labels .now) (s .pre) (x .read32 .result) (y .read322 .result) (z .read323 .result) (x
+          .read32 .ensures) (y .read322 .ensures) (z .read323 .ensures) (q .roots-left .result) (q .roots-left
+          .ensures) (not-false _ (e .if1 .left))
+          (c .answer-roots .result) (c .answer-roots .ensures .0),
+      c .answer-roots .ensures .1,
+    )
 
 pub answer-lent-spec : {M : Type 1} → statement M
 answer-lent-spec =

@@ -1,6 +1,5 @@
 -- `answer_roots` meets its contract. Assumes nothing.
-use Prim.Native.Nat.{ℕ, _+_, _*_, _≤_, _<_}
-use mathlib.Core.Path.{_≡_, sym}
+use mathlib.Core.Path.{sym}
 use lib.Seq.{length-take-le}
 use borrow.Author.Tests.{not-true, not-false}
 use Rattle.rule_descents.proofs.AnswerLaws.{Runs, runs-by, all-args, roots-lost, mark-place, roots-answer}
@@ -14,7 +13,8 @@ use Rattle.rule_descents.proofs.parts.all_by_colours.Reads as all-by-co
 use Rattle.set_states.proofs.sets.set_count.Reads as set-count-reads
 
 runs : (s : tie.Start) → let g = s .args in
-    Runs (g .n) (g .s) (g .k) (g .plan .now) (g .rules .now) (g .node-table .now) (g .state-table .now) (g .numbers .now)
+    Runs (g .n) (g .s) (g .k) (g .plan .now) (g .rules .now) (g .node-table .now) (g .state-table .now) (g .numbers
+    .now)
     (g .bytes .now) (g .nodes .now) (g .labels .now) (g .roots .now) (s .pre)
 runs s = runs-by _ _ _ _ _ _ _ _ _ _ _ _ (s .pre)
 
@@ -123,75 +123,91 @@ part-all-by-colours-end-4 c =
 
 mul-all-by-colours-3 : tie.Need-mul-all-by-colours-3
 mul-all-by-colours-3 c =
-    let s = c .before .before .before .before .before .before .before .before .before .before .before .before .before .before in
+    let s = c .before .before .before .before .before .before .before .before .before .before .before .before .before
+    .before in
     omega (arith, runs s)
 
 slice-aggregate-all-by-colours : tie.Need-slice-aggregate-all-by-colours
 slice-aggregate-all-by-colours c =
-    let s = c .before .before .before .before .before .before .before .before .before .before .before .before .before .before .before in
+    let s = c .before .before .before .before .before .before .before .before .before .before .before .before .before
+    .before .before in
     sym (length-take-le _ _ (runs s .lengths .node-table-room))
 
 add-all-by-colours-7 : tie.Need-add-all-by-colours-7
 add-all-by-colours-7 c =
-    let s = c .before .before .before .before .before .before .before .before .before .before .before .before .before .before .before in
+    let s = c .before .before .before .before .before .before .before .before .before .before .before .before .before
+    .before .before in
     omega (arith, runs s)
 
 mul-all-by-colours-4 : tie.Need-mul-all-by-colours-4
 mul-all-by-colours-4 c =
-    let s = c .before .before .before .before .before .before .before .before .before .before .before .before .before .before .before in
+    let s = c .before .before .before .before .before .before .before .before .before .before .before .before .before
+    .before .before in
     omega (arith, runs s)
 
 slice-aggregate-all-by-colours-2 : tie.Need-slice-aggregate-all-by-colours-2
 slice-aggregate-all-by-colours-2 c =
-    let s = c .before .before .before .before .before .before .before .before .before .before .before .before .before .before .before .before in
+    let s = c .before .before .before .before .before .before .before .before .before .before .before .before .before
+    .before .before .before in
     sym (length-take-le _ _ (runs s .lengths .state-table-room))
 
 add-all-by-colours-8 : tie.Need-add-all-by-colours-8
 add-all-by-colours-8 c =
-    let s = c .before .before .before .before .before .before .before .before .before .before .before .before .before .before .before .before in
+    let s = c .before .before .before .before .before .before .before .before .before .before .before .before .before
+    .before .before .before in
     omega (arith, runs s)
 
 mul-all-by-colours-5 : tie.Need-mul-all-by-colours-5
 mul-all-by-colours-5 c =
-    let s = c .before .before .before .before .before .before .before .before .before .before .before .before .before .before .before .before in
+    let s = c .before .before .before .before .before .before .before .before .before .before .before .before .before
+    .before .before .before in
     omega (arith, runs s)
 
 sub-all-by-colours-5 : tie.Need-sub-all-by-colours-5
 sub-all-by-colours-5 c =
-    let s = c .before .before .before .before .before .before .before .before .before .before .before .before .before .before .before .before in
+    let s = c .before .before .before .before .before .before .before .before .before .before .before .before .before
+    .before .before .before in
     omega (arith, runs s)
 
 part-all-by-colours-start-5 : tie.Need-part-all-by-colours-start-5
 part-all-by-colours-start-5 c =
-    let s = c .before .before .before .before .before .before .before .before .before .before .before .before .before .before .before .before in
+    let s = c .before .before .before .before .before .before .before .before .before .before .before .before .before
+    .before .before .before in
     omega (arith, runs s)
 
 part-all-by-colours-end-5 : tie.Need-part-all-by-colours-end-5
 part-all-by-colours-end-5 c =
-    let s = c .before .before .before .before .before .before .before .before .before .before .before .before .before .before .before .before in
+    let s = c .before .before .before .before .before .before .before .before .before .before .before .before .before
+    .before .before .before in
     omega (arith, runs s)
 
 all-by-colours-requires : tie.Need-all-by-colours-requires
 all-by-colours-requires c κs =
     let a = c .before .before .before .before .before .before .before in
     let s = a .before .before .before .before .before .before .before .before .before .before in
-    all-args _ _ _ _ _ _ _ _ _ _ _ _ (s .pre) (a .set-count .result) (a .set-count .ensures .0) (a .set-count .ensures .1)
+    all-args _ _ _ _ _ _ _ _ _ _ _ _ (s .pre) (a .set-count .result) (a .set-count .ensures .0) (a .set-count .ensures
+    .1)
 
 returns : tie.Need-returns
 returns c =
     let e = c in
     let t = e .before .before in
-    let s = t .before .before .before .before .before .before .before .before .before .before .before .before .before .before .before .before .before .before in
-    let g = s .args in
-    roots-lost (g .n) (g .s) (g .k) (g .plan .now) (g .rules .now) (g .node-table .now) (g .state-table .now) (g .numbers .now)
-    (g .bytes .now) (g .nodes .now) (g .labels .now) (g .roots .now) (s .pre)
-    (t .all-by-colours .result) (t .all-by-colours .ensures) (not-true _ (e .if1 .taken))
+    let s = t .before .before .before .before .before .before .before .before .before .before .before .before .before
+    .before .before .before .before .before in
+    let g = s .args in (
+      roots-lost (g .n) (g .s) (g .k) (g .plan .now) (g .rules .now) (g .node-table .now) (g .state-table .now) (g
+          .numbers .now)
+          (g .bytes .now) (g .nodes .now) (g .labels .now) (g .roots .now) (s .pre)
+          (t .all-by-colours .result) (t .all-by-colours .ensures) (not-true _ (e .if1 .taken)),
+      tt,
+    )
 
 add-yes : tie.Need-add-yes
 add-yes c =
     let e = c in
     let t = e .before .before in
-    let s = t .before .before .before .before .before .before .before .before .before .before .before .before .before .before .before .before .before .before in
+    let s = t .before .before .before .before .before .before .before .before .before .before .before .before .before
+    .before .before .before .before .before in
     let g = s .args in
     omega (arith, runs s)
 
@@ -199,7 +215,8 @@ mul-yes : tie.Need-mul-yes
 mul-yes c =
     let e = c in
     let t = e .before .before in
-    let s = t .before .before .before .before .before .before .before .before .before .before .before .before .before .before .before .before .before .before in
+    let s = t .before .before .before .before .before .before .before .before .before .before .before .before .before
+    .before .before .before .before .before in
     let g = s .args in
     omega (arith, runs s)
 
@@ -207,7 +224,8 @@ mul-yes-2 : tie.Need-mul-yes-2
 mul-yes-2 c =
     let e = c in
     let t = e .before .before in
-    let s = t .before .before .before .before .before .before .before .before .before .before .before .before .before .before .before .before .before .before in
+    let s = t .before .before .before .before .before .before .before .before .before .before .before .before .before
+    .before .before .before .before .before in
     let g = s .args in
     omega (arith, runs s)
 
@@ -215,7 +233,8 @@ add-yes-2 : tie.Need-add-yes-2
 add-yes-2 c =
     let e = c in
     let t = e .before .before in
-    let s = t .before .before .before .before .before .before .before .before .before .before .before .before .before .before .before .before .before .before in
+    let s = t .before .before .before .before .before .before .before .before .before .before .before .before .before
+    .before .before .before .before .before in
     let g = s .args in
     omega (arith, runs s)
 
@@ -223,9 +242,11 @@ cast-yes : tie.Need-cast-yes
 cast-yes c =
     let e = c in
     let t = e .before .before in
-    let s = t .before .before .before .before .before .before .before .before .before .before .before .before .before .before .before .before .before .before in
+    let s = t .before .before .before .before .before .before .before .before .before .before .before .before .before
+    .before .before .before .before .before in
     let g = s .args in
-    let l = mark-place (g .n) (g .s) (g .k) (g .plan .now) (g .rules .now) (g .node-table .now) (g .state-table .now) (g .numbers .now)
+    let l = mark-place (g .n) (g .s) (g .k) (g .plan .now) (g .rules .now) (g .node-table .now) (g .state-table .now)
+    (g .numbers .now)
     (g .bytes .now) (g .nodes .now) (g .labels .now) (g .roots .now) (s .pre)
     (t .all-by-colours .result) (t .all-by-colours .ensures) (not-false _ (e .if1 .left)) in
     omega (arith, l, s .pre .states)
@@ -234,9 +255,11 @@ add-yes-3 : tie.Need-add-yes-3
 add-yes-3 c =
     let e = c in
     let t = e .before .before in
-    let s = t .before .before .before .before .before .before .before .before .before .before .before .before .before .before .before .before .before .before in
+    let s = t .before .before .before .before .before .before .before .before .before .before .before .before .before
+    .before .before .before .before .before in
     let g = s .args in
-    let l = mark-place (g .n) (g .s) (g .k) (g .plan .now) (g .rules .now) (g .node-table .now) (g .state-table .now) (g .numbers .now)
+    let l = mark-place (g .n) (g .s) (g .k) (g .plan .now) (g .rules .now) (g .node-table .now) (g .state-table .now)
+    (g .numbers .now)
     (g .bytes .now) (g .nodes .now) (g .labels .now) (g .roots .now) (s .pre)
     (t .all-by-colours .result) (t .all-by-colours .ensures) (not-false _ (e .if1 .left)) in
     omega (arith, l, s .pre .states, runs s)
@@ -245,9 +268,11 @@ shared-slice-read-yes : tie.Need-shared-slice-read-yes
 shared-slice-read-yes c =
     let e = c .before in
     let t = e .before .before in
-    let s = t .before .before .before .before .before .before .before .before .before .before .before .before .before .before .before .before .before .before in
+    let s = t .before .before .before .before .before .before .before .before .before .before .before .before .before
+    .before .before .before .before .before in
     let g = s .args in
-    let l = mark-place (g .n) (g .s) (g .k) (g .plan .now) (g .rules .now) (g .node-table .now) (g .state-table .now) (g .numbers .now)
+    let l = mark-place (g .n) (g .s) (g .k) (g .plan .now) (g .rules .now) (g .node-table .now) (g .state-table .now)
+    (g .numbers .now)
     (g .bytes .now) (g .nodes .now) (g .labels .now) (g .roots .now) (s .pre)
     (t .all-by-colours .result) (t .all-by-colours .ensures) (not-false _ (e .if1 .left)) in
     omega (arith, l, runs s .lengths .table-is)
@@ -256,7 +281,8 @@ cast-t57 : tie.Need-cast-t57
 cast-t57 c =
     let e = c .before in
     let t = e .before .before in
-    let s = t .before .before .before .before .before .before .before .before .before .before .before .before .before .before .before .before .before .before in
+    let s = t .before .before .before .before .before .before .before .before .before .before .before .before .before
+    .before .before .before .before .before in
     let g = s .args in
     omega (arith, s .pre .few)
 
@@ -264,11 +290,15 @@ returns-2 : tie.Need-returns-2
 returns-2 c =
     let e = c .before in
     let t = e .before .before in
-    let s = t .before .before .before .before .before .before .before .before .before .before .before .before .before .before .before .before .before .before in
-    let g = s .args in
-    roots-answer (g .n) (g .s) (g .k) (g .plan .now) (g .rules .now) (g .node-table .now) (g .state-table .now) (g .numbers .now)
-    (g .bytes .now) (g .nodes .now) (g .labels .now) (g .roots .now) (s .pre)
-    (t .all-by-colours .result) (t .all-by-colours .ensures) (not-false _ (e .if1 .left))
+    let s = t .before .before .before .before .before .before .before .before .before .before .before .before .before
+    .before .before .before .before .before in
+    let g = s .args in (
+      roots-answer (g .n) (g .s) (g .k) (g .plan .now) (g .rules .now) (g .node-table .now) (g .state-table .now) (g
+          .numbers .now)
+          (g .bytes .now) (g .nodes .now) (g .labels .now) (g .roots .now) (s .pre)
+          (t .all-by-colours .result) (t .all-by-colours .ensures) (not-false _ (e .if1 .left)),
+      (t .all-by-colours .ensures .falls, t .all-by-colours .ensures .links),
+    )
 
 pub answer-roots-spec : {M : Type 1} → statement M
 answer-roots-spec =

@@ -2,7 +2,6 @@
 use mathlib.Core.Path.{_≡_, sym, _∙_}
 use Rattle.rule_descents.proofs.AskNumbers.{refused-is, lent-is}
 use Rattle.rule_descents.proofs.AskTheorem.{ask-done}
-use native.Mathlib.Omega.{arith}
 use borrow.Author.Needs.{needs}
 use Rattle.rule_descents.proofs.ask.ask_rule_colours.Statement.{statement}
 use Rattle.rule_descents.proofs.ask.ask_rule_colours.Tie as tie
@@ -19,8 +18,10 @@ returns c =
     let g = c .before .before .before .before .before .before .before .before .before .before .args in
     ask-done (g .plan .now) (g .rules .now) (g .node-table .now) (g .state-table .now) (g .numbers .now) (g .bytes .now)
     (g .nodes .now) (g .labels .now) _
-    (refused-is (g .plan .now) (g .rules .now) (g .node-table .now) (g .state-table .now) (g .numbers .now) (g .bytes .now)
-    (g .nodes .now) (g .labels .now) (c .before .check-asked .result) (c .before .check-asked .ensures) (c .if1 .taken))
+    (refused-is (g .plan .now) (g .rules .now) (g .node-table .now) (g .state-table .now) (g .numbers .now) (g .bytes
+    .now)
+    (g .nodes .now) (g .labels .now) (c .before .check-asked .result) (c .before .check-asked .ensures) (c .if1
+    .taken)) tt
 
 answer-lent-requires : tie.Need-answer-lent-requires
 answer-lent-requires c κs =
@@ -35,7 +36,8 @@ returns-2 c =
     ask-done (g .plan .now) (g .rules .now) (g .node-table .now) (g .state-table .now) (g .numbers .now) (g .bytes .now)
     (g .nodes .now) (g .labels .now) _
     (lent-is (g .plan .now) (g .rules .now) (g .node-table .now) (g .state-table .now) (g .numbers .now) (g .bytes .now)
-    (g .nodes .now) (g .labels .now) (c .answer-lent .result) (sym (e .before .check-asked .ensures) ∙ z) (c .answer-lent .ensures))
+    (g .nodes .now) (g .labels .now) (c .answer-lent .result) (sym (e .before .check-asked .ensures)
+    ∙ z) (c .answer-lent .ensures .0)) (c .answer-lent .ensures .1)
 
 pub ask-rule-colours-spec : {M : Type 1} → statement M
 ask-rule-colours-spec =

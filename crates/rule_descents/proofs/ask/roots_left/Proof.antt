@@ -3,7 +3,7 @@
 use Prim.Native.Nat.{ℕ, _+_, _-_, _*_}
 use mathlib.Core.Path.{_≡_, sym, ap, _∙_, subst}
 use mathlib.Core.List.{List}
-use lib.ListN.{length, take, drop}
+use lib.ListN.{take, drop}
 use lib.Seq.{length-take-le}
 use Rattle.changes.specs.declared.differing.LeftNodes.{LeftNodes}
 use Rattle.changes.specs.inner.LastDiffering.{givenDiffering, DifferingDone}

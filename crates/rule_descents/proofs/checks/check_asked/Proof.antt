@@ -29,7 +29,8 @@ tables-fit-requires c κs = search needs
 returns : tie.Need-returns
 returns c =
     let g = c .before .before .before .before .before .before .args in
-    no-17 (g .plan .now) (g .rules .now) (g .node-table) (g .state-table) (g .numbers) (g .bytes) (g .nodes .now) (g .labels .now)
+    no-17 (g .plan .now) (g .rules .now) (g .node-table) (g .state-table) (g .numbers) (g .bytes) (g .nodes .now) (g
+    .labels .now)
     (sym (c .before .tables-fit .ensures) ∙ not-true _ (c .if1 .taken))
 
 read32-requires : tie.Need-read32-requires
@@ -51,7 +52,8 @@ returns-2 c =
     let x = y .before in
     let e = x .before in
     let g = e .before .before .before .before .before .before .args in
-    no-27 (g .plan .now) (g .rules .now) (g .node-table) (g .state-table) (g .numbers) (g .bytes) (g .nodes .now) (g .labels .now) (fits e) (y .read322 .result) (y .read322 .ensures) (c .if2 .taken)
+    no-27 (g .plan .now) (g .rules .now) (g .node-table) (g .state-table) (g .numbers) (g .bytes) (g .nodes .now) (g
+    .labels .now) (fits e) (y .read322 .result) (y .read322 .ensures) (c .if2 .taken)
 
 check-list-requires : tie.Need-check-list-requires
 check-list-requires c κs = search needs
@@ -64,8 +66,10 @@ returns-3 c =
     let e = x .before in
     let g = e .before .before .before .before .before .before .args in
     c .check-list .ensures
-    ∙ then-list (g .plan .now) (g .rules .now) (g .node-table) (g .state-table) (g .numbers) (g .bytes) (g .nodes .now) (g .labels .now) (fits e) (y .read322 .result)
-    (y .read322 .ensures) (x .read32 .result) (z .read323 .result) (x .read32 .ensures) (z .read323 .ensures) (c .before .if2 .left)
+    ∙ then-list (g .plan .now) (g .rules .now) (g .node-table) (g .state-table) (g .numbers) (g .bytes) (g .nodes .now)
+    (g .labels .now) (fits e) (y .read322 .result)
+    (y .read322 .ensures) (x .read32 .result) (z .read323 .result) (x .read32 .ensures) (z .read323 .ensures) (c
+    .before .if2 .left)
 
 pub check-asked-spec : {M : Type 1} → statement M
 check-asked-spec =

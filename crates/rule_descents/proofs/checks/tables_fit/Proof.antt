@@ -61,7 +61,9 @@ returns-2 c =
     let x = y .before in
     let e = x .before in
     let g = e .before .before .before .before .args in
-    lengths-no (g .plan .now) (g .rules .now) (g .node-table) (g .state-table) (g .numbers) (g .bytes) (fits e) (x .read32 .result) (y .read322 .result) (z .read323 .result) (x .read32 .ensures) (y .read322 .ensures) (z .read323 .ensures)
+    lengths-no (g .plan .now) (g .rules .now) (g .node-table) (g .state-table) (g .numbers) (g .bytes) (fits e) (x
+    .read32 .result) (y .read322 .result) (z .read323 .result) (x .read32 .ensures) (y .read322 .ensures) (z .read323
+    .ensures)
     (sym (t .rule-buffers-fit .ensures) ∙ not-true _ (c .if2 .taken))
 
 returns-3 : tie.Need-returns-3
@@ -73,7 +75,9 @@ returns-3 c =
     let x = y .before in
     let e = x .before in
     let g = e .before .before .before .before .args in
-    many-states (g .plan .now) (g .rules .now) (g .node-table) (g .state-table) (g .numbers) (g .bytes) (fits e) (x .read32 .result) (y .read322 .result) (z .read323 .result) (x .read32 .ensures) (y .read322 .ensures) (z .read323 .ensures)
+    many-states (g .plan .now) (g .rules .now) (g .node-table) (g .state-table) (g .numbers) (g .bytes) (fits e) (x
+    .read32 .result) (y .read322 .result) (z .read323 .result) (x .read32 .ensures) (y .read322 .ensures) (z .read323
+    .ensures)
     (sym (t .rule-buffers-fit .ensures) ∙ not-false _ (u .if2 .left)) (c .if3 .taken)
 
 set-colours-fit-requires : tie.Need-set-colours-fit-requires
@@ -98,7 +102,9 @@ returns-4 c =
     let e = x .before in
     let g = e .before .before .before .before .args in
     c .set-colours-fit .ensures
-    ∙ few-states (g .plan .now) (g .rules .now) (g .node-table) (g .state-table) (g .numbers) (g .bytes) (fits e) (x .read32 .result) (y .read322 .result) (z .read323 .result) (x .read32 .ensures) (y .read322 .ensures) (z .read323 .ensures)
+    ∙ few-states (g .plan .now) (g .rules .now) (g .node-table) (g .state-table) (g .numbers) (g .bytes) (fits e) (x
+    .read32 .result) (y .read322 .result) (z .read323 .result) (x .read32 .ensures) (y .read322 .ensures) (z .read323
+    .ensures)
     (sym (t .rule-buffers-fit .ensures) ∙ not-false _ (u .if2 .left)) (w .if3 .left)
 
 pub tables-fit-spec : {M : Type 1} → statement M

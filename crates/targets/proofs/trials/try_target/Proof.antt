@@ -1,7 +1,7 @@
 -- `try_target` meets its contract: each way out cites its law. Assumes nothing.
 use Prim.Native.Nat.{ℕ, _+_, _*_, _≤_, _<_}
 use native.Mathlib.Nat.{mul-le-mul}
-use lib.ListN.{length, getD}
+use lib.ListN.{length}
 use borrow.Author.Tests.{not-true, not-false}
 use Rattle.list_laws.proofs.RowLaws.{stride}
 use Rattle.targets.proofs.TrialLoop.{row-in, test-uncoloured, test-lost, end-low, test-end}
@@ -23,20 +23,36 @@ product s v h =
 
 inside : (s : tie.Start) (v : ℕ) → v < s .args .n → v * s .args .m + s .args .m ≤ length (s .args .copies .now)
 inside s v h =
-    row-in (s .args .n) (s .args .m) (s .args .numbers .now) (s .args .copies .now) (s .args .c) (s .args .w) (s .args .q)
+    row-in (s .args .n) (s .args .m) (s .args .numbers .now) (s .args .copies .now) (s .args .c) (s .args .w) (s .args
+    .q)
     (s .args .x) (s .pre) v h
 
 mul-place-of : tie.Need-mul-place-of
 mul-place-of c =
-    omega (arith, product (c .before .before) (c .before .before .args .c) (c .before .before .pre .all .upper), c .before .before .pre .all .few)
+    omega (
+      arith,
+      product (c .before .before) (c .before .before .args .c) (c .before .before .pre .all .upper),
+      c
+          .before .before .pre .all .few,
+    )
 
 mul-place-of-2 : tie.Need-mul-place-of-2
 mul-place-of-2 c =
-    omega (arith, product (c .before .before) (c .before .before .args .c) (c .before .before .pre .all .upper), c .before .before .pre .all .few)
+    omega (
+      arith,
+      product (c .before .before) (c .before .before .args .c) (c .before .before .pre .all .upper),
+      c
+          .before .before .pre .all .few,
+    )
 
 add-place-of : tie.Need-add-place-of
 add-place-of c =
-    omega (arith, product (c .before .before) (c .before .before .args .c) (c .before .before .pre .all .upper), c .before .before .pre .all .few)
+    omega (
+      arith,
+      product (c .before .before) (c .before .before .args .c) (c .before .before .pre .all .upper),
+      c
+          .before .before .pre .all .few,
+    )
 
 sub-place-of : tie.Need-sub-place-of
 sub-place-of c = search needs
@@ -59,7 +75,8 @@ returns c =
     let s = p .before .before .before .before .before in
     let g = s .args in
     test-uncoloured (g .n) (g .m) (g .numbers .now) (g .copies .now) (g .c) (g .w) (g .q) (g .x) (s .pre)
-    (p .place-of .result) (p .before .single .result) (p .before .single .ensures) (p .place-of .ensures .0) (c .if1 .taken)
+    (p .place-of .result) (p .before .single .result) (p .before .single .ensures) (p .place-of .ensures .0) (c .if1
+    .taken)
 
 descend-from-requires : tie.Need-descend-from-requires
 descend-from-requires c κs =
@@ -83,7 +100,8 @@ returns-2 c =
     let s = p .before .before .before .before .before in
     let g = s .args in
     test-lost (g .n) (g .m) (g .numbers .now) (g .copies .now) (g .c) (g .w) (g .q) (g .x) (s .pre)
-    (p .place-of .result) (p .before .single .result) (p .before .single .ensures) (p .place-of .ensures .0) (e .if1 .left)
+    (p .place-of .result) (p .before .single .result) (p .before .single .ensures) (p .place-of .ensures .0) (e .if1
+    .left)
     (d .descend-from .result) (d .descend-from .ensures) (not-true _ (c .if2 .taken))
 
 low : (c : tie.Else2) → let s = c .before .before .before .before .before .before .before .before .before in
@@ -95,7 +113,8 @@ low c =
     let s = p .before .before .before .before .before in
     let g = s .args in
     end-low (g .n) (g .m) (g .numbers .now) (g .copies .now) (g .c) (g .w) (g .q) (g .x) (s .pre)
-    (p .place-of .result) (p .before .single .result) (p .before .single .ensures) (p .place-of .ensures .0) (e .if1 .left)
+    (p .place-of .result) (p .before .single .result) (p .before .single .ensures) (p .place-of .ensures .0) (e .if1
+    .left)
     (d .descend-from .result) (d .descend-from .ensures) (not-false _ (c .if2 .left))
 
 mul-set : tie.Need-mul-set
@@ -126,7 +145,8 @@ returns-3 c =
     let s = k .before in
     let g = s .args in
     test-end (g .n) (g .m) (g .numbers .now) (g .copies .now) (g .c) (g .w) (g .q) (g .x) (s .pre)
-    (p .place-of .result) (p .before .single .result) (p .before .single .ensures) (p .place-of .ensures .0) (e .if1 .left)
+    (p .place-of .result) (p .before .single .result) (p .before .single .ensures) (p .place-of .ensures .0) (e .if1
+    .left)
     (d .descend-from .result) (d .descend-from .ensures) (not-false _ (e2 .if2 .left))
     (λ i. omega (arith, k .shared-slice-known .given i)) (c .bit-of .result) (c .bit-of .ensures .0)
 

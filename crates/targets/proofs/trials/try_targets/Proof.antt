@@ -6,7 +6,6 @@ use Rattle.targets.specs.Trials.{copyRow}
 use Rattle.targets.proofs.TrialLoop.{Trying, trying-start, trying-lost, trying-found, trying-on, trying-end}
 use Rattle.targets.proofs.TrialLoop.{trying-falls, trying-few}
 use native.Mathlib.Omega.{arith}
-use borrow.Author.Needs.{needs}
 use Rattle.targets.proofs.trials.try_targets.Statement.{statement}
 use Rattle.targets.proofs.trials.try_targets.Tie as tie
 use Rattle.targets.proofs.trials.try_targets.Reads as reads
@@ -49,7 +48,8 @@ returns c =
     let i = r .before in
     let o = i .before .loop in
     let g = i .before .before .before .before .args in
-    trying-lost (g .s) (cellTable (g .n) (g .numbers .now)) (copyRow (g .m) (g .copies .now)) (g .c) (g .w) (g .q) (o .drops) (o .links) (o .x) (o .inv) (i .loop-test .taken)
+    trying-lost (g .s) (cellTable (g .n) (g .numbers .now)) (copyRow (g .m) (g .copies .now)) (g .c) (g .w) (g .q) (o
+    .drops) (o .links) (o .x) (o .inv) (i .loop-test .taken)
     (r .try-target .result) (r .try-target .ensures) (not-true _ (c .if1 .taken))
 
 add-drops : tie.Need-add-drops Inv-loop μ-loop
@@ -64,7 +64,8 @@ add-drops c =
       arith,
       h,
       s .pre .states,
-      trying-falls (g .s) (cellTable (g .n) (g .numbers .now)) (copyRow (g .m) (g .copies .now)) (g .c) (g .w) (g .q) (o .drops) (o .links) (o .x) (o .inv) h
+      trying-falls (g .s) (cellTable (g .n) (g .numbers .now)) (copyRow (g .m) (g .copies .now)) (g .c) (g .w) (g .q)
+          (o .drops) (o .links) (o .x) (o .inv) h
           (r .try-target .result) (r .try-target .ensures) (not-false _ (c .before .if1 .left)),
     )
 
@@ -82,9 +83,11 @@ add-links c =
       arith,
       h,
       s .pre .states,
-      trying-falls (g .s) (cellTable (g .n) (g .numbers .now)) (copyRow (g .m) (g .copies .now)) (g .c) (g .w) (g .q) (o .drops) (o .links) (o .x) (o .inv) h
+      trying-falls (g .s) (cellTable (g .n) (g .numbers .now)) (copyRow (g .m) (g .copies .now)) (g .c) (g .w) (g .q)
+          (o .drops) (o .links) (o .x) (o .inv) h
           (r .try-target .result) (r .try-target .ensures) f,
-      trying-few (g .s) (cellTable (g .n) (g .numbers .now)) (copyRow (g .m) (g .copies .now)) (g .c) (g .w) (g .q) (o .drops) (o .links) (o .x) (o .inv) h
+      trying-few (g .s) (cellTable (g .n) (g .numbers .now)) (copyRow (g .m) (g .copies .now)) (g .c) (g .w) (g .q) (o
+          .drops) (o .links) (o .x) (o .inv) h
           (r .try-target .result) (r .try-target .ensures) f,
     )
 
@@ -102,7 +105,8 @@ returns-2 c =
     let i = r .before in
     let o = i .before .loop in
     let g = i .before .before .before .before .args in
-    trying-found (g .s) (cellTable (g .n) (g .numbers .now)) (copyRow (g .m) (g .copies .now)) (g .c) (g .w) (g .q) (o .drops) (o .links) (o .x) (o .inv) (i .loop-test .taken)
+    trying-found (g .s) (cellTable (g .n) (g .numbers .now)) (copyRow (g .m) (g .copies .now)) (g .c) (g .w) (g .q) (o
+    .drops) (o .links) (o .x) (o .inv) (i .loop-test .taken)
     (r .try-target .result) (r .try-target .ensures) (not-false _ (e .if1 .left)) (c .if2 .taken)
 
 add-x : tie.Need-add-x Inv-loop μ-loop
@@ -124,7 +128,8 @@ loop-again c =
     let i = r .before in
     let o = i .before .loop in
     let g = i .before .before .before .before .args in
-    trying-on (g .s) (cellTable (g .n) (g .numbers .now)) (copyRow (g .m) (g .copies .now)) (g .c) (g .w) (g .q) (o .drops) (o .links) (o .x) (o .inv) (i .loop-test .taken)
+    trying-on (g .s) (cellTable (g .n) (g .numbers .now)) (copyRow (g .m) (g .copies .now)) (g .c) (g .w) (g .q) (o
+    .drops) (o .links) (o .x) (o .inv) (i .loop-test .taken)
     (r .try-target .result) (r .try-target .ensures) (not-false _ (e .if1 .left)) (c .if2 .left)
 
 returns-3 : tie.Need-returns-3 Inv-loop μ-loop
@@ -132,7 +137,8 @@ returns-3 c =
     let a = c .before in
     let o = a .loop in
     let g = a .before .before .before .args in
-    trying-end (g .s) (cellTable (g .n) (g .numbers .now)) (copyRow (g .m) (g .copies .now)) (g .c) (g .w) (g .q) (o .drops) (o .links) (o .x) (o .inv) (c .loop-test .left)
+    trying-end (g .s) (cellTable (g .n) (g .numbers .now)) (copyRow (g .m) (g .copies .now)) (g .c) (g .w) (g .q) (o
+    .drops) (o .links) (o .x) (o .inv) (c .loop-test .left)
 
 pub try-targets-spec : {M : Type 1} → statement M
 try-targets-spec =
