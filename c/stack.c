@@ -121,7 +121,7 @@ static const struct call {
     {"colour branch question with upper", colour_ask_with_upper, 1024},
     {"build of four states", build_of_four, 3072},
     {"colour build", colour_build, 3072},
-    {"colour question", colour_question, 4096},
+    {"colour question", colour_question, 2048},
 };
 
 static void *run(void *make) {

@@ -13,7 +13,7 @@
  * Stack of a call, as measured on plans of 65,535 nodes and the largest tables: a fresh run at most 40 KiB, a count of
  * choices at most 35 KiB, agreement of two rule tables at most 12 KiB, a Start, which makes the full check, at most
  * 7 KiB, the full check of a rule table's tables at most 6 KiB, any other session call at most 4 KiB, a build or a branch
- * table's full check at most 3 KiB, any other at most 1 KiB.
+ * table's full check at most 3 KiB, a question of changes by colours at most 2 KiB, any other at most 1 KiB.
  *
  * What holds for every function:
  * - A slice is a pointer, then its count of elements (not bytes).
