@@ -1,6 +1,6 @@
--- On tables as built a part by colours has the state of "Parts of a question", found by the trials of its one-sided
--- child.
+-- On tables as built a part by colours has the state of "Parts of a question".
 --     PartIs       so, with at most 60 drops where it is one-sided, none elsewhere, each found by few links
+--     tried-side   the state of a one-sided child is the climb's
 --     part-built   of every part
 -- Assumes nothing.
 use Prim.Native.Nat.{ℕ, _+_, _-_, _*_, _≤_, _<_}
@@ -85,7 +85,7 @@ module _ (L : ColourView) (G : Given) (u : Tree) (R : Reads (L .view) G) (RG : R
     own-side h g = ap untried (is-below (X .s) (stateOf ps h) (small h))
 
     -- "the state its climb gives is found by trying target states in rising order up to it"
-    tried-side : anyBelow ms (G .tree) c ≡ true
+    pub tried-side : anyBelow ms (G .tree) c ≡ true
         → PartIs (G .tree)
         (sideTried (sidesIn L) c (some (found (highestBelow ms (G .tree) c) (stateOf ps (highestBelow ms (G .tree)
         c)))) none)

@@ -2,14 +2,13 @@
 --
 -- ColourView == what is lent: plan, rules and tables cut into their runs, and the numbers and copies of the colours
 -- Sides == of these what the children of a root read; sidesOf n s m stateTable numbers copies == that of lent runs,
---   with
---   m sets in each copy
+--   with m sets in each copy
 -- colourFrom Y c f == the state at child c by the trials from the root f found below it
 -- sideTried Y c f g == the state at child c, where f is the root found below it and g the one below its sibling
 -- joinTried X a x y == the rule for the states of both children, with the searches of both
 -- partTried L es qs vs bs v == the part of root v, where the roots es, of states qs, were handled before; none (18)
---   where
---   a value read leads outside the plan, the states or the labels, a search does not rise, or no target state is found
+--   where a value read leads outside the plan, the states or the labels, a search does not rise, or no target state is
+--   found
 -- handledFrom L vs bs es qs r ms == the parts of the roots ms, one after the other: the state of the last, and the
 --   searches of all; es and qs are the roots handled before and their states, r what came of them
 --

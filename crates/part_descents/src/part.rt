@@ -46,8 +46,7 @@ fn untried_state(q: usize, s: usize) -> Trial
 }
 
 // The state at child c, where `own` is the place of the last earlier root below c and `other` that of the last below
-// its
-// sibling: the run's without a root below, the root's own with roots below both, else what the trials find.
+// its sibling: the run's without a root below, the root's own with roots below both, else what the trials find.
 fn side_by_colours(
     state_table: &[u8],
     numbers: &[u16],

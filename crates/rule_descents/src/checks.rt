@@ -9,8 +9,7 @@ ghost use Rattle.formats.specs.Checks.{firstNo};
 ghost use Rattle.rule_descents.specs.Question.{ruleColoursFit, askedChecks};
 
 // Check 17: N, S and K are those of the headers; the last four are lengths. Where S is above 4 those of the colours'
-// tables
-// are not asked.
+// tables are not asked.
 fn tables_fit(
     plan: &[u8],
     rules: &[u8],

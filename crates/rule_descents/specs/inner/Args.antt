@@ -1,12 +1,10 @@
 -- What the functions of a rule question by colours are lent, and what they promise.
 --
 -- AllArgs == what all parts read is inside, and the roots are nodes, at most 254; AllDone L vs bs ms r == r is what
---   comes
---   of all parts of the roots ms, with at most 60 drops for each
+--   comes of all parts of the roots ms, with at most 60 drops for each
 -- LeftArgs, RootArgs, LentArgs == what the functions of the question read is inside
 -- answeredFor n s k .. ms == the answer for the roots ms, with N, S and K as given; answeredOn .. == the answer where
---   the
---   checks before 18 pass
+--   the checks before 18 pass
 --
 -- Assumes nothing.
 use Prim.Native.Nat.{ℕ, _+_, _*_, _≤_, _<_, _^_}
