@@ -1,5 +1,5 @@
 -- A rule question by colours on tables as built.
---     asked-built   the checks before 18 pass where 12 to 14 do
+--     asked-list    the checks before 18 are 12 to 14: 17 and 27 pass
 --     ask-built     the answer is the fresh run's of the changed plan
 -- Assumes nothing.
 use Prim.Native.Nat.{ℕ, _+_, _-_, _*_, _^_, _≤_, _<_}
@@ -79,8 +79,7 @@ begins n b l e z =
     omega (arith, length-take n b)
 
 module _ (p r nodeTable stateTable numbers bytes vs bs : List ℕ)
-    (D : RuleColoursBuilt p r nodeTable stateTable numbers bytes)
-    (ok : firstNo (listChecks (nodeCount p) (labelCount r) vs bs) ≡ 0) where
+    (D : RuleColoursBuilt p r nodeTable stateTable numbers bytes) where
   abbrev t : Tree
   t = planTree p
 
@@ -104,9 +103,6 @@ module _ (p r nodeTable stateTable numbers bytes vs bs : List ℕ)
 
   four : stateCount r ≤ 4
   four = leb-true (stateCount r) 4 (D .coloured .few)
-
-  listed : ListPasses (nodeCount p) (labelCount r) vs bs
-  listed = list-passes (nodeCount p) (labelCount r) vs bs ok
 
   -- ---- the checks before 18
 
@@ -166,151 +162,161 @@ module _ (p r nodeTable stateTable numbers bytes vs bs : List ℕ)
       refl refl refl lengths four)
       ∙ room
 
-  pub asked-built : firstNo (askedChecks p r (length nodeTable) (length stateTable) (length numbers) (length bytes) vs
-      bs) ≡ 0
-  asked-built =
-      sym (then-list p r (length nodeTable) (length stateTable) (length numbers) (length bytes) vs bs fit s refl n
-      (labelCount r) refl refl four)
-      ∙ ok
+  -- the number of the checks before 18 is that of 12 to 14
+  pub asked-list : firstNo (listChecks (nodeCount p) (labelCount r) vs bs)
+      ≡ firstNo (askedChecks p r (length nodeTable) (length stateTable) (length numbers) (length bytes) vs bs)
+  asked-list =
+      then-list p r (length nodeTable) (length stateTable) (length numbers) (length bytes) vs bs fit s refl n
+      (labelCount r) refl refl four
 
-  -- ---- what is lent is as built
+  module _ (ok : firstNo (listChecks (nodeCount p) (labelCount r) vs bs) ≡ 0) where
+    listed : ListPasses (nodeCount p) (labelCount r) vs bs
+    listed = list-passes (nodeCount p) (labelCount r) vs bs ok
 
-  abbrev x : Inputs
-  x = inputsOf p r nodeTable stateTable
+    asked-built : firstNo (askedChecks p r (length nodeTable) (length stateTable) (length numbers) (length bytes) vs bs)
+        ≡ 0
+    asked-built = sym asked-list ∙ ok
 
-  abbrev z : Sizes
-  z = sizesIn (inputsOf p r nodeTable stateTable)
+    -- ---- what is lent is as built
 
-  abbrev q : Question
-  q = asked (inputsOf p r nodeTable stateTable) vs bs
+    abbrev x : Inputs
+    x = inputsOf p r nodeTable stateTable
 
-  built : Built (sizesIn (inputsOf p r nodeTable stateTable)) (inputsOf p r nodeTable stateTable)
-  built = record {
-    passed = D .tables .accepted;
-    n-is = refl;
-    s-is = refl;
-    k-is = refl;
-    nodeTable = D .tables .links;
-  }
+    abbrev z : Sizes
+    z = sizesIn (inputsOf p r nodeTable stateTable)
 
-  table-built : stateTableBuilt (sizesIn (inputsOf p r nodeTable stateTable)) (inputsOf p r nodeTable stateTable) ≡ true
-  unfolding stateTableBuilt
-  table-built = sameList-is (usedStateTable z x) _ (D .tables .states)
+    abbrev q : Question
+    q = asked (inputsOf p r nodeTable stateTable) vs bs
 
-  settled : SettledInputs (sizesIn (inputsOf p r nodeTable stateTable)) (inputsOf p r nodeTable stateTable) vs bs
-      (inputsOf p r nodeTable stateTable)
-  unfolding fits buffersFit
-  settled = record {
-    built = built-node-table z x built;
-    same = node-inputs-same z x x (record { plan = refl; rules = refl; nodeTable = refl });
-    below = sound-below z q built table-built;
-    room = lengths;
-    listed = ok;
-  }
+    built : Built (sizesIn (inputsOf p r nodeTable stateTable)) (inputsOf p r nodeTable stateTable)
+    built = record {
+      passed = D .tables .accepted;
+      n-is = refl;
+      s-is = refl;
+      k-is = refl;
+      nodeTable = D .tables .links;
+    }
 
-  abbrev G : Given
-  G = givenBy (sizesIn (inputsOf p r nodeTable stateTable)) (asked (inputsOf p r nodeTable stateTable) vs bs)
-      (inputsOf p r nodeTable stateTable)
+    table-built : stateTableBuilt (sizesIn (inputsOf p r nodeTable stateTable)) (inputsOf p r nodeTable stateTable)
+        ≡ true
+    unfolding stateTableBuilt
+    table-built = sameList-is (usedStateTable z x) _ (D .tables .states)
 
-  abbrev L : ColourView
-  L = lentColours p r nodeTable stateTable numbers bytes
+    settled : SettledInputs (sizesIn (inputsOf p r nodeTable stateTable)) (inputsOf p r nodeTable stateTable) vs bs
+        (inputsOf p r nodeTable stateTable)
+    unfolding fits buffersFit
+    settled = record {
+      built = built-node-table z x built;
+      same = node-inputs-same z x x (record { plan = refl; rules = refl; nodeTable = refl });
+      below = sound-below z q built table-built;
+      room = lengths;
+      listed = ok;
+    }
 
-  copies-are : (v : ℕ) → v < size (planTree p)
-      → copyRow (2 ^ stateCount r) (drop (stateTableLength (nodeCount p) (stateCount r)) bytes) v
-      ≡ setCopies (ruleAutomaton r) (planTree p) v
-  copies-are v h =
-      let m : ℕ = 2 ^ s in
-      let base : ℕ = stateTableLength n s in
-      let rest : List ℕ = drop base bytes in
-      let hv : v < n = omega (arith, h, size-is) in
-      let long : length (copyRow m rest v) ≡ m =
-      length-part rest (v * m) m (omega (arith, stride m v n hv, bytes-room, length-drop base bytes)) in
-      let own : length (setCopies A t v) ≡ m = copy-colouring (setCount A) (setStep A t) t (setStep-below A t) v .count
-      in
-      ext-getD 0 (copyRow m rest v) (setCopies A t v) (long ∙ sym own) (λ c l.
-      getD-take m (drop (v * m) rest) c 0 (omega (arith, l, long))
-      ∙ getD-drop (v * m) rest c 0
-      ∙ getD-drop base bytes (v * m + c) 0
-      ∙ coloured-copies p r numbers bytes (D .coloured) v c hv (omega (arith, l, long)))
+    abbrev G : Given
+    G = givenBy (sizesIn (inputsOf p r nodeTable stateTable)) (asked (inputsOf p r nodeTable stateTable) vs bs)
+        (inputsOf p r nodeTable stateTable)
 
-  sides : SidesBuilt (ruleAutomaton r) (planTree p) numbers
-      (copyRow (2 ^ stateCount r) (drop (stateTableLength (nodeCount p) (stateCount r)) bytes))
-  sides = record { cells = coloured-cells p r numbers bytes (D .coloured); copies = copies-are }
+    abbrev L : ColourView
+    L = lentColours p r nodeTable stateTable numbers bytes
 
-  -- ---- the roots
+    copies-are : (v : ℕ) → v < size (planTree p)
+        → copyRow (2 ^ stateCount r) (drop (stateTableLength (nodeCount p) (stateCount r)) bytes) v
+        ≡ setCopies (ruleAutomaton r) (planTree p) v
+    copies-are v h =
+        let m : ℕ = 2 ^ s in
+        let base : ℕ = stateTableLength n s in
+        let rest : List ℕ = drop base bytes in
+        let hv : v < n = omega (arith, h, size-is) in
+        let long : length (copyRow m rest v) ≡ m =
+        length-part rest (v * m) m (omega (arith, stride m v n hv, bytes-room, length-drop base bytes)) in
+        let own : length (setCopies A t v) ≡ m = copy-colouring (setCount A) (setStep A t) t (setStep-below A t) v
+        .count
+        in
+        ext-getD 0 (copyRow m rest v) (setCopies A t v) (long ∙ sym own) (λ c l.
+        getD-take m (drop (v * m) rest) c 0 (omega (arith, l, long))
+        ∙ getD-drop (v * m) rest c 0
+        ∙ getD-drop base bytes (v * m + c) 0
+        ∙ coloured-copies p r numbers bytes (D .coloured) v c hv (omega (arith, l, long)))
 
-  left-is : leftIn p vs bs ≡ lastDiffering (labelsIn p) vs bs
-  left-is =
-      ap (λ (b : Bool). cond b (lastDiffering (labelsIn p) vs bs) [])
-      (and-both (eqb (length vs) (length bs)) (leb (length vs) changeLimit) (eq-eqb (length vs) (length bs) (listed
-      .lengths))
-      (le-leb (length vs) changeLimit (listed .most)))
+    sides : SidesBuilt (ruleAutomaton r) (planTree p) numbers
+        (copyRow (2 ^ stateCount r) (drop (stateTableLength (nodeCount p) (stateCount r)) bytes))
+    sides = record { cells = coloured-cells p r numbers bytes (D .coloured); copies = copies-are }
 
-  left-few : length (leftIn p vs bs) ≤ 64
-  left-few = omega (arith, ap length left-is, last-most (labelsIn p) vs bs, listed .most)
+    -- ---- the roots
 
-  left-inside : allBelow (nodeCount p) (leftIn p vs bs) ≡ true
-  left-inside = ap (allBelow n) left-is ∙ last-below n (labelsIn p) vs bs (listed .nodes-below)
+    left-is : leftIn p vs bs ≡ lastDiffering (labelsIn p) vs bs
+    left-is =
+        ap (λ (b : Bool). cond b (lastDiffering (labelsIn p) vs bs) [])
+        (and-both (eqb (length vs) (length bs)) (leb (length vs) changeLimit) (eq-eqb (length vs) (length bs) (listed
+        .lengths))
+        (le-leb (length vs) changeLimit (listed .most)))
 
-  roots-are : rootsGiven (nodeCount p) (take (nodeTableLength (nodeCount p)) nodeTable) (leftIn p vs bs)
-      ≡ some (rootsLeft p vs bs)
-  roots-are =
-      let part : List ℕ = take (nodeTableLength n) nodeTable in
-      given-yes n part (leftIn p vs bs)
-      (sym (fit-all n (length part) (leftIn p vs bs) (plan-passes .least) (plan-passes .most)
-      (omega (arith, length-take-le (nodeTableLength n) nodeTable links-room)) left-few) ∙ left-inside)
-      ∙ ap (λ (i : ℕ). rootsOn i part (leftIn p vs bs)) (sym size-is)
-      ∙ roots-built t part (cells z x built) (leftIn p vs bs)
-      (λ v m. omega (arith, size-is, all-small n (leftIn p vs bs) left-inside v m))
-      ∙ ap some (ap (roots t) left-is
-      ∙ roots-same t (lastDiffering (labelsIn p) vs bs) (differing (labelsIn p) vs bs)
-      (λ v. last-same (labelsIn p) vs bs v (listed .lengths)))
+    left-few : length (leftIn p vs bs) ≤ 64
+    left-few = omega (arith, ap length left-is, last-most (labelsIn p) vs bs, listed .most)
 
-  -- ---- the answer
+    left-inside : allBelow (nodeCount p) (leftIn p vs bs) ≡ true
+    left-inside = ap (allBelow n) left-is ∙ last-below n (labelsIn p) vs bs (listed .nodes-below)
 
-  record Whole : Type 0 where
-    pub searches : List ℕ
-    pub found : handledFrom (lentColours p r nodeTable stateTable numbers bytes) vs bs [] [] (tried 0 []) (rootsLeft p
-        vs bs)
-        ≡ some (tried (rootState p r vs bs) searches)
-    pub falls : length searches ≤ 60 * oneSided (planTree p) (rootsLeft p vs bs) (rootsLeft p vs bs)
-    pub few : AllLe (3 * digits (height (planTree p))) searches
+    roots-are : rootsGiven (nodeCount p) (take (nodeTableLength (nodeCount p)) nodeTable) (leftIn p vs bs)
+        ≡ some (rootsLeft p vs bs)
+    roots-are =
+        let part : List ℕ = take (nodeTableLength n) nodeTable in
+        given-yes n part (leftIn p vs bs)
+        (sym (fit-all n (length part) (leftIn p vs bs) (plan-passes .least) (plan-passes .most)
+        (omega (arith, length-take-le (nodeTableLength n) nodeTable links-room)) left-few) ∙ left-inside)
+        ∙ ap (λ (i : ℕ). rootsOn i part (leftIn p vs bs)) (sym size-is)
+        ∙ roots-built t part (cells z x built) (leftIn p vs bs)
+        (λ v m. omega (arith, size-is, all-small n (leftIn p vs bs) left-inside v m))
+        ∙ ap some (ap (roots t) left-is
+        ∙ roots-same t (lastDiffering (labelsIn p) vs bs) (differing (labelsIn p) vs bs)
+        (λ v. last-same (labelsIn p) vs bs v (listed .lengths)))
 
-  whole : Whole
-  unfolding givenOf roots partsOf allBelow lastState
-  whole =
-      let w : ℕ → Bool = λ v. holds v (differing (labelsIn p) vs bs) in
-      let N = handled-built L G (changedTree p vs bs) (reads z x vs bs x settled) (given-run z q built table-built)
-      (rules-inside r (rules-of z x built)) four sides w (rootsLeft p vs bs) (list-members w t) vs bs
-      (ap (λ (ls : List ℕ). changed ls vs bs) (sym (labels-planTree p plan-passes))) (omega (
-        arith,
-        rules-pass
-            .states-least,
-      ))
-      (rootsLeft p vs bs) [] (tried 0 []) refl refl refl in
-      record {
-        searches = N .searches;
-        found = N .found ∙ ap (λ (y : ℕ). some (tried y (N .searches))) (whole-state z q built table-built);
-        falls = N .falls;
-        few = N .few;
-      }
+    -- ---- the answer
 
-  on-built : askedOn p r nodeTable stateTable numbers bytes vs bs
-      ≡ some (handled (tried (rootState p r vs bs) (whole .searches)) (length (rootsLeft p vs bs)))
-  unfolding handledOn
-  on-built =
-      ap (λ (o : Option (List ℕ)). andThen o (λ ms.
-      andThen (handledFrom L vs bs [] [] (tried 0 []) ms) (λ y. some (handled y (length ms))))) roots-are
-      ∙ ap (λ (o : Option Tried). andThen o (λ y. some (handled y (length (rootsLeft p vs bs))))) (whole .found)
+    record Whole : Type 0 where
+      pub searches : List ℕ
+      pub found : handledFrom (lentColours p r nodeTable stateTable numbers bytes) vs bs [] [] (tried 0 []) (rootsLeft p
+          vs bs)
+          ≡ some (tried (rootState p r vs bs) searches)
+      pub falls : length searches ≤ 60 * oneSided (planTree p) (rootsLeft p vs bs) (rootsLeft p vs bs)
+      pub few : AllLe (3 * digits (height (planTree p))) searches
 
-  pub ask-built : RuleColourAnswer p r vs bs (ruleAskAnswer p r nodeTable stateTable numbers bytes vs bs)
-  unfolding ruleAnswer
-  ask-built =
-      let small : size t ≤ 65535 = omega (arith, size-is, plan-passes .most) in
-      record {
-        searches = whole .searches;
-        is = sym (lent-is p r nodeTable stateTable numbers bytes vs bs _ asked-built refl)
-            ∙ ap (ruleAnswer r 0) on-built;
-        falls = whole .falls;
-        few = sum-le 45 (whole .searches) (links-limit t (whole .searches) small (whole .few));
-      }
+    whole : Whole
+    unfolding givenOf roots partsOf allBelow lastState
+    whole =
+        let w : ℕ → Bool = λ v. holds v (differing (labelsIn p) vs bs) in
+        let N = handled-built L G (changedTree p vs bs) (reads z x vs bs x settled) (given-run z q built table-built)
+        (rules-inside r (rules-of z x built)) four sides w (rootsLeft p vs bs) (list-members w t) vs bs
+        (ap (λ (ls : List ℕ). changed ls vs bs) (sym (labels-planTree p plan-passes))) (omega (
+          arith,
+          rules-pass
+              .states-least,
+        ))
+        (rootsLeft p vs bs) [] (tried 0 []) refl refl refl in
+        record {
+          searches = N .searches;
+          found = N .found ∙ ap (λ (y : ℕ). some (tried y (N .searches))) (whole-state z q built table-built);
+          falls = N .falls;
+          few = N .few;
+        }
+
+    on-built : askedOn p r nodeTable stateTable numbers bytes vs bs
+        ≡ some (handled (tried (rootState p r vs bs) (whole .searches)) (length (rootsLeft p vs bs)))
+    unfolding handledOn
+    on-built =
+        ap (λ (o : Option (List ℕ)). andThen o (λ ms.
+        andThen (handledFrom L vs bs [] [] (tried 0 []) ms) (λ y. some (handled y (length ms))))) roots-are
+        ∙ ap (λ (o : Option Tried). andThen o (λ y. some (handled y (length (rootsLeft p vs bs))))) (whole .found)
+
+    pub ask-built : RuleColourAnswer p r vs bs (ruleAskAnswer p r nodeTable stateTable numbers bytes vs bs)
+    unfolding ruleAnswer
+    ask-built =
+        let small : size t ≤ 65535 = omega (arith, size-is, plan-passes .most) in
+        record {
+          searches = whole .searches;
+          is = sym (lent-is p r nodeTable stateTable numbers bytes vs bs _ asked-built refl)
+              ∙ ap (ruleAnswer r 0) on-built;
+          falls = whole .falls;
+          few = sum-le 45 (whole .searches) (links-limit t (whole .searches) small (whole .few));
+        }

@@ -9,3 +9,4 @@ pub mod AskRange
 pub mod PartsBuilt
 pub mod AskBuilt
 pub mod AskTheorem
+pub mod Theorems
