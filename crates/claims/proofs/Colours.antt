@@ -4,8 +4,9 @@
 --     one-each, only-fall, drops-fewer   any count of states and any steps: each state has one colour, a colour lands
 --                                 on itself or a lower one, a way down has fewer drops than there are colours
 --     as-the-climb                a branch answer by colours is that of the climb, for either reading of the word
---     word-answers, word-drops    it is the word automaton's; its drops, the places on the path where the colour falls,
+--     word-answers                it is the word automaton's; its drops, the places on the path where the colour falls,
 --                                 are at most S-1; its links at most 45 for each
+--     word-with-upper, word-without   the same of the tree's own colours
 --     next-drop, next-drop-links, links-few   a next drop is found by 01's jumps and climb; its links are at most 45
 --     words-built, words-refused, words-short   what the build for a branch table writes; 11 where it is too short
 --     words-short-asked, never-18 17 where it is too short for a question; on tables as built 18 never comes
@@ -14,10 +15,9 @@
 -- Assumes nothing.
 use Prim.Native.Nat.{ℕ, suc, _+_, _-_, _*_, _≤_, _<_}
 use mathlib.Core.Path.{_≡_, refl, sym, ap, _∙_}
-use mathlib.Core.Bool.{Bool, true, false}
+use mathlib.Core.Bool.{Bool, false}
 use mathlib.Core.List.{List, [], _∷_, _++_}
 use lib.ListN.{length, getD, take, drop}
-use Rattle.list_laws.specs.Tests.{holds}
 use Rattle.trees.specs.Tree.{Tree, size, height}
 use Rattle.trees.specs.Automaton.{Automaton, WordAutomaton}
 use Rattle.trees.specs.Numbering.{word, wordBelow, AtOrBelow}

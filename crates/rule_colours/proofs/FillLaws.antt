@@ -8,7 +8,7 @@ use mathlib.Core.List.{List}
 use native.Mathlib.Omega.{arith}
 use lib.ListN.{length}
 use lib.Pow.{pow-mono}
-use Rattle.trees.specs.Tree.{Tree, size}
+use Rattle.trees.specs.Tree.{Tree, kindsOf, size}
 use Rattle.trees.proofs.NodeLaws.{length-labels}
 use Rattle.formats.specs.Rules.{treeAutomaton}
 use Rattle.formats.specs.Checks.{stateTableLength}
@@ -24,7 +24,7 @@ use Rattle.rule_colours.specs.inner.Filled.{SetFillArgs, SetsFilled, All
 -- what the pass over the sets leaves
 abbrev pub Stated : List ℕ → List ℕ → ℕ → ℕ → ℕ → ℕ → List ℕ → List ℕ → List ℕ → List ℕ → Type 0
 Stated ls inn s k count base bytes numbers bytes′ numbers′ =
-    (lv mk : List ℕ) (t : Tree) → Prepared s k lv inn mk t ls numbers bytes
+    (lv mk : List ℕ) (t : Tree) → Prepared s k lv inn mk t (kindsOf t) ls numbers bytes
     → SetsFrom s k lv inn mk count base t 0 bytes numbers bytes′ numbers′
 
 -- what the tables of the colours leave
@@ -56,7 +56,7 @@ module _ (ls inn : List ℕ) (s k : ℕ) (numbers bytes : List ℕ) (A : SetFill
 
   module _ (bytes′ numbers′ : List ℕ) (S : Stated ls inn s k count base bytes numbers bytes′ numbers′)
       (same : length numbers′ ≡ length numbers) where
-    module _ (lv mk : List ℕ) (t : Tree) (P : Prepared s k lv inn mk t ls numbers bytes) where
+    module _ (lv mk : List ℕ) (t : Tree) (P : Prepared s k lv inn mk t (kindsOf t) ls numbers bytes) where
       nodes : size t ≡ length ls
       nodes = sym (length-labels t) ∙ ap length (P .labels)
 

@@ -11,7 +11,7 @@ use lib.ListN.{length, getD, take, drop, length-drop, take-append-drop, List·ge
 use lib.Pow.{pow-mono}
 use lib.Seq.{ext-getD, length-take-le, getD-append-add, getD-drop, getD-take, drop-drop}
 use Rattle.list_laws.proofs.RowLaws.{stride}
-use Rattle.trees.specs.Tree.{Tree, size}
+use Rattle.trees.specs.Tree.{Tree, kindsOf, size}
 use Rattle.trees.proofs.TableRows.{stateTableOf-state}
 use Rattle.formats.specs.Plan.{nodeCount, labelsIn, planTree}
 use Rattle.formats.specs.Rules.{stateCount, labelCount, leafStates, innerStates, ruleMarks, ruleAutomaton}
@@ -87,11 +87,12 @@ module _ (p r : List ℕ) (l m : ℕ) (ok : firstNo (ruleColourChecks p r l m) �
 
   module _ (numbers bytes : List ℕ) (B : AsBuilt p r numbers bytes) where
     prepared : Prepared (stateCount r) (labelCount r) (leafStates r) (innerStates r) (ruleMarks r) (planTree p)
-        (labelsIn p) numbers bytes
+        (kindsOf (planTree p)) (labelsIn p) numbers bytes
     prepared =
         let n : nodeCount p ≡ size (planTree p) = sym (size-planTree p plan) in
         let C : NodeCells (planTree p) numbers = link-cells (planTree p) (nodeCount p) numbers n (B .links) in
         record {
+          kinds = refl;
           labels = labels-planTree p plan;
           parents = C .parents;
           jumps = C .jumps;

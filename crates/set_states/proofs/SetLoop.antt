@@ -9,7 +9,7 @@ use native.Mathlib.Omega.{arith}
 use lib.ListN.{length, getD}
 use lib.Pow.{pow-mono}
 use Rattle.list_laws.proofs.RowLaws.{stride}
-use Rattle.trees.specs.Tree.{Tree, size}
+use Rattle.trees.specs.Tree.{Tree, kindsOf, size}
 use Rattle.trees.specs.Automaton.{state}
 use Rattle.trees.specs.Numbering.{sub, parent}
 use Rattle.trees.proofs.NodeLaws.{Up, up, length-labels}
@@ -32,7 +32,7 @@ use Rattle.set_states.proofs.StepLaws.{down-is}
 -- the nodes from v on are done, for every tree and rule table that was given
 abbrev pub Sets : List ℕ → List ℕ → ℕ → ℕ → ℕ → ℕ → List ℕ → List ℕ → ℕ → List ℕ → List ℕ → Type 0
 Sets ls inn s k count base e₀ m₀ v b m =
-    (lv mk : List ℕ) (t : Tree) → Prepared s k lv inn mk t ls m₀ e₀ → SetsFrom s k lv inn mk count base t v e₀ m₀ b m
+    (lv mk : List ℕ) (t : Tree) → Prepared s k lv inn mk t (kindsOf t) ls m₀ e₀ → SetsFrom s k lv inn mk count base t v e₀ m₀ b m
 
 module _ (ls inn : List ℕ) (s k count base : ℕ) (e₀ m₀ : List ℕ) (A : SetArgs ls inn s k count base m₀ e₀) where
   keeps : (lv mk : List ℕ) (t : Tree) (v q : ℕ) → q < count → setStep (treeAutomaton s k lv inn mk) t v q < count
@@ -48,7 +48,7 @@ module _ (ls inn : List ℕ) (s k count base : ℕ) (e₀ m₀ : List ℕ) (A : 
       let top : 2 ^ s ≤ 2 ^ 4 = pow-mono {i = s} {j = 4} (A .few) in
       (omega (arith, A .count-is), omega (arith, A .count-is))
 
-  nodes : (lv mk : List ℕ) (t : Tree) → Prepared s k lv inn mk t ls m₀ e₀ → size t ≡ length ls
+  nodes : (lv mk : List ℕ) (t : Tree) → Prepared s k lv inn mk t (kindsOf t) ls m₀ e₀ → size t ≡ length ls
   nodes lv mk t P = sym (length-labels t) ∙ ap length (P .labels)
 
   pub sets-start : (n : ℕ) → n ≡ length ls → Sets ls inn s k count base e₀ m₀ n e₀ m₀
@@ -59,7 +59,7 @@ module _ (ls inn : List ℕ) (s k count base : ℕ) (e₀ m₀ : List ℕ) (A : 
   -- after the nodes from w on comes node v
   module _ (n w v : ℕ) (b m : List ℕ) (q : n ≡ length ls) (e : w ≡ v + 1) (h : v < n)
       (lb : length b ≡ length e₀) (lm : length m ≡ length m₀) (W : Sets ls inn s k count base e₀ m₀ w b m) where
-    module _ (lv mk : List ℕ) (t : Tree) (P : Prepared s k lv inn mk t ls m₀ e₀) where
+    module _ (lv mk : List ℕ) (t : Tree) (P : Prepared s k lv inn mk t (kindsOf t) ls m₀ e₀) where
       from : SetsFrom s k lv inn mk count base t (v + 1) e₀ m₀ b m
       from = subst (λ (x : ℕ). SetsFrom s k lv inn mk count base t x e₀ m₀ b m) e (W lv mk t P)
 
@@ -152,7 +152,7 @@ module _ (ls inn : List ℕ) (s k count base : ℕ) (e₀ m₀ : List ℕ) (A : 
             (count-few .1)
             (omega (arith, is₀, q, A .most)) room space)
 
-        module _ (lv mk : List ℕ) (t : Tree) (P : Prepared s k lv inn mk t ls m₀ e₀) where
+        module _ (lv mk : List ℕ) (t : Tree) (P : Prepared s k lv inn mk t (kindsOf t) ls m₀ e₀) where
           abbrev step : ℕ → ℕ → ℕ
           step = setStep (treeAutomaton s k lv inn mk) t
 

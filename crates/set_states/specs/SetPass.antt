@@ -10,7 +10,7 @@ use Prim.Native.Nat.{ℕ, _+_, _*_, _^_, _≤_, _<_}
 use mathlib.Core.Path.{_≡_}
 use mathlib.Core.List.{List}
 use lib.ListN.{length, getD}
-use Rattle.trees.specs.Tree.{Tree}
+use Rattle.trees.specs.Tree.{Tree, kindsOf}
 use Rattle.formats.specs.Rules.{treeAutomaton}
 use Rattle.formats.specs.Checks.{stateTableLength}
 use Rattle.tables.specs.inner.States.{RuleRuns}
@@ -26,7 +26,7 @@ pub record SetArgs (ls inn : List ℕ) (s k count base : ℕ) (numbers bytes : L
   pub tree : Tree
   pub leaves : List ℕ
   pub marks : List ℕ
-  pub given : Prepared s k leaves inn marks tree ls numbers bytes
+  pub given : Prepared s k leaves inn marks tree (kindsOf tree) ls numbers bytes
   pub rules : RuleRuns s k leaves inn
   pub few : s ≤ 4
   pub most : length ls ≤ 65535

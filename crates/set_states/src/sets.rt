@@ -5,7 +5,7 @@ use colour_states::copies::row_above;
 ghost use mathlib.Core.Path.{_≡_};
 ghost use mathlib.Core.List.{List};
 ghost use Prim.Native.Nat.{ℕ, _^_, _≤_};
-ghost use Rattle.trees.specs.Tree.{Tree};
+ghost use Rattle.trees.specs.Tree.{Tree, kindsOf};
 ghost use Rattle.tables.specs.inner.Maps.{Prepared};
 ghost use Rattle.set_states.specs.SetPass.{SetArgs, SetsFrom};
 
@@ -31,7 +31,7 @@ pub fn write_sets(
 )
     requires { ⌜ SetArgs (now labels) (now inner) s k count base (now numbers) (now bytes) ⌝ }
     ensures { λ _. ⌜ ((lv mk : List ℕ) (t : Tree)
-        → Prepared s k lv (now (inner .entry)) mk t (now (labels .entry)) (now (numbers .entry)) (now (bytes .entry))
+        → Prepared s k lv (now (inner .entry)) mk t (kindsOf t) (now (labels .entry)) (now (numbers .entry)) (now (bytes .entry))
         → SetsFrom s k lv (now (inner .entry)) mk count base t 0 (now (bytes .entry)) (now (numbers .entry))
         (now (bytes .exit)) (now (numbers .exit))) ⌝ }
 {

@@ -15,7 +15,7 @@ use Prim.Native.Nat.{ℕ, _+_, _*_, _^_, _≤_, _<_}
 use mathlib.Core.Path.{_≡_}
 use mathlib.Core.List.{List, _++_}
 use lib.ListN.{length, getD, drop}
-use Rattle.trees.specs.Tree.{Tree, size}
+use Rattle.trees.specs.Tree.{Tree, kindsOf, size}
 use Rattle.formats.specs.Plan.{nodeCount, planLength}
 use Rattle.formats.specs.Rules.{treeAutomaton, stateCount, labelCount, ruleLength}
 use Rattle.formats.specs.Checks.{firstNo, stateTableLength}
@@ -35,7 +35,7 @@ pub record SetFillArgs (ls inn : List ℕ) (s k : ℕ) (numbers bytes : List ℕ
   pub tree : Tree
   pub leaves : List ℕ
   pub marks : List ℕ
-  pub given : Prepared s k leaves inn marks tree ls numbers bytes
+  pub given : Prepared s k leaves inn marks tree (kindsOf tree) ls numbers bytes
   pub rules : RuleRuns s k leaves inn
   pub few : s ≤ 4
   pub most : length ls ≤ 65535
@@ -55,7 +55,7 @@ pub record SetsFilled (count base : ℕ) (step : ℕ → ℕ → ℕ) (t : Tree)
 
 abbrev pub AllFilled : List ℕ → List ℕ → ℕ → ℕ → List ℕ → List ℕ → List ℕ → List ℕ → Type 0
 AllFilled ls inn s k numbers bytes numbers′ bytes′ =
-    (lv mk : List ℕ) (t : Tree) → Prepared s k lv inn mk t ls numbers bytes
+    (lv mk : List ℕ) (t : Tree) → Prepared s k lv inn mk t (kindsOf t) ls numbers bytes
     → SetsFilled (2 ^ s) (stateTableLength (length ls) s) (setStep (treeAutomaton s k lv inn mk) t) t
     numbers bytes numbers′ bytes′
 

@@ -17,8 +17,6 @@ use Rattle.part_descents.proofs.part.side_by_colours.Reads as side-by-c
 use Rattle.questions.proofs.part.last_below.Reads as last-below-reads
 use Rattle.tables.proofs.lookups.rule_on.Reads as rule-on-reads
 
-<<<<<<< HEAD
-=======
 last-below-requires : tie.Need-last-below-requires
 last-below-requires c κs = search needs
 
@@ -28,7 +26,6 @@ sub-r c = search needs
 last-below-requires-2 : tie.Need-last-below-requires-2
 last-below-requires-2 c κs = search needs
 
->>>>>>> s14b
 side-by-colours-requires : tie.Need-side-by-colours-requires
 side-by-colours-requires c κs =
     let b = c in
@@ -54,6 +51,9 @@ side-by-colours-requires c κs =
           );
     }
 
+lost-requires : tie.Need-lost-requires
+lost-requires c κs = search needs
+
 returns : tie.Need-returns
 returns c =
     let t = c .before in
@@ -65,12 +65,8 @@ returns c =
     .now)
     (g .node-table .now) (g .earlier .now) (g .states .now) (g .v) (g .l) (g .a) (b .before .last-below .result)
     (b .last-below2 .result) (s .pre .same) (b .before .last-below .ensures) (b .last-below2 .ensures)
-<<<<<<< HEAD
-    (x .side-by-colours .result) (x .side-by-colours .ensures) (c .lost .result) (not-true _ (t .if1 .taken)) (c .lost .ensures)
-=======
     (x .side-by-colours .result) (x .side-by-colours .ensures) (c .lost .result) (not-true _ (t .if1 .taken)) (c .lost
     .ensures)
->>>>>>> s14b
 
 side-by-colours-requires-2 : tie.Need-side-by-colours-requires-2
 side-by-colours-requires-2 c κs =
@@ -98,6 +94,9 @@ side-by-colours-requires-2 c κs =
           );
     }
 
+lost-requires-2 : tie.Need-lost-requires-2
+lost-requires-2 c κs = search needs
+
 returns-2 : tie.Need-returns-2
 returns-2 c =
     let t = c .before in
@@ -115,6 +114,12 @@ returns-2 c =
     .result) (y .side-by-colours2 .ensures)
     (c .lost2 .result) (not-true _ (t .if2 .taken)) (c .lost2 .ensures)
 
+cast-rule-on : tie.Need-cast-rule-on
+cast-rule-on c = search needs
+
+cast-rule-on-2 : tie.Need-cast-rule-on-2
+cast-rule-on-2 c = search needs
+
 rule-on-requires : tie.Need-rule-on-requires
 rule-on-requires c κs =
     let e2 = c .before .before in
@@ -131,6 +136,9 @@ rule-on-requires c κs =
       right = y .side-by-colours2 .ensures .bounds .all .state (not-false _ (e2 .if2 .left));
       room = s .pre .inner-room;
     }
+
+lost-requires-3 : tie.Need-lost-requires-3
+lost-requires-3 c κs = search needs
 
 returns-3 : tie.Need-returns-3
 returns-3 c =
@@ -237,11 +245,6 @@ returns-4 c =
 pub fork-by-colours-spec : {M : Type 1} → statement M
 fork-by-colours-spec =
     tie.close
-<<<<<<< HEAD
-    (tie.spec (λ c κs. search needs) (λ c. search needs) (λ c κs. search needs) side-by-colours-requires
-    (λ c κs. search needs) returns (λ c. search needs) side-by-colours-requires-2 (λ c κs. search needs) returns-2
-    (λ c. search needs) (λ c. search needs) rule-on-requires (λ c κs. search needs) returns-3 cast-t23 add-t24 add-t25
-=======
     (tie.spec
     sub-r
     last-below-requires
@@ -260,5 +263,4 @@ fork-by-colours-spec =
     cast-t24
     add-t25
     add-t26
->>>>>>> s14b
     returns-4)
