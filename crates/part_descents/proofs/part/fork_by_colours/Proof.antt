@@ -17,15 +17,6 @@ use Rattle.part_descents.proofs.part.side_by_colours.Reads as side-by-c
 use Rattle.questions.proofs.part.last_below.Reads as last-below-reads
 use Rattle.tables.proofs.lookups.rule_on.Reads as rule-on-reads
 
-last-below-requires : tie.Need-last-below-requires
-last-below-requires c κs = search needs
-
-sub-r : tie.Need-sub-r
-sub-r c = search needs
-
-last-below-requires-2 : tie.Need-last-below-requires-2
-last-below-requires-2 c κs = search needs
-
 side-by-colours-requires : tie.Need-side-by-colours-requires
 side-by-colours-requires c κs =
     let b = c in
@@ -50,9 +41,6 @@ side-by-colours-requires c κs =
                 .now) i (sym (b .before .last-below .ensures) ∙ z),
           );
     }
-
-lost-requires : tie.Need-lost-requires
-lost-requires c κs = search needs
 
 returns : tie.Need-returns
 returns c =
@@ -94,9 +82,6 @@ side-by-colours-requires-2 c κs =
           );
     }
 
-lost-requires-2 : tie.Need-lost-requires-2
-lost-requires-2 c κs = search needs
-
 returns-2 : tie.Need-returns-2
 returns-2 c =
     let t = c .before in
@@ -114,12 +99,6 @@ returns-2 c =
     .result) (y .side-by-colours2 .ensures)
     (c .lost2 .result) (not-true _ (t .if2 .taken)) (c .lost2 .ensures)
 
-cast-rule-on : tie.Need-cast-rule-on
-cast-rule-on c = search needs
-
-cast-rule-on-2 : tie.Need-cast-rule-on-2
-cast-rule-on-2 c = search needs
-
 rule-on-requires : tie.Need-rule-on-requires
 rule-on-requires c κs =
     let e2 = c .before .before in
@@ -136,9 +115,6 @@ rule-on-requires c κs =
       right = y .side-by-colours2 .ensures .bounds .all .state (not-false _ (e2 .if2 .left));
       room = s .pre .inner-room;
     }
-
-lost-requires-3 : tie.Need-lost-requires-3
-lost-requires-3 c κs = search needs
 
 returns-3 : tie.Need-returns-3
 returns-3 c =
@@ -245,22 +221,6 @@ returns-4 c =
 pub fork-by-colours-spec : {M : Type 1} → statement M
 fork-by-colours-spec =
     tie.close
-    (tie.spec
-    sub-r
-    last-below-requires
-    last-below-requires-2
-    side-by-colours-requires
-    lost-requires
-    returns
-    side-by-colours-requires-2
-    lost-requires-2
-    returns-2
-    cast-rule-on
-    cast-rule-on-2
-    rule-on-requires
-    lost-requires-3
-    returns-3
-    cast-t24
-    add-t25
-    add-t26
-    returns-4)
+    (tie.spec (λ c. search needs) (λ c κs. search needs) (λ c κs. search needs) side-by-colours-requires
+    (λ c κs. search needs) returns side-by-colours-requires-2 (λ c κs. search needs) returns-2 (λ c. search needs)
+    (λ c. search needs) rule-on-requires (λ c κs. search needs) returns-3 cast-t24 add-t25 add-t26 returns-4)
