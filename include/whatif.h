@@ -40,8 +40,8 @@ extern "C" {
 
 /* This header's version, as text and as major * 10000 + minor * 100 + patch. whatif_version() is the archive's: before
  * 1.0 a program is to use both of one minor version. */
-#define WHATIF_VERSION "0.8.0"
-#define WHATIF_VERSION_NUMBER 800u
+#define WHATIF_VERSION "0.9.0"
+#define WHATIF_VERSION_NUMBER 900u
 
 /* Limits: nodes of a plan (1 to), states and labels of a table (1 to), changes in a list (0 to). */
 #define WHATIF_MAX_NODES 65535u

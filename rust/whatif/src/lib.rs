@@ -72,7 +72,7 @@ pub use session::{Answer, Lent, Progress, Session, State};
 pub const VERSION: &str = env!("CARGO_PKG_VERSION");
 
 /// This crate's version, as major * 10000 + minor * 100 + patch: that of the archive it is made for.
-pub const VERSION_NUMBER: u32 = 800;
+pub const VERSION_NUMBER: u32 = 900;
 
 /// The version of the archive that is linked.
 ///
