@@ -46,6 +46,7 @@ pub fn colour_branch_build(plan: &[u8], branch: &[u8], numbers: &mut [u16], byte
 /// # Ok(())
 /// # }
 /// ```
+#[inline]
 pub fn colour_branch(
     plan: &[u8],
     branch: &[u8],
@@ -61,6 +62,7 @@ pub fn colour_branch(
 }
 
 /// The same with the upper node's label: the answer of `branch_with_upper` by colours.
+#[inline]
 pub fn colour_branch_with_upper(
     plan: &[u8],
     branch: &[u8],
@@ -75,6 +77,7 @@ pub fn colour_branch_with_upper(
     Ok(verdict(told))
 }
 
+#[inline]
 fn verdict([state, yes, drops, links]: [u32; 4]) -> ColourVerdict {
     ColourVerdict { state: state as u8, yes: yes == 1, drops, links }
 }

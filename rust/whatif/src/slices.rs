@@ -278,6 +278,7 @@ pub fn colour_branch_build(plan: &[u8], branch: &[u8], numbers: &mut [u16], byte
 }
 
 /// Tells state, yes, drops and links.
+#[inline]
 pub fn colour_branch(
     plan: &[u8],
     branch: &[u8],
@@ -291,6 +292,7 @@ pub fn colour_branch(
 }
 
 /// The same with the upper node's label.
+#[inline]
 pub fn colour_branch_with_upper(
     plan: &[u8],
     branch: &[u8],
@@ -312,6 +314,7 @@ pub fn colour_branch_with_upper(
     )
 }
 
+#[inline(always)]
 #[allow(clippy::too_many_arguments)] // those of the call
 fn colour_branch_by(
     ask: ColourBranch,
