@@ -275,7 +275,8 @@ module _ (p r nodeTable numbers bytes : List ℕ) (D : BranchColoursBuilt p r no
           answered BelowUpper (some u) (colourHere B t u) (wordBelow t u l) (belowUpper B t u l) here-low start-here colour-here
           (below-built B t numbers cells u l upper-in lower-in here-low) (descent-built BelowUpper)
 
-      pub drops-built : (reading : Reading) (d : Descent) → wordDescent reading (branchAutomaton r) (planTree p) u l ≡ some d
+      pub drops-built : (reading : Reading) (d : Descent)
+          → wordDescent reading (branchAutomaton r) (planTree p) u l ≡ some d
           → drops d ≡ wordDrops reading (branchAutomaton r) (planTree p) u l
       drops-built WithUpper = upper-drops B t below-s u l lower-in A
       drops-built BelowUpper = below-drops B t below-s u l lower-in A
