@@ -9,6 +9,8 @@ static int without_a_session() {
         whatif_fresh_run(NULL, 0, NULL, 0, NULL, 0, NULL, 0, &state, &yes),
         whatif_branch_build(NULL, 0, NULL, 0, NULL, 0, NULL, 0),
         whatif_branch_check(NULL, 0, NULL, 0, NULL, 0, NULL, 0, &yes),
+        whatif_colour_branch_build(NULL, 0, NULL, 0, NULL, 0, NULL, 0),
+        whatif_colour_build(NULL, 0, NULL, 0, NULL, 0, NULL, 0),
     };
     for (unsigned i = 0; i < sizeof answers / sizeof *answers; i++)
         if (answers[i] != WHATIF_REFUSED_PLAN_SHORT)
@@ -19,6 +21,15 @@ static int without_a_session() {
     if (whatif_branch_with_upper(NULL, 0, NULL, 0, NULL, 0, NULL, 0, 0, 0, &state, &yes, &links, &passed) !=
         WHATIF_REFUSED_LENT_LENGTH)
         return 10;
+    if (whatif_colour_branch(NULL, 0, NULL, 0, NULL, 0, NULL, 0, NULL, 0, 0, 0, &state, &yes, &links, &passed) !=
+        WHATIF_REFUSED_LENT_LENGTH)
+        return 13;
+    if (whatif_colour_branch_with_upper(NULL, 0, NULL, 0, NULL, 0, NULL, 0, NULL, 0, 0, 0, &state, &yes, &links,
+                                        &passed) != WHATIF_REFUSED_LENT_LENGTH)
+        return 14;
+    if (whatif_colour_ask(NULL, 0, NULL, 0, NULL, 0, NULL, 0, NULL, 0, NULL, 0, NULL, 0, NULL, 0, &state, &yes, &links,
+                          &passed, &passed) != WHATIF_REFUSED_LENT_LENGTH)
+        return 15;
     if (whatif_count(NULL, 0, NULL, 0, NULL, 0, NULL, 0, NULL, 0, NULL, 0, &state, &links) != WHATIF_REFUSED_LENT_LENGTH)
         return 12;
     if (whatif_merge(NULL, 0, NULL, 0, NULL, 0) != WHATIF_REFUSED_TABLE_SHORT)

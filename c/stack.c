@@ -28,6 +28,8 @@ static uint16_t places[N / 2];
 static uint16_t over_nodes[WHATIF_MAX_CHANGES];
 static uint8_t over_labels[WHATIF_MAX_CHANGES];
 static uint64_t counts[WHATIF_MAX_STATES];
+static uint16_t colour_numbers[WHATIF_COLOUR_BRANCH_NUMBERS(N, STATES)];
+static uint8_t colour_bytes[WHATIF_COLOUR_BYTES(N, WHATIF_MAX_COLOUR_STATES)];
 static uint32_t answer, out[5];
 static _Alignas(64) uint8_t stack[ROOM];
 
@@ -39,6 +41,8 @@ static _Alignas(64) uint8_t stack[ROOM];
 #define RUN screens, sizeof screens
 #define FOUR four, sizeof four
 #define SIXTEEN rules, sizeof rules
+#define COLOURS colour_numbers, WHATIF_COLOUR_BRANCH_NUMBERS(N, STATES), colour_bytes, sizeof colour_bytes
+#define FOUR_STATES node_table, WHATIF_NODE_TABLE_LEN(N), state_table, WHATIF_STATE_TABLE_LEN(N, 4)
 
 static void nothing(void) { answer = 0; }
 static void build(void) { answer = whatif_build(RULES, TABLES); }
@@ -62,6 +66,22 @@ static void lay_over(void) {
 /* nine nodes with 64 labels are the most that 26 lets through */
 static void count(void) {
     answer = whatif_count(RULES, TABLES, nodes, 9, counts, WHATIF_MAX_STATES, out, out + 1);
+}
+static void colour_branch_build(void) { answer = whatif_colour_branch_build(BRANCH, COLOURS); }
+static void colour_ask(void) {
+    answer = whatif_colour_branch(BRANCH, node_table, WHATIF_NODE_TABLE_LEN(N), COLOURS, N - 1, 1, out, out + 1, out + 2,
+                                  out + 3);
+}
+static void colour_ask_with_upper(void) {
+    answer = whatif_colour_branch_with_upper(BRANCH, node_table, WHATIF_NODE_TABLE_LEN(N), COLOURS, N - 1, 1, out,
+                                             out + 1, out + 2, out + 3);
+}
+/* with the rule table of four states */
+static void build_of_four(void) { answer = whatif_build(plan, sizeof plan, FOUR, FOUR_STATES); }
+static void colour_build(void) { answer = whatif_colour_build(plan, sizeof plan, FOUR, COLOURS); }
+static void colour_question(void) {
+    answer = whatif_colour_ask(plan, sizeof plan, FOUR, FOUR_STATES, COLOURS, LIST, out, out + 1, out + 2, out + 3,
+                               out + 4);
 }
 static void load(void) { answer = whatif_load(RECORD, RULES, TABLES); }
 static void start(void) { answer = whatif_start(RECORD, RULES, TABLES, LIST, out); }
@@ -113,6 +133,12 @@ static const struct call {
     {"planner out", planner_out, 1024},
     {"planner home", planner_home, 1024},
     {"laying over", lay_over, 1024},
+    {"colour branch build", colour_branch_build, 3072},
+    {"colour branch question", colour_ask, 1024},
+    {"colour branch question with upper", colour_ask_with_upper, 1024},
+    {"build of four states", build_of_four, 3072},
+    {"colour build", colour_build, 3072},
+    {"colour question", colour_question, 2048},
 };
 
 static void *run(void *make) {

@@ -2,8 +2,9 @@
  * whatif.h: the what-if checker for C and C++.
  *
  * Order: version, limits, sizes, answers; the functions for tables and fresh runs, for branch questions, for counts of
- * choices, for two rule tables, for the planner's files, of the panel session, and of eight screens; then what is written
- * here alone: what a record tells, the session's and the screens' calls with what is lent as one struct, the answers' texts.
+ * choices, for two rule tables, for the planner's files, of the panel session, of eight screens, and for questions by
+ * colours; then what is written here alone: what a record tells, the session's and the screens' calls with what is lent
+ * as one struct, the answers' texts.
  * The bytes of plans, tables and records are in LAYOUT.md, the order of the checks of each call in REFUSALS.md: both
  * stand in docs/ of the sources, and beside this file where it is installed.
  *
@@ -13,7 +14,8 @@
  * Stack of a call, as measured on plans of 65,535 nodes and the largest tables: a fresh run at most 40 KiB, a count of
  * choices at most 35 KiB, agreement of two rule tables at most 12 KiB, a Start, which makes the full check, at most
  * 7 KiB, the full check of a rule table's tables at most 6 KiB, any other call of the session or of the screens at most
- * 4 KiB, a build or a branch table's full check at most 3 KiB, any other at most 1 KiB.
+ * 4 KiB, a build or a branch table's full check at most 3 KiB, a question of changes by colours at most 2 KiB, any other at
+ * most 1 KiB.
  *
  * What holds for every function:
  * - A slice is a pointer, then its count of elements (not bytes).
@@ -38,8 +40,8 @@ extern "C" {
 
 /* This header's version, as text and as major * 10000 + minor * 100 + patch. whatif_version() is the archive's: before
  * 1.0 a program is to use both of one minor version. */
-#define WHATIF_VERSION "0.8.0"
-#define WHATIF_VERSION_NUMBER 800u
+#define WHATIF_VERSION "0.9.0"
+#define WHATIF_VERSION_NUMBER 900u
 
 /* Limits: nodes of a plan (1 to), states and labels of a table (1 to), changes in a list (0 to). */
 #define WHATIF_MAX_NODES 65535u
@@ -52,6 +54,8 @@ extern "C" {
 #define WHATIF_MAX_LINES 256u
 /* The most assignments that are counted: 10 to the power 18. */
 #define WHATIF_MAX_ASSIGNMENTS 1000000000000000000u
+/* The most states of a rule table by colours. */
+#define WHATIF_MAX_COLOUR_STATES 4u
 /* The greatest depth of a node, root 0. It follows from the limit on nodes and is no check of its own. */
 #define WHATIF_MAX_DEPTH 32767u
 /* The most nodes of a planner's file: its plan has twice as many and one. */
@@ -69,6 +73,13 @@ extern "C" {
 /* Bytes of a planner's file of n nodes, and of its plan, which has 2n+1. */
 #define WHATIF_PLANNER_BYTES(n) ((size_t)12 + (size_t)2 * (size_t)(n))
 #define WHATIF_PLANNER_PLAN_BYTES(n) ((size_t)14 + (size_t)4 * (size_t)(n))
+/* Elements of the colour tables, numbers (uint16_t) and bytes (uint8_t), for n nodes and a branch table of s states. They
+ * may be longer, and their excess is untouched. With 16 states they take 144 bytes a node. */
+#define WHATIF_COLOUR_BRANCH_NUMBERS(n, s) ((size_t)4 * (size_t)(n) * (size_t)(s))
+#define WHATIF_COLOUR_BRANCH_BYTES(n, s) ((size_t)(n) * (size_t)(s))
+/* The same for a rule table of s states, 1 to WHATIF_MAX_COLOUR_STATES. With 4 states they take 149 bytes a node. */
+#define WHATIF_COLOUR_NUMBERS(n, s) (((size_t)4 * (size_t)(n)) << (s))
+#define WHATIF_COLOUR_BYTES(n, s) ((size_t)(n) * ((size_t)(s) + (size_t)1) + ((size_t)(n) << (s)))
 
 /* Bytes of a session's record, and the version of its layout. All zero is a fresh session. Records of different layout
  * versions differ in length: a record that was kept is one of this version where it has WHATIF_RECORD_BYTES bytes, and
@@ -134,7 +145,9 @@ enum whatif_answer {
     /* A screen's number or the one to try first is above 7, or the run is not as long as eight records. */
     WHATIF_REFUSED_SCREEN = 25,
     /* There are more than 10^18 assignments of labels to the nodes listed. */
-    WHATIF_REFUSED_ASSIGNMENTS = 26
+    WHATIF_REFUSED_ASSIGNMENTS = 26,
+    /* The rule table has more than 4 states, too many for colours. */
+    WHATIF_REFUSED_COLOUR_STATES = 27
 };
 
 /* The archive's version, as WHATIF_VERSION_NUMBER is this header's. It is always answered; there is no refusal. */
@@ -487,6 +500,95 @@ uint32_t whatif_screens_cancel(uint8_t *records, size_t records_len, uint32_t sc
 uint32_t whatif_screens_read(const uint8_t *records, size_t records_len, uint32_t screen, uint32_t *state,
                              uint32_t *yes, uint32_t *parts, uint32_t *links, uint32_t *passed);
 
+/*
+ * Questions by colours: the answers of branch questions and of questions once more, by other tables, at a cost that does
+ * not grow with the depth of the plan. Every state of every node has a colour; on the way down a path the colour stays or
+ * falls, and a question goes from fall to fall. A drop is a place on the path where the colour falls; the moves of the
+ * searches for the drops are the links, at most 45 for each drop. These calls stand outside the session. The colour tables
+ * are two buffers; their layout is in LAYOUT.md.
+ *
+ * The first WHATIF_NODE_TABLE_LEN(N) numbers of the colour tables are the plan's node table: where no other is at hand,
+ * colour_numbers may be lent as node_table too.
+ */
+
+/*
+ * Writes the colour tables of a plan and a branch table.
+ * Lent:    the plan and the branch table, read; colour_numbers and colour_bytes, written.
+ * Written: the first WHATIF_COLOUR_BRANCH_NUMBERS(N, S) numbers of colour_numbers and the first
+ *          WHATIF_COLOUR_BRANCH_BYTES(N, S) bytes of colour_bytes, N and S as the headers name them. The rest of a longer
+ *          buffer is untouched.
+ * Answers: WHATIF_ACCEPTED, or the first of 2, 3, 4, 5, 6, 7, 8, 9, 10, 11. Refused, both buffers are as they were.
+ */
+uint32_t whatif_colour_branch_build(const uint8_t *plan, size_t plan_len, const uint8_t *branch, size_t branch_len,
+                                    uint16_t *colour_numbers, size_t colour_numbers_len, uint8_t *colour_bytes,
+                                    size_t colour_bytes_len);
+
+/*
+ * Branch question by colours: the word of whatif_branch, from below node `upper` down to node `lower`.
+ * Lent:    the plan, the branch table, the node table of whatif_branch_build (or of whatif_build: it is the same) and the
+ *          tables of whatif_colour_branch_build, read. N, S and K are those of the headers of the plan and the branch table.
+ * Written: *state, the state after the last label; *yes, 1 where its mark is 1, else 0; both are whatif_branch's. *drops,
+ *          the places on the path where the colour falls, at most S - 1; *links, the moves of the searches for them, at most
+ *          45 for each.
+ * Answers: WHATIF_ACCEPTED, or the first of 17, 13, 16, 18. 17 is given too where a header is cut short or names a number
+ *          outside its limits. 18 is never given on tables as built for what is lent. On other tables the call ends as
+ *          well, with 16, 18 or an answer. Refused, *state, *yes, *drops and *links are as they were.
+ */
+uint32_t whatif_colour_branch(const uint8_t *plan, size_t plan_len, const uint8_t *branch, size_t branch_len,
+                              const uint16_t *node_table, size_t node_table_len, const uint16_t *colour_numbers,
+                              size_t colour_numbers_len, const uint8_t *colour_bytes, size_t colour_bytes_len,
+                              uint32_t upper, uint32_t lower, uint32_t *state, uint32_t *yes, uint32_t *drops,
+                              uint32_t *links);
+
+/*
+ * Branch question by colours with the upper node's label: the word of whatif_branch_with_upper, from node `upper` down to
+ * node `lower`, both included.
+ * Lent:    as for whatif_colour_branch.
+ * Written: as by whatif_colour_branch; drops and links may be others, since the word begins one copy higher.
+ * Answers: WHATIF_ACCEPTED, or the first of 17, 13, 16, 18, as for whatif_colour_branch; on tables not as built the parent
+ *          of `upper` may lead outside too.
+ */
+uint32_t whatif_colour_branch_with_upper(const uint8_t *plan, size_t plan_len, const uint8_t *branch, size_t branch_len,
+                                         const uint16_t *node_table, size_t node_table_len,
+                                         const uint16_t *colour_numbers, size_t colour_numbers_len,
+                                         const uint8_t *colour_bytes, size_t colour_bytes_len, uint32_t upper,
+                                         uint32_t lower, uint32_t *state, uint32_t *yes, uint32_t *drops,
+                                         uint32_t *links);
+
+/*
+ * Writes the colour tables of a plan and a rule table of at most WHATIF_MAX_COLOUR_STATES states.
+ * Lent:    the plan and the rule table, read; colour_numbers and colour_bytes, written.
+ * Written: the first WHATIF_COLOUR_NUMBERS(N, S) numbers of colour_numbers and the first WHATIF_COLOUR_BYTES(N, S) bytes of
+ *          colour_bytes, N and S as the headers name them. They begin with the node table and the state table of
+ *          whatif_build. The rest of a longer buffer is untouched.
+ * Answers: WHATIF_ACCEPTED, or the first of 2, 3, 4, 5, 6, 7, 8, 9, 27, 10, 11. Refused, both buffers are as they were.
+ */
+uint32_t whatif_colour_build(const uint8_t *plan, size_t plan_len, const uint8_t *rules, size_t rules_len,
+                             uint16_t *colour_numbers, size_t colour_numbers_len, uint8_t *colour_bytes,
+                             size_t colour_bytes_len);
+
+/*
+ * Question by colours, whole and outside the session: what would the plan's state be if node nodes[i] took labels[i], for
+ * every i?
+ * Lent:    the plan, the rule table, the tables of whatif_build, those of whatif_colour_build and the list, read. N, S and K
+ *          are those of the headers of the plan and the rule table. nodes_len and labels_len are equal, 0 to 64; of two
+ *          entries for a node the last holds, and a node that ends with the label it has is no change, as in whatif_start.
+ * Written: *state, the root's state; *yes, 1 where its mark is 1, else 0: both the fresh run's of the changed plan. *parts, the
+ *          number of parts, as of whatif_start. *drops: where a part has changes below one child only, that child's state is
+ *          found by trying target states in rising order, and the drops of all trials are counted, at most 60 for each such
+ *          part. *links, the moves of the searches for them, at most 45 for each.
+ * Answers: WHATIF_ACCEPTED, or the first of 17, 27, 12, 13, 14, 18. 17 is given too where a header is cut short or names a
+ *          number outside its limits; with S above 4 it is asked of all but the colour tables. 18 is never given on tables as
+ *          built for what is lent. On other tables the call ends as well, with 18 or an answer. Refused, the five out values
+ *          are as they were.
+ */
+uint32_t whatif_colour_ask(const uint8_t *plan, size_t plan_len, const uint8_t *rules, size_t rules_len,
+                           const uint16_t *node_table, size_t node_table_len, const uint8_t *state_table,
+                           size_t state_table_len, const uint16_t *colour_numbers, size_t colour_numbers_len,
+                           const uint8_t *colour_bytes, size_t colour_bytes_len, const uint16_t *nodes,
+                           size_t nodes_len, const uint8_t *labels, size_t labels_len, uint32_t *state, uint32_t *yes,
+                           uint32_t *drops, uint32_t *links, uint32_t *parts);
+
 /* What a record tells. These read single bytes of it, as LAYOUT.md places them. Bytes of another length, or without a
  * state, have WHATIF_NO_STATE and no parts; nothing else is tested. So a refusal 1 means: the call may not be made in the
  * state that is told, or, of a Read, there is no answer yet; or there is no state; or, where the call may be made in it,
@@ -638,6 +740,8 @@ static inline const char *whatif_answer_text(uint32_t answer) {
         return "A screen's number or the one to try first is above 7, or the run is not as long as eight records.";
     case WHATIF_REFUSED_ASSIGNMENTS:
         return "There are more than 10^18 assignments of labels to the nodes listed.";
+    case WHATIF_REFUSED_COLOUR_STATES:
+        return "The rule table has more than 4 states, too many for colours.";
     default:
         return "This is no answer of this version.";
     }

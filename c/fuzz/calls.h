@@ -30,6 +30,10 @@ enum try {
     COUNT,
     SCREEN,
     SCREENS,
+    COLOUR_BRANCH_BUILD,
+    COLOUR_BRANCH,
+    COLOUR_BUILD,
+    COLOUR_ASK,
     TRIES
 };
 
@@ -76,5 +80,11 @@ uint32_t try_count(struct input *in);
 /* One call of the eight screens, and a list of them from a fresh run on. screens.c */
 uint32_t try_screen(struct input *in);
 uint32_t try_screens(struct input *in);
+/* Branch questions by colours: the build of their tables, and a question in both readings. colours.c */
+uint32_t try_colour_branch_build(struct input *in);
+uint32_t try_colour_branch(struct input *in);
+/* The same for questions. colours.c */
+uint32_t try_colour_build(struct input *in);
+uint32_t try_colour_ask(struct input *in);
 
 #endif

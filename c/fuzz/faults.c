@@ -15,6 +15,7 @@
     const uint8_t *first, size_t first_len, const uint8_t *second, size_t second_len, uint8_t *merged, size_t merged_len
 #define PLANNER_OUT                                                                                                    \
     const uint8_t *file, size_t file_len, uint8_t *plan, size_t plan_len, uint16_t *places, size_t places_len
+#define COLOURS const uint16_t *numbers, size_t numbers_len, const uint8_t *bytes, size_t bytes_len
 #define ALL plan, plan_len, rules, rules_len, nodes, nodes_len, states, states_len
 
 uint32_t __real_whatif_build(PLAN_RULES, WRITTEN);
@@ -31,6 +32,12 @@ uint32_t __real_whatif_start(uint8_t *record, size_t record_len, PLAN_RULES, REA
 uint32_t __real_whatif_cancel(uint8_t *record, size_t record_len);
 uint32_t __real_whatif_read(const uint8_t *record, size_t record_len, uint32_t *state, uint32_t *yes, uint32_t *parts,
                             uint32_t *links, uint32_t *passed);
+uint32_t __real_whatif_colour_branch_build(PLAN_RULES, WRITTEN);
+uint32_t __real_whatif_colour_branch(PLAN_RULES, const uint16_t *nodes, size_t nodes_len, COLOURS, uint32_t upper,
+                                     uint32_t lower, uint32_t *state, uint32_t *yes, uint32_t *drops, uint32_t *links);
+uint32_t __real_whatif_colour_build(PLAN_RULES, WRITTEN);
+uint32_t __real_whatif_colour_ask(PLAN_RULES, READ, COLOURS, LIST, uint32_t *state, uint32_t *yes, uint32_t *drops,
+                                  uint32_t *links, uint32_t *parts);
 
 uint32_t __real_whatif_screens_load(uint8_t *records, size_t records_len, PLAN_RULES, WRITTEN, uint32_t *next);
 uint32_t __real_whatif_screens_start(uint8_t *records, size_t records_len, uint32_t screen, PLAN_RULES, READ, LIST,
@@ -203,4 +210,46 @@ uint32_t __wrap_whatif_screens_read(const uint8_t *records, size_t records_len, 
     if (laid(34) && records_len > WHATIF_SCREENS_BYTES) /* a longer run is taken */
         records_len = WHATIF_SCREENS_BYTES;
     return __real_whatif_screens_read(records, records_len, screen, state, yes, parts, links, passed);
+}
+
+uint32_t __wrap_whatif_colour_branch_build(PLAN_RULES, WRITTEN) {
+    uint32_t answer = __real_whatif_colour_branch_build(ALL);
+    if (laid(35) && answer != 0 && nodes_len > 0) /* a refused build writes */
+        nodes[0]++;
+    if (laid(36) && answer == 0 && states_len > 0) /* two colours have one state */
+        states[0] = states[1];
+    return answer;
+}
+
+uint32_t __wrap_whatif_colour_branch(PLAN_RULES, const uint16_t *nodes, size_t nodes_len, COLOURS, uint32_t upper,
+                                     uint32_t lower, uint32_t *state, uint32_t *yes, uint32_t *drops, uint32_t *links) {
+    uint32_t answer = __real_whatif_colour_branch(plan, plan_len, rules, rules_len, nodes, nodes_len, numbers,
+                                                  numbers_len, bytes, bytes_len, upper, lower, state, yes, drops, links);
+    if (laid(37) && answer == 0 && *drops > 0) /* a drop is told as none */
+        --*drops;
+    if (laid(38) && answer == 0) /* the state of the lowest colour */
+        *state = bytes[lower * rules[0]];
+    if (laid(39) && answer != 0) /* refused, and told */
+        *links = 0;
+    return answer;
+}
+
+uint32_t __wrap_whatif_colour_build(PLAN_RULES, WRITTEN) {
+    uint32_t answer = __real_whatif_colour_build(ALL);
+    if (laid(40) && answer == 27 && nodes_len > 0) /* with too many states a number is written */
+        nodes[0]++;
+    if (laid(41) && answer == 0) /* the last node's sets are exchanged */
+        states[states_len - 1] = states[states_len - 2];
+    return answer;
+}
+
+uint32_t __wrap_whatif_colour_ask(PLAN_RULES, READ, COLOURS, LIST, uint32_t *state, uint32_t *yes, uint32_t *drops,
+                                  uint32_t *links, uint32_t *parts) {
+    uint32_t answer = __real_whatif_colour_ask(ALL, numbers, numbers_len, bytes, bytes_len, listed, listed_len, labels,
+                                               labels_len, state, yes, drops, links, parts);
+    if (laid(42) && answer == 0) /* yes to everything */
+        *yes = 1;
+    if (laid(43) && answer != 0) /* refused, and told */
+        *parts = 1;
+    return answer;
 }

@@ -86,6 +86,10 @@ static const char *const folders[TRIES] = {
     [COUNT] = "count",
     [SCREEN] = "screen",
     [SCREENS] = "screens",
+    [COLOUR_BRANCH_BUILD] = "colour-branch-build",
+    [COLOUR_BRANCH] = "colour-branch",
+    [COLOUR_BUILD] = "colour-build",
+    [COLOUR_ASK] = "colour-ask",
 };
 
 /* A file in the folder of its call. */
@@ -413,6 +417,96 @@ static void screens_list(const struct plan *p, const struct question *list) {
     on(ON_START, 3), changes(list), end();
 }
 
+static uint16_t colour_numbers[WHATIF_COLOUR_BRANCH_NUMBERS(N, S)];
+static uint8_t colour_bytes[WHATIF_COLOUR_BRANCH_BYTES(N, S)];
+
+/* The build with some excess, exact behind a page, and too short. */
+static void colour_build(const struct plan *p, const char *which, enum side side, size_t numbers_len, size_t bytes_len) {
+    begin(COLOUR_BRANCH_BUILD, p->name, which), put(side, 1), plan_and_branch(p), put((uint32_t)numbers_len, 2);
+    put((uint32_t)bytes_len, 2), put(p->lower, 2), end();
+}
+
+static void colour_question(const struct plan *p, const char *which, enum side side, uint32_t upper, uint32_t lower) {
+    size_t s = p->branch_states;
+    begin(COLOUR_BRANCH, p->name, which), put(side, 1), put(upper, 4), put(lower, 4), plan_and_branch(p);
+    numbers(nodes, WHATIF_NODE_TABLE_LEN(p->n)), numbers(colour_numbers, WHATIF_COLOUR_BRANCH_NUMBERS(p->n, s));
+    bytes(colour_bytes, WHATIF_COLOUR_BRANCH_BYTES(p->n, s)), end();
+}
+
+/* Questions on tables as built, from the upper node and from the root, and each refusal but 17. */
+static void colours(const struct plan *p) {
+    size_t s = p->branch_states, numbers_len = WHATIF_COLOUR_BRANCH_NUMBERS(p->n, s);
+    size_t bytes_len = WHATIF_COLOUR_BRANCH_BYTES(p->n, s);
+    must(whatif_colour_branch_build(PLAN(p), BRANCH_TABLE(p), colour_numbers, numbers_len, colour_bytes, bytes_len) == 0);
+    memcpy(nodes, colour_numbers, 2 * WHATIF_NODE_TABLE_LEN(p->n));
+    colour_build(p, "", BEFORE, numbers_len + 1, bytes_len + 1);
+    colour_build(p, "-behind", BEHIND, numbers_len, bytes_len);
+    colour_build(p, "-11", BEFORE, numbers_len, bytes_len - 1);
+    uint32_t root = (uint32_t)p->n - 1;
+    colour_question(p, "", BEFORE, p->upper, p->lower);
+    colour_question(p, "-behind", BEHIND, root, p->lower);
+    colour_question(p, "-root", BEFORE, root, 0);
+    colour_question(p, "-13", BEFORE, root, root + 65537);
+    colour_question(p, "-16", BEFORE, 0, root);
+    memset(colour_bytes, 31, bytes_len);
+    colour_question(p, "-18", BEFORE, root, p->lower);
+    memset(colour_bytes, 0, bytes_len), memset(colour_numbers, 1, 2 * numbers_len);
+    colour_question(p, "-other", BEFORE, root, 0);
+}
+
+static uint16_t set_numbers[WHATIF_COLOUR_NUMBERS(N, 2)];
+static uint8_t set_bytes[WHATIF_COLOUR_BYTES(N, 2)];
+
+/* A rule table of two states for the comb, since that of four states would need more bytes than an input has. */
+static void sets_build(const char *name, const uint8_t *p, size_t n, const uint8_t *r, size_t k, size_t s) {
+    size_t plan_len = WHATIF_PLAN_BYTES(n), rules_len = WHATIF_RULES_BYTES(s, k);
+    size_t numbers_len = WHATIF_COLOUR_NUMBERS(n, s), bytes_len = WHATIF_COLOUR_BYTES(n, s);
+    begin(COLOUR_BUILD, name, ""), put(BEFORE, 1), bytes(p, plan_len), bytes(r, rules_len);
+    put((uint32_t)numbers_len + 1, 2), put((uint32_t)bytes_len + 1, 2), end();
+    begin(COLOUR_BUILD, name, "-behind"), put(BEHIND, 1), bytes(p, plan_len), bytes(r, rules_len);
+    put((uint32_t)numbers_len, 2), put((uint32_t)bytes_len, 2), end();
+    begin(COLOUR_BUILD, name, "-11"), put(BEFORE, 1), bytes(p, plan_len), bytes(r, rules_len);
+    put((uint32_t)numbers_len - 1, 2), put((uint32_t)bytes_len, 2), end();
+}
+
+static void sets_ask(const char *name, const char *which, enum side side, const struct question *list, const uint8_t *p,
+                     size_t n, const uint8_t *r, size_t k) {
+    begin(COLOUR_ASK, name, which), put(side, 1), changes(list), bytes(p, WHATIF_PLAN_BYTES(n));
+    bytes(r, WHATIF_RULES_BYTES(2, k)), numbers(set_numbers, WHATIF_NODE_TABLE_LEN(n));
+    bytes(set_bytes, WHATIF_STATE_TABLE_LEN(n, 2)), numbers(set_numbers, WHATIF_COLOUR_NUMBERS(n, 2));
+    bytes(set_bytes, WHATIF_COLOUR_BYTES(n, 2)), end();
+}
+
+/* Questions on tables as built, and each refusal but 12 and 17; the tables begin with those of whatif_build. */
+static void sets_of(const char *name, const uint8_t *p, size_t n, const uint8_t *r, size_t k) {
+    const struct question none_there = {1, {(uint16_t)n}, {0}}, no_label = {1, {0}, {(uint8_t)k}};
+    must(whatif_colour_build(p, WHATIF_PLAN_BYTES(n), r, WHATIF_RULES_BYTES(2, k), set_numbers,
+                             WHATIF_COLOUR_NUMBERS(n, 2), set_bytes, WHATIF_COLOUR_BYTES(n, 2)) == 0);
+    sets_build(name, p, n, r, k, 2);
+    sets_ask(name, "", BEFORE, &questions[1], p, n, r, k);
+    sets_ask(name, "-none", BEFORE, &questions[0], p, n, r, k);
+    sets_ask(name, "-behind", BEHIND, &questions[3], p, n, r, k);
+    sets_ask(name, "-13", BEFORE, &none_there, p, n, r, k);
+    sets_ask(name, "-14", BEFORE, &no_label, p, n, r, k);
+    memset(set_bytes + WHATIF_STATE_TABLE_LEN(n, 2), 0, n * 4);
+    sets_ask(name, "-18", BEFORE, &questions[1], p, n, r, k);
+}
+
+/* The comb under a table that keeps the state from below where a label is odd; five states get 27. */
+static void sets(void) {
+    static uint8_t two[WHATIF_RULES_BYTES(2, K)] = {2, 0, 0, 0, K, 0, 0, 0, 20, 0, 0, 0, 20 + K, 0, 0, 0, 20 + 5 * K};
+    static uint8_t five[WHATIF_RULES_BYTES(5, 2)] = {5, 0, 0, 0, 2, 0, 0, 0, 20, 0, 0, 0, 22, 0, 0, 0, 72};
+    for (size_t i = 0; i < K; i++) {
+        two[20 + i] = i % 2;
+        for (size_t l = 0; l < 2; l++)
+            for (size_t q = 0; q < 2; q++)
+                two[20 + K + (l * K + i) * 2 + q] = i % 2 ? (uint8_t)l : (uint8_t)(i % 4 < 2 ? l & q : l ^ q);
+    }
+    two[sizeof two - 1] = 1;
+    sets_of("a", plan, SAMPLE_NODES, rules, 2), sets_of("b", plan_b, N, two, K);
+    sets_build("five", plan, SAMPLE_NODES, five, 2, 5);
+}
+
 int main(int argc, char **argv) {
     must(argc == 2);
     folder = argv[1];
@@ -432,6 +526,7 @@ int main(int argc, char **argv) {
     counts(&sample), counts(&comb);
     on_screens(&sample, &questions[1]), screens_list(&sample, &questions[3]);
     on_screens(&comb, &far), screens_list(&comb, &far);
+    colours(&sample), colours(&comb), sets();
     on_tables(&comb), on_records(&comb, &far), panel(&comb, &far), question(&comb, &far, "");
     for (size_t i = 0; i < QUESTIONS; i++) {
         char which[] = {'-', (char)('1' + i), 0};

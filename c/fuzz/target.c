@@ -42,6 +42,10 @@ static const struct {
     [COUNT] = {"whatif_count", try_count, 1u | FROM(11, 13) | FROM(15, 15) | FROM(17, 18) | FROM(26, 26)},
     [SCREEN] = {"a screen's call", try_screen, FROM(0, 14) | FROM(17, 18) | FROM(25, 25)},
     [SCREENS] = {"a list of screen calls", try_screens, FROM(0, 14) | FROM(17, 18) | FROM(25, 25)},
+    [COLOUR_BRANCH_BUILD] = {"whatif_colour_branch_build", try_colour_branch_build, 1u | FROM(2, 11)},
+    [COLOUR_BRANCH] = {"whatif_colour_branch, both readings", try_colour_branch, 1u | FROM(13, 13) | FROM(16, 18)},
+    [COLOUR_BUILD] = {"whatif_colour_build", try_colour_build, 1u | FROM(2, 11) | FROM(27, 27)},
+    [COLOUR_ASK] = {"whatif_colour_ask", try_colour_ask, 1u | FROM(12, 14) | FROM(17, 18) | FROM(27, 27)},
 };
 
 #define MOST 27 /* the greatest number of a refusal */

@@ -18,7 +18,8 @@ use Rattle.node_tables.specs.Cells.{NodeTableArgs}
 use Rattle.node_tables.specs.NodeCells.{NodeCells}
 use Rattle.node_tables.proofs.CellLaws.{length-nodeTableOf, take-table, link-cells}
 use Rattle.colour_tables.proofs.LayoutLaws.{part-at, numbers-over, copies-over}
-use Rattle.colour_states.specs.Written.{Elsewhere, CopiesFrom}
+use Rattle.colour_states.specs.Written.{CopiesFrom}
+use Rattle.colour_states.proofs.CopyLoop.{first-elsewhere, past-elsewhere}
 use Rattle.colour_states.specs.inner.WordPass.{stepBy, WordGiven, WordsFrom, WordArgs}
 use Rattle.colour_forests.specs.Colours.{Landed, ColoursTo, ColoursArgs}
 use Rattle.branch_colours.specs.inner.Filled.{FillArgs, Filled}
@@ -84,17 +85,12 @@ module _ (ls ks st : List ℕ) (s k l m : ℕ) (A : FillArgs ls ks st s k l m) w
 
     -- once the states are written
     module _ (bytes bytes′ b′ : List ℕ) (S : Stated ls st s k bytes b bytes′ b′) (lb′ : length b′ ≡ l) where
-      below-elsewhere : (t : Tree) (j : ℕ) → j < size t * 4 → Elsewhere (size t) s j
-      below-elsewhere t j h c v p q i e = omega (arith, stride (size t * 4) 0 c p)
-
-      beyond-elsewhere : (t : Tree) (j : ℕ) → s * (size t * 4) ≤ j → Elsewhere (size t) s j
-      beyond-elsewhere t j h c v p q i e = omega (arith, stride (size t * 4) c s q)
-
       landed : (t : Tree) → kindsOf t ≡ ks → labelsOf t ≡ ls → Landed s (stepBy st k t) t b′
       landed t e d =
           let C : CopiesFrom s (stepBy st k t) t 0 0 bytes b bytes′ b′ = S t (given t e d) in
           record {
-            parents = λ v h. C .kept (v * 4) (below-elsewhere t (v * 4) (omega arith)) ∙ cells t e .parents v (omega arith);
+            parents = λ v h. C .kept (v * 4) (first-elsewhere (size t) s (v * 4) (omega arith))
+                ∙ cells t e .parents v (omega arith);
             lands = λ c p h v i. part-at (size t) c b′ (v * 4 + 3) (omega arith) ∙ C .lands v (omega arith) i c p h;
           }
 
@@ -123,10 +119,10 @@ module _ (ls ks st : List ℕ) (s k l m : ℕ) (A : FillArgs ls ks st s k l m) w
           let first : size t * 4 ≤ s * (size t * 4) = omega (arith, stride (size t * 4) 0 s some) in
           record {
             numbers-are = numbers-over s step t a b″ (lb″ ∙ sym la) (omega arith)
-                (λ j h. F .first j h ∙ C .kept j (below-elsewhere t j h) ∙ ap (λ (x : List ℕ). getD x j 0) w
+                (λ j h. F .first j h ∙ C .kept j (first-elsewhere (size t) s j h) ∙ ap (λ (x : List ℕ). getD x j 0) w
                 ∙ List·getD-append (nodeTableOf t) (drop (size t * 4) a) 0 j (omega (arith, g)))
                 (λ c p h v i. F .cells c p h v i)
-                (λ j h. F .rest j h ∙ C .kept j (beyond-elsewhere t j h) ∙ ap (λ (x : List ℕ). getD x j 0) w
+                (λ j h. F .rest j h ∙ C .kept j (past-elsewhere (size t) s j h) ∙ ap (λ (x : List ℕ). getD x j 0) w
                 ∙ excess t a j g (omega arith));
             bytes-are = copies-over s step t (λ v q h. A .steps-below _) bytes bytes′ (lm′ ∙ sym lm)
                 (rw (n, lm) (A .bytes-room))

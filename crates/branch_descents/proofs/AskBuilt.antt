@@ -1,8 +1,9 @@
 -- A branch question by colours on tables as built.
 --     fits-built   17 passes
---     descent-built, on-built the answer is the word automaton's, with the drops and links of the descent by the
---       tree's own
---       colours
+--     descent-built, on-built  the answer is the word automaton's, with the drops and links of the descent by the
+--                              tree's own colours
+--     drops-built              its drops are the places on the path where the colour falls
+--     built-usable             tables as built are usable: 18 never comes
 -- Assumes nothing.
 use Prim.Native.Nat.{ℕ, _+_, _*_, _≤_, _<_}
 use mathlib.Core.Path.{_≡_, refl, sym, ap, _∙_, subst}
@@ -42,7 +43,7 @@ use Rattle.colours.specs.Descents.{Place, Descent, drops, links, descend}
 use Rattle.colours.specs.Words.{wordStep, aboveOf, colourAbove, colourHere, withUpper, belowUpper}
 use Rattle.colours.proofs.ColouringLaws.{place-lt, has-colour}
 use Rattle.colours.proofs.CopyLaws.{top-colour, copyAbove-root, copyAbove-down, copy-colouring, copyAbove-colouring}
-use Rattle.colours.proofs.WordLaws.{WordAnswer}
+use Rattle.colours.proofs.WordLaws.{WordAnswer, upper-drops, below-drops}
 use Rattle.colours.proofs.Theorems.{word-upper, word-below}
 use Rattle.colour_tables.specs.ColourCells.{cellTable}
 use Rattle.colour_tables.specs.AsBuilt.{ColourCells}
@@ -51,7 +52,7 @@ use Rattle.colour_tables.proofs.LayoutLaws.{length-numbers, length-copies, numb
 use Rattle.colour_tables.proofs.RangeLaws.{descend-low}
 use Rattle.descents.proofs.Theorems.{upper-built, below-built}
 use Rattle.branch_descents.specs.Question.{colourBuffersFit, startOn, copyRow, colourIn, coloured, colouredOn}
-use Rattle.branch_descents.specs.Promise.{BranchColoursBuilt, wordDescent}
+use Rattle.branch_descents.specs.Promise.{BranchColoursBuilt, BranchColoursUsable, wordDescent, wordDrops}
 use Rattle.branch_descents.proofs.FitLaws.{are-fits}
 use Rattle.branch_descents.proofs.AnswerLaws.{on-some, below-yes, fromEnd, fromColour, fromPlace}
 
@@ -175,6 +176,19 @@ module _ (p r nodeTable numbers bytes : List ℕ) (D : BranchColoursBuilt p r no
       below-yes s 0 some-state
       ∙ ap some (sym (ap (placeOf 0) (copyAbove-root s step t u e) ∙ top-colour s 0 some-state))
 
+  pub built-usable : BranchColoursUsable p r nodeTable numbers bytes
+  built-usable = record {
+    accepted = D .coloured .accepted;
+    links = D .links;
+    numbers-are = D .coloured .numbers-are;
+    below = λ v c h b.
+        let i : v < size t = omega (arith, size-is) in
+        rw (states v c i b) (copy-colouring s step t keeps v .below c b);
+    starts = λ z h.
+        let i : z < size t = omega (arith, size-is) in
+        rw (row-is z i) (zero-below (copy s step t z) (copy-colouring s step t keeps z));
+  }
+
   module _ (u l : ℕ) (hu : u < nodeCount p) (hl : l < nodeCount p) where
     upper-in : u < size (planTree p)
     upper-in = omega (arith, size-is)
@@ -260,3 +274,9 @@ module _ (p r nodeTable numbers bytes : List ℕ) (D : BranchColoursBuilt p r no
       on-built BelowUpper =
           answered BelowUpper (some u) (colourHere B t u) (wordBelow t u l) (belowUpper B t u l) here-low start-here colour-here
           (below-built B t numbers cells u l upper-in lower-in here-low) (descent-built BelowUpper)
+
+      pub drops-built : (reading : Reading) (d : Descent)
+          → wordDescent reading (branchAutomaton r) (planTree p) u l ≡ some d
+          → drops d ≡ wordDrops reading (branchAutomaton r) (planTree p) u l
+      drops-built WithUpper = upper-drops B t below-s u l lower-in A
+      drops-built BelowUpper = below-drops B t below-s u l lower-in A

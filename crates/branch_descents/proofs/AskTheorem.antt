@@ -24,7 +24,9 @@ use Rattle.branch_descents.specs.Question.{colourAnswer, colourNumber, c
 use Rattle.branch_descents.specs.Promise.{BranchColoursBuilt, DescentAnswer, stateKept, ColourAskDone}
 use Rattle.branch_descents.proofs.AskChecks.{ask-number, ask-16, ask-on, ask-not-below}
 use Rattle.branch_descents.proofs.AskRange.{ask-out-of-range, ask-kept}
+use Rattle.branch_descents.proofs.AskUsable.{usable-in-range}
 use Rattle.branch_descents.proofs.AskBuilt.{size-is, fits-built, built-links, descent-built, on-built}
+use Rattle.branch_descents.proofs.AskBuilt.{drops-built}
 
 module _ (reading : Reading) (p r nodeTable numbers bytes : List ℕ) (D : BranchColoursBuilt p r nodeTable numbers bytes) (u l : ℕ)
     (hu : u < nodeCount p) (hl : l < nodeCount p) where
@@ -52,6 +54,7 @@ module _ (reading : Reading) (p r nodeTable numbers bytes : List ℕ) (D : Branc
         found = W .found;
         is = ask-on reading p r nodeTable numbers bytes u l (fits-built p r nodeTable numbers bytes D) hu hl i
             ∙ ap (colourAnswer 0) (on-built p r nodeTable numbers bytes D u l hu hl A reading);
+        drops-are = drops-built p r nodeTable numbers bytes D u l hu hl A reading (W .way) (W .found);
         falls = W .falls;
         few = sum-le 45 (W .way .searches) (links-limit t (W .way .searches) small (W .few));
       }
@@ -84,6 +87,8 @@ module _ (reading : Reading) (p r nodeTable numbers bytes : List ℕ) (u l : ℕ
         properties = subst (stateKept r) (sym e) (ask-kept reading p r nodeTable numbers bytes u l);
         not-below = λ f hu hl. rw e (ask-not-below reading p r nodeTable numbers bytes u l f hu hl);
         out-of-range = λ i. ask-out-of-range reading p r nodeTable numbers bytes u l (sym number ∙ i);
+        usable = λ U i. usable-in-range p r nodeTable numbers bytes U
+            (ask-out-of-range reading p r nodeTable numbers bytes u l (sym number ∙ i));
         built = λ D hu hl A. subst (DescentAnswer reading p r u l) (sym e)
             (ask-built reading p r nodeTable numbers bytes D u l hu hl A);
         apart = λ D hu hl never. e ∙ ask-apart reading p r nodeTable numbers bytes D u l hu hl never;

@@ -1,9 +1,9 @@
 -- The library's version.
 --
--- versionNumber == release 0.8.0, as major * 10000 + minor * 100 + patch
+-- versionNumber == release 0.9.0, as major * 10000 + minor * 100 + patch
 --
 -- Assumes nothing.
 use Prim.Native.Nat.{ℕ}
 
 abbrev pub versionNumber : ℕ
-versionNumber = 800
+versionNumber = 900

@@ -7,4 +7,6 @@ pub mod QuestionForms
 pub mod Kept
 pub mod PassedOver
 pub mod EightScreens
+pub mod Colours
+pub mod ColourSets
 pub mod ProvedToo

@@ -1,5 +1,4 @@
 -- The turns of the loops that look for a state in a row, and for a state that is not there.
---     Places, places-start, -turn, -found, -past   the place of q among the first c
 --     place-held, place-free                       what the place tells
 --     frees-turn, frees-found, frees-past          the lowest state that is not there
 --     Seen, seen-..                                the place of q in a whole row
@@ -7,22 +6,17 @@
 use Prim.Native.Nat.{ℕ, suc, _+_, _≤_, _<_}
 use mathlib.Core.Path.{_≡_, refl, sym, ap, _∙_}
 use mathlib.Core.Bool.{Bool, true, false}
-use mathlib.Core.List.{List, [], _∷_}
+use mathlib.Core.List.{List, _∷_}
 use native.Mathlib.Omega.{arith}
 use native.Mathlib.Numerals.{add-one}
 use native.Mathlib.Decide.{ℕ-discrete}
 use lib.ListN.{length, getD, take, drop, drop-of-length-le}
-use lib.Seq.{length-take-le, getD-take, drop-cons}
+use lib.Seq.{length-take-le, drop-cons}
 use borrow.Author.Tests.{eq-eqb, ne-eqb}
 use Rattle.list_laws.specs.Tests.{holds}
 use Rattle.colours.specs.Colouring.{placeOf, lowestFree}
 use Rattle.colours.proofs.Pigeonhole.{cover}
 use Rattle.colours.proofs.ColouringLaws.{place-lt, place-none, free-is}
-
--- q is at none of the first i places
-pub record Places (row : List ℕ) (c q i : ℕ) : Type 0 where
-  pub within : i ≤ c
-  pub rest : placeOf q (take c row) ≡ i + placeOf q (drop i (take c row))
 
 -- every state below k is among the first c
 abbrev pub Held : List ℕ → ℕ → ℕ → Type 0
@@ -33,38 +27,6 @@ module _ (row : List ℕ) (c : ℕ) (few : c ≤ 16) (long : length row ≡ 16) 
   first-length = length-take-le c row (omega arith)
 
   module _ (q : ℕ) where
-    pub places-start : Places row c q 0
-    places-start = record { within = omega arith; rest = omega arith }
-
-    -- the rest begins with element i
-    begins : (i : ℕ) → i < c → drop i (take c row) ≡ getD row i 0 ∷ drop (suc i) (take c row)
-    begins i h =
-        drop-cons (take c row) i 0 (omega (arith, first-length))
-        ∙ ap (λ (x : ℕ). x ∷ drop (suc i) (take c row)) (getD-take c row i 0 h)
-
-    pub places-turn : (i : ℕ) → Places row c q i → i < c → (getD row i 0 ≡ q → ⊥) → Places row c q (i + 1)
-    unfolding placeOf
-    places-turn i P h n =
-        let e : placeOf q (drop i (take c row)) ≡ suc (placeOf q (drop (suc i) (take c row))) =
-        ap (placeOf q) (begins i h) ∙ rw (ne-eqb q (getD row i 0) (λ z. n (sym z))) in
-        record {
-          within = omega arith;
-          rest = rw (add-one i) (omega (arith, P .rest));
-        }
-
-    pub places-found : (i : ℕ) → Places row c q i → i < c → getD row i 0 ≡ q → (i ≡ placeOf q (take c row)) × (i ≤ c)
-    unfolding placeOf
-    places-found i P h s =
-        let e : placeOf q (drop i (take c row)) ≡ 0 =
-        ap (placeOf q) (begins i h) ∙ rw (eq-eqb q (getD row i 0) (sym s)) in
-        (omega (arith, P .rest), P .within)
-
-    pub places-past : (i : ℕ) → Places row c q i → c ≤ i → (c ≡ placeOf q (take c row)) × (c ≤ c)
-    places-past i P h =
-        let d : drop i (take c row) ≡ [] = drop-of-length-le (take c row) {i = i} (omega (arith, first-length)) in
-        let e : placeOf q (drop i (take c row)) ≡ 0 = ap (placeOf q) d ∙ (unfold placeOf in refl) in
-        (omega (arith, P .rest, P .within), omega arith)
-
     -- what the place tells
     pub place-held : placeOf q (take c row) < c → holds q (take c row) ≡ true
     place-held h = go (holds q (take c row)) refl

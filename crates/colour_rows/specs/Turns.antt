@@ -1,7 +1,6 @@
 -- Colours taking states in turn, as the code has it: from the states that their states above lead to.
 --
--- PlaceArgs row c == c states stand in a row of 16
--- FreeArgs row c k == every state below k is among them
+-- FreeArgs row c k == c states stand in a row of 16, and every state below k is among them
 -- TurnArgs led == at most 16 states
 -- TurnedTo led r == r has the next copy, and what each colour lands on
 --
@@ -16,10 +15,6 @@ use lib.ListN.{length, getD, take}
 use Rattle.list_laws.specs.Tests.{holds}
 use Rattle.colours.specs.Colouring.{recolour, lands}
 use Rattle.colour_rows.specs.declared.turns.Turned.{Turned}
-
-pub record PlaceArgs (row : List ℕ) (c : ℕ) : Type 0 where
-  pub few : c ≤ 16
-  pub long : length row ≡ 16
 
 pub record FreeArgs (row : List ℕ) (c k : ℕ) : Type 0 where
   pub few : c ≤ 16

@@ -1,29 +1,15 @@
 // The states that the colours of a copy take, one after the other, and the colour that each lands on.
+use crate::places::place_of;
 ghost use mathlib.Core.Path.{_≡_};
-ghost use Prim.Native.Nat.{_≤_, _<_};
+ghost use Prim.Native.Nat.{_≤_};
 ghost use lib.ListN.{take};
-ghost use Rattle.colours.specs.Colouring.{lowestFree, placeOf};
-ghost use Rattle.colour_rows.specs.Turns.{PlaceArgs, FreeArgs, TurnArgs, TurnedTo};
+ghost use Rattle.colours.specs.Colouring.{lowestFree};
+ghost use Rattle.colour_rows.specs.Turns.{FreeArgs, TurnArgs, TurnedTo};
 
 // The states taken and the colours landed on; what stands past the number of colours means nothing.
 pub struct Turned {
     pub row: [u8; 16],
     pub lands: [u8; 16],
-}
-
-// The place of state q among the first c of a row; c where it is not there.
-fn place_in(row: [u8; 16], c: usize, q: u8) -> usize
-    requires { ⌜ PlaceArgs row c ⌝ }
-    ensures { λ r. ⌜ (r ≡ placeOf q (take c row)) × (r ≤ c) ⌝ }
-{
-    let mut i: usize = 0;
-    while i < c {
-        if row[i] == q {
-            return i;
-        }
-        i += 1;
-    }
-    c
 }
 
 // The lowest state that is not among the first c of a row, where all below k are.
@@ -33,7 +19,7 @@ fn free_from(row: [u8; 16], c: usize, k: usize) -> usize
 {
     let mut i = k;
     while i < c {
-        if place_in(row, c, i as u8) == c {
+        if place_of(&row[..c], i as u8) == c {
             return i;
         }
         i += 1;
@@ -52,7 +38,7 @@ pub fn take_in_turn(led: &[u8]) -> Turned
     let mut c: usize = 0;
     while c < led.len() {
         let q = led[c];
-        let p = place_in(row, c, q);
+        let p = place_of(&row[..c], q);
         free = free_from(row, c, free);
         let x = if p < c { free as u8 } else { q };
         row[c] = x;

@@ -1,4 +1,5 @@
 -- The loop over the nodes, from the root down: each node's copy from the one above it.
+--     first-elsewhere, past-elsewhere   where no landing stands
 --     above-is                   the row above a node is the copy above it
 --     led-is                     the states led to, as a list
 --     copies-start, copies-next  before the root, and one node more
@@ -24,9 +25,12 @@ use Rattle.colours.proofs.TurnLaws.{map-at, recolour-map, lands-map}
 use Rattle.colour_states.specs.Written.{Elsewhere, CopiesFrom}
 use Rattle.colour_states.specs.inner.Rows.{RowOf, aboveCell, AboveArgs, TurnArgs, Turned}
 
--- the first number of a row is no landing
-parent-elsewhere : (n k v : ℕ) → v < n → Elsewhere n k (v * 4)
-parent-elsewhere n k v h c w p l i e = omega (arith, stride (n * 4) 0 c p)
+-- no number of the first table is a landing, nor is any past the tables
+pub first-elsewhere : (n k j : ℕ) → j < n * 4 → Elsewhere n k j
+first-elsewhere n k j h c v p l i e = omega (arith, stride (n * 4) 0 c p)
+
+pub past-elsewhere : (n k j : ℕ) → k * (n * 4) ≤ j → Elsewhere n k j
+past-elsewhere n k j h c v p l i e = omega (arith, stride (n * 4) c k l)
 
 module _ (k : ℕ) (step : ℕ → ℕ → ℕ) (t : Tree) (base : ℕ) (keeps : (v q : ℕ) → q < k → step v q < k) where
   pub copies-start : (b m : List ℕ) → CopiesFrom k step t base (size t) b m b m
@@ -53,7 +57,7 @@ module _ (k : ℕ) (step : ℕ → ℕ → ℕ) (t : Tree) (base : ℕ) (keeps :
   module _ (e₀ m₀ : List ℕ) (parents : (v : ℕ) → v + 1 < size t → parentCell m₀ v ≡ parent t v)
       (v : ℕ) (b m : List ℕ) (F : CopiesFrom k step t base (v + 1) e₀ m₀ b m) (h : v < size t) where
     parent-is : v + 1 < size t → parentCell m v ≡ parent t v
-    parent-is l = F .kept (v * 4) (parent-elsewhere (size t) k v h) ∙ parents v l
+    parent-is l = F .kept (v * 4) (first-elsewhere (size t) k (v * 4) (omega arith)) ∙ parents v l
 
     pub above-is : (row : List ℕ) → RowOf k (aboveCell b m (size t) base k v) row → (c : ℕ) → c < k
         → getD row c 0 ≡ getD (copyAbove k step t v) c 0

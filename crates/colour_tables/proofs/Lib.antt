@@ -1,3 +1,4 @@
 pub mod BuiltLaws
 pub mod LayoutLaws
 pub mod RangeLaws
+pub mod InRange

@@ -2,6 +2,7 @@
 --     setStep-root           the root's own copy is the top copy
 --     set-walk               a state is in the set at w to which a set T at k places above leads exactly where the
 --                            climb's walk of k steps takes it into T
+--     try-uncoloured, try-lost, try-found, try-on   one trial, by what comes of it
 --     targets                trying target states in rising order up to it finds the walk's state, with few drops
 --     targets-sixty          at most 60 drops for up to four states
 -- Assumes nothing.
@@ -9,14 +10,14 @@ use Prim.Native.Nat.{ℕ, zero, suc, _+_, _-_, _*_, _^_, _≤_, _<_}
 use mathlib.Core.Path.{_≡_, refl, sym, ap, ap₂, _∙_, subst}
 use mathlib.Core.Bool.{Bool, true, false, cond}
 use mathlib.Core.List.{List, [], _∷_, _++_}
-use mathlib.Core.Option.{some}
+use mathlib.Core.Option.{Option, none, some}
 use native.Mathlib.Omega.{arith}
 use native.Mathlib.Nat.{le-refl, mul-le-mul-right}
 use native.Mathlib.Decide.{ℕ-discrete}
 use lib.Dec.{eqb}
 use lib.ListN.{length, getD, length-append}
 use lib.Pow.{pow-lt, pow-mono}
-use borrow.Author.Tests.{eq-eqb, ne-eqb}
+use borrow.Author.Tests.{eq-eqb, ne-eqb, lt-ltb, le-ltb}
 use Rattle.list_laws.specs.Tests.{holds}
 use Rattle.trees.specs.Tree.{Tree, size, height}
 use Rattle.trees.specs.Automaton.{Automaton}
@@ -29,10 +30,9 @@ use Rattle.trees.proofs.MapLaws.{stepUp-below}
 use Rattle.trees.proofs.TreeClimbs.{below-root}
 use Rattle.colours.specs.Colouring.{placeOf, Colouring}
 use Rattle.colours.specs.Copies.{copyIn, copy, stateDown, colourDown}
-use Rattle.colours.specs.Descents.{Descent, descent, descend}
-use Rattle.colours.specs.StateSets.{setOf, member, setStep, setCount, setTable, setColour, setAt, tried}
-use Rattle.colours.specs.StateSets.{afterTrial}
-use Rattle.colours.specs.StateSets.{tryFrom}
+use Rattle.colours.specs.Descents.{ColourTable, Descent, descent, descend}
+use Rattle.colours.specs.StateSets.{setOf, member, setStep, setCount, setTable, setCopies, targetColour, setAt}
+use Rattle.colours.specs.StateSets.{Tried, tried, afterTrial, tryOne, tryFrom}
 use Rattle.colours.proofs.ColouringLaws.{place-lt, place-at, has-colour}
 use Rattle.colours.proofs.CopyLaws.{copy-colouring}
 use Rattle.colours.proofs.PathLaws.{follow-state}
@@ -49,6 +49,28 @@ once f m a h = omega arith
 all-append : (b : ℕ) (xs ys : List ℕ) → AllLe b xs → AllLe b ys → AllLe b (xs ++ ys)
 all-append b [] ys h k = k
 all-append b (x ∷ xs) ys h k = (h .0, all-append b xs ys (h .1) k)
+
+-- ---- one trial on whatever table and copies
+
+module _ (T : ColourTable) (rows : ℕ → List ℕ) (c w q x : ℕ) (later : Option Tried) where
+  pub try-uncoloured : length (rows c) ≤ targetColour rows c x → tryOne T rows c w q x later ≡ none
+  unfolding tryOne
+  try-uncoloured h = rw (le-ltb (targetColour rows c x) (length (rows c)) h)
+
+  module _ (h : targetColour rows c x < length (rows c)) where
+    pub try-lost : descend T (targetColour rows c x) (some c) w (targetColour rows c x) ≡ none
+        → tryOne T rows c w q x later ≡ none
+    unfolding tryOne
+    try-lost g = rw (lt-ltb (targetColour rows c x) (length (rows c)) h, g)
+
+    module _ (d : Descent) (g : descend T (targetColour rows c x) (some c) w (targetColour rows c x) ≡ some d) where
+      pub try-found : member (setAt rows w d) q ≡ true → tryOne T rows c w q x later ≡ some (tried x (d .searches))
+      unfolding tryOne
+      try-found m = rw (lt-ltb (targetColour rows c x) (length (rows c)) h, g, m)
+
+      pub try-on : member (setAt rows w d) q ≡ false → tryOne T rows c w q x later ≡ afterTrial (d .searches) later
+      unfolding tryOne
+      try-on m = rw (lt-ltb (targetColour rows c x) (length (rows c)) h, g, m)
 
 module _ (A : Automaton) (t : Tree) where
   pub setStep-root : (v T : ℕ) → v + 1 ≡ size t → setStep A t v T ≡ T
@@ -97,13 +119,16 @@ module _ (A : Automaton) (t : Tree) where
 
       pub record Trial (x : ℕ) : Type 0 where
         pub way : Descent
-        pub found : descend (setTable A t) (setColour A t c x) (some c) w (setColour A t c x) ≡ some way
-        pub holds-it : member (setAt A t w way) q ≡ eqb (walk (stepUp A t) t w k q) x
+        pub has-it : targetColour (setCopies A t) c x < length (setCopies A t c)
+        pub found : descend (setTable A t) (targetColour (setCopies A t) c x) (some c) w (targetColour (setCopies A t)
+            c x) ≡ some way
+        pub holds-it : member (setAt (setCopies A t) w way) q ≡ eqb (walk (stepUp A t) t w k q) x
         pub falls : length (way .searches) ≤ setCount A - 1
         pub few : AllLe (3 * digits (height t)) (way .searches)
 
       -- the copy k places above w is c's
-      begins : copyIn (setCount A) (setStep A t) t (ancestor t w k) (suc (depth t w) - k) ≡ copy (setCount A) (setStep A t) t c
+      begins : copyIn (setCount A) (setStep A t) t (ancestor t w k) (suc (depth t w) - k)
+          ≡ copy (setCount A) (setStep A t) t c
       unfolding copy
       begins =
           let a : depth t c + k ≡ depth t w =
@@ -112,7 +137,6 @@ module _ (A : Automaton) (t : Tree) where
           ap₂ (λ (v j : ℕ). copyIn (setCount A) (setStep A t) t v j) e d
 
       pub trial : (x : ℕ) → x < A .states → Trial x
-      unfolding setColour setAt
       trial x hx =
           let n : ℕ = setCount A in
           let from : List ℕ = copy n (setStep A t) t c in
@@ -126,6 +150,7 @@ module _ (A : Automaton) (t : Tree) where
           let f : copyIn n (setStep A t) t (ancestor t w k) (suc (depth t w) - k) ≡ from = begins in
           record {
             way = descent (colourDown n (setStep A t) t w k j) (D .searches);
+            has-it = place-lt (2 ^ x) from i;
             found = D .found;
             holds-it =
                 ap (λ (y : ℕ). member y q)
@@ -139,34 +164,24 @@ module _ (A : Automaton) (t : Tree) where
 
       -- ---- all trials up to the one that finds it
 
-      try-found : (f x : ℕ) (d : Descent)
-          → descend (setTable A t) (setColour A t c x) (some c) w (setColour A t c x) ≡ some d
-          → member (setAt A t w d) q ≡ true → tryFrom A t c w q (suc f) x ≡ some (tried x (d .searches))
-      unfolding tryFrom
-      try-found f x d g m = rw (g, m)
-
-      try-on : (f x : ℕ) (d : Descent)
-          → descend (setTable A t) (setColour A t c x) (some c) w (setColour A t c x) ≡ some d
-          → member (setAt A t w d) q ≡ false
-          → tryFrom A t c w q (suc f) x ≡ afterTrial (d .searches) (tryFrom A t c w q f (suc x))
-      unfolding tryFrom
-      try-on f x d g m = rw (g, m)
-
       pub record Found (f x : ℕ) : Type 0 where
         pub searches : List ℕ
-        pub found : tryFrom A t c w q f x ≡ some (tried (walk (stepUp A t) t w k q) searches)
+        pub found : tryFrom (setTable A t) (setCopies A t) c w q f x ≡ some (tried (walk (stepUp A t) t w k q) searches)
         pub falls : length searches ≤ f * (setCount A - 1)
         pub few : AllLe (3 * digits (height t)) searches
 
       tries : (f x : ℕ) → x ≤ walk (stepUp A t) t w k q → walk (stepUp A t) t w k q < x + f → x + f ≤ A .states
           → Found f x
+      unfolding tryFrom
       tries zero x a g m = absurd (omega arith)
       tries (suc f) x a g m =
           let T : Trial x = trial x (omega arith) in
           elim (ℕ-discrete (walk (stepUp A t) t w k q) x) [
             | yes i ↦ record {
               searches = T .way .searches;
-              found = try-found f x (T .way) (T .found) (T .holds-it ∙ eq-eqb (walk (stepUp A t) t w k q) x i)
+              found = try-found (setTable A t) (setCopies A t) c w q x (tryFrom (setTable A t) (setCopies A t) c w q f
+                  (suc x))
+                  (T .has-it) (T .way) (T .found) (T .holds-it ∙ eq-eqb (walk (stepUp A t) t w k q) x i)
                   ∙ ap (λ (y : ℕ). some (tried y (T .way .searches))) (sym i);
               falls = once f (setCount A - 1) (length (T .way .searches)) (T .falls);
               few = T .few;
@@ -174,10 +189,13 @@ module _ (A : Automaton) (t : Tree) where
             | no i ↦ (let R : Found f (suc x) = tries f (suc x) (omega arith) (omega arith) (omega arith) in
                 record {
                   searches = T .way .searches ++ R .searches;
-                  found = try-on f x (T .way) (T .found) (T .holds-it ∙ ne-eqb (walk (stepUp A t) t w k q) x i)
+                  found = try-on (setTable A t) (setCopies A t) c w q x (tryFrom (setTable A t) (setCopies A t) c w q f
+                      (suc x))
+                      (T .has-it) (T .way) (T .found) (T .holds-it ∙ ne-eqb (walk (stepUp A t) t w k q) x i)
                       ∙ ap (afterTrial (T .way .searches)) (R .found);
                   falls = rw (length-append (T .way .searches) (R .searches))
-                      (more f (setCount A - 1) (length (T .way .searches)) (length (R .searches)) (T .falls) (R .falls));
+                      (more f (setCount A - 1) (length (T .way .searches)) (length (R .searches)) (T .falls) (R
+                      .falls));
                   few = all-append (3 * digits (height t)) (T .way .searches) (R .searches) (T .few) (R .few);
                 })
           ]

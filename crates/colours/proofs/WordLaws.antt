@@ -2,6 +2,7 @@
 --     stateDown-word   the steps down a path read its word
 --     upper-answer     with the upper node: the run on the word from u down to l
 --     below-answer     without it: the run on the labels below u
+--     upper-drops, below-drops   their drops are the places on the path where the colour falls
 -- Assumes nothing.
 use Prim.Native.Nat.{ℕ, zero, suc, _+_, _-_, _*_, _≤_, _<_}
 use mathlib.Core.Path.{_≡_, refl, sym, ap, ap₂, _∙_}
@@ -24,7 +25,7 @@ use Rattle.trees.proofs.IntervalLaws.{above-at}
 use Rattle.trees.proofs.BranchMapLaws.{wordRun-append}
 use Rattle.trees.proofs.JumpLaws.{ancestor-in}
 use Rattle.colours.specs.Colouring.{placeOf, Colouring}
-use Rattle.colours.specs.Copies.{copyIn, copy, copyAbove, stateDown, colourDown}
+use Rattle.colours.specs.Copies.{copyIn, copy, copyAbove, stateDown, colourDown, dropsDown}
 use Rattle.colours.specs.Descents.{Place, Descent, descent, drops, descend, colourTableOf}
 use Rattle.colours.specs.Words.{wordStep, aboveOf, colourAbove, colourHere, withUpper, belowUpper, wordState}
 use Rattle.colours.proofs.ColouringLaws.{place-lt, place-at, has-colour}
@@ -73,6 +74,14 @@ module _ (B : WordAutomaton) (t : Tree) (below : (q a : ℕ) → B .step q a < B
         falls = descent-drops n (wordStep B t) t keeps c z l k c D b;
         few = D .few;
       }
+
+  -- as many drops as there are places on those k where the colour falls
+  drops-are : (z : Place) (l k c : ℕ) → l < size t → c < n → Left t z l k → (d : Descent)
+      → descend (colourTableOf n (wordStep B t) t) c z l c ≡ some d → drops d ≡ dropsDown n (wordStep B t) t l k c
+  drops-are z l k c h b left d e =
+      let D : Descended n (wordStep B t) t c z l k c = descend-tree n (wordStep B t) t keeps c z l k c h b (le-refl _) left in
+      let i : d ≡ descent (colourDown n (wordStep B t) t l k c) (D .searches) = cc (e, D .found) in
+      ap drops i ∙ D .falls
 
   -- the colour of state 0 in a copy
   start : (from : List ℕ) → Colouring n from → (placeOf 0 from < n) × (getD from (placeOf 0 from) 0 ≡ 0)
@@ -124,3 +133,22 @@ module _ (B : WordAutomaton) (t : Tree) (below : (q a : ℕ) → B .step q a < B
         rw (add-one k)
         (answered (aboveOf t u) l (suc k) (placeOf 0 from) from hl (omega arith) (s .0) left-above
         (ap₂ (λ (v j : ℕ). copyIn n (wordStep B t) t v j) p d) (s .1))
+
+    -- ---- drops
+
+    pub below-drops : (d : Descent) → belowUpper B t u l ≡ some d
+        → drops d ≡ dropsDown (B .states) (wordStep B t) t l (depth t l - depth t u) (colourHere B t u)
+    unfolding belowUpper colourHere
+    below-drops d e =
+        let k : ℕ = depth t l - depth t u in
+        let from : List ℕ = copy n (wordStep B t) t u in
+        drops-are (some u) l k (placeOf 0 from) hl (start from (copy-colouring n (wordStep B t) t keeps u) .0)
+        (left-node t l k u hl (omega arith) (at .1)) d e
+
+    pub upper-drops : (d : Descent) → withUpper B t u l ≡ some d
+        → drops d ≡ dropsDown (B .states) (wordStep B t) t l (suc (depth t l - depth t u)) (colourAbove B t u)
+    unfolding withUpper colourAbove
+    upper-drops d e =
+        let from : List ℕ = copyAbove n (wordStep B t) t u in
+        drops-are (aboveOf t u) l (suc (depth t l - depth t u)) (placeOf 0 from) hl
+        (start from (copyAbove-colouring n (wordStep B t) t keeps u) .0) left-above d e

@@ -4,19 +4,21 @@
 -- member T k == whether state k is in the set numbered T
 -- setStep A t v T == the states at node v that lead into the set T at its parent; into the root's copy nothing
 --   changes, so the root's own copy is the top copy
--- setColour A t c x == the colour of the set {x} in the copy of node c
--- setAt A t w d == the set that a descent d to node w ends with
+-- targetColour rows c x == the colour of the set {x} in the copy of node c, where rows are the copies of the nodes
+-- setAt rows w d == the set that a descent d to node w ends with
 -- Tried == the target state that was found, and the links of each search of all trials
--- tryTargets A t c w q == the target states at node c in rising order, until the set that one leads down to at w
---   holds q; none (18) where a descent has none
+-- tryFrom T rows c w q f x == on whatever table and copies: the target states at node c from x on, f of them, until the
+--   set that one leads down to at w holds q; none (18) where no colour has the set {x}, a descent has none, or no set
+--   holds q
+-- tryTargets A t c w q == the same by the tree's own colours, all target states in rising order
 --
 -- Assumes nothing.
 use Prim.Native.Nat.{ℕ, zero, suc, _+_, _*_, _/_, _%_, _^_}
 use mathlib.Core.Bool.{Bool, cond}
 use mathlib.Core.List.{List, _++_}
 use mathlib.Core.Option.{Option, none, some}
-use lib.Dec.{eqb}
-use lib.ListN.{getD}
+use lib.Dec.{ltb, eqb}
+use lib.ListN.{length, getD}
 use Rattle.trees.specs.Tree.{Tree, size}
 use Rattle.trees.specs.Automaton.{Automaton}
 use Rattle.trees.specs.Climb.{andThen}
@@ -44,11 +46,14 @@ setCount A = 2 ^ A .states
 abbrev pub setTable : Automaton → Tree → ColourTable
 setTable A t = colourTableOf (setCount A) (setStep A t) t
 
-unfoldable pub setColour : Automaton → Tree → ℕ → ℕ → ℕ
-setColour A t c x = placeOf (2 ^ x) (copy (setCount A) (setStep A t) t c)
+abbrev pub setCopies : Automaton → Tree → ℕ → List ℕ
+setCopies A t = copy (setCount A) (setStep A t) t
 
-unfoldable pub setAt : Automaton → Tree → ℕ → Descent → ℕ
-setAt A t w d = getD (copy (setCount A) (setStep A t) t w) (d .colour) 0
+abbrev pub targetColour : (ℕ → List ℕ) → ℕ → ℕ → ℕ
+targetColour rows c x = placeOf (2 ^ x) (rows c)
+
+abbrev pub setAt : (ℕ → List ℕ) → ℕ → Descent → ℕ
+setAt rows w d = getD (rows w) (d .colour) 0
 
 pub record Tried : Type 0 where
   pub state : ℕ
@@ -61,14 +66,19 @@ abbrev pub afterTrial : List ℕ → Option Tried → Option Tried
 afterTrial ls none = none
 afterTrial ls (some r) = some (tried (r .state) (ls ++ r .searches))
 
+-- one trial, of target state x, with what comes after it
+unfoldable pub tryOne : ColourTable → (ℕ → List ℕ) → ℕ → ℕ → ℕ → ℕ → Option Tried → Option Tried
+tryOne T rows c w q x later =
+    cond (ltb (targetColour rows c x) (length (rows c)))
+    (andThen (descend T (targetColour rows c x) (some c) w (targetColour rows c x)) (λ d.
+    cond (member (setAt rows w d) q) (some (tried x (d .searches))) (afterTrial (d .searches) later)))
+    none
+
 -- from target state x on, f of them
-unfoldable pub tryFrom : Automaton → Tree → ℕ → ℕ → ℕ → ℕ → ℕ → Option Tried
-tryFrom A t c w q zero x = none
-tryFrom A t c w q (suc f) x =
-    let later = tryFrom A t c w q f (suc x) in
-    andThen (descend (setTable A t) (setColour A t c x) (some c) w (setColour A t c x)) (λ d.
-    cond (member (setAt A t w d) q) (some (tried x (d .searches))) (afterTrial (d .searches) later))
+unfoldable pub tryFrom : ColourTable → (ℕ → List ℕ) → ℕ → ℕ → ℕ → ℕ → ℕ → Option Tried
+tryFrom T rows c w q zero x = none
+tryFrom T rows c w q (suc f) x = tryOne T rows c w q x (tryFrom T rows c w q f (suc x))
 
 -- "the state its climb gives is found by trying target states in rising order up to it"
 unfoldable pub tryTargets : Automaton → Tree → ℕ → ℕ → ℕ → Option Tried
-tryTargets A t c w q = tryFrom A t c w q (A .states) 0
+tryTargets A t c w q = tryFrom (setTable A t) (setCopies A t) c w q (A .states) 0

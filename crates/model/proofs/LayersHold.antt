@@ -91,7 +91,7 @@ changed-below k ls (v ∷ vs) (c ∷ bs) h a b j = changed-below k (set ls v c) 
       ]
     ]
 
-states-small : (s : ℕ) (ps : List Part) → 0 < s → allBelow s (statesOf ps) ≡ true → (x : ℕ) → stateOf ps x < s
+pub states-small : (s : ℕ) (ps : List Part) → 0 < s → allBelow s (statesOf ps) ≡ true → (x : ℕ) → stateOf ps x < s
 unfolding allBelow stateOf
 states-small s [] h e x = h
 states-small s (p ∷ ps) h e x = go (ltb (p .state) s) refl e (states-small s ps h)
@@ -147,7 +147,7 @@ module _ (z : Sizes) (y : Inputs) (vs bs : List ℕ) (x : Inputs) (F : SettledIn
   unfolding statesBelow
   state-table-small j = allBelow-all (z .s) (usedStateTable z x) (F .below) s-pos j
 
-  reads : Reads (viewBy z x) (givenOf z y x vs bs)
+  pub reads : Reads (viewBy z x) (givenOf z y x vs bs)
   unfolding givenOf ruled
   reads = record {
     count = tree-size z y B;

@@ -33,7 +33,7 @@ pub fn last_below(node_table: &[u16], earlier: &[u16], c: usize) -> usize
 }
 
 // The label of node v as changed: the last entry of v in the list, else the plan's label.
-fn label_on(labels: &[u8], nodes: &[u16], changes: &[u8], v: usize) -> usize
+pub fn label_on(labels: &[u8], nodes: &[u16], changes: &[u8], v: usize) -> usize
     requires { ⌜ LabelArgs (now labels) (now nodes) (now changes) v ⌝ }
     ensures { λ r. ⌜ r
         ≡ getD (changed (now (labels .entry)) (now (nodes .entry)) (now (changes .entry))) v 0 ⌝ }

@@ -208,7 +208,7 @@ module _ (z : Sizes) (q : Question) (B : Built z (q .inputs)) where
     unfolding statesBelow
     sound-below = rw (stateTable, ← B .s-is) (table-below A inside-rules t)
 
-    given-run : RunGiven (givenBy z q (q .inputs)) u
+    pub given-run : RunGiven (givenBy z q (q .inputs)) u
     unfolding givenOf
     given-run = record {
       labels = sym u-labels;

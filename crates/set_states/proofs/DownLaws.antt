@@ -1,6 +1,7 @@
 -- One step down over sets of states.
 --     down-root, down-led   the row itself at the root, and the preimages below it
 --     image-args            what the preimages need
+--     setOf-ext             a set by its members
 -- Assumes nothing.
 use Prim.Native.Nat.{ℕ, zero, suc, _+_, _≤_, _<_}
 use mathlib.Core.Path.{_≡_, refl, sym, ap, _∙_}
@@ -18,7 +19,7 @@ use Rattle.set_steps.specs.Sets.{ImageArgs, LedBy}
 use Rattle.set_states.specs.Ups.{UpsTo}
 use Rattle.set_states.specs.Down.{downSet, DownArgs}
 
-setOf-ext : (n : ℕ) (p q : ℕ → Bool) → ((x : ℕ) → x < n → p x ≡ q x) → setOf n p ≡ setOf n q
+pub setOf-ext : (n : ℕ) (p q : ℕ → Bool) → ((x : ℕ) → x < n → p x ≡ q x) → setOf n p ≡ setOf n q
 unfolding setOf
 setOf-ext zero p q e = refl
 setOf-ext (suc n) p q e = rw (e n (omega arith), setOf-ext n p q (λ x h. e x (omega arith)))

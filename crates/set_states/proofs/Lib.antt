@@ -1,2 +1,4 @@
 pub mod UpLaws
 pub mod DownLaws
+pub mod StepLaws
+pub mod SetLoop

@@ -1,2 +1,3 @@
 pub mod Ups
 pub mod Down
+pub mod SetPass

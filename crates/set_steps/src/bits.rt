@@ -7,7 +7,7 @@ ghost use Rattle.colours.specs.StateSets.{setOf, member};
 ghost use Rattle.set_steps.specs.Sets.{JoinArgs, ImageArgs};
 
 // 1 where state k is in the set t, else 0.
-fn bit_of(t: u8, k: u8) -> u8
+pub fn bit_of(t: u8, k: u8) -> u8
     requires { ⌜ k < 8 ⌝ }
     ensures { λ r. ⌜ (r ≡ bit (member t k)) × (r < 2) ⌝ }
 {

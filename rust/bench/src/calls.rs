@@ -3,7 +3,7 @@
 use crate::cases::{list, List, SHAPES};
 use crate::sessions::One;
 use crate::tables::{pair, Mine, Other};
-use crate::{choices, planner, rule_tables};
+use crate::{choices, colours, planner, rule_tables};
 use compare::inputs::Case;
 use compare::random::Random;
 use reference::tree::Tree;
@@ -28,6 +28,7 @@ pub fn make(shape: &str, [n, s, m]: [usize; 3]) {
     branch_questions(one.case, random);
     rule_tables::calls(random);
     planner::calls(random);
+    colours::calls();
 }
 
 /// Loads, branch builds and their full checks, into buffers of each side.

@@ -9,6 +9,7 @@
 mod calls;
 mod cases;
 mod choices;
+mod colours;
 #[cfg(feature = "probes")]
 mod in_place;
 mod measure;
@@ -35,6 +36,9 @@ const USAGE: &str = "usage: bench                      the whole table, in some 
        bench screens KIND SHAPE N S M
                                   nothing but 4 times all advances or all deals of eight questions, load or
                                   load-of-eight, by KIND: advance, deal, ..; for the same
+       bench descents DEPTH S FALLS
+                                  nothing but branch questions by colours and by the climb, on a comb of this depth, under a
+                                  table whose colours fall often, seldom or never; bench/colours counts their instructions
        bench in-place --seed S --count C
                                   nothing is measured: C cases of calls in place against the same calls on record bytes
        bench --help
@@ -55,6 +59,7 @@ fn main() {
             let numbers = [n, s, m].map(|number| number.parse().unwrap_or_else(|_| usage()));
             screens::calls(kind, shape, numbers).unwrap_or_else(|| usage())
         }
+        ["descents", depth, s, falls] => descents([depth, s].map(|word| word.parse().ok()), falls),
         #[cfg(feature = "probes")]
         ["in-place", "--seed", seed, "--count", count] => {
             let [seed, count] = [seed, count].map(|number| number.parse().unwrap_or_else(|_| usage()));
@@ -66,6 +71,18 @@ fn main() {
         ["--help"] => println!("{}", USAGE),
         _ => usage(),
     }
+}
+
+/// Prints how many questions there were, their drops and links, and the links of the climbs.
+fn descents(numbers: [Option<usize>; 2], falls: &str) {
+    const QUESTIONS: usize = 500;
+    let made = match (numbers, colours::Falls::named(falls)) {
+        ([Some(depth @ 1..=32_767), Some(s @ 1..=16)], Some(falls)) => {
+            colours::Branches::new(compare::shapes::Shape::LeftComb, depth + 1, s, falls, QUESTIONS).once()
+        }
+        _ => usage(),
+    };
+    println!("{}", made.map(|number| number.to_string()).join(" "));
 }
 
 fn usage() -> ! {
@@ -85,14 +102,15 @@ fn rows(wanted: &str, mut measured: impl FnMut(&Row)) -> Vec<Row> {
     table::in_order(rows)
 }
 
-/// What is measured without a question: counts of choices, on rule tables alone, on planner's files; and eight screens
-/// beside single sessions.
+/// What is measured without a question: counts of choices, on rule tables alone, on planner's files; eight screens beside
+/// single sessions; and by colours.
 fn singles(wanted: &str) -> Vec<Single> {
     let mut singles = Vec::new();
     choices::singles(wanted, &mut |single| singles.push(single));
     rule_tables::singles(wanted, &mut |single| singles.push(single));
     planner::singles(wanted, &mut |single| singles.push(single));
     screens::singles(wanted, &mut |single| singles.push(single));
+    colours::singles(wanted, &mut |single| singles.push(single));
     singles
 }
 

@@ -181,8 +181,8 @@ fn without_climb(rows: &[Row]) -> String {
     format!("\nAn advance through bytes that does not climb takes {}, at most {} (goal: 500 ns).\n", median, greatest)
 }
 
-/// A work that is not in the table by shapes: on what, the greatest ratio that is wanted, nanoseconds of a call of library
-/// and plain; of two calls of the library, as the name has them.
+/// A work that is not in the table by shapes: on what, the greatest ratio that is wanted (infinite where none is), nanoseconds
+/// of a call of library and plain; of two calls of the library, as the name has them.
 pub struct Single {
     pub work: &'static str,
     pub on: &'static str,
@@ -201,12 +201,9 @@ pub fn singles(singles: &[Single]) -> String {
         let bold = if ratio > *goal { "**" } else { "" };
         let times = (short(*library), short(*plain));
         let places = if (goal * 10.0).fract() < 0.01 { 1 } else { 2 };
-        writeln!(
-            out,
-            "| {} | {} | {:.*} | {}{:.2}{} | {} | {} |",
-            work, on, places, goal, bold, ratio, bold, times.0, times.1
-        )
-        .unwrap();
+        let goal = if goal.is_finite() { format!("{:.*}", places, goal) } else { "-".to_string() };
+        writeln!(out, "| {} | {} | {} | {}{:.2}{} | {} | {} |", work, on, goal, bold, ratio, bold, times.0, times.1)
+            .unwrap();
     }
     out
 }

@@ -20,6 +20,7 @@ fn other_words() {
         &["calls", "random", "many", "2", "0"],
         &["only"],
         &["screens", "deals", "random", "15", "2", "0"],
+        &["descents", "9", "17", "often"],
     ] {
         let done = bench(words);
         assert_eq!((done.status.code(), done.stdout.len()), (Some(2), 0), "{:?}", words);

@@ -10,7 +10,7 @@ use reference::mistakes::{making, Mistake};
 const SEEDS: std::ops::Range<u64> = 1..201;
 
 /// A mistake, and the rounds that must notice it.
-const NOTICED: [(Mistake, &[&str]); 71] = [
+const NOTICED: [(Mistake, &[&str]); 79] = [
     (Mistake::ChildrenExchanged, &["builds", "fresh runs", "questions", "other bytes", "call lists"]),
     (Mistake::SiblingFromOldRun, &["questions", "other bytes", "damaged lends", "call lists"]),
     (Mistake::ClimbToTheRoot, &["questions", "other bytes", "damaged lends", "call lists"]),
@@ -85,6 +85,14 @@ const NOTICED: [(Mistake, &[&str]); 71] = [
     (Mistake::ScreenCut, &["screen lists", "screen refusals"]),
     (Mistake::StateBeforeScreen, &["screen lists", "screen refusals"]),
     (Mistake::LongerRun, &["screen lists", "screen refusals"]),
+    (Mistake::FreeOfAll, &["colours of words", "colours of sets"]),
+    (Mistake::LastDropFree, &["colours of words"]),
+    (Mistake::DepthsWithTheNode, &["colours of words", "colours of sets"]),
+    (Mistake::CopyAbove, &["colours of words"]),
+    (Mistake::FailedTrialFree, &["colours of sets"]),
+    (Mistake::TargetsFalling, &["colours of sets"]),
+    (Mistake::PreimageOfTheOtherSide, &["colours of sets"]),
+    (Mistake::StatesAfterLabels, &["colours of sets"]),
 ];
 
 /// The first difference in the rounds of a kind, and its seed.

@@ -63,7 +63,7 @@ pub fn checks(lends: &Lends, nodes: &[u16]) -> Result<Sizes, u32> {
 }
 
 /// "N, S and K from the lent headers: 17, also for a header cut short or a number outside its limits".
-fn named(lends: &Lends) -> Option<Sizes> {
+pub fn named(lends: &Lends) -> Option<Sizes> {
     if lends.plan.len() < 12 || lends.rules.len() < 20 {
         return None;
     }

@@ -7,7 +7,8 @@
 //! rule for a part, on a tree), `count` (how many choices end in each state), `lent` (parts on lent tables, whatever they
 //! hold); `panel` (the session's calls and
 //! answers), `record` (its record as bytes), `session` (the five calls), `causes` (what 18 is given for), `book` (the
-//! panel book), `screens` (eight of both).
+//! panel book), `screens` (eight of both); `colours` (document 02's colours, by the path and on lent tables), `colour_branch` (branch questions by
+//! them), `colour_rules` (questions by them, over sets of states).
 //! The calls without a session are in this file. `mistakes` is for a test of the comparison; it does nothing else.
 //! A refusal is its number. Nothing here is fast, and nothing is shared with the library.
 
@@ -16,6 +17,9 @@ pub mod book;
 pub mod branch;
 pub mod causes;
 pub mod climb;
+pub mod colour_branch;
+pub mod colour_rules;
+pub mod colours;
 pub mod count;
 pub mod formats;
 pub mod fresh;

@@ -147,6 +147,22 @@ pub enum Mistake {
     StateBeforeScreen,
     /// A run that is one byte longer is taken.
     LongerRun,
+    /// A colour whose state is taken gets the lowest state that no colour leads to, not the lowest that no lower one has.
+    FreeOfAll,
+    /// The last drop on a path is told as none.
+    LastDropFree,
+    /// The depth among the nodes where a colour falls counts the node itself.
+    DepthsWithTheNode,
+    /// The word from below the upper node begins in the copy above it.
+    CopyAbove,
+    /// The drops of a target state that is not the one are left out.
+    FailedTrialFree,
+    /// Target states are tried in falling order.
+    TargetsFalling,
+    /// A step down goes by the side of the other child.
+    PreimageOfTheOtherSide,
+    /// 27 is put after 10.
+    StatesAfterLabels,
 }
 
 thread_local! {

@@ -9,9 +9,9 @@ use whatif::sizes::{node_table_len, state_table_len, MAX_NODES, MAX_STATES};
 use whatif::{BranchVerdict, Refusal};
 
 /// Of a longer path the first and the last nodes are told.
-const NODES: usize = 12;
-const FIRST: usize = 6;
-const LAST: usize = 4;
+pub(crate) const NODES: usize = 12;
+pub(crate) const FIRST: usize = 6;
+pub(crate) const LAST: usize = 4;
 
 const HEAD: &str = "\
 // The path from the upper node down to the lower, with the state after each label that is read.
@@ -21,8 +21,8 @@ digraph branch {
     node [shape=ellipse, style=filled, fillcolor=\"#ffffff\", fontname=\"sans-serif\", margin=\"0.05,0.03\"];
     edge [dir=none, fontname=\"sans-serif\"];
 ";
-const YES: &str = "#9ed89e";
-const NO: &str = "#f2a0a0";
+pub(crate) const YES: &str = "#9ed89e";
+pub(crate) const NO: &str = "#f2a0a0";
 
 /// Which word is read: whether the upper node's label is its first letter.
 #[derive(Clone, Copy, PartialEq, Eq)]
@@ -33,12 +33,12 @@ pub enum Reading {
 
 /// A branch question that was answered: its nodes from the upper down, and the state after each letter.
 pub struct Asked {
-    reading: Reading,
-    verdict: BranchVerdict,
-    path: Vec<usize>,
-    labels: Vec<u8>,
+    pub(crate) reading: Reading,
+    pub(crate) verdict: BranchVerdict,
+    pub(crate) path: Vec<usize>,
+    pub(crate) labels: Vec<u8>,
     /// After each node's label; none for an upper node that is not read.
-    states: Vec<Option<u8>>,
+    pub(crate) states: Vec<Option<u8>>,
 }
 
 /// By the library; the states on the way are worked out here and held to its answer.
@@ -79,12 +79,16 @@ fn along(table: &[u8], labels: &[u8], reading: Reading) -> Vec<Option<u8>> {
 
 impl Asked {
     fn sentence(&self) -> String {
+        let BranchVerdict { links, passed, .. } = self.verdict;
+        format!("{}, {}", self.found(), climbed(links, passed))
+    }
+
+    /// The question, and its state and verdict.
+    pub(crate) fn found(&self) -> String {
         let from = if self.reading == Reading::WithUpper { "from" } else { "from below" };
         let (upper, lower) = (self.path[0], self.path[self.path.len() - 1]);
         let yes = if self.verdict.yes { "yes" } else { "no" };
-        let BranchVerdict { state, links, passed, .. } = self.verdict;
-        let told = format!("{}, state {}, {}", yes, state, climbed(links, passed));
-        format!("{} node {} down to node {}: {}", from, upper, lower, told)
+        format!("{} node {} down to node {}: {}, state {}", from, upper, lower, yes, self.verdict.state)
     }
 
     /// The places on the path that are told, and how many are left out after the first of them.

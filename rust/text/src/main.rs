@@ -24,6 +24,11 @@ INPUT is text or the bytes that the program whatif reads, a plan of up to 65,535
                             all: every step, dot: the path as a picture (Graphviz)
   branch-with-upper FILE UPPER LOWER [all|dot]
                             the same with the upper node's label as the first letter
+  colours FILE UPPER LOWER [all|dot]
+                            branch by colours: the colour at each node of the path, with the drops marked; all: every
+                            node, dot: the path as a picture (Graphviz)
+  colours-with-upper FILE UPPER LOWER [all|dot]
+                            the same with the upper node's label as the first letter
   session SCRIPT-FILE       a script of the lines load, start NODE->LABEL .., advance [TIMES|all], cancel, read
   screens SCRIPT-FILE       the same of eight screens on one mill: load, start SCREEN NODE->LABEL .., deal [TIMES|all],
                             cancel SCREEN, read SCREEN
@@ -90,6 +95,9 @@ fn made(words: &[&str]) -> Result<Made, Failure> {
         [verb @ ("branch" | "branch-with-upper"), table, upper, lower, rest @ ..] if rest.len() < 2 => {
             branch(verb, table, [upper, lower], rest)
         }
+        [verb @ ("colours" | "colours-with-upper"), table, upper, lower, rest @ ..] if rest.len() < 2 => {
+            colours(verb, table, [upper, lower], rest)
+        }
         ["session", script] => {
             let script = as_text(file(script)?).map_err(|what| of_file(script, what))?;
             text::script::run(&input()?, &script)
@@ -138,6 +146,22 @@ fn branch(verb: &str, table: &str, nodes: [&str; 2], rest: &[&str]) -> Result<Ma
         _ => usage(),
     };
     let reading = if verb == "branch" { Reading::BelowUpper } else { Reading::WithUpper };
+    let bytes = text::branch_table::of(&file(table)?).map_err(|what| of_file(table, what))?;
+    let nodes = [a_number(nodes[0], "a node")?, a_number(nodes[1], "a node")?];
+    Ok(Made::answered(shown(&ask(&input()?, &bytes, nodes, reading)?)))
+}
+
+/// The same by colours.
+fn colours(verb: &str, table: &str, nodes: [&str; 2], rest: &[&str]) -> Result<Made, Failure> {
+    use text::branch::Reading;
+    use text::colours::{ask, Coloured};
+    let shown: fn(&Coloured) -> String = match rest {
+        [] => |asked| asked.text(false),
+        ["all"] => |asked| asked.text(true),
+        ["dot"] => |asked| asked.picture(),
+        _ => usage(),
+    };
+    let reading = if verb == "colours" { Reading::BelowUpper } else { Reading::WithUpper };
     let bytes = text::branch_table::of(&file(table)?).map_err(|what| of_file(table, what))?;
     let nodes = [a_number(nodes[0], "a node")?, a_number(nodes[1], "a node")?];
     Ok(Made::answered(shown(&ask(&input()?, &bytes, nodes, reading)?)))

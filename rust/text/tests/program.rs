@@ -61,7 +61,7 @@ fn the_page() {
     let help = String::from_utf8(program(&["--help"], "/dev/null", Stdio::piped()).stdout).expect("text");
     let verbs: Vec<&str> =
         help.lines().filter_map(|line| line.strip_prefix("  ")).filter(|l| !l.starts_with(' ')).collect();
-    assert_eq!(verbs.len(), 20, "{}", help);
+    assert_eq!(verbs.len(), 22, "{}", help);
     for verb in verbs {
         let verb = verb.split([' ', ',']).next().unwrap();
         assert!(page.contains(&format!("`{}", verb)), "{}", verb);
@@ -70,9 +70,11 @@ fn the_page() {
     let shown: Vec<&str> = page.lines().filter_map(|line| line.strip_prefix("    question ")).collect();
     assert_eq!(shown.len(), 3);
     assert!(shown.iter().all(|line| answers.contains(&format!("question {}\n", line))), "{:?}", shown);
-    let counted = include_str!("stored/count-0-2").trim_end_matches("status 0\n");
-    let shown: Vec<String> = counted.lines().map(|line| format!("    {}", line).trim_end().to_string()).collect();
-    assert!(page.contains(&shown.join("\n")), "{:?}", shown);
+    for stored in [include_str!("stored/count-0-2"), include_str!("stored/colours-6-4")] {
+        let told = stored.trim_end_matches("status 0\n");
+        let shown: Vec<String> = told.lines().map(|line| format!("    {}", line).trim_end().to_string()).collect();
+        assert!(page.contains(&shown.join("\n")), "{:?}", shown);
+    }
     let dealt: Vec<String> = include_str!("stored/screens").lines().map(|line| format!("    {}", line)).collect();
     assert!(page.contains(&dealt[2..8].join("\n")), "{:?}", &dealt[2..8]);
 }

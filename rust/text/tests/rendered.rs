@@ -84,6 +84,28 @@ fn paths() {
     }
 }
 
+/// So is the path by colours, with every drop.
+#[test]
+fn paths_by_colours() {
+    let words: Vec<&str> = "--nodes 65535 --shape comb --labels 2".split(' ').collect();
+    let comb = Input::of_text(&text::random::text(&words).unwrap().unwrap()).unwrap();
+    let table = text::branch_table::of(include_bytes!("../../../examples/colours.txt")).unwrap();
+    for nodes in [[65_534, 0], [65_534, 65_534], [300, 0], [8, 2]] {
+        for reading in [text::branch::Reading::BelowUpper, text::branch::Reading::WithUpper] {
+            let asked = text::colours::ask(&comb, &table, nodes, reading).unwrap();
+            let graphviz = asked.picture();
+            let drops = asked.text(false).matches("a drop from colour").count();
+            assert_eq!(graphviz.matches("drop \"]").count(), drops);
+            if let Some(svg) = svg(&graphviz) {
+                let [width, height] = size(&svg);
+                assert!(width <= 7.5 * 72.0 + 1.0 && height <= 10.5 * 72.0 + 1.0, "{} {}", width, height);
+                let above = graphviz.matches("    above [label").count();
+                assert_eq!(svg.matches("<g id=\"node").count(), titles(&graphviz).len() + above);
+            }
+        }
+    }
+}
+
 /// docs/outline.svg is the picture of the arch's first question.
 #[test]
 fn the_readme_s_picture() {

@@ -12,6 +12,7 @@ const SAMPLE: &str = include_str!("../../../examples/sample.txt");
 const SCRIPT: &str = concat!(env!("CARGO_MANIFEST_DIR"), "/../../examples/session.txt");
 const SCREENS: &str = concat!(env!("CARGO_MANIFEST_DIR"), "/../../examples/screens.txt");
 const TABLE: &str = concat!(env!("CARGO_MANIFEST_DIR"), "/../../examples/branch.txt");
+const COLOURS: &str = concat!(env!("CARGO_MANIFEST_DIR"), "/../../examples/colours.txt");
 
 /// With the sample of 01, as text and as bytes, with random plans, and with what is wrong or refused.
 #[test]
@@ -69,6 +70,23 @@ fn branch_questions() {
     holds("refused-branch-label", &["branch", TABLE, "14", "0"], &four);
     assert_eq!(run(&["branch", TABLE, "6", "4", "drawn"], SAMPLE.as_bytes()).status.code(), Some(2));
     assert_eq!(run(&["branch", SCRIPT, "6", "4"], SAMPLE.as_bytes()).status.code(), Some(1), "no branch table");
+}
+
+/// By colours: drops on short and long paths, one at the upper node, none, and what is refused.
+#[test]
+fn branch_questions_by_colours() {
+    holds("colours-6-4", &["colours", TABLE, "6", "4"], SAMPLE);
+    holds("colours-with-upper-6-4", &["colours-with-upper", COLOURS, "6", "4"], SAMPLE);
+    holds("colours-6-6", &["colours", TABLE, "6", "6"], SAMPLE);
+    let comb = random(&["--nodes", "121", "--shape", "comb", "--labels", "2", "--seed", "1"]);
+    holds("colours-comb", &["colours", COLOURS, "94", "0"], &comb);
+    holds("colours-comb-all", &["colours-with-upper", COLOURS, "92", "0", "all"], &comb);
+    holds("colours-comb-dot", &["colours", COLOURS, "94", "0", "dot"], &comb);
+    holds("colours-first-dot", &["colours-with-upper", COLOURS, "92", "80", "dot"], &comb);
+    holds("refused-colours", &["colours", TABLE, "2", "5"], SAMPLE);
+    holds("refused-colours-node", &["colours", TABLE, "7", "5"], SAMPLE);
+    assert_eq!(run(&["colours", TABLE, "6", "4", "drawn"], SAMPLE.as_bytes()).status.code(), Some(2));
+    assert_eq!(run(&["colours", SCRIPT, "6", "4"], SAMPLE.as_bytes()).status.code(), Some(1), "no branch table");
 }
 
 #[test]

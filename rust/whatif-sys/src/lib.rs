@@ -315,3 +315,94 @@ extern "C" {
         passed: *mut u32,
     ) -> u32;
 }
+
+extern "C" {
+    /// Writes the colour tables of a plan and a branch table.
+    pub fn whatif_colour_branch_build(
+        plan: *const u8,
+        plan_len: usize,
+        branch: *const u8,
+        branch_len: usize,
+        colour_numbers: *mut u16,
+        colour_numbers_len: usize,
+        colour_bytes: *mut u8,
+        colour_bytes_len: usize,
+    ) -> u32;
+
+    /// The branch question by colours: the word from below `upper` down to `lower`.
+    pub fn whatif_colour_branch(
+        plan: *const u8,
+        plan_len: usize,
+        branch: *const u8,
+        branch_len: usize,
+        node_table: *const u16,
+        node_table_len: usize,
+        colour_numbers: *const u16,
+        colour_numbers_len: usize,
+        colour_bytes: *const u8,
+        colour_bytes_len: usize,
+        upper: u32,
+        lower: u32,
+        state: *mut u32,
+        yes: *mut u32,
+        drops: *mut u32,
+        links: *mut u32,
+    ) -> u32;
+
+    /// The same with the upper node's label: the word from `upper` down to `lower`, both included.
+    pub fn whatif_colour_branch_with_upper(
+        plan: *const u8,
+        plan_len: usize,
+        branch: *const u8,
+        branch_len: usize,
+        node_table: *const u16,
+        node_table_len: usize,
+        colour_numbers: *const u16,
+        colour_numbers_len: usize,
+        colour_bytes: *const u8,
+        colour_bytes_len: usize,
+        upper: u32,
+        lower: u32,
+        state: *mut u32,
+        yes: *mut u32,
+        drops: *mut u32,
+        links: *mut u32,
+    ) -> u32;
+
+    /// Writes the colour tables of a plan and a rule table of at most four states.
+    pub fn whatif_colour_build(
+        plan: *const u8,
+        plan_len: usize,
+        rules: *const u8,
+        rules_len: usize,
+        colour_numbers: *mut u16,
+        colour_numbers_len: usize,
+        colour_bytes: *mut u8,
+        colour_bytes_len: usize,
+    ) -> u32;
+
+    /// The question by colours.
+    pub fn whatif_colour_ask(
+        plan: *const u8,
+        plan_len: usize,
+        rules: *const u8,
+        rules_len: usize,
+        node_table: *const u16,
+        node_table_len: usize,
+        state_table: *const u8,
+        state_table_len: usize,
+        colour_numbers: *const u16,
+        colour_numbers_len: usize,
+        colour_bytes: *const u8,
+        colour_bytes_len: usize,
+        nodes: *const u16,
+        nodes_len: usize,
+        labels: *const u8,
+        labels_len: usize,
+        state: *mut u32,
+        yes: *mut u32,
+        drops: *mut u32,
+        links: *mut u32,
+        parts: *mut u32,
+    ) -> u32;
+}

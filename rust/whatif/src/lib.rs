@@ -6,7 +6,8 @@
 //!
 //! Order: `sizes` (limits and lengths), `Refusal`, the calls on tables, how many choices end in each state (`count`),
 //! the calls on two rule tables (`merge`, `agree`), those on the planner's files (`plan_of_planner`, `planner_of_plan`), on two lists (`lay_over`), `Session`, the panel
-//! session, with `Lent`; `Screens`, eight of them on one mill.
+//! session, with `Lent`; `Screens`, eight of them on one mill; questions by colours (`colour_branch_build`, `colour_branch`,
+//! `colour_build`, `colour_ask`; `BranchColours` and `RuleColours` own their tables).
 //! The crate `whatif-sys` has the library's own functions. Without the feature `std` this crate needs `core` alone.
 //!
 //! The sample of document 01: plan A of seven nodes, and table A, under which label 0 takes the greater state of two
@@ -46,6 +47,7 @@
 extern crate std;
 
 mod agree;
+mod colours;
 mod count;
 mod planner;
 mod refusal;
@@ -56,6 +58,10 @@ pub mod sizes;
 pub mod slices;
 
 pub use agree::{agree, Line, SeparatingPlan};
+pub use colours::{colour_ask, colour_build, ColourAnswer};
+pub use colours::{colour_branch, colour_branch_build, colour_branch_with_upper, ColourVerdict};
+#[cfg(feature = "std")]
+pub use colours::{BranchColours, RuleColours};
 pub use count::{count, Counts};
 pub use planner::{plan_of_planner, planner_of_plan};
 pub use refusal::Refusal;
@@ -66,7 +72,7 @@ pub use session::{Answer, Lent, Progress, Session, State};
 pub const VERSION: &str = env!("CARGO_PKG_VERSION");
 
 /// This crate's version, as major * 10000 + minor * 100 + patch: that of the archive it is made for.
-pub const VERSION_NUMBER: u32 = 800;
+pub const VERSION_NUMBER: u32 = 900;
 
 /// The version of the archive that is linked.
 ///

@@ -79,6 +79,7 @@ refusals! {
     StateProduct = 24, "The product of the two rule tables' counts of states is above 16.";
     Screen = 25, "A screen's number or the one to try first is above 7, or the run is not as long as eight records.";
     Assignments = 26, "There are more than 10^18 assignments of labels to the nodes listed.";
+    ColourStates = 27, "The rule table has more than 4 states, too many for colours.";
 }
 
 impl fmt::Display for Refusal {

@@ -16,6 +16,8 @@ pub const MAX_LINES: usize = 256;
 pub const MAX_ASSIGNMENTS: usize = 1_000_000_000_000_000_000;
 /// The greatest depth of a node, root 0. It follows from the limit on nodes.
 pub const MAX_DEPTH: usize = 32_767;
+/// The most states of a rule table by colours.
+pub const MAX_COLOUR_STATES: usize = 4;
 /// The most nodes of a planner's file: its plan has twice as many and one.
 pub const MAX_PLANNER_NODES: usize = 32_767;
 
@@ -62,4 +64,24 @@ pub const fn planner_bytes(n: usize) -> usize {
 /// Bytes of the plan of a planner's file of `n` nodes: it has 2n+1.
 pub const fn planner_plan_bytes(n: usize) -> usize {
     14 + 4 * n
+}
+
+/// 16-bit numbers of the colour tables for `n` nodes and a branch table of `s` states.
+pub const fn colour_branch_numbers(n: usize, s: usize) -> usize {
+    4 * n * s
+}
+
+/// Bytes of the colour tables for `n` nodes and a branch table of `s` states.
+pub const fn colour_branch_bytes(n: usize, s: usize) -> usize {
+    n * s
+}
+
+/// 16-bit numbers of the colour tables for `n` nodes and a rule table of `s` states, at most 4.
+pub const fn colour_numbers(n: usize, s: usize) -> usize {
+    (4 * n) << s
+}
+
+/// Bytes of the colour tables for `n` nodes and a rule table of `s` states, at most 4.
+pub const fn colour_bytes(n: usize, s: usize) -> usize {
+    n * (s + 1) + (n << s)
 }

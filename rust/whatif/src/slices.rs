@@ -35,7 +35,7 @@ pub fn branch_build(plan: &[u8], branch: &[u8], node_table: &mut [u16], state_ta
 }
 
 fn build_by(build: Build, plan: &[u8], table: &[u8], node_table: &mut [u16], state_table: &mut [u8]) -> u32 {
-    // SAFETY: one of the two above; each pointer comes with its own slice's count, and the borrows keep the buffers apart
+    // SAFETY: one of the builds; each pointer comes with its own slice's count, and the borrows keep the buffers apart
     unsafe {
         build(
             plan.as_ptr(),
@@ -250,6 +250,148 @@ pub fn lay_over(
             labels.as_mut_ptr(),
             labels.len(),
             count,
+        )
+    }
+}
+
+type ColourBranch = unsafe extern "C" fn(
+    *const u8,
+    usize,
+    *const u8,
+    usize,
+    *const u16,
+    usize,
+    *const u16,
+    usize,
+    *const u8,
+    usize,
+    u32,
+    u32,
+    *mut u32,
+    *mut u32,
+    *mut u32,
+    *mut u32,
+) -> u32;
+
+pub fn colour_branch_build(plan: &[u8], branch: &[u8], numbers: &mut [u16], bytes: &mut [u8]) -> u32 {
+    build_by(raw::whatif_colour_branch_build, plan, branch, numbers, bytes)
+}
+
+/// Tells state, yes, drops and links.
+#[inline]
+pub fn colour_branch(
+    plan: &[u8],
+    branch: &[u8],
+    node_table: &[u16],
+    numbers: &[u16],
+    bytes: &[u8],
+    [upper, lower]: [u32; 2],
+    told: &mut [u32; 4],
+) -> u32 {
+    colour_branch_by(raw::whatif_colour_branch, plan, branch, node_table, numbers, bytes, [upper, lower], told)
+}
+
+/// The same with the upper node's label.
+#[inline]
+pub fn colour_branch_with_upper(
+    plan: &[u8],
+    branch: &[u8],
+    node_table: &[u16],
+    numbers: &[u16],
+    bytes: &[u8],
+    [upper, lower]: [u32; 2],
+    told: &mut [u32; 4],
+) -> u32 {
+    colour_branch_by(
+        raw::whatif_colour_branch_with_upper,
+        plan,
+        branch,
+        node_table,
+        numbers,
+        bytes,
+        [upper, lower],
+        told,
+    )
+}
+
+#[inline(always)]
+#[allow(clippy::too_many_arguments)] // those of the call
+fn colour_branch_by(
+    ask: ColourBranch,
+    plan: &[u8],
+    branch: &[u8],
+    node_table: &[u16],
+    numbers: &[u16],
+    bytes: &[u8],
+    [upper, lower]: [u32; 2],
+    told: &mut [u32; 4],
+) -> u32 {
+    let [state, yes, drops, links] = told;
+    // SAFETY: as in `build_by`
+    unsafe {
+        ask(
+            plan.as_ptr(),
+            plan.len(),
+            branch.as_ptr(),
+            branch.len(),
+            node_table.as_ptr(),
+            node_table.len(),
+            numbers.as_ptr(),
+            numbers.len(),
+            bytes.as_ptr(),
+            bytes.len(),
+            upper,
+            lower,
+            state,
+            yes,
+            drops,
+            links,
+        )
+    }
+}
+
+pub fn colour_build(plan: &[u8], rules: &[u8], numbers: &mut [u16], bytes: &mut [u8]) -> u32 {
+    build_by(raw::whatif_colour_build, plan, rules, numbers, bytes)
+}
+
+/// Tells state, yes, drops, links and parts.
+#[allow(clippy::too_many_arguments)] // those of the call
+pub fn colour_ask(
+    plan: &[u8],
+    rules: &[u8],
+    node_table: &[u16],
+    state_table: &[u8],
+    numbers: &[u16],
+    bytes: &[u8],
+    nodes: &[u16],
+    labels: &[u8],
+    told: &mut [u32; 5],
+) -> u32 {
+    let [state, yes, drops, links, parts] = told;
+    // SAFETY: as in `build_by`
+    unsafe {
+        raw::whatif_colour_ask(
+            plan.as_ptr(),
+            plan.len(),
+            rules.as_ptr(),
+            rules.len(),
+            node_table.as_ptr(),
+            node_table.len(),
+            state_table.as_ptr(),
+            state_table.len(),
+            numbers.as_ptr(),
+            numbers.len(),
+            bytes.as_ptr(),
+            bytes.len(),
+            nodes.as_ptr(),
+            nodes.len(),
+            labels.as_ptr(),
+            labels.len(),
+            state,
+            yes,
+            drops,
+            links,
+            parts,
         )
     }
 }

@@ -18,7 +18,12 @@ fn highest(states: &[u8]) -> usize {
 }
 
 /// 17: N, S and K from the headers.
-fn lent<'a>(plan: &'a [u8], rules: &'a [u8], node_table: &'a [u16], state_table: &'a [u8]) -> Result<Lent<'a>, u32> {
+pub(crate) fn lent<'a>(
+    plan: &'a [u8],
+    rules: &'a [u8],
+    node_table: &'a [u16],
+    state_table: &'a [u8],
+) -> Result<Lent<'a>, u32> {
     if plan.len() < 12 || rules.len() < 20 {
         return Err(17);
     }

@@ -4,13 +4,17 @@
 //! `full_check` and `branch` (the bytes, full checks, branch questions), `fresh`, `merge` and `agree` (two rule tables), `planner` (the
 //! planner's files);
 //! `record` (the session's bytes), `question` (roots and parts), `count` (how many choices end in each state),
-//! `layers` (both alone), `session` (the five calls on bytes), `place` (the session as a struct). Each call gives the
+//! `layers` (both alone), `session` (the five calls on bytes), `place` (the session as a struct); `colours` and
+//! `colour_branch` (branch questions by colours), `colour_rules` (questions by colours). Each call gives the
 //! same answers as the library's; the comparison tests hold it to the reference implementation as well.
 //! Maps are composed: a far jump's map is the step, then the parent's map, then the map of the parent's jump.
 
 mod agree;
 mod branch;
 mod checks;
+mod colour_branch;
+mod colour_rules;
+mod colours;
 mod count;
 mod fresh;
 mod full_check;
@@ -27,6 +31,8 @@ pub mod session;
 
 pub use agree::agree;
 pub use branch::{ask, ask_with_upper, branch_build, branch_check, Told};
+pub use colour_branch::{ask_colours, ask_colours_with_upper, colour_branch_build, ColourTold};
+pub use colour_rules::{colour_ask, colour_build, ColourAnswer};
 pub use count::count;
 pub use fresh::fresh_run;
 pub use merge::merge;

@@ -6,6 +6,8 @@ pub mod branch_questions;
 pub mod builds;
 pub mod call_lists;
 pub mod choices;
+pub mod colour_branches;
+pub mod colour_questions;
 pub mod damaged_lends;
 pub mod damaged_records;
 pub mod damaged_tables;
@@ -33,7 +35,7 @@ pub struct Round {
     compare: fn(&mut Random, &mut Counts),
 }
 
-pub const ROUNDS: [Round; 19] = [
+pub const ROUNDS: [Round; 21] = [
     Round { name: "builds", compare: builds::round },
     Round { name: "full checks", compare: full_checks::round },
     Round { name: "fresh runs", compare: fresh_runs::round },
@@ -53,6 +55,8 @@ pub const ROUNDS: [Round; 19] = [
     Round { name: "choices", compare: choices::round },
     Round { name: "screen lists", compare: screen_lists::round },
     Round { name: "screen refusals", compare: screen_refusals::round },
+    Round { name: "colours of words", compare: colour_branches::round },
+    Round { name: "colours of sets", compare: colour_questions::round },
 ];
 
 impl Round {

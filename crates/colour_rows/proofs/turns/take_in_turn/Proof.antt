@@ -1,9 +1,10 @@
 -- `take_in_turn` meets its contract: after c turns the row is that of the first c colours. Assumes nothing.
 use Prim.Native.Nat.{_-_, _<_}
-use mathlib.Core.Path.{refl, _∙_}
+use mathlib.Core.Path.{_≡_, refl, sym, _∙_}
 use mathlib.Core.Logic.{⊎-elim}
 use native.Mathlib.Omega.{arith}
-use lib.ListN.{length}
+use lib.ListN.{length, take}
+use Rattle.colour_rows.proofs.PlaceLoop.{first-length}
 use Rattle.colour_rows.proofs.TurnLoop.{Turns, turns-start, turns-taken, turns-own, turns-turn, turns-done}
 use borrow.Author.Needs.{needs}
 use Rattle.colour_rows.proofs.turns.take_in_turn.Statement.{statement}
@@ -11,7 +12,7 @@ use Rattle.colour_rows.proofs.turns.take_in_turn.Tie as tie
 use Rattle.colour_rows.proofs.turns.take_in_turn.Reads as reads
 use Rattle.colour_rows.proofs.turns.take_in_turn.Lts as lts
 use Rattle.colour_rows.proofs.turns.free_from.Reads as free-from-reads
-use Rattle.colour_rows.proofs.turns.place_in.Reads as place-in-reads
+use Rattle.colour_rows.proofs.places.place_of.Reads as place-of-reads
 
 abbrev Inv-loop : tie.InvT-loop
 Inv-loop led row₀ lands₀ free₀ c₀ row lands free c = Turns led row lands free c
@@ -25,59 +26,71 @@ loop-holds c = turns-start (c .before .args .led .now) _ _ refl refl
 shared-slice-read-q : tie.Need-shared-slice-read-q Inv-loop μ-loop
 shared-slice-read-q c = c .before .loop-test .taken
 
-place-in-requires : tie.Need-place-in-requires Inv-loop μ-loop
-place-in-requires c κs =
-    let a = c .before .before in
-    record { few = omega (arith, c .before .loop-test .taken, a .before .before .pre .few); long = a .loop .inv .long-row }
+array-share-prefix-row : tie.Need-array-share-prefix-row Inv-loop μ-loop
+array-share-prefix-row c =
+    let i = c .before in
+    omega (arith, i .loop-test .taken, i .before .before .before .pre .few, i .before .loop .inv .long-row)
+
+-- the c states taken so far
+taken : (c : tie.In-loop Inv-loop μ-loop) → let o = c .before .loop in length (take (o .c) (o .row)) ≡ o .c
+taken i =
+    let o = i .before .loop in
+    first-length (o .row) (o .c) (omega (arith, i .loop-test .taken, i .before .before .before .pre .few))
+    (o .inv .long-row)
+
+slice-aggregate-place-of : tie.Need-slice-aggregate-place-of Inv-loop μ-loop
+slice-aggregate-place-of c = sym (taken (c .before .before))
 
 free-from-requires : tie.Need-free-from-requires Inv-loop μ-loop
 free-from-requires c κs =
-    let a = c .before .before .before in
+    let a = c .before .before .before .before in
     record {
-      few = omega (arith, c .before .before .loop-test .taken, a .before .before .pre .few);
+      few = omega (arith, c .before .before .before .loop-test .taken, a .before .before .pre .few);
       long = a .loop .inv .long-row;
       held = a .loop .inv .held;
     }
 
 cast-x : tie.Need-cast-x Inv-loop μ-loop
 cast-x c =
-    let a = c .before .before .before .before .before in
+    let a = c .before .before .before .before .before .before in
     omega (arith, c .before .free-from .ensures .1, a .loop .inv .within, a .before .before .pre .few)
 
-small : (c : tie.Joined1 Inv-loop μ-loop) → c .before .before .before .before .before .loop .c < 16
+small : (c : tie.Joined1 Inv-loop μ-loop) → c .before .before .before .before .before .before .loop .c < 16
 small c =
-    let i = c .before .before .before .before in
+    let i = c .before .before .before .before .before in
     omega (arith, i .loop-test .taken, i .before .before .before .pre .few)
 
 array-write-row : tie.Need-array-write-row Inv-loop μ-loop
 array-write-row c = small c
 
 cast-lands : tie.Need-cast-lands Inv-loop μ-loop
-cast-lands c = omega (arith, c .before .before .place-in .ensures .1, small c)
+cast-lands c =
+    let p = c .before .before in
+    omega (arith, p .place-of .ensures .1, taken (p .before .before .before), small c)
 
 array-write-lands : tie.Need-array-write-lands Inv-loop μ-loop
 array-write-lands c = small c
 
 loop-less : tie.Need-loop-less Inv-loop μ-loop
-loop-less c = omega (arith, c .before .before .before .before .loop-test .taken)
+loop-less c = omega (arith, c .before .before .before .before .before .loop-test .taken)
 
 loop-again : tie.Need-loop-again Inv-loop μ-loop
 loop-again c =
     let f = c .before in
     let p = f .before in
-    let i = p .before .before in
+    let i = p .before .before .before in
     let a = i .before in
     let s = a .before .before in
     let o = a .loop in
     turns-turn (s .args .led .now) (o .row) (o .lands) (o .free) (o .c) (o .inv) (s .pre .few) (i .loop-test .taken)
-    (p .place-in .result) (p .place-in .ensures .0) (f .free-from .result) (f .free-from .ensures .0) (c .if1 .x)
+    (p .place-of .result) (p .place-of .ensures .0) (f .free-from .result) (f .free-from .ensures .0) (c .if1 .x)
     (⊎-elim
     (λ w. w .1 ∙ turns-taken (s .args .led .now) (o .row) (o .lands) (o .free) (o .c) (o .inv) (s .pre .few)
-    (i .loop-test .taken) (p .place-in .result) (p .place-in .ensures .0) (f .free-from .result)
+    (i .loop-test .taken) (p .place-of .result) (p .place-of .ensures .0) (f .free-from .result)
     (f .free-from .ensures .0) (w .0 .taken))
     (λ w. w .1 ∙ turns-own (s .args .led .now) (o .row) (o .lands) (o .free) (o .c) (o .inv) (s .pre .few)
-    (i .loop-test .taken) (p .place-in .result) (p .place-in .ensures .0) (f .free-from .result)
-    (f .free-from .ensures .0) (w .0 .left) (p .place-in .ensures .1))
+    (i .loop-test .taken) (p .place-of .result) (p .place-of .ensures .0) (f .free-from .result)
+    (f .free-from .ensures .0) (w .0 .left) (omega (arith, p .place-of .ensures .1, taken i)))
     (c .if1 .came))
     (f .free-from .ensures .1)
 
@@ -91,5 +104,6 @@ returns c =
 pub take-in-turn-spec : {M : Type 1} → statement M
 take-in-turn-spec =
     tie.close
-    (tie.spec Inv-loop μ-loop loop-holds shared-slice-read-q place-in-requires free-from-requires cast-x
-    array-write-row cast-lands array-write-lands (λ c. search needs) loop-less loop-again returns)
+    (tie.spec Inv-loop μ-loop loop-holds shared-slice-read-q array-share-prefix-row slice-aggregate-place-of
+    (λ c κs. search needs) free-from-requires cast-x array-write-row cast-lands array-write-lands (λ c. search needs)
+    loop-less loop-again returns)

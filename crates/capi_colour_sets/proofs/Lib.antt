@@ -1,0 +1,3 @@
+pub mod BuildTheorems
+pub mod RuleNumberLaws
+pub mod Theorems

@@ -1,0 +1,2 @@
+pub mod DescentNumberLaws
+pub mod Theorems

@@ -1,0 +1,5 @@
+pub mod TrialLaws
+pub mod SideCases
+pub mod ForkCases
+pub mod TriesBuilt
+pub mod PartBuilt

@@ -1,0 +1,2 @@
+// The parts of a rule question by colours, on whatever is lent.
+pub mod part;

@@ -1,0 +1,5 @@
+pub mod BuildLaws
+pub mod CheckAnswers
+pub mod ColouredLaws
+pub mod FillLaws
+pub mod TableLaws

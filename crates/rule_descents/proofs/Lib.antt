@@ -1,0 +1,12 @@
+pub mod PartsLoop
+pub mod AskChecks
+pub mod StateLaws
+pub mod AnswerLaws
+pub mod AskNumbers
+pub mod TriesRange
+pub mod RangeLaws
+pub mod AskRange
+pub mod PartsBuilt
+pub mod AskBuilt
+pub mod AskTheorem
+pub mod Theorems

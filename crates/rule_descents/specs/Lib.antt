@@ -1,0 +1,4 @@
+pub mod Question
+pub mod OutOfRange
+pub mod Promise
+pub mod inner

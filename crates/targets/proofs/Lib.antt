@@ -1,0 +1,2 @@
+pub mod DescentBounds
+pub mod TrialLoop

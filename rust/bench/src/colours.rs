@@ -1,0 +1,275 @@
+//! Branch questions and questions by colours, beside plain Rust that does the same, and beside the climbs: on combs of growing
+//! depth, under tables whose colours fall often, seldom or never.
+
+use crate::cases::{list, List};
+use crate::measure::{by_turns, Pair};
+use crate::table::Single;
+use crate::tables::pair;
+use compare::inputs::{branch, lasting_branch, plan, random_branch, Case};
+use compare::random::Random;
+use compare::shapes::{kinds, Shape};
+use reference::formats::read_plan;
+use reference::tree::Tree;
+use whatif::{BranchColours, RuleColours};
+
+const LABELS: usize = 64;
+/// Of a branch question by colours; for the other works none is set.
+const GOAL: f64 = 2.0;
+/// Questions of a turn, on one plan.
+const QUESTIONS: usize = 2_000;
+/// Those by lists of changes.
+const LISTS: usize = 65;
+
+/// How often the colours of a branch table fall.
+#[derive(Clone, Copy, PartialEq)]
+pub enum Falls {
+    /// Entries without any pattern: at almost every node two states are joined.
+    Often,
+    /// One label of 64 joins two states, all others permute them.
+    Seldom,
+    /// Every label permutes the states.
+    Never,
+}
+
+impl Falls {
+    pub fn named(word: &str) -> Option<Falls> {
+        match word {
+            "often" => Some(Falls::Often),
+            "seldom" => Some(Falls::Seldom),
+            "never" => Some(Falls::Never),
+            _ => None,
+        }
+    }
+
+    fn table(self, s: usize, random: &mut Random) -> Vec<u8> {
+        if self == Falls::Often {
+            return random_branch(s, LABELS, random);
+        }
+        let bytes = lasting_branch(s, LABELS, random);
+        let (mut steps, marks) = (bytes[16..16 + s * LABELS].to_vec(), bytes[16 + s * LABELS..].to_vec());
+        if self == Falls::Seldom && s > 1 {
+            // under label 0 state 0 goes where state 1 goes
+            steps[0] = steps[LABELS];
+        }
+        branch(s, LABELS, &steps, &marks)
+    }
+}
+
+/// A plan and a branch table, with all their tables and some questions.
+pub struct Branches {
+    plan: Vec<u8>,
+    branch: Vec<u8>,
+    node_table: Vec<u16>,
+    state_table: Vec<u8>,
+    numbers: Vec<u16>,
+    bytes: Vec<u8>,
+    pairs: Vec<(u32, u32)>,
+}
+
+impl Branches {
+    pub fn new(shape: Shape, leaves: usize, s: usize, falls: Falls, questions: usize) -> Branches {
+        let random = &mut Random::new(14);
+        let kinds = kinds(shape, leaves, random);
+        let n = kinds.len();
+        let (plan, branch) = (plan(&random.bytes_below(n, LABELS), &kinds), falls.table(s, random));
+        let (mut node_table, mut state_table) = (vec![0; 4 * n], vec![0; (s + 1) * n]);
+        whatif::branch_build(&plan, &branch, &mut node_table, &mut state_table).expect("accepted");
+        let built = BranchColours::build(&plan, &branch).expect("accepted");
+        let (numbers, bytes) = (built.numbers().to_vec(), built.bytes().to_vec());
+        let tree = Tree::of(&read_plan(&plan).expect("accepted"));
+        let pairs = (0..questions).map(|_| pair(&tree, random)).collect();
+        Branches { plan, branch, node_table, state_table, numbers, bytes, pairs }
+    }
+
+    /// The drops and the links of all questions, and a sum of their states.
+    fn by_library(&self) -> [u32; 3] {
+        let Branches { plan, branch, node_table, numbers, bytes, .. } = self;
+        let ask = |&(upper, lower)| {
+            let told = whatif::colour_branch(plan, branch, node_table, numbers, bytes, upper, lower).expect("accepted");
+            [told.drops, told.links, u32::from(told.state)]
+        };
+        sums(self.pairs.iter().map(ask))
+    }
+
+    fn by_yardstick(&self) -> [u32; 3] {
+        let Branches { plan, branch, node_table, numbers, bytes, .. } = self;
+        let ask = |&(upper, lower)| {
+            let told =
+                yardstick::ask_colours(plan, branch, node_table, numbers, bytes, upper, lower).expect("accepted");
+            [told.drops, told.links, u32::from(told.state)]
+        };
+        sums(self.pairs.iter().map(ask))
+    }
+
+    /// The links of the climbs, and the same sum of states.
+    fn by_climb(&self) -> [u32; 2] {
+        let Branches { plan, branch, node_table, state_table, .. } = self;
+        let ask = |&(upper, lower)| {
+            let told = whatif::branch(plan, branch, node_table, state_table, upper, lower).expect("accepted");
+            [told.links, u32::from(told.state)]
+        };
+        sums(self.pairs.iter().map(ask))
+    }
+
+    fn by_plain_climb(&self) -> [u32; 2] {
+        let Branches { plan, branch, node_table, state_table, .. } = self;
+        let ask = |&(upper, lower)| {
+            let told = yardstick::ask(plan, branch, node_table, state_table, upper, lower).expect("accepted");
+            [told.links, u32::from(told.state)]
+        };
+        sums(self.pairs.iter().map(ask))
+    }
+
+    fn question(&self) -> Pair {
+        let wanted = self.by_library();
+        assert_eq!(self.by_climb()[1], wanted[2], "the climbs tell the same");
+        by_turns(
+            self.pairs.len(),
+            || assert_eq!(self.by_library(), wanted, "both tell the same"),
+            || assert_eq!(self.by_yardstick(), wanted, "both tell the same"),
+        )
+    }
+
+    /// The library beside itself: by colours, and by the climb.
+    fn beside_the_climb(&self) -> Pair {
+        let (by_colours, by_climb) = (self.by_library(), self.by_climb());
+        by_turns(
+            self.pairs.len(),
+            || assert_eq!(self.by_library(), by_colours),
+            || assert_eq!(self.by_climb(), by_climb),
+        )
+    }
+
+    fn build(&mut self) -> Pair {
+        let (mut numbers, mut bytes) = (self.numbers.clone(), self.bytes.clone());
+        let (plan, branch) = (&self.plan, &self.branch);
+        by_turns(
+            1,
+            || whatif::colour_branch_build(plan, branch, &mut self.numbers, &mut self.bytes).expect("accepted"),
+            || yardstick::colour_branch_build(plan, branch, &mut numbers, &mut bytes).expect("accepted"),
+        )
+    }
+
+    /// Every question once by colours and by the climb, by the library and by plain Rust, for a count of instructions: questions, drops, links,
+    /// links of the climbs.
+    pub fn once(&self) -> [u32; 4] {
+        let wanted = self.by_library();
+        assert_eq!(self.by_yardstick(), wanted, "both tell the same");
+        let [links, states] = self.by_climb();
+        assert_eq!(self.by_plain_climb(), [links, states], "both tell the same");
+        assert_eq!(states, wanted[2], "the climbs tell the same");
+        [self.pairs.len() as u32, wanted[0], wanted[1], links]
+    }
+}
+
+fn sums<const N: usize>(told: impl Iterator<Item = [u32; N]>) -> [u32; N] {
+    told.fold([0; N], |mut sums, told| {
+        sums.iter_mut().zip(told).for_each(|(sum, number)| *sum += number);
+        sums
+    })
+}
+
+/// A plan and a rule table of four states with their colour tables, and lists of changes.
+struct Questions<'a> {
+    case: &'a Case,
+    colours: RuleColours<'a>,
+    lists: Vec<List>,
+}
+
+impl Questions<'_> {
+    fn by_library(&self) -> [u32; 2] {
+        let ask = |(nodes, labels): &List| {
+            let told = self.colours.ask(nodes, labels).expect("accepted");
+            [told.drops, told.links]
+        };
+        sums(self.lists.iter().map(ask))
+    }
+
+    fn by_yardstick(&self) -> [u32; 2] {
+        let (numbers, bytes) = (self.colours.numbers(), self.colours.bytes());
+        let Case { plan, rules, .. } = self.case;
+        let ask = |(nodes, labels): &List| {
+            let told = yardstick::colour_ask(plan, rules, numbers, bytes, numbers, bytes, nodes, labels);
+            let told = told.expect("accepted");
+            [told.drops, told.links]
+        };
+        sums(self.lists.iter().map(ask))
+    }
+}
+
+fn question_times(shape: Shape, m: usize) -> Pair {
+    let random = &mut Random::new(15);
+    let case = Case::new(shape, 32_768, 4, LABELS, random);
+    let lists = (0..LISTS).map(|_| list(&case, m, random)).collect();
+    let colours = RuleColours::build(&case.plan, &case.rules).expect("accepted");
+    let questions = Questions { case: &case, colours, lists };
+    let wanted = questions.by_library();
+    by_turns(
+        LISTS,
+        || assert_eq!(questions.by_library(), wanted, "both tell the same"),
+        || assert_eq!(questions.by_yardstick(), wanted, "both tell the same"),
+    )
+}
+
+fn build_times() -> Pair {
+    let random = &mut Random::new(15);
+    let case = Case::new(Shape::Uniform, 32_768, 4, LABELS, random);
+    let buffers =
+        || (vec![0; whatif::sizes::colour_numbers(case.n, 4)], vec![0; whatif::sizes::colour_bytes(case.n, 4)]);
+    let (mut mine, mut other) = (buffers(), buffers());
+    by_turns(
+        1,
+        || whatif::colour_build(&case.plan, &case.rules, &mut mine.0, &mut mine.1).expect("accepted"),
+        || yardstick::colour_build(&case.plan, &case.rules, &mut other.0, &mut other.1).expect("accepted"),
+    )
+}
+
+/// The columns of this work are the library by colours and the library by the climb.
+const BESIDE: &str = "branch question, colours : climb";
+
+const SHAPES: [(&str, Shape, usize, Falls); 6] = [
+    ("left comb, N 65,535, S 16, falls often", Shape::LeftComb, 16, Falls::Often),
+    ("left comb, N 65,535, S 16, falls seldom", Shape::LeftComb, 16, Falls::Seldom),
+    ("left comb, N 65,535, S 16, falls never", Shape::LeftComb, 16, Falls::Never),
+    ("left comb, N 65,535, S 2, falls often", Shape::LeftComb, 2, Falls::Often),
+    ("random, N 65,535, S 16, falls often", Shape::Uniform, 16, Falls::Often),
+    ("balanced, N 65,535, S 16, falls often", Shape::Balanced, 16, Falls::Often),
+];
+const LISTS_OF: [(&str, Shape, usize); 3] = [
+    ("random, N 65,535, S 4, K 64, m 1", Shape::Uniform, 1),
+    ("random, N 65,535, S 4, K 64, m 8", Shape::Uniform, 8),
+    ("left comb, N 65,535, S 4, K 64, m 8", Shape::LeftComb, 8),
+];
+
+/// Those whose work has this text in its name, each handed on when it is measured.
+pub fn singles(wanted: &str, keep: &mut dyn FnMut(Single)) {
+    let (question, build) = ("branch question by colours", "colour branch build");
+    for (on, shape, s, falls) in SHAPES {
+        if question.contains(wanted) || build.contains(wanted) {
+            let mut branches = Branches::new(shape, 32_768, s, falls, QUESTIONS);
+            keep(Single { work: question, on, goal: GOAL, times: branches.question() });
+            keep(Single { work: BESIDE, on, goal: f64::INFINITY, times: branches.beside_the_climb() });
+            if falls == Falls::Often {
+                keep(Single { work: build, on, goal: f64::INFINITY, times: branches.build() });
+            }
+        }
+    }
+    if "question by colours".contains(wanted) {
+        for (on, shape, m) in LISTS_OF {
+            keep(Single { work: "question by colours", on, goal: f64::INFINITY, times: question_times(shape, m) });
+        }
+    }
+    if "colour build".contains(wanted) {
+        keep(Single {
+            work: "colour build",
+            on: "random, N 65,535, S 4, K 64",
+            goal: f64::INFINITY,
+            times: build_times(),
+        });
+    }
+}
+
+/// Both sides once, on a small plan.
+pub fn calls() {
+    Branches::new(Shape::Bushy, 501, 16, Falls::Often, 20).once();
+}
