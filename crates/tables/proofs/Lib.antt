@@ -19,3 +19,5 @@ pub mod MapHalves
 pub mod MoveMaps
 pub mod MovedLaws
 pub mod ComposeLoop
+pub mod ReplayLaws
+pub mod RememberLoop

@@ -2,6 +2,7 @@ pub mod Compare
 pub mod MapTable
 pub mod Maps
 pub mod PathViews
+pub mod Remembered
 pub mod Rows
 pub mod States
 pub mod Steps

@@ -7,6 +7,7 @@ pub mod climb;
 pub mod compare;
 pub mod lookups;
 mod maps;
+pub mod replays;
 pub mod rows;
 mod states;
 mod tables;
