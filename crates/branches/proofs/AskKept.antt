@@ -70,8 +70,12 @@ module _ (reading : Reading) (p r nodeTable stateTable : List ℕ) (u l : ℕ) w
             links-are = w .links;
             links-most = omega (arith, w .links, climb-most (cellForest (nodeCount p) nodeTable) l (depthCell nodeTable u) (w .moves) (w .climbed));
             passed-is = w .passed;
-            links-passed = omega (arith, w .links, w .passed,
-                links-passed (cellForest (nodeCount p) nodeTable) l (depthCell nodeTable u) (w .moves) (w .climbed));
+            links-passed = omega (
+              arith,
+              w .links,
+              w .passed,
+              links-passed (cellForest (nodeCount p) nodeTable) l (depthCell nodeTable u) (w .moves) (w .climbed),
+            );
           })
 
       started : (o : Option ℕ) → firstState reading p r u ≡ o

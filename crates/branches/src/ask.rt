@@ -84,18 +84,7 @@ fn answer_branch(
     if s <= q {
         return Branching::Refused(18);
     }
-    let end = replay_climb(
-        labels,
-        steps,
-        node_table,
-        state_table,
-        n,
-        s,
-        k,
-        l,
-        to,
-        q,
-    );
+    let end = replay_climb(labels, steps, node_table, state_table, n, s, k, l, to, q);
     finish_answer(end, &branch[16 + s * k..])
 }
 

@@ -39,7 +39,8 @@ prefixed-nil : (o : Option (List Move)) → o ≡ prefixed [] o
 prefixed-nil none = refl
 prefixed-nil (some ms) = refl
 
-prefixed-before : (ms : List Move) (m : Move) (o : Option (List Move)) → prefixed ms (before m o) ≡ prefixed (ms ++ (m ∷ [])) o
+prefixed-before : (ms : List Move) (m : Move) (o : Option (List Move)) → prefixed ms (before m o) ≡ prefixed
+    (ms ++ (m ∷ [])) o
 prefixed-before ms m none = refl
 prefixed-before ms m (some ns) = ap some (sym (append-assoc ms (m ∷ []) ns))
 
@@ -70,7 +71,8 @@ one-more : (codes : List ℕ) (c x : ℕ) → c < length codes
 unfolding remembered
 one-more codes c x h =
     ap (remembered (set codes c x)) (add-one c)
-    ∙ ap₂ (λ (ms : List Move) (y : ℕ). ms ++ (moveOf y ∷ [])) (kept codes c x c (le-refl _)) (getD-set-same codes c x 0 h)
+    ∙ ap₂ (λ (ms : List Move) (y : ℕ). ms ++ (moveOf y ∷ [])) (kept codes c x c (le-refl _))
+    (getD-set-same codes c x 0 h)
 
 -- ---- the loop
 
@@ -101,7 +103,8 @@ module _ (n : ℕ) (nodeTable : List ℕ) (from to : ℕ) where
   }
 
   module _ (codes : List ℕ) (v c : ℕ) (N : Noting codes v c) where
-    noticed : (depthCell nodeTable v ≤ to) ⊎ (48 ≤ c) → Noticed n nodeTable from to codes (record { ok = true; count = c; node = v })
+    noticed : (depthCell nodeTable v ≤ to) ⊎ (48 ≤ c) → Noticed n nodeTable from to codes
+        (record { ok = true; count = c; node = v })
     noticed f = record {
       long = N .long;
       count = N .most;
@@ -113,14 +116,16 @@ module _ (n : ℕ) (nodeTable : List ℕ) (from to : ℕ) where
       far = λ _. f;
     }
 
-    pub noting-done : depthCell nodeTable v ≤ to → Noticed n nodeTable from to codes (record { ok = true; count = c; node = v })
+    pub noting-done : depthCell nodeTable v ≤ to → Noticed n nodeTable from to codes
+        (record { ok = true; count = c; node = v })
     noting-done h = noticed (inl h)
 
     pub noting-full : 48 ≤ c → Noticed n nodeTable from to codes (record { ok = true; count = c; node = v })
     noting-full h = noticed (inr h)
 
     module _ (deeper : to < depthCell nodeTable v) (x : Note) (X : Noted (cellForest n nodeTable) v to x) where
-      pub noting-lost : from < n → x .ok ≡ false → Noticed n nodeTable from to codes (record { ok = false; count = 0; node = from })
+      pub noting-lost : from < n → x .ok ≡ false → Noticed n nodeTable from to codes
+          (record { ok = false; count = 0; node = from })
       unfolding remembered
       noting-lost h e = record {
         long = N .long;
@@ -149,12 +154,19 @@ module _ (n : ℕ) (nodeTable : List ℕ) (from to : ℕ) where
             most = omega arith;
             inside = rw (X .leads e) (next-inside F v to m (next-is e));
             nodes = λ i z. elim (ℕ-discrete i c) [
-              | yes q ↦ omega (arith, ap (λ (j : ℕ). getD (set codes c (x .code)) j 0) q, getD-set-same codes c (x .code) 0
-                  (omega (arith, N .long)), X .from e, N .inside)
+              | yes q ↦ omega (
+                arith,
+                ap (λ (j : ℕ). getD (set codes c (x .code)) j 0) q,
+                getD-set-same codes c (x .code) 0
+                    (omega (arith, N .long)),
+                X .from e,
+                N .inside,
+              )
               | no q ↦ omega (arith, getD-set-other codes c i (x .code) 0 q, N .nodes i (omega arith))
             ];
             falls = omega (arith, N .falls, noting-rises e);
-            ends = ap (climbEnd F from) more ∙ end-append F from (remembered codes c) (m ∷ []) ∙ ap (λ (w : ℕ). target F m) (N .ends)
+            ends = ap (climbEnd F from) more ∙ end-append F from (remembered codes c) (m ∷ []) ∙ ap
+                (λ (w : ℕ). target F m) (N .ends)
                 ∙ sym (X .leads e);
             onward = N .onward ∙ ap (prefixed (remembered codes c)) (climb-move F v to m deeper (next-is e))
                 ∙ prefixed-before (remembered codes c) m (climb F (target F m) to)
@@ -167,12 +179,14 @@ module _ (s : ℕ) (m : List ℕ) (f : ℕ → Option ℕ) where
   pub folding-start : (out : List ℕ) → length out ≡ 16 → Folded s m f 0 out
   folding-start out l = record { long = l; entries = λ q h. absurd (omega arith) }
 
-  pub folding-iteration : (c : ℕ) (out : List ℕ) (x r : ℕ) → c < 16 → Folded s m f c out → below s x ≡ f c → entryOf s m x r
+  pub folding-iteration : (c : ℕ) (out : List ℕ) (x r : ℕ) → c < 16 → Folded s m f c out → below s x ≡ f c
+      → entryOf s m x r
       → Folded s m f (c + 1) (set out c r)
   folding-iteration c out x r h W e E = record {
     long = length-set out c r ∙ W .long;
     entries = λ q i. elim (ℕ-discrete q c) [
-      | yes z ↦ ap (λ (j : ℕ). below s (getD (set out c r) j 0)) z ∙ ap (below s) (getD-set-same out c r 0 (omega (arith, W .long)))
+      | yes z ↦ ap (λ (j : ℕ). below s (getD (set out c r) j 0)) z ∙ ap (below s)
+          (getD-set-same out c r 0 (omega (arith, W .long)))
           ∙ E .entry ∙ ap (λ (o : Option ℕ). andThen o (λ y. below s (getD m y 0))) e
           ∙ ap (λ (j : ℕ). andThen (f j) (λ y. below s (getD m y 0))) (sym z)
       | no z ↦ ap (below s) (getD-set-other out c q r 0 z) ∙ W .entries q (omega arith)
@@ -200,7 +214,8 @@ module _ (n s k : ℕ) (ls st nodeTable stateTable : List ℕ) (from to : ℕ) w
   pub replay-none : (q : ℕ) → climb (cellForest n nodeTable) from to ≡ none
       → OutOfRange ≡ climbedOf (replayOn n s k ls st nodeTable stateTable from to q)
   unfolding replayOn climbedOf
-  replay-none q e = sym (ap (λ (o : Option (List Move)). climbedOf (andThen o (λ ms. andThen (carryDown act ms q) (told ms)))) e)
+  replay-none q e = sym (ap (λ (o : Option (List Move)). climbedOf
+      (andThen o (λ ms. andThen (carryDown act ms q) (told ms)))) e)
 
   module _ (ms : List Move) (q x : ℕ) (e : climb (cellForest n nodeTable) from to ≡ some ms)
       (d : below s x ≡ carryDown (stateMove s k ls st stateTable) ms q) where
@@ -218,7 +233,8 @@ module _ (n s k : ℕ) (ls st nodeTable stateTable : List ℕ) (from to : ℕ) w
 
   -- a climb that is one part
   pub part-whole : (codes : List ℕ) (x : Part) → Noticed n nodeTable from to codes x → x .ok ≡ true
-      → depthCell nodeTable (x .node) ≤ to → climb (cellForest n nodeTable) from to ≡ some (remembered codes (x .count))
+      → depthCell nodeTable (x .node) ≤ to → climb (cellForest n nodeTable) from to ≡ some
+      (remembered codes (x .count))
   part-whole codes x N e h =
       N .onward ∙ ap (λ (b : Bool). cond b (prefixed (remembered codes (x .count)) (climb forest (x .node) to)) none) e
       ∙ ap (prefixed (remembered codes (x .count))) (climb-done forest (x .node) to h)
@@ -249,7 +265,8 @@ module _ (n s k : ℕ) (ls st nodeTable stateTable : List ℕ) (from to : ℕ) w
     pub onward : climb (cellForest n nodeTable) from to ≡ prefixed moves (climb (cellForest n nodeTable) v to)
     pub down : (q : ℕ) → q < s → below s (getD map q 0) ≡ carryDown (stateMove s k ls st stateTable) moves q
 
-  pub joined-start : (map : List ℕ) → length map ≡ 16 → ((q : ℕ) → q < s → getD map q 0 ≡ q) → from < n → Joined map from 0
+  pub joined-start : (map : List ℕ) → length map ≡ 16 → ((q : ℕ) → q < s → getD map q 0 ≡ q) → from < n
+      → Joined map from 0
   joined-start map l same h = record {
     long = l;
     inside = h;
@@ -271,7 +288,8 @@ module _ (n s k : ℕ) (ls st nodeTable stateTable : List ℕ) (from to : ℕ) w
     joined-whole h =
         J .onward ∙ ap (prefixed (J .moves)) (climb-done forest v to h) ∙ ap some (append-nil (J .moves))
 
-    pub joined-passed : depthCell nodeTable from - depthCell nodeTable v ≡ passedBy (cellForest n nodeTable) from (J .moves)
+    pub joined-passed : depthCell nodeTable from - depthCell nodeTable v ≡ passedBy (cellForest n nodeTable) from
+        (J .moves)
     joined-passed = ap (λ (w : ℕ). depthCell nodeTable from - depthCell nodeTable w) (sym (J .ends))
 
     module _ (codes : List ℕ) (x : Part) (N : Noticed n nodeTable v to codes x) (e : x .ok ≡ true) where
@@ -295,7 +313,8 @@ module _ (n s k : ℕ) (ls st nodeTable stateTable : List ℕ) (from to : ℕ) w
         inside = N .inside;
         falls = omega (arith, N .falls, J .falls);
         moves = J .moves ++ part;
-        count = ap₂ (λ (i j : ℕ). i + j) (J .count) (part-links codes (x .count)) ∙ sym (length-append (J .moves) part);
+        count = ap₂ (λ (i j : ℕ). i + j) (J .count) (part-links codes (x .count)) ∙ sym
+            (length-append (J .moves) part);
         ends = end-append forest from (J .moves) part ∙ ap (λ (w : ℕ). climbEnd forest w part) (J .ends) ∙ N .ends;
         onward = J .onward ∙ ap (prefixed (J .moves))
             (N .onward ∙ ap (λ (b : Bool). cond b (prefixed part (climb forest (x .node) to)) none) e)
@@ -324,4 +343,5 @@ sixteen (suc (suc (suc (suc (suc (suc (suc (suc (suc (suc (suc (suc zero))))))))
 sixteen (suc (suc (suc (suc (suc (suc (suc (suc (suc (suc (suc (suc (suc zero))))))))))))) h = refl
 sixteen (suc (suc (suc (suc (suc (suc (suc (suc (suc (suc (suc (suc (suc (suc zero)))))))))))))) h = refl
 sixteen (suc (suc (suc (suc (suc (suc (suc (suc (suc (suc (suc (suc (suc (suc (suc zero))))))))))))))) h = refl
-sixteen (suc (suc (suc (suc (suc (suc (suc (suc (suc (suc (suc (suc (suc (suc (suc (suc q)))))))))))))))) h = absurd (omega arith)
+sixteen (suc (suc (suc (suc (suc (suc (suc (suc (suc (suc (suc (suc (suc (suc (suc (suc q)))))))))))))))) h = absurd
+    (omega arith)

@@ -61,7 +61,8 @@ module _ (s k : ℕ) (ls st stateTable : List ℕ) where
       go true i = let b = below-state s (getD st (q * k + getD ls v 0) 0) x i in omega (arith, b .0, b .1)
       go false i = absurd (none-some i)
 
-  pub down-below : (ms : List Move) (q x : ℕ) → q < s → carryDown (stateMove s k ls st stateTable) ms q ≡ some x → x < s
+  pub down-below : (ms : List Move) (q x : ℕ) → q < s → carryDown (stateMove s k ls st stateTable) ms q ≡ some x
+      → x < s
   down-below [] q x h e = let b = below-state s q x (below-yes s q h ∙ e) in omega (arith, b .1)
   down-below (m ∷ ms) q x h e = go (carryDown act ms q) e
     where
@@ -118,13 +119,15 @@ module _ (s k : ℕ) (ls st stateTable : List ℕ) where
       replaying-iteration l = record {
         most = omega (arith, R .most);
         state = l;
-        same = sym (one-down ∙ ap (λ (o : Option ℕ). andThen o (λ z. carryDown act (remembered codes (i - 1)) z)) (below-yes s y l));
+        same = sym (one-down ∙ ap (λ (o : Option ℕ). andThen o (λ z. carryDown act (remembered codes (i - 1)) z))
+            (below-yes s y l));
       }
 
       pub replaying-lost : s ≤ y → below s s ≡ carryDown (stateMove s k ls st stateTable) (remembered codes count) q
       replaying-lost l =
           below-no s s (le-refl _)
-          ∙ sym (one-down ∙ ap (λ (o : Option ℕ). andThen o (λ z. carryDown act (remembered codes (i - 1)) z)) (below-no s y l))
+          ∙ sym (one-down ∙ ap (λ (o : Option ℕ). andThen o (λ z. carryDown act (remembered codes (i - 1)) z))
+          (below-no s y l))
 
     pub replaying-done : (i x : ℕ) → Replaying i x → i ≤ 0
         → below s x ≡ carryDown (stateMove s k ls st stateTable) (remembered codes count) q

@@ -1,7 +1,7 @@
-// The climb of a branch question: the word runs downward while the climb goes up. So the climb remembers its moves, and one
-// state is carried down through them, from the last to the first: one entry of each move's map is read. On tables as built a
-// climb has at most 45 moves, fewer than are remembered at a time. A longer one on other tables goes by parts, with a map
-// from the part's top to the start of the climb.
+// The climb of a branch question: the word runs downward while the climb goes up. So the climb remembers its moves, and
+// one state is carried down through them, from the last to the first: one entry of each move's map is read. On tables as
+// built a climb has at most 45 moves, fewer than are remembered at a time. A longer one on other tables goes by parts,
+// with a map from the part's top to the start of the climb.
 use crate::answers::Climbed;
 use crate::answers::Reached;
 use node_tables::moves::NextMove;
@@ -15,15 +15,16 @@ ghost use Rattle.tables.specs.Replays.{stateMove, carryDown, replayOn};
 ghost use Rattle.tables.specs.inner.Remembered.{moveOf, remembered, Noted, Noticed, entryOf, Folded};
 ghost use Rattle.tables.specs.inner.Remembered.{NoteArgs, StateArgs, RememberArgs, FoldArgs, ReplayArgs};
 
-// One move, remembered as twice its node, and 1 more where it is by the jump; and the node that it leads to. Or that there is
-// none.
+// One move, remembered as twice its node, and 1 more where it is by the jump; and the node that it leads to. Or that
+// there is none.
 pub struct Note {
     pub ok: bool,
     pub code: u32,
     pub node: usize,
 }
 
-// The moves of a climb that were remembered: how many, and the node that they lead to. Or that the climb does not go on.
+// The moves of a climb that were remembered: how many, and the node that they lead to. Or that the climb does not go
+// on.
 pub struct Part {
     pub ok: bool,
     pub count: usize,
@@ -100,7 +101,8 @@ fn move_state(
     q: usize,
 ) -> usize
     requires { ⌜ StateArgs n s k (now labels) (now steps) (now «state_table») code q ⌝ }
-    ensures { λ r. ⌜ below s r ≡ stateMove s k (now (labels .entry)) (now (steps .entry)) (now («state_table» .entry)) (moveOf code) q ⌝ }
+    ensures { λ r. ⌜ below s r ≡ stateMove s k (now (labels .entry)) (now (steps .entry))
+        (now («state_table» .entry)) (moveOf code) q ⌝ }
 {
     let v = code / 2;
     if code % 2 == 1 {
@@ -126,7 +128,8 @@ fn replay(
     q: usize,
 ) -> usize
     requires { ⌜ RememberArgs n s k (now moves) count (now labels) (now steps) (now «state_table») q ⌝ }
-    ensures { λ r. ⌜ below s r ≡ carryDown (stateMove s k (now (labels .entry)) (now (steps .entry)) (now («state_table» .entry)))
+    ensures { λ r. ⌜ below s r ≡ carryDown
+        (stateMove s k (now (labels .entry)) (now (steps .entry)) (now («state_table» .entry)))
         (remembered (now (moves .entry)) count) q ⌝ }
 {
     let mut x = q;
@@ -165,7 +168,8 @@ fn fold_moves(
     s: usize,
     k: usize,
 ) -> [u8; 16]
-    requires { ⌜ FoldArgs s (now map) × RememberArgs n s k (now moves) count (now labels) (now steps) (now «state_table») 0 ⌝ }
+    requires { ⌜ FoldArgs s (now map) × RememberArgs n s k (now moves) count (now labels) (now steps)
+        (now «state_table») 0 ⌝ }
     ensures { λ r. ⌜ Folded s (now (map .entry)) (carryDown (stateMove s k (now (labels .entry)) (now (steps .entry))
         (now («state_table» .entry))) (remembered (now (moves .entry)) count)) s r ⌝ }
 {
@@ -193,7 +197,8 @@ fn replay_parts(
     q: usize,
 ) -> Climbed
     requires { ⌜ ReplayArgs n s k (now labels) (now steps) (now «node_table») (now «state_table») from q ⌝ }
-    ensures { λ r. ⌜ r ≡ climbedOf (replayOn n s k (now (labels .entry)) (now (steps .entry)) (now («node_table» .entry))
+    ensures { λ r. ⌜ r ≡ climbedOf (replayOn n s k (now (labels .entry)) (now (steps .entry))
+        (now («node_table» .entry))
         (now («state_table» .entry)) from to q) ⌝ }
 {
     let mut map: [u8; 16] = [0, 1, 2, 3, 4, 5, 6, 7, 8, 9, 10, 11, 12, 13, 14, 15];
@@ -222,8 +227,8 @@ fn replay_parts(
     })
 }
 
-// The climb from node `from` to depth `to`, and state q carried down through its moves: the state at `from`, the links, and
-// the nodes passed over.
+// The climb from node `from` to depth `to`, and state q carried down through its moves: the state at `from`, the links,
+// and the nodes passed over.
 pub fn replay_climb(
     labels: &[u8],
     steps: &[u8],
@@ -237,7 +242,8 @@ pub fn replay_climb(
     q: usize,
 ) -> Climbed
     requires { ⌜ ReplayArgs n s k (now labels) (now steps) (now «node_table») (now «state_table») from q ⌝ }
-    ensures { λ r. ⌜ r ≡ climbedOf (replayOn n s k (now (labels .entry)) (now (steps .entry)) (now («node_table» .entry))
+    ensures { λ r. ⌜ r ≡ climbedOf (replayOn n s k (now (labels .entry)) (now (steps .entry))
+        (now («node_table» .entry))
         (now («state_table» .entry)) from to q) ⌝ }
 {
     let mut moves = [0u32; 48];

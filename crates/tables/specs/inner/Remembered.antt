@@ -4,8 +4,8 @@
 -- remembered codes c == the moves of the first c numbers
 -- prefixed ms o == the moves ms and then those of o
 -- Noted F v to x == x is the next move from v to depth `to` and where it leads, or tells that there is none
--- Noticed .. from to codes x == x tells of the climb from node `from` to depth `to`: its first moves, remembered in codes, and the
---   node where they lead, from where it goes on; or that there is no climb
+-- Noticed .. from to codes x == x tells of the climb from node `from` to depth `to`: its first moves, remembered in
+--   codes, and the node where they lead, from where it goes on; or that there is no climb
 -- entryOf s m x r == r stands for entry x of the map m, no state where x or that entry is none
 -- Folded s m f c out == the first c entries of out are f and then the map m
 -- NoteArgs, StateArgs, RememberArgs, FoldArgs, ReplayArgs == limits, and runs that are long enough

@@ -62,7 +62,8 @@ mark-run c =
 
 on : (c : tie.After-depth-at)
     → let g = begun c .args in
-    Handed (g .plan .now) (g .branch .now) (g .node-table .now) (g .u) (nodes c) (states c) (labels c) (c .depth-at .result)
+    Handed (g .plan .now) (g .branch .now) (g .node-table .now) (g .u) (nodes c) (states c) (labels c)
+    (c .depth-at .result)
     (label-run c) (step-run c) (mark-run c)
 on c =
     handed _ _ _ _ (nodes c) (states c) (labels c) (c .depth-at .result)
@@ -105,20 +106,23 @@ depth-at-requires c κs =
     )
 
 first-state-requires : tie.Need-first-state-requires
-first-state-requires c κs = first-args (begun c .args .reading) _ _ _ _ _ _ _ _ _ _ _ _ (mark-run c) (begun c .pre) (on c)
+first-state-requires c κs = first-args (begun c .args .reading) _ _ _ _ _ _ _ _ _ _ _ _ (mark-run c) (begun c .pre)
+    (on c)
 
 returns : tie.Need-returns
 returns c =
     let f = c .before in
     let d = f .before in
-    answer-first (begun d .args .reading) _ _ _ _ _ _ _ _ _ _ _ _ (mark-run d) (begun d .pre) (on d) (f .first-state .result)
+    answer-first (begun d .args .reading) _ _ _ _ _ _ _ _ _ _ _ _ (mark-run d) (begun d .pre) (on d)
+    (f .first-state .result)
     (f .first-state .ensures) (c .if1 .taken)
 
 replay-climb-requires : tie.Need-replay-climb-requires
 replay-climb-requires c κs =
     let f = c .before in
     let d = f .before in
-    replay-args (begun d .args .reading) _ _ _ _ _ _ _ _ _ _ _ _ (mark-run d) (begun d .pre) (on d) (f .first-state .result)
+    replay-args (begun d .args .reading) _ _ _ _ _ _ _ _ _ _ _ _ (mark-run d) (begun d .pre) (on d)
+    (f .first-state .result)
     (c .if1 .left)
 
 -- where the marks start
@@ -143,7 +147,8 @@ finish-answer-requires c κs =
     let x = c .before in
     let f = x .before .before in
     let d = f .before in
-    state-in (begun d .args .reading) _ _ _ _ _ _ _ _ _ _ _ _ (mark-run d) (begun d .pre) (on d) (f .first-state .result)
+    state-in (begun d .args .reading) _ _ _ _ _ _ _ _ _ _ _ _ (mark-run d) (begun d .pre) (on d)
+    (f .first-state .result)
     (x .before .if1 .left) (x .replay-climb .result) (x .replay-climb .ensures)
 
 returns-2 : tie.Need-returns-2
@@ -151,7 +156,8 @@ returns-2 c =
     let x = c .before .before in
     let f = x .before .before in
     let d = f .before in
-    answer-told (begun d .args .reading) _ _ _ _ _ _ _ _ _ _ _ _ (mark-run d) (begun d .pre) (on d) (f .first-state .result)
+    answer-told (begun d .args .reading) _ _ _ _ _ _ _ _ _ _ _ _ (mark-run d) (begun d .pre) (on d)
+    (f .first-state .result)
     (f .first-state .ensures) (x .before .if1 .left) (x .replay-climb .result) (x .replay-climb .ensures)
     (c .finish-answer .result) (c .finish-answer .ensures)
 

@@ -11,12 +11,9 @@ returns : tie.Need-returns
 returns c =
     record { entry = rw (below-no _ _ (c .if1 .taken)) (below-no _ 255 (omega (arith, c .before .pre .few))) }
 
-shared-slice-read-result : tie.Need-shared-slice-read-result
-shared-slice-read-result c = search needs
-
 returns-2 : tie.Need-returns-2
 returns-2 c =
     record { entry = rw (below-yes _ _ (c .before .if1 .left)) }
 
 pub entry-of-spec : {M : Type 1} → statement M
-entry-of-spec = tie.close (tie.spec returns shared-slice-read-result returns-2)
+entry-of-spec = tie.close (tie.spec returns (λ c. search needs) returns-2)

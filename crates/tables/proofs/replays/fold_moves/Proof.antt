@@ -21,8 +21,12 @@ abbrev μ-loop : tie.MeasureT-loop
 
 loop-holds : tie.Need-loop-holds Inv-loop μ-loop
 loop-holds c =
-    let g = c .before .before .before .before .before .args in
-    (folding-start (g .s) (g .map .now) (carryDown (stateMove (g .s) (g .k) (g .labels .now) (g .steps .now) (g .state-table .now)) (remembered (g .moves .now) (g .count))) _ refl, search needs)
+    let g = c .before .before .before .before .before .args in (
+      folding-start (g .s) (g .map .now)
+          (carryDown (stateMove (g .s) (g .k) (g .labels .now) (g .steps .now) (g .state-table .now))
+          (remembered (g .moves .now) (g .count))) _ refl,
+      search needs,
+    )
 
 replay-requires : tie.Need-replay-requires Inv-loop μ-loop
 replay-requires c κs =
@@ -38,45 +42,31 @@ replay-requires c κs =
       state-table-room = p .state-table-room;
     }
 
-entry-of-requires : tie.Need-entry-of-requires Inv-loop μ-loop
-entry-of-requires c κs = search needs
-
-array-write-out : tie.Need-array-write-out Inv-loop μ-loop
-array-write-out c = search needs
-
-add-q : tie.Need-add-q Inv-loop μ-loop
-add-q c = search needs
-
-loop-less : tie.Need-loop-less Inv-loop μ-loop
-loop-less c = search needs
-
 loop-again : tie.Need-loop-again Inv-loop μ-loop
 loop-again c =
     let a = c .before .before .before in
     let s = a .before .before .before .before .before .before in
-    let g = s .args in
-    (folding-iteration (g .s) (g .map .now) (carryDown (stateMove (g .s) (g .k) (g .labels .now) (g .steps .now) (g .state-table .now)) (remembered (g .moves .now) (g .count)))
-    (a .loop .q) (a .loop .out) (c .before .replay .result) (c .entry-of .result)
-    (omega (arith, c .before .before .loop-test .taken, s .pre .0 .few)) (a .loop .inv .0) (c .before .replay .ensures) (c .entry-of .ensures), search needs)
+    let g = s .args in (
+      folding-iteration (g .s) (g .map .now)
+          (carryDown (stateMove (g .s) (g .k) (g .labels .now) (g .steps .now) (g .state-table .now))
+          (remembered (g .moves .now) (g .count)))
+          (a .loop .q) (a .loop .out) (c .before .replay .result) (c .entry-of .result)
+          (omega (arith, c .before .before .loop-test .taken, s .pre .0 .few)) (a .loop .inv .0)
+          (c .before .replay .ensures) (c .entry-of .ensures),
+      search needs,
+    )
 
 returns : tie.Need-returns Inv-loop μ-loop
 returns c =
     let a = c .before in
     let g = a .before .before .before .before .before .before .args in
     let e : a .loop .q ≡ g .s = omega (arith, a .loop .inv .1, c .loop-test .left) in
-    subst (λ (i : ℕ). Folded (g .s) (g .map .now) (carryDown (stateMove (g .s) (g .k) (g .labels .now) (g .steps .now) (g .state-table .now)) (remembered (g .moves .now) (g .count))) i (a .loop .out)) e (a .loop .inv .0)
+    subst (λ (i : ℕ). Folded (g .s) (g .map .now)
+    (carryDown (stateMove (g .s) (g .k) (g .labels .now) (g .steps .now) (g .state-table .now))
+    (remembered (g .moves .now) (g .count))) i (a .loop .out)) e (a .loop .inv .0)
 
 pub fold-moves-spec : {M : Type 1} → statement M
 fold-moves-spec =
     tie.close
-    (tie.spec
-    Inv-loop
-    μ-loop
-    loop-holds
-    replay-requires
-    entry-of-requires
-    array-write-out
-    add-q
-    loop-less
-    loop-again
-    returns)
+    (tie.spec Inv-loop μ-loop loop-holds replay-requires (λ c κs. search needs) (λ c. search needs)
+    (λ c. search needs) (λ c. search needs) loop-again returns)

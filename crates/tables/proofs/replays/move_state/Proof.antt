@@ -10,29 +10,32 @@ use Rattle.tables.proofs.replays.move_state.Tie as tie
 use Rattle.tables.proofs.replays.move_state.Reads as reads
 use Rattle.tables.proofs.replays.move_state.Lts as lts
 
-add-result : tie.Need-add-result
-add-result c = search needs
-
 mul-result : tie.Need-mul-result
 mul-result c =
     let s = c .before in
     let g = s .args in
-    omega (arith, map-place (g .n) (g .s) (g .code / 2) (g .q) (length (g .state-table .now)) (s .pre .node) (s .pre .state) (s .pre .state-table-room))
-
-add-result-2 : tie.Need-add-result-2
-add-result-2 c = search needs
+    omega (
+      arith,
+      map-place (g .n) (g .s) (g .code / 2) (g .q) (length (g .state-table .now)) (s .pre .node)
+          (s .pre .state) (s .pre .state-table-room),
+    )
 
 add-result-3 : tie.Need-add-result-3
 add-result-3 c =
     let s = c .before in
     let g = s .args in
-    omega (arith, map-place (g .n) (g .s) (g .code / 2) (g .q) (length (g .state-table .now)) (s .pre .node) (s .pre .state) (s .pre .state-table-room))
+    omega (
+      arith,
+      map-place (g .n) (g .s) (g .code / 2) (g .q) (length (g .state-table .now)) (s .pre .node)
+          (s .pre .state) (s .pre .state-table-room),
+    )
 
 shared-slice-read-result : tie.Need-shared-slice-read-result
 shared-slice-read-result c =
     let s = c .before .before in
     let g = s .args in
-    map-place (g .n) (g .s) (g .code / 2) (g .q) (length (g .state-table .now)) (s .pre .node) (s .pre .state) (s .pre .state-table-room)
+    map-place (g .n) (g .s) (g .code / 2) (g .q) (length (g .state-table .now)) (s .pre .node) (s .pre .state)
+    (s .pre .state-table-room)
 
 cast-result : tie.Need-cast-result
 cast-result c =
@@ -44,10 +47,8 @@ returns : tie.Need-returns
 returns c =
     let s = c .before .before in
     let g = s .args in
-    move-by-jump (g .s) (g .k) (g .labels .now) (g .steps .now) (g .state-table .now) (g .code) (g .q) (c .before .if1 .taken)
-
-shared-slice-read-a : tie.Need-shared-slice-read-a
-shared-slice-read-a c = search needs
+    move-by-jump (g .s) (g .k) (g .labels .now) (g .steps .now) (g .state-table .now) (g .code) (g .q)
+    (c .before .if1 .taken)
 
 cast-a : tie.Need-cast-a
 cast-a c =
@@ -59,7 +60,8 @@ returns-2 : tie.Need-returns-2
 returns-2 c =
     let s = c .before .before .before in
     let g = s .args in
-    move-no-label (g .s) (g .k) (g .labels .now) (g .steps .now) (g .state-table .now) (g .code) (g .q) (c .before .before .if1 .left) (c .if2 .taken)
+    move-no-label (g .s) (g .k) (g .labels .now) (g .steps .now) (g .state-table .now) (g .code) (g .q)
+    (c .before .before .if1 .left) (c .if2 .taken)
 
 mul-result-2 : tie.Need-mul-result-2
 mul-result-2 c =
@@ -89,24 +91,12 @@ returns-3 : tie.Need-returns-3
 returns-3 c =
     let s = c .before .before .before .before in
     let g = s .args in
-    move-by-label (g .s) (g .k) (g .labels .now) (g .steps .now) (g .state-table .now) (g .code) (g .q) (c .before .before .before .if1 .left) (c .before .if2 .left)
+    move-by-label (g .s) (g .k) (g .labels .now) (g .steps .now) (g .state-table .now) (g .code) (g .q)
+    (c .before .before .before .if1 .left) (c .before .if2 .left)
 
 pub move-state-spec : {M : Type 1} → statement M
 move-state-spec =
     tie.close
-    (tie.spec
-    add-result
-    mul-result
-    add-result-2
-    add-result-3
-    shared-slice-read-result
-    cast-result
-    returns
-    shared-slice-read-a
-    cast-a
-    returns-2
-    mul-result-2
-    add-result-4
-    shared-slice-read-result-2
-    cast-result-2
+    (tie.spec (λ c. search needs) mul-result (λ c. search needs) add-result-3 shared-slice-read-result cast-result
+    returns (λ c. search needs) cast-a returns-2 mul-result-2 add-result-4 shared-slice-read-result-2 cast-result-2
     returns-3)

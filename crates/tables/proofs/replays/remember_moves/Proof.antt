@@ -25,14 +25,12 @@ deeper c = omega (arith, c .if1 .taken, c .before .depth-at .ensures)
 loop-holds : tie.Need-loop-holds Inv-loop μ-loop
 loop-holds c =
     let s = c .before .before in
-    noting-start (s .args .n) (s .args .node-table .now) (s .args .from) (s .args .to) (s .args .moves .now) (s .pre .long) (s .pre .at)
+    noting-start (s .args .n) (s .args .node-table .now) (s .args .from) (s .args .to) (s .args .moves .now)
+    (s .pre .long) (s .pre .at)
 
 depth-at-requires : tie.Need-depth-at-requires Inv-loop μ-loop
 depth-at-requires c κs =
     omega (arith, c .loop .inv .inside, c .before .before .before .pre .room)
-
-same-length : tie.Need-same-length Inv-loop μ-loop
-same-length c = search needs
 
 returns : tie.Need-returns Inv-loop μ-loop
 returns c =
@@ -45,43 +43,31 @@ note-move-requires c κs =
     let s = a .before .before .before in
     record { at = a .loop .inv .inside; most = s .pre .most; room = s .pre .room }
 
-same-length-2 : tie.Need-same-length-2 Inv-loop μ-loop
-same-length-2 c = search needs
-
 returns-2 : tie.Need-returns-2 Inv-loop μ-loop
 returns-2 c =
     let m = c .before .before in
     let t = m .before .before in
     let a = t .before .before in
-    noting-lost _ _ _ _ (a .loop .moves) (a .loop .v) (a .loop .count) (a .loop .inv) (deeper t) (m .note-move .result) (m .note-move .ensures)
+    noting-lost _ _ _ _ (a .loop .moves) (a .loop .v) (a .loop .count) (a .loop .inv) (deeper t)
+    (m .note-move .result) (m .note-move .ensures)
     (a .before .before .before .pre .at) (not-true _ (c .if3 .taken))
-
-mul-moves : tie.Need-mul-moves Inv-loop μ-loop
-mul-moves c = search needs
-
-slice-write-moves : tie.Need-slice-write-moves Inv-loop μ-loop
-slice-write-moves c = search needs
-
-add-count : tie.Need-add-count Inv-loop μ-loop
-add-count c = search needs
 
 loop-less : tie.Need-loop-less Inv-loop μ-loop
 loop-less c =
     let m = c .before .before in
     let t = m .before .before in
     let a = t .before .before in
-    noting-rises _ _ _ _ (a .loop .moves) (a .loop .v) (a .loop .count) (a .loop .inv) (deeper t) (m .note-move .result) (m .note-move .ensures) (not-false _ (c .if3 .left))
+    noting-rises _ _ _ _ (a .loop .moves) (a .loop .v) (a .loop .count) (a .loop .inv) (deeper t)
+    (m .note-move .result) (m .note-move .ensures) (not-false _ (c .if3 .left))
 
 loop-again : tie.Need-loop-again Inv-loop μ-loop
 loop-again c =
     let m = c .before .before in
     let t = m .before .before in
     let a = t .before .before in
-    noting-iteration _ _ _ _ (a .loop .moves) (a .loop .v) (a .loop .count) (a .loop .inv) (deeper t) (m .note-move .result) (m .note-move .ensures)
+    noting-iteration _ _ _ _ (a .loop .moves) (a .loop .v) (a .loop .count) (a .loop .inv) (deeper t)
+    (m .note-move .result) (m .note-move .ensures)
     (m .before .if2 .left) (not-false _ (c .if3 .left))
-
-same-length-3 : tie.Need-same-length-3 Inv-loop μ-loop
-same-length-3 c = search needs
 
 returns-3 : tie.Need-returns-3 Inv-loop μ-loop
 returns-3 c =
@@ -92,20 +78,6 @@ returns-3 c =
 pub remember-moves-spec : {M : Type 1} → statement M
 remember-moves-spec =
     tie.close
-    (tie.spec
-    Inv-loop
-    μ-loop
-    loop-holds
-    depth-at-requires
-    same-length
-    returns
-    note-move-requires
-    same-length-2
-    returns-2
-    mul-moves
-    slice-write-moves
-    add-count
-    loop-less
-    loop-again
-    same-length-3
-    returns-3)
+    (tie.spec Inv-loop μ-loop loop-holds depth-at-requires (λ c. search needs) returns note-move-requires
+    (λ c. search needs) returns-2 (λ c. search needs) (λ c. search needs) (λ c. search needs) loop-less loop-again
+    (λ c. search needs) returns-3)

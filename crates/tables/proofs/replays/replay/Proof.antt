@@ -18,16 +18,8 @@ loop-holds : tie.Need-loop-holds Inv-loop μ-loop
 loop-holds c =
     let s = c .before .before .before .before in
     let g = s .args in
-    replaying-start (g .s) (g .k) (g .labels .now) (g .steps .now) (g .state-table .now) (g .moves .now) (g .count) (g .q) (s .pre .state)
-
-sub-i : tie.Need-sub-i Inv-loop μ-loop
-sub-i c = search needs
-
-mul-move-state : tie.Need-mul-move-state Inv-loop μ-loop
-mul-move-state c = search needs
-
-shared-slice-read-move-state : tie.Need-shared-slice-read-move-state Inv-loop μ-loop
-shared-slice-read-move-state c = search needs
+    replaying-start (g .s) (g .k) (g .labels .now) (g .steps .now) (g .state-table .now) (g .moves .now) (g .count)
+    (g .q) (s .pre .state)
 
 cast-move-state : tie.Need-cast-move-state Inv-loop μ-loop
 cast-move-state c =
@@ -51,39 +43,28 @@ returns c =
     let m = c .before in
     let a = m .before .before .before in
     let g = a .before .before .before .before .before .args in
-    replaying-lost (g .s) (g .k) (g .labels .now) (g .steps .now) (g .state-table .now) (g .moves .now) (g .count) (g .q) (a .loop .i) (a .loop .x) (a .loop .inv) (m .before .before .loop-test .taken)
+    replaying-lost (g .s) (g .k) (g .labels .now) (g .steps .now) (g .state-table .now) (g .moves .now) (g .count)
+    (g .q) (a .loop .i) (a .loop .x) (a .loop .inv) (m .before .before .loop-test .taken)
     (m .move-state .result) (m .move-state .ensures) (c .if1 .taken)
-
-loop-less : tie.Need-loop-less Inv-loop μ-loop
-loop-less c = search needs
 
 loop-again : tie.Need-loop-again Inv-loop μ-loop
 loop-again c =
     let m = c .before in
     let a = m .before .before .before in
     let g = a .before .before .before .before .before .args in
-    replaying-iteration (g .s) (g .k) (g .labels .now) (g .steps .now) (g .state-table .now) (g .moves .now) (g .count) (g .q) (a .loop .i) (a .loop .x) (a .loop .inv) (m .before .before .loop-test .taken)
+    replaying-iteration (g .s) (g .k) (g .labels .now) (g .steps .now) (g .state-table .now) (g .moves .now)
+    (g .count) (g .q) (a .loop .i) (a .loop .x) (a .loop .inv) (m .before .before .loop-test .taken)
     (m .move-state .result) (m .move-state .ensures) (c .if1 .left)
 
 returns-2 : tie.Need-returns-2 Inv-loop μ-loop
 returns-2 c =
     let a = c .before in
     let g = a .before .before .before .before .before .args in
-    replaying-done (g .s) (g .k) (g .labels .now) (g .steps .now) (g .state-table .now) (g .moves .now) (g .count) (g .q) (a .loop .i) (a .loop .x) (a .loop .inv) (c .loop-test .left)
+    replaying-done (g .s) (g .k) (g .labels .now) (g .steps .now) (g .state-table .now) (g .moves .now) (g .count)
+    (g .q) (a .loop .i) (a .loop .x) (a .loop .inv) (c .loop-test .left)
 
 pub replay-spec : {M : Type 1} → statement M
 replay-spec =
     tie.close
-    (tie.spec
-    Inv-loop
-    μ-loop
-    loop-holds
-    sub-i
-    mul-move-state
-    shared-slice-read-move-state
-    cast-move-state
-    move-state-requires
-    returns
-    loop-less
-    loop-again
-    returns-2)
+    (tie.spec Inv-loop μ-loop loop-holds (λ c. search needs) (λ c. search needs) (λ c. search needs) cast-move-state
+    move-state-requires returns (λ c. search needs) loop-again returns-2)

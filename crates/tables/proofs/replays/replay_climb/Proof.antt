@@ -13,33 +13,15 @@ use Rattle.tables.proofs.replays.remember_moves.Reads as remember-moves
 use Rattle.tables.proofs.replays.replay.Reads as replay-reads
 use Rattle.tables.proofs.replays.replay_parts.Reads as replay-parts-reads
 
-slice-aggregate-remember-moves : tie.Need-slice-aggregate-remember-moves
-slice-aggregate-remember-moves c = search needs
-
-remember-moves-requires : tie.Need-remember-moves-requires
-remember-moves-requires c κs = search needs
-
 returns : tie.Need-returns
 returns c =
     let m = c .before .before .before in
     let g = m .before .before .before .before .before .before .args in
-    replay-none (g .n) (g .s) (g .k) (g .labels .now) (g .steps .now) (g .node-table .now) (g .state-table .now) (g .from) (g .to) (g .q)
-    (part-none (g .n) (g .s) (g .k) (g .labels .now) (g .steps .now) (g .node-table .now) (g .state-table .now) (g .from) (g .to) _ (m .remember-moves .result) (g .from) (m .remember-moves .ensures) (not-true _ (c .if1 .taken)))
-
-depth-at-requires : tie.Need-depth-at-requires
-depth-at-requires c κs = search needs
-
-replay-parts-requires : tie.Need-replay-parts-requires
-replay-parts-requires c κs = search needs
-
-returns-2 : tie.Need-returns-2
-returns-2 c = search needs
-
-slice-aggregate-replay : tie.Need-slice-aggregate-replay
-slice-aggregate-replay c = search needs
-
-replay-requires : tie.Need-replay-requires
-replay-requires c κs = search needs
+    replay-none (g .n) (g .s) (g .k) (g .labels .now) (g .steps .now) (g .node-table .now) (g .state-table .now)
+    (g .from) (g .to) (g .q)
+    (part-none (g .n) (g .s) (g .k) (g .labels .now) (g .steps .now) (g .node-table .now) (g .state-table .now)
+    (g .from) (g .to) _ (m .remember-moves .result) (g .from) (m .remember-moves .ensures)
+    (not-true _ (c .if1 .taken)))
 
 returns-3 : tie.Need-returns-3
 returns-3 c =
@@ -48,30 +30,22 @@ returns-3 c =
     let f = e .before .before in
     let m = f .before .before .before in
     let g = m .before .before .before .before .before .before .args in
-    replay-lost (g .n) (g .s) (g .k) (g .labels .now) (g .steps .now) (g .node-table .now) (g .state-table .now) (g .from) (g .to) _ (g .q) (r .replay .result)
-    (part-whole (g .n) (g .s) (g .k) (g .labels .now) (g .steps .now) (g .node-table .now) (g .state-table .now) (g .from) (g .to) _ (m .remember-moves .result) (m .remember-moves .ensures) (not-false _ (f .if1 .left))
+    replay-lost (g .n) (g .s) (g .k) (g .labels .now) (g .steps .now) (g .node-table .now) (g .state-table .now)
+    (g .from) (g .to) _ (g .q) (r .replay .result)
+    (part-whole (g .n) (g .s) (g .k) (g .labels .now) (g .steps .now) (g .node-table .now) (g .state-table .now)
+    (g .from) (g .to) _ (m .remember-moves .result) (m .remember-moves .ensures) (not-false _ (f .if1 .left))
     (omega (arith, e .if2 .left, e .before .depth-at .ensures))) (r .replay .ensures) (c .if3 .taken)
-
-depth-at-requires-2 : tie.Need-depth-at-requires-2
-depth-at-requires-2 c κs = search needs
-
-depth-at-requires-3 : tie.Need-depth-at-requires-3
-depth-at-requires-3 c κs = search needs
-
-sub-passed : tie.Need-sub-passed
-sub-passed c = search needs
-
-cast-t24 : tie.Need-cast-t24
-cast-t24 c = search needs
-
-cast-t25 : tie.Need-cast-t25
-cast-t25 c = search needs
 
 cast-t26 : tie.Need-cast-t26
 cast-t26 c =
     let m = c .before .before .before .before .before .before .before .before .before .before in
     let k = m .before .before .before in
-    omega (arith, c .before .depth-at2 .ensures, k .shared-slice-known3 .given (k .before .before .before .args .from * 4 + 2))
+    omega (
+      arith,
+      c .before .depth-at2 .ensures,
+      k .shared-slice-known3 .given
+          (k .before .before .before .args .from * 4 + 2),
+    )
 
 returns-4 : tie.Need-returns-4
 returns-4 c =
@@ -80,30 +54,21 @@ returns-4 c =
     let f = e .before .before in
     let m = f .before .before .before in
     let g = m .before .before .before .before .before .before .args in
-    replay-done (g .n) (g .s) (g .k) (g .labels .now) (g .steps .now) (g .node-table .now) (g .state-table .now) (g .from) (g .to) _ (g .q) (r .replay .result)
-    (part-whole (g .n) (g .s) (g .k) (g .labels .now) (g .steps .now) (g .node-table .now) (g .state-table .now) (g .from) (g .to) _ (m .remember-moves .result) (m .remember-moves .ensures) (not-false _ (f .if1 .left))
-    (omega (arith, e .if2 .left, e .before .depth-at .ensures))) (r .replay .ensures) (c .before .before .if3 .left) _ _
-    (part-links (g .n) (g .s) (g .k) (g .labels .now) (g .steps .now) (g .node-table .now) (g .state-table .now) (g .from) (g .to) _ (m .remember-moves .result .count))
+    replay-done (g .n) (g .s) (g .k) (g .labels .now) (g .steps .now) (g .node-table .now) (g .state-table .now)
+    (g .from) (g .to) _ (g .q) (r .replay .result)
+    (part-whole (g .n) (g .s) (g .k) (g .labels .now) (g .steps .now) (g .node-table .now) (g .state-table .now)
+    (g .from) (g .to) _ (m .remember-moves .result) (m .remember-moves .ensures) (not-false _ (f .if1 .left))
+    (omega (arith, e .if2 .left, e .before .depth-at .ensures))) (r .replay .ensures) (c .before .before .if3 .left)
+    _ _
+    (part-links (g .n) (g .s) (g .k) (g .labels .now) (g .steps .now) (g .node-table .now) (g .state-table .now)
+    (g .from) (g .to) _ (m .remember-moves .result .count))
     (ap₂ (λ (x y : ℕ). x - y) (c .before .depth-at2 .ensures) (c .depth-at3 .ensures)
-    ∙ part-passed (g .n) (g .s) (g .k) (g .labels .now) (g .steps .now) (g .node-table .now) (g .state-table .now) (g .from) (g .to) _ (m .remember-moves .result) (m .remember-moves .ensures))
+    ∙ part-passed (g .n) (g .s) (g .k) (g .labels .now) (g .steps .now) (g .node-table .now) (g .state-table .now)
+    (g .from) (g .to) _ (m .remember-moves .result) (m .remember-moves .ensures))
 
 pub replay-climb-spec : {M : Type 1} → statement M
 replay-climb-spec =
     tie.close
-    (tie.spec
-    slice-aggregate-remember-moves
-    remember-moves-requires
-    returns
-    depth-at-requires
-    replay-parts-requires
-    returns-2
-    slice-aggregate-replay
-    replay-requires
-    returns-3
-    depth-at-requires-2
-    depth-at-requires-3
-    sub-passed
-    cast-t24
-    cast-t25
-    cast-t26
-    returns-4)
+    (tie.spec (λ c. search needs) (λ c κs. search needs) returns (λ c κs. search needs) (λ c κs. search needs)
+    (λ c. search needs) (λ c. search needs) (λ c κs. search needs) returns-3 (λ c κs. search needs)
+    (λ c κs. search needs) (λ c. search needs) (λ c. search needs) (λ c. search needs) cast-t26 returns-4)

@@ -26,32 +26,22 @@ abbrev μ-loop : tie.MeasureT-loop
 loop-holds : tie.Need-loop-holds Inv-loop μ-loop
 loop-holds c =
     let s = c .before .before .before .before in
-    let g = s .args in
-    (joined-start (g .n) (g .s) (g .k) (g .labels .now) (g .steps .now) (g .node-table .now) (g .state-table .now) (g .from) (g .to) _ refl
-    (λ q h. sixteen q (omega (arith, s .pre .few))) (s .pre .at), refl)
-
-depth-at-requires : tie.Need-depth-at-requires Inv-loop μ-loop
-depth-at-requires c κs = search needs
-
-slice-aggregate-remember-moves : tie.Need-slice-aggregate-remember-moves Inv-loop μ-loop
-slice-aggregate-remember-moves c = search needs
-
-remember-moves-requires : tie.Need-remember-moves-requires Inv-loop μ-loop
-remember-moves-requires c κs = search needs
+    let g = s .args in (
+      joined-start (g .n) (g .s) (g .k) (g .labels .now) (g .steps .now) (g .node-table .now) (g .state-table .now)
+          (g .from) (g .to) _ refl
+          (λ q h. sixteen q (omega (arith, s .pre .few))) (s .pre .at),
+      refl,
+    )
 
 returns : tie.Need-returns Inv-loop μ-loop
 returns c =
     let m = c .before .before .before in
     let a = m .before .before .before .before in
     let g = a .before .before .before .before .before .args in
-    joined-lost (g .n) (g .s) (g .k) (g .labels .now) (g .steps .now) (g .node-table .now) (g .state-table .now) (g .from) (g .to) (a .loop .map) (a .loop .v) (a .loop .links) (a .loop .inv .0) _ (m .remember-moves .result) (g .q)
+    joined-lost (g .n) (g .s) (g .k) (g .labels .now) (g .steps .now) (g .node-table .now) (g .state-table .now)
+    (g .from) (g .to) (a .loop .map) (a .loop .v) (a .loop .links) (a .loop .inv .0) _ (m .remember-moves .result)
+    (g .q)
     (m .remember-moves .ensures) (not-true _ (c .if2 .taken))
-
-slice-aggregate-fold-moves : tie.Need-slice-aggregate-fold-moves Inv-loop μ-loop
-slice-aggregate-fold-moves c = search needs
-
-slice-aggregate-fold-moves-2 : tie.Need-slice-aggregate-fold-moves-2 Inv-loop μ-loop
-slice-aggregate-fold-moves-2 c = search needs
 
 fold-moves-requires : tie.Need-fold-moves-requires Inv-loop μ-loop
 fold-moves-requires c κs =
@@ -60,20 +50,18 @@ fold-moves-requires c κs =
     let a = m .before .before .before .before in
     let s = a .before .before .before .before .before in
     let g = s .args in
-    let N = m .remember-moves .ensures in
-    (record { few = s .pre .few; long = a .loop .inv .0 .long },
-    record {
-      long = omega (arith, N .long, N .count);
-      nodes = N .nodes;
-      state = omega (arith, s .pre .state);
-      few = s .pre .few;
-      labels-room = s .pre .labels-room;
-      steps-room = s .pre .steps-room;
-      state-table-room = s .pre .state-table-room;
-    })
-
-cast-links : tie.Need-cast-links Inv-loop μ-loop
-cast-links c = search needs
+    let N = m .remember-moves .ensures in (
+      record { few = s .pre .few; long = a .loop .inv .0 .long },
+      record {
+        long = omega (arith, N .long, N .count);
+        nodes = N .nodes;
+        state = omega (arith, s .pre .state);
+        few = s .pre .few;
+        labels-room = s .pre .labels-room;
+        steps-room = s .pre .steps-room;
+        state-table-room = s .pre .state-table-room;
+      },
+    )
 
 add-links : tie.Need-add-links Inv-loop μ-loop
 add-links c =
@@ -91,7 +79,9 @@ loop-less c =
     let a = m .before .before .before .before in
     let s = a .before .before .before .before .before in
     let g = s .args in
-    joined-rises (g .n) (g .s) (g .k) (g .labels .now) (g .steps .now) (g .node-table .now) (g .state-table .now) (g .from) (g .to) (a .loop .map) (a .loop .v) (a .loop .links) (a .loop .inv .0) _ (m .remember-moves .result) (m .remember-moves .ensures) (not-false _ (e .if2 .left))
+    joined-rises (g .n) (g .s) (g .k) (g .labels .now) (g .steps .now) (g .node-table .now) (g .state-table .now)
+    (g .from) (g .to) (a .loop .map) (a .loop .v) (a .loop .links) (a .loop .inv .0) _ (m .remember-moves .result)
+    (m .remember-moves .ensures) (not-false _ (e .if2 .left))
     (omega (arith, m .before .before .if1 .taken, m .before .before .before .depth-at .ensures))
 
 loop-again : tie.Need-loop-again Inv-loop μ-loop
@@ -100,12 +90,13 @@ loop-again c =
     let m = e .before .before .before in
     let a = m .before .before .before .before in
     let s = a .before .before .before .before .before in
-    let g = s .args in
-    (joined-iteration (g .n) (g .s) (g .k) (g .labels .now) (g .steps .now) (g .node-table .now) (g .state-table .now) (g .from) (g .to) (a .loop .map) (a .loop .v) (a .loop .links) (a .loop .inv .0) _ (m .remember-moves .result) (m .remember-moves .ensures) (not-false _ (e .if2 .left))
-    _ (c .fold-moves .ensures), search needs)
-
-array-read-y : tie.Need-array-read-y Inv-loop μ-loop
-array-read-y c = search needs
+    let g = s .args in (
+      joined-iteration (g .n) (g .s) (g .k) (g .labels .now) (g .steps .now) (g .node-table .now)
+          (g .state-table .now) (g .from) (g .to) (a .loop .map) (a .loop .v) (a .loop .links) (a .loop .inv .0) _
+          (m .remember-moves .result) (m .remember-moves .ensures) (not-false _ (e .if2 .left))
+          _ (c .fold-moves .ensures),
+      search needs,
+    )
 
 cast-if3 : tie.Need-cast-if3 Inv-loop μ-loop
 cast-if3 c = omega (arith, c .before .before .before .before .before .before .before .pre .few)
@@ -116,18 +107,12 @@ returns-2 c =
     let a = e .before .before in
     let s = a .before .before .before .before .before in
     let g = s .args in
-    replay-lost (g .n) (g .s) (g .k) (g .labels .now) (g .steps .now) (g .node-table .now) (g .state-table .now) (g .from) (g .to) (a .loop .inv .0 .moves) (g .q) _
-    (joined-whole (g .n) (g .s) (g .k) (g .labels .now) (g .steps .now) (g .node-table .now) (g .state-table .now) (g .from) (g .to) (a .loop .map) (a .loop .v) (a .loop .links) (a .loop .inv .0) (omega (arith, e .if1 .left, e .before .depth-at .ensures)))
+    replay-lost (g .n) (g .s) (g .k) (g .labels .now) (g .steps .now) (g .node-table .now) (g .state-table .now)
+    (g .from) (g .to) (a .loop .inv .0 .moves) (g .q) _
+    (joined-whole (g .n) (g .s) (g .k) (g .labels .now) (g .steps .now) (g .node-table .now) (g .state-table .now)
+    (g .from) (g .to) (a .loop .map) (a .loop .v) (a .loop .links) (a .loop .inv .0)
+    (omega (arith, e .if1 .left, e .before .depth-at .ensures)))
     (a .loop .inv .0 .down (g .q) (s .pre .state)) (c .if3 .taken)
-
-depth-at-requires-2 : tie.Need-depth-at-requires-2 Inv-loop μ-loop
-depth-at-requires-2 c κs = search needs
-
-depth-at-requires-3 : tie.Need-depth-at-requires-3 Inv-loop μ-loop
-depth-at-requires-3 c κs = search needs
-
-sub-passed : tie.Need-sub-passed Inv-loop μ-loop
-sub-passed c = search needs
 
 cast-t35 : tie.Need-cast-t35 Inv-loop μ-loop
 cast-t35 c =
@@ -141,34 +126,20 @@ returns-3 c =
     let a = e .before .before in
     let s = a .before .before .before .before .before in
     let g = s .args in
-    replay-done (g .n) (g .s) (g .k) (g .labels .now) (g .steps .now) (g .node-table .now) (g .state-table .now) (g .from) (g .to) (a .loop .inv .0 .moves) (g .q) _
-    (joined-whole (g .n) (g .s) (g .k) (g .labels .now) (g .steps .now) (g .node-table .now) (g .state-table .now) (g .from) (g .to) (a .loop .map) (a .loop .v) (a .loop .links) (a .loop .inv .0) (omega (arith, e .if1 .left, e .before .depth-at .ensures)))
+    replay-done (g .n) (g .s) (g .k) (g .labels .now) (g .steps .now) (g .node-table .now) (g .state-table .now)
+    (g .from) (g .to) (a .loop .inv .0 .moves) (g .q) _
+    (joined-whole (g .n) (g .s) (g .k) (g .labels .now) (g .steps .now) (g .node-table .now) (g .state-table .now)
+    (g .from) (g .to) (a .loop .map) (a .loop .v) (a .loop .links) (a .loop .inv .0)
+    (omega (arith, e .if1 .left, e .before .depth-at .ensures)))
     (a .loop .inv .0 .down (g .q) (s .pre .state)) (c .before .before .if3 .left) _ _ (a .loop .inv .0 .count)
-    (ap₂ (λ (x y : ℕ). x - y) (c .before .depth-at2 .ensures) (c .depth-at3 .ensures) ∙ joined-passed (g .n) (g .s) (g .k) (g .labels .now) (g .steps .now) (g .node-table .now) (g .state-table .now) (g .from) (g .to) (a .loop .map) (a .loop .v) (a .loop .links) (a .loop .inv .0))
+    (ap₂ (λ (x y : ℕ). x - y) (c .before .depth-at2 .ensures) (c .depth-at3 .ensures) ∙ joined-passed (g .n) (g .s)
+    (g .k) (g .labels .now) (g .steps .now) (g .node-table .now) (g .state-table .now) (g .from) (g .to)
+    (a .loop .map) (a .loop .v) (a .loop .links) (a .loop .inv .0))
 
 pub replay-parts-spec : {M : Type 1} → statement M
 replay-parts-spec =
     tie.close
-    (tie.spec
-    Inv-loop
-    μ-loop
-    loop-holds
-    depth-at-requires
-    slice-aggregate-remember-moves
-    remember-moves-requires
-    returns
-    slice-aggregate-fold-moves
-    slice-aggregate-fold-moves-2
-    fold-moves-requires
-    cast-links
-    add-links
-    loop-less
-    loop-again
-    array-read-y
-    cast-if3
-    returns-2
-    depth-at-requires-2
-    depth-at-requires-3
-    sub-passed
-    cast-t35
+    (tie.spec Inv-loop μ-loop loop-holds (λ c κs. search needs) (λ c. search needs) (λ c κs. search needs) returns
+    (λ c. search needs) (λ c. search needs) fold-moves-requires (λ c. search needs) add-links loop-less loop-again
+    (λ c. search needs) cast-if3 returns-2 (λ c κs. search needs) (λ c κs. search needs) (λ c. search needs) cast-t35
     returns-3)
