@@ -1,4 +1,5 @@
 -- What holds of a branch answer on whatever is lent: a state below S, its mark, the links of the climb and the nodes it passed over.
+--     first-below    the first state is a state
 --     branch-kept    of the named result
 --     ask-kept       of the answer
 -- Assumes nothing.
@@ -11,48 +12,38 @@ use native.Mathlib.Omega.{arith}
 use lib.Dec.{ltb}
 use lib.ListN.{length, getD}
 use borrow.Author.Tests.{ltb-true}
-use Rattle.trees.specs.Climb.{Forest, Move, andThen, climb, carry}
-use Rattle.trees.specs.Passed.{passedBy}
+use Rattle.trees.specs.Climb.{andThen}
 use Rattle.trees.proofs.MoveLaws.{none-some, cond-some, both}
 use Rattle.trees.proofs.ClimbLaws.{climb-most}
 use Rattle.trees.proofs.PassedLaws.{links-passed}
-use Rattle.list_laws.specs.Rows.{tabulate}
 use Rattle.formats.specs.Plan.{nodeCount, labelsIn}
-use Rattle.formats.specs.Rules.{stateCount, labelCount, branchAutomaton}
+use Rattle.formats.specs.Rules.{stateCount, labelCount, branchSteps, branchAutomaton}
 use Rattle.formats.specs.Buffers.{headedBuffersFit, branchTables}
 use Rattle.formats.proofs.BufferLaws.{headed-are}
 use Rattle.node_tables.specs.Cells.{depthCell, cellForest}
-use Rattle.tables.proofs.FollowLaws.{MapOf, identity-map}
+use Rattle.tables.specs.declared.answers.Reached.{Reached}
+use Rattle.tables.specs.Replays.{replayOn}
+use Rattle.tables.proofs.ReplayLaws.{down-below}
 use Rattle.branches.specs.declared.answers.Reading.{Reading}
 use Rattle.branches.specs.declared.answers.Reading.the-variants.{WithUpper, BelowUpper}
 use Rattle.branches.specs.declared.answers.Branched.{Branched}
-use Rattle.branches.specs.Question.{moveMap, firstState, branched, branchOn}
+use Rattle.branches.specs.Question.{firstState, branched, branchOn}
 use Rattle.branches.specs.Question.{branchAnswer, askNumber, askAnswer}
 use Rattle.branches.specs.Promise.{BranchKept, AnswerKept}
-use Rattle.branches.proofs.AskParts.{moves-map}
+use Rattle.branches.proofs.AskParts.{replayed}
 use Rattle.branches.proofs.AskChecks.{ask-17}
 
 module _ (reading : Reading) (p r nodeTable stateTable : List ℕ) (u l : ℕ) where
   abbrev s : ℕ
   s = stateCount r
 
-  abbrev same : List ℕ
-  same = tabulate s (λ q. q)
-
-  abbrev climbs : Option (List Move)
-  climbs = climb (cellForest (nodeCount p) nodeTable) l (depthCell nodeTable u)
+  abbrev replays : ℕ → Option Reached
+  replays q = replayOn (nodeCount p) s (labelCount r) (labelsIn p) (branchSteps r) nodeTable stateTable l (depthCell nodeTable u) q
 
   abbrev Kept : Branched → Type 0
   Kept b = BranchKept p r nodeTable u l b
 
-  abbrev passed : List Move → ℕ
-  passed ms = passedBy (cellForest (nodeCount p) nodeTable) l ms
-
-  -- as branchOn has it
-  abbrev told : List Move → List ℕ → ℕ → Option Branched
-  told ms m q = some (branched (branchAutomaton r) (getD m q 0) (length ms) (passed ms))
-
-  first-below : (w : Reading) (q : ℕ) → 0 < s → firstState w p r u ≡ some q → q < s
+  pub first-below : (w : Reading) (q : ℕ) → 0 < stateCount r → firstState w p r u ≡ some q → q < stateCount r
   unfolding firstState
   first-below WithUpper q z e =
       let a : ℕ = getD (labelsIn p) u 0 in
@@ -64,34 +55,34 @@ module _ (reading : Reading) (p r nodeTable stateTable : List ℕ) (u l : ℕ) w
   pub branch-kept : 0 < stateCount r → (b : Branched) → branchOn reading p r nodeTable stateTable u l ≡ some b
       → BranchKept p r nodeTable u l b
   unfolding branchOn
-  branch-kept z b e = climbed climbs refl e
+  branch-kept z b e = started (firstState reading p r u) refl e
     where
-      finished : (ms : List Move) → climbs ≡ some ms → (m : List ℕ) → MapOf s m → (o : Option ℕ) → firstState reading p r u ≡ o
-          → andThen o (told ms m) ≡ some b → Kept b
-      finished ms c m M none f i = absurd (none-some i)
-      finished ms c m M (some q) f i =
-          subst Kept (Option·some-injective (branched (branchAutomaton r) (getD m q 0) (length ms) (passed ms)) b i) (record {
-            state-below = M .below q (first-below reading q z f);
+      told : (q : ℕ) → q < s → (o : Option Reached) → replays q ≡ o
+          → andThen o (λ x. some (branched (branchAutomaton r) (x .state) (x .links) (x .passed))) ≡ some b → Kept b
+      told q h none f i = absurd (none-some i)
+      told q h (some x) f i =
+          let w = replayed (nodeCount p) s (labelCount r) (labelsIn p) (branchSteps r) nodeTable stateTable l (depthCell nodeTable u) q x f in
+          subst Kept (Option·some-injective (branched (branchAutomaton r) (x .state) (x .links) (x .passed)) b i) (record {
+            state-below = down-below s (labelCount r) (labelsIn p) (branchSteps r) stateTable (w .moves) q (x .state) h (w .down);
             mark = refl;
-            moves = ms;
-            climbed = c;
-            links-are = refl;
-            links-most = climb-most (cellForest (nodeCount p) nodeTable) l (depthCell nodeTable u) ms c;
-            passed-is = refl;
-            links-passed = links-passed (cellForest (nodeCount p) nodeTable) l (depthCell nodeTable u) ms c;
+            moves = w .moves;
+            climbed = w .climbed;
+            links-are = w .links;
+            links-most = omega (arith, w .links, climb-most (cellForest (nodeCount p) nodeTable) l (depthCell nodeTable u) (w .moves) (w .climbed));
+            passed-is = w .passed;
+            links-passed = omega (
+              arith,
+              w .links,
+              w .passed,
+              links-passed (cellForest (nodeCount p) nodeTable) l (depthCell nodeTable u) (w .moves) (w .climbed),
+            );
           })
 
-      carried : (ms : List Move) → climbs ≡ some ms → (o : Option (List ℕ)) → carry (moveMap p r stateTable) ms same ≡ o
-          → andThen o (λ m. andThen (firstState reading p r u) (told ms m)) ≡ some b → Kept b
-      carried ms c none a i = absurd (none-some i)
-      carried ms c (some m) a i =
-          finished ms c m (moves-map p r stateTable ms same m (identity-map s) a) (firstState reading p r u) refl i
-
-      climbed : (o : Option (List Move)) → climbs ≡ o
-          → andThen o (λ ms. andThen (carry (moveMap p r stateTable) ms same) (λ m.
-          andThen (firstState reading p r u) (told ms m))) ≡ some b → Kept b
-      climbed none c i = absurd (none-some i)
-      climbed (some ms) c i = carried ms c (carry (moveMap p r stateTable) ms same) refl i
+      started : (o : Option ℕ) → firstState reading p r u ≡ o
+          → andThen o (λ q. andThen (replays q) (λ x.
+          some (branched (branchAutomaton r) (x .state) (x .links) (x .passed)))) ≡ some b → Kept b
+      started none f i = absurd (none-some i)
+      started (some q) f i = told q (first-below reading q z f) (replays q) refl i
 
   pub ask-kept : AnswerKept p r nodeTable u l (askAnswer reading p r nodeTable stateTable u l)
   unfolding askAnswer branchAnswer

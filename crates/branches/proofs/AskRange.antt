@@ -1,5 +1,5 @@
 -- Where a branch question gives 18: a value leads outside the plan, the states or the labels, or the climb does not rise.
---     follow-none, move-none, first-none   a map, a move, the upper node's label
+--     move-none, down-none, climb-none, first-none   a move, the moves of a climb, the climb, the upper node's label
 --     branch-out-of-range                        the named result
 --     ask-out-of-range                           the answer
 --     usable-in-range                    numbers as built and maps of states lead nowhere outside: there 18 has no cause
@@ -17,50 +17,41 @@ use lib.Dec.{ltb}
 use lib.ListN.{length, getD}
 use lib.Seq.{getD-take, take-all}
 use borrow.Author.Tests.{ltb-true, ltb-false}
-use Rattle.trees.specs.Climb.{Forest, Move, byJump, toParent, andThen, climb, carry}
+use Rattle.trees.specs.Climb.{Forest, Move, byJump, toParent, target, nextMove, andThen, climb, carry}
 use Rattle.trees.specs.Passed.{passedBy}
 use Rattle.trees.specs.LinkOutOfRange.{LinkOutOfRange}
-use Rattle.list_laws.specs.Rows.{tabulate}
-use Rattle.trees.proofs.MoveLaws.{none-some, next-starts}
-use Rattle.trees.proofs.CarryLaws.{carried}
-use Rattle.trees.proofs.LinkRangeLaws.{Failed, carried-none}
-use Rattle.list_laws.proofs.RowLaws.{stride, length-tabulate, getD-tabulate}
+use Rattle.trees.proofs.MoveLaws.{none-some, next-starts, next-inside}
+use Rattle.trees.proofs.ClimbLaws.{Split, climb-cons}
+use Rattle.trees.proofs.LinkRangeLaws.{carried-none}
+use Rattle.list_laws.proofs.RowLaws.{stride}
 use Rattle.trees.proofs.BranchMapLaws.{branchMap-below}
 use Rattle.list_laws.specs.Tests.{allBelow}
 use Rattle.formats.specs.Plan.{nodeCount, labelsIn, planTree}
-use Rattle.formats.specs.Rules.{stateCount, labelCount, branchAutomaton}
+use Rattle.formats.specs.Rules.{stateCount, labelCount, branchSteps, branchAutomaton}
 use Rattle.formats.specs.Checks.{check, firstNo, branchTableChecks, stateTableLength}
 use Rattle.formats.specs.Built.{builtNodeTable, builtBranchTable, nodeTablePart, stateTablePart, BranchBuilt}
 use Rattle.formats.specs.Buffers.{headedBuffersFit, branchTables}
-use Rattle.list_laws.proofs.TestLaws.{allBelow-all, allBelow-not}
+use Rattle.list_laws.proofs.TestLaws.{allBelow-all}
 use Rattle.formats.proofs.BufferLaws.{headed-are}
 use Rattle.formats.proofs.InputLaws.{branch-table-passes}
 use Rattle.node_tables.specs.Cells.{depthCell, cellForest, isInSubtreeOn}
 use Rattle.node_tables.proofs.RangeLaws.{cell-links-in-range}
-use Rattle.tables.specs.Compose.{follow}
+use Rattle.tables.specs.declared.answers.Reached.{Reached}
+use Rattle.tables.specs.Climbs.{below, reached}
+use Rattle.tables.specs.Replays.{stateMove, carryDown, replayOn}
+use Rattle.tables.proofs.LookupLaws.{below-none}
+use Rattle.tables.proofs.ReplayLaws.{down-below}
 use Rattle.tables.specs.StateCells.{mapCell}
 use Rattle.branches.specs.declared.answers.Reading.{Reading}
 use Rattle.branches.specs.declared.answers.Reading.the-variants.{WithUpper, BelowUpper}
 use Rattle.branches.specs.declared.answers.Branched.{Branched}
-use Rattle.branches.specs.Question.{moveMap, firstState, branched, branchOn}
+use Rattle.branches.specs.Question.{firstState, branched, branchOn}
 use Rattle.branches.specs.Question.{isSome, askChecks, askNumber}
 use Rattle.branches.specs.OutOfRange.{BranchOutOfRange, link, map, step, label}
 use Rattle.branches.specs.Promise.{BranchUsable}
+use Rattle.branches.proofs.AskKept.{first-below}
 use Rattle.branches.proofs.BranchInputs.{length-builtSteps}
 use Rattle.branches.proofs.AskBuilt.{size-is, built-links, label-below, built-step, built-map}
-
--- a map that can't be followed has an entry that is no state
-follow-none : (s : ℕ) (m : List ℕ) (f : ℕ → ℕ) → follow s m f ≡ none → (q : ℕ) × (q < s) × (s ≤ f q)
-unfolding follow
-follow-none s m f = go (allBelow s (tabulate s f)) refl
-  where
-    go : (b : Bool) → allBelow s (tabulate s f) ≡ b → cond b (some (tabulate s (λ q. getD m (f q) 0))) none ≡ none
-        → (q : ℕ) × (q < s) × (s ≤ f q)
-    go true b e = absurd (none-some (sym e))
-    go false b e =
-        let x = allBelow-not s (tabulate s f) b in
-        let h : x .0 < s = omega (arith, x .1, length-tabulate s f) in
-        (x .0, h, omega (arith, x .2, getD-tabulate s f (x .0) h))
 
 module _ (p r nodeTable stateTable : List ℕ) where
   abbrev Lost : Type 0
@@ -69,36 +60,56 @@ module _ (p r nodeTable stateTable : List ℕ) where
   abbrev F : Forest
   F = cellForest (nodeCount p) nodeTable
 
+  abbrev act : Move → ℕ → Option ℕ
+  act = stateMove (stateCount r) (labelCount r) (labelsIn p) (branchSteps r) stateTable
+
   -- ---- a move
 
-  label-none : (v : ℕ) (m : List ℕ) → v < nodeCount p → moveMap p r stateTable (toParent v) m ≡ none → Lost
-  unfolding moveMap
-  label-none v m h = go (ltb (getD (labelsIn p) v 0) (labelCount r)) refl
+  label-none : (v q : ℕ) → v < nodeCount p → q < stateCount r → act (toParent v) q ≡ none → Lost
+  unfolding stateMove
+  label-none v q h i = go (ltb (getD (labelsIn p) v 0) (labelCount r)) refl
     where
       a : ℕ
       a = getD (labelsIn p) v 0
 
-      go : (b : Bool) → ltb a (labelCount r) ≡ b → cond b (follow (stateCount r) m (λ q. branchAutomaton r .step q a)) none ≡ none → Lost
-      go true b e =
-          let x = follow-none (stateCount r) m (λ q. branchAutomaton r .step q a) e in
-          step (x .0) a (x .1) (ltb-true a (labelCount r) b) (x .2)
+      go : (b : Bool) → ltb a (labelCount r) ≡ b → cond b (below (stateCount r) (branchAutomaton r .step q a)) none ≡ none → Lost
+      go true b e = step q a i (ltb-true a (labelCount r) b) (below-none (stateCount r) (branchAutomaton r .step q a) e)
       go false b e = label v h (ltb-false a (labelCount r) b)
 
-  jump-none : (v : ℕ) (m : List ℕ) → v < nodeCount p → moveMap p r stateTable (byJump v) m ≡ none → Lost
-  unfolding moveMap
-  jump-none v m h e =
-      let x = follow-none (stateCount r) m (mapCell (stateCount r) stateTable v) e in
-      map v (x .0) h (x .1) (x .2)
+  jump-none : (v q : ℕ) → v < nodeCount p → q < stateCount r → act (byJump v) q ≡ none → Lost
+  unfolding stateMove
+  jump-none v q h i e = map v q h i (below-none (stateCount r) (mapCell (stateCount r) stateTable v q) e)
 
-  abbrev keeps : (i : Move) (x y : List ℕ) → Unit {0} → moveMap p r stateTable i x ≡ some y → Unit {0}
-  keeps i x y h e = tt
-
-  move-none : (t : ℕ) → Failed F (moveMap p r stateTable) (λ m. Unit {0}) keeps t → Lost
-  move-none t f = go (next-starts F (f .node) t (f .move) (f .next))
+  move-none : (v t q : ℕ) (m : Move) → v < nodeCount p → q < stateCount r → nextMove F v t ≡ some m → act m q ≡ none → Lost
+  move-none v t q m h i n e = go (next-starts F v t m n)
     where
-      go : (f .move ≡ byJump (f .node)) ⊎ (f .move ≡ toParent (f .node)) → Lost
-      go (inl e) = jump-none (f .node) (f .value) (f .inside) (subst (λ (i : Move). moveMap p r stateTable i (f .value) ≡ none) e (f .nothing))
-      go (inr e) = label-none (f .node) (f .value) (f .inside) (subst (λ (i : Move). moveMap p r stateTable i (f .value) ≡ none) e (f .nothing))
+      go : (m ≡ byJump v) ⊎ (m ≡ toParent v) → Lost
+      go (inl z) = jump-none v q h i (subst (λ (j : Move). act j q ≡ none) z e)
+      go (inr z) = label-none v q h i (subst (λ (j : Move). act j q ≡ none) z e)
+
+  -- ---- the moves of a climb, from the last to the first
+
+  down-none : (v t q : ℕ) (ms : List Move) → v < nodeCount p → q < stateCount r → climb F v t ≡ some ms → carryDown act ms q ≡ none
+      → Lost
+  down-none v t q [] h i c e = absurd (none-some (sym e))
+  down-none v t q (m ∷ ms) h i c e =
+      let w = climb-cons F v t m ms c in
+      go w (carryDown act ms q) refl e (down-none (target F m) t q ms (next-inside F v t m (w .next)) i (w .more))
+    where
+      go : Split F v t m ms → (o : Option ℕ) → carryDown act ms q ≡ o → andThen o (act m) ≡ none
+          → (carryDown act ms q ≡ none → Lost) → Lost
+      go w none d f ih = ih d
+      go w (some x) d f ih =
+          move-none v t x m h (down-below (stateCount r) (labelCount r) (labelsIn p) (branchSteps r) stateTable ms q x i d) (w .next) f
+
+  -- a climb that is not found
+  climb-none : (v t : ℕ) → v < nodeCount p → climb F v t ≡ none → Lost
+  climb-none v t h e =
+      elim (carried-none F (λ m (x : ℕ). some x) (λ x. Unit {0}) (λ m x y i j. tt) t v 0 h tt
+      (ap (λ (o : Option (List Move)). andThen o (λ ms. carry (λ m (x : ℕ). some x) ms 0)) e)) [
+        | inl s ↦ link s
+        | inr f ↦ absurd (none-some (sym (f .nothing)))
+      ]
 
   -- ---- the upper node's label
 
@@ -119,41 +130,39 @@ module _ (p r nodeTable stateTable : List ℕ) where
   -- ---- the question
 
   module _ (reading : Reading) (u l : ℕ) (hu : u < nodeCount p) (hl : l < nodeCount p) (z : 0 < stateCount r) where
-    abbrev same : List ℕ
-    same = tabulate (stateCount r) (λ q. q)
-
-    climbed-none : carried F (moveMap p r stateTable) l (depthCell nodeTable u) same ≡ none → Lost
-    climbed-none e = elim (carried-none F (moveMap p r stateTable) (λ m. Unit {0}) keeps (depthCell nodeTable u) l same hl tt e) [
-      | inl s ↦ link s
-      | inr f ↦ move-none (depthCell nodeTable u) f
-    ]
-
     -- as branchOn has it
-    abbrev told : List Move → List ℕ → ℕ → Option Branched
-    told ms m q = some (branched (branchAutomaton r) (getD m q 0) (length ms) (passedBy F l ms))
+    abbrev told : Reached → Option Branched
+    told x = some (branched (branchAutomaton r) (x .state) (x .links) (x .passed))
+
+    abbrev replays : ℕ → Option Reached
+    replays q = replayOn (nodeCount p) (stateCount r) (labelCount r) (labelsIn p) (branchSteps r) nodeTable stateTable l
+        (depthCell nodeTable u) q
+
+    replay-none : (q : ℕ) → q < stateCount r → replays q ≡ none → Lost
+    unfolding replayOn
+    replay-none q h = go (climb F l (depthCell nodeTable u)) refl
+      where
+        found : (ms : List Move) → climb F l (depthCell nodeTable u) ≡ some ms → (o : Option ℕ) → carryDown act ms q ≡ o
+            → andThen o (λ x. some (reached x (length ms) (passedBy F l ms))) ≡ none → Lost
+        found ms c none d e = down-none l (depthCell nodeTable u) q ms hl h c d
+        found ms c (some x) d e = absurd (none-some (sym e))
+
+        go : (o : Option (List Move)) → climb F l (depthCell nodeTable u) ≡ o
+            → andThen o (λ ms. andThen (carryDown act ms q) (λ x. some (reached x (length ms) (passedBy F l ms)))) ≡ none → Lost
+        go none c e = climb-none l (depthCell nodeTable u) hl c
+        go (some ms) c e = found ms c (carryDown act ms q) refl e
 
     branch-out-of-range : branchOn reading p r nodeTable stateTable u l ≡ none → Lost
     unfolding branchOn
-    branch-out-of-range = go (climb F l (depthCell nodeTable u)) refl
+    branch-out-of-range = go (firstState reading p r u) refl
       where
-        finished : (ms : List Move) (m : List ℕ) (o : Option ℕ) → firstState reading p r u ≡ o
-            → andThen o (told ms m) ≡ none → Lost
-        finished ms m none f e = first-none reading u hu z f
-        finished ms m (some q) f e = absurd (none-some (sym e))
+        ended : (q : ℕ) → q < stateCount r → (o : Option Reached) → replays q ≡ o → andThen o told ≡ none → Lost
+        ended q h none d e = replay-none q h d
+        ended q h (some x) d e = absurd (none-some (sym e))
 
-        carries : (ms : List Move) → climb F l (depthCell nodeTable u) ≡ some ms → (o : Option (List ℕ))
-            → carry (moveMap p r stateTable) ms same ≡ o
-            → andThen o (λ m. andThen (firstState reading p r u) (told ms m)) ≡ none → Lost
-        carries ms c none a e =
-            climbed-none (ap (λ (o : Option (List Move)). andThen o (λ ms. carry (moveMap p r stateTable) ms same)) c ∙ a)
-        carries ms c (some m) a e = finished ms m (firstState reading p r u) refl e
-
-        go : (o : Option (List Move)) → climb F l (depthCell nodeTable u) ≡ o
-            → andThen o (λ ms.
-            andThen (carry (moveMap p r stateTable) ms same) (λ m.
-            andThen (firstState reading p r u) (told ms m))) ≡ none → Lost
-        go none c e = climbed-none (ap (λ (o : Option (List Move)). andThen o (λ ms. carry (moveMap p r stateTable) ms same)) c)
-        go (some ms) c e = carries ms c (carry (moveMap p r stateTable) ms same) refl e
+        go : (o : Option ℕ) → firstState reading p r u ≡ o → andThen o (λ q. andThen (replays q) told) ≡ none → Lost
+        go none f e = first-none reading u hu z f
+        go (some q) f e = ended q (first-below reading p r nodeTable stateTable u l reading q z f) (replays q) refl e
 
   -- 18 comes only after 17, 13 and 16
   pub ask-out-of-range : (reading : Reading) (u l : ℕ) → askNumber reading p r nodeTable stateTable u l ≡ 18 → Lost

@@ -17,39 +17,38 @@ use borrow.Author.Tests.{lt-ltb}
 use Rattle.trees.specs.Tree.{Tree, size, height, labelAt}
 use Rattle.trees.specs.Automaton.{WordAutomaton, wordRun}
 use Rattle.trees.specs.Numbering.{sub, depth, ancestor, labelsDown, wordBelow, AtOrBelow}
-use Rattle.trees.specs.Climb.{Move, andThen, climb, carry, walk, moveCount, digits}
+use Rattle.trees.specs.Climb.{Move, andThen, climb, moveCount, digits}
 use Rattle.trees.specs.Passed.{passedBy}
-use Rattle.list_laws.specs.Rows.{tabulate}
 use Rattle.trees.proofs.WordLaws.{word-below}
 use Rattle.trees.proofs.HeightLaws.{depth-height}
 use Rattle.trees.proofs.IntervalLaws.{ancestor-interval, interval-ancestor, above-at}
 use Rattle.trees.proofs.MoveCount.{moveCount-done, moveCount-bound}
 use Rattle.list_laws.proofs.Choice.{le-or}
-use Rattle.list_laws.proofs.RowLaws.{getD-tabulate}
 use Rattle.trees.proofs.ClimbLaws.{climb-done}
 use Rattle.trees.proofs.TreeClimbs.{Climbed, climb-tree}
 use Rattle.formats.specs.Plan.{nodeCount, labelsIn, planTree}
-use Rattle.formats.specs.Rules.{stateCount, labelCount, branchAutomaton}
+use Rattle.formats.specs.Rules.{stateCount, labelCount, branchSteps, branchAutomaton}
 use Rattle.formats.specs.Built.{BranchBuilt}
 use Rattle.formats.specs.Buffers.{headedBuffersFit, branchTables}
-use Rattle.formats.proofs.BufferLaws.{headed-are}
 use Rattle.node_tables.specs.Cells.{depthCell, cellForest}
 use Rattle.node_tables.specs.Cells.{isInSubtreeOn}
+use Rattle.tables.specs.declared.answers.Reached.{Reached}
+use Rattle.tables.specs.Climbs.{reached}
+use Rattle.tables.specs.Replays.{stateMove, carryDown, replayOn}
 use Rattle.branches.specs.declared.answers.Reading.{Reading}
 use Rattle.branches.specs.declared.answers.Reading.the-variants.{WithUpper, BelowUpper}
 use Rattle.branches.specs.declared.answers.Branching.{Branching}
 use Rattle.branches.specs.declared.answers.Branching.the-variants.{Answered, Refused}
 use Rattle.branches.specs.declared.answers.Branched.{Branched}
-use Rattle.branches.specs.Question.{moveMap, firstState, branched, branchOn}
+use Rattle.branches.specs.Question.{firstState, branched, branchOn}
 use Rattle.branches.specs.Question.{branchAnswer, askNumber, askAnswer, branchNumber}
 use Rattle.branches.specs.OutOfRange.{BranchOutOfRange}
 use Rattle.branches.specs.Promise.{wordOf, wordAnswer, AnswerKept, linksTold, passedTold, AskDone}
 use Rattle.branches.proofs.FinishLaws.{in-subtree-is, is-in-subtree}
-use Rattle.branches.proofs.WordWalks.{labelStep, walk-identity}
 use Rattle.branches.proofs.AskBuilt.{size-is, fits-built, built-links, built-climb, built-passed, built-label}
 use Rattle.branches.proofs.AskBuilt.{table-passes, label-below, built-step}
 use Rattle.branches.proofs.AskChecks.{ask-number, ask-13-upper, ask-13-lower, ask-16, ask-on, ask-not-below}
-use Rattle.branches.proofs.AskClimb.{carry-built}
+use Rattle.branches.proofs.AskClimb.{down-built}
 use Rattle.branches.proofs.AskRange.{ask-out-of-range, usable-in-range}
 use Rattle.branches.proofs.AskKept.{ask-kept}
 
@@ -123,21 +122,17 @@ module _ (reading : Reading) (p r nodeTable stateTable : List ℕ) (D : BranchBu
         ap (climb (cellForest (nodeCount p) nodeTable) l) (built-links p r nodeTable stateTable D .depths u upper-in)
         ∙ built-climb p r nodeTable stateTable D l (depth t u) lower-in ∙ climbed .found
 
-    -- the map of the labels below the upper node's
-    abbrev walked : List ℕ
-    walked = walk (labelStep B t) t l (depth t l - depth t u) (tabulate (stateCount r) (λ q. q))
+    down : carryDown (stateMove (stateCount r) (labelCount r) (labelsIn p) (branchSteps r) stateTable) (climbed .moves) first
+        ≡ some (wordRun B 0 (wordOf reading t u l))
+    down =
+        down-built p r nodeTable stateTable D l (depth t u) first (climbed .moves) lower-in first-below (above-is .0) (climbed .found)
+        ∙ ap some (sym (word-down reading B t u l lower-in above))
 
-    carried : carry (moveMap p r stateTable) (climbed .moves) (tabulate (stateCount r) (λ q. q))
-        ≡ some walked
-    carried = carry-built p r nodeTable stateTable D l (depth t u) (climbed .moves) lower-in (above-is .0) (climbed .found)
+    abbrev result : Reached → Option Branched
+    result x = some (branched B (x .state) (x .links) (x .passed))
 
-    state-built : getD walked first 0 ≡ wordRun B 0 (wordOf reading t u l)
-    state-built =
-        walk-identity B t (built-step p r nodeTable stateTable D) l (depth t l - depth t u) first first-below
-        ∙ sym (word-down reading B t u l lower-in above)
-
-    abbrev result : List Move → List ℕ → ℕ → Option Branched
-    result ms m q = some (branched B (getD m q 0) (length ms) (passedBy (cellForest (nodeCount p) nodeTable) l ms))
+    abbrev counted : List Move → ℕ → Option Reached
+    counted ms x = some (reached x (length ms) (passedBy (cellForest (nodeCount p) nodeTable) l ms))
 
     passed-built : passedBy (cellForest (nodeCount p) nodeTable) l (climbed .moves) ≡ depth t l - depth t u
     passed-built =
@@ -146,20 +141,17 @@ module _ (reading : Reading) (p r nodeTable stateTable : List ℕ) (D : BranchBu
 
     branch-on-built : branchOn reading p r nodeTable stateTable u l
         ≡ some (branched B (wordRun B 0 (wordOf reading t u l)) (moveCount (depth t l) (depth t u)) (depth t l - depth t u))
-    unfolding branchOn
+    unfolding branchOn replayOn
     branch-on-built =
-        on-some (climb (cellForest (nodeCount p) nodeTable) l (depthCell nodeTable u)) (climbed .moves)
-        (λ ms. andThen (carry (moveMap p r stateTable) ms (tabulate (stateCount r) (λ q. q)))
-        (λ m. andThen (firstState reading p r u) (result ms m)))
+        on-some (firstState reading p r u) first
+        (λ q. andThen (replayOn (nodeCount p) (stateCount r) (labelCount r) (labelsIn p) (branchSteps r) nodeTable stateTable l
+        (depthCell nodeTable u) q) result) first-built
+        ∙ ap (λ (o : Option Reached). andThen o result)
+        (on-some (climb (cellForest (nodeCount p) nodeTable) l (depthCell nodeTable u)) (climbed .moves)
+        (λ ms. andThen (carryDown (stateMove (stateCount r) (labelCount r) (labelsIn p) (branchSteps r) stateTable) ms first) (counted ms))
         climb-built
-        ∙ on-some (carry (moveMap p r stateTable) (climbed .moves) (tabulate (stateCount r) (λ q. q)))
-        walked
-        (λ m. andThen (firstState reading p r u) (result (climbed .moves) m)) carried
-        ∙ on-some (firstState reading p r u) first
-        (result (climbed .moves) walked) first-built
-        ∙ ap₂ (λ (q n : ℕ). some (branched B q n (passedBy (cellForest (nodeCount p) nodeTable) l (climbed .moves))))
-        state-built (climbed .count)
-        ∙ ap (λ (d : ℕ). some (branched B (wordRun B 0 (wordOf reading t u l)) (moveCount (depth t l) (depth t u)) d)) passed-built
+        ∙ ap (λ (o : Option ℕ). andThen o (counted (climbed .moves))) down)
+        ∙ ap₂ (λ (n d : ℕ). some (branched B (wordRun B 0 (wordOf reading t u l)) n d)) (climbed .count) passed-built
 
     below-built : isInSubtreeOn nodeTable u l ≡ true
     below-built =
@@ -256,18 +248,17 @@ pub empty-word-lent : (p r nodeTable stateTable : List ℕ) (u : ℕ)
     → headedBuffersFit branchTables p r (length nodeTable) (length stateTable) ≡ true → u < nodeCount p
     → isInSubtreeOn nodeTable u u ≡ true
     → askAnswer BelowUpper p r nodeTable stateTable u u ≡ Answered (branched (branchAutomaton r) 0 0 0)
-unfolding branchOn firstState branchAnswer
+unfolding branchOn firstState branchAnswer replayOn
 empty-word-lent p r nodeTable stateTable u f h i =
-    let z : 0 < stateCount r =
-    omega (arith, headed-are branchTables p r (length nodeTable) (length stateTable) f .headers .in-limits .states) in
     ask-on BelowUpper p r nodeTable stateTable u u f h h i
     ∙ ap (branchAnswer 0)
-    (on-some (climb (cellForest (nodeCount p) nodeTable) u (depthCell nodeTable u)) []
-    (λ ms. andThen (carry (moveMap p r stateTable) ms (tabulate (stateCount r) (λ q. q)))
-    (λ m. some (branched (branchAutomaton r) (getD m 0 0) (length ms) (passedBy (cellForest (nodeCount p) nodeTable) u ms))))
+    (ap (λ (o : Option (List Move)). andThen (andThen o (λ ms.
+    andThen (carryDown (stateMove (stateCount r) (labelCount r) (labelsIn p) (branchSteps r) stateTable) ms 0) (λ x.
+    some (reached x (length ms) (passedBy (cellForest (nodeCount p) nodeTable) u ms)))))
+    (λ x. some (branched (branchAutomaton r) (x .state) (x .links) (x .passed))))
     (climb-done (cellForest (nodeCount p) nodeTable) u (depthCell nodeTable u) (omega arith))
-    ∙ ap₂ (λ (q d : ℕ). some (branched (branchAutomaton r) q 0 d)) (getD-tabulate (stateCount r) (λ q. q) 0 z)
-    (let e : depthCell nodeTable u - depthCell nodeTable u ≡ 0 = omega arith in e))
+    ∙ (let e : depthCell nodeTable u - depthCell nodeTable u ≡ 0 = omega arith in
+    ap (λ (d : ℕ). some (branched (branchAutomaton r) 0 0 d)) e))
 
 pub empty-word : (p r nodeTable stateTable : List ℕ) → BranchBuilt p r nodeTable stateTable → (u : ℕ) → u < nodeCount p
     → askAnswer BelowUpper p r nodeTable stateTable u u ≡ Answered (branched (branchAutomaton r) 0 0 0)

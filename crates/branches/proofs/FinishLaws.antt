@@ -1,7 +1,6 @@
--- Check 16, and the end of a branch question.
+-- Check 16, and the first state of a branch question.
 --     in-subtree-is, is-in-subtree                       what it says, and back
 --     first-no-label, first-label, first-start           the first state, in each reading
---     finish-none, finish-result                         what is told of a composed map
 -- Assumes nothing.
 use Prim.Native.Nat.{ℕ, _+_, _-_, _*_, _≤_, _<_}
 use mathlib.Core.Path.{_≡_, sym, ap, _∙_}
@@ -14,16 +13,10 @@ use borrow.Author.Tests.{leb-true, le-leb, lt-leb, ltb-true, lt-ltb, le-ltb}
 use Rattle.trees.specs.Numbering.{isInSubtree}
 use Rattle.list_laws.proofs.Choice.{le-or}
 use Rattle.list_laws.proofs.BoolLaws.{and-both, and-left, and-right, and-no-left, and-no-right}
-use Rattle.formats.specs.Rules.{wordAutomaton}
 use Rattle.node_tables.specs.Cells.{sizeCell}
 use Rattle.node_tables.specs.Cells.{isInSubtreeOn}
-use Rattle.tables.specs.Compose.{mapAt}
-use Rattle.tables.proofs.MapHalves.{getD-mapAt}
-use Rattle.branches.specs.declared.answers.Reading.{Reading}
 use Rattle.branches.specs.declared.answers.Reading.the-variants.{WithUpper, BelowUpper}
-use Rattle.branches.specs.declared.answers.Branching.the-variants.{Answered, Refused}
-use Rattle.branches.specs.Question.{branched, branchAnswer}
-use Rattle.branches.specs.inner.Finish.{firstOf, numbered, finish}
+use Rattle.branches.specs.inner.Finish.{firstOf, numbered}
 
 -- ---- check 16
 
@@ -60,16 +53,3 @@ module _ (s k : ℕ) (ls st : List ℕ) (u : ℕ) where
   pub first-start : 0 < s → firstOf BelowUpper s k ls st u ≡ numbered s 0
   unfolding firstOf
   first-start h = rw (lt-ltb 0 s h)
-
-  -- ---- what is told
-
-  module _ (reading : Reading) (q : ℕ) (first : firstOf reading s k ls st u ≡ numbered s q) where
-    pub finish-none : (mk m : List ℕ) (c d : ℕ) → s ≤ q → Refused 18 ≡ branchAnswer 0 (finish reading s k ls st mk u m c d)
-    unfolding finish branchAnswer
-    finish-none mk m c d h = rw (first, le-ltb q s h)
-
-    pub finish-result : (mk maps : List ℕ) (at c d : ℕ) → q < s
-        → Answered (branched (wordAutomaton s k st mk) (getD maps (at + q) 0) c d)
-        ≡ branchAnswer 0 (finish reading s k ls st mk u (mapAt s maps at) c d)
-    unfolding finish branchAnswer
-    finish-result mk maps at c d h = rw (first, lt-ltb q s h, getD-mapAt s maps at q h)

@@ -2,7 +2,6 @@ pub mod FinishLaws
 pub mod AskParts
 pub mod AskAnswer
 pub mod AskChecks
-pub mod WordWalks
 pub mod AskBuilt
 pub mod AskClimb
 pub mod AskRange

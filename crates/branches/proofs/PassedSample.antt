@@ -16,10 +16,11 @@ use Rattle.formats.specs.Rules.{branchAutomaton}
 use Rattle.formats.specs.Checks.{firstNo}
 use Rattle.formats.specs.Built.{builtNodeTable, builtBranchTable}
 use Rattle.formats.specs.Buffers.{limitsFit, buffersFit, headersFit, headedBuffersFit}
-use Rattle.tables.specs.Compose.{follow}
+use Rattle.tables.specs.Climbs.{below}
+use Rattle.tables.specs.Replays.{stateMove, replayOn}
 use Rattle.branches.specs.declared.answers.Reading.the-variants.{WithUpper, BelowUpper}
 use Rattle.branches.specs.declared.answers.Branching.the-variants.{Answered}
-use Rattle.branches.specs.Question.{moveMap, firstState, branched, branchOn, askChecks, askNumber, branchAnswer}
+use Rattle.branches.specs.Question.{firstState, branched, branchOn, askChecks, askNumber, branchAnswer}
 use Rattle.branches.specs.Question.{askAnswer}
 
 -- N 13, labels 0 0 0 0 1 1 1 1 0 1 1 1 0, kinds 0 0 0 0 1 1 0 1 0 1 0 1 1
@@ -39,5 +40,5 @@ pub gap-branch :
     ≡ Answered (branched (branchAutomaton gapTable) 1 2 6))
 unfolding gapPlan gapTable split sub parent depth ancestor labelsDown word isInSubtree treeOf jumpIn jump nextMove
     climbIn climb tabulate rows allBelow nodeTableOf branchState branchMap branchTableOf firstNo limitsFit buffersFit
-    headersFit headedBuffersFit follow moveMap firstState branchOn askChecks askNumber branchAnswer askAnswer
+    headersFit headedBuffersFit below stateMove replayOn firstState branchOn askChecks askNumber branchAnswer askAnswer
 gap-branch = (refl, refl)

@@ -3,7 +3,6 @@
 -- Reading (src/answers) == which word is read: WithUpper, with the upper node's label; BelowUpper, from below the upper node
 -- check 17 goes by the headers: headedBuffersFit branchTables (crate formats, Buffers)
 -- check 16 goes by the lent size of the upper node u: isInSubtreeOn nodeTable u l (crate node_tables, Cells)
--- moveMap .. == what one move of the climb makes of the map from the node reached so far down to the lower node
 -- firstState reading .. == the state that the word below the upper node starts in: after its label, or 0, for which nothing is read
 -- branchOn .. == the answer on these tables: none where a value read leads outside the plan, the states or the labels, or a climb
 --   does not rise (check 18)
@@ -11,8 +10,8 @@
 -- askAnswer .. == the answer
 --
 -- "It tells state, yes or no, and the links of the climb from the lower node to the upper's depth", and the nodes that this climb passed
--- over (02, S-7). The word runs downward while the climb goes up, so each move puts its own map before the map carried so far. Both
--- readings ask the same checks and make the same climb.
+-- over (02, S-7). The word runs downward while the climb goes up, so the first state goes through the climb's moves from the last to
+-- the first (replayOn, crate tables): of each map one entry is read. Both readings ask the same checks and make the same climb.
 -- Assumes nothing.
 use Prim.Native.Nat.{ℕ, zero, suc}
 use mathlib.Core.Bool.{Bool, true, false, cond, _&&_}
@@ -21,29 +20,18 @@ use mathlib.Core.Option.{Option, none, some}
 use lib.Dec.{ltb}
 use lib.ListN.{length, getD}
 use Rattle.trees.specs.Automaton.{WordAutomaton}
-use Rattle.trees.specs.Climb.{Move, byJump, toParent, andThen, climb, carry}
-use Rattle.trees.specs.Passed.{passedBy}
-use Rattle.list_laws.specs.Rows.{tabulate}
+use Rattle.trees.specs.Climb.{andThen}
 use Rattle.formats.specs.Plan.{nodeCount, labelsIn}
-use Rattle.formats.specs.Rules.{stateCount, labelCount, branchAutomaton}
+use Rattle.formats.specs.Rules.{stateCount, labelCount, branchSteps, branchAutomaton}
 use Rattle.formats.specs.Checks.{Check, check, firstNo}
 use Rattle.formats.specs.Buffers.{headedBuffersFit, branchTables}
-use Rattle.node_tables.specs.Cells.{depthCell, cellForest, isInSubtreeOn}
-use Rattle.tables.specs.Compose.{follow}
-use Rattle.tables.specs.StateCells.{mapCell}
+use Rattle.node_tables.specs.Cells.{depthCell, isInSubtreeOn}
+use Rattle.tables.specs.Replays.{replayOn}
 use Rattle.branches.specs.declared.answers.Reading.{Reading}
 use Rattle.branches.specs.declared.answers.Reading.the-variants.{WithUpper, BelowUpper}
 use Rattle.branches.specs.declared.answers.Branched.{Branched}
 use Rattle.branches.specs.declared.answers.Branching.{Branching}
 use Rattle.branches.specs.declared.answers.Branching.the-variants.{Answered, Refused}
-
--- a jump applies the node's map; a move to the parent applies the node's own label
-unfoldable pub moveMap : List ℕ → List ℕ → List ℕ → Move → List ℕ → Option (List ℕ)
-moveMap p r stateTable (byJump v) m = follow (stateCount r) m (mapCell (stateCount r) stateTable v)
-moveMap p r stateTable (toParent v) m =
-    cond (ltb (getD (labelsIn p) v 0) (labelCount r))
-    (follow (stateCount r) m (λ q. branchAutomaton r .step q (getD (labelsIn p) v 0)))
-    none
 
 unfoldable pub firstState : Reading → List ℕ → List ℕ → ℕ → Option ℕ
 firstState WithUpper p r u =
@@ -58,10 +46,10 @@ branched B q n p = record { state = q; marked = B .accepting q; links = n; passe
 
 unfoldable pub branchOn : Reading → List ℕ → List ℕ → List ℕ → List ℕ → ℕ → ℕ → Option Branched
 branchOn reading p r nodeTable stateTable u l =
-    andThen (climb (cellForest (nodeCount p) nodeTable) l (depthCell nodeTable u)) (λ ms.
-    andThen (carry (moveMap p r stateTable) ms (tabulate (stateCount r) (λ q. q))) (λ m.
     andThen (firstState reading p r u) (λ q.
-    some (branched (branchAutomaton r) (getD m q 0) (length ms) (passedBy (cellForest (nodeCount p) nodeTable) l ms)))))
+    andThen (replayOn (nodeCount p) (stateCount r) (labelCount r) (labelsIn p) (branchSteps r) nodeTable stateTable l
+    (depthCell nodeTable u) q) (λ x.
+    some (branched (branchAutomaton r) (x .state) (x .links) (x .passed))))
 
 abbrev pub isSome : {X : Type 0} → Option X → Bool
 isSome none = false

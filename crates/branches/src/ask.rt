@@ -7,17 +7,16 @@ use formats::buffers::branch_buffers_fit;
 use formats::bytes::read32;
 use node_tables::moves::depth_at;
 use node_tables::moves::is_below;
-use tables::branch_climb::IDENTITY;
-use tables::branch_climb::compose_climb;
+use tables::answers::Climbed;
+use tables::replays::replay_climb;
 ghost use mathlib.Core.Path.{_≡_};
 ghost use Prim.Native.Nat.{_+_, _*_, _≤_};
 ghost use lib.ListN.{length};
 ghost use Rattle.node_tables.specs.Cells.{isInSubtreeOn};
-ghost use Rattle.tables.specs.Compose.{mapAt};
 ghost use Rattle.branches.specs.declared.answers.Reading.the-variants.{WithUpper, BelowUpper};
 ghost use Rattle.branches.specs.Question.{branchOn, branchAnswer};
 ghost use Rattle.branches.specs.Promise.{AskDone};
-ghost use Rattle.branches.specs.inner.Finish.{firstOf, numbered, finish, FirstArgs, FinishArgs, AnswerArgs};
+ghost use Rattle.branches.specs.inner.Finish.{firstOf, numbered, toldOf, StateIn, FirstArgs, AnswerArgs};
 
 // The state after the upper node's label, from state 0; S or above where the label or that state is outside.
 fn after_upper(labels: &[u8], steps: &[u8], s: usize, k: usize, u: usize) -> usize
@@ -42,36 +41,23 @@ fn first_state(reading: Reading, labels: &[u8], steps: &[u8], s: usize, k: usize
     }
 }
 
-// What is told of the map of a climb: the first state goes through it.
-fn finish_answer(
-    reading: Reading,
-    labels: &[u8],
-    steps: &[u8],
-    marks: &[u8],
-    s: usize,
-    k: usize,
-    u: usize,
-    maps: &[u8],
-    at: usize,
-    links: u32,
-    passed: u32,
-) -> Branching
-    requires { ⌜ FinishArgs s k (now labels) (now steps) (now marks) u (now maps) at ⌝ }
-    ensures { λ r. ⌜ r ≡ branchAnswer 0 (finish reading s k (now (labels .entry)) (now (steps .entry)) (now (marks .entry)) u
-        (mapAt s (now (maps .entry)) at) links passed) ⌝ }
+// What is told of the end of a climb, with the mark of its state.
+fn finish_answer(end: Climbed, marks: &[u8]) -> Branching
+    requires { ⌜ StateIn (length (now marks)) end ⌝ }
+    ensures { λ r. ⌜ r ≡ toldOf (now (marks .entry)) end ⌝ }
 {
-    let q = first_state(reading, labels, steps, s, k, u);
-    if s <= q {
-        return Branching::Refused(18);
+    match end {
+        Climbed::Reached(x) => {
+            let mark = marks[x.state as usize];
+            Branching::Answered(Branched {
+                state: x.state,
+                marked: mark == 1,
+                links: x.links,
+                passed: x.passed,
+            })
+        }
+        Climbed::OutOfRange => Branching::Refused(18),
     }
-    let state = maps[at + q];
-    let mark = marks[state as usize];
-    Branching::Answered(Branched {
-        state,
-        marked: mark == 1,
-        links,
-        passed,
-    })
 }
 
 // The answer where 17, 13 and 16 pass.
@@ -94,35 +80,12 @@ fn answer_branch(
     let labels = &plan[12..12 + n];
     let steps = &branch[16..16 + s * k];
     let to = depth_at(node_table, u);
-    let mut maps = IDENTITY;
-    let x = compose_climb(
-        &mut maps,
-        labels,
-        steps,
-        node_table,
-        state_table,
-        n,
-        s,
-        k,
-        l,
-        to,
-    );
-    if !x.ok {
+    let q = first_state(reading, labels, steps, s, k, u);
+    if s <= q {
         return Branching::Refused(18);
     }
-    finish_answer(
-        reading,
-        labels,
-        steps,
-        &branch[16 + s * k..],
-        s,
-        k,
-        u,
-        &maps,
-        x.at,
-        x.links,
-        x.passed,
-    )
+    let end = replay_climb(labels, steps, node_table, state_table, n, s, k, l, to, q);
+    finish_answer(end, &branch[16 + s * k..])
 }
 
 // A branch question in either reading. It takes N, S and K from the lent headers and asks 17, 13, 16 and 18 in this order.

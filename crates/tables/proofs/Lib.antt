@@ -15,8 +15,5 @@ pub mod LookupLaws
 pub mod StepLaws
 pub mod ClimbLoop
 pub mod ClimbBounds
-pub mod FollowLaws
-pub mod MapHalves
-pub mod MoveMaps
-pub mod MovedLaws
-pub mod ComposeLoop
+pub mod ReplayLaws
+pub mod RememberLoop

@@ -1,5 +1,5 @@
 pub mod Answers
 pub mod StateCells
 pub mod Climbs
-pub mod Compose
+pub mod Replays
 pub mod inner

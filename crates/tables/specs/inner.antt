@@ -3,6 +3,7 @@ pub mod MapTable
 pub mod Maps
 pub mod MapPairs
 pub mod PathViews
+pub mod Remembered
 pub mod Rows
 pub mod States
 pub mod Steps

@@ -1,12 +1,12 @@
 // Tables for rule tables: their build, and what branch tables share with them; and the climbs: with a state over a rule
-// table (climb), with a map over a branch table (branch_climb). Not here: the full check (table_checks).
+// table (climb), with remembered moves over a branch table (replays). Not here: the full check (table_checks).
 pub mod answers;
-pub mod branch_climb;
 pub mod build;
 pub mod climb;
 pub mod compare;
 pub mod lookups;
 mod maps;
+pub mod replays;
 pub mod rows;
 mod states;
 mod tables;

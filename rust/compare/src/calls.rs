@@ -356,10 +356,10 @@ pub fn branch(reading: Reading, lent: Lent, upper: u32, lower: u32, random: &mut
 }
 
 /// Both readings, each compared. They are refused with the same number or tell the same links and nodes passed over; only
-/// an 18 may be due to the upper node's label alone.
+/// an 18 may be of one reading alone: they start in different states, and so read different entries.
 pub fn branches(lent: Lent, upper: u32, lower: u32, random: &mut Random) -> [Result<[u32; 4], u32>; 2] {
     let [with_upper, below] = READINGS.map(|reading| branch(reading, lent, upper, lower, random));
-    if with_upper != Err(18) || below.is_err() {
+    if with_upper != Err(18) && below != Err(18) {
         let climb = |told: Result<[u32; 4], u32>| told.map(|told| (told[2], told[3]));
         assert_eq!(climb(below), climb(with_upper), "links, nodes passed over or refusal of the two readings");
     }

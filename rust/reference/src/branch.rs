@@ -105,17 +105,15 @@ pub fn on_tables(
 }
 
 impl Question<'_> {
-    /// The climb carries a map, from the state after the label of the node reached down to the state after the lower
-    /// node's. It is whole, so a move is read for every state, also for those that the answer doesn't need.
+    /// The first state goes down through the moves of the climb, from the last to the first: of each map one entry is read,
+    /// so what the others hold doesn't matter.
     fn answer(&self, reading: Reading, upper: usize, lower: usize, moves: &[Move]) -> Result<Answer, u32> {
-        let mut carried: Vec<usize> = (0..self.s).collect();
-        for &one in moves {
-            let entered = (0..self.s).map(|q| self.through(one, q)).collect::<Result<Vec<usize>, u32>>()?;
-            let after = |first: &[usize], then: &[usize]| first.iter().map(|&q| then[q]).collect();
-            let wrong = after(&carried, &entered);
-            carried = unless(Mistake::MapsFromTheWrongEnd, after(&entered, &carried), wrong);
+        let mut downward = moves.to_vec();
+        if !made(Mistake::MapsFromTheWrongEnd) {
+            downward.reverse();
         }
-        let state = carried[self.first(reading, upper)?];
+        let first = self.first(reading, upper)?;
+        let state = downward.into_iter().try_fold(first, |q, one| self.through(one, q))?;
         let yes = unless(Mistake::AnyMarkIsYes, self.marks[state] == 1, self.marks[state] != 0);
         let passed = passed(&self.tree, lower, moves, self.tree.depth(upper));
         Ok(Answer { state: state as u8, yes, links: moves.len(), passed })

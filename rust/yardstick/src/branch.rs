@@ -174,7 +174,10 @@ pub fn ask_with_upper(
     ask_by::<true>(plan, branch, node_table, state_table, upper, lower)
 }
 
-/// The map carried goes from the node climbed to down to `lower`; each move is put before it.
+/// How many moves are remembered in place: a climb on tables as built has at most 45.
+const MOVES: usize = 48;
+
+/// The moves of the climb are remembered, each with whether it is by the jump, and one state goes down through them from the last to the first.
 #[inline(always)]
 fn ask_by<const WITH_UPPER: bool>(
     plan: &[u8],
@@ -195,7 +198,7 @@ fn ask_by<const WITH_UPPER: bool>(
     }
     let depth = |v: usize| node_table[4 * v + DEPTH];
     let top = depth(upper);
-    let mut carried: [u8; 16] = std::array::from_fn(|q| q as u8);
+    let (mut moves, mut more) = ([0u32; MOVES], Vec::new());
     let (mut v, mut links) = (lower, 0);
     while depth(v) > top {
         let jump = node_table[4 * v + JUMP] as usize;
@@ -207,32 +210,41 @@ fn ask_by<const WITH_UPPER: bool>(
         if next >= n || depth(next) >= depth(v) {
             return Err(18);
         }
-        let before = carried;
-        if by_jump {
-            for (to, &q) in carried[..s].iter_mut().zip(&state_table[row * v + 1..row * v + row]) {
-                *to = *before[..s].get(q as usize).ok_or(18u32)?;
-            }
-        } else {
-            let a = labels[v] as usize;
-            if a >= k {
-                return Err(18);
-            }
-            for (q, to) in carried[..s].iter_mut().enumerate() {
-                *to = *before[..s].get(branch.steps[q * k + a] as usize).ok_or(18u32)?;
-            }
+        let step = 2 * v as u32 + by_jump as u32;
+        match moves.get_mut(links) {
+            Some(place) => *place = step,
+            None => more.push(step),
         }
         v = next;
         links += 1;
     }
-    let mut first = 0;
+    let mut state = 0;
     if WITH_UPPER {
         let a = labels[upper] as usize;
         if a >= k {
             return Err(18);
         }
-        first = branch.steps[a] as usize;
+        state = branch.steps[a] as usize;
+        if state >= s {
+            return Err(18);
+        }
     }
-    let state = *carried[..s].get(first).ok_or(18u32)?;
+    for step in more.into_iter().rev().chain(moves[..links.min(MOVES)].iter().rev().copied()) {
+        let v = (step / 2) as usize;
+        state = if step % 2 == 1 {
+            state_table[row * v + 1 + state] as usize
+        } else {
+            let a = labels[v] as usize;
+            if a >= k {
+                return Err(18);
+            }
+            branch.steps[state * k + a] as usize
+        };
+        if state >= s {
+            return Err(18);
+        }
+    }
+    let state = state as u8;
     let passed = u32::from(depth(lower) - depth(v));
-    Ok(Told { state, yes: branch.marks[state as usize] == 1, links, passed })
+    Ok(Told { state, yes: branch.marks[state as usize] == 1, links: links as u32, passed })
 }

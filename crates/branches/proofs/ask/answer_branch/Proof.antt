@@ -3,21 +3,21 @@ use mathlib.Core.Path.{_≡_, ap₂}
 use mathlib.Core.List.{List}
 use native.Mathlib.Omega.{arith}
 use lib.ListN.{length, take, drop}
-use borrow.Author.Tests.{not-true, not-false}
 use Rattle.formats.specs.Rules.{stateCount, labelCount}
 use Rattle.formats.specs.Buffers.{branchTables}
 use Rattle.formats.proofs.BufferLaws.{Headed, headed-are}
 use Rattle.branches.proofs.AskParts.{Handed, handed}
-use Rattle.branches.proofs.AskAnswer.{compose-args, finish-args, answer-none, answer-some}
 use borrow.Author.Needs.{needs}
 use Rattle.formats.proofs.bytes.read32.Reads as read32-reads
 use Rattle.node_tables.proofs.moves.depth_at.Reads as depth-at-reads
-use Rattle.tables.proofs.branch_climb.compose_climb.Reads as compose-climb-reads
 use Rattle.branches.proofs.ask.answer_branch.Statement.{statement}
 use Rattle.branches.proofs.ask.answer_branch.Tie as tie
 use Rattle.branches.proofs.ask.answer_branch.Reads as reads
 use Rattle.branches.proofs.ask.answer_branch.Lts as lts
 use Rattle.branches.proofs.ask.finish_answer.Reads as finish-answer-reads
+use Rattle.branches.proofs.ask.first_state.Reads as first-state-reads
+use Rattle.tables.proofs.replays.replay_climb.Reads as replay-climb-reads
+use Rattle.branches.proofs.AskAnswer.{first-args, replay-args, state-in, answer-first, answer-told}
 
 -- what the lent headers and lengths say
 fit : (s : tie.Start) → let g = s .args in
@@ -62,7 +62,8 @@ mark-run c =
 
 on : (c : tie.After-depth-at)
     → let g = begun c .args in
-    Handed (g .plan .now) (g .branch .now) (g .node-table .now) (g .u) (nodes c) (states c) (labels c) (c .depth-at .result)
+    Handed (g .plan .now) (g .branch .now) (g .node-table .now) (g .u) (nodes c) (states c) (labels c)
+    (c .depth-at .result)
     (label-run c) (step-run c) (mark-run c)
 on c =
     handed _ _ _ _ (nodes c) (states c) (labels c) (c .depth-at .result)
@@ -104,44 +105,61 @@ depth-at-requires c κs =
       fit (c .before .before .before .before .before .before .before .before .before) .node-table-room,
     )
 
-compose-climb-requires : tie.Need-compose-climb-requires
-compose-climb-requires c κs =
-    let d = c .before in
-    compose-args (begun d .args .reading) _ _ _ _ _ _ _ _ _ _ _ _ (mark-run d) (begun d .pre) (on d)
+first-state-requires : tie.Need-first-state-requires
+first-state-requires c κs = first-args (begun c .args .reading) _ _ _ _ _ _ _ _ _ _ _ _ (mark-run c) (begun c .pre)
+    (on c)
 
 returns : tie.Need-returns
 returns c =
-    let x = c .before .before .before in
-    let d = x .before .before in
-    answer-none (begun d .args .reading) _ _ _ _ _ _ _ _ _ _ _ _ (mark-run d) (begun d .pre) (on d) (x .compose-climb .result) _
-    (x .compose-climb .ensures) (not-true _ (c .if1 .taken))
+    let f = c .before in
+    let d = f .before in
+    answer-first (begun d .args .reading) _ _ _ _ _ _ _ _ _ _ _ _ (mark-run d) (begun d .pre) (on d)
+    (f .first-state .result)
+    (f .first-state .ensures) (c .if1 .taken)
+
+replay-climb-requires : tie.Need-replay-climb-requires
+replay-climb-requires c κs =
+    let f = c .before in
+    let d = f .before in
+    replay-args (begun d .args .reading) _ _ _ _ _ _ _ _ _ _ _ _ (mark-run d) (begun d .pre) (on d)
+    (f .first-state .result)
+    (c .if1 .left)
+
+-- where the marks start
+marks-at : (c : tie.After-replay-climb) → let d = c .before .before .before in
+    16 + states d * labels d ≤ length (begun d .args .branch .now)
+marks-at c = steps-end (c .before .before .before .before .before .before)
 
 mul-finish-answer : tie.Need-mul-finish-answer
-mul-finish-answer c = omega (arith, steps-end (c .before .before .before .before .before .before .before .before))
+mul-finish-answer c = omega (arith, marks-at c)
 
 add-finish-answer : tie.Need-add-finish-answer
-add-finish-answer c = omega (arith, steps-end (c .before .before .before .before .before .before .before .before))
+add-finish-answer c = omega (arith, marks-at c)
 
 sub-finish-answer : tie.Need-sub-finish-answer
-sub-finish-answer c = steps-end (c .before .before .before .before .before .before .before .before)
+sub-finish-answer c = marks-at c
 
 part-finish-answer-start : tie.Need-part-finish-answer-start
-part-finish-answer-start c = steps-end (c .before .before .before .before .before .before .before .before)
+part-finish-answer-start c = marks-at c
 
 finish-answer-requires : tie.Need-finish-answer-requires
 finish-answer-requires c κs =
-    let x = c .before .before .before .before .before in
-    let d = x .before .before in
-    finish-args (begun d .args .reading) _ _ _ _ _ _ _ _ _ _ _ _ (mark-run d) (begun d .pre) (on d) (x .compose-climb .result) _
-    (x .compose-climb .ensures) (not-false _ (c .before .before .if1 .left))
+    let x = c .before in
+    let f = x .before .before in
+    let d = f .before in
+    state-in (begun d .args .reading) _ _ _ _ _ _ _ _ _ _ _ _ (mark-run d) (begun d .pre) (on d)
+    (f .first-state .result)
+    (x .before .if1 .left) (x .replay-climb .result) (x .replay-climb .ensures)
 
 returns-2 : tie.Need-returns-2
 returns-2 c =
-    let x = c .before .before .before .before .before .before in
-    let d = x .before .before in
-    answer-some (begun d .args .reading) _ _ _ _ _ _ _ _ _ _ _ _ (mark-run d) (begun d .pre) (on d) (x .compose-climb .result) _
-    (x .compose-climb .ensures) (c .finish-answer .result) (not-false _ (c .before .before .before .if1 .left))
-    (c .finish-answer .ensures)
+    let x = c .before .before in
+    let f = x .before .before in
+    let d = f .before in
+    answer-told (begun d .args .reading) _ _ _ _ _ _ _ _ _ _ _ _ (mark-run d) (begun d .pre) (on d)
+    (f .first-state .result)
+    (f .first-state .ensures) (x .before .if1 .left) (x .replay-climb .result) (x .replay-climb .ensures)
+    (c .finish-answer .result) (c .finish-answer .ensures)
 
 pub answer-branch-spec : {M : Type 1} → statement M
 answer-branch-spec =
@@ -160,14 +178,13 @@ answer-branch-spec =
     (λ c. search needs)
     part-steps-end
     depth-at-requires
-    (λ c. search needs)
-    compose-climb-requires
+    first-state-requires
     returns
+    replay-climb-requires
     mul-finish-answer
     add-finish-answer
     sub-finish-answer
     part-finish-answer-start
-    (λ c. search needs)
     (λ c. search needs)
     finish-answer-requires
     returns-2)
