@@ -3,27 +3,14 @@
  * page that must not be touched, or begins behind one. What it prints is held to count.expected.
  */
 #define _DEFAULT_SOURCE
+#include "guarded.h"
 #include "sample.h"
 
 #include <stdio.h>
 #include <stdlib.h>
 #include <string.h>
-#include <sys/mman.h>
 
-#define PAGE ((size_t)4096)
 #define UNSET 0x7777777777777777u
-
-/* Exactly so many bytes, before a page that must not be touched or behind one. */
-static void *guarded(const void *from, size_t bytes, int behind) {
-    size_t inside = (bytes + PAGE - 1) / PAGE * PAGE;
-    uint8_t *at = mmap(NULL, inside + 2 * PAGE, PROT_NONE, MAP_PRIVATE | MAP_ANONYMOUS, -1, 0);
-    if (at == MAP_FAILED || (inside > 0 && mprotect(at + PAGE, inside, PROT_READ | PROT_WRITE)))
-        exit(2);
-    uint8_t *to = behind ? at + PAGE : at + PAGE + inside - bytes;
-    if (bytes > 0)
-        memcpy(to, from, bytes);
-    return to;
-}
 
 /* Plan, rules and the tables of whatif_build. */
 struct built {
@@ -40,18 +27,18 @@ static struct built build(const uint8_t *plan_bytes, const uint8_t *rule_bytes, 
     if (whatif_build(plan_bytes, WHATIF_PLAN_BYTES(n), rule_bytes, WHATIF_RULES_BYTES(s, k), node_table,
                      WHATIF_NODE_TABLE_LEN(n), state_table, WHATIF_STATE_TABLE_LEN(n, s)))
         exit(2);
-    struct built b = {n, s, k, guarded(plan_bytes, WHATIF_PLAN_BYTES(n), behind),
-                      guarded(rule_bytes, WHATIF_RULES_BYTES(s, k), behind),
-                      guarded(node_table, 2 * WHATIF_NODE_TABLE_LEN(n), behind),
-                      guarded(state_table, WHATIF_STATE_TABLE_LEN(n, s), behind)};
+    struct built b = {n, s, k, copied(plan_bytes, WHATIF_PLAN_BYTES(n), behind),
+                      copied(rule_bytes, WHATIF_RULES_BYTES(s, k), behind),
+                      copied(node_table, 2 * WHATIF_NODE_TABLE_LEN(n), behind),
+                      copied(state_table, WHATIF_STATE_TABLE_LEN(n, s), behind)};
     return b;
 }
 
 /* The nodes may be NULL where there is none. */
 static void count(const struct built *b, const uint16_t *list, size_t m, size_t room, int behind) {
     uint64_t unset[4] = {UNSET, UNSET, UNSET, UNSET};
-    uint16_t *nodes = m ? guarded(list, 2 * m, behind) : NULL;
-    uint64_t *counts = guarded(unset, 8 * room, behind);
+    uint16_t *nodes = m ? copied(list, 2 * m, behind) : NULL;
+    uint64_t *counts = copied(unset, 8 * room, behind);
     uint32_t parts = 77, links = 77;
     uint32_t answer = whatif_count(b->plan, WHATIF_PLAN_BYTES(b->n), b->rules, WHATIF_RULES_BYTES(b->s, b->k),
                                    b->node_table, WHATIF_NODE_TABLE_LEN(b->n), b->state_table,

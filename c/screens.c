@@ -4,27 +4,13 @@
  * is held to screens.expected.
  */
 #define _DEFAULT_SOURCE
+#include "guarded.h"
 #include "sample.h"
 
 #include <stdio.h>
-#include <stdlib.h>
 #include <string.h>
-#include <sys/mman.h>
 
-#define PAGE ((size_t)4096)
 #define UNSET 77u
-
-/* Exactly so many bytes, before a page that must not be touched or behind one. */
-static void *guarded(const void *from, size_t bytes, int behind) {
-    size_t inside = (bytes + PAGE - 1) / PAGE * PAGE;
-    uint8_t *at = mmap(NULL, inside + 2 * PAGE, PROT_NONE, MAP_PRIVATE | MAP_ANONYMOUS, -1, 0);
-    if (at == MAP_FAILED || (inside > 0 && mprotect(at + PAGE, inside, PROT_READ | PROT_WRITE)))
-        exit(2);
-    uint8_t *to = behind ? at + PAGE : at + PAGE + inside - bytes;
-    if (bytes > 0)
-        memcpy(to, from, bytes);
-    return to;
-}
 
 static uint8_t *run;
 /* The same sessions as single records. */
@@ -122,7 +108,7 @@ static void wrong_numbers(int behind) {
     memcpy(longer, run, WHATIF_SCREENS_BYTES);
     static const size_t lengths[] = {0, WHATIF_RECORD_BYTES, WHATIF_SCREENS_BYTES - 1, WHATIF_SCREENS_BYTES + 1};
     for (size_t i = 0; i < sizeof lengths / sizeof *lengths; i++)
-        refused(guarded(longer, lengths[i], behind), lengths[i], 3);
+        refused(copied(longer, lengths[i], behind), lengths[i], 3);
     if (whatif_screens_state(run, WHATIF_SCREENS_BYTES - 1, 3) != WHATIF_NO_STATE ||
         whatif_screens_state(run, WHATIF_SCREENS_BYTES, 8) != WHATIF_NO_STATE ||
         whatif_screens_parts(run, WHATIF_SCREENS_BYTES, 8) || whatif_screens_parts_done(run, 0, 0))
@@ -144,11 +130,11 @@ static void walk(int behind) {
     uint16_t none[WHATIF_NODE_TABLE_LEN(SAMPLE_NODES)] = {0};
     uint8_t zero[WHATIF_SCREENS_BYTES] = {0};
     memset(alone, 0, sizeof alone);
-    run = guarded(zero, sizeof zero, behind);
-    node_table = guarded(none, sizeof none, behind);
-    state_table = guarded(zero, WHATIF_STATE_TABLE_LEN(SAMPLE_NODES, SAMPLE_STATES), behind);
-    rule_bytes = guarded(rules, sizeof rules, behind);
-    lent = (struct whatif_lent){guarded(plan, sizeof plan, behind),
+    run = copied(zero, sizeof zero, behind);
+    node_table = copied(none, sizeof none, behind);
+    state_table = copied(zero, WHATIF_STATE_TABLE_LEN(SAMPLE_NODES, SAMPLE_STATES), behind);
+    rule_bytes = copied(rules, sizeof rules, behind);
+    lent = (struct whatif_lent){copied(plan, sizeof plan, behind),
                                 sizeof plan,
                                 rule_bytes,
                                 sizeof rules,
