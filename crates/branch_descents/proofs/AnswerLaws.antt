@@ -13,7 +13,6 @@ use native.Mathlib.Omega.{arith}
 use lib.Dec.{ltb}
 use lib.ListN.{getD}
 use borrow.Author.Tests.{lt-ltb, le-ltb}
-use Rattle.list_laws.proofs.BoolLaws.{true-false}
 use Rattle.trees.specs.Automaton.{WordAutomaton}
 use Rattle.trees.specs.Climb.{andThen}
 use Rattle.formats.specs.Plan.{nodeCount}
@@ -25,6 +24,7 @@ use Rattle.colour_tables.specs.ColourCells.{cellTable}
 use Rattle.colour_tables.proofs.RangeLaws.{descend-low}
 use Rattle.descents.specs.declared.descend.Descended.{Descended}
 use Rattle.descents.specs.Descended.{descendedOf}
+use Rattle.descents.proofs.DescendedLaws.{descended-none, descended-some}
 use Rattle.branch_descents.specs.declared.answers.Descending.the-variants.{Refused}
 use Rattle.branch_descents.specs.Question.{startOn, colourIn, Coloured, coloured, colouredOn, colourAnswer}
 use Rattle.branch_descents.specs.inner.Steps.{placeAt, numberedPlace, finishOn}
@@ -43,20 +43,6 @@ below-no s x h = rw (le-ltb x s h)
 pub below-yes : (s x : ℕ) → x < s → below s x ≡ some x
 unfolding below
 below-yes s x h = rw (lt-ltb x s h)
-
--- ---- a descent as the code has it
-
-pub descended-none : (o : Option Descent) (d : Descended) → d ≡ descendedOf o → d .ok ≡ false → o ≡ none
-unfolding descendedOf
-descended-none none d e f = refl
-descended-none (some x) d e f = absurd (true-false (sym (ap (λ (y : Descended). y .ok) e) ∙ f))
-
-pub descended-some : (o : Option Descent) (d : Descended) → d ≡ descendedOf o → d .ok ≡ true
-    → (x : Descent) × (o ≡ some x) × (d .colour ≡ x .colour) × (d .drops ≡ drops x) × (d .links ≡ links x)
-unfolding descendedOf
-descended-some none d e f = absurd (true-false (sym f ∙ ap (λ (y : Descended). y .ok) e))
-descended-some (some x) d e f =
-    (x, refl, ap (λ (y : Descended). y .colour) e, ap (λ (y : Descended). y .drops) e, ap (λ (y : Descended). y .links) e)
 
 -- the rest of the question, from a copy on, and from a colour on
 abbrev pub fromEnd : ℕ → WordAutomaton → List ℕ → ℕ → Descent → Option Coloured

@@ -45,13 +45,13 @@ use Rattle.colours.proofs.ColouringLaws.{place-lt, has-colour}
 use Rattle.colours.proofs.CopyLaws.{top-colour, copyAbove-root, copyAbove-down, copy-colouring, copyAbove-colouring}
 use Rattle.colours.proofs.WordLaws.{WordAnswer, upper-drops, below-drops}
 use Rattle.colours.proofs.Theorems.{word-upper, word-below}
-use Rattle.colour_tables.specs.ColourCells.{cellTable}
+use Rattle.colour_tables.specs.ColourCells.{copyRow, cellTable}
 use Rattle.colour_tables.specs.AsBuilt.{ColourCells}
 use Rattle.colour_tables.specs.Layout.{colourNumbersOf, copiesOf, colourNumbersLength, copiesLength}
 use Rattle.colour_tables.proofs.LayoutLaws.{length-numbers, length-copies, numbers-cells, copies-cells}
 use Rattle.colour_tables.proofs.RangeLaws.{descend-low}
 use Rattle.descents.proofs.Theorems.{upper-built, below-built}
-use Rattle.branch_descents.specs.Question.{colourBuffersFit, startOn, copyRow, colourIn, coloured, colouredOn}
+use Rattle.branch_descents.specs.Question.{colourBuffersFit, startOn, colourIn, coloured, colouredOn}
 use Rattle.branch_descents.specs.Promise.{BranchColoursBuilt, BranchColoursUsable, wordDescent, wordDrops}
 use Rattle.branch_descents.proofs.FitLaws.{are-fits}
 use Rattle.branch_descents.proofs.AnswerLaws.{on-some, below-yes, fromEnd, fromColour, fromPlace}

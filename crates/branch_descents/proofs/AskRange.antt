@@ -28,9 +28,9 @@ use Rattle.branches.specs.Question.{isSome}
 use Rattle.colours.specs.Colouring.{placeOf}
 use Rattle.colours.specs.Descents.{Place, Descent, drops, links, descend}
 use Rattle.colours.proofs.AgreeLaws.{PlaceIn}
-use Rattle.colour_tables.specs.ColourCells.{cellTable}
+use Rattle.colour_tables.specs.ColourCells.{copyRow, cellTable}
 use Rattle.colour_tables.proofs.RangeLaws.{descend-cause, descend-low}
-use Rattle.branch_descents.specs.Question.{colourBuffersFit, startOn, copyRow, colourIn, Coloured, coloured}
+use Rattle.branch_descents.specs.Question.{colourBuffersFit, startOn, colourIn, Coloured, coloured}
 use Rattle.branch_descents.specs.Question.{colouredOn}
 use Rattle.branch_descents.specs.Question.{colourChecks, colourNumber, colourAnswer, colourAskAnswer}
 use Rattle.branch_descents.specs.OutOfRange.{BranchColoursOutOfRange, parent, colour, start, state}

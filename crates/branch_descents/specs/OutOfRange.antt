@@ -12,9 +12,8 @@ use Rattle.formats.specs.Plan.{nodeCount}
 use Rattle.formats.specs.Rules.{stateCount}
 use Rattle.node_tables.specs.Cells.{parentCell}
 use Rattle.colours.specs.Colouring.{placeOf}
-use Rattle.colour_tables.specs.ColourCells.{cellTable}
+use Rattle.colour_tables.specs.ColourCells.{copyRow, cellTable}
 use Rattle.colour_tables.specs.OutOfRange.{ColourOutOfRange}
-use Rattle.branch_descents.specs.Question.{copyRow}
 
 pub data BranchColoursOutOfRange (p r nodeTable numbers bytes : List ℕ) : Type 0 where
   -- outside the plan

@@ -33,11 +33,12 @@ use Rattle.colours.specs.Colouring.{placeOf}
 use Rattle.colours.specs.Copies.{dropsDown}
 use Rattle.colours.specs.Descents.{Descent, drops, links}
 use Rattle.colours.specs.Words.{wordStep, colourAbove, colourHere, withUpper, belowUpper}
+use Rattle.colour_tables.specs.ColourCells.{copyRow}
 use Rattle.colour_tables.specs.Layout.{colourNumbersLength}
 use Rattle.branch_colours.specs.Build.{builtColourNumbers, BranchColoured}
 use Rattle.branch_descents.specs.declared.answers.Descending.{Descending}
 use Rattle.branch_descents.specs.declared.answers.Descending.the-variants.{Answered, Refused}
-use Rattle.branch_descents.specs.Question.{colourBuffersFit, copyRow, colourNumber, colourAskAnswer}
+use Rattle.branch_descents.specs.Question.{colourBuffersFit, colourNumber, colourAskAnswer}
 use Rattle.branch_descents.specs.Question.{descendingNumber}
 use Rattle.branch_descents.specs.OutOfRange.{BranchColoursOutOfRange}
 

@@ -21,7 +21,7 @@ use Rattle.trees.specs.Tree.{Tree, size}
 use Rattle.trees.specs.Numbering.{parent}
 use Rattle.node_tables.specs.Cells.{parentCell, jumpCell, depthCell, sizeCell}
 use Rattle.node_tables.specs.inner.DownPass.{byDistances, JumpArgs}
-use Rattle.marks.specs.Ascents.{jumpBy}
+use Rattle.trees.specs.Ascents.{jumpBy}
 use Rattle.marks.specs.Marks.{marksAbove, markedUp}
 use Rattle.colour_tables.specs.ColourCells.{colourPart}
 use Rattle.colour_forests.specs.declared.rows.Row.{Row}

@@ -9,7 +9,7 @@
 use Prim.Native.Nat.{ℕ, zero, suc, _+_, _-_, _*_, _≤_, _<_}
 use mathlib.Core.Path.{_≡_, refl, sym, ap, ap₂, _∙_, subst}
 use mathlib.Core.Bool.{Bool, true, false, cond}
-use mathlib.Core.List.{List, [], _∷_}
+use mathlib.Core.List.{List, [], _∷_, _++_}
 use mathlib.Core.Option.{Option, none, some}
 use native.Mathlib.Omega.{arith}
 use native.Mathlib.Decide.{ℕ-discrete}
@@ -123,6 +123,10 @@ sum-le b (x ∷ xs) h = omega (arith, h .0, sum-le b xs (h .1))
 pub all-le : (a b : ℕ) (xs : List ℕ) → a ≤ b → AllLe a xs → AllLe b xs
 all-le a b [] l h = tt
 all-le a b (x ∷ xs) l h = (omega (arith, h .0), all-le a b xs l (h .1))
+
+pub all-append : (b : ℕ) (xs ys : List ℕ) → AllLe b xs → AllLe b ys → AllLe b (xs ++ ys)
+all-append b [] ys h k = k
+all-append b (x ∷ xs) ys h k = (h .0, all-append b xs ys (h .1) k)
 
 module _ (t : Tree) where
   abbrev pub marksBy : (ℕ → Bool) → Place → ℕ

@@ -16,9 +16,8 @@ use borrow.Author.Tests.{lt-ltb, le-ltb, ltb-false}
 use Rattle.trees.specs.Tree.{Tree, size}
 use Rattle.trees.specs.Numbering.{parent, depth, ancestor}
 use Rattle.list_laws.proofs.Choice.{le-or}
-use Rattle.trees.proofs.NodeLaws.{up}
+use Rattle.trees.proofs.NodeLaws.{up, below-root}
 use Rattle.trees.proofs.MapLaws.{ancestor-parent}
-use Rattle.trees.proofs.TreeClimbs.{below-root}
 use Rattle.marks.specs.Marks.{bit, marksIn}
 use Rattle.marks.proofs.MarkLaws.{bit-zero, marks-suc}
 use Rattle.colours.specs.Copies.{copyIn, copy, copyAbove, landsAt, fallsAt, stateDown, colourDown, dropsDown}

@@ -44,7 +44,8 @@ use Rattle.session.specs.Records.{phaseOf, phaseTo, sizesOf, stageIn, re
 use Rattle.session.specs.Answers.{startAnswer}
 use Rattle.session.specs.Promises.{CallDone}
 use Rattle.session.specs.inner.Shapes.{Shaped, HeaderArgs}
-use Rattle.session.specs.inner.Steps.{ListArgs, RootsArgs, startedOf}
+use Rattle.changed_roots.specs.Args.{RootsArgs}
+use Rattle.session.specs.inner.Steps.{ListArgs, startedOf}
 use Rattle.session.proofs.Holds.{Sized, holds-of, tails-of}
 use Rattle.session.proofs.ActLaws.{few-roots, start-sized}
 use Rattle.session.proofs.CallLaws.{unless-done, refused-done, proceeds-done}

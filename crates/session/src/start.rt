@@ -12,21 +12,15 @@ use crate::state::Last;
 use crate::state::Phase;
 use crate::state::Session;
 use crate::state::Sizes;
-use changes::differing::differing;
+use changed_roots::roots_left;
 use formats::buffers::rule_buffers_fit;
 use formats::lists::check_list;
-use questions::roots::Rooted;
-use questions::roots::roots;
-ghost use Prim.Native.Nat.{_*_};
 ghost use mathlib.Core.Path.{_≡_};
-ghost use lib.ListN.{take, drop};
-ghost use Rattle.changes.specs.inner.LastDiffering.{givenDiffering};
-ghost use Rattle.questions.specs.Promises.{RootsDone};
 ghost use Rattle.model.specs.Calls as calls;
 ghost use Rattle.session.specs.Answers.{startAnswer};
 ghost use Rattle.session.specs.Promises.{CallDone};
 ghost use Rattle.formats.specs.Inputs.{inputsOf};
-ghost use Rattle.session.specs.inner.Steps.{ListArgs, RootsArgs, startedOf};
+ghost use Rattle.session.specs.inner.Steps.{ListArgs, startedOf};
 
 // A running session with its question and no part handled. Nothing of an earlier question is left, but the last finished answer.
 fn started(
@@ -62,19 +56,6 @@ fn started(
         roots,
         states,
     }
-}
-
-// The roots of the parts of the listed nodes whose label, after superseding, is not the plan's. The others are no change.
-fn roots_left(n: usize, plan: &[u8], node_table: &[u16], nodes: &[u16], labels: &[u8]) -> Rooted
-    requires { ⌜ RootsArgs n (now plan) (now «node_table») ⌝ }
-    ensures { λ r. ⌜
-        RootsDone n (take (n * 4) (now («node_table» .entry)))
-        (givenDiffering (take n (drop 12 (now (plan .entry)))) (now (nodes .entry)) (now (labels .entry))) r ⌝ }
-{
-    let left = differing(&plan[12..12 + n], nodes, labels);
-    let m = left.count;
-    let kept = left.nodes;
-    roots(n, &node_table[..n * 4], &kept[..m])
 }
 
 impl Session {

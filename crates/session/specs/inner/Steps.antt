@@ -1,7 +1,6 @@
 -- The structs that Start and advance make, field by field.
 --
 -- ListArgs vs bs == two lists of one length that fit the record
--- RootsArgs n plan nodeTable == the plan's labels and the node table are whole
 -- startedOf z o vs bs parts roots == a session of sizes z in running with this question, no part handled, and the last finished answer o
 -- NextArgs s == the counts are within the arrays
 -- StepArgs h l d == there is room for one more state, and the links and the nodes passed over fit
@@ -40,11 +39,6 @@ use Rattle.session.specs.Promises.{CallDone}
 pub record ListArgs (vs bs : List ℕ) : Type 0 where
   pub few : length vs ≤ 64
   pub few-labels : length bs ≤ 64
-
-pub record RootsArgs (n : ℕ) (plan nodeTable : List ℕ) : Type 0 where
-  pub most : n ≤ 65535
-  pub labels : 12 + n ≤ length plan
-  pub numbers : n * 4 ≤ length nodeTable
 
 abbrev pub startedOf : Sizes → Last → List ℕ → List ℕ → ℕ → List ℕ → Session
 startedOf z o vs bs parts roots =
