@@ -1,5 +1,5 @@
-// Start: checks 1, 17, 12 to 14 and 18, then the roots of the parts. On sound tables they are always found. The list stays whole in the
-// record; only the roots are those of the nodes that change.
+// Start: checks 1, 17, 12 to 14 and 18, then the roots of the parts. On sound tables they are always found. The list
+// stays whole in the record; only the roots are those of the nodes that change.
 use crate::answers::StartAnswer;
 use crate::answers::Started;
 use crate::fill::padded_labels;
@@ -20,7 +20,7 @@ ghost use Rattle.model.specs.Calls as calls;
 ghost use Rattle.session.specs.Answers.{startAnswer};
 ghost use Rattle.session.specs.Promises.{CallDone};
 ghost use Rattle.formats.specs.Inputs.{inputsOf};
-ghost use Rattle.session.specs.inner.Steps.{ListArgs, startedOf};
+ghost use Rattle.session.specs.inner.Steps.{ListArgs, startedOf, notStarted};
 
 // A running session with its question and no part handled. Nothing of an earlier question is left, but the last finished answer.
 fn started(
@@ -58,6 +58,16 @@ fn started(
     }
 }
 
+// A refusal's number, with the record as it was.
+fn refused(session: Session, number: u8) -> Started
+    ensures { λ r. ⌜ r ≡ notStarted session number ⌝ }
+{
+    Started {
+        answer: StartAnswer::Refused(number),
+        session,
+    }
+}
+
 impl Session {
     // Puts a question: tells the number of its parts.
     pub fn start(
@@ -79,10 +89,7 @@ impl Session {
         let phase = h.phase;
         let may = may_start(phase);
         if !allowed(may, h, &self.nodes, &self.labels, &self.roots, &self.states) {
-            return Started {
-                answer: StartAnswer::Refused(1),
-                session: self,
-            };
+            return refused(self, 1);
         }
         let n = h.sizes.n as usize;
         let s = h.sizes.s as usize;
@@ -96,23 +103,14 @@ impl Session {
             node_table.len(),
             state_table.len(),
         ) {
-            return Started {
-                answer: StartAnswer::Refused(17),
-                session: self,
-            };
+            return refused(self, 17);
         }
-        let refused = check_list(n, k, nodes, labels);
-        if refused != 0 {
-            return Started {
-                answer: StartAnswer::Refused(refused),
-                session: self,
-            };
+        let no = check_list(n, k, nodes, labels);
+        if no != 0 {
+            return refused(self, no);
         }
         if !tables_sound(n, s, k, plan, rules, node_table, state_table) {
-            return Started {
-                answer: StartAnswer::Refused(18),
-                session: self,
-            };
+            return refused(self, 18);
         }
         let found = roots_left(n, plan, node_table, nodes, labels);
         let parts = found.count as u8;
