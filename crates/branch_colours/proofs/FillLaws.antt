@@ -44,7 +44,8 @@ module _ (ls ks st : List ℕ) (s k l m : ℕ) (A : FillArgs ls ks st s k l m) w
   some = omega (arith, A .steps-below 0)
 
   kinds-count : length ks ≡ length ls
-  kinds-count = ap length (sym (A .kinds)) ∙ length-kinds (A .tree) ∙ sym (length-labels (A .tree)) ∙ ap length (A .labels)
+  kinds-count = ap length (sym (A .kinds)) ∙ length-kinds (A .tree) ∙ sym (length-labels (A .tree))
+      ∙ ap length (A .labels)
 
   pub node-args : NodeTableArgs ks l
   node-args = record {
@@ -113,7 +114,8 @@ module _ (ls ks st : List ℕ) (s k l m : ℕ) (A : FillArgs ls ks st s k l m) w
           let C : CopiesFrom s step t 0 0 bytes b bytes′ b′ = S t (given t e d) in
           let F : ColoursTo s step t s b′ b″ = D step t n (landed t e d) in
           let z : length ks ≡ size t = kinds-size t e in
-          let w : b ≡ nodeTableOf t ++ drop (size t * 4) a = W t e ∙ ap (λ (x : ℕ). nodeTableOf t ++ drop (x * 4) a) z in
+          let w : b ≡ nodeTableOf t ++ drop (size t * 4) a =
+          W t e ∙ ap (λ (x : ℕ). nodeTableOf t ++ drop (x * 4) a) z in
           let g : length (nodeTableOf t) ≡ size t * 4 = length-nodeTableOf t in
           let few : s * (size t * 4) ≤ l = rw n (A .numbers-room) in
           let first : size t * 4 ≤ s * (size t * 4) = omega (arith, stride (size t * 4) 0 s some) in

@@ -99,4 +99,5 @@ colourAnswer (suc n) c = Refused (suc n)
 
 unfoldable pub colourAskAnswer : Reading → List ℕ → List ℕ → List ℕ → List ℕ → List ℕ → ℕ → ℕ → Descending
 colourAskAnswer reading p r nodeTable numbers bytes u l =
-    colourAnswer (colourNumber reading p r nodeTable numbers bytes u l) (colouredOn reading p r nodeTable numbers bytes u l)
+    colourAnswer (colourNumber reading p r nodeTable numbers bytes u l)
+    (colouredOn reading p r nodeTable numbers bytes u l)

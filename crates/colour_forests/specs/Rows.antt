@@ -76,7 +76,8 @@ pub record RowIs (t : Tree) (m : ℕ → Bool) (b : List ℕ) (v : ℕ) : Type 0
 -- none of the places that are written
 abbrev pub Apart : ℕ → ℕ → ℕ → Type 0
 Apart n c j =
-    (v : ℕ) → v < n → (j ≡ c * (n * 4) + v * 4 → ⊥) × (j ≡ c * (n * 4) + v * 4 + 1 → ⊥) × (j ≡ c * (n * 4) + v * 4 + 2 → ⊥)
+    (v : ℕ) → v < n → (j ≡ c * (n * 4) + v * 4 → ⊥) × (j ≡ c * (n * 4) + v * 4 + 1 → ⊥)
+    × (j ≡ c * (n * 4) + v * 4 + 2 → ⊥)
 
 pub record RowsFrom (t : Tree) (m : ℕ → Bool) (n c i : ℕ) (before after : List ℕ) : Type 0 where
   pub rows : (v : ℕ) → i ≤ v → v < n → RowIs t m (colourPart n c after) v

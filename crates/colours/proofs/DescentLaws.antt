@@ -64,7 +64,8 @@ module _ (F : Forest) (lands : ℕ → ℕ) (c to l : ℕ) where
       searched : (o : Option (List Move)) → fellBy F lands c (lowestIn F lands c l) o ≡ fell x d k → d < c
       searched none i = let z : _≡_ {A = ℕ} 0 1 = cc in absurd (omega arith)
       searched (some ms) i =
-          inner (climbEnd F (lowestIn F lands c l) ms) (ltb (lands (climbEnd F (lowestIn F lands c l) ms)) c) (length ms) refl i
+          inner (climbEnd F (lowestIn F lands c l) ms) (ltb (lands (climbEnd F (lowestIn F lands c l) ms)) c)
+          (length ms) refl i
 
       outer : (a b : Bool) (o : Option (List Move))
           → cond a (cond b (fellBy F lands c (lowestIn F lands c l) o) lost) done ≡ fell x d k → d < c
@@ -173,7 +174,8 @@ module _ (n : ℕ) (step : ℕ → ℕ → ℕ) (t : Tree) where
         record {
           searches = [];
           found = descend-next T z l f c done p
-              (next-done (T .forest c) (T .lands c) c (seen T c z) l (omega (arith, seen-is c z, seen-is c (some l), w m)))
+              (next-done (T .forest c) (T .lands c) c (seen T c z) l
+              (omega (arith, seen-is c z, seen-is c (some l), w m)))
               ∙ ap (λ (x : ℕ). some (descent x [])) (sym (s .0));
           falls = sym (s .1);
           few = tt;
@@ -203,7 +205,8 @@ module _ (n : ℕ) (step : ℕ → ℕ → ℕ) (t : Tree) where
         record {
           searches = length (N .moves) ∷ R .searches;
           found = descend-next T z l f c (fell x (landsAt n step t c x) (length (N .moves))) g
-              (next-fell (T .forest c) (T .lands c) c (seen T c z) l (N .moves) x (omega (arith, seen-is c z, seen-is c (some l))) i q r lt)
+              (next-fell (T .forest c) (T .lands c) c (seen T c z) l (N .moves) x
+              (omega (arith, seen-is c z, seen-is c (some l))) i q r lt)
               ∙ ap (withSearch (length (N .moves))) (R .found)
               ∙ ap (λ (y : ℕ). some (descent y (length (N .moves) ∷ R .searches))) (sym (s .0));
           falls = ap suc (R .falls) ∙ sym (s .1);

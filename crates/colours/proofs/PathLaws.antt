@@ -54,7 +54,8 @@ module _ (n : ℕ) (step : ℕ → ℕ → ℕ) (t : Tree) where
       let u : ancestor t (parent t l) a ≡ ancestor t l (suc a) = ancestor-parent t l a in
       let d : ℕ = colourDown n step t (ancestor t l (suc a)) b c in
       let f : colourDown n step t (parent t l) (a + b) c ≡ colourDown n step t (parent t l) a d =
-      colour-add (parent t l) a b c ∙ ap (λ (u : ℕ). colourDown n step t (parent t l) a (colourDown n step t u b c)) u in
+      colour-add (parent t l) a b c ∙ ap (λ (u : ℕ). colourDown n step t (parent t l) a (colourDown n step t u b c)) u
+      in
       let g : dropsDown n step t (parent t l) (a + b) c
       ≡ dropsDown n step t (parent t l) a d + dropsDown n step t (ancestor t l (suc a)) b c =
       drops-add (parent t l) a b c

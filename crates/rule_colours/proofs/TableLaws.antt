@@ -173,7 +173,8 @@ module _ (p r : List ℕ) (l m : ℕ) (ok : firstNo (ruleColourChecks p r l m) �
           getD-drop base bytes′ (v * count + c) 0 ∙ ap (λ (x : ℕ). getD bytes′ x 0) e ∙ F .rows v h c i)
           (λ j h. getD-drop base bytes′ j 0 ∙ F .past (base + j) (omega arith)
           ∙ ap (λ (x : List ℕ). getD x (base + j) 0) b-is
-          ∙ getD-past (builtStateTable p r) before′ (length (builtStateTable p r)) (base + j) refl (omega arith) ∙ sym (getD-drop base before′ j 0))
+          ∙ getD-past (builtStateTable p r) before′ (length (builtStateTable p r)) (base + j) refl (omega arith)
+          ∙ sym (getD-drop base before′ j 0))
 
       pub all-written : SetColoursWritten p r before before′ numbers′ bytes′
       all-written =

@@ -1,5 +1,7 @@
-// Eight screens on one machine (document 02, S-8): their calls, records and reference models as definitions (specs/), and
-// the theorems (proofs/). Of the code only the order of the screens is here, for the calls in place and on record bytes.
+// Eight screens on one machine (document 02, S-8): their calls, records and reference models as definitions (specs/),
+// and
+// the theorems (proofs/). Of the code only the order of the screens is here, for the calls in place and on record
+// bytes.
 ghost use mathlib.Core.Path.{_≡_};
 ghost use Prim.Native.Nat.{_<_};
 ghost use Rattle.screens.specs.ScreenCalls.{onePast};
