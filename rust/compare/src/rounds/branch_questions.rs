@@ -101,7 +101,7 @@ pub struct Faulty<'a, T> {
 
 /// Questions with one fault or two, the number that each gets, and what comes with it: v is not the root, and `out` is no
 /// node.
-pub fn faulty_pairs<T>(lent: Faulty<T>, root: u32, v: u32, out: u32) -> [(&T, u32, u32, u8, &'static str); 15] {
+pub fn faulty_pairs<T>(lent: Faulty<'_, T>, root: u32, v: u32, out: u32) -> [(&T, u32, u32, u32, &'static str); 15] {
     let Faulty { good, damaged, short, both } = lent;
     [
         (good, root, v, 0, "no fault"),
