@@ -69,7 +69,8 @@ module _ (p r : List ℕ) (numbers bytes : ℕ) (none : firstNo (branchTableChec
   unfolding branchColourChecks
   room-good f =
       last-part (branchTableChecks p r) _ (branch-table-numbered p r) none 0
-      (sym (firstNo-yes 11 (coloursFit (nodeCount p) (stateCount r) numbers bytes) [] (fit-is ∙ not-false x f) ∙ firstNo-none))
+      (sym (firstNo-yes 11 (coloursFit (nodeCount p) (stateCount r) numbers bytes) [] (fit-is ∙ not-false x f)
+      ∙ firstNo-none))
 
 -- ---- where all checks pass
 
@@ -91,7 +92,8 @@ module _ (p r : List ℕ) (l m : ℕ) (ok : firstNo (branchColourChecks p r l m)
 
   pub accepted : Accepted p r l m
   accepted =
-      let t : PlanPasses p × BranchPasses r × (allBelow (labelCount r) (labelsIn p) ≡ true) = branch-table-passes p r table-passed in
+      let t : PlanPasses p × BranchPasses r × (allBelow (labelCount r) (labelsIn p) ≡ true) =
+      branch-table-passes p r table-passed in
       let a : Bool = leb (colourNumbersLength (nodeCount p) (stateCount r)) l in
       let b : Bool = leb (copiesLength (nodeCount p) (stateCount r)) m in
       (t .0, t .1, t .2, leb-true _ l (and-left a b fits), leb-true _ m (and-right a b fits))
@@ -166,7 +168,8 @@ module _ (p r : List ℕ) (n s k l m : ℕ) (args : PartArgs p r n s k l m) wher
 
 -- whatever the buffers were, an accepted build leaves them as built
 pub built-coloured : (p r numbers bytes numbers′ bytes′ : List ℕ) (answer : Building)
-    → BuildDone (firstNo (branchColourChecks p r (length numbers) (length bytes))) (builtColourNumbers p r) (builtCopies p r)
+    → BuildDone (firstNo (branchColourChecks p r (length numbers) (length bytes))) (builtColourNumbers p r)
+    (builtCopies p r)
     numbers bytes answer numbers′ bytes′
     → buildingNumber answer ≡ 0 → BranchColoured p r numbers′ bytes′
 built-coloured p r numbers bytes numbers′ bytes′ answer D e =
@@ -180,5 +183,6 @@ built-coloured p r numbers bytes numbers′ bytes′ answer D e =
       numbers-are = rw (q .1) (take-at (builtColourNumbers p r) _ (colourNumbersLength (nodeCount p) s)
           (length-numbers s (wordStep (branchAutomaton r) t) t ∙ ap (λ (n : ℕ). s * (n * 4)) z));
       bytes-are = rw (q .2) (take-at (builtCopies p r) _ (copiesLength (nodeCount p) s)
-          (length-copies s (wordStep (branchAutomaton r) t) t (λ v x h. step-below r (A .1) _) ∙ ap (λ (n : ℕ). n * s) z));
+          (length-copies s (wordStep (branchAutomaton r) t) t (λ v x h. step-below r (A .1) _)
+          ∙ ap (λ (n : ℕ). n * s) z));
     }

@@ -7,7 +7,7 @@ use mathlib.Core.Path.{_≡_, sym, ap, _∙_}
 use mathlib.Core.List.{List, _++_}
 use native.Mathlib.Omega.{arith}
 use lib.ListN.{length, getD, drop, List·getD-append}
-use lib.Seq.{getD-append-add, getD-drop}
+use Rattle.list_laws.proofs.AppendLaws.{getD-past}
 use Rattle.list_laws.proofs.RowLaws.{stride}
 use Rattle.trees.specs.Tree.{Tree, size, kindsOf, labelsOf}
 use Rattle.trees.specs.Tables.{nodeTableOf}
@@ -44,7 +44,8 @@ module _ (ls ks st : List ℕ) (s k l m : ℕ) (A : FillArgs ls ks st s k l m) w
   some = omega (arith, A .steps-below 0)
 
   kinds-count : length ks ≡ length ls
-  kinds-count = ap length (sym (A .kinds)) ∙ length-kinds (A .tree) ∙ sym (length-labels (A .tree)) ∙ ap length (A .labels)
+  kinds-count = ap length (sym (A .kinds)) ∙ length-kinds (A .tree) ∙ sym (length-labels (A .tree))
+      ∙ ap length (A .labels)
 
   pub node-args : NodeTableArgs ks l
   node-args = record {
@@ -113,7 +114,8 @@ module _ (ls ks st : List ℕ) (s k l m : ℕ) (A : FillArgs ls ks st s k l m) w
           let C : CopiesFrom s step t 0 0 bytes b bytes′ b′ = S t (given t e d) in
           let F : ColoursTo s step t s b′ b″ = D step t n (landed t e d) in
           let z : length ks ≡ size t = kinds-size t e in
-          let w : b ≡ nodeTableOf t ++ drop (size t * 4) a = W t e ∙ ap (λ (x : ℕ). nodeTableOf t ++ drop (x * 4) a) z in
+          let w : b ≡ nodeTableOf t ++ drop (size t * 4) a =
+          W t e ∙ ap (λ (x : ℕ). nodeTableOf t ++ drop (x * 4) a) z in
           let g : length (nodeTableOf t) ≡ size t * 4 = length-nodeTableOf t in
           let few : s * (size t * 4) ≤ l = rw n (A .numbers-room) in
           let first : size t * 4 ≤ s * (size t * 4) = omega (arith, stride (size t * 4) 0 s some) in
@@ -123,20 +125,10 @@ module _ (ls ks st : List ℕ) (s k l m : ℕ) (A : FillArgs ls ks st s k l m) w
                 ∙ List·getD-append (nodeTableOf t) (drop (size t * 4) a) 0 j (omega (arith, g)))
                 (λ c p h v i. F .cells c p h v i)
                 (λ j h. F .rest j h ∙ C .kept j (past-elsewhere (size t) s j h) ∙ ap (λ (x : List ℕ). getD x j 0) w
-                ∙ excess t a j g (omega arith));
+                ∙ getD-past (nodeTableOf t) a (size t * 4) j g (omega arith));
             bytes-are = copies-over s step t (λ v q h. A .steps-below _) bytes bytes′ (lm′ ∙ sym lm)
                 (rw (n, lm) (A .bytes-room))
                 (λ v c h i. (let q : v * s + c ≡ 0 + v * s + c = omega arith in
                 ap (λ (x : ℕ). getD bytes′ x 0) q ∙ C .rows v (omega arith) h c i))
                 (λ j h. C .rest j (omega arith));
           }
-        where
-          -- past the node table the buffer is as it was
-          excess : (t : Tree) (a : List ℕ) (j : ℕ) → length (nodeTableOf t) ≡ size t * 4 → size t * 4 ≤ j
-              → getD (nodeTableOf t ++ drop (size t * 4) a) j 0 ≡ getD a j 0
-          excess t a j g h =
-              let i : j ≡ length (nodeTableOf t) + (j - size t * 4) = omega arith in
-              let q : size t * 4 + (j - size t * 4) ≡ j = omega arith in
-              ap (λ (x : ℕ). getD (nodeTableOf t ++ drop (size t * 4) a) x 0) i
-              ∙ getD-append-add (nodeTableOf t) (drop (size t * 4) a) (j - size t * 4) 0
-              ∙ getD-drop (size t * 4) a (j - size t * 4) 0 ∙ ap (λ (x : ℕ). getD a x 0) q

@@ -48,7 +48,8 @@ pub fn build_branch_colours(
     ensures { λ r. ⌜ BuildDone
         (firstNo (branchColourChecks (now (plan .entry)) (now (branch .entry)) (length (now (numbers .entry)))
         (length (now (bytes .entry)))))
-        (builtColourNumbers (now (plan .entry)) (now (branch .entry))) (builtCopies (now (plan .entry)) (now (branch .entry)))
+        (builtColourNumbers (now (plan .entry)) (now (branch .entry)))
+        (builtCopies (now (plan .entry)) (now (branch .entry)))
         (now (numbers .entry)) (now (bytes .entry)) r (now (numbers .exit)) (now (bytes .exit)) ⌝ }
 {
     let no = check_branch_colours(plan, branch, numbers.len(), bytes.len());

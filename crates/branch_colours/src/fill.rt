@@ -38,7 +38,8 @@ pub fn write_branch_colours(
     bytes: &mut [u8],
 )
     requires { ⌜ PartArgs (now plan) (now branch) n s k (length (now numbers)) (length (now bytes)) ⌝ }
-    ensures { λ _. ⌜ ColoursWritten (now (plan .entry)) (now (branch .entry)) (now (numbers .entry)) (now (bytes .entry))
+    ensures { λ _. ⌜ ColoursWritten (now (plan .entry)) (now (branch .entry)) (now (numbers .entry))
+        (now (bytes .entry))
         (now (numbers .exit)) (now (bytes .exit)) ⌝ }
 {
     fill_colours(

@@ -13,7 +13,6 @@ use native.Mathlib.Omega.{arith}
 use lib.Dec.{ltb}
 use lib.ListN.{getD}
 use borrow.Author.Tests.{lt-ltb, le-ltb}
-use Rattle.list_laws.proofs.BoolLaws.{true-false}
 use Rattle.trees.specs.Automaton.{WordAutomaton}
 use Rattle.trees.specs.Climb.{andThen}
 use Rattle.formats.specs.Plan.{nodeCount}
@@ -25,6 +24,7 @@ use Rattle.colour_tables.specs.ColourCells.{cellTable}
 use Rattle.colour_tables.proofs.RangeLaws.{descend-low}
 use Rattle.descents.specs.declared.descend.Descended.{Descended}
 use Rattle.descents.specs.Descended.{descendedOf}
+use Rattle.descents.proofs.DescendedLaws.{descended-none, descended-some}
 use Rattle.branch_descents.specs.declared.answers.Descending.the-variants.{Refused}
 use Rattle.branch_descents.specs.Question.{startOn, colourIn, Coloured, coloured, colouredOn, colourAnswer}
 use Rattle.branch_descents.specs.inner.Steps.{placeAt, numberedPlace, finishOn}
@@ -43,20 +43,6 @@ below-no s x h = rw (le-ltb x s h)
 pub below-yes : (s x : ℕ) → x < s → below s x ≡ some x
 unfolding below
 below-yes s x h = rw (lt-ltb x s h)
-
--- ---- a descent as the code has it
-
-pub descended-none : (o : Option Descent) (d : Descended) → d ≡ descendedOf o → d .ok ≡ false → o ≡ none
-unfolding descendedOf
-descended-none none d e f = refl
-descended-none (some x) d e f = absurd (true-false (sym (ap (λ (y : Descended). y .ok) e) ∙ f))
-
-pub descended-some : (o : Option Descent) (d : Descended) → d ≡ descendedOf o → d .ok ≡ true
-    → (x : Descent) × (o ≡ some x) × (d .colour ≡ x .colour) × (d .drops ≡ drops x) × (d .links ≡ links x)
-unfolding descendedOf
-descended-some none d e f = absurd (true-false (sym f ∙ ap (λ (y : Descended). y .ok) e))
-descended-some (some x) d e f =
-    (x, refl, ap (λ (y : Descended). y .colour) e, ap (λ (y : Descended). y .drops) e, ap (λ (y : Descended). y .links) e)
 
 -- the rest of the question, from a copy on, and from a colour on
 abbrev pub fromEnd : ℕ → WordAutomaton → List ℕ → ℕ → Descent → Option Coloured
@@ -77,7 +63,8 @@ unfolding finishOn colourAnswer below
 finish-is s r bytes l y true w = rw w
 finish-is s r bytes l y false w = rw w
 
-module _ (reading : Reading) (p r nodeTable numbers bytes : List ℕ) (u l n s : ℕ) (a : n ≡ nodeCount p) (b : s ≡ stateCount r) where
+module _ (reading : Reading) (p r nodeTable numbers bytes : List ℕ) (u l n s : ℕ) (a : n ≡ nodeCount p)
+    (b : s ≡ stateCount r) where
   abbrev B : WordAutomaton
   B = branchAutomaton r
 
@@ -104,12 +91,14 @@ module _ (reading : Reading) (p r nodeTable numbers bytes : List ℕ) (u l n s :
       placed = P ∙ ap (λ (x : Bool). cond x none (some (placeAt n z))) (le-ltb n z h)
 
       from-place : colouredOn reading p r nodeTable numbers bytes u l ≡ fromPlace n s B numbers bytes l (placeAt n z)
-      from-place = on-is ∙ on-some (startOn reading n nodeTable u) (placeAt n z) (fromPlace n s B numbers bytes l) placed
+      from-place = on-is ∙ on-some (startOn reading n nodeTable u) (placeAt n z)
+          (fromPlace n s B numbers bytes l) placed
 
       module _ (c : ℕ) (C : colourIn s bytes (placeAt n z) ≡ below s c) where
         pub answer-no-start : s ≤ c → Refused 18 ≡ colourAnswer 0 (colouredOn reading p r nodeTable numbers bytes u l)
         answer-no-start i =
-            refused (from-place ∙ on-none (colourIn s bytes (placeAt n z)) (fromColour n s B numbers bytes l (placeAt n z))
+            refused (from-place ∙ on-none (colourIn s bytes (placeAt n z))
+            (fromColour n s B numbers bytes l (placeAt n z))
             (C ∙ below-no s c i))
 
         module _ (i : c < s) (d : Descended)
@@ -120,7 +109,8 @@ module _ (reading : Reading) (p r nodeTable numbers bytes : List ℕ) (u l n s :
               from-place ∙ on-some (colourIn s bytes (placeAt n z)) c (fromColour n s B numbers bytes l (placeAt n z))
               (C ∙ below-yes s c i)
 
-          pub answer-lost : d .ok ≡ false → Refused 18 ≡ colourAnswer 0 (colouredOn reading p r nodeTable numbers bytes u l)
+          pub answer-lost : d .ok ≡ false → Refused 18
+              ≡ colourAnswer 0 (colouredOn reading p r nodeTable numbers bytes u l)
           answer-lost f =
               refused (from-colour ∙ on-none (descend (cellTable n numbers) c (placeAt n z) l c) (fromEnd s B bytes l)
               (descended-none (descend (cellTable n numbers) c (placeAt n z) l c) d D f))
@@ -138,7 +128,8 @@ module _ (reading : Reading) (p r nodeTable numbers bytes : List ℕ) (u l n s :
           answer-end f mk m =
               let o : Option Descent = descend (cellTable n numbers) c (placeAt n z) l c in
               let x = descended-some o d D f in
-              finish-same mk (branchMarks r) (d .colour) (x .0 .colour) (d .drops) (drops (x .0)) (d .links) (links (x .0)) m
+              finish-same mk (branchMarks r) (d .colour) (x .0 .colour) (d .drops) (drops (x .0)) (d .links)
+              (links (x .0)) m
               (x .2) (x .3) (x .4)
               ∙ finish-is s r bytes l (x .0) (ltb (getD bytes (l * s + x .0 .colour) 0) s) refl
               ∙ sym (ap (colourAnswer 0) (from-colour ∙ on-some o (x .0) (fromEnd s B bytes l) (x .1)))

@@ -45,13 +45,13 @@ use Rattle.colours.proofs.ColouringLaws.{place-lt, has-colour}
 use Rattle.colours.proofs.CopyLaws.{top-colour, copyAbove-root, copyAbove-down, copy-colouring, copyAbove-colouring}
 use Rattle.colours.proofs.WordLaws.{WordAnswer, upper-drops, below-drops}
 use Rattle.colours.proofs.Theorems.{word-upper, word-below}
-use Rattle.colour_tables.specs.ColourCells.{cellTable}
+use Rattle.colour_tables.specs.ColourCells.{copyRow, cellTable}
 use Rattle.colour_tables.specs.AsBuilt.{ColourCells}
 use Rattle.colour_tables.specs.Layout.{colourNumbersOf, copiesOf, colourNumbersLength, copiesLength}
 use Rattle.colour_tables.proofs.LayoutLaws.{length-numbers, length-copies, numbers-cells, copies-cells}
 use Rattle.colour_tables.proofs.RangeLaws.{descend-low}
 use Rattle.descents.proofs.Theorems.{upper-built, below-built}
-use Rattle.branch_descents.specs.Question.{colourBuffersFit, startOn, copyRow, colourIn, coloured, colouredOn}
+use Rattle.branch_descents.specs.Question.{colourBuffersFit, startOn, colourIn, coloured, colouredOn}
 use Rattle.branch_descents.specs.Promise.{BranchColoursBuilt, BranchColoursUsable, wordDescent, wordDrops}
 use Rattle.branch_descents.proofs.FitLaws.{are-fits}
 use Rattle.branch_descents.proofs.AnswerLaws.{on-some, below-yes, fromEnd, fromColour, fromPlace}
@@ -97,7 +97,8 @@ module _ (p r nodeTable numbers bytes : List ℕ) (D : BranchColoursBuilt p r no
 
   links-room : nodeCount p * 4 ≤ length nodeTable
   links-room =
-      begins (nodeCount p * 4) nodeTable (nodeTableOf t) (D .links) (length-nodeTableOf t ∙ ap (λ (n : ℕ). n * 4) size-is)
+      begins (nodeCount p * 4) nodeTable (nodeTableOf t) (D .links)
+      (length-nodeTableOf t ∙ ap (λ (n : ℕ). n * 4) size-is)
 
   numbers-room : colourNumbersLength (nodeCount p) (stateCount r) ≤ length numbers
   numbers-room =
@@ -127,7 +128,8 @@ module _ (p r nodeTable numbers bytes : List ℕ) (D : BranchColoursBuilt p r no
 
   pub fits-built : colourBuffersFit p r (length nodeTable) (length numbers) (length bytes) ≡ true
   fits-built =
-      are-fits p r (length nodeTable) (length numbers) (length bytes) heads (plan-passes .exact) (table-passes .exact) links-room
+      are-fits p r (length nodeTable) (length numbers) (length bytes) heads (plan-passes .exact)
+      (table-passes .exact) links-room
       numbers-room bytes-room
 
   -- ---- the tables
@@ -138,10 +140,12 @@ module _ (p r nodeTable numbers bytes : List ℕ) (D : BranchColoursBuilt p r no
   cells : ColourCells (stateCount r) (wordStep (branchAutomaton r) (planTree p)) (planTree p) numbers
   cells =
       numbers-cells s step t numbers
-      (subst (λ (n : ℕ). take (s * (n * 4)) numbers ≡ colourNumbersOf s step t) (sym size-is) (D .coloured .numbers-are))
+      (subst (λ (n : ℕ). take (s * (n * 4)) numbers ≡ colourNumbersOf s step t) (sym size-is)
+      (D .coloured .numbers-are))
 
   states : (v c : ℕ) → v < size (planTree p) → c < stateCount r
-      → getD bytes (v * stateCount r + c) 0 ≡ getD (copy (stateCount r) (wordStep (branchAutomaton r) (planTree p)) (planTree p) v) c 0
+      → getD bytes (v * stateCount r + c) 0 ≡ getD
+      (copy (stateCount r) (wordStep (branchAutomaton r) (planTree p)) (planTree p) v) c 0
   states =
       copies-cells s step t keeps bytes
       (subst (λ (n : ℕ). take (n * s) bytes ≡ copiesOf s step t) (sym size-is) (D .coloured .bytes-are))
@@ -150,7 +154,8 @@ module _ (p r nodeTable numbers bytes : List ℕ) (D : BranchColoursBuilt p r no
       → copyRow (stateCount r) bytes z ≡ copy (stateCount r) (wordStep (branchAutomaton r) (planTree p)) (planTree p) z
   row-is z h =
       let a : length (copyRow s bytes z) ≡ s =
-      length-part bytes (z * s) s (omega (arith, stride s z (size t) h, bytes-room, size-is, ap (λ (n : ℕ). n * s) size-is)) in
+      length-part bytes (z * s) s
+      (omega (arith, stride s z (size t) h, bytes-room, size-is, ap (λ (n : ℕ). n * s) size-is)) in
       ext-getD 0 (copyRow s bytes z) (copy s step t z) (a ∙ sym (copy-colouring s step t keeps z .count))
       (λ c l.
       let i : c < s = omega arith in
@@ -210,7 +215,8 @@ module _ (p r nodeTable numbers bytes : List ℕ) (D : BranchColoursBuilt p r no
           ))
     ]
 
-    colour-above : colourIn (stateCount r) bytes (aboveOf (planTree p) u) ≡ some (colourAbove (branchAutomaton r) (planTree p) u)
+    colour-above : colourIn (stateCount r) bytes (aboveOf (planTree p) u)
+        ≡ some (colourAbove (branchAutomaton r) (planTree p) u)
     unfolding aboveOf colourAbove
     colour-above = elim (ℕ-discrete (u + 1) (size t)) [
       | yes e ↦ rw (eq-eqb (u + 1) (size t) e) (colour-top u e)
@@ -239,7 +245,8 @@ module _ (p r nodeTable numbers bytes : List ℕ) (D : BranchColoursBuilt p r no
     -- the answer of a descent that gives what the word automaton does
     answered : (reading : Reading) (z : Place) (c : ℕ) (w : List ℕ) (o : Option Descent) → c < stateCount r
         → startOn reading (nodeCount p) nodeTable u ≡ some z → colourIn (stateCount r) bytes z ≡ some c
-        → descend (cellTable (size (planTree p)) numbers) c z l c ≡ o → (W : WordAnswer (branchAutomaton r) (planTree p) l w o)
+        → descend (cellTable (size (planTree p)) numbers) c z l c ≡ o
+        → (W : WordAnswer (branchAutomaton r) (planTree p) l w o)
         → colouredOn reading p r nodeTable numbers bytes u l
         ≡ some (coloured (branchAutomaton r) (wordRun (branchAutomaton r) 0 w) (drops (W .way)) (links (W .way)))
     unfolding colouredOn
@@ -269,10 +276,12 @@ module _ (p r nodeTable numbers bytes : List ℕ) (D : BranchColoursBuilt p r no
           ≡ some (coloured (branchAutomaton r) (wordRun (branchAutomaton r) 0 (wordOf reading (planTree p) u l))
           (drops (descent-built reading .way)) (links (descent-built reading .way)))
       on-built WithUpper =
-          answered WithUpper (aboveOf t u) (colourAbove B t u) (word t u l) (withUpper B t u l) above-low start-upper colour-above
+          answered WithUpper (aboveOf t u) (colourAbove B t u) (word t u l)
+          (withUpper B t u l) above-low start-upper colour-above
           (upper-built B t numbers cells u l upper-in lower-in above-low) (descent-built WithUpper)
       on-built BelowUpper =
-          answered BelowUpper (some u) (colourHere B t u) (wordBelow t u l) (belowUpper B t u l) here-low start-here colour-here
+          answered BelowUpper (some u) (colourHere B t u) (wordBelow t u l)
+          (belowUpper B t u l) here-low start-here colour-here
           (below-built B t numbers cells u l upper-in lower-in here-low) (descent-built BelowUpper)
 
       pub drops-built : (reading : Reading) (d : Descent)

@@ -35,7 +35,8 @@ module _ (a b c : Bool) (o : Option Coloured) where
   unfolding firstNo colourAnswer
   answer-passed e f g = rw (e, f, g) (go o)
     where
-      go : (o : Option Coloured) → colourAnswer (firstNo (four 16 12 15 17 true true true (isSome o))) o ≡ colourAnswer 0 o
+      go : (o : Option Coloured) → colourAnswer (firstNo (four 16 12 15 17 true true true (isSome o))) o
+          ≡ colourAnswer 0 o
       go none = refl
       go (some x) = refl
 
@@ -63,7 +64,8 @@ module _ (reading : Reading) (p r nodeTable numbers bytes : List ℕ) (u l : ℕ
   abbrev on : Option Coloured
   on = colouredOn reading p r nodeTable numbers bytes u l
 
-  pub ask-number : descendingNumber (colourAskAnswer reading p r nodeTable numbers bytes u l) ≡ colourNumber reading p r nodeTable numbers bytes u l
+  pub ask-number : descendingNumber (colourAskAnswer reading p r nodeTable numbers bytes u l)
+      ≡ colourNumber reading p r nodeTable numbers bytes u l
   unfolding colourAskAnswer colourNumber colourChecks
   ask-number = answer-number fits nodes below on
 
@@ -75,10 +77,12 @@ module _ (reading : Reading) (p r nodeTable numbers bytes : List ℕ) (u l : ℕ
   unfolding colourAskAnswer colourNumber colourChecks colourAnswer
   ask-13 e f = ap (λ (i : ℕ). colourAnswer i on) (sym (four-2 16 12 15 17 fits nodes below (isSome on) e f))
 
-  pub ask-13-upper : fits ≡ true → nodeCount p ≤ u → Refused 13 ≡ colourAskAnswer reading p r nodeTable numbers bytes u l
+  pub ask-13-upper : fits ≡ true → nodeCount p ≤ u
+      → Refused 13 ≡ colourAskAnswer reading p r nodeTable numbers bytes u l
   ask-13-upper e h = ask-13 e (and-no-left (ltb u (nodeCount p)) (ltb l (nodeCount p)) (le-ltb u (nodeCount p) h))
 
-  pub ask-13-lower : fits ≡ true → nodeCount p ≤ l → Refused 13 ≡ colourAskAnswer reading p r nodeTable numbers bytes u l
+  pub ask-13-lower : fits ≡ true → nodeCount p ≤ l
+      → Refused 13 ≡ colourAskAnswer reading p r nodeTable numbers bytes u l
   ask-13-lower e h = ask-13 e (and-no-right (ltb u (nodeCount p)) (ltb l (nodeCount p)) (le-ltb l (nodeCount p) h))
 
   both-nodes : u < nodeCount p → l < nodeCount p → nodes ≡ true
@@ -92,12 +96,14 @@ module _ (reading : Reading) (p r nodeTable numbers bytes : List ℕ) (u l : ℕ
       ap (λ (j : ℕ). colourAnswer j on) (sym (four-3 16 12 15 17 fits nodes below (isSome on) e (both-nodes h i) f))
 
   pub ask-on : fits ≡ true → u < nodeCount p → l < nodeCount p → below ≡ true
-      → colourAskAnswer reading p r nodeTable numbers bytes u l ≡ colourAnswer 0 (colouredOn reading p r nodeTable numbers bytes u l)
+      → colourAskAnswer reading p r nodeTable numbers bytes u l
+      ≡ colourAnswer 0 (colouredOn reading p r nodeTable numbers bytes u l)
   unfolding colourAskAnswer colourNumber colourChecks
   ask-on e h i f = answer-passed fits nodes below on e (both-nodes h i) f
 
   pub ask-not-below : fits ≡ true → u < nodeCount p → l < nodeCount p
-      → (descendingNumber (colourAskAnswer reading p r nodeTable numbers bytes u l) ≡ 16) ↔ (isInSubtreeOn nodeTable u l ≡ false)
+      → (descendingNumber (colourAskAnswer reading p r nodeTable numbers bytes u l) ≡ 16)
+      ↔ (isInSubtreeOn nodeTable u l ≡ false)
   unfolding descendingNumber colourAnswer
   ask-not-below e h i = (λ n. go below refl n, λ f. sym (ap descendingNumber (ask-16 e h i f)))
     where
@@ -105,6 +111,7 @@ module _ (reading : Reading) (p r nodeTable numbers bytes : List ℕ) (u l : ℕ
       other none n = omega (arith, n)
       other (some x) n = omega (arith, n)
 
-      go : (b : Bool) → below ≡ b → descendingNumber (colourAskAnswer reading p r nodeTable numbers bytes u l) ≡ 16 → b ≡ false
+      go : (b : Bool) → below ≡ b → descendingNumber (colourAskAnswer reading p r nodeTable numbers bytes u l) ≡ 16
+          → b ≡ false
       go false f n = refl
       go true f n = absurd (other on (sym (ap descendingNumber (ask-on e h i f)) ∙ n))

@@ -28,9 +28,9 @@ use Rattle.branches.specs.Question.{isSome}
 use Rattle.colours.specs.Colouring.{placeOf}
 use Rattle.colours.specs.Descents.{Place, Descent, drops, links, descend}
 use Rattle.colours.proofs.AgreeLaws.{PlaceIn}
-use Rattle.colour_tables.specs.ColourCells.{cellTable}
+use Rattle.colour_tables.specs.ColourCells.{copyRow, cellTable}
 use Rattle.colour_tables.proofs.RangeLaws.{descend-cause, descend-low}
-use Rattle.branch_descents.specs.Question.{colourBuffersFit, startOn, copyRow, colourIn, Coloured, coloured}
+use Rattle.branch_descents.specs.Question.{colourBuffersFit, startOn, colourIn, Coloured, coloured}
 use Rattle.branch_descents.specs.Question.{colouredOn}
 use Rattle.branch_descents.specs.Question.{colourChecks, colourNumber, colourAnswer, colourAskAnswer}
 use Rattle.branch_descents.specs.OutOfRange.{BranchColoursOutOfRange, parent, colour, start, state}
@@ -65,7 +65,8 @@ eighteen true true false o e = absurd (omega arith)
 eighteen true false c o e = absurd (omega arith)
 eighteen false b c o e = absurd (omega arith)
 
-module _ (p r nodeTable numbers bytes : List ℕ) (u l : ℕ) (hu : u < nodeCount p) (hl : l < nodeCount p) (hs : 1 ≤ stateCount r) where
+module _ (p r nodeTable numbers bytes : List ℕ) (u l : ℕ) (hu : u < nodeCount p) (hl : l < nodeCount p)
+    (hs : 1 ≤ stateCount r) where
   abbrev n : ℕ
   n = nodeCount p
 
@@ -99,7 +100,8 @@ module _ (p r nodeTable numbers bytes : List ℕ) (u l : ℕ) (hu : u < nodeCoun
   unfolding colourIn
   at-place none w e = go (below s 0) refl e
     where
-      go : (o : Option ℕ) → below s 0 ≡ o → andThen o (fromColour n s (branchAutomaton r) numbers bytes l none) ≡ none → Cause
+      go : (o : Option ℕ) → below s 0 ≡ o → andThen o (fromColour n s (branchAutomaton r) numbers bytes l none) ≡ none
+          → Cause
       go none q i = absurd (omega (arith, below-none s 0 q))
       go (some c) q i = at-colour none c (below-some s 0 c q .1) i
   at-place (some z) w e = go (below s (placeOf 0 (copyRow s bytes z))) refl e
@@ -114,13 +116,15 @@ module _ (p r nodeTable numbers bytes : List ℕ) (u l : ℕ) (hu : u < nodeCoun
   on-cause WithUpper e = root (eqb (u + 1) n) e
     where
       inner : (b : Bool) → ltb (parentCell nodeTable u) n ≡ b
-          → andThen (cond b (some (some (parentCell nodeTable u))) none) (fromPlace n s (branchAutomaton r) numbers bytes l) ≡ none
+          → andThen (cond b (some (some (parentCell nodeTable u))) none)
+          (fromPlace n s (branchAutomaton r) numbers bytes l) ≡ none
           → Cause
       inner true q i = at-place (some (parentCell nodeTable u)) (ltb-true (parentCell nodeTable u) n q) i
       inner false q i = parent u hu (ltb-false (parentCell nodeTable u) n q)
 
       root : (b : Bool)
-          → andThen (cond b (some none) (cond (ltb (parentCell nodeTable u) n) (some (some (parentCell nodeTable u))) none))
+          → andThen
+          (cond b (some none) (cond (ltb (parentCell nodeTable u) n) (some (some (parentCell nodeTable u))) none))
           (fromPlace n s (branchAutomaton r) numbers bytes l) ≡ none → Cause
       root true i = at-place none tt i
       root false i = inner (ltb (parentCell nodeTable u) n) refl i
@@ -134,10 +138,12 @@ module _ (reading : Reading) (p r nodeTable numbers bytes : List ℕ) (u l : ℕ
       let f : Bool = colourBuffersFit p r (length nodeTable) (length numbers) (length bytes) in
       let a : Bool = ltb u (nodeCount p) in
       let b : Bool = ltb l (nodeCount p) in
-      let w = eighteen f (a && b) (isInSubtreeOn nodeTable u l) (colouredOn reading p r nodeTable numbers bytes u l) e in
+      let w = eighteen f (a && b) (isInSubtreeOn nodeTable u l)
+      (colouredOn reading p r nodeTable numbers bytes u l) e in
       on-cause p r nodeTable numbers bytes u l (ltb-true u (nodeCount p) (and-left a b (w .1)))
       (ltb-true l (nodeCount p) (and-right a b (w .1)))
-      (fits-are p r (length nodeTable) (length numbers) (length bytes) (w .0) .headers .in-limits .states) reading (w .2)
+      (fits-are p r (length nodeTable) (length numbers) (length bytes) (w .0) .headers .in-limits .states) reading
+      (w .2)
 
   -- ---- what holds of an answer
 
@@ -174,9 +180,11 @@ module _ (reading : Reading) (p r nodeTable numbers bytes : List ℕ) (u l : ℕ
 
   pub ask-kept : stateKept r (colourAskAnswer reading p r nodeTable numbers bytes u l)
   unfolding colourAskAnswer colourAnswer
-  ask-kept = go (colourNumber reading p r nodeTable numbers bytes u l) (colouredOn reading p r nodeTable numbers bytes u l) refl
+  ask-kept = go (colourNumber reading p r nodeTable numbers bytes u l)
+      (colouredOn reading p r nodeTable numbers bytes u l) refl
     where
-      go : (m : ℕ) (o : Option Coloured) → colouredOn reading p r nodeTable numbers bytes u l ≡ o → stateKept r (colourAnswer m o)
+      go : (m : ℕ) (o : Option Coloured) → colouredOn reading p r nodeTable numbers bytes u l ≡ o
+          → stateKept r (colourAnswer m o)
       go zero none e = tt
       go zero (some x) e = kept-on x e
       go (suc m) o e = tt

@@ -28,7 +28,8 @@ use Rattle.branch_descents.proofs.AskUsable.{usable-in-range}
 use Rattle.branch_descents.proofs.AskBuilt.{size-is, fits-built, built-links, descent-built, on-built}
 use Rattle.branch_descents.proofs.AskBuilt.{drops-built}
 
-module _ (reading : Reading) (p r nodeTable numbers bytes : List ℕ) (D : BranchColoursBuilt p r nodeTable numbers bytes) (u l : ℕ)
+module _ (reading : Reading) (p r nodeTable numbers bytes : List ℕ) (D : BranchColoursBuilt p r nodeTable numbers bytes)
+    (u l : ℕ)
     (hu : u < nodeCount p) (hl : l < nodeCount p) where
   abbrev t : Tree
   t = planTree p
@@ -42,7 +43,8 @@ module _ (reading : Reading) (p r nodeTable numbers bytes : List ℕ) (D : Branc
   small : size (planTree p) ≤ 65535
   small = omega (arith, size-is p r nodeTable numbers bytes D, branch-table-passes p r (D .coloured .accepted) .0 .most)
 
-  ask-built : AtOrBelow (planTree p) u l → DescentAnswer reading p r u l (colourAskAnswer reading p r nodeTable numbers bytes u l)
+  ask-built : AtOrBelow (planTree p) u l → DescentAnswer reading p r u l
+      (colourAskAnswer reading p r nodeTable numbers bytes u l)
   unfolding colourAnswer
   ask-built A =
       let w = ancestor-interval t u l (A .0) lower-in (A .1) (A .2) in

@@ -24,7 +24,8 @@ module _ (p r : List ℕ) (nodeTable numbers bytes : ℕ) where
   unfolding colourBuffersFit
   headers-no e = rw e
 
-  module _ (h : headersFit 16 p r ≡ true) (n s k : ℕ) (a : n ≡ nodeCount p) (b : s ≡ stateCount r) (c : k ≡ labelCount r) where
+  module _ (h : headersFit 16 p r ≡ true) (n s k : ℕ) (a : n ≡ nodeCount p) (b : s ≡ stateCount r)
+      (c : k ≡ labelCount r) where
     pub plan-no : (length p ≡ 12 + 2 * n → ⊥) → false ≡ colourBuffersFit p r nodeTable numbers bytes
     unfolding colourBuffersFit
     plan-no f = rw (h, ← a, ne-eqb (length p) (planLength n) f)
@@ -87,14 +88,16 @@ module _ (p r : List ℕ) (nodeTable numbers bytes : ℕ) where
   pub fits-are : colourBuffersFit p r nodeTable numbers bytes ≡ true → Fits
   unfolding colourBuffersFit
   fits-are e =
-      let a : (t1 && (t2 && (t3 && (t4 && t5)))) ≡ true = and-right (headersFit 16 p r) (t1 && (t2 && (t3 && (t4 && t5)))) e in
+      let a : (t1 && (t2 && (t3 && (t4 && t5)))) ≡ true =
+      and-right (headersFit 16 p r) (t1 && (t2 && (t3 && (t4 && t5)))) e in
       let b : (t2 && (t3 && (t4 && t5))) ≡ true = and-right t1 (t2 && (t3 && (t4 && t5))) a in
       let c : (t3 && (t4 && t5)) ≡ true = and-right t2 (t3 && (t4 && t5)) b in
       let d : (t4 && t5) ≡ true = and-right t3 (t4 && t5) c in
       record {
         headers = headers-are 16 p r (and-left (headersFit 16 p r) (t1 && (t2 && (t3 && (t4 && t5)))) e);
         plan-exact = eqb-true (length p) (planLength (nodeCount p)) (and-left t1 (t2 && (t3 && (t4 && t5))) a);
-        table-exact = eqb-true (length r) (branchLength (stateCount r) (labelCount r)) (and-left t2 (t3 && (t4 && t5)) b);
+        table-exact = eqb-true (length r) (branchLength (stateCount r) (labelCount r))
+            (and-left t2 (t3 && (t4 && t5)) b);
         node-table-room = leb-true (nodeTableLength (nodeCount p)) nodeTable (and-left t3 (t4 && t5) c);
         numbers-room = leb-true (colourNumbersLength (nodeCount p) (stateCount r)) numbers (and-left t4 t5 d);
         bytes-room = leb-true (copiesLength (nodeCount p) (stateCount r)) bytes (and-right t4 t5 d);

@@ -33,7 +33,8 @@ module _ (n : ℕ) (T : List ℕ) (u : ℕ) where
   place-outside p q e h =
       rw (ne-eqb (u + 1) n e, le-ltb (parentCell T u) n (omega arith), lt-ltb n (n + 1) (omega arith))
 
-  pub place-parent : (p : ℕ) → p ≡ parentCell T u → (u + 1 ≡ n → ⊥) → p < n → startOn WithUpper n T u ≡ numberedPlace n p
+  pub place-parent : (p : ℕ) → p ≡ parentCell T u → (u + 1 ≡ n → ⊥) → p < n
+      → startOn WithUpper n T u ≡ numberedPlace n p
   unfolding startOn
   place-parent p q e h =
       rw (ne-eqb (u + 1) n e, ← q, lt-ltb p n h, le-ltb n p (omega arith), ne-eqb p n (λ z. omega arith))
@@ -67,6 +68,7 @@ module _ (s : ℕ) (mk bytes : List ℕ) (l c d n : ℕ) where
   finish-outside h = rw (le-ltb (getD bytes (l * s + c) 0) s h)
 
   pub finish-answer : getD bytes (l * s + c) 0 < s
-      → Answered (getD bytes (l * s + c) 0) (eqb (getD mk (getD bytes (l * s + c) 0) 0) 1) d n ≡ finishOn s mk bytes l c d n
+      → Answered (getD bytes (l * s + c) 0) (eqb (getD mk (getD bytes (l * s + c) 0) 0) 1) d n
+      ≡ finishOn s mk bytes l c d n
   unfolding finishOn
   finish-answer h = rw (lt-ltb (getD bytes (l * s + c) 0) s h)

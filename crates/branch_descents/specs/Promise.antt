@@ -2,7 +2,8 @@
 --
 -- BranchColoursBuilt p r nodeTable numbers bytes == node table and tables of colours are as built from plan and branch
 --   table
--- BranchColoursUsable p r nodeTable numbers bytes == plan, branch table, node table and the colours' numbers as built; of
+-- BranchColoursUsable p r nodeTable numbers bytes == plan, branch table, node table and the colours' numbers as built;
+--   of
 --   the copies only that their states are below S and that one of each is state 0
 -- wordDescent reading B t u l == the descent of a reading by the tree's own colours
 -- wordDrops reading B t u l == its drops: the places on the path where the colour falls
@@ -33,11 +34,12 @@ use Rattle.colours.specs.Colouring.{placeOf}
 use Rattle.colours.specs.Copies.{dropsDown}
 use Rattle.colours.specs.Descents.{Descent, drops, links}
 use Rattle.colours.specs.Words.{wordStep, colourAbove, colourHere, withUpper, belowUpper}
+use Rattle.colour_tables.specs.ColourCells.{copyRow}
 use Rattle.colour_tables.specs.Layout.{colourNumbersLength}
 use Rattle.branch_colours.specs.Build.{builtColourNumbers, BranchColoured}
 use Rattle.branch_descents.specs.declared.answers.Descending.{Descending}
 use Rattle.branch_descents.specs.declared.answers.Descending.the-variants.{Answered, Refused}
-use Rattle.branch_descents.specs.Question.{colourBuffersFit, copyRow, colourNumber, colourAskAnswer}
+use Rattle.branch_descents.specs.Question.{colourBuffersFit, colourNumber, colourAskAnswer}
 use Rattle.branch_descents.specs.Question.{descendingNumber}
 use Rattle.branch_descents.specs.OutOfRange.{BranchColoursOutOfRange}
 
@@ -80,14 +82,16 @@ abbrev pub stateKept : List ℕ → Descending → Type 0
 stateKept r (Answered state marked drops links) = (state < stateCount r) × (marked ≡ branchAutomaton r .accepting state)
 stateKept r (Refused n) = Unit {0}
 
-pub record ColourAskDone (reading : Reading) (p r nodeTable numbers bytes : List ℕ) (u l : ℕ) (answer : Descending) : Type 0 where
+pub record ColourAskDone (reading : Reading) (p r nodeTable numbers bytes : List ℕ) (u l : ℕ)
+    (answer : Descending) : Type 0 where
   -- on every input: the first failing check of 17, 13, 16 and 18, or the named result
   pub result : answer ≡ colourAskAnswer reading p r nodeTable numbers bytes u l
   pub number : descendingNumber answer ≡ colourNumber reading p r nodeTable numbers bytes u l
   -- an answer's state is below S, and yes is its mark
   pub properties : stateKept r answer
   -- where 17 and 13 pass, 16 exactly when the lent size says so
-  pub not-below : colourBuffersFit p r (length nodeTable) (length numbers) (length bytes) ≡ true → u < nodeCount p → l < nodeCount p
+  pub not-below : colourBuffersFit p r (length nodeTable) (length numbers) (length bytes) ≡ true → u < nodeCount p
+      → l < nodeCount p
       → (descendingNumber answer ≡ 16) ↔ (isInSubtreeOn nodeTable u l ≡ false)
   -- 18 only where a value leads outside the plan or the states, does not rise or leads to no fall
   pub out-of-range : descendingNumber answer ≡ 18 → BranchColoursOutOfRange p r nodeTable numbers bytes
@@ -95,8 +99,10 @@ pub record ColourAskDone (reading : Reading) (p r nodeTable numbers bytes : List
   pub usable : BranchColoursUsable p r nodeTable numbers bytes → descendingNumber answer ≡ 18 → ⊥
   -- on tables as built and two nodes of the plan: the word automaton's answer where the lower node is at or below the
   -- upper ..
-  pub built : BranchColoursBuilt p r nodeTable numbers bytes → u < nodeCount p → l < nodeCount p → AtOrBelow (planTree p) u l
+  pub built : BranchColoursBuilt p r nodeTable numbers bytes → u < nodeCount p → l < nodeCount p
+      → AtOrBelow (planTree p) u l
       → DescentAnswer reading p r u l answer
   -- .. and 16 where it is not: 18 never
-  pub apart : BranchColoursBuilt p r nodeTable numbers bytes → u < nodeCount p → l < nodeCount p → (AtOrBelow (planTree p) u l → ⊥)
+  pub apart : BranchColoursBuilt p r nodeTable numbers bytes → u < nodeCount p → l < nodeCount p
+      → (AtOrBelow (planTree p) u l → ⊥)
       → answer ≡ Refused 16

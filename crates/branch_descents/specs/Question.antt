@@ -7,7 +7,6 @@
 -- startOn reading n nodeTable u == the copy in which the word begins: node u's own, or with u's label the copy above
 --   it; none where its
 --   parent is no node of the plan
--- copyRow s bytes z == the states of node z's copy, in the order of their colours
 -- colourIn s bytes z == the colour of state 0 in copy z; none where no colour has it. In the top copy it is the lowest
 -- colouredOn .. == the answer on these tables: none where a value read leads outside the plan or the states, or a
 --   search does not rise
@@ -24,7 +23,7 @@ use mathlib.Core.Bool.{Bool, cond, _&&_}
 use mathlib.Core.List.{List, [], _∷_}
 use mathlib.Core.Option.{Option, none, some}
 use lib.Dec.{leb, ltb, eqb}
-use lib.ListN.{length, getD, take, drop}
+use lib.ListN.{length, getD}
 use Rattle.trees.specs.Automaton.{WordAutomaton}
 use Rattle.trees.specs.Climb.{andThen}
 use Rattle.formats.specs.Plan.{nodeCount, planLength}
@@ -38,7 +37,7 @@ use Rattle.branches.specs.declared.answers.Reading.the-variants.{WithUpper, Bel
 use Rattle.branches.specs.Question.{isSome}
 use Rattle.colours.specs.Colouring.{placeOf}
 use Rattle.colours.specs.Descents.{Place, drops, links, descend}
-use Rattle.colour_tables.specs.ColourCells.{cellTable}
+use Rattle.colour_tables.specs.ColourCells.{copyRow, cellTable}
 use Rattle.branch_colours.specs.Build.{coloursFit}
 use Rattle.branch_descents.specs.declared.answers.Descending.{Descending}
 use Rattle.branch_descents.specs.declared.answers.Descending.the-variants.{Answered, Refused}
@@ -55,9 +54,6 @@ unfoldable pub startOn : Reading → ℕ → List ℕ → ℕ → Option Place
 startOn WithUpper n nodeTable u =
     cond (eqb (u + 1) n) (some none) (cond (ltb (parentCell nodeTable u) n) (some (some (parentCell nodeTable u))) none)
 startOn BelowUpper n nodeTable u = some (some u)
-
-abbrev pub copyRow : ℕ → List ℕ → ℕ → List ℕ
-copyRow s bytes z = take s (drop (z * s) bytes)
 
 unfoldable pub colourIn : ℕ → List ℕ → Place → Option ℕ
 colourIn s bytes none = below s 0
@@ -103,4 +99,5 @@ colourAnswer (suc n) c = Refused (suc n)
 
 unfoldable pub colourAskAnswer : Reading → List ℕ → List ℕ → List ℕ → List ℕ → List ℕ → ℕ → ℕ → Descending
 colourAskAnswer reading p r nodeTable numbers bytes u l =
-    colourAnswer (colourNumber reading p r nodeTable numbers bytes u l) (colouredOn reading p r nodeTable numbers bytes u l)
+    colourAnswer (colourNumber reading p r nodeTable numbers bytes u l)
+    (colouredOn reading p r nodeTable numbers bytes u l)

@@ -57,7 +57,8 @@ fn answer_colours(
     l: usize,
 ) -> Descending
     requires { ⌜ AnswerArgs (now plan) (now branch) (now «node_table») (now numbers) (now bytes) u l ⌝ }
-    ensures { λ r. ⌜ r ≡ colourAnswer 0 (colouredOn reading (now (plan .entry)) (now (branch .entry)) (now («node_table» .entry))
+    ensures { λ r. ⌜ r ≡ colourAnswer 0 (colouredOn reading (now (plan .entry)) (now (branch .entry))
+        (now («node_table» .entry))
         (now (numbers .entry)) (now (bytes .entry)) u l) ⌝ }
 {
     let n = read32(plan, 0);

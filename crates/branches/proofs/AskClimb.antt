@@ -16,15 +16,14 @@ use Rattle.trees.specs.Jumps.{jump, jumpDepth}
 use Rattle.trees.specs.Climb.{forestOf, Move, byJump, toParent, target, andThen, climb}
 use Rattle.trees.specs.Tables.{branchMap}
 use Rattle.list_laws.proofs.Choice.{le-or}
-use Rattle.trees.proofs.NodeLaws.{up}
+use Rattle.trees.proofs.NodeLaws.{up, below-root}
 use Rattle.trees.proofs.JumpLaws.{jumpDepth-le, jump-in, jump-is, depth-jump}
 use Rattle.trees.proofs.ClimbLaws.{climb-nil, climb-cons}
-use Rattle.trees.proofs.TreeClimbs.{below-root, tree-next-jump, tree-next-parent}
+use Rattle.trees.proofs.TreeClimbs.{tree-next-jump, tree-next-parent}
 use Rattle.trees.proofs.BranchMapLaws.{branchMap-below, wordRun-append, wordRun-below, labelsDown-one, labelsDown-add}
 use Rattle.formats.specs.Plan.{labelsIn, planTree}
 use Rattle.formats.specs.Rules.{stateCount, labelCount, branchSteps, branchAutomaton}
 use Rattle.formats.specs.Built.{BranchBuilt}
-use Rattle.tables.specs.StateCells.{mapCell}
 use Rattle.tables.specs.Climbs.{below}
 use Rattle.tables.specs.Replays.{stateMove, carryDown}
 use Rattle.tables.proofs.LookupLaws.{below-yes}

@@ -21,7 +21,8 @@ use Rattle.part_counts.specs.CountOn.{countView, rootsIn, listIn, isCountable, 
 use Rattle.part_counts.proofs.BuiltCounts.{fit-17}
 use Rattle.choices.specs.declared.count.Counted.{Counted}
 use Rattle.choices.specs.Promise.{refusedWith, countedAt, countResult, CountDone}
-use Rattle.capi_count.specs.CountExported.{overBuffer, exportedChecks, CountExported, CopyArgs}
+use Rattle.list_laws.specs.Copying.{overBuffer, CopyArgs}
+use Rattle.capi_count.specs.CountExported.{exportedChecks, CountExported}
 
 module _ (p r nodeTable stateTable vs : List ℕ) where
   pub listed-numbered : Numbered (listedChecks p r (length nodeTable) (length stateTable) vs)
@@ -62,7 +63,7 @@ module _ (p r nodeTable stateTable vs : List ℕ) where
         either false = refl
 
     -- s is the count of states as it was read
-    pub copy-args : a .answer ≡ 0 → (s : ℕ) → s ≡ stateCount r → (d : List ℕ) → s ≤ length d → CopyArgs (a .counts) s d
+    pub copy-args : a .answer ≡ 0 → (s : ℕ) → s ≡ stateCount r → (d : List ℕ) → s ≤ length d → CopyArgs 16 (a .counts) s d
     copy-args z s e d h =
         record { wide = sixteen; few = omega (arith, e, headed z .headers .in-limits .few); room = h }
 

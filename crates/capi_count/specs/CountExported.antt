@@ -1,24 +1,21 @@
 -- What the exported function promises (document 02, S-10).
 --
--- overBuffer n a d == the buffer d with the first n numbers of a at its front; behind them what was there
 -- exportedChecks .. room == the checks of a count, then 11: whether a buffer of that many numbers has one for each
 --   state
 -- CountExported .. == the promise of whatif_count: its number, and counts, parts and links afterwards
 --
 -- In C a counts buffer shorter than S gets 11: it is asked last, so no number of the count is hidden by it.
 -- Assumes nothing.
-use Prim.Native.Nat.{ℕ, _≤_}
+use Prim.Native.Nat.{ℕ}
 use mathlib.Core.Path.{_≡_}
 use mathlib.Core.List.{List, [], _∷_, _++_}
 use lib.Dec.{leb}
-use lib.ListN.{length, take, drop}
+use lib.ListN.{length}
+use Rattle.list_laws.specs.Copying.{overBuffer}
 use Rattle.formats.specs.Rules.{stateCount}
 use Rattle.formats.specs.Checks.{Check, check, firstNo}
 use Rattle.part_counts.specs.CountOn.{countChecks}
 use Rattle.choices.specs.Promise.{countResult}
-
-abbrev pub overBuffer : ℕ → List ℕ → List ℕ → List ℕ
-overBuffer n a d = take n a ++ drop n d
 
 unfoldable pub exportedChecks : List ℕ → List ℕ → List ℕ → List ℕ → List ℕ → ℕ → List Check
 exportedChecks p r nodeTable stateTable vs room =
@@ -38,9 +35,3 @@ pub record CountExported (p r nodeTable stateTable vs counts : List ℕ) (parts 
   pub counts-kept : (n ≡ 0 → ⊥) → counts′ ≡ counts
   pub parts-kept : (n ≡ 0 → ⊥) → parts′ ≡ parts
   pub links-kept : (n ≡ 0 → ⊥) → links′ ≡ links
-
--- what a copy to a buffer asks
-pub record CopyArgs (a : List ℕ) (n : ℕ) (d : List ℕ) : Type 0 where
-  pub wide : length a ≡ 16
-  pub few : n ≤ 16
-  pub room : n ≤ length d

@@ -5,11 +5,12 @@
 use choices::count::count;
 use formats::bytes::read32;
 ghost use mathlib.Core.Path.{_≡_};
-ghost use Rattle.capi_count.specs.CountExported.{overBuffer, CountExported, CopyArgs};
+ghost use Rattle.list_laws.specs.Copying.{overBuffer, CopyArgs};
+ghost use Rattle.capi_count.specs.CountExported.{CountExported};
 
 // The first n counts to the front of a buffer.
 fn copy_counts(a: [u64; 16], n: usize, out: &mut [u64])
-    requires { ⌜ CopyArgs a n (now out) ⌝ }
+    requires { ⌜ CopyArgs 16 a n (now out) ⌝ }
     ensures { λ _. ⌜ now (out .exit) ≡ overBuffer n a (now (out .entry)) ⌝ }
 {
     let mut i = 0;

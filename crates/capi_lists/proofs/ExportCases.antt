@@ -19,7 +19,8 @@ use Rattle.changes.specs.declared.LaidOver.{LaidOver}
 use Rattle.changes.proofs.EntryLaws.{length-nodes, length-labels}
 use Rattle.changes.proofs.StoredLaws.{length-padded, take-padded}
 use Rattle.changes.proofs.Theorems.{lay-zero}
-use Rattle.capi_lists.specs.ListsExported.{overBuffer, exportedChecks, LayExported, CopyArgs}
+use Rattle.list_laws.specs.Copying.{overBuffer, CopyArgs}
+use Rattle.capi_lists.specs.ListsExported.{exportedChecks, LayExported}
 
 checks-numbered : (lvs lbs uvs ubs : List ℕ) → Numbered (layChecks lvs lbs uvs ubs)
 unfolding layChecks
@@ -40,7 +41,7 @@ module _ (lvs lbs uvs ubs : List ℕ) (r : LaidOver) (D : LayDone lvs lbs uvs ub
   pub count-most : m ≡ 0 → r .count ≤ 64
   count-most z = omega (arith, count-length z, lay-zero lvs lbs uvs ubs (passed z) .remain)
 
-  pub nodes-args : m ≡ 0 → (d : List ℕ) → r .count ≤ length d → CopyArgs (r .nodes) (r .count) d
+  pub nodes-args : m ≡ 0 → (d : List ℕ) → r .count ≤ length d → CopyArgs 64 (r .nodes) (r .count) d
   nodes-args z d h = record {
     wide = ap (λ (x : LaidOver). length (x .nodes)) (accepted-is z)
         ∙ length-padded (nodesListed (laid lvs lbs uvs ubs))
@@ -49,7 +50,7 @@ module _ (lvs lbs uvs ubs : List ℕ) (r : LaidOver) (D : LayDone lvs lbs uvs ub
     room = h;
   }
 
-  pub labels-args : m ≡ 0 → (d : List ℕ) → r .count ≤ length d → CopyArgs (r .labels) (r .count) d
+  pub labels-args : m ≡ 0 → (d : List ℕ) → r .count ≤ length d → CopyArgs 64 (r .labels) (r .count) d
   labels-args z d h = record {
     wide = ap (λ (x : LaidOver). length (x .labels)) (accepted-is z)
         ∙ length-padded (labelsListed (laid lvs lbs uvs ubs))

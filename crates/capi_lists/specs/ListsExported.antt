@@ -1,23 +1,19 @@
 -- What the exported function promises (document 02, S-4).
 --
--- overBuffer n a d == the buffer d with the first n numbers of a at its front; behind them what was there
 -- exportedChecks .. nodes labels == the checks of laying over, then 11: whether the buffers of that many nodes and labels are long enough
 -- LayExported .. == the promise of whatif_lay_over: its number, and nodes, labels and count afterwards
 --
 -- "11 after 22": it is asked last, so no number of laying over is hidden by it.
 -- Assumes nothing.
-use Prim.Native.Nat.{ℕ, _≤_}
+use Prim.Native.Nat.{ℕ}
 use mathlib.Core.Path.{_≡_}
 use mathlib.Core.Bool.{_&&_}
 use mathlib.Core.List.{List, [], _∷_, _++_}
 use lib.Dec.{leb}
-use lib.ListN.{length, take, drop}
+use lib.ListN.{length, drop}
 use Rattle.formats.specs.Checks.{Check, check, firstNo}
 use Rattle.changes.specs.Entries.{nodesListed, labelsListed}
 use Rattle.changes.specs.LayOver.{laid, layChecks}
-
-abbrev pub overBuffer : ℕ → List ℕ → List ℕ → List ℕ
-overBuffer n a d = take n a ++ drop n d
 
 unfoldable pub exportedChecks : List ℕ → List ℕ → List ℕ → List ℕ → ℕ → ℕ → List Check
 exportedChecks lvs lbs uvs ubs nodes labels =
@@ -37,9 +33,3 @@ pub record LayExported (lvs lbs uvs ubs nodes labels : List ℕ) (count r : ℕ)
   pub nodes-kept : (r ≡ 0 → ⊥) → nodes′ ≡ nodes
   pub labels-kept : (r ≡ 0 → ⊥) → labels′ ≡ labels
   pub count-kept : (r ≡ 0 → ⊥) → count′ ≡ count
-
--- what a copy to a buffer asks
-pub record CopyArgs (a : List ℕ) (n : ℕ) (d : List ℕ) : Type 0 where
-  pub wide : length a ≡ 64
-  pub few : n ≤ 64
-  pub room : n ≤ length d

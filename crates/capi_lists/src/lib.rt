@@ -5,7 +5,8 @@ use changes::Laying;
 use changes::lay_over;
 ghost use mathlib.Core.Path.{_≡_};
 ghost use Rattle.changes.specs.LayOver.{layingNumber};
-ghost use Rattle.capi_lists.specs.ListsExported.{overBuffer, LayExported, CopyArgs};
+ghost use Rattle.list_laws.specs.Copying.{overBuffer, CopyArgs};
+ghost use Rattle.capi_lists.specs.ListsExported.{LayExported};
 
 // The number of a reply.
 fn laying_number(answer: Laying) -> u32
@@ -19,7 +20,7 @@ fn laying_number(answer: Laying) -> u32
 
 // The first n nodes to the front of a buffer.
 fn copy_nodes(a: [u16; 64], n: usize, out: &mut [u16])
-    requires { ⌜ CopyArgs a n (now out) ⌝ }
+    requires { ⌜ CopyArgs 64 a n (now out) ⌝ }
     ensures { λ _. ⌜ now (out .exit) ≡ overBuffer n a (now (out .entry)) ⌝ }
 {
     let mut i = 0;
@@ -31,7 +32,7 @@ fn copy_nodes(a: [u16; 64], n: usize, out: &mut [u16])
 
 // The first n labels to the front of a buffer.
 fn copy_labels(a: [u8; 64], n: usize, out: &mut [u8])
-    requires { ⌜ CopyArgs a n (now out) ⌝ }
+    requires { ⌜ CopyArgs 64 a n (now out) ⌝ }
     ensures { λ _. ⌜ now (out .exit) ≡ overBuffer n a (now (out .entry)) ⌝ }
 {
     let mut i = 0;

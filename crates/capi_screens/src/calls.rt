@@ -4,11 +4,12 @@ use capi_session::calls::whatif_advance;
 use capi_session::calls::whatif_cancel;
 use capi_session::calls::whatif_read;
 use capi_session::calls::whatif_start;
+use screens::one_past;
 ghost use mathlib.Core.Path.{_≡_};
 ghost use Prim.Native.Nat.{_<_};
 ghost use lib.ListN.{length};
 ghost use Rattle.formats.specs.Inputs.{inputsOf};
-ghost use Rattle.screens.specs.ScreenCalls.{onePast, found};
+ghost use Rattle.screens.specs.ScreenCalls.{found};
 ghost use Rattle.screens.specs.ScreenCalls as screens;
 ghost use Rattle.capi_session.specs.Stored.{places};
 ghost use Rattle.capi_screens.specs.RunLayout.{runLength, runs};
@@ -101,16 +102,6 @@ pub extern "C" fn whatif_screens_read(
         links,
         passed,
     )
-}
-
-// One past a screen, 0 past 7.
-fn one_past(i: usize) -> usize
-    ensures { λ r. ⌜ (r ≡ onePast i) × (r < 8) ⌝ }
-{
-    if i < 7 {
-        return i + 1;
-    }
-    0
 }
 
 // The next running screen from the first on, going from 7 back to 0; 8 where none runs. It looks at the eight states

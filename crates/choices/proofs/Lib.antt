@@ -1,7 +1,6 @@
 pub mod SameCounts
 pub mod PartCases
 pub mod RowLoop
-pub mod ListedNodes
 pub mod NextCases
 pub mod AllLoop
 pub mod CountCases

@@ -1,24 +1,12 @@
 // The counts of all parts, in rising node number, on whatever is lent.
 use crate::part::part_counts;
 use counting::carry::Carried;
-use questions::scan::last_in;
+use formats::lists::is_listed;
 ghost use mathlib.Core.Path.{_≡_};
 ghost use Prim.Native.Nat.{ℕ, _≤_};
-ghost use Rattle.list_laws.specs.Tests.{holds};
 ghost use Rattle.questions.specs.inner.PartArgs.{partView};
-ghost use Rattle.choices.specs.inner.Parts.{ListArgs, PutArgs, RowPut, NextArgs, RowArgs, RowCounted};
+ghost use Rattle.choices.specs.inner.Parts.{PutArgs, RowPut, NextArgs, RowArgs, RowCounted};
 ghost use Rattle.choices.specs.inner.Parts.{NextCounted, AllArgs, AllCounted};
-
-// Whether node v is one of the listed nodes.
-fn is_listed(nodes: &[u16], v: usize) -> bool
-    requires { ⌜ ListArgs (now nodes) v ⌝ }
-    ensures { λ r. ⌜ r ≡ holds v (now (nodes .entry)) ⌝ }
-{
-    if last_in(nodes, v as u16, 1) == 0 {
-        return false;
-    }
-    true
-}
 
 // Writes the counts of part i into those of all parts, 16 for each.
 fn put_row(table: &mut [u64], i: usize, row: &[u64; 16])
@@ -55,7 +43,7 @@ fn part_row(
         (now (inner .entry)) (now («node_table» .entry)) (now («state_table» .entry))) (now (nodes .entry))
         (now (earlier .entry)) (now (table .entry)) v a (now (out .exit)) ⌝ }
 {
-    let free = is_listed(nodes, v);
+    let free = is_listed(v as u16, nodes);
     let end = earlier.len() * 16;
     part_counts(
         labels,

@@ -31,7 +31,8 @@ module _ (k : ℕ) (step : ℕ → ℕ → ℕ) (t : Tree) (before : List ℕ) (
     rest = λ j h. refl;
   }
 
-  pub colours-all : (c : ℕ) (after : List ℕ) → ColoursTo k step t c before after → k ≤ c → ColoursTo k step t k before after
+  pub colours-all : (c : ℕ) (after : List ℕ) → ColoursTo k step t c before after → k ≤ c
+      → ColoursTo k step t k before after
   colours-all c after C h = record {
     cells = λ d p l. C .cells d p (omega arith);
     landed = C .landed;

@@ -64,7 +64,8 @@ part-put n c nums v r h =
     part-set n c two (v * 4 + 2) (B + v * 4 + 2) (r .depth) (omega arith) (omega arith)
     ∙ ap (λ (x : List ℕ). set x (v * 4 + 2) (r .depth))
     (part-set n c one (v * 4 + 1) (B + v * 4 + 1) (r .jump) (omega arith) (omega arith)
-    ∙ ap (λ (x : List ℕ). set x (v * 4 + 1) (r .jump)) (part-set n c nums (v * 4) (B + v * 4) (r .up) refl (omega arith)))
+    ∙ ap (λ (x : List ℕ). set x (v * 4 + 1) (r .jump))
+    (part-set n c nums (v * 4) (B + v * 4) (r .up) refl (omega arith)))
 
 -- ---- after a row was put
 

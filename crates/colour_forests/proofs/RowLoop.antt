@@ -99,7 +99,8 @@ module _ (t : Tree) (m : ℕ → Bool) (n c : ℕ) (before nums : List ℕ) (G :
     row-is : MarkedRow t m v (rowBelow b c v p .up) (rowBelow b c v p .jump) (rowBelow b c v p .depth)
     row-is = go (m p) refl
       where
-        go : (x : Bool) → m p ≡ x → MarkedRow t m v (rowBelow b c v p .up) (rowBelow b c v p .jump) (rowBelow b c v p .depth)
+        go : (x : Bool) → m p ≡ x → MarkedRow t m v (rowBelow b c v p .up) (rowBelow b c v p .jump)
+            (rowBelow b c v p .depth)
         go true e =
             rw (
               below-marked b c v p (sizeCell b p) refl
@@ -192,7 +193,8 @@ module _ (t : Tree) (m : ℕ → Bool) (n c : ℕ) (before nums : List ℕ) (G :
             depths = other w 2 e (omega arith) ∙ r .depths;
           })
     ];
-    kept = λ j a. put-apart nums (c * (n * 4) + v * 4) (nextRow nums n c v) j (a v h .0) (a v h .1) (a v h .2) ∙ R .kept j a;
+    kept = λ j a. put-apart nums (c * (n * 4) + v * 4) (nextRow nums n c v) j (a v h .0) (a v h .1) (a v h .2)
+        ∙ R .kept j a;
   }
     where
       len : v * 4 + 3 ≤ length (colourPart n c nums)

@@ -21,7 +21,7 @@ use Rattle.trees.specs.Tree.{Tree, size}
 use Rattle.trees.specs.Numbering.{parent}
 use Rattle.node_tables.specs.Cells.{parentCell, jumpCell, depthCell, sizeCell}
 use Rattle.node_tables.specs.inner.DownPass.{byDistances, JumpArgs}
-use Rattle.marks.specs.Ascents.{jumpBy}
+use Rattle.trees.specs.Ascents.{jumpBy}
 use Rattle.marks.specs.Marks.{marksAbove, markedUp}
 use Rattle.colour_tables.specs.ColourCells.{colourPart}
 use Rattle.colour_forests.specs.declared.rows.Row.{Row}
@@ -76,7 +76,8 @@ pub record RowIs (t : Tree) (m : ℕ → Bool) (b : List ℕ) (v : ℕ) : Type 0
 -- none of the places that are written
 abbrev pub Apart : ℕ → ℕ → ℕ → Type 0
 Apart n c j =
-    (v : ℕ) → v < n → (j ≡ c * (n * 4) + v * 4 → ⊥) × (j ≡ c * (n * 4) + v * 4 + 1 → ⊥) × (j ≡ c * (n * 4) + v * 4 + 2 → ⊥)
+    (v : ℕ) → v < n → (j ≡ c * (n * 4) + v * 4 → ⊥) × (j ≡ c * (n * 4) + v * 4 + 1 → ⊥)
+    × (j ≡ c * (n * 4) + v * 4 + 2 → ⊥)
 
 pub record RowsFrom (t : Tree) (m : ℕ → Bool) (n c i : ℕ) (before after : List ℕ) : Type 0 where
   pub rows : (v : ℕ) → i ≤ v → v < n → RowIs t m (colourPart n c after) v

@@ -17,7 +17,8 @@ use Rattle.colours.specs.StateSets.{tried}
 use Rattle.colours.proofs.Theorems.{SetAnswer, set-targets}
 use Rattle.colour_parts.specs.Sides.{SideFound}
 
-module _ (G : Given) (u : Tree) (R : RunGiven G u) (S : StaysInside (G .automaton)) (few : G .automaton .states ≤ 4) where
+module _ (G : Given) (u : Tree) (R : RunGiven G u) (S : StaysInside (G .automaton))
+    (few : G .automaton .states ≤ 4) where
   -- h, the highest member below c, stands in the subtree of c and has a state
   pub side-found : (ms : List ℕ) (ps : List Part) (c : ℕ) → c < size (G .tree)
       → highestBelow ms (G .tree) c < size (G .tree) → InSubtree (G .tree) c (highestBelow ms (G .tree) c)

@@ -51,7 +51,8 @@ module _ (row : List ℕ) (c : ℕ) (few : c ≤ 16) (long : length row ≡ 16) 
         | no q ↦ H i (omega arith)
       ]
 
-  pub frees-found : (k p : ℕ) → Held row c k → p ≡ placeOf k (take c row) → p ≡ c → (k ≡ lowestFree (take c row)) × (k ≤ c)
+  pub frees-found : (k p : ℕ) → Held row c k → p ≡ placeOf k (take c row) → p ≡ c
+      → (k ≡ lowestFree (take c row)) × (k ≤ c)
   frees-found k p H e n =
       (free-is (take c row) k (place-free k (omega arith)) H, omega (arith, cover k (take c row) H, first-length))
 

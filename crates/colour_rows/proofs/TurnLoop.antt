@@ -45,7 +45,8 @@ turns-start led row landed l m = record {
     nothing (x ∷ xs) = refl
 
 module _ (led row landed : List ℕ) (free c : ℕ) (T : Turns led row landed free c) (few : length led ≤ 16)
-    (h : c < length led) (p : ℕ) (e : p ≡ placeOf (getD led c 0) (take c row)) (f : ℕ) (i : f ≡ lowestFree (take c row)) where
+    (h : c < length led) (p : ℕ) (e : p ≡ placeOf (getD led c 0) (take c row)) (f : ℕ)
+    (i : f ≡ lowestFree (take c row)) where
   -- what the next colour takes
   pub turns-taken : p < c → f ≡ takes (take c row) (getD led c 0)
   unfolding takes

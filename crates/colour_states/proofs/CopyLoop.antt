@@ -72,7 +72,8 @@ module _ (k : ℕ) (step : ℕ → ℕ → ℕ) (t : Tree) (base : ℕ) (keeps :
           ∙ sym (ap (λ (x : List ℕ). getD x c 0) (copyAbove-down k step t v i))))
     ]
 
-    pub above-below : (row : List ℕ) → RowOf k (aboveCell b m (size t) base k v) row → (c : ℕ) → c < k → getD row c 0 < k
+    pub above-below : (row : List ℕ) → RowOf k (aboveCell b m (size t) base k v) row → (c : ℕ) → c < k
+        → getD row c 0 < k
     above-below row R c l = rw (above-is row R c l) (copyAbove-colouring k step t keeps v .below c l)
 
     -- ---- what the functions of one node need
@@ -105,7 +106,8 @@ module _ (k : ℕ) (step : ℕ → ℕ → ℕ) (t : Tree) (base : ℕ) (keeps :
       row-here : (c : ℕ) → c < k → getD b′ (base + v * k + c) 0 ≡ getD (copy k step t v) c 0
       row-here c l =
           T .row c l
-          ∙ ap (λ (x : List ℕ). getD x c 0) (ap (recolour (λ q. q)) is ∙ sym (recolour-map (step v) (copyAbove k step t v))
+          ∙ ap (λ (x : List ℕ). getD x c 0) (ap (recolour (λ q. q)) is
+          ∙ sym (recolour-map (step v) (copyAbove k step t v))
           ∙ sym (copy-recolour k step t v))
 
       landed-here : (c : ℕ) → 0 < c → c < k

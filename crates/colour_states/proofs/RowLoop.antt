@@ -115,7 +115,8 @@ module _ (bytes numbers : List ℕ) (n base k v : ℕ) where
 
 -- ---- the whole copy of a node
 
-module _ (led : List ℕ) (n base k v : ℕ) (r : Taken) (T : TurnedTo (take k led) r) (l : length led ≡ 16) (few : k ≤ 16) where
+module _ (led : List ℕ) (n base k v : ℕ) (r : Taken) (T : TurnedTo (take k led) r) (l : length led ≡ 16)
+    (few : k ≤ 16) where
   count : length (take k led) ≡ k
   count = length-take-le k led (omega arith)
 

@@ -82,9 +82,11 @@ module _ (ls st : List ℕ) (s k : ℕ) (e₀ m₀ : List ℕ) (A : WordArgs ls 
             let d : size t ≡ n = count t G ∙ sym q in
             let T′ : Turned led (size t) 0 s v b m b′ m′ = rw d T in
             let label : a ≡ labelAt t v = z ∙ ap (λ (x : List ℕ). getD x v 0) (sym (G .labels)) in
-            copies-next s (stepBy st k t) t 0 (keeps t) e₀ m₀ (G .parents) v b m (from t G) (omega (arith, d)) led b′ m′ T′
+            copies-next s (stepBy st k t) t 0 (keeps t) e₀ m₀ (G .parents) v b m (from t G)
+            (omega (arith, d)) led b′ m′ T′
             (led-is s (stepBy st k t) t 0 (keeps t) v led (L .long) (A .few)
             (λ c i. L .cells c i
             ∙ ap₂ (λ (x y : ℕ). getD st (x * k + y) 0)
-            (above-is s (stepBy st k t) t 0 (keeps t) e₀ m₀ (G .parents) v b m (from t G) (omega (arith, d)) row (row-of t G) c i)
+            (above-is s (stepBy st k t) t 0 (keeps t) e₀ m₀ (G .parents) v b m (from t G) (omega (arith, d)) row
+            (row-of t G) c i)
             label))

@@ -79,7 +79,8 @@ pub fn put_copy(
     v: usize,
 )
     requires { ⌜ TurnArgs led (now bytes) (now numbers) n base k v ⌝ }
-    ensures { λ _. ⌜ Turned led n base k v (now (bytes .entry)) (now (numbers .entry)) (now (bytes .exit)) (now (numbers .exit)) ⌝ }
+    ensures { λ _. ⌜ Turned led n base k v (now (bytes .entry)) (now (numbers .entry)) (now (bytes .exit))
+        (now (numbers .exit)) ⌝ }
 {
     let turned = take_in_turn(&led[..k]);
     let row = turned.row;

@@ -48,7 +48,8 @@ module _ (n : ℕ) (step : ℕ → ℕ → ℕ) (t : Tree) where
   row-cells part c v r (suc (suc (suc (suc j)))) h = absurd (omega arith)
 
   -- any number of a colour's table
-  table-at : (part : List ℕ) (c : ℕ) → ((v : ℕ) → v < size t → ColourRow n step t part (suc c) v) → (j : ℕ) → j < size t * 4
+  table-at : (part : List ℕ) (c : ℕ) → ((v : ℕ) → v < size t → ColourRow n step t part (suc c) v) → (j : ℕ)
+      → j < size t * 4
       → getD part j 0 ≡ getD (colourTable n step t (suc c)) j 0
   unfolding colourTable
   table-at part c r j h =
@@ -67,7 +68,8 @@ module _ (n : ℕ) (step : ℕ → ℕ → ℕ) (t : Tree) where
   numbers-over before after e room first cells kept =
       rows-over n (size t * 4) (colourTable n step t) (λ c h. length-table c) before after e room each kept
     where
-      each : (c j : ℕ) → c < n → j < size t * 4 → getD after (c * (size t * 4) + j) 0 ≡ getD (colourTable n step t c) j 0
+      each : (c j : ℕ) → c < n → j < size t * 4
+          → getD after (c * (size t * 4) + j) 0 ≡ getD (colourTable n step t c) j 0
       each zero j h l =
           let z : 0 * (size t * 4) + j ≡ j = omega arith in ap (λ (i : ℕ). getD after i 0) z ∙ first j l
       each (suc c) j h l =
@@ -87,7 +89,8 @@ module _ (n : ℕ) (step : ℕ → ℕ → ℕ) (t : Tree) where
       let at : (j : ℕ) → j < 4
       → getD (colourPart (size t) (suc c) b) (v * 4 + j) 0 ≡ getD (colourRow n step t (suc c) v) j 0 =
       λ j i. part-at (size t) (suc c) b (v * 4 + j) (omega arith)
-      ∙ cells-of-rows n (size t * 4) (colourTable n step t) (λ d q. length-table d) b e (suc c) (v * 4 + j) h (omega arith)
+      ∙ cells-of-rows n (size t * 4) (colourTable n step t) (λ d q. length-table d) b e (suc c) (v * 4 + j) h
+      (omega arith)
       ∙ table-cell c v j l i in
       let z : v * 4 ≡ v * 4 + 0 = omega arith in
       record {

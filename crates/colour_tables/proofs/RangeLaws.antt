@@ -43,7 +43,8 @@ module _ (F : Forest) where
     pub leads : (x ≡ F .parent from) ⊎ (x ≡ F .jump from)
 
   -- a climb ends where it began or where a link leads
-  ends : (v t : ℕ) (ms : List Move) → v < F .nodes → climb F v t ≡ some ms → (climbEnd F v ms ≡ v) ⊎ Linked (climbEnd F v ms)
+  ends : (v t : ℕ) (ms : List Move) → v < F .nodes → climb F v t ≡ some ms
+      → (climbEnd F v ms ≡ v) ⊎ Linked (climbEnd F v ms)
   ends v t [] h e = inl refl
   ends v t (m ∷ ms) h e = go (climb-cons F v t m ms e) (ends (target F m) t ms)
     where
@@ -111,7 +112,8 @@ module _ (n k : ℕ) (T : ColourTable) (sizes : (c : ℕ) → T .forest c .nodes
             → cond b (fell (climbEnd F v ms) (lands (climbEnd F v ms)) (length ms)) lost ≡ lost → ColourOutOfRange n k T
         go true z i = let y : _≡_ {A = ℕ} 0 1 = cc in absurd (omega arith)
         go false z d =
-            found (climbEnd F v ms) a i (ends F v to ms (omega (arith, sizes c)) q) (ltb-false (lands (climbEnd F v ms)) c z)
+            found (climbEnd F v ms) a i (ends F v to ms (omega (arith, sizes c)) q)
+            (ltb-false (lands (climbEnd F v ms)) c z)
 
     outside : F .nodes ≤ v → ColourOutOfRange n k T
     outside o = go (ltb (lands l) c) o
@@ -149,11 +151,13 @@ module _ (n k : ℕ) (T : ColourTable) (sizes : (c : ℕ) → T .forest c .nodes
         go done q i ih = absurd (none-some (sym i))
         go lost q i ih = next-cause (suc c) (seen T (suc c) z) l (omega arith) h hl q
         go (fell x d m) q i ih =
-            let w : d < suc c = fell-lower (T .forest (suc c)) (T .lands (suc c)) (suc c) (seen T (suc c) z) l x d m q in
+            let w : d < suc c = fell-lower (T .forest (suc c)) (T .lands (suc c)) (suc c)
+            (seen T (suc c) z) l x d m q in
             ih (some x) d (omega arith) (kept m (descend T f (some x) l d) i)
 
 -- the colour at the end is not above the first
-pub descend-low : (T : ColourTable) (l f : ℕ) (z : Place) (c : ℕ) (d : Descent) → descend T f z l c ≡ some d → d .colour ≤ c
+pub descend-low : (T : ColourTable) (l f : ℕ) (z : Place) (c : ℕ) (d : Descent) → descend T f z l c ≡ some d
+    → d .colour ≤ c
 unfolding descend
 descend-low T l zero z c d e = let y : c ≡ d .colour = cc in omega arith
 descend-low T l (suc f) z zero d e = let y : 0 ≡ d .colour = cc in omega arith
@@ -167,6 +171,7 @@ descend-low T l (suc f) z (suc c) d e = go (nextDrop T (suc c) z l) refl e (desc
         let w : b < suc c = fell-lower (T .forest (suc c)) (T .lands (suc c)) (suc c) (seen T (suc c) z) l x b m q in
         rest (descend T f (some x) l b) refl i w
       where
-        rest : (o : Option Descent) → descend T f (some x) l b ≡ o → withSearch m o ≡ some d → b < suc c → d .colour ≤ suc c
+        rest : (o : Option Descent) → descend T f (some x) l b ≡ o → withSearch m o ≡ some d → b < suc c
+            → d .colour ≤ suc c
         rest none r j w = absurd (none-some j)
         rest (some y) r j w = let s : y .colour ≡ d .colour = cc in omega (arith, ih (some x) b y r)

@@ -11,7 +11,7 @@ use mathlib.Core.Path.{_≡_}
 use mathlib.Core.List.{List}
 use Rattle.trees.specs.Tree.{Tree, size}
 use Rattle.node_tables.specs.Cells.{parentCell, jumpCell, depthCell, sizeCell}
-use Rattle.marks.specs.Ascents.{jumpBy}
+use Rattle.trees.specs.Ascents.{jumpBy}
 use Rattle.marks.specs.Marks.{marksAbove, markedUp}
 use Rattle.colours.specs.Copies.{landsAt, fallsAt}
 use Rattle.colour_tables.specs.ColourCells.{colourPart}

@@ -14,7 +14,7 @@ use mathlib.Core.List.{List, [], _∷_}
 use Rattle.list_laws.specs.Rows.{rows}
 use Rattle.trees.specs.Tree.{Tree, size}
 use Rattle.trees.specs.Tables.{nodeTableOf}
-use Rattle.marks.specs.Ascents.{jumpBy}
+use Rattle.trees.specs.Ascents.{jumpBy}
 use Rattle.marks.specs.Marks.{marksAbove, markedUp}
 use Rattle.colours.specs.Copies.{copy, landsAt, fallsAt}
 

@@ -26,7 +26,8 @@ use Rattle.colours.proofs.DescentLaws.{same-after}
 pub fell-inside : (F : Forest) (lands : ℕ → ℕ) (c to l x d k : ℕ) → nextFrom F lands c to l ≡ fell x d k → x < F .nodes
 unfolding nextFrom fellBy fellAt
 fell-inside F lands c to l x d k e =
-    outer (ltb to (seenAt F lands c l)) (ltb (lowestIn F lands c l) (F .nodes)) (climb F (lowestIn F lands c l) to) refl refl e
+    outer (ltb to (seenAt F lands c l)) (ltb (lowestIn F lands c l) (F .nodes))
+    (climb F (lowestIn F lands c l) to) refl refl e
   where
     v : ℕ
     v = lowestIn F lands c l
@@ -35,7 +36,8 @@ fell-inside F lands c to l x d k e =
     inner y j true i = cc
     inner y j false i = let z : _≡_ {A = ℕ} 0 1 = cc in absurd (omega arith)
 
-    searched : (o : Option (List Move)) → climb F v to ≡ o → v < F .nodes → fellBy F lands c v o ≡ fell x d k → x < F .nodes
+    searched : (o : Option (List Move)) → climb F v to ≡ o → v < F .nodes → fellBy F lands c v o ≡ fell x d k
+        → x < F .nodes
     searched none q h i = let z : _≡_ {A = ℕ} 0 1 = cc in absurd (omega arith)
     searched (some ms) q h i =
         let y : climbEnd F v ms ≡ x = inner (climbEnd F v ms) (length ms) (ltb (lands (climbEnd F v ms)) c) i in
@@ -95,7 +97,8 @@ PlaceIn n none = Unit {0}
 PlaceIn n (some z) = z < n
 
 module _ (n k : ℕ) (T U : ColourTable)
-    (S : (c : ℕ) → 0 < c → c < k → SameColour n (T .forest c) (U .forest c) (T .lands c) (U .lands c)) (l : ℕ) (hl : l < n) where
+    (S : (c : ℕ) → 0 < c → c < k → SameColour n (T .forest c) (U .forest c) (T .lands c) (U .lands c)) (l : ℕ)
+    (hl : l < n) where
   seen-place : (c : ℕ) (z : Place) → 0 < c → c < k → PlaceIn n z → seen T c z ≡ seen U c z
   seen-place c none p b h = refl
   seen-place c (some z) p b h = seen-same n (T .forest c) (U .forest c) (T .lands c) (U .lands c) (S c p b) c z h

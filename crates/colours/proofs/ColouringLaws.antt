@@ -40,7 +40,8 @@ holds-last q [] = holds-here q []
 holds-last q (x ∷ xs) = holds-later q x (xs ++ (q ∷ [])) (holds-last q xs)
 
 -- what is held is held before, or is the last
-holds-snoc : {P : Type 0} (q y : ℕ) (xs : List ℕ) → holds q (xs ++ (y ∷ [])) ≡ true → (holds q xs ≡ true → P) → (q ≡ y → P) → P
+holds-snoc : {P : Type 0} (q y : ℕ) (xs : List ℕ) → holds q (xs ++ (y ∷ [])) ≡ true → (holds q xs ≡ true → P)
+    → (q ≡ y → P) → P
 holds-snoc q y [] e f g =
     first q y g (λ i. absurd (true-false (sym (unfold holds in (sym (holds-other q y [] i) ∙ e)))))
 holds-snoc q y (x ∷ xs) e f g =
@@ -141,7 +142,8 @@ pub record Free (xs : List ℕ) (k : ℕ) : Type 0 where
   pub lowest : (i : ℕ) → i < k → holds i xs ≡ true
   pub short : k ≤ length xs
 
-free-from : (f k : ℕ) (xs : List ℕ) → ((i : ℕ) → i < k → holds i xs ≡ true) → length xs ≤ k + f → Free xs (freeFrom f k xs)
+free-from : (f k : ℕ) (xs : List ℕ) → ((i : ℕ) → i < k → holds i xs ≡ true) → length xs ≤ k + f
+    → Free xs (freeFrom f k xs)
 unfolding freeFrom
 free-from zero k xs all l =
     record { free = go (holds k xs) refl; lowest = all; short = cover k xs all }

@@ -41,7 +41,8 @@ top-colouring n =
 pub top-colour : (n s : ℕ) → s < n → placeOf s (topCopy n) ≡ s
 top-colour n s h =
     let C : Colouring n (topCopy n) = top-colouring n in
-    ap (λ (q : ℕ). placeOf q (topCopy n)) (sym (top-at n s h)) ∙ place-of (topCopy n) s (C .once) (omega (arith, C .count))
+    ap (λ (q : ℕ). placeOf q (topCopy n)) (sym (top-at n s h))
+    ∙ place-of (topCopy n) s (C .once) (omega (arith, C .count))
 
 module _ (n : ℕ) (step : ℕ → ℕ → ℕ) (t : Tree) where
   pub copy-recolour : (v : ℕ) → copy n step t v ≡ recolour (step v) (copyAbove n step t v)

@@ -9,7 +9,7 @@
 use Prim.Native.Nat.{ℕ, zero, suc, _+_, _-_, _*_, _≤_, _<_}
 use mathlib.Core.Path.{_≡_, refl, sym, ap, ap₂, _∙_, subst}
 use mathlib.Core.Bool.{Bool, true, false, cond}
-use mathlib.Core.List.{List, [], _∷_}
+use mathlib.Core.List.{List, [], _∷_, _++_}
 use mathlib.Core.Option.{Option, none, some}
 use native.Mathlib.Omega.{arith}
 use native.Mathlib.Decide.{ℕ-discrete}
@@ -64,7 +64,8 @@ module _ (F : Forest) (lands : ℕ → ℕ) (c to l : ℕ) where
       searched : (o : Option (List Move)) → fellBy F lands c (lowestIn F lands c l) o ≡ fell x d k → d < c
       searched none i = let z : _≡_ {A = ℕ} 0 1 = cc in absurd (omega arith)
       searched (some ms) i =
-          inner (climbEnd F (lowestIn F lands c l) ms) (ltb (lands (climbEnd F (lowestIn F lands c l) ms)) c) (length ms) refl i
+          inner (climbEnd F (lowestIn F lands c l) ms) (ltb (lands (climbEnd F (lowestIn F lands c l) ms)) c)
+          (length ms) refl i
 
       outer : (a b : Bool) (o : Option (List Move))
           → cond a (cond b (fellBy F lands c (lowestIn F lands c l) o) lost) done ≡ fell x d k → d < c
@@ -124,6 +125,10 @@ pub all-le : (a b : ℕ) (xs : List ℕ) → a ≤ b → AllLe a xs → AllLe b 
 all-le a b [] l h = tt
 all-le a b (x ∷ xs) l h = (omega (arith, h .0), all-le a b xs l (h .1))
 
+pub all-append : (b : ℕ) (xs ys : List ℕ) → AllLe b xs → AllLe b ys → AllLe b (xs ++ ys)
+all-append b [] ys h k = k
+all-append b (x ∷ xs) ys h k = (h .0, all-append b xs ys (h .1) k)
+
 module _ (t : Tree) where
   abbrev pub marksBy : (ℕ → Bool) → Place → ℕ
   marksBy m none = 0
@@ -169,7 +174,8 @@ module _ (n : ℕ) (step : ℕ → ℕ → ℕ) (t : Tree) where
         record {
           searches = [];
           found = descend-next T z l f c done p
-              (next-done (T .forest c) (T .lands c) c (seen T c z) l (omega (arith, seen-is c z, seen-is c (some l), w m)))
+              (next-done (T .forest c) (T .lands c) c (seen T c z) l
+              (omega (arith, seen-is c z, seen-is c (some l), w m)))
               ∙ ap (λ (x : ℕ). some (descent x [])) (sym (s .0));
           falls = sym (s .1);
           few = tt;
@@ -199,7 +205,8 @@ module _ (n : ℕ) (step : ℕ → ℕ → ℕ) (t : Tree) where
         record {
           searches = length (N .moves) ∷ R .searches;
           found = descend-next T z l f c (fell x (landsAt n step t c x) (length (N .moves))) g
-              (next-fell (T .forest c) (T .lands c) c (seen T c z) l (N .moves) x (omega (arith, seen-is c z, seen-is c (some l))) i q r lt)
+              (next-fell (T .forest c) (T .lands c) c (seen T c z) l (N .moves) x
+              (omega (arith, seen-is c z, seen-is c (some l))) i q r lt)
               ∙ ap (withSearch (length (N .moves))) (R .found)
               ∙ ap (λ (y : ℕ). some (descent y (length (N .moves) ∷ R .searches))) (sym (s .0));
           falls = ap suc (R .falls) ∙ sym (s .1);

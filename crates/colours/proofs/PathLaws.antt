@@ -16,9 +16,8 @@ use borrow.Author.Tests.{lt-ltb, le-ltb, ltb-false}
 use Rattle.trees.specs.Tree.{Tree, size}
 use Rattle.trees.specs.Numbering.{parent, depth, ancestor}
 use Rattle.list_laws.proofs.Choice.{le-or}
-use Rattle.trees.proofs.NodeLaws.{up}
+use Rattle.trees.proofs.NodeLaws.{up, below-root}
 use Rattle.trees.proofs.MapLaws.{ancestor-parent}
-use Rattle.trees.proofs.TreeClimbs.{below-root}
 use Rattle.marks.specs.Marks.{bit, marksIn}
 use Rattle.marks.proofs.MarkLaws.{bit-zero, marks-suc}
 use Rattle.colours.specs.Copies.{copyIn, copy, copyAbove, landsAt, fallsAt, stateDown, colourDown, dropsDown}
@@ -55,7 +54,8 @@ module _ (n : ℕ) (step : ℕ → ℕ → ℕ) (t : Tree) where
       let u : ancestor t (parent t l) a ≡ ancestor t l (suc a) = ancestor-parent t l a in
       let d : ℕ = colourDown n step t (ancestor t l (suc a)) b c in
       let f : colourDown n step t (parent t l) (a + b) c ≡ colourDown n step t (parent t l) a d =
-      colour-add (parent t l) a b c ∙ ap (λ (u : ℕ). colourDown n step t (parent t l) a (colourDown n step t u b c)) u in
+      colour-add (parent t l) a b c ∙ ap (λ (u : ℕ). colourDown n step t (parent t l) a (colourDown n step t u b c)) u
+      in
       let g : dropsDown n step t (parent t l) (a + b) c
       ≡ dropsDown n step t (parent t l) a d + dropsDown n step t (ancestor t l (suc a)) b c =
       drops-add (parent t l) a b c

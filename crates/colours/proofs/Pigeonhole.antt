@@ -137,7 +137,8 @@ room zero (x ∷ l) e f = absurd (omega (arith, f x (holds-here x l)))
 room (suc m) l e f = go (holds m l) refl (λ l′. room m l′)
   where
     go : (b : Bool) → holds m l ≡ b
-        → ((l′ : List ℕ) → distinct l′ ≡ true → ((k : ℕ) → holds k l′ ≡ true → k < m) → length l′ ≤ m) → length l ≤ suc m
+        → ((l′ : List ℕ) → distinct l′ ≡ true → ((k : ℕ) → holds k l′ ≡ true → k < m) → length l′ ≤ m)
+        → length l ≤ suc m
     go true h ih =
         omega (
           arith,

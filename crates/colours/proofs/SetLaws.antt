@@ -24,10 +24,9 @@ use Rattle.trees.specs.Automaton.{Automaton}
 use Rattle.trees.specs.Numbering.{parent, depth, ancestor}
 use Rattle.trees.specs.Climb.{walk, digits}
 use Rattle.trees.specs.Tables.{stepUp}
-use Rattle.trees.proofs.NodeLaws.{up}
+use Rattle.trees.proofs.NodeLaws.{up, below-root}
 use Rattle.trees.proofs.JumpLaws.{ancestor-depth}
 use Rattle.trees.proofs.MapLaws.{stepUp-below}
-use Rattle.trees.proofs.TreeClimbs.{below-root}
 use Rattle.colours.specs.Colouring.{placeOf, Colouring}
 use Rattle.colours.specs.Copies.{copyIn, copy, stateDown, colourDown}
 use Rattle.colours.specs.Descents.{ColourTable, Descent, descent, descend}
@@ -36,7 +35,7 @@ use Rattle.colours.specs.StateSets.{Tried, tried, afterTrial, tryOne, tr
 use Rattle.colours.proofs.ColouringLaws.{place-lt, place-at, has-colour}
 use Rattle.colours.proofs.CopyLaws.{copy-colouring}
 use Rattle.colours.proofs.PathLaws.{follow-state}
-use Rattle.colours.proofs.DescentLaws.{AllLe, left-node, Descended, descend-tree, descent-drops}
+use Rattle.colours.proofs.DescentLaws.{AllLe, all-append, left-node, Descended, descend-tree, descent-drops}
 use Rattle.colours.proofs.BitLaws.{setOf-below, member-setOf, member-single}
 
 -- one trial more
@@ -45,10 +44,6 @@ more f m a b h k = omega arith
 
 once : (f m a : ℕ) → a ≤ m → a ≤ suc f * m
 once f m a h = omega arith
-
-all-append : (b : ℕ) (xs ys : List ℕ) → AllLe b xs → AllLe b ys → AllLe b (xs ++ ys)
-all-append b [] ys h k = k
-all-append b (x ∷ xs) ys h k = (h .0, all-append b xs ys (h .1) k)
 
 -- ---- one trial on whatever table and copies
 

@@ -96,6 +96,7 @@ map-at f [] c h = absurd (omega arith)
 map-at f (x ∷ xs) zero h = refl
 map-at f (x ∷ xs) (suc c) h = map-at f xs c (omega arith)
 
-pub lands-map : (f : ℕ → ℕ) (above : List ℕ) (c : ℕ) → c < length above → lands f above c ≡ lands (λ q. q) (map f above) c
+pub lands-map : (f : ℕ → ℕ) (above : List ℕ) (c : ℕ) → c < length above
+    → lands f above c ≡ lands (λ q. q) (map f above) c
 unfolding lands
 lands-map f above c h = ap₂ (λ (q : ℕ) (xs : List ℕ). placeOf q xs) (sym (map-at f above c h)) (recolour-map f above)

@@ -64,7 +64,8 @@ module _ (B : WordAutomaton) (t : Tree) (below : (q a : ℕ) → B .step q a < B
       → copyIn n (wordStep B t) t (ancestor t l k) (suc (depth t l) - k) ≡ from → getD from c 0 ≡ 0
       → WordAnswer B t l (labelsDown t l k) (descend (colourTableOf n (wordStep B t) t) c z l c)
   answered z l k c from h w b left e s =
-      let D : Descended n (wordStep B t) t c z l k c = descend-tree n (wordStep B t) t keeps c z l k c h b (le-refl _) left in
+      let D : Descended n (wordStep B t) t c z l k c =
+      descend-tree n (wordStep B t) t keeps c z l k c h b (le-refl _) left in
       record {
         way = descent (colourDown n (wordStep B t) t l k c) (D .searches);
         found = D .found;
@@ -79,7 +80,8 @@ module _ (B : WordAutomaton) (t : Tree) (below : (q a : ℕ) → B .step q a < B
   drops-are : (z : Place) (l k c : ℕ) → l < size t → c < n → Left t z l k → (d : Descent)
       → descend (colourTableOf n (wordStep B t) t) c z l c ≡ some d → drops d ≡ dropsDown n (wordStep B t) t l k c
   drops-are z l k c h b left d e =
-      let D : Descended n (wordStep B t) t c z l k c = descend-tree n (wordStep B t) t keeps c z l k c h b (le-refl _) left in
+      let D : Descended n (wordStep B t) t c z l k c =
+      descend-tree n (wordStep B t) t keeps c z l k c h b (le-refl _) left in
       let i : d ≡ descent (colourDown n (wordStep B t) t l k c) (D .searches) = cc (e, D .found) in
       ap drops i ∙ D .falls
 

@@ -28,7 +28,7 @@ use Rattle.ready.proofs.HighestLaws.{Highest}
 use Rattle.ready.proofs.ClosedForm.{kind-one}
 use Rattle.ready.proofs.BelowLaws.{some-below, rising-above}
 use Rattle.ready.specs.StaysInside.{StaysInside}
-use Rattle.ready.proofs.PartsRun.{Members, RunGiven}
+use Rattle.ready.proofs.PartsRun.{Members, RunGiven, rising-first, rising-not}
 use Rattle.counts.specs.Assignments.{counted}
 use Rattle.counts.specs.Sums.{sumTo, LabelSum, openSum, one}
 use Rattle.counts.specs.inner.Weights.{weighed, weighedAt}
@@ -63,29 +63,6 @@ unfolding countsOf
 counts-new [] p x e n = rw (eq-eqb (p .node) x e)
 counts-new (q ∷ ts) p x e n =
     rw (ne-eqb (q .node) x (λ z. n (List·Memᴰ·head (sym z)))) (counts-new ts p x e (λ m. n (List·Memᴰ·tail m)))
-
--- of a rising list, what is below v stands before it, and v stands there once (as in ready/proofs/PartsRun)
-rising-first : (done : List ℕ) (v : ℕ) (rest : List ℕ) (lo x : ℕ) → Rising lo (done ++ (v ∷ rest))
-    → List·Memᴰ x (done ++ (v ∷ rest)) → x < v → List·Memᴰ x done
-rising-first [] v rest lo x r m l = elim (List·Memᴰ·cases-cons m) [
-  | inl e ↦ absurd (omega arith)
-  | inr k ↦ absurd (omega (arith, rising-above rest (suc v) x (r .1) k))
-]
-rising-first (d ∷ done) v rest lo x r m l = elim (List·Memᴰ·cases-cons m) [
-  | inl e ↦ List·Memᴰ·head e
-  | inr k ↦ List·Memᴰ·tail (rising-first done v rest (suc d) x (r .1) k l)
-]
-
-pub rising-not : (done : List ℕ) (v : ℕ) (rest : List ℕ) (lo : ℕ) → Rising lo (done ++ (v ∷ rest)) → List·Memᴰ v done → ⊥
-rising-not [] v rest lo r m = List·Memᴰ·not-nil m
-rising-not (d ∷ done) v rest lo r m = elim (List·Memᴰ·cases-cons m) [
-  | inl e ↦ omega (
-    arith,
-    rising-above (done ++ (v ∷ rest)) (suc d) v (r .1)
-        (Memᴰ·append-right done (List·Memᴰ·head refl)),
-  )
-  | inr k ↦ rising-not done v rest (suc d) (r .1) k
-]
 
 module _ (G : Given) (R : RunGiven G (G .tree)) (S : StaysInside (G .automaton)) (k : ℕ) (w : ℕ → Bool) (ms : List ℕ)
     (M : Members w (G .tree) ms) where

@@ -6,21 +6,19 @@
 -- Assumes nothing.
 use Prim.Native.Nat.{ℕ, zero, suc, _+_, _-_, _≤_, _<_}
 use mathlib.Core.Path.{_≡_, refl, sym, ap, ap₂, _∙_, subst, fun-ext}
-use mathlib.Core.Bool.{Bool, true, false, cond}
+use mathlib.Core.Bool.{Bool, true, false}
 use mathlib.Core.List.{List, List·Memᴰ}
 use mathlib.Core.Logic.{_⊎_, inl, inr}
 use native.Mathlib.Decide.{ℕ-discrete}
 use native.Mathlib.Omega.{arith}
-use lib.ListN.{getD}
-use Rattle.trees.specs.Tree.{Tree, leaf, node, size, kindAt, labelAt, labelsOf}
+use Rattle.trees.specs.Tree.{Tree, size, kindAt, labelAt}
 use Rattle.trees.specs.Automaton.{Automaton, state}
 use Rattle.trees.specs.Numbering.{sub, parent, depth, ancestor, InSubtree}
 use Rattle.trees.specs.Climb.{walk}
 use Rattle.trees.specs.Tables.{stepUp}
-use Rattle.trees.proofs.NodeLaws.{Up, up, sub-leaf, sub-size, sub-root}
+use Rattle.trees.proofs.NodeLaws.{Up, up, sub-leaf, sub-size, sub-root, below-root}
 use Rattle.trees.proofs.JumpLaws.{ancestor-add, ancestor-in, ancestor-depth, ancestor-above}
 use Rattle.trees.proofs.IntervalLaws.{ancestor-interval, interval-ancestor, above-at}
-use Rattle.trees.proofs.TreeClimbs.{below-root}
 use Rattle.trees.proofs.WalkLaws.{walk-add}
 use Rattle.trees.proofs.MapLaws.{stepUp-right, stepUp-left}
 use Rattle.trees.proofs.RunLaws.{Children, children, state-leaf, state-inner}
@@ -28,6 +26,7 @@ use Rattle.ready.specs.Ready.{leftChild, rightChild, Closed}
 use Rattle.ready.specs.Parts.{Given, anyBelow, highestBelow, moveStates, climbMoves}
 use Rattle.ready.proofs.UnderLaws.{under-self, under-trans, left-in, right-in, left-under, right-under}
 use Rattle.ready.proofs.HighestLaws.{Highest, is-false, path-unlisted, not-left, not-right}
+use Rattle.ready.proofs.HighestWalk.{far, way-proper, way-free, way-left, way-right}
 use Rattle.ready.proofs.BelowLaws.{none-below, some-below}
 use Rattle.ready.proofs.ClosedForm.{kind-one}
 use Rattle.ready.specs.StaysInside.{StaysInside}
@@ -128,70 +127,23 @@ module _ (A : Automaton) (ch : LabelSum) (t : Tree) where
           ∙ shut (parent t y) free (λ b. g (A .δ q b (state A (sub t (rightChild (parent t y))))))
           ∙ ap g (sym (stepUp-left A t y h q e)))
 
-    -- ---- the walk from the highest member below c (as ready/proofs/ChangedRun has it for states)
+    -- ---- the walk from the highest member below c
 
     module _ (C : ℕ → Type 0) (closed : Closed w t C) (inside : (v : ℕ) → C v → v < size t) (c h : ℕ)
         (hc : c < size t)
         (H : Highest t C c h) where
-      hh : h < size t
-      hh = inside h (H .member)
-
-      far : (depth t c ≤ depth t h) × (ancestor t h (depth t h - depth t c) ≡ c)
-      far = above-at t c h hh (interval-ancestor t c h hc hh (H .below))
-
-      -- a node on the way, not yet c
-      module _ (n : ℕ) (l : n < depth t h - depth t c) where
-        y-in : ancestor t h n < size t
-        y-in = ancestor-in t h n hh
-
-        y-depth : depth t (ancestor t h n) + n ≡ depth t h
-        y-depth = ancestor-depth t h n hh (omega arith)
-
-        y-proper : ancestor t h n + 1 < size t
-        y-proper = below-root t (ancestor t h n) y-in (omega (arith, y-depth))
-
-        y-over : InSubtree t (ancestor t h n) h
-        y-over = ancestor-interval t (ancestor t h n) h n hh (omega arith) refl
-
-        up-n : Up t (ancestor t h n) (parent t (ancestor t h n))
-        up-n = up t (ancestor t h n) y-proper
-
-        c-over : InSubtree t c (parent t (ancestor t h n))
-        unfolding ancestor
-        c-over =
-            let k : (depth t h - depth t c - suc n) + suc n ≡ depth t h - depth t c = omega arith in
-            ancestor-interval t c (parent t (ancestor t h n)) (depth t h - depth t c - suc n) (up-n .below)
-            (omega (arith, up-n .deeper, y-depth))
-            (ancestor-add t h (suc n) (depth t h - depth t c - suc n) ∙ ap (ancestor t h) k ∙ far .1)
-
-        over-h : h < parent t (ancestor t h n)
-        over-h = omega (arith, up-n .above, ancestor-above t h n hh)
-
-        kind : kindAt t (parent t (ancestor t h n)) ≡ 1
-        kind = up-n .inside
-
-        p-free : w (parent t (ancestor t h n)) ≡ false
-        p-free = path-unlisted w t C closed inside c h hc H (parent t (ancestor t h n)) (up-n .below) c-over over-h
-
-        walk-step : (g : ℕ → ℕ) → weighedAt A ch t (parent t (ancestor t h n)) g
-            ≡ weighedAt A ch t (ancestor t h n) (λ q. g (stepUp A t (ancestor t h n) q))
-        walk-step g =
-            let p : ℕ = parent t (ancestor t h n) in
-            elim (ℕ-discrete (ancestor t h n + 1) (parent t (ancestor t h n))) [
-              | yes e ↦ step-right (ancestor t h n) y-proper p-free e
-                  (λ v hv q wv.
-                  let r : rightChild p ≡ ancestor t h n = omega arith in
-                  not-left w t C closed inside c h hc H p (up-n .below) kind c-over v hv wv
-                  (under-trans t c p v hc (up-n .below) hv c-over (left-under t p (up-n .below) kind v q))
-                  (omega (arith, up-n .below)) (subst (λ (x : ℕ). InSubtree t x h) (sym r) y-over) q) g
-              | no e ↦ step-left (ancestor t h n) y-proper p-free e
-                  (λ v hv q wv.
-                  let r : ancestor t h n ≡ leftChild t p = elim (up-n .child)
-                  [ inl z ↦ absurd (e z) | inr z ↦ omega arith ] in
-                  not-right w t C closed inside c h hc H p (up-n .below) kind c-over v hv wv
-                  (under-trans t c p v hc (up-n .below) hv c-over (right-under t p (up-n .below) kind v q))
-                  (omega (arith, y-in)) (subst (λ (x : ℕ). InSubtree t x h) r y-over) q) g
-            ]
+      walk-step : (n : ℕ) → n < depth t h - depth t c → (g : ℕ → ℕ)
+          → weighedAt A ch t (parent t (ancestor t h n)) g
+          ≡ weighedAt A ch t (ancestor t h n) (λ q. g (stepUp A t (ancestor t h n) q))
+      walk-step n l g =
+          let proper : ancestor t h n + 1 < size t = way-proper w t C closed inside c h hc H n l in
+          let free : w (parent t (ancestor t h n)) ≡ false = way-free w t C closed inside c h hc H n l in
+          elim (ℕ-discrete (ancestor t h n + 1) (parent t (ancestor t h n))) [
+            | yes e ↦ step-right (ancestor t h n) proper free e
+                (λ v hv q wv. way-left w t C closed inside c h hc H n l v hv e q wv) g
+            | no e ↦ step-left (ancestor t h n) proper free e
+                (λ v hv q wv. way-right w t C closed inside c h hc H n l v hv e q wv) g
+          ]
 
       walk-in : (n : ℕ) → n ≤ depth t h - depth t c → (g : ℕ → ℕ)
           → weighedAt A ch t (ancestor t h n) g ≡ weighedAt A ch t h (λ q. g (walk (stepUp A t) t h n q))
@@ -206,7 +158,7 @@ module _ (A : Automaton) (ch : LabelSum) (t : Tree) where
 
       pub climbed-weight : (g : ℕ → ℕ) → weighedAt A ch t c g
           ≡ weighedAt A ch t h (λ q. g (walk (stepUp A t) t h (depth t h - depth t c) q))
-      climbed-weight g = ap (λ (x : ℕ). weighedAt A ch t x g) (sym (far .1))
+      climbed-weight g = ap (λ (x : ℕ). weighedAt A ch t x g) (sym (far w t C closed inside c h hc H .1))
           ∙ walk-in (depth t h - depth t c) (omega arith) g
 
 -- ---- the four kinds of part, on the run's own bytes

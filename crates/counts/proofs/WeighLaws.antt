@@ -6,13 +6,14 @@
 --     weighed-closed     with one label at each node, the weight of the state
 --     weighed-below      only states below S count
 -- Assumes nothing.
-use Prim.Native.Nat.{ℕ, zero, suc, _+_, _*_, _-_, _≤_, _<_}
+use Prim.Native.Nat.{ℕ, _+_, _*_, _-_, _≤_, _<_}
 use mathlib.Core.Path.{_≡_, refl, sym, ap, ap₂, _∙_, fun-ext}
 use mathlib.Core.Bool.{Bool, true, false, cond}
 use native.Mathlib.Omega.{arith}
 use mathlib.Core.List.{List, [], _∷_, _++_}
-use lib.ListN.{length, getD, List·getD-append}
-use lib.Seq.{ext-getD, getD-append-add, getD-append-seam}
+use lib.ListN.{length, getD}
+use lib.Seq.{ext-getD}
+use Rattle.list_laws.proofs.AppendLaws.{at-left, at-middle, at-right}
 use Rattle.trees.specs.Tree.{Tree, leaf, node, size, kindsOf, labelsOf, labelAt}
 use Rattle.trees.specs.Automaton.{Automaton, state}
 use Rattle.trees.proofs.NodeLaws.{Place, inL, inR, top, place, length-labels}
@@ -156,17 +157,6 @@ relabelled-size lab (leaf a) lo = refl
 relabelled-size lab (node l a r) lo = ap₂ (λ (x y : ℕ). x + y + 1) (relabelled-size lab l lo)
     (relabelled-size lab r (lo + size l))
 
--- what three lists in a row have at a place
-module _ (xs ys : List ℕ) (z v : ℕ) where
-  row-left : v < length xs → getD (xs ++ (ys ++ (z ∷ []))) v 0 ≡ getD xs v 0
-  row-left h = List·getD-append xs (ys ++ (z ∷ [])) 0 v h
-
-  row-right : (j : ℕ) → v ≡ length xs + j → j < length ys → getD (xs ++ (ys ++ (z ∷ []))) v 0 ≡ getD ys j 0
-  row-right j e h = rw e (getD-append-add xs (ys ++ (z ∷ [])) j 0 ∙ List·getD-append ys (z ∷ []) 0 j h)
-
-  row-top : v ≡ length xs + length ys → getD (xs ++ (ys ++ (z ∷ []))) v 0 ≡ z
-  row-top e = rw e (getD-append-add xs (ys ++ (z ∷ [])) (length ys) 0 ∙ getD-append-seam ys z [] 0)
-
 pub relabelled-at : (lab : ℕ → ℕ) (t : Tree) (lo j : ℕ) → j < size t → labelAt (relabelled lab t lo) j ≡ lab (lo + j)
 unfolding relabelled
 relabelled-at lab (leaf a) lo j h =
@@ -186,14 +176,14 @@ relabelled-at lab (node l a r) lo j h = go (place l a r j h) (relabelled-at lab 
         → ((i : ℕ) → i < size r → labelAt (relabelled lab r (lo + size l)) i ≡ lab (lo + size l + i))
         → getD (labelsOf (relabelled lab l lo) ++
         (labelsOf (relabelled lab r (lo + size l)) ++ (lab (lo + size l + size r) ∷ []))) j 0 ≡ lab (lo + j)
-    go (inL x) L R = row-left (labelsOf (relabelled lab l lo)) (labelsOf (relabelled lab r (lo + size l)))
-        (lab (lo + size l + size r)) j (omega (arith, ll)) ∙ L x
+    go (inL x) L R = at-left 0 (labelsOf (relabelled lab l lo)) (labelsOf (relabelled lab r (lo + size l)))
+        (lab (lo + size l + size r) ∷ []) j (omega (arith, ll)) ∙ L x
     go (inR i e x) L R =
-        row-right (labelsOf (relabelled lab l lo)) (labelsOf (relabelled lab r (lo + size l)))
-        (lab (lo + size l + size r)) j i (omega (arith, ll)) (omega (arith, lr)) ∙ R i x
+        at-middle 0 (labelsOf (relabelled lab l lo)) (labelsOf (relabelled lab r (lo + size l)))
+        (lab (lo + size l + size r) ∷ []) j i (omega (arith, ll)) (omega (arith, lr)) ∙ R i x
         ∙ (let q : lo + size l + i ≡ lo + j = omega arith in ap lab q)
-    go (top e) L R = row-top (labelsOf (relabelled lab l lo)) (labelsOf (relabelled lab r (lo + size l)))
-        (lab (lo + size l + size r)) j (omega (arith, ll, lr))
+    go (top e) L R = at-right 0 (labelsOf (relabelled lab l lo)) (labelsOf (relabelled lab r (lo + size l)))
+        (lab (lo + size l + size r) ∷ []) j 0 (omega (arith, ll, lr))
         ∙ (let q : lo + size l + size r ≡ lo + j = omega arith in ap lab q)
 
 pub relabelled-self : (lab : ℕ → ℕ) (t : Tree) (lo : ℕ) → ((j : ℕ) → j < size t → lab (lo + j) ≡ labelAt t j)

@@ -122,7 +122,8 @@ module _ (ss : List Session) (rs : List Record) (Z : SeenAll ss rs) where
   stays-on ss′ a (nobody n) h o = tt
   stays-on ss′ a (everyScreen x) h o = tt
   stays-on ss′ a (screen i c) h o = subst (λ (s : Session). valid s ≡ true) (o .leaves) (o .stays (Z .each i h .passes))
-  stays-on ss′ a (turn i x) h o = subst (λ (s : Session). valid s ≡ true) (o .leaves) (o .stays (Z .each i (h .0) .passes))
+  stays-on ss′ a (turn i x) h o = subst (λ (s : Session). valid s ≡ true) (o .leaves)
+      (o .stays (Z .each i (h .0) .passes))
 
   structs-of : (t : Target) → Rightly (runs rs) t → StaysOn t → SeenAll (structsOf ss t) (actOn rs t .records′)
   unfolding structsOf actOn
@@ -160,7 +161,8 @@ module _ (ss : List Session) (rs : List Record) (Z : SeenAll ss rs) where
       (subst (λ (l : List Record). SeenAll (structsOf ss (target (runs rs) c)) l)
       (sym (ap (λ (k : ActedAll). k .records′) (on-target rs c (Z .records))))
       (structs-of (target (runs rs) c) (rightly (runs rs) c)
-      (stays-on ss′ a (target (runs rs) c) (rightly (runs rs) c) (subst (λ (t : Target). OwnDone ss ss′ t a) (target-is c) o))))
+      (stays-on ss′ a (target (runs rs) c) (rightly (runs rs) c)
+      (subst (λ (t : Target). OwnDone ss ss′ t a) (target-is c) o))))
 
 -- ---- Read alters nothing
 
@@ -183,7 +185,8 @@ pub run-refines : Refines ScreenInPlace DoesAll SeenAll
 run-refines ss ss′ rs c a Z (does d) = (
   actAll rs c .records′,
   record { tells = d .tells ∙ told-is ss rs Z c; leaves = refl },
-  subst (λ (l : List Session). SeenAll l (actAll rs c .records′)) (sym (d .leaves)) (left-seen ss rs Z c ss′ (answerIn a) (d .own (Z .structs))),
+  subst (λ (l : List Session). SeenAll l (actAll rs c .records′)) (sym (d .leaves))
+      (left-seen ss rs Z c ss′ (answerIn a) (d .own (Z .structs))),
 )
 run-refines ss ss′ rs c a Z (reads i e) = (
   rs,

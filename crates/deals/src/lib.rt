@@ -2,6 +2,7 @@
 // (document 01). Start, Cancel and Read of one screen go the same way. Load over eight takes and returns them by value.
 pub mod load;
 
+use screens::one_past;
 use session::answers::AdvanceAnswer;
 use session::answers::CallAnswer;
 use session::answers::ReadAnswer;
@@ -13,7 +14,7 @@ ghost use mathlib.Core.List.{[], _∷_};
 ghost use Prim.Native.Nat.{_<_};
 ghost use Rattle.formats.specs.Inputs.{inputsOf};
 ghost use Rattle.model.specs.Calls.{isRunning};
-ghost use Rattle.screens.specs.ScreenCalls.{onePast, found, turnAnswer};
+ghost use Rattle.screens.specs.ScreenCalls.{found, turnAnswer};
 ghost use Rattle.screens.specs.ScreenCalls as screens;
 ghost use Rattle.session.specs.Records.{phaseOf};
 ghost use Rattle.session.specs.Answers.{advanceAnswer, callAnswer, startAnswer, readAnswer};
@@ -36,16 +37,6 @@ pub fn is_running(p: Phase) -> bool
         Phase::Running => true,
         Phase::Answered => false,
     }
-}
-
-// One past a screen, 0 past 7.
-fn one_past(i: usize) -> usize
-    ensures { λ r. ⌜ (r ≡ onePast i) × (r < 8) ⌝ }
-{
-    if i < 7 {
-        return i + 1;
-    }
-    0
 }
 
 // The next running screen from the first on, going from 7 back to 0; 8 where none runs, 9 where there is no such screen

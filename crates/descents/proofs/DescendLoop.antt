@@ -60,9 +60,11 @@ abbrev pub withSearches : List ℕ → Option Descent → Option Descent
 withSearches ls none = none
 withSearches ls (some d) = some (descent (d .colour) (ls ++ d .searches))
 
-one-more : (ls : List ℕ) (k : ℕ) (o : Option Descent) → withSearches ls (withSearch k o) ≡ withSearches (ls ++ (k ∷ [])) o
+one-more : (ls : List ℕ) (k : ℕ) (o : Option Descent)
+    → withSearches ls (withSearch k o) ≡ withSearches (ls ++ (k ∷ [])) o
 one-more ls k none = refl
-one-more ls k (some d) = ap (λ (x : List ℕ). some (descent (d .colour) x)) (sym (append-assoc ls (k ∷ []) (d .searches)))
+one-more ls k (some d) = ap (λ (x : List ℕ). some (descent (d .colour) x))
+    (sym (append-assoc ls (k ∷ []) (d .searches)))
 
 none-before : (o : Option Descent) → o ≡ withSearches [] o
 none-before none = refl
@@ -90,7 +92,12 @@ module _ (n : ℕ) (nums : List ℕ) (z : Place) (l c : ℕ) where
 
   -- what is answered where no drop is left
   ended : (ls : List ℕ) (d : ℕ)
-      → descendedOf (withSearches ls (some (descent d []))) ≡ record { ok = true; colour = d; drops = length ls; links = sum ls }
+      → descendedOf (withSearches ls (some (descent d []))) ≡ record {
+        ok = true;
+        colour = d;
+        drops = length ls;
+        links = sum ls;
+      }
   unfolding descendedOf
   ended ls d = ap (λ (x : List ℕ). record { ok = true; colour = d; drops = length x; links = sum x }) (append-nil ls)
 
@@ -137,7 +144,8 @@ module _ (n : ℕ) (nums : List ℕ) (z : Place) (l c : ℕ) where
       unfolding descendedOf
       descends-lost e =
           ap descendedOf (sym (S .rest ∙ ap (withSearches (S .searches))
-          (step (before .0) lost (before .1) (gives-lost (nextDrop T colour (startPlace above at) l) (sym e ∙ D .result)))))
+          (step (before .0) lost (before .1) (gives-lost (nextDrop T colour (startPlace above at) l)
+          (sym e ∙ D .result)))))
 
       module _ (x d k : ℕ) (e : r ≡ Fell x d k) where
         next : nextDrop T colour (startPlace above at) l ≡ fell x d k

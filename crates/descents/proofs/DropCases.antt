@@ -48,7 +48,8 @@ abbrev fellOn : (ℕ → ℕ) → ℕ → Option Searching → Next
 fellOn lands c none = lost
 fellOn lands c (some s) = fellAt c lands (s .node) (s .links)
 
-fell-search : (F : Forest) (lands : ℕ → ℕ) (c v to : ℕ) → fellBy F lands c v (climb F v to) ≡ fellOn lands c (searchOn F v to)
+fell-search : (F : Forest) (lands : ℕ → ℕ) (c v to : ℕ)
+    → fellBy F lands c v (climb F v to) ≡ fellOn lands c (searchOn F v to)
 unfolding fellBy searchOn
 fell-search F lands c v to = go (climb F v to)
   where
@@ -72,11 +73,13 @@ search-ends F v to s h e = go (climb F v to) refl e
         let b : length ms ≡ s .links = cc in
         (omega (arith, climb-inside F v to ms h q), omega (arith, climb-short F v to ms q))
 
-gives-some : (o : Option Searching) (s : Searched) → s ≡ searchedOf o → s .ok ≡ true → o ≡ some (searching (s .node) (s .links))
+gives-some : (o : Option Searching) (s : Searched) → s ≡ searchedOf o → s .ok ≡ true
+    → o ≡ some (searching (s .node) (s .links))
 unfolding searchedOf
 gives-some none s e i = absurd (true-false (sym i ∙ ap (λ (x : Searched). x .ok) e))
 gives-some (some r) s e i =
-    ap₂ (λ (v k : ℕ). some (searching v k)) (sym (ap (λ (x : Searched). x .node) e)) (sym (ap (λ (x : Searched). x .links) e))
+    ap₂ (λ (v k : ℕ). some (searching v k)) (sym (ap (λ (x : Searched). x .node) e))
+    (sym (ap (λ (x : Searched). x .links) e))
 
 gives-none : (o : Option Searching) (s : Searched) → s ≡ searchedOf o → s .ok ≡ false → o ≡ none
 unfolding searchedOf
@@ -102,7 +105,8 @@ module _ (n : ℕ) (table : List ℕ) (c to l : ℕ) where
   unfolding droppingOf
   nothing e = record { result = ap droppingOf (sym e); few = λ x d k q. absurd (lost-fell Lost refl x d k q) }
 
-  pub gives-done : (s : ℕ) → s ≡ seenAt (cellForest n table) (sizeCell table) c l → s ≤ to → NextDone n table c to l Done
+  pub gives-done : (s : ℕ) → s ≡ seenAt (cellForest n table) (sizeCell table) c l → s ≤ to
+      → NextDone n table c to l Done
   unfolding droppingOf
   gives-done s e h = record {
     result = ap droppingOf (sym (next-done F lands c to l (omega arith)));

@@ -1,4 +1,5 @@
 pub mod SearchLoop
 pub mod DropCases
 pub mod DescendLoop
+pub mod DescendedLaws
 pub mod Theorems

@@ -36,7 +36,8 @@ module _ (F : Forest) (v t : ℕ) where
   search-done : F .depth v ≤ t → searchOn F v t ≡ some (searching v 0)
   unfolding searchOn
   search-done h =
-      ap (λ (o : Option (List Move)). andThen o (λ ms. some (searching (climbEnd F v ms) (length ms)))) (climb-done F v t h)
+      ap (λ (o : Option (List Move)). andThen o (λ ms. some (searching (climbEnd F v ms) (length ms))))
+      (climb-done F v t h)
 
   search-stuck : t < F .depth v → nextMove F v t ≡ none → searchOn F v t ≡ none
   unfolding searchOn
@@ -44,7 +45,8 @@ module _ (F : Forest) (v t : ℕ) where
       ap (λ (o : Option (List Move)). andThen o (λ ms. some (searching (climbEnd F v ms) (length ms))))
       (climb-stuck F v t h e)
 
-  search-move : (m : Move) → t < F .depth v → nextMove F v t ≡ some m → searchOn F v t ≡ after 1 (searchOn F (target F m) t)
+  search-move : (m : Move) → t < F .depth v → nextMove F v t ≡ some m
+      → searchOn F v t ≡ after 1 (searchOn F (target F m) t)
   unfolding searchOn
   search-move m h e =
       ap (λ (o : Option (List Move)). andThen o (λ ms. some (searching (climbEnd F v ms) (length ms))))
@@ -114,7 +116,11 @@ module _ (F : Forest) (from to : ℕ) where
   searches-start h = record { inside = h; few = omega arith; rest = sym (after-zero (searchOn F from to)) }
 
   module _ (v links : ℕ) (S : Searches v links) where
-    pub searches-done : F .depth v ≤ to → record { ok = true; node = v; links = links } ≡ searchedOf (searchOn F from to)
+    pub searches-done : F .depth v ≤ to → record {
+      ok = true;
+      node = v;
+      links = links;
+    } ≡ searchedOf (searchOn F from to)
     unfolding searchedOf
     searches-done h =
         let e : links ≡ links + 0 = omega arith in
@@ -123,7 +129,8 @@ module _ (F : Forest) (from to : ℕ) where
 
     module _ (deeper : to < F .depth v) (u : ℕ) (e : u ≡ nextNode F (nextMove F v to)) where
       pub searches-rises : u < F .nodes → F .depth u < F .depth v
-      searches-rises h = let w : Moved F v to u = moved F v to u e h in rw (← w .leads) (next-rises F v to (w .move) (w .next))
+      searches-rises h = let w : Moved F v to u =
+          moved F v to u e h in rw (← w .leads) (next-rises F v to (w .move) (w .next))
 
       pub searches-turn : u < F .nodes → Searches u (links + 1)
       searches-turn h =

@@ -31,7 +31,8 @@ module _ (B : WordAutomaton) (t : Tree) (nums : List ℕ) (C : ColourCells (B .s
       → descend (cellTable (size t) nums) (colourAbove B t u) (aboveOf t u) l (colourAbove B t u) ≡ withUpper B t u l
   unfolding withUpper
   upper-built b =
-      descend-built (B .states) (wordStep B t) t nums C (colourAbove B t u) (aboveOf t u) l (colourAbove B t u) hl b above-in
+      descend-built (B .states) (wordStep B t) t nums C (colourAbove B t u) (aboveOf t u) l
+      (colourAbove B t u) hl b above-in
 
   pub below-built : colourHere B t u < B .states
       → descend (cellTable (size t) nums) (colourHere B t u) (some u) l (colourHere B t u) ≡ belowUpper B t u l

@@ -22,7 +22,8 @@ pub enum Dropping {
 // How many of the nodes where colour c falls stand at node v or above.
 pub fn seen_at(table: &[u16], n: usize, c: usize, v: usize) -> usize
     requires { ⌜ MoveArgs n (now table) v ⌝ }
-    ensures { λ r. ⌜ (r ≡ seenAt (cellForest n (now (table .entry))) (sizeCell (now (table .entry))) c v) × (r ≤ 65536) ⌝ }
+    ensures { λ r. ⌜ (r ≡ seenAt (cellForest n (now (table .entry))) (sizeCell (now (table .entry))) c v)
+        × (r ≤ 65536) ⌝ }
 {
     let d = depth_at(table, v);
     if size_at(table, v) < c {

@@ -177,7 +177,8 @@ eight l at k =
     let all : right a b c d e f g h ≡ true = each-at (right a b c d e f g) seven h (below-two 7 (omega arith)) in
     let tests = below 17 (λ t. tells (waiting (eightFrom l at) t) (clear 128 8 (spare (twiceOf (eightKinds l at)) t))
     (twiceOf (eightKinds l at) / 2 ^ 56) t) in
-    let after : (tests && enough (waiting (eightFrom l at) 16)) ≡ true = and-right (fits (2 * eightKinds l at)) (tests && enough (waiting (eightFrom l at) 16)) all in
+    let after : (tests && enough (waiting (eightFrom l at) 16)) ≡ true =
+    and-right (fits (2 * eightKinds l at)) (tests && enough (waiting (eightFrom l at) 16)) all in
     record {
       fit = and-left (fits (2 * eightKinds l at)) (tests && enough (waiting (eightFrom l at) 16)) all;
       told = λ t i. below-at 17 (λ t. tells (waiting (eightFrom l at) t) (clear 128 8 (spare (twiceOf (eightKinds l at)) t))

@@ -129,14 +129,16 @@ module _ (p r : List ℕ) where
 
 -- ---- room in the table buffers
 
-pub room-passes : (n s nodeTable stateTable : ℕ) → firstNo (roomCheck n s nodeTable stateTable ∷ []) ≡ 0 → (nodeTableLength n ≤ nodeTable) × (stateTableLength n s ≤ stateTable)
+pub room-passes : (n s nodeTable stateTable : ℕ) → firstNo (roomCheck n s nodeTable stateTable ∷ []) ≡ 0
+    → (nodeTableLength n ≤ nodeTable) × (stateTableLength n s ≤ stateTable)
 room-passes n s nodeTable stateTable e =
     let q : roomFits n s nodeTable stateTable ≡ true = firstNo-head 11 (roomFits n s nodeTable stateTable) [] (omega arith) e in (
       leb-true (nodeTableLength n) nodeTable (and-left (leb (nodeTableLength n) nodeTable) (leb (stateTableLength n s) stateTable) q),
       leb-true (stateTableLength n s) stateTable (and-right (leb (nodeTableLength n) nodeTable) (leb (stateTableLength n s) stateTable) q),
     )
 
-pub passes-room : (n s nodeTable stateTable : ℕ) → nodeTableLength n ≤ nodeTable → stateTableLength n s ≤ stateTable → firstNo (roomCheck n s nodeTable stateTable ∷ []) ≡ 0
+pub passes-room : (n s nodeTable stateTable : ℕ) → nodeTableLength n ≤ nodeTable → stateTableLength n s ≤ stateTable
+    → firstNo (roomCheck n s nodeTable stateTable ∷ []) ≡ 0
 passes-room n s nodeTable stateTable h i =
     let links : leb (nodeTableLength n) nodeTable ≡ true = le-leb (nodeTableLength n) nodeTable h in
     let states : leb (stateTableLength n s) stateTable ≡ true = le-leb (stateTableLength n s) stateTable i in
@@ -149,7 +151,8 @@ module _ (p r : List ℕ) (nodeTable stateTable : ℕ) where
   build-table e =
       firstNo-append-left (ruleTableChecks p r) (roomCheck (nodeCount p) (stateCount r) nodeTable stateTable ∷ []) (rule-table-numbered p r) e
 
-  pub build-room : firstNo (buildChecks p r nodeTable stateTable) ≡ 0 → (nodeTableLength (nodeCount p) ≤ nodeTable) × (stateTableLength (nodeCount p) (stateCount r) ≤ stateTable)
+  pub build-room : firstNo (buildChecks p r nodeTable stateTable) ≡ 0
+      → (nodeTableLength (nodeCount p) ≤ nodeTable) × (stateTableLength (nodeCount p) (stateCount r) ≤ stateTable)
   unfolding buildChecks
   build-room e =
       room-passes (nodeCount p) (stateCount r) nodeTable stateTable

@@ -10,11 +10,11 @@ use mathlib.Core.Path.{_≡_, refl, sym, ap, _∙_, subst}
 use mathlib.Core.List.{List, [], _∷_, _++_}
 use native.Mathlib.Decide.{decLt, ℕ-discrete}
 use native.Mathlib.Nat.{mul-le-mul-right}
-use native.Mathlib.Numerals.{one-add}
 use native.Mathlib.Omega.{arith}
 use lib.ListN.{length, getD, take, drop, length-append, length-drop, List·getD-append}
-use lib.Seq.{ext-getD, getD-append-add, getD-append-seam, getD-drop, getD-take, length-take-le, take-at}
+use lib.Seq.{ext-getD, getD-append-add, getD-append-seam, getD-take, length-take-le, take-at}
 use Rattle.list_laws.specs.Rows.{tabulate, rows}
+use Rattle.list_laws.proofs.AppendLaws.{getD-past}
 
 -- ---- places
 
@@ -155,10 +155,5 @@ module _ (n w : ℕ) (f : ℕ → List ℕ) (wide : (v : ℕ) → v < n → leng
         | yes l ↦ sym (getD-take (n * w) after j 0 l)
             ∙ ap (λ (x : List ℕ). getD x j 0) (rows-of-cells after (omega arith) cells)
             ∙ sym (List·getD-append (rows n f) (drop (n * w) before) 0 j (omega (arith, z)))
-        | no l ↦ (let p : j ≡ length (rows n f) + (j - n * w) = omega (arith, z) in
-            let q : n * w + (j - n * w) ≡ j = omega arith in
-            kept j (omega arith)
-            ∙ sym (ap (λ (i : ℕ). getD (rows n f ++ drop (n * w) before) i 0) p
-            ∙ getD-append-add (rows n f) (drop (n * w) before) (j - n * w) 0
-            ∙ getD-drop (n * w) before (j - n * w) 0 ∙ ap (λ (i : ℕ). getD before i 0) q))
+        | no l ↦ kept j (omega arith) ∙ sym (getD-past (rows n f) before (n * w) j z (omega arith))
       ]

@@ -16,7 +16,7 @@ use Rattle.trees.specs.Numbering.{parent, depth, ancestor}
 use Rattle.trees.proofs.NodeLaws.{up}
 use Rattle.trees.proofs.JumpLaws.{ancestor-in, ancestor-depth}
 use Rattle.trees.proofs.MapLaws.{ancestor-parent}
-use Rattle.marks.specs.Ascents.{Ascends}
+use Rattle.trees.specs.Ascents.{Ascends}
 use Rattle.marks.specs.Marks.{bit, marksIn, marksAbove, marksAt, nearestIn, markedUp, lowestAt}
 
 pub bit-le : (b : Bool) → bit b ≤ 1

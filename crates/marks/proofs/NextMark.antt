@@ -22,10 +22,10 @@ use Rattle.trees.proofs.JumpLaws.{ancestor-in, ancestor-depth, ancestor-add}
 use Rattle.trees.proofs.HeightLaws.{depth-height, height-limit}
 use Rattle.trees.proofs.Digits.{digits-limit}
 use Rattle.trees.proofs.MoveCount.{moveCount-bound}
-use Rattle.marks.specs.Ascents.{rise}
+use Rattle.trees.specs.Ascents.{rise}
 use Rattle.marks.specs.Marks.{bit, marksIn, marksAbove, marksAt, markedUp, lowestAt, markedForest}
-use Rattle.marks.proofs.JumpLaws.{rise-depth}
-use Rattle.marks.proofs.Climbs.{Climbed, climb-up}
+use Rattle.trees.proofs.AscentLaws.{rise-depth}
+use Rattle.trees.proofs.AscentClimbs.{Climbed, climb-up}
 use Rattle.marks.proofs.MarkLaws.{bit-le, marks-split, marks-at, marks-one, marks-mono, marksAt-is}
 use Rattle.marks.proofs.MarkLaws.{marksAbove-le}
 use Rattle.marks.proofs.MarkLaws.{MarkedUp, marked-up, marks-ascend, Lowest, lowest}

@@ -16,9 +16,9 @@ use Rattle.trees.specs.Numbering.{parent}
 use Rattle.trees.specs.Jumps.{twoDistances, jumpDepth}
 use Rattle.trees.proofs.NodeLaws.{up, depth-root}
 use Rattle.trees.proofs.JumpLaws.{ancestor-above, jumpDepth-le}
-use Rattle.marks.specs.Ascents.{rise, jumpBy}
+use Rattle.trees.specs.Ascents.{rise, jumpBy}
 use Rattle.marks.specs.Marks.{bit, marksAbove, markedUp}
-use Rattle.marks.proofs.JumpLaws.{rise-in, jumpBy-is, jumpBy-in, depth-jumpBy, jumpBy-top, jumpBy-rule}
+use Rattle.trees.proofs.AscentLaws.{rise-in, jumpBy-is, jumpBy-in, depth-jumpBy, jumpBy-top, jumpBy-rule}
 use Rattle.marks.proofs.MarkLaws.{marksAbove-le, marksAt-is, marksAbove-down, markedUp-none, markedUp-marked}
 use Rattle.marks.proofs.MarkLaws.{markedUp-unmarked, MarkedUp, marked-up, marks-ascend}
 

@@ -18,10 +18,9 @@ use Rattle.trees.specs.Numbering.{sub, parent, depth, isInSubtree}
 use Rattle.trees.specs.Jumps.{jump, jumpDepth}
 use Rattle.trees.specs.Climb.{forestOf}
 use Rattle.trees.specs.LinkOutOfRange.{LinkOutOfRange, jump-outside, jump-flat, parent-outside, parent-flat}
-use Rattle.trees.proofs.NodeLaws.{up, inner, sub-leaf, sub-root}
+use Rattle.trees.proofs.NodeLaws.{up, inner, sub-leaf, sub-root, below-root}
 use Rattle.trees.proofs.JumpLaws.{jump-in, jump-is, depth-jump}
 use Rattle.trees.proofs.SkewBinary.{jumpDepth-lt}
-use Rattle.trees.proofs.TreeClimbs.{below-root}
 use Rattle.trees.proofs.IntervalLaws.{ancestor-interval}
 use Rattle.trees.proofs.LinkRangeLaws.{tree-links-in-range}
 use Rattle.list_laws.proofs.BoolLaws.{true-false, and-both}

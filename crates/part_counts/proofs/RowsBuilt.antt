@@ -21,13 +21,13 @@ use Rattle.tables.specs.Climbs.{View}
 use Rattle.ready.specs.Ready.{leftChild, rightChild}
 use Rattle.ready.specs.Members.{Rising}
 use Rattle.ready.specs.Parts.{Given, anyBelow, highestBelow, sumOf, partLinks}
-use Rattle.ready.proofs.PartsRun.{Members}
+use Rattle.ready.proofs.PartsRun.{Members, rising-not}
 use Rattle.questions.specs.Promises.{Reads}
 use Rattle.counts.specs.Sums.{sumTo, openSum, one}
 use Rattle.counts.specs.PartCounts.{Tally, tally, tallied, countsOf, countAt, climbedTo, appliedCount, innerCount}
 use Rattle.counts.specs.PartCounts.{partCount, partTally, talliesFrom}
 use Rattle.counts.proofs.SumLaws.{sum-ext, sum-zero}
-use Rattle.counts.proofs.CountedParts.{tallied-more, counts-kept, counts-new, rising-not}
+use Rattle.counts.proofs.CountedParts.{tallied-more, counts-kept, counts-new}
 use Rattle.joining.specs.Capped.{countLimit, capped}
 use Rattle.counting.specs.Side.{countIn}
 use Rattle.part_counts.specs.PartOn.{partOkOn, partLinksOn, partCountOn}

@@ -36,7 +36,7 @@ use Rattle.questions.proofs.ClimbBuilt.{is-below, rule-built, run-built}
 use Rattle.questions.proofs.PartBuilt.{found-none, found-built}
 use Rattle.colours.specs.StateSets.{Tried, tried, tryFrom, tryTargets}
 use Rattle.colour_tables.specs.ColourCells.{cellTable}
-use Rattle.colours.proofs.DescentLaws.{AllLe}
+use Rattle.colours.proofs.DescentLaws.{AllLe, all-append}
 use Rattle.colour_parts.specs.Sides.{SideFound}
 use Rattle.colour_parts.proofs.SideLaws.{side-found}
 use Rattle.part_descents.specs.Part.{ColourView, sidesIn, untried, colourFrom, sideTried, joinTried, forkTried}
@@ -44,10 +44,6 @@ use Rattle.part_descents.specs.Part.{leafTried}
 use Rattle.part_descents.specs.Part.{partTried}
 use Rattle.part_descents.specs.OneSided.{isOneSided}
 use Rattle.part_descents.proofs.TriesBuilt.{SidesBuilt, tries-built}
-
-pub all-append : (b : ℕ) (xs ys : List ℕ) → AllLe b xs → AllLe b ys → AllLe b (xs ++ ys)
-all-append b [] ys h k = k
-all-append b (x ∷ xs) ys h k = (h .0, all-append b xs ys (h .1) k)
 
 pub record PartIs (t : Tree) (o : Option Tried) (q drops : ℕ) : Type 0 where
   pub searches : List ℕ

@@ -27,8 +27,7 @@ use Rattle.tables.specs.inner.PathViews.{rulesView, statesView}
 use Rattle.questions.specs.Part.{Found, foundBelow, labelOn}
 use Rattle.colours.specs.Descents.{ColourTable}
 use Rattle.colours.specs.StateSets.{Tried, tried, tryFrom}
-use Rattle.colour_tables.specs.ColourCells.{cellTable}
-use Rattle.targets.specs.Trials.{copyRow}
+use Rattle.colour_tables.specs.ColourCells.{copyRow, cellTable}
 
 pub record ColourView : Type 0 where
   pub view : View

@@ -7,19 +7,20 @@
 --     place-item         the place given for planner node v is where it stands; item-place: and back
 -- Assumes nothing.
 use Prim.Native.Nat.{ℕ, zero, suc, _+_, _*_, _-_, _≤_, _<_}
-use mathlib.Core.Path.{_≡_, refl, sym, ap, ap₂, _∙_, subst}
-use mathlib.Core.Bool.{Bool, true, false, _&&_}
+use mathlib.Core.Path.{_≡_, refl, sym, ap, ap₂, _∙_}
+use mathlib.Core.Bool.{true, _&&_}
 use mathlib.Core.List.{List, [], _∷_, _++_}
 use mathlib.Core.Option.{Option, none, some, Option·some-injective}
-use native.Mathlib.Decide.{decLt, ℕ-discrete}
+use native.Mathlib.Decide.{decLt}
 use native.Mathlib.Omega.{arith}
-use lib.Dec.{eqb, ltb}
+use lib.Dec.{ltb}
 use lib.ListN.{length, getD, length-append, List·getD-append}
-use lib.Seq.{getD-append-add, getD-append-seam}
+use lib.Seq.{getD-append-add}
 use borrow.Author.Tests.{eqb-true}
+use Rattle.list_laws.proofs.AppendLaws.{at-left, at-middle, at-right}
 use Rattle.trees.specs.Tree.{Tree, leaf, node, size}
 use Rattle.trees.proofs.MoveLaws.{both}
-use Rattle.planner.specs.Siblings.{Siblings, empty, sibling, count, width, image, unimage, items, places}
+use Rattle.planner.specs.Siblings.{Siblings, empty, sibling, count, image, unimage, items, places}
 use Rattle.planner.specs.Siblings.{emptyLabel}
 use Rattle.planner.specs.File.{imageLabels}
 
@@ -47,19 +48,6 @@ pub length-places : (f : Siblings) (lo : ℕ) → length (places f lo) ≡ count
 length-places empty lo = refl
 length-places (sibling a c r) lo =
     simp (length-append, length-places c lo, length-places r (lo + size (image c))) (omega arith)
-
--- what a list has at a place in the middle of three
-module _ {X : Type 0} (d : X) (xs ys zs : List X) where
-  pub at-left : (i : ℕ) → i < length xs → getD (xs ++ (ys ++ zs)) i d ≡ getD xs i d
-  at-left i h = List·getD-append xs (ys ++ zs) d i h
-
-  pub at-middle : (i j : ℕ) → i ≡ length xs + j → j < length ys → getD (xs ++ (ys ++ zs)) i d ≡ getD ys j d
-  at-middle i j e h = rw e (getD-append-add xs (ys ++ zs) j d ∙ List·getD-append ys zs d j h)
-
-  pub at-right : (i j : ℕ) → i ≡ length xs + length ys + j → getD (xs ++ (ys ++ zs)) i d ≡ getD zs j d
-  at-right i j e =
-      let q : i ≡ length xs + (length ys + j) = omega arith in
-      rw q (getD-append-add xs (ys ++ zs) (length ys + j) d ∙ getD-append-add ys zs j d)
 
 -- where node v + i of f's nodes stands, among the items of f that begin at lo
 pub record PlaceOf (f : Siblings) (v lo i : ℕ) : Type 0 where

@@ -4,19 +4,20 @@
 --       (fromRight)
 -- Assumes nothing.
 use Prim.Native.Nat.{ℕ, zero, suc, _+_, _-_, _≤_, _<_}
-use mathlib.Core.Path.{_≡_, refl, sym, ap, ap₂, _∙_, subst}
+use mathlib.Core.Path.{_≡_, refl, sym, ap, ap₂, _∙_}
 use mathlib.Core.List.{List, [], _∷_, _++_, append-assoc, append-nil}
 use mathlib.Core.Option.{Option, none, some}
 use native.Mathlib.Decide.{decLt}
 use native.Mathlib.Omega.{arith}
 use lib.ListN.{length, getD, List·getD-append}
 use lib.Seq.{getD-append-add}
-use Rattle.trees.specs.Tree.{Tree, leaf, node, size, kindsOf, labelsOf}
+use Rattle.list_laws.proofs.AppendLaws.{at-left, at-middle, at-right}
+use Rattle.trees.specs.Tree.{size, kindsOf, labelsOf}
 use Rattle.trees.proofs.NodeLaws.{length-kinds, length-labels}
 use Rattle.planner.specs.Siblings.{Siblings, empty, sibling, count, preLabels, image, items, itemLabel, itemKind}
 use Rattle.planner.specs.inner.HomeMachine.{nodeItem, readBack}
 use Rattle.planner.proofs.PreorderLaws.{length-preLabels}
-use Rattle.planner.proofs.ImageLaws.{length-items, at-left, at-middle, at-right}
+use Rattle.planner.proofs.ImageLaws.{length-items}
 use Rattle.planner.proofs.HomeMachine.{fromRight}
 
 -- place j of three runs in a row, the last of one element

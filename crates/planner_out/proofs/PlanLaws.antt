@@ -2,21 +2,21 @@
 --     lay-args        what the loop over the nodes needs
 --     plan-written    the four steps together
 -- Assumes nothing.
-use Prim.Native.Nat.{ℕ, zero, suc, _+_, _-_, _*_, _≤_, _<_}
-use mathlib.Core.Path.{_≡_, refl, sym, ap, _∙_, subst}
+use Prim.Native.Nat.{ℕ, _+_, _-_, _*_, _≤_, _<_}
+use mathlib.Core.Path.{_≡_, refl, sym, ap, _∙_}
 use mathlib.Core.List.{List, [], _∷_, _++_, append-assoc}
 use native.Mathlib.Omega.{arith}
-use lib.ListN.{length, getD, take, drop, length-drop, List·getD-append, length-take}
-use lib.Seq.{sets, length-sets, sets-eq, ext-getD, getD-take, getD-drop, getD-append-add, length-take-le}
+use lib.ListN.{length, getD, take, drop, length-drop, List·getD-append}
+use lib.Seq.{sets, length-sets, sets-eq, ext-getD, getD-take, getD-drop}
 use Rattle.trees.specs.Tree.{Tree, size, labelsOf, kindsOf}
 use Rattle.trees.proofs.NodeLaws.{length-labels, length-kinds}
+use Rattle.list_laws.proofs.AppendLaws.{getD-past}
 use Rattle.list_laws.proofs.SliceLaws.{length-part, rest-cut, append-both}
-use Rattle.formats.specs.Bytes.{le32Bytes}
-use Rattle.formats.specs.Plan.{planLength, planBytes}
+use Rattle.formats.specs.Plan.{planBytes}
 use Rattle.planner.specs.Siblings.{Siblings, count, image, emptyLabel}
 use Rattle.planner.proofs.ImageLaws.{size-image}
 use Rattle.planner_out.proofs.LayLoop.{length-labels-is}
-use Rattle.planner_out.specs.inner.Laid.{planHeader, Filled, Nodes, LayArgs, Laid, WriteArgs, PlanWritten}
+use Rattle.planner_out.specs.inner.Laid.{planHeader, Filled, LayArgs, Laid, WriteArgs, PlanWritten}
 
 -- ---- a list in its runs
 
@@ -60,12 +60,7 @@ module _ (p : List ℕ) (n : ℕ) (room : 12 ≤ length p) where
   headed-at j h = ap (λ (l : List ℕ). getD l j 0) headed ∙ List·getD-append (planHeader n) (drop 12 p) 0 j h
 
   pub headed-behind : (j : ℕ) → 12 ≤ j → getD (sets p 0 (planHeader n)) j 0 ≡ getD p j 0
-  headed-behind j h =
-      let e : j ≡ 12 + (j - 12) = omega arith in
-      ap (λ (l : List ℕ). getD l j 0) headed
-      ∙ ap (λ (i : ℕ). getD (planHeader n ++ drop 12 p) i 0) e
-      ∙ getD-append-add (planHeader n) (drop 12 p) (j - 12) 0
-      ∙ getD-drop 12 p (j - 12) 0 ∙ ap (λ (i : ℕ). getD p i 0) (sym e)
+  headed-behind j h = ap (λ (l : List ℕ). getD l j 0) headed ∙ getD-past (planHeader n) p 12 j refl h
 
 -- how long plan and labels are
 pub record Room (ls p : List ℕ) : Type 0 where

@@ -11,19 +11,19 @@ use native.Mathlib.Decide.{ℕ-discrete}
 use native.Mathlib.Omega.{arith}
 use Rattle.trees.specs.Tree.{Tree, size, kindsOf, kindAt, labelAt}
 use Rattle.trees.specs.Automaton.{Automaton, state}
-use Rattle.trees.specs.Numbering.{sub, parent, depth, ancestor, AtOrBelow, InSubtree}
+use Rattle.trees.specs.Numbering.{sub, parent, depth, ancestor, InSubtree}
 use Rattle.trees.specs.Climb.{walk}
 use Rattle.trees.specs.Tables.{stepUp}
-use Rattle.trees.proofs.NodeLaws.{Up, up, Inner, inner}
+use Rattle.trees.proofs.NodeLaws.{Up, up, Inner, inner, below-root}
 use Rattle.trees.proofs.JumpLaws.{ancestor-add, ancestor-in, ancestor-depth, ancestor-above}
 use Rattle.trees.proofs.IntervalLaws.{ancestor-interval, interval-ancestor, above-at}
-use Rattle.trees.proofs.TreeClimbs.{below-root}
 use Rattle.trees.proofs.WalkLaws.{walk-add}
 use Rattle.trees.proofs.MapLaws.{stepUp-right, stepUp-left}
 use Rattle.trees.proofs.RunLaws.{state-inner}
 use Rattle.ready.specs.Ready.{leftChild, rightChild, Closed}
-use Rattle.ready.proofs.UnderLaws.{under-self, under-trans, under-up, left-parent, right-parent, left-in, right-in, left-under, right-under}
+use Rattle.ready.proofs.UnderLaws.{under-trans, left-under, right-under}
 use Rattle.ready.proofs.HighestLaws.{Highest, is-false, path-unlisted, not-left, not-right}
+use Rattle.ready.proofs.HighestWalk.{far, way-proper, way-free, way-left, way-right}
 use Rattle.ready.proofs.SameTrees.{same-count, same-kind, same-size, same-sub}
 
 -- t is the tree, u the changed one: the same kinds, and the same label at every node that w does not tell
@@ -79,57 +79,13 @@ module _ (A : Automaton) (w : ℕ → Bool) (t u : Tree) (ch : Changes w t u) wh
 
   module _ (C : ℕ → Type 0) (closed : Closed w t C) (inside : (v : ℕ) → C v → v < size t) (c h : ℕ) (hc : c < size t)
       (H : Highest t C c h) where
-    hh : h < size t
-    hh = inside h (H .member)
-
-    far : (depth t c ≤ depth t h) × (ancestor t h (depth t h - depth t c) ≡ c)
-    far = above-at t c h hh (interval-ancestor t c h hc hh (H .below))
-
-    -- a node on the way, not yet c
-    module _ (n : ℕ) (l : n < depth t h - depth t c) where
-      y-in : ancestor t h n < size t
-      y-in = ancestor-in t h n hh
-
-      y-depth : depth t (ancestor t h n) + n ≡ depth t h
-      y-depth = ancestor-depth t h n hh (omega arith)
-
-      y-proper : ancestor t h n + 1 < size t
-      y-proper = below-root t (ancestor t h n) y-in (omega (arith, y-depth))
-
-      y-over : InSubtree t (ancestor t h n) h
-      y-over = ancestor-interval t (ancestor t h n) h n hh (omega arith) refl
-
-      up-n : Up t (ancestor t h n) (parent t (ancestor t h n))
-      up-n = up t (ancestor t h n) y-proper
-
-      c-over : InSubtree t c (parent t (ancestor t h n))
-      unfolding ancestor
-      c-over =
-          let k : (depth t h - depth t c - suc n) + suc n ≡ depth t h - depth t c = omega arith in
-          ancestor-interval t c (parent t (ancestor t h n)) (depth t h - depth t c - suc n) (up-n .below) (omega (arith, up-n .deeper, y-depth))
-          (ancestor-add t h (suc n) (depth t h - depth t c - suc n) ∙ ap (ancestor t h) k ∙ far .1)
-
-      over-h : h < parent t (ancestor t h n)
-      over-h = omega (arith, up-n .above, ancestor-above t h n hh)
-
-      kind : kindAt t (parent t (ancestor t h n)) ≡ 1
-      kind = up-n .inside
-
-      walk-step : stepUp A t (ancestor t h n) (state A (sub u (ancestor t h n))) ≡ state A (sub u (parent t (ancestor t h n)))
-      walk-step =
-          let p : ℕ = parent t (ancestor t h n) in
-          changed-up (ancestor t h n) y-proper
-          (path-unlisted w t C closed inside c h hc H p (up-n .below) c-over over-h)
-          (λ v hv wv e q.
-          let r : rightChild p ≡ ancestor t h n = omega arith in
-          not-left w t C closed inside c h hc H p (up-n .below) kind c-over v hv wv
-          (under-trans t c p v hc (up-n .below) hv c-over (left-under t p (up-n .below) kind v q))
-          (omega (arith, up-n .below)) (subst (λ (x : ℕ). InSubtree t x h) (sym r) y-over) q)
-          (λ v hv wv e q.
-          let r : ancestor t h n ≡ leftChild t p = elim (up-n .child) [ inl z ↦ absurd (e z) | inr z ↦ omega arith ] in
-          not-right w t C closed inside c h hc H p (up-n .below) kind c-over v hv wv
-          (under-trans t c p v hc (up-n .below) hv c-over (right-under t p (up-n .below) kind v q))
-          (omega (arith, y-in)) (subst (λ (x : ℕ). InSubtree t x h) r y-over) q)
+    walk-step : (n : ℕ) → n < depth t h - depth t c
+        → stepUp A t (ancestor t h n) (state A (sub u (ancestor t h n))) ≡ state A (sub u (parent t (ancestor t h n)))
+    walk-step n l =
+        changed-up (ancestor t h n) (way-proper w t C closed inside c h hc H n l)
+        (way-free w t C closed inside c h hc H n l)
+        (λ v hv wv e q. way-left w t C closed inside c h hc H n l v hv e q wv)
+        (λ v hv wv e q. way-right w t C closed inside c h hc H n l v hv e q wv)
 
     walk-in : (n : ℕ) → n ≤ depth t h - depth t c → walk (stepUp A t) t h n (state A (sub u h)) ≡ state A (sub u (ancestor t h n))
     unfolding walk ancestor
@@ -142,4 +98,4 @@ module _ (A : Automaton) (w : ℕ → Bool) (t u : Tree) (ch : Changes w t u) wh
         ∙ walk-step n (omega arith)
 
     pub changed-walk : walk (stepUp A t) t h (depth t h - depth t c) (state A (sub u h)) ≡ state A (sub u c)
-    changed-walk = walk-in (depth t h - depth t c) (omega arith) ∙ ap (λ (x : ℕ). state A (sub u x)) (far .1)
+    changed-walk = walk-in (depth t h - depth t c) (omega arith) ∙ ap (λ (x : ℕ). state A (sub u x)) (far w t C closed inside c h hc H .1)

@@ -2,6 +2,7 @@ pub mod UnderLaws
 pub mod HighestLaws
 pub mod SameTrees
 pub mod BelowLaws
+pub mod HighestWalk
 pub mod ChangedRun
 pub mod ClosedForm
 pub mod PartsRun

@@ -72,7 +72,7 @@ state-new (q ∷ ps) p x e n =
     rw (ne-eqb (q .node) x (λ z. n (List·Memᴰ·head (sym z)))) (state-new ps p x e (λ m. n (List·Memᴰ·tail m)))
 
 -- of a rising list, what is below v stands before it, and v stands there once
-rising-first : (done : List ℕ) (v : ℕ) (rest : List ℕ) (lo x : ℕ) → Rising lo (done ++ (v ∷ rest))
+pub rising-first : (done : List ℕ) (v : ℕ) (rest : List ℕ) (lo x : ℕ) → Rising lo (done ++ (v ∷ rest))
     → List·Memᴰ x (done ++ (v ∷ rest)) → x < v → List·Memᴰ x done
 rising-first [] v rest lo x r m l = elim (List·Memᴰ·cases-cons m) [
   | inl e ↦ absurd (omega arith)
@@ -83,7 +83,7 @@ rising-first (d ∷ done) v rest lo x r m l = elim (List·Memᴰ·cases-cons m) 
   | inr k ↦ List·Memᴰ·tail (rising-first done v rest (suc d) x (r .1) k l)
 ]
 
-rising-not : (done : List ℕ) (v : ℕ) (rest : List ℕ) (lo : ℕ) → Rising lo (done ++ (v ∷ rest)) → List·Memᴰ v done → ⊥
+pub rising-not : (done : List ℕ) (v : ℕ) (rest : List ℕ) (lo : ℕ) → Rising lo (done ++ (v ∷ rest)) → List·Memᴰ v done → ⊥
 rising-not [] v rest lo r m = List·Memᴰ·not-nil m
 rising-not (d ∷ done) v rest lo r m = elim (List·Memᴰ·cases-cons m) [
   | inl e ↦ omega (arith, rising-above (done ++ (v ∷ rest)) (suc d) v (r .1) (Memᴰ·append-right done (List·Memᴰ·head refl)))

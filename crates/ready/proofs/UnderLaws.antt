@@ -13,10 +13,9 @@ use native.Mathlib.Decide.{ℕ-discrete, decLt}
 use native.Mathlib.Omega.{arith}
 use Rattle.trees.specs.Tree.{Tree, size, kindAt}
 use Rattle.trees.specs.Numbering.{sub, parent, depth, ancestor, AtOrBelow, InSubtree}
-use Rattle.trees.proofs.NodeLaws.{Inner, inner, Up, up, size-pos, sub-size, sub-root, depth-root}
-use Rattle.trees.proofs.JumpLaws.{ancestor-add, ancestor-in, ancestor-depth, ancestor-above}
-use Rattle.trees.proofs.IntervalLaws.{ancestor-interval, interval-ancestor, above-at}
-use Rattle.trees.proofs.TreeClimbs.{below-root}
+use Rattle.trees.proofs.NodeLaws.{Inner, inner, Up, up, size-pos, sub-root, below-root}
+use Rattle.trees.proofs.JumpLaws.{ancestor-add, ancestor-depth}
+use Rattle.trees.proofs.IntervalLaws.{ancestor-interval, interval-ancestor}
 use Rattle.ready.specs.Ready.{leftChild, rightChild, Meet}
 
 module _ (t : Tree) where

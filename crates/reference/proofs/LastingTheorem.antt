@@ -229,12 +229,16 @@ module _ (z : Sizes) (q : Question) (w : Inputs) (es : List Call) (zs : List Ans
   lasts-from o c tr l (k ∷ ds) (a ∷ ys) n h f =
       one (λ i ps m g. lasts-from o i ps m ds ys (omega arith) g (f .1)) (iteration z o q c tr l k a (h .0) (f .0))
     where
-      one : ((i : ℕ) (ps : List Part) → i < partCount q → Agrees (going z o q i ps) (ds ++ (advance w ∷ es)) (ys ++ (finished ∷ zs)) → AnswerLasts (freshAnswer q) es zs)
+      one : ((i : ℕ) (ps : List Part) → i < partCount q
+          → Agrees (going z o q i ps) (ds ++ (advance w ∷ es)) (ys ++ (finished ∷ zs))
+          → AnswerLasts (freshAnswer q) es zs)
           → Iteration z o q c tr a (after (step (going z o q c tr) k) a) → AnswerLasts (freshAnswer q) es zs
       one later (waits m e d) = later c tr l (subst (λ (b : Reference). Agrees b (ds ++ (advance w ∷ es)) (ys ++ (finished ∷ zs))) d (h .1))
       one later (looks m e d) = later c tr l (subst (λ (b : Reference). Agrees b (ds ++ (advance w ∷ es)) (ys ++ (finished ∷ zs))) d (h .1))
       one later (goes ps e m d) = later (suc c) ps m (subst (λ (b : Reference). Agrees b (ds ++ (advance w ∷ es)) (ys ++ (finished ∷ zs))) d (h .1))
-      one later (ends ps e m d) = absurd (over-no-finish (suc c) ps ds ys (omega arith) (subst (λ (b : Reference). Agrees b (ds ++ (advance w ∷ es)) (ys ++ (finished ∷ zs))) d (h .1)) (f .1))
+      one later (ends ps e m d) =
+          absurd (over-no-finish (suc c) ps ds ys (omega arith)
+          (subst (λ (b : Reference). Agrees b (ds ++ (advance w ∷ es)) (ys ++ (finished ∷ zs))) d (h .1)) (f .1))
 
 -- ---- the statements
 

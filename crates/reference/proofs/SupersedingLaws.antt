@@ -62,7 +62,8 @@ module _ (x : Inputs) (vs bs : List ℕ) where
   unfolding freshAnswer
   fresh-superseded =
       ap₂ (λ (t : Tree) (ms : List ℕ). outcomeAnswer (state (ruleAutomaton (x .rules)) t) (accepts (ruleAutomaton (x .rules)) t)
-      (length ms) (questionLinks (planTree (x .plan)) ms) (questionPassed (planTree (x .plan)) ms)) tree-superseded (roots-superseded (planTree (x .plan)) (labelsIn (x .plan)) vs bs)
+      (length ms) (questionLinks (planTree (x .plan)) ms) (questionPassed (planTree (x .plan)) ms)) tree-superseded
+      (roots-superseded (planTree (x .plan)) (labelsIn (x .plan)) vs bs)
 
 -- ---- the refusal of a Start
 

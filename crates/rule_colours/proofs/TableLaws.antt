@@ -9,7 +9,8 @@ use mathlib.Core.List.{List, _++_, append-assoc}
 use native.Mathlib.Omega.{arith}
 use lib.ListN.{length, getD, take, drop, length-drop, take-append-drop, List·getD-append}
 use lib.Pow.{pow-mono}
-use lib.Seq.{ext-getD, length-take-le, getD-append-add, getD-drop, getD-take, drop-drop}
+use lib.Seq.{ext-getD, length-take-le, getD-drop, getD-take, drop-drop}
+use Rattle.list_laws.proofs.AppendLaws.{getD-past}
 use Rattle.list_laws.proofs.RowLaws.{stride}
 use Rattle.trees.specs.Tree.{Tree, kindsOf, size}
 use Rattle.trees.proofs.TableRows.{stateTableOf-state}
@@ -37,15 +38,6 @@ use Rattle.rule_colours.specs.inner.Filled.{SetFillArgs, SetsFilled, All
 use Rattle.rule_colours.proofs.BuildLaws.{accepted, table-passed, length-setNumbers, length-setBytes}
 
 -- ---- a table in front of a buffer
-
--- past the table the buffer is as it was
-past-table : (x a : List ℕ) (j : ℕ) → length x ≤ j → getD (x ++ drop (length x) a) j 0 ≡ getD a j 0
-past-table x a j h =
-    let i : j ≡ length x + (j - length x) = omega arith in
-    let q : length x + (j - length x) ≡ j = omega arith in
-    ap (λ (y : ℕ). getD (x ++ drop (length x) a) y 0) i
-    ∙ getD-append-add x (drop (length x) a) (j - length x) 0
-    ∙ getD-drop (length x) a (j - length x) 0 ∙ ap (λ (y : ℕ). getD a y 0) q
 
 -- two tables in front of a buffer: the first n bytes, and what follows them
 two-tables : (a x y b : List ℕ) (n k : ℕ) → take n a ≡ x → drop n a ≡ y ++ drop k (drop n b)
@@ -152,7 +144,7 @@ module _ (p r : List ℕ) (l m : ℕ) (ok : firstNo (ruleColourChecks p r l m) �
           ∙ List·getD-append (builtNodeTable p) (drop (length (builtNodeTable p)) before) 0 j (omega arith))
           (F .cells)
           (λ j h. F .rest j h ∙ ap (λ (x : List ℕ). getD x j 0) n-is
-          ∙ past-table (builtNodeTable p) before j (omega arith))
+          ∙ getD-past (builtNodeTable p) before (length (builtNodeTable p)) j refl (omega arith))
 
       bytes-room : base + size t * count ≤ length before′
       bytes-room = rw (n-size, xm) (accepted p r l m ok .5)
@@ -181,7 +173,8 @@ module _ (p r : List ℕ) (l m : ℕ) (ok : firstNo (ruleColourChecks p r l m) �
           getD-drop base bytes′ (v * count + c) 0 ∙ ap (λ (x : ℕ). getD bytes′ x 0) e ∙ F .rows v h c i)
           (λ j h. getD-drop base bytes′ j 0 ∙ F .past (base + j) (omega arith)
           ∙ ap (λ (x : List ℕ). getD x (base + j) 0) b-is
-          ∙ past-table (builtStateTable p r) before′ (base + j) (omega arith) ∙ sym (getD-drop base before′ j 0))
+          ∙ getD-past (builtStateTable p r) before′ (length (builtStateTable p r)) (base + j) refl (omega arith)
+          ∙ sym (getD-drop base before′ j 0))
 
       pub all-written : SetColoursWritten p r before before′ numbers′ bytes′
       all-written =

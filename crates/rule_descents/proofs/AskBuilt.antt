@@ -52,6 +52,7 @@ use Rattle.model.proofs.Facts.{SettledInputs}
 use Rattle.model.proofs.LayersHold.{cells, reads}
 use Rattle.reference.specs.Reference.{Question, asked, givenBy}
 use Rattle.reference.proofs.FreshLaws.{rules-inside, sound-below, given-run, whole-state}
+use Rattle.colour_tables.specs.ColourCells.{copyRow}
 use Rattle.colours.specs.StateSets.{Tried, tried, setStep, setCount, setCopies}
 use Rattle.colours.proofs.CopyLaws.{copy-colouring}
 use Rattle.colours.proofs.DescentLaws.{AllLe, sum-le}
@@ -60,7 +61,6 @@ use Rattle.colours.proofs.Theorems.{links-limit}
 use Rattle.rule_colours.specs.Build.{setNumbersLength, setBytesLength, setColoursFit, builtSetNumbers, builtSetBytes}
 use Rattle.rule_colours.proofs.BuildLaws.{length-setNumbers, length-setBytes}
 use Rattle.rule_colours.proofs.ColouredLaws.{coloured-cells, coloured-copies}
-use Rattle.targets.specs.Trials.{copyRow}
 use Rattle.part_descents.specs.Part.{ColourView, handledFrom}
 use Rattle.part_descents.specs.OneSided.{oneSided}
 use Rattle.part_descents.proofs.TriesBuilt.{SidesBuilt}

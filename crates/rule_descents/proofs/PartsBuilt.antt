@@ -21,11 +21,11 @@ use Rattle.model.proofs.ResultLaws.{states-more, last-more, below-more}
 use Rattle.model.proofs.LayersHold.{states-small}
 use Rattle.reference.proofs.FreshLaws.{part-below}
 use Rattle.colours.specs.StateSets.{Tried, tried}
-use Rattle.colours.proofs.DescentLaws.{AllLe}
+use Rattle.colours.proofs.DescentLaws.{AllLe, all-append}
 use Rattle.part_descents.specs.Part.{ColourView, sidesIn, partTried, handledFrom}
 use Rattle.part_descents.specs.OneSided.{isOneSided, oneSided}
 use Rattle.part_descents.proofs.TriesBuilt.{SidesBuilt}
-use Rattle.part_descents.proofs.PartBuilt.{PartIs, all-append, part-built}
+use Rattle.part_descents.proofs.PartBuilt.{PartIs, part-built}
 
 module _ (L : ColourView) (G : Given) (u : Tree) (R : Reads (L .view) G) (RG : RunGiven G u)
     (S : StaysInside (G .automaton)) (four : G .automaton .states ≤ 4)

@@ -3,31 +3,12 @@
 use crate::answers::RuleDescending;
 use crate::checks::check_asked;
 use crate::parts::all_by_colours;
-use changes::differing::differing;
+use changed_roots::roots_left;
 use formats::bytes::read32;
-use questions::roots::Rooted;
-use questions::roots::roots;
 use set_states::sets::set_count;
 ghost use mathlib.Core.Path.{_≡_};
-ghost use Prim.Native.Nat.{_*_};
-ghost use lib.ListN.{take, drop};
-ghost use Rattle.changes.specs.inner.LastDiffering.{givenDiffering};
-ghost use Rattle.questions.specs.Promises.{RootsDone};
 ghost use Rattle.rule_descents.specs.Promise.{linksKept, RuleAskDone};
-ghost use Rattle.rule_descents.specs.inner.Args.{LeftArgs, RootArgs, LentArgs, answeredFor, answeredOn};
-
-// The roots of the parts of the listed nodes whose label, after superseding, is not the plan's. The others are no
-// change.
-fn roots_left(n: usize, plan: &[u8], node_table: &[u16], nodes: &[u16], labels: &[u8]) -> Rooted
-    requires { ⌜ LeftArgs n (now plan) (now «node_table») ⌝ }
-    ensures { λ r. ⌜ RootsDone n (take (n * 4) (now («node_table» .entry)))
-        (givenDiffering (take n (drop 12 (now (plan .entry)))) (now (nodes .entry)) (now (labels .entry))) r ⌝ }
-{
-    let left = differing(&plan[12..12 + n], nodes, labels);
-    let m = left.count;
-    let kept = left.nodes;
-    roots(n, &node_table[..n * 4], &kept[..m])
-}
+ghost use Rattle.rule_descents.specs.inner.Args.{RootArgs, LentArgs, answeredFor, answeredOn};
 
 // The answer for these roots: the runs of plan and rules, the tables without their excess and the copies of the colours
 // are handed on as parts.

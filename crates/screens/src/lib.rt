@@ -1,2 +1,17 @@
-// Eight screens on one machine (document 02, S-8): their calls, records and reference models as definitions (specs/), and the theorems
-// (proofs/). No code is here.
+// Eight screens on one machine (document 02, S-8): their calls, records and reference models as definitions (specs/),
+// and
+// the theorems (proofs/). Of the code only the order of the screens is here, for the calls in place and on record
+// bytes.
+ghost use mathlib.Core.Path.{_≡_};
+ghost use Prim.Native.Nat.{_<_};
+ghost use Rattle.screens.specs.ScreenCalls.{onePast};
+
+// One past a screen, 0 past 7.
+pub fn one_past(i: usize) -> usize
+    ensures { λ r. ⌜ (r ≡ onePast i) × (r < 8) ⌝ }
+{
+    if i < 7 {
+        return i + 1;
+    }
+    0
+}

@@ -86,7 +86,8 @@ module _ (s : Session) (h : Shaped s) (x : Inputs) (b : Bool) (may : b ≡ (vali
     number = rw v on
 
     module _ (a : Building) (nodeTable′ stateTable′ : List ℕ)
-        (D : BuildDone (firstNo checks) (builtNodeTable (x .plan)) (builtStateTable (x .plan) (x .rules)) (x .nodeTable) (x .stateTable) a nodeTable′ stateTable′) where
+        (D : BuildDone (firstNo checks) (builtNodeTable (x .plan)) (builtStateTable (x .plan) (x .rules)) (x .nodeTable)
+        (x .stateTable) a nodeTable′ stateTable′) where
       done : (k : calls.Answer) (t : Session) → CallDone s (load x) k t → LoadDone s x k t nodeTable′ stateTable′
       done k t c = record {
         call = c;

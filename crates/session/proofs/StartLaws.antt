@@ -44,7 +44,8 @@ use Rattle.session.specs.Records.{phaseOf, phaseTo, sizesOf, stageIn, re
 use Rattle.session.specs.Answers.{startAnswer}
 use Rattle.session.specs.Promises.{CallDone}
 use Rattle.session.specs.inner.Shapes.{Shaped, HeaderArgs}
-use Rattle.session.specs.inner.Steps.{ListArgs, RootsArgs, startedOf}
+use Rattle.changed_roots.specs.Args.{RootsArgs}
+use Rattle.session.specs.inner.Steps.{ListArgs, startedOf}
 use Rattle.session.proofs.Holds.{Sized, holds-of, tails-of}
 use Rattle.session.proofs.ActLaws.{few-roots, start-sized}
 use Rattle.session.proofs.CallLaws.{unless-done, refused-done, proceeds-done}
@@ -90,7 +91,9 @@ module _ (s : Session) (h : Shaped s) (x : Inputs) (vs bs : List ℕ) (b : Bool)
     on = firstNo-yes 1 (mayStart (phaseOf (s .head .phase))) (check 17 (fits (sizesOf s) x) ∷ (list-checks ++ last)) m
 
     module _ (f : Bool)
-        (fit : f ≡ buffersFit (s .head .sizes .n) (s .head .sizes .s) (ruleLength (s .head .sizes .s) (s .head .sizes .k)) (length (x .plan)) (length (x .rules)) (length (x .nodeTable)) (length (x .stateTable))) where
+        (fit : f ≡ buffersFit (s .head .sizes .n) (s .head .sizes .s)
+        (ruleLength (s .head .sizes .s) (s .head .sizes .k)) (length (x .plan)) (length (x .rules))
+        (length (x .nodeTable)) (length (x .stateTable))) where
       fits-is : fits (sizesOf s) x ≡ f
       unfolding fits buffersFit
       fits-is = sym fit
@@ -102,9 +105,11 @@ module _ (s : Session) (h : Shaped s) (x : Inputs) (vs bs : List ℕ) (b : Bool)
           (on ∙ firstNo-no 17 (fits (sizesOf s) x) (list-checks ++ last) (fits-is ∙ not-true f g))
 
       module _ (yes : not f ≡ false) where
-        lengths : Lengths (s .head .sizes .n) (s .head .sizes .s) (ruleLength (s .head .sizes .s) (s .head .sizes .k)) (length (x .plan)) (length (x .rules)) (length (x .nodeTable)) (length (x .stateTable))
+        lengths : Lengths (s .head .sizes .n) (s .head .sizes .s) (ruleLength (s .head .sizes .s) (s .head .sizes .k))
+            (length (x .plan)) (length (x .rules)) (length (x .nodeTable)) (length (x .stateTable))
         lengths =
-            lengths-are (s .head .sizes .n) (s .head .sizes .s) (ruleLength (s .head .sizes .s) (s .head .sizes .k)) (length (x .plan)) (length (x .rules)) (length (x .nodeTable)) (length (x .stateTable))
+            lengths-are (s .head .sizes .n) (s .head .sizes .s) (ruleLength (s .head .sizes .s) (s .head .sizes .k))
+            (length (x .plan)) (length (x .rules)) (length (x .nodeTable)) (length (x .stateTable))
             (sym fit ∙ not-false f yes)
 
         pub start-room : RootsArgs (s .head .sizes .n) (x .plan) (x .nodeTable)

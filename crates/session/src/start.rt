@@ -1,5 +1,5 @@
-// Start: checks 1, 17, 12 to 14 and 18, then the roots of the parts. On sound tables they are always found. The list stays whole in the
-// record; only the roots are those of the nodes that change.
+// Start: checks 1, 17, 12 to 14 and 18, then the roots of the parts. On sound tables they are always found. The list
+// stays whole in the record; only the roots are those of the nodes that change.
 use crate::answers::StartAnswer;
 use crate::answers::Started;
 use crate::fill::padded_labels;
@@ -12,21 +12,15 @@ use crate::state::Last;
 use crate::state::Phase;
 use crate::state::Session;
 use crate::state::Sizes;
-use changes::differing::differing;
+use changed_roots::roots_left;
 use formats::buffers::rule_buffers_fit;
 use formats::lists::check_list;
-use questions::roots::Rooted;
-use questions::roots::roots;
-ghost use Prim.Native.Nat.{_*_};
 ghost use mathlib.Core.Path.{_≡_};
-ghost use lib.ListN.{take, drop};
-ghost use Rattle.changes.specs.inner.LastDiffering.{givenDiffering};
-ghost use Rattle.questions.specs.Promises.{RootsDone};
 ghost use Rattle.model.specs.Calls as calls;
 ghost use Rattle.session.specs.Answers.{startAnswer};
 ghost use Rattle.session.specs.Promises.{CallDone};
 ghost use Rattle.formats.specs.Inputs.{inputsOf};
-ghost use Rattle.session.specs.inner.Steps.{ListArgs, RootsArgs, startedOf};
+ghost use Rattle.session.specs.inner.Steps.{ListArgs, startedOf, notStarted};
 
 // A running session with its question and no part handled. Nothing of an earlier question is left, but the last finished answer.
 fn started(
@@ -64,17 +58,14 @@ fn started(
     }
 }
 
-// The roots of the parts of the listed nodes whose label, after superseding, is not the plan's. The others are no change.
-fn roots_left(n: usize, plan: &[u8], node_table: &[u16], nodes: &[u16], labels: &[u8]) -> Rooted
-    requires { ⌜ RootsArgs n (now plan) (now «node_table») ⌝ }
-    ensures { λ r. ⌜
-        RootsDone n (take (n * 4) (now («node_table» .entry)))
-        (givenDiffering (take n (drop 12 (now (plan .entry)))) (now (nodes .entry)) (now (labels .entry))) r ⌝ }
+// A refusal's number, with the record as it was.
+fn refused(session: Session, number: u8) -> Started
+    ensures { λ r. ⌜ r ≡ notStarted session number ⌝ }
 {
-    let left = differing(&plan[12..12 + n], nodes, labels);
-    let m = left.count;
-    let kept = left.nodes;
-    roots(n, &node_table[..n * 4], &kept[..m])
+    Started {
+        answer: StartAnswer::Refused(number),
+        session,
+    }
 }
 
 impl Session {
@@ -98,10 +89,7 @@ impl Session {
         let phase = h.phase;
         let may = may_start(phase);
         if !allowed(may, h, &self.nodes, &self.labels, &self.roots, &self.states) {
-            return Started {
-                answer: StartAnswer::Refused(1),
-                session: self,
-            };
+            return refused(self, 1);
         }
         let n = h.sizes.n as usize;
         let s = h.sizes.s as usize;
@@ -115,23 +103,14 @@ impl Session {
             node_table.len(),
             state_table.len(),
         ) {
-            return Started {
-                answer: StartAnswer::Refused(17),
-                session: self,
-            };
+            return refused(self, 17);
         }
-        let refused = check_list(n, k, nodes, labels);
-        if refused != 0 {
-            return Started {
-                answer: StartAnswer::Refused(refused),
-                session: self,
-            };
+        let no = check_list(n, k, nodes, labels);
+        if no != 0 {
+            return refused(self, no);
         }
         if !tables_sound(n, s, k, plan, rules, node_table, state_table) {
-            return Started {
-                answer: StartAnswer::Refused(18),
-                session: self,
-            };
+            return refused(self, 18);
         }
         let found = roots_left(n, plan, node_table, nodes, labels);
         let parts = found.count as u8;

@@ -30,9 +30,9 @@ pub struct Last {
     pub outcome: Outcome,
 }
 
-// The record without its arrays: the state, the yes or no once answered, N, S and K, how many changes are listed, how many parts there are,
-// how many are handled, the links and the nodes passed over so far, and the last finished answer. Tests take it beside the lent arrays, so that the record is not
-// copied for them.
+// The record without its arrays: the state, the yes or no once answered, N, S and K, how many changes are listed, how
+// many parts there are, how many are handled, the links and the nodes passed over so far, and the last finished answer.
+// Tests take it beside the lent arrays, so that the record is not copied for them.
 pub struct Head {
     pub phase: Phase,
     pub yes: bool,

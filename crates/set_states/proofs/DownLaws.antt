@@ -69,6 +69,8 @@ module _ (row ls b inn st : List ℕ) (n s k count v : ℕ) (A : DownArgs row ls
           ∙ ap (λ (m : ℕ). setOf m (λ x. member (getD row c 0) (getD (take s ups) x 0))) count-is
           ∙ setOf-ext s (λ x. member (getD row c 0) (getD (take s ups) x 0))
           (λ x. member (getD row c 0) (nearValue ls b inn s k st v x)) (λ x i. ap (member (getD row c 0)) (up-is x i))
-          ∙ sym (ap (λ (t : Bool). cond t (getD row c 0) (setOf s (λ x. member (getD row c 0) (nearValue ls b inn s k st v x))))
+          ∙ sym
+          (ap (λ (t : Bool). cond t (getD row c 0)
+          (setOf s (λ x. member (getD row c 0) (nearValue ls b inn s k st v x))))
           (ne-eqb (v + 1) n e));
     }

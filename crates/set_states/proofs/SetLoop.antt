@@ -32,7 +32,8 @@ use Rattle.set_states.proofs.StepLaws.{down-is}
 -- the nodes from v on are done, for every tree and rule table that was given
 abbrev pub Sets : List ℕ → List ℕ → ℕ → ℕ → ℕ → ℕ → List ℕ → List ℕ → ℕ → List ℕ → List ℕ → Type 0
 Sets ls inn s k count base e₀ m₀ v b m =
-    (lv mk : List ℕ) (t : Tree) → Prepared s k lv inn mk t (kindsOf t) ls m₀ e₀ → SetsFrom s k lv inn mk count base t v e₀ m₀ b m
+    (lv mk : List ℕ) (t : Tree) → Prepared s k lv inn mk t (kindsOf t) ls m₀ e₀
+    → SetsFrom s k lv inn mk count base t v e₀ m₀ b m
 
 module _ (ls inn : List ℕ) (s k count base : ℕ) (e₀ m₀ : List ℕ) (A : SetArgs ls inn s k count base m₀ e₀) where
   keeps : (lv mk : List ℕ) (t : Tree) (v q : ℕ) → q < count → setStep (treeAutomaton s k lv inn mk) t v q < count

@@ -47,7 +47,8 @@ left-in s k x a q m hx ha hq r =
 
 module _ (ls b inn st : List ℕ) (s k v p a : ℕ) (ep : p ≡ parentCell b v) (ea : a ≡ getD ls p 0) (ups : List ℕ) where
   pub ups-right : v + 1 ≡ p → (z : ℕ) → z ≡ sizeCell b v
-      → UpsTo s (λ q. getD inn ((stateCell s st (v - z) * k + a) * s + q * 1) 0) ups → UpsTo s (nearValue ls b inn s k st v) ups
+      → UpsTo s (λ q. getD inn ((stateCell s st (v - z) * k + a) * s + q * 1) 0) ups
+      → UpsTo s (nearValue ls b inn s k st v) ups
   unfolding nearValue
   ups-right h z e U = record {
     long = U .long;
@@ -55,13 +56,15 @@ module _ (ls b inn st : List ℕ) (s k v p a : ℕ) (ep : p ≡ parentCell b v) 
   }
 
   pub ups-left : (v + 1 ≡ p → ⊥)
-      → UpsTo s (λ q. getD inn (a * s + stateCell s st (p - 1) + q * (k * s)) 0) ups → UpsTo s (nearValue ls b inn s k st v) ups
+      → UpsTo s (λ q. getD inn (a * s + stateCell s st (p - 1) + q * (k * s)) 0) ups
+      → UpsTo s (nearValue ls b inn s k st v) ups
   unfolding nearValue
   ups-left h U = record { long = U .long; cells = λ q l. rw (← ep, ← ea, ne-eqb (v + 1) p h) (U .cells q l) }
 
 -- ---- what is read of the sibling u, a node below p
 
-module _ (ls b inn st : List ℕ) (s k v : ℕ) (A : UpArgs ls b inn st s k v) (p : ℕ) (ep : p ≡ parentCell b v) (u : ℕ) (h : u < p) where
+module _ (ls b inn st : List ℕ) (s k v : ℕ) (A : UpArgs ls b inn st s k v) (p : ℕ) (ep : p ≡ parentCell b v) (u : ℕ)
+    (h : u < p) where
   pub place-small : u * (s + 1) ≤ 327675
   place-small =
       let few : s + 1 ≤ 5 = omega (arith, A .few) in

@@ -31,7 +31,8 @@ pub fn write_sets(
 )
     requires { ⌜ SetArgs (now labels) (now inner) s k count base (now numbers) (now bytes) ⌝ }
     ensures { λ _. ⌜ ((lv mk : List ℕ) (t : Tree)
-        → Prepared s k lv (now (inner .entry)) mk t (kindsOf t) (now (labels .entry)) (now (numbers .entry)) (now (bytes .entry))
+        → Prepared s k lv (now (inner .entry)) mk t (kindsOf t) (now (labels .entry)) (now (numbers .entry))
+        (now (bytes .entry))
         → SetsFrom s k lv (now (inner .entry)) mk count base t 0 (now (bytes .entry)) (now (numbers .entry))
         (now (bytes .exit)) (now (numbers .exit))) ⌝ }
 {

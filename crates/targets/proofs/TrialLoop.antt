@@ -22,34 +22,15 @@ use Rattle.colours.specs.Descents.{ColourTable, Descent, drops, links, sum, des
 use Rattle.colours.specs.StateSets.{member, Tried, tried, targetColour, setAt, afterTrial, tryOne, tryFrom}
 use Rattle.colours.proofs.DescentLaws.{sum-le}
 use Rattle.colours.proofs.SetLaws.{try-uncoloured, try-lost, try-found, try-on}
-use Rattle.colour_tables.specs.ColourCells.{cellTable}
+use Rattle.colour_tables.specs.ColourCells.{copyRow, cellTable}
 use Rattle.colour_tables.proofs.RangeLaws.{descend-low}
 use Rattle.descents.specs.declared.descend.Descended.{Descended}
 use Rattle.descents.specs.Descended.{descendedOf}
+use Rattle.descents.proofs.DescendedLaws.{descended-none, descended-some}
 use Rattle.targets.specs.declared.trials.Trial.{Trial}
 use Rattle.targets.specs.declared.trials.Tested.{Tested}
-use Rattle.targets.specs.Trials.{copyRow, trialOf, TargetArgs, Outcome, TestDone, TargetsDone}
+use Rattle.targets.specs.Trials.{trialOf, TargetArgs, Outcome, TestDone, TargetsDone}
 use Rattle.targets.proofs.DescentBounds.{Short, descend-few}
-
--- ---- a descent as the code has it
-
-descended-none : (o : Option Descent) (d : Descended) → d ≡ descendedOf o → d .ok ≡ false → o ≡ none
-unfolding descendedOf
-descended-none none d e f = refl
-descended-none (some x) d e f = absurd (true-false (sym (ap (λ (y : Descended). y .ok) e) ∙ f))
-
-descended-some : (o : Option Descent) (d : Descended) → d ≡ descendedOf o → d .ok ≡ true
-    → (x : Descent) × (o ≡ some x) × (d .colour ≡ x .colour) × (d .drops ≡ drops x) × (d .links ≡ links x)
-unfolding descendedOf
-descended-some none d e f = absurd (true-false (sym f ∙ ap (λ (y : Descended). y .ok) e))
-descended-some (some x) d e f = (
-  x,
-  refl,
-  ap (λ (y : Descended). y .colour) e,
-  ap (λ (y : Descended). y .drops) e,
-  ap (λ (y : Descended). y .links)
-      e,
-)
 
 -- what holds of every number holds of a part's
 taken-most : (l : List ℕ) (i j b : ℕ) → ((k : ℕ) → getD l k 0 ≤ b) → getD (take i l) j 0 ≤ b

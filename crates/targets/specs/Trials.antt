@@ -1,6 +1,5 @@
 -- Trials of target states on lent numbers and copies, as the code has them.
 --
--- copyRow m copies v == node v's copy, where each has m states
 -- trialOf o == the answer for what trials found; not ok where there is none
 -- TargetArgs, TargetsArgs == what one trial reads, and what all read, is inside: at most 16 colours, four states
 -- Outcome T rows c w q x r == what came of one trial, with few drops and links; TestDone == that, or that it has no end
@@ -12,14 +11,11 @@ use mathlib.Core.Path.{_≡_}
 use mathlib.Core.Bool.{true, false, cond}
 use mathlib.Core.List.{List}
 use mathlib.Core.Option.{Option, none, some}
-use lib.ListN.{length, take, drop}
+use lib.ListN.{length}
 use Rattle.colours.specs.Descents.{ColourTable, sum}
 use Rattle.colours.specs.StateSets.{Tried, tried, afterTrial, tryOne, tryFrom}
 use Rattle.targets.specs.declared.trials.Trial.{Trial}
 use Rattle.targets.specs.declared.trials.Tested.{Tested}
-
-abbrev pub copyRow : ℕ → List ℕ → ℕ → List ℕ
-copyRow m copies v = take m (drop (v * m) copies)
 
 unfoldable pub trialOf : Option Tried → Trial
 trialOf none = record { ok = false; state = 0; drops = 0; links = 0 }

@@ -4,8 +4,8 @@ use descents::descend::descend_from;
 use set_steps::bits::bit_of;
 ghost use mathlib.Core.Path.{_≡_};
 ghost use Prim.Native.Nat.{_^_, _<_};
-ghost use Rattle.colour_tables.specs.ColourCells.{cellTable};
-ghost use Rattle.targets.specs.Trials.{copyRow, TargetArgs, TestDone, TargetsArgs, TargetsDone};
+ghost use Rattle.colour_tables.specs.ColourCells.{copyRow, cellTable};
+ghost use Rattle.targets.specs.Trials.{TargetArgs, TestDone, TargetsArgs, TargetsDone};
 
 // The state found, with the drops of all trials and the links of their searches; or that there is none.
 pub struct Trial {

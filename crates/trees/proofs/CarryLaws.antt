@@ -18,10 +18,10 @@ use Rattle.trees.specs.Jumps.{jump, jumpDepth}
 use Rattle.trees.specs.Climb.{Forest, forestOf, Move, byJump, toParent, target, nextMove}
 use Rattle.trees.specs.Climb.{andThen, before, climb, carry, walk}
 use Rattle.list_laws.proofs.Choice.{le-or}
-use Rattle.trees.proofs.NodeLaws.{up}
+use Rattle.trees.proofs.NodeLaws.{up, below-root}
 use Rattle.trees.proofs.JumpLaws.{jumpDepth-le, jump-in, jump-is, depth-jump}
 use Rattle.trees.proofs.ClimbLaws.{climb-done, climb-move, climb-stuck, climb-nil, climb-cons}
-use Rattle.trees.proofs.TreeClimbs.{below-root, tree-next-jump, tree-next-parent}
+use Rattle.trees.proofs.TreeClimbs.{tree-next-jump, tree-next-parent}
 use Rattle.trees.proofs.WalkLaws.{walk-add, walk-keeps}
 
 module _ {X : Type 0} (P : X → Type 0) (step : ℕ → X → X) (act : Move → X → Option X) (t : Tree)

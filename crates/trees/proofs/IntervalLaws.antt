@@ -12,9 +12,8 @@ use lib.ListN.{getD}
 use Rattle.trees.specs.Tree.{Tree, size, kindsOf}
 use Rattle.trees.specs.Numbering.{sub, parent, depth, ancestor, InSubtree, AtOrBelow}
 use Rattle.list_laws.proofs.Choice.{le-or}
-use Rattle.trees.proofs.NodeLaws.{Inner, inner, Up, up, sub-leaf, size-pos}
+use Rattle.trees.proofs.NodeLaws.{Inner, inner, Up, up, sub-leaf, size-pos, below-root}
 use Rattle.trees.proofs.JumpLaws.{ancestor-in, ancestor-depth}
-use Rattle.trees.proofs.TreeClimbs.{below-root}
 
 module _ (t : Tree) where
   -- an inner node's subtree is its children's and itself

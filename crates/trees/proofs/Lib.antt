@@ -1,5 +1,8 @@
 pub mod NodeLaws
 pub mod PostorderLaws
+pub mod JumpDepthLaws
+pub mod AscentLaws
+pub mod TreeAscends
 pub mod JumpLaws
 pub mod SkewBinary
 pub mod Digits
@@ -7,6 +10,7 @@ pub mod MoveCount
 pub mod HeightLaws
 pub mod MoveLaws
 pub mod ClimbLaws
+pub mod AscentClimbs
 pub mod TreeClimbs
 pub mod IntervalLaws
 pub mod WalkLaws

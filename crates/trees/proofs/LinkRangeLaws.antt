@@ -20,10 +20,9 @@ use Rattle.trees.specs.Climb.{Forest, forestOf, Move, byJump, toParent, 
 use Rattle.trees.specs.Climb.{andThen, before, climbIn, climb, carry}
 use Rattle.trees.specs.LinkOutOfRange.{LinkOutOfRange, jump-outside, jump-flat, parent-outside, parent-flat}
 use Rattle.list_laws.proofs.Choice.{by-test}
-use Rattle.trees.proofs.NodeLaws.{up, parent-root}
+use Rattle.trees.proofs.NodeLaws.{up, parent-root, below-root}
 use Rattle.trees.proofs.JumpLaws.{jump-in, depth-jump}
 use Rattle.trees.proofs.SkewBinary.{jumpDepth-lt}
-use Rattle.trees.proofs.TreeClimbs.{below-root}
 use Rattle.trees.proofs.MoveLaws.{none-some, chosen, next-inside}
 use Rattle.trees.proofs.CarryLaws.{carried}
 

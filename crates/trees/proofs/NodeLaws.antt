@@ -1,16 +1,14 @@
 -- The laws of a tree's nodes by number: what stands at node v, its children and its parent.
 -- Assumes nothing.
 use Prim.Native.Nat.{ℕ, zero, suc, _+_, _-_, _≤_, _<_}
-use mathlib.Core.Path.{_≡_, refl, sym, ap, ap₂, _∙_, subst}
-use mathlib.Core.List.{List, [], _∷_, _++_}
-use mathlib.Core.Bool.{Bool, true, false}
+use mathlib.Core.Path.{_≡_, refl, sym, ap, _∙_, subst}
+use mathlib.Core.List.{[], _∷_, _++_}
 use mathlib.Core.Logic.{_⊎_, ⊎-elim, inl, inr}
 use native.Mathlib.Decide.{decLt, ℕ-discrete}
 use native.Mathlib.Omega.{arith}
-use lib.ListN.{length, getD, length-append, List·getD-append}
-use lib.Seq.{getD-append-add, getD-append-seam}
-use lib.Dec.{ltb, eqb}
+use lib.ListN.{length, getD, length-append}
 use borrow.Author.Tests.{lt-ltb, le-ltb, eq-eqb, ne-eqb}
+use Rattle.list_laws.proofs.AppendLaws.{at-left, at-middle, at-right}
 use Rattle.trees.specs.Tree.{Tree, leaf, node, kindsOf, labelsOf, size}
 use Rattle.trees.specs.Numbering.{split, sub, parent, depth}
 
@@ -62,17 +60,6 @@ pub length-labels : (t : Tree) → length (labelsOf t) ≡ size t
 length-labels (leaf a) = refl
 length-labels (node l a r) = simp (length-append, length-labels l, length-labels r) (omega arith)
 
--- ---- what three lists in a row have at a place
-module _ (xs ys : List ℕ) (z v : ℕ) where
-  row-left : v < length xs → getD (xs ++ (ys ++ (z ∷ []))) v 0 ≡ getD xs v 0
-  row-left h = List·getD-append xs (ys ++ (z ∷ [])) 0 v h
-
-  row-right : (j : ℕ) → v ≡ length xs + j → j < length ys → getD (xs ++ (ys ++ (z ∷ []))) v 0 ≡ getD ys j 0
-  row-right j e h = rw e (getD-append-add xs (ys ++ (z ∷ [])) j 0 ∙ List·getD-append ys (z ∷ []) 0 j h)
-
-  row-top : v ≡ length xs + length ys → getD (xs ++ (ys ++ (z ∷ []))) v 0 ≡ z
-  row-top e = rw e (getD-append-add xs (ys ++ (z ∷ [])) (length ys) 0 ∙ getD-append-seam ys z [] 0)
-
 -- ---- the equations of a node in a tree of two parts
 module _ (l : Tree) (a : ℕ) (r : Tree) (v : ℕ) where
   sub-left : v < size l → sub (node l a r) v ≡ sub l v
@@ -88,22 +75,24 @@ module _ (l : Tree) (a : ℕ) (r : Tree) (v : ℕ) where
   sub-top e = split-top _ _ v _ _ _ e
 
   kind-left : v < size l → getD (kindsOf (node l a r)) v 0 ≡ getD (kindsOf l) v 0
-  kind-left h = row-left (kindsOf l) (kindsOf r) 1 v (omega (arith, length-kinds l))
+  kind-left h = at-left 0 (kindsOf l) (kindsOf r) (1 ∷ []) v (omega (arith, length-kinds l))
 
   kind-right : (j : ℕ) → v ≡ size l + j → j < size r → getD (kindsOf (node l a r)) v 0 ≡ getD (kindsOf r) j 0
-  kind-right j e h = row-right (kindsOf l) (kindsOf r) 1 v j (omega (arith, length-kinds l)) (omega (arith, length-kinds r))
+  kind-right j e h =
+      at-middle 0 (kindsOf l) (kindsOf r) (1 ∷ []) v j (omega (arith, length-kinds l)) (omega (arith, length-kinds r))
 
   kind-top : v ≡ size l + size r → getD (kindsOf (node l a r)) v 0 ≡ 1
-  kind-top e = row-top (kindsOf l) (kindsOf r) 1 v (omega (arith, length-kinds l, length-kinds r))
+  kind-top e = at-right 0 (kindsOf l) (kindsOf r) (1 ∷ []) v 0 (omega (arith, length-kinds l, length-kinds r))
 
   label-left : v < size l → getD (labelsOf (node l a r)) v 0 ≡ getD (labelsOf l) v 0
-  label-left h = row-left (labelsOf l) (labelsOf r) a v (omega (arith, length-labels l))
+  label-left h = at-left 0 (labelsOf l) (labelsOf r) (a ∷ []) v (omega (arith, length-labels l))
 
   label-right : (j : ℕ) → v ≡ size l + j → j < size r → getD (labelsOf (node l a r)) v 0 ≡ getD (labelsOf r) j 0
-  label-right j e h = row-right (labelsOf l) (labelsOf r) a v j (omega (arith, length-labels l)) (omega (arith, length-labels r))
+  label-right j e h =
+      at-middle 0 (labelsOf l) (labelsOf r) (a ∷ []) v j (omega (arith, length-labels l)) (omega (arith, length-labels r))
 
   label-top : v ≡ size l + size r → getD (labelsOf (node l a r)) v 0 ≡ a
-  label-top e = row-top (labelsOf l) (labelsOf r) a v (omega (arith, length-labels l, length-labels r))
+  label-top e = at-right 0 (labelsOf l) (labelsOf r) (a ∷ []) v 0 (omega (arith, length-labels l, length-labels r))
 
 pub sub-root : (t : Tree) (v : ℕ) → v + 1 ≡ size t → sub t v ≡ t
 unfolding sub
@@ -153,6 +142,11 @@ pub depth-root : (t : Tree) (v : ℕ) → v + 1 ≡ size t → depth t v ≡ 0
 unfolding depth
 depth-root (leaf a) v e = refl
 depth-root (node l a r) v e = depth-top l a r v (omega arith)
+
+-- a node below depth 0 is not the root
+pub below-root : (t : Tree) (v : ℕ) → v < size t → 0 < depth t v → v + 1 < size t
+below-root t v h d =
+    elim (ℕ-discrete (v + 1) (size t)) [ yes e ↦ absurd (omega (arith, depth-root t v e)) | no e ↦ omega arith ]
 
 -- a subtree's nodes end at its root
 pub sub-size : (t : Tree) (v : ℕ) → v < size t → size (sub t v) ≤ v + 1

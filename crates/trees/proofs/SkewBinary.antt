@@ -17,7 +17,7 @@ use native.Mathlib.Nat.{le-refl}
 use lib.Dec.{eqb}
 use Rattle.trees.specs.Jumps.{twoDistances, jumpDepth}
 use Rattle.list_laws.proofs.Choice.{by-eq}
-use Rattle.trees.proofs.JumpLaws.{twoDistances-le, jumpDepth-le, jumpDepth-zero, jumpDepth-suc}
+use Rattle.trees.proofs.JumpDepthLaws.{twoDistances-le, jumpDepth-le, jumpDepth-zero, jumpDepth-suc}
 
 pub jumpDepth-lt : (d : ℕ) → 0 < d → jumpDepth d < d
 jumpDepth-lt zero h = absurd (omega arith)

@@ -5,21 +5,19 @@
 --
 -- Assumes nothing.
 use Prim.Native.Nat.{ℕ, zero, suc, _+_, _-_, _*_, _≤_, _<_}
-use mathlib.Core.Path.{_≡_, refl, sym, ap, _∙_, subst}
+use mathlib.Core.Path.{_≡_, refl, sym, ap, _∙_}
 use mathlib.Core.List.{List, [], _∷_, _++_}
-use native.Mathlib.Decide.{decLt, ℕ-discrete}
-use native.Mathlib.Nat.{mul-le-mul-right}
 use native.Mathlib.Numerals.{one-add}
 use native.Mathlib.Omega.{arith}
-use lib.ListN.{length, getD, take, drop, length-append, length-drop, List·getD-append}
-use lib.Seq.{ext-getD, getD-append-add, getD-append-seam, getD-drop, getD-take, length-take-le, take-at}
+use lib.ListN.{length, getD, take}
 use Rattle.trees.specs.Tree.{Tree, size}
 use Rattle.trees.specs.Automaton.{Automaton, state, WordAutomaton}
 use Rattle.trees.specs.Numbering.{sub, parent, depth}
 use Rattle.trees.specs.Jumps.{jump}
 use Rattle.trees.specs.Tables.{nodeRow, stateMap, stateRow, branchState, branchMap, branchRow}
 use Rattle.list_laws.specs.Rows.{tabulate, rows}
-use Rattle.list_laws.proofs.RowLaws.{stride, cells-apart, cell-in, cell-split, length-tabulate, getD-tabulate, tabulate-ext, tabulate-of, length-rows, getD-rows, rows-ext, take-over, rows-of-cells, cells-of-rows, rows-over, Cell}
+use Rattle.list_laws.proofs.RowLaws.{length-tabulate, getD-tabulate}
+use Rattle.list_laws.proofs.RowLaws.{cells-of-rows}
 use Rattle.trees.specs.Tables.{nodeTableOf, stateTableOf, branchTableOf}
 
 -- ---- the rows that Load writes

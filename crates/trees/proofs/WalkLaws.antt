@@ -8,9 +8,8 @@ use native.Mathlib.Omega.{arith}
 use Rattle.trees.specs.Tree.{Tree, size}
 use Rattle.trees.specs.Numbering.{parent, depth, ancestor}
 use Rattle.trees.specs.Climb.{walk}
-use Rattle.trees.proofs.NodeLaws.{up}
+use Rattle.trees.proofs.NodeLaws.{up, below-root}
 use Rattle.trees.proofs.JumpLaws.{ancestor-add}
-use Rattle.trees.proofs.TreeClimbs.{below-root}
 
 module _ {X : Type 0} (step : ℕ → X → X) (t : Tree) where
   pub walk-add : (v m n : ℕ) (x : X) → walk step t v (m + n) x ≡ walk step t (ancestor t v m) n (walk step t v m x)

@@ -5,6 +5,7 @@ pub mod Postorder
 pub mod Changes
 pub mod Jumps
 pub mod Climb
+pub mod Ascents
 pub mod Tables
 pub mod LinkOutOfRange
 pub mod Passed

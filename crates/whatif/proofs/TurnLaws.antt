@@ -35,7 +35,8 @@ going-start f stated kept e h = record {
 
 pub going-on : {f : List ℕ → List ℕ} {stated : ℕ} {c kept kept′ out out′ : List ℕ}
     {have left sent have′ left′ sent′ end : ℕ} (came : ℕ) → Going f stated kept have left sent
-    → Advances f c kept have kept′ have′ out 0 out′ end → came ≡ length c → left′ + came ≡ left → sent′ ≡ sent + end → have′ ≤ have + came → end ≤ 48 * came → Going f stated kept′ have′ left′ sent′
+    → Advances f c kept have kept′ have′ out 0 out′ end → came ≡ length c → left′ + came ≡ left → sent′ ≡ sent + end
+    → have′ ≤ have + came → end ≤ 48 * came → Going f stated kept′ have′ left′ sent′
 going-on {f = f} {c = c} came G A n l s h e =
     let q = G .questions in
     let t = A .text (openBy [] q) (G .held) in

@@ -53,6 +53,22 @@ pub const ALTERATIONS: [Alteration; 9] = [
     Alteration::Length,
 ];
 
+/// Lays alterations over what is lent for as long as chance has it, once in `seldom` turns: the same again with another
+/// excess is as often as all others together, and a clean question may become firm. Nothing follows another length.
+pub fn lay_some(lent: &mut Lent, case: &Case, seldom: usize, random: &mut Random) {
+    while random.below(seldom) == 0 {
+        let kind = match random.below(4) {
+            0 | 1 => Alteration::Excess,
+            2 => Alteration::BytesBelow,
+            _ => *random.pick(&ALTERATIONS),
+        };
+        kind.lay(lent, case, random);
+        if kind == Alteration::Length {
+            break;
+        }
+    }
+}
+
 impl Alteration {
     pub fn lay(self, lent: &mut Lent, case: &Case, random: &mut Random) {
         let Case { n, s, k, .. } = *case;

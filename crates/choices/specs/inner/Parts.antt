@@ -2,7 +2,6 @@
 --
 -- before es b == the counts of the roots es at the beginning of the table b
 -- PutArgs, RowPut b i r m == the counts r were written into b as those of part i, and nothing before them changed
--- ListArgs == v and the list are in their limits
 -- RowArgs, RowCounted == the counts of root v, from those of the roots before it in the table
 -- NextArgs, NextCounted == the same, written into the table behind them
 -- AllArgs, AllCounted X vs ms a m == answer a and table m are those of all parts
@@ -23,10 +22,6 @@ use Rattle.choices.specs.inner.Part.{Runs, PartCounted}
 
 abbrev pub before : List ℕ → List ℕ → List ℕ
 before es b = take (length es * 16) b
-
-pub record ListArgs (vs : List ℕ) (v : ℕ) : Type 0 where
-  pub node : v ≤ 65535
-  pub many : length vs ≤ 65535
 
 pub record PutArgs (b : List ℕ) (i : ℕ) (r : List ℕ) : Type 0 where
   pub few : i < 65536

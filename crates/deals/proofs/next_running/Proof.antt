@@ -11,7 +11,7 @@ use Rattle.deals.proofs.next_running.Statement.{statement}
 use Rattle.deals.proofs.next_running.Tie as tie
 use Rattle.deals.proofs.next_running.Reads as reads
 use Rattle.deals.proofs.next_running.Lts as lts
-use Rattle.deals.proofs.one_past.Reads as one-past-reads
+use Rattle.screens.proofs.one_past.Reads as one-past-reads
 use Rattle.deals.proofs.is_running.Reads as is-running-reads
 
 abbrev Inv-loop : tie.InvT-loop

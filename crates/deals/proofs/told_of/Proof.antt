@@ -13,7 +13,7 @@ use Rattle.deals.proofs.told_of.Statement.{statement}
 use Rattle.deals.proofs.told_of.Tie as tie
 use Rattle.deals.proofs.told_of.Reads as reads
 use Rattle.deals.proofs.told_of.Lts as lts
-use Rattle.deals.proofs.one_past.Reads as one-past-reads
+use Rattle.screens.proofs.one_past.Reads as one-past-reads
 
 returns : tie.Need-returns
 unfolding dealAnswer turnAnswer advanceAnswer

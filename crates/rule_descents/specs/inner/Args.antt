@@ -2,7 +2,7 @@
 --
 -- AllArgs == what all parts read is inside, and the roots are nodes, at most 254; AllDone L vs bs ms r == r is what
 --   comes of all parts of the roots ms, with at most 60 drops for each
--- LeftArgs, RootArgs, LentArgs == what the functions of the question read is inside
+-- RootArgs, LentArgs == what the functions of the question read is inside
 -- answeredFor n s k .. ms == the answer for the roots ms, with N, S and K as given; answeredOn .. == the answer where
 --   the checks before 18 pass
 --
@@ -37,11 +37,6 @@ pub record AllDone (L : ColourView) (vs bs ms : List ℕ) (r : Trial) : Type 0 w
   pub below : r .ok ≡ true → 0 < length ms → r .state < L .view .s
   pub falls : r .drops ≤ length ms * 60
   pub links : r .links ≤ r .drops * 65535
-
-pub record LeftArgs (n : ℕ) (plan nodeTable : List ℕ) : Type 0 where
-  pub most : n ≤ 65535
-  pub labels : 12 + n ≤ length plan
-  pub numbers : n * 4 ≤ length nodeTable
 
 abbrev pub lentAs : ℕ → ℕ → ℕ → List ℕ → List ℕ → List ℕ → List ℕ → List ℕ → List ℕ → ColourView
 lentAs n s k p r nodeTable stateTable numbers bytes = record {

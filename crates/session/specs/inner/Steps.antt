@@ -1,8 +1,8 @@
 -- The structs that Start and advance make, field by field.
 --
 -- ListArgs vs bs == two lists of one length that fit the record
--- RootsArgs n plan nodeTable == the plan's labels and the node table are whole
 -- startedOf z o vs bs parts roots == a session of sizes z in running with this question, no part handled, and the last finished answer o
+-- notStarted s n == a refusal of Start with number n, and the record s as it was
 -- NextArgs s == the counts are within the arrays
 -- StepArgs h l d == there is room for one more state, and the links and the nodes passed over fit
 -- marksIn s k rules == the accept marks by S and K; markedIn s k rules q == whether that of state q is 1; MarkArgs rules s k q == the
@@ -28,6 +28,8 @@ use Rattle.session.specs.declared.state.Phase.{Phase}
 use Rattle.session.specs.declared.state.Phase.the-variants.{Running, Answered}
 use Rattle.session.specs.declared.answers.AdvanceAnswer.the-variants.{More, Finished, Refused as NotAdvanced}
 use Rattle.session.specs.declared.answers.AdvanceStep.{AdvanceStep}
+use Rattle.session.specs.declared.answers.StartAnswer.the-variants.{Refused as NotStarted}
+use Rattle.session.specs.declared.answers.Started.{Started}
 use Rattle.session.specs.declared.state.Sizes.{Sizes}
 use Rattle.session.specs.declared.state.Last.{Last}
 use Rattle.session.specs.declared.state.Head.{Head}
@@ -41,15 +43,13 @@ pub record ListArgs (vs bs : List ℕ) : Type 0 where
   pub few : length vs ≤ 64
   pub few-labels : length bs ≤ 64
 
-pub record RootsArgs (n : ℕ) (plan nodeTable : List ℕ) : Type 0 where
-  pub most : n ≤ 65535
-  pub labels : 12 + n ≤ length plan
-  pub numbers : n * 4 ≤ length nodeTable
-
 abbrev pub startedOf : Sizes → Last → List ℕ → List ℕ → ℕ → List ℕ → Session
 startedOf z o vs bs parts roots =
     whole (record { phase = Running; yes = false; sizes = z; m = length vs; parts = parts; handled = 0; links = 0; passed = 0; last = o })
     (padded 64 vs) (padded 64 bs) roots (replicate 254 0)
+
+abbrev pub notStarted : Session → ℕ → Started
+notStarted s n = record { answer = NotStarted n; session = s }
 
 pub record NextArgs (s : Session) : Type 0 where
   pub few : s .head .m ≤ length (s .nodes)

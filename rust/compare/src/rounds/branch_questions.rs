@@ -82,26 +82,42 @@ pub fn refusals(case: Case, way: usize, random: &mut Random, counts: &mut Counts
     let mut damaged = good.clone();
     damaged.node_table[4 * v as usize + 1] = u16::MAX;
     let (short, both) = (wrong_length(&good, way, random), wrong_length(&damaged, way, random));
-    for (built, upper, lower, wanted, what) in [
-        (&good, root, v, 0, "no fault"),
-        (&good, v, root, 16, "alone"),
-        (&good, out, v, 13, "alone"),
-        (&good, root, out, 13, "alone"),
-        (&good, v, out, 13, "alone"),
-        (&good, out, out, 13, "with 16"),
-        (&good, out, root, 13, "with 16"),
-        (&damaged, root, v, 18, "alone"),
-        (&damaged, out, v, 13, "with 18"),
-        (&damaged, v, root, 16, "with 18"),
-        (&short, root, v, 17, "alone"),
-        (&short, out, v, 17, "with 13"),
-        (&short, root, out, 17, "with 13"),
-        (&short, v, root, 17, "with 16"),
-        (&both, root, v, 17, "with 18"),
-    ] {
+    let lent = Faulty { good: &good, damaged: &damaged, short: &short, both: &both };
+    for (built, upper, lower, wanted, what) in faulty_pairs(lent, root, v, out) {
         for answer in calls::branches(built.lent(), upper, lower, random) {
             assert_eq!(answer.err().unwrap_or(0), wanted, "{}, in way {}", what, way);
         }
         counts.add(format!("answer {}: {}", wanted, what));
     }
+}
+
+/// What is lent with a branch question: without a fault, with one of 18, with one of 17, with both.
+pub struct Faulty<'a, T> {
+    pub good: &'a T,
+    pub damaged: &'a T,
+    pub short: &'a T,
+    pub both: &'a T,
+}
+
+/// Questions with one fault or two, the number that each gets, and what comes with it: v is not the root, and `out` is no
+/// node.
+pub fn faulty_pairs<T>(lent: Faulty<'_, T>, root: u32, v: u32, out: u32) -> [(&T, u32, u32, u32, &'static str); 15] {
+    let Faulty { good, damaged, short, both } = lent;
+    [
+        (good, root, v, 0, "no fault"),
+        (good, v, root, 16, "alone"),
+        (good, out, v, 13, "alone"),
+        (good, root, out, 13, "alone"),
+        (good, v, out, 13, "alone"),
+        (good, out, out, 13, "with 16"),
+        (good, out, root, 13, "with 16"),
+        (damaged, root, v, 18, "alone"),
+        (damaged, out, v, 13, "with 18"),
+        (damaged, v, root, 16, "with 18"),
+        (short, root, v, 17, "alone"),
+        (short, out, v, 17, "with 13"),
+        (short, root, out, 17, "with 13"),
+        (short, v, root, 17, "with 16"),
+        (both, root, v, 17, "with 18"),
+    ]
 }

@@ -6,7 +6,7 @@
 
 use super::damaged_records;
 use super::refusals::any_two;
-use crate::alterations::{Alteration, ALTERATIONS};
+use crate::alterations::lay_some;
 use crate::calls::Kind;
 use crate::counts::Counts;
 use crate::faults::{lay_on_list, repeat_nodes, Input, BUILD_CHECKS};
@@ -115,18 +115,7 @@ impl World<'_> {
         let at = if exchanged { random.below(self.at_hand.len()) } else { session.now };
         let (case, built) = &self.at_hand[at];
         let mut lent = if exchanged { built.clone() } else { session.usual.clone() };
-        while random.below(5) == 0 {
-            // the same again with another excess is as often as all others together; a clean question may become firm
-            let kind = match random.below(4) {
-                0 | 1 => Alteration::Excess,
-                2 => Alteration::BytesBelow,
-                _ => *random.pick(&ALTERATIONS),
-            };
-            kind.lay(&mut lent, case, random);
-            if kind == Alteration::Length {
-                break;
-            }
-        }
+        lay_some(&mut lent, case, 5, random);
         (at, lent)
     }
 

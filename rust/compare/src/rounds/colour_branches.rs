@@ -2,6 +2,7 @@
 //! both readings; refusals in order; tables that are not as built.
 
 use super::any_case;
+use super::branch_questions::{faulty_pairs, Faulty};
 use super::refusals::{any_set, any_two};
 use crate::alterations::damage;
 use crate::built::Built;
@@ -173,23 +174,8 @@ pub fn refusals(case: Case, way: usize, random: &mut Random, counts: &mut Counts
     let mut damaged = good.clone();
     damaged.bytes.fill(u8::MAX);
     let (short, both) = (wrong_length(&good, way, random), wrong_length(&damaged, way, random));
-    for (lent, upper, lower, wanted, what) in [
-        (&good, root, v, 0, "no fault"),
-        (&good, v, root, 16, "alone"),
-        (&good, out, v, 13, "alone"),
-        (&good, root, out, 13, "alone"),
-        (&good, v, out, 13, "alone"),
-        (&good, out, out, 13, "with 16"),
-        (&good, out, root, 13, "with 16"),
-        (&damaged, root, v, 18, "alone"),
-        (&damaged, out, v, 13, "with 18"),
-        (&damaged, v, root, 16, "with 18"),
-        (&short, root, v, 17, "alone"),
-        (&short, out, v, 17, "with 13"),
-        (&short, root, out, 17, "with 13"),
-        (&short, v, root, 17, "with 16"),
-        (&both, root, v, 17, "with 18"),
-    ] {
+    let faulty = Faulty { good: &good, damaged: &damaged, short: &short, both: &both };
+    for (lent, upper, lower, wanted, what) in faulty_pairs(faulty, root, v, out) {
         for reading in READINGS {
             let answer = colour_calls::branch(reading, lent.lends(), upper, lower, random);
             assert_eq!(answer.err().unwrap_or(0), wanted, "{}, in way {}", what, way);

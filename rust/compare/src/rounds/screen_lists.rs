@@ -6,7 +6,7 @@
 use super::call_lists::{name, plans};
 use super::damaged_records;
 use super::refusals::any_two;
-use crate::alterations::{Alteration, ALTERATIONS};
+use crate::alterations::lay_some;
 use crate::calls::Kind;
 use crate::counts::Counts;
 use crate::faults::{lay_on_list, repeat_nodes, Input, BUILD_CHECKS};
@@ -98,17 +98,7 @@ impl World<'_> {
         let at = if exchanged { random.below(self.at_hand.len()) } else { self.now };
         let (case, built) = &self.at_hand[at];
         let mut lent = if exchanged { built.clone() } else { self.usual.clone() };
-        while random.below(8) == 0 {
-            let kind = match random.below(4) {
-                0 | 1 => Alteration::Excess,
-                2 => Alteration::BytesBelow,
-                _ => *random.pick(&ALTERATIONS),
-            };
-            kind.lay(&mut lent, case, random);
-            if kind == Alteration::Length {
-                break;
-            }
-        }
+        lay_some(&mut lent, case, 8, random);
         (at, lent)
     }
 

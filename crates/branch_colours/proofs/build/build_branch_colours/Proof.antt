@@ -25,7 +25,8 @@ returns : tie.Need-returns
 returns c =
     let g = c .before .before .before .before .before .before .args in
     let r = c .before .check-branch-colours in
-    build-refused (builtColourNumbers (g .plan .now) (g .branch .now)) (builtCopies (g .plan .now) (g .branch .now)) (g .numbers .now)
+    build-refused (builtColourNumbers (g .plan .now) (g .branch .now)) (builtCopies (g .plan .now) (g .branch .now))
+    (g .numbers .now)
     (g .bytes .now) _
     (r .result) (r .ensures) (c .if1 .taken)
 
@@ -42,7 +43,8 @@ returns-2 c =
     let w = c .before .before .before .before in
     let i = w .before .before .before .before .before .before in
     let g = i .before .before .before .before .before .before .args in
-    build-done (builtColourNumbers (g .plan .now) (g .branch .now)) (builtCopies (g .plan .now) (g .branch .now)) (g .numbers .now) (g .bytes .now) _
+    build-done (builtColourNumbers (g .plan .now) (g .branch .now)) (builtCopies (g .plan .now) (g .branch .now))
+    (g .numbers .now) (g .bytes .now) _
     (w .write-branch-colours .last .1 .1 .1 .1 .1 .0) (w .write-branch-colours .last .1 .1 .1 .1 .1 .1 .0) (passed i)
     (w .write-branch-colours .ensures .numbers-are) (w .write-branch-colours .ensures .bytes-are)
 

@@ -12,7 +12,8 @@ use Rattle.branch_colours.proofs.build.check_branch_colours.Tie as tie
 
 -- where 2 to 10 passed
 table-none : (e : tie.Else1)
-    → firstNo (branchTableChecks (e .before .before .before .before .args .plan .now) (e .before .before .before .before .args .branch .now)) ≡ 0
+    → firstNo (branchTableChecks (e .before .before .before .before .args .plan .now)
+    (e .before .before .before .before .args .branch .now)) ≡ 0
 table-none e = sym (e .before .check-branch-inputs .ensures) ∙ e .if1 .left
 
 returns : tie.Need-returns
@@ -28,7 +29,10 @@ read32-requires-2 c κs = omega (arith, branch-table-passes _ _ (table-none (c .
 colours-fit-requires : tie.Need-colours-fit-requires
 colours-fit-requires c κs =
     let t = branch-table-passes _ _ (table-none (c .before .before)) in
-    record { nodes = omega (arith, t .0 .most, c .before .read32 .ensures); states = omega (arith, t .1 .states-most, c .read322 .ensures) }
+    record {
+      nodes = omega (arith, t .0 .most, c .before .read32 .ensures);
+      states = omega (arith, t .1 .states-most, c .read322 .ensures);
+    }
 
 returns-2 : tie.Need-returns-2
 unfolding branchColourChecks

@@ -44,7 +44,8 @@ returns c =
     let k = d .write-colours in
     filled _ _ _ _ _ _ _ (s .pre) (s .args .numbers .now) (t .last .1 .0) (t .ensures) (t .kept .1 .0)
     (s .args .bytes .now) (w .last .1 .1 .1 .1 .1 .0) (w .last .1 .1 .1 .1 .0) (w .ensures)
-    (w .kept .1 .1 .1 .1 .0 ∙ t .kept .1 .0) (k .last .0) refl (k .kept .0 ∙ w .kept .1 .1 .1 .1 .0 ∙ t .kept .1 .0) refl
+    (w .kept .1 .1 .1 .1 .0 ∙ t .kept .1 .0) (k .last .0) refl
+    (k .kept .0 ∙ w .kept .1 .1 .1 .1 .0 ∙ t .kept .1 .0) refl
     (w .kept .1 .1 .1 .1 .1 .0) (k .ensures)
 
 pub fill-colours-spec : {M : Type 1} → statement M

@@ -24,7 +24,8 @@ use Rattle.formats.proofs.bytes.read32.Reads as read32-reads
 
 -- what the lent headers and lengths say
 lent : (s : tie.Start) → let g = s .args in
-    Fits (g .plan .now) (g .branch .now) (length (g .node-table .now)) (length (g .numbers .now)) (length (g .bytes .now))
+    Fits (g .plan .now) (g .branch .now) (length (g .node-table .now)) (length (g .numbers .now))
+    (length (g .bytes .now))
 lent s = fits-are _ _ _ _ _ (s .pre .fits)
 
 abbrev start : (m : tie.After-read323) → tie.Start
@@ -43,7 +44,8 @@ limits m =
     )
 
 product : (m : tie.After-read323) → m .before .read322 .result * m .read323 .result ≤ 1024
-product m = mul-le-mul {n₁ = m .before .read322 .result} {m₁ = m .read323 .result} {n₂ = 16} {m₂ = 64} (limits m .1) (limits m .2)
+product m = mul-le-mul {n₁ = m .before .read322 .result} {m₁ = m .read323 .result} {n₂ = 16} {m₂ = 64} (limits m .1)
+    (limits m .2)
 
 numbers : (m : tie.After-read323)
     → m .before .read322 .result * (m .before .before .read32 .result * 4) ≤ length (start m .args .numbers .now)
@@ -54,7 +56,8 @@ bytes : (m : tie.After-read323)
 bytes m = bytes-fit _ _ _ _ _ (lent (start m)) _ _ 0 (n-is m) (m .before .read322 .ensures)
 
 table : (m : tie.After-read323)
-    → length (start m .args .branch .now) ≡ 16 + m .before .read322 .result * m .read323 .result + m .before .read322 .result
+    → length (start m .args .branch .now) ≡ 16 + m .before .read322 .result * m .read323 .result
+    + m .before .read322 .result
 table m = table-fit _ _ _ _ _ (lent (start m)) 0 _ _ (m .before .read322 .ensures) (m .read323 .ensures)
 
 -- where the way down was found
@@ -72,7 +75,8 @@ low e =
     let s = start m in
     end-low (s .args .reading) (s .args .plan .now) (s .args .branch .now) (s .args .node-table .now)
     (s .args .numbers .now) (s .args .bytes .now) (s .args .u) (s .args .l) _ _ (n-is m) (m .before .read322 .ensures)
-    (z .start-place .result) (z .start-place .ensures) (i .if1 .left) (x .start-colour .result) (x .start-colour .ensures)
+    (z .start-place .result) (z .start-place .ensures) (i .if1 .left) (x .start-colour .result)
+    (x .start-colour .ensures)
     (j .if2 .left) (d .descend-to .result) (d .descend-to .ensures) (not-false _ (e .if3 .left))
 
 read32-requires : tie.Need-read32-requires
@@ -90,7 +94,11 @@ read32-requires-3 c κs =
 start-place-requires : tie.Need-start-place-requires
 start-place-requires c κs =
     let s = start c in
-    record { most = limits c .0; upper = omega (arith, s .pre .upper, n-is c); room = omega (arith, lent s .node-table-room, n-is c) }
+    record {
+      most = limits c .0;
+      upper = omega (arith, s .pre .upper, n-is c);
+      room = omega (arith, lent s .node-table-room, n-is c);
+    }
 
 returns : tie.Need-returns
 returns c =
@@ -121,7 +129,8 @@ returns-2 c =
     let s = start m in
     answer-no-start (s .args .reading) (s .args .plan .now) (s .args .branch .now) (s .args .node-table .now)
     (s .args .numbers .now) (s .args .bytes .now) (s .args .u) (s .args .l) _ _ (n-is m) (m .before .read322 .ensures)
-    (z .start-place .result) (z .start-place .ensures) (i .if1 .left) (x .start-colour .result) (x .start-colour .ensures)
+    (z .start-place .result) (z .start-place .ensures) (i .if1 .left) (x .start-colour .result)
+    (x .start-colour .ensures)
     (c .if2 .taken)
 
 descend-to-requires : tie.Need-descend-to-requires
@@ -134,7 +143,13 @@ descend-to-requires c κs =
     record {
       most = limits m .0;
       few = omega (arith, limits m);
-      room = omega (arith, stride (m .before .before .read32 .result * 4) (x .start-colour .result) (m .before .read322 .result) b, numbers m);
+      room =
+          omega (
+            arith,
+            stride (m .before .before .read32 .result * 4) (x .start-colour .result)
+                (m .before .read322 .result) b,
+            numbers m,
+          );
       within = i .if1 .left;
       lower = omega (arith, s .pre .lower, n-is m);
     }
@@ -150,7 +165,8 @@ returns-3 c =
     let s = start m in
     answer-lost (s .args .reading) (s .args .plan .now) (s .args .branch .now) (s .args .node-table .now)
     (s .args .numbers .now) (s .args .bytes .now) (s .args .u) (s .args .l) _ _ (n-is m) (m .before .read322 .ensures)
-    (z .start-place .result) (z .start-place .ensures) (i .if1 .left) (x .start-colour .result) (x .start-colour .ensures)
+    (z .start-place .result) (z .start-place .ensures) (i .if1 .left) (x .start-colour .result)
+    (x .start-colour .ensures)
     (j .if2 .left) (d .descend-to .result) (d .descend-to .ensures) (not-true _ (c .if3 .taken))
 
 mul-finish : tie.Need-mul-finish
@@ -181,7 +197,12 @@ finish-requires c κs =
         bytes m,
       );
       marks-room = rw (rest-part (s .args .branch .now) (16 + m .before .read322 .result * m .read323 .result))
-          (omega (arith, table m, length-drop (16 + m .before .read322 .result * m .read323 .result) (s .args .branch .now)));
+          (omega (
+            arith,
+            table m,
+            length-drop (16 + m .before .read322 .result * m .read323 .result)
+                (s .args .branch .now),
+          ));
     }
 
 returns-4 : tie.Need-returns-4
@@ -197,9 +218,11 @@ returns-4 c =
     c .finish .ensures
     ∙ answer-end (s .args .reading) (s .args .plan .now) (s .args .branch .now) (s .args .node-table .now)
     (s .args .numbers .now) (s .args .bytes .now) (s .args .u) (s .args .l) _ _ (n-is m) (m .before .read322 .ensures)
-    (z .start-place .result) (z .start-place .ensures) (i .if1 .left) (x .start-colour .result) (x .start-colour .ensures)
+    (z .start-place .result) (z .start-place .ensures) (i .if1 .left) (x .start-colour .result)
+    (x .start-colour .ensures)
     (j .if2 .left) (d .descend-to .result) (d .descend-to .ensures) (not-false _ (e .if3 .left)) _
-    (branch-marks-part-exact (s .args .branch .now) _ _ (lent s .table-exact) (m .before .read322 .ensures) (m .read323 .ensures))
+    (branch-marks-part-exact (s .args .branch .now) _ _ (lent s .table-exact) (m .before .read322 .ensures)
+    (m .read323 .ensures))
 
 pub answer-colours-spec : {M : Type 1} → statement M
 answer-colours-spec =

@@ -20,7 +20,8 @@ use Rattle.branch_descents.proofs.ask.answer_colours.Reads as answer-co
 
 -- 17 passes
 fits : (c : tie.Else1) → let g = c .before .before .before .before .before .before .before .args in
-    colourBuffersFit (g .plan .now) (g .branch .now) (length (g .node-table .now)) (length (g .numbers .now)) (length (g .bytes .now)) ≡ true
+    colourBuffersFit (g .plan .now) (g .branch .now) (length (g .node-table .now)) (length (g .numbers .now))
+    (length (g .bytes .now)) ≡ true
 fits c = sym (c .before .colour-buffers-fit .ensures) ∙ not-false _ (c .if1 .left)
 
 -- 13 passes
@@ -28,7 +29,8 @@ upper-in : (c : tie.Else2) → let g = c .before .before .before .before .before
     g .upper < nodeCount (g .plan .now)
 upper-in c = omega (arith, c .if2 .left, c .before .read32 .ensures)
 
-lower-in : (c : tie.Else3) → let g = c .before .before .before .before .before .before .before .before .before .before .args in
+lower-in : (c : tie.Else3) → let g =
+    c .before .before .before .before .before .before .before .before .before .before .args in
     g .lower < nodeCount (g .plan .now)
 lower-in c = omega (arith, c .if3 .left, c .before .before .read32 .ensures)
 

@@ -18,7 +18,8 @@ use Rattle.formats.proofs.buffers.headers_fit.Reads as headers-fit-reads
 use Rattle.formats.proofs.bytes.read32.Reads as read32-reads
 
 -- the headers are whole, with N, S and K in their limits
-head : (c : tie.Else1) → let g = c .before .before .before .before .args in headersFit 16 (g .plan .now) (g .branch .now) ≡ true
+head : (c : tie.Else1) → let g = c .before .before .before .before .args in
+    headersFit 16 (g .plan .now) (g .branch .now) ≡ true
 head c = sym (c .before .headers-fit .ensures) ∙ not-false _ (c .if1 .left)
 
 heads : (c : tie.Else1) → let g = c .before .before .before .before .args in Headers 16 (g .plan .now) (g .branch .now)
@@ -34,7 +35,8 @@ limits m =
     )
 
 product : (m : tie.After-read323) → m .before .read322 .result * m .read323 .result ≤ 1024
-product m = mul-le-mul {n₁ = m .before .read322 .result} {m₁ = m .read323 .result} {n₂ = 16} {m₂ = 64} (limits m .1) (limits m .2)
+product m = mul-le-mul {n₁ = m .before .read322 .result} {m₁ = m .read323 .result} {n₂ = 16} {m₂ = 64} (limits m .1)
+    (limits m .2)
 
 returns : tie.Need-returns
 returns c =
@@ -62,7 +64,8 @@ returns-2 c =
     let m = c .before in
     let g = m .before .before .before .before .before .before .before .args in
     plan-no (g .plan .now) (g .branch .now) (g .node-table) (g .numbers) (g .bytes) (head (m .before .before .before))
-    (m .before .before .read32 .result) (m .before .read322 .result) (m .read323 .result) (m .before .before .read32 .ensures)
+    (m .before .before .read32 .result) (m .before .read322 .result) (m .read323 .result)
+    (m .before .before .read32 .ensures)
     (m .before .read322 .ensures) (m .read323 .ensures) (c .if2 .taken)
 
 mul-if3 : tie.Need-mul-if3
@@ -80,7 +83,8 @@ returns-3 c =
     let m = e .before in
     let g = m .before .before .before .before .before .before .before .args in
     table-no (g .plan .now) (g .branch .now) (g .node-table) (g .numbers) (g .bytes) (head (m .before .before .before))
-    (m .before .before .read32 .result) (m .before .read322 .result) (m .read323 .result) (m .before .before .read32 .ensures)
+    (m .before .before .read32 .result) (m .before .read322 .result) (m .read323 .result)
+    (m .before .before .read32 .ensures)
     (m .before .read322 .ensures) (m .read323 .ensures) (e .if2 .left) (c .if3 .taken)
 
 returns-4 : tie.Need-returns-4
@@ -90,7 +94,8 @@ returns-4 c =
     let m = e .before in
     let g = m .before .before .before .before .before .before .before .args in
     links-no (g .plan .now) (g .branch .now) (g .node-table) (g .numbers) (g .bytes) (head (m .before .before .before))
-    (m .before .before .read32 .result) (m .before .read322 .result) (m .read323 .result) (m .before .before .read32 .ensures)
+    (m .before .before .read32 .result) (m .before .read322 .result) (m .read323 .result)
+    (m .before .before .read32 .ensures)
     (m .before .read322 .ensures) (m .read323 .ensures) (e .if2 .left) (f .if3 .left) (c .if4 .taken)
 
 colours-fit-requires : tie.Need-colours-fit-requires
@@ -107,7 +112,8 @@ returns-5 c =
     let g = m .before .before .before .before .before .before .before .args in
     c .colours-fit .ensures
     ∙ fit-end (g .plan .now) (g .branch .now) (g .node-table) (g .numbers) (g .bytes) (head (m .before .before .before))
-    (m .before .before .read32 .result) (m .before .read322 .result) (m .read323 .result) (m .before .before .read32 .ensures)
+    (m .before .before .read32 .result) (m .before .read322 .result) (m .read323 .result)
+    (m .before .before .read32 .ensures)
     (m .before .read322 .ensures) (m .read323 .ensures) (e .if2 .left) (f .if3 .left) (d .if4 .left)
 
 pub colour-buffers-fit-spec : {M : Type 1} → statement M

@@ -12,7 +12,7 @@ use Rattle.capi_screens.proofs.calls.next_running.Statement.{statement}
 use Rattle.capi_screens.proofs.calls.next_running.Tie as tie
 use Rattle.capi_screens.proofs.calls.next_running.Reads as reads
 use Rattle.capi_screens.proofs.calls.next_running.Lts as lts
-use Rattle.capi_screens.proofs.calls.one_past.Reads as one-past-reads
+use Rattle.screens.proofs.one_past.Reads as one-past-reads
 
 abbrev Inv-loop : tie.InvT-loop
 Inv-loop records first at₀ left₀ at left =

@@ -9,7 +9,7 @@ use Rattle.capi_screens.proofs.calls.whatif_screens_deal.Tie as tie
 use Rattle.capi_screens.proofs.calls.whatif_screens_deal.Reads as reads
 use Rattle.capi_screens.proofs.calls.whatif_screens_deal.Lts as lts
 use Rattle.capi_screens.proofs.calls.next_running.Reads as next-running-reads
-use Rattle.capi_screens.proofs.calls.one_past.Reads as one-past-reads
+use Rattle.screens.proofs.one_past.Reads as one-past-reads
 use Rattle.capi_session.proofs.calls.whatif_advance.Reads as whatif-advance-reads
 
 returns : tie.Need-returns

@@ -10,7 +10,7 @@ use Rattle.choices.proofs.parts.part_row.Tie as tie
 use Rattle.choices.proofs.parts.part_row.Reads as reads
 use Rattle.choices.proofs.parts.part_row.Lts as lts
 use Rattle.choices.proofs.part.part_counts.Reads as part-counts-reads
-use Rattle.choices.proofs.parts.is_listed.Reads as is-listed-reads
+use Rattle.formats.proofs.lists.is_listed.Reads as is-listed-reads
 
 slice-aggregate-part-counts : tie.Need-slice-aggregate-part-counts
 slice-aggregate-part-counts c =
@@ -29,4 +29,4 @@ returns c =
 pub part-row-spec : {M : Type 1} → statement M
 part-row-spec =
     tie.close
-    (tie.spec (λ c κs. search needs) (λ c. search needs) slice-aggregate-part-counts part-counts-requires returns)
+    (tie.spec (λ c. search needs) (λ c κs. search needs) (λ c. search needs) slice-aggregate-part-counts part-counts-requires returns)

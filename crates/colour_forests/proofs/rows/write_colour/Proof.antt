@@ -19,7 +19,8 @@ use Rattle.colour_forests.proofs.rows.put_row.Reads as put-row-reads
 
 abbrev Inv-loop : tie.InvT-loop
 Inv-loop nums₀ n c v₀ nums v =
-    (v ≤ n) × (length nums ≡ length nums₀) × ((t : Tree) (m : ℕ → Bool) → Given t m n c nums₀ → RowsFrom t m n c v nums₀ nums)
+    (v ≤ n) × (length nums ≡ length nums₀) × ((t : Tree) (m : ℕ → Bool) → Given t m n c nums₀
+    → RowsFrom t m n c v nums₀ nums)
 
 abbrev μ-loop : tie.MeasureT-loop
 μ-loop nums₀ n c v₀ nums v = v

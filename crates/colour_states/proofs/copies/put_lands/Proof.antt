@@ -12,7 +12,8 @@ use Rattle.colour_states.proofs.copies.put_lands.Reads as reads
 use Rattle.colour_states.proofs.copies.put_lands.Lts as lts
 
 abbrev Inv-loop : tie.InvT-loop
-Inv-loop numbers₀ n k v lands c₀ numbers c = (0 < c) × (c ≤ max 1 k) × (length numbers ≡ length numbers₀) × LandedTo lands n v c numbers₀ numbers
+Inv-loop numbers₀ n k v lands c₀ numbers c = (0 < c) × (c ≤ max 1 k) × (length numbers ≡ length numbers₀)
+    × LandedTo lands n v c numbers₀ numbers
 
 abbrev μ-loop : tie.MeasureT-loop
 μ-loop numbers₀ n k v lands c₀ numbers c = k - c
@@ -24,7 +25,8 @@ inside : (c : tie.In-loop Inv-loop μ-loop)
 inside c =
     let a = c .before in
     let s = a .before in
-    land-in (s .args .n) (s .args .k) (s .args .v) (a .loop .c) (length (a .loop .numbers)) (s .pre .at) (c .loop-test .taken)
+    land-in (s .args .n) (s .args .k) (s .args .v) (a .loop .c) (length (a .loop .numbers)) (s .pre .at)
+    (c .loop-test .taken)
     (omega (arith, s .pre .room, a .loop .inv .2))
 
 small : (c : tie.In-loop Inv-loop μ-loop) → c .before .loop .c * (c .before .before .args .n * 4) ≤ 4194240
@@ -35,8 +37,13 @@ small c =
     omega (arith, mul-le-mul-right (s .args .n * 4) l, s .pre .most)
 
 loop-holds : tie.Need-loop-holds Inv-loop μ-loop
-loop-holds c =
-    (omega arith, omega arith, refl, land-start (c .args .t1) (c .args .n) (c .args .v) (c .pre .at) (c .args .numbers .now))
+loop-holds c = (
+  omega arith,
+  omega arith,
+  refl,
+  land-start (c .args .t1) (c .args .n) (c .args .v) (c .pre .at)
+      (c .args .numbers .now),
+)
 
 mul-numbers-2 : tie.Need-mul-numbers-2 Inv-loop μ-loop
 mul-numbers-2 c = omega (arith, small c, c .before .before .pre .at, c .before .before .pre .most)
@@ -58,7 +65,8 @@ loop-again c =
       omega arith,
       omega arith,
       simp length-set (a .loop .inv .2),
-      land-next (s .args .t1) (s .args .n) (s .args .v) (s .pre .at) (a .loop .c) (s .args .numbers .now) (a .loop .numbers)
+      land-next (s .args .t1) (s .args .n) (s .args .v) (s .pre .at) (a .loop .c) (s .args .numbers .now)
+          (a .loop .numbers)
           (a .loop .inv .3) (a .loop .inv .0) (omega (arith, inside c)),
     )
 

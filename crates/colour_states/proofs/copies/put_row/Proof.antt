@@ -34,7 +34,8 @@ returns : tie.Need-returns Inv-loop μ-loop
 returns c =
     let a = c .before in
     let s = a .before in
-    put-all (s .args .t1) (s .args .at) (a .loop .c) (s .args .k) (s .args .bytes .now) (a .loop .bytes) (a .loop .inv .2)
+    put-all (s .args .t1) (s .args .at) (a .loop .c) (s .args .k) (s .args .bytes .now) (a .loop .bytes)
+    (a .loop .inv .2)
     (a .loop .inv .0) (omega (arith, c .loop-test .left))
 
 pub put-row-spec : {M : Type 1} → statement M

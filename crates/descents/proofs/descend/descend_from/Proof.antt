@@ -49,7 +49,8 @@ returns c =
     let s = a .before .before in
     let g = s .args in
     let o = a .loop in
-    descends-done (g .n) (g .nums .now) (startPlace (g .top) (g .z)) (g .l) (g .c) (o .colour) (o .above) (o .at) (o .drops)
+    descends-done (g .n) (g .nums .now) (startPlace (g .top) (g .z)) (g .l) (g .c) (o .colour) (o .above) (o .at)
+    (o .drops)
     (o .links) (o .inv) (i .loop-test .taken) (m .drop-in .result) (m .drop-in .ensures) (c .enum-told .given .1)
 
 returns-2 : tie.Need-returns-2 Inv-loop μ-loop
@@ -60,7 +61,8 @@ returns-2 c =
     let s = a .before .before in
     let g = s .args in
     let o = a .loop in
-    descends-lost (g .n) (g .nums .now) (startPlace (g .top) (g .z)) (g .l) (g .c) (o .colour) (o .above) (o .at) (o .drops)
+    descends-lost (g .n) (g .nums .now) (startPlace (g .top) (g .z)) (g .l) (g .c) (o .colour) (o .above) (o .at)
+    (o .drops)
     (o .links) (o .inv) (i .loop-test .taken) (m .drop-in .result) (m .drop-in .ensures) (c .enum-told2 .given .1)
 
 add-drops : tie.Need-add-drops Inv-loop μ-loop
@@ -77,7 +79,8 @@ add-links c =
     let s = a .before .before in
     let g = s .args in
     let o = a .loop in
-    let b = descends-small (g .n) (g .nums .now) (startPlace (g .top) (g .z)) (g .l) (g .c) (o .colour) (o .above) (o .at) (o .drops)
+    let b = descends-small (g .n) (g .nums .now) (startPlace (g .top) (g .z)) (g .l) (g .c) (o .colour) (o .above)
+    (o .at) (o .drops)
     (o .links) (o .inv) (i .loop-test .taken) (m .drop-in .result) (m .drop-in .ensures) (x .given .0 .0)
     (x .given .0 .1 .0) (x .given .0 .1 .1 .0) (x .given .1) in
     omega (arith, o .inv .falls, o .inv .few, s .pre .few, b .1)
@@ -91,7 +94,8 @@ loop-less c =
     let s = a .before .before in
     let g = s .args in
     let o = a .loop in
-    descends-lower (g .n) (g .nums .now) (startPlace (g .top) (g .z)) (g .l) (g .c) (o .colour) (o .above) (o .at) (o .drops)
+    descends-lower (g .n) (g .nums .now) (startPlace (g .top) (g .z)) (g .l) (g .c) (o .colour) (o .above) (o .at)
+    (o .drops)
     (o .links) (o .inv) (i .loop-test .taken) (m .drop-in .result) (m .drop-in .ensures) (x .given .0 .0)
     (x .given .0 .1 .0) (x .given .0 .1 .1 .0) (x .given .1)
 
@@ -104,7 +108,8 @@ loop-again c =
     let s = a .before .before in
     let g = s .args in
     let o = a .loop in
-    descends-turn (g .n) (g .nums .now) (startPlace (g .top) (g .z)) (g .l) (g .c) (o .colour) (o .above) (o .at) (o .drops)
+    descends-turn (g .n) (g .nums .now) (startPlace (g .top) (g .z)) (g .l) (g .c) (o .colour) (o .above) (o .at)
+    (o .drops)
     (o .links) (o .inv) (i .loop-test .taken) (m .drop-in .result) (m .drop-in .ensures) (x .given .0 .0)
     (x .given .0 .1 .0) (x .given .0 .1 .1 .0) (x .given .1)
 
@@ -114,7 +119,8 @@ returns-3 c =
     let s = a .before .before in
     let g = s .args in
     let o = a .loop in
-    descends-lowest (g .n) (g .nums .now) (startPlace (g .top) (g .z)) (g .l) (g .c) (o .colour) (o .above) (o .at) (o .drops)
+    descends-lowest (g .n) (g .nums .now) (startPlace (g .top) (g .z)) (g .l) (g .c) (o .colour) (o .above) (o .at)
+    (o .drops)
     (o .links) (o .inv) (omega (arith, c .loop-test .left))
 
 pub descend-from-spec : {M : Type 1} → statement M

@@ -12,14 +12,17 @@ use Rattle.node_tables.proofs.moves.size_at.Reads as size-at-reads
 returns : tie.Need-returns
 returns c =
     let s = c .before .before .before in
-    lowest-fell (cellForest (s .args .n) (s .args .table .now)) (sizeCell (s .args .table .now)) (s .args .c) (s .args .v)
+    lowest-fell (cellForest (s .args .n) (s .args .table .now)) (sizeCell (s .args .table .now)) (s .args .c)
+    (s .args .v)
     (c .before .size-at .result) (c .before .size-at .ensures) (c .if1 .taken)
 
 returns-2 : tie.Need-returns-2
 returns-2 c =
     let s = c .before .before .before .before in
-    lowest-kept (cellForest (s .args .n) (s .args .table .now)) (sizeCell (s .args .table .now)) (s .args .c) (s .args .v)
-    (c .before .before .size-at .result) (c .before .before .size-at .ensures) (c .parent-at .result) (c .parent-at .ensures)
+    lowest-kept (cellForest (s .args .n) (s .args .table .now)) (sizeCell (s .args .table .now)) (s .args .c)
+    (s .args .v)
+    (c .before .before .size-at .result) (c .before .before .size-at .ensures) (c .parent-at .result)
+    (c .parent-at .ensures)
     (c .before .if1 .left)
 
 pub lowest-at-spec : {M : Type 1} → statement M

@@ -17,7 +17,8 @@ returns : tie.Need-returns
 returns c =
     let m = c .before in
     let g = m .before .before .args in
-    gives-done (g .n) (g .table .now) (g .c) (g .to) (g .l) (m .seen-at .result) (m .seen-at .ensures .0) (c .if1 .taken)
+    gives-done (g .n) (g .table .now) (g .c) (g .to) (g .l) (m .seen-at .result) (m .seen-at .ensures .0)
+    (c .if1 .taken)
 
 returns-2 : tie.Need-returns-2
 returns-2 c =
@@ -25,7 +26,8 @@ returns-2 c =
     let e = v .before in
     let m = e .before in
     let g = m .before .before .args in
-    gives-outside (g .n) (g .table .now) (g .c) (g .to) (g .l) (m .seen-at .result) (m .seen-at .ensures .0) (e .if1 .left)
+    gives-outside (g .n) (g .table .now) (g .c) (g .to) (g .l) (m .seen-at .result) (m .seen-at .ensures .0)
+    (e .if1 .left)
     (v .lowest-at .result) (v .lowest-at .ensures) (c .if2 .taken)
 
 returns-3 : tie.Need-returns-3
@@ -36,7 +38,8 @@ returns-3 c =
     let e = v .before in
     let m = e .before in
     let g = m .before .before .args in
-    gives-stuck (g .n) (g .table .now) (g .c) (g .to) (g .l) (m .seen-at .result) (m .seen-at .ensures .0) (e .if1 .left)
+    gives-stuck (g .n) (g .table .now) (g .c) (g .to) (g .l) (m .seen-at .result) (m .seen-at .ensures .0)
+    (e .if1 .left)
     (v .lowest-at .result) (v .lowest-at .ensures) (f .if2 .left) (r .search .result) (r .search .ensures)
     (not-true (r .search .result .ok) (c .if3 .taken))
 
@@ -51,7 +54,8 @@ size-at-requires c κs =
     omega (
       arith,
       m .before .before .pre .room,
-      gives-node (g .n) (g .table .now) (g .c) (g .to) (g .l) (m .seen-at .result) (m .seen-at .ensures .0) (e .if1 .left)
+      gives-node (g .n) (g .table .now) (g .c) (g .to) (g .l) (m .seen-at .result) (m .seen-at .ensures .0)
+          (e .if1 .left)
           (v .lowest-at .result) (v .lowest-at .ensures) (f .if2 .left) (r .search .result) (r .search .ensures)
           (not-false (r .search .result .ok) (c .if3 .left)),
     )

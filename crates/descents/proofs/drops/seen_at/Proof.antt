@@ -23,7 +23,8 @@ add-result c = omega (arith, bound (c .before .before))
 returns : tie.Need-returns
 returns c =
     let s = c .before .before .before .before in (
-      seen-fell (cellForest (s .args .n) (s .args .table .now)) (sizeCell (s .args .table .now)) (s .args .c) (s .args .v)
+      seen-fell (cellForest (s .args .n) (s .args .table .now)) (sizeCell (s .args .table .now)) (s .args .c)
+          (s .args .v)
           (c .before .size-at .result) (c .before .size-at .ensures) (c .before .before .depth-at .result)
           (c .before .before .depth-at .ensures) (c .if1 .taken),
       omega (arith, bound (c .before .before)),
@@ -32,7 +33,8 @@ returns c =
 returns-2 : tie.Need-returns-2
 returns-2 c =
     let s = c .before .before .before .before in (
-      seen-kept (cellForest (s .args .n) (s .args .table .now)) (sizeCell (s .args .table .now)) (s .args .c) (s .args .v)
+      seen-kept (cellForest (s .args .n) (s .args .table .now)) (sizeCell (s .args .table .now)) (s .args .c)
+          (s .args .v)
           (c .before .size-at .result) (c .before .size-at .ensures) (c .before .before .depth-at .result)
           (c .before .before .depth-at .ensures) (c .if1 .left),
       omega (arith, bound (c .before .before)),

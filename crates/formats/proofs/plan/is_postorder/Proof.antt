@@ -42,7 +42,8 @@ trees-suffice-requires c κs =
     let a = c .before in
     let e = a .before .before in
     counts-small _ _ _ _ (e .before .before .loop .inv) (e .before .loop-test .taken) (e .eight-kinds .ensures)
-    (λ j. omega (arith, e .before .before .before .shared-slice-known .given j)) (sym (a .before .are-kinds .ensures) ∙ not-false _ (a .if1 .left)) _ (c .sums-so-far .ensures)
+    (λ j. omega (arith, e .before .before .before .shared-slice-known .given j))
+    (sym (a .before .are-kinds .ensures) ∙ not-false _ (a .if1 .left)) _ (c .sums-so-far .ensures)
 
 returns-2 : tie.Need-returns-2 Inv-loop μ-loop
 returns-2 c =
@@ -50,7 +51,8 @@ returns-2 c =
     let a = i .before in
     let e = a .before .before in
     blocks-stop _ _ _ _ (e .before .before .loop .inv) (e .before .loop-test .taken) (e .eight-kinds .ensures)
-    (λ j. omega (arith, e .before .before .before .shared-slice-known .given j)) (sym (a .before .are-kinds .ensures) ∙ not-false _ (a .if1 .left)) _ (i .sums-so-far .ensures)
+    (λ j. omega (arith, e .before .before .before .shared-slice-known .given j))
+    (sym (a .before .are-kinds .ensures) ∙ not-false _ (a .if1 .left)) _ (i .sums-so-far .ensures)
     (sym (c .before .trees-suffice .ensures) ∙ not-true _ (c .if2 .taken))
 
 sub-waiting : tie.Need-sub-waiting Inv-loop μ-loop
@@ -59,7 +61,8 @@ sub-waiting c =
     let a = i .before in
     let e = a .before .before in
     let left = trees-left _ _ _ _ (e .before .before .loop .inv) (e .before .loop-test .taken) (e .eight-kinds .ensures)
-    (λ j. omega (arith, e .before .before .before .shared-slice-known .given j)) (sym (a .before .are-kinds .ensures) ∙ not-false _ (a .if1 .left)) _ (i .sums-so-far .ensures)
+    (λ j. omega (arith, e .before .before .before .shared-slice-known .given j))
+    (sym (a .before .are-kinds .ensures) ∙ not-false _ (a .if1 .left)) _ (i .sums-so-far .ensures)
     (sym (c .before .trees-suffice .ensures) ∙ not-false _ (c .if2 .left)) in
     omega (arith, left)
 
@@ -69,7 +72,8 @@ loop-again c =
     let a = i .before in
     let e = a .before .before in
     blocks-iteration _ _ _ _ (e .before .before .loop .inv) (e .before .loop-test .taken) (e .eight-kinds .ensures)
-    (λ j. omega (arith, e .before .before .before .shared-slice-known .given j)) (sym (a .before .are-kinds .ensures) ∙ not-false _ (a .if1 .left)) _ (i .sums-so-far .ensures)
+    (λ j. omega (arith, e .before .before .before .shared-slice-known .given j))
+    (sym (a .before .are-kinds .ensures) ∙ not-false _ (a .if1 .left)) _ (i .sums-so-far .ensures)
     (sym (c .before .trees-suffice .ensures) ∙ not-false _ (c .if2 .left))
 
 returns-3 : tie.Need-returns-3 Inv-loop μ-loop

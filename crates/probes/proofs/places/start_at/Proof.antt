@@ -73,7 +73,9 @@ lends = shared 0 tt u8 ∷ shared 1 tt u8 ∷ shared 2 tt u16 ∷ shared 3 tt u8
 
 abbrev Promised : (κs : Lfts 6) (a : Args this.signature κs) → Started → AtExit this.ended κs → Type 0
 Promised κs a r e =
-    CallDone (a .0) (calls.start (inputsOf (now (a .1 .0)) (now (a .1 .1 .0)) (now (a .1 .1 .1 .0)) (now (a .1 .1 .1 .1 .0))) (now (a .1 .1 .1 .1 .1 .0)) (now (a .1 .1 .1 .1 .1 .1 .0)))
+    CallDone (a .0)
+    (calls.start (inputsOf (now (a .1 .0)) (now (a .1 .1 .0)) (now (a .1 .1 .1 .0)) (now (a .1 .1 .1 .1 .0)))
+    (now (a .1 .1 .1 .1 .1 .0)) (now (a .1 .1 .1 .1 .1 .1 .0)))
     (startAnswer (r .answer)) (r .session)
 
 abbrev result : StartAnswer → Session → Started

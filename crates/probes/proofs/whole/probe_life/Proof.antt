@@ -6,7 +6,9 @@ use Rattle.probes.proofs.whole.probe_life.Statement.{statement}
 use Rattle.probes.proofs.whole.probe_life.Tie as tie
 
 same-length : tie.Need-same-length
-same-length c = c .before .before .before .before .before .before .before .before .before .before .before .before .before .before .before .before .node-table .given
+same-length c =
+    c .before .before .before .before .before .before .before .before .before .before .before .before .before .before
+    .before .before .node-table .given
 
 returns : tie.Need-returns
 returns c =

@@ -12,7 +12,7 @@ use Rattle.rule_descents.proofs.ask.answer_lent.Reads as reads
 use Rattle.rule_descents.proofs.ask.answer_lent.Lts as lts
 use Rattle.formats.proofs.bytes.read32.Reads as read32-reads
 use Rattle.rule_descents.proofs.ask.answer_roots.Reads as answer-roots-reads
-use Rattle.rule_descents.proofs.ask.roots_left.Reads as roots-left-reads
+use Rattle.changed_roots.proofs.roots_left.Reads as roots-left-reads
 
 heads : (s : tie.Start) → let g = s .args in Headers 20 (g .plan .now) (g .rules .now)
 heads s = passed-are _ _ _ _ _ _ _ _ (s .pre .passed) .fits .headed .headers

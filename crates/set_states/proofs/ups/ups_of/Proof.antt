@@ -21,7 +21,8 @@ left e =
     omega (arith, s .pre .above, p .parent-at .ensures)
 
 -- the sibling of a right child
-right : (z : tie.After-size-at) → z .before .before .before .before .before .before .before .before .args .v - z .size-at .result
+right : (z : tie.After-size-at)
+    → z .before .before .before .before .before .before .before .before .args .v - z .size-at .result
     < z .before .before .before .parent-at .result
 right z =
     let p = z .before .before .before in
@@ -189,7 +190,8 @@ add-ups-from-2 c =
           (s .args .s) (s .args .k) (s .args .v) (s .pre) (p .parent-at .result) (p .parent-at .ensures)
           (p .parent-at .result - 1) (left e) .2,
       state-in (s .args .labels .now) (s .args .numbers .now)
-          (s .args .inner .now) (s .args .bytes .now) (s .args .s) (s .args .k) (s .args .v) (s .pre) (p .parent-at .result)
+          (s .args .inner .now) (s .args .bytes .now) (s .args .s) (s .args .k) (s .args .v) (s .pre)
+          (p .parent-at .result)
           (p .parent-at .ensures) (p .parent-at .result - 1) (left e),
       s .pre .few,
     )

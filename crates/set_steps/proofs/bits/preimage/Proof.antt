@@ -44,7 +44,8 @@ loop-again c =
     let a = c .before .before .before .before in (
       omega (arith, c .before .before .before .loop-test .taken),
       c .with-bit .ensures .0
-          ∙ image-next _ (a .loop .i) (a .loop .r) (c .before .bit-of .result) (a .loop .inv .1) (c .before .bit-of .ensures .0),
+          ∙ image-next _ (a .loop .i) (a .loop .r) (c .before .bit-of .result) (a .loop .inv .1)
+          (c .before .bit-of .ensures .0),
       c .with-bit .ensures .1,
     )
 

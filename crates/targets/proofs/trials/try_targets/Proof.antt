@@ -1,8 +1,7 @@
 -- `try_targets` meets its contract: at each turn the trials left give the answer of all. Assumes nothing.
 use Prim.Native.Nat.{_-_, _<_}
 use borrow.Author.Tests.{not-true, not-false}
-use Rattle.colour_tables.specs.ColourCells.{cellTable}
-use Rattle.targets.specs.Trials.{copyRow}
+use Rattle.colour_tables.specs.ColourCells.{copyRow, cellTable}
 use Rattle.targets.proofs.TrialLoop.{Trying, trying-start, trying-lost, trying-found, trying-on, trying-end}
 use Rattle.targets.proofs.TrialLoop.{trying-falls, trying-few}
 use native.Mathlib.Omega.{arith}

@@ -14,7 +14,8 @@ use Rattle.session.proofs.state.Session.read.Reads as read-reads
 
 abbrev Inv-loop : tie.InvT-loop
 Inv-loop plan rules nodeTable stateTable rec₀ iterations₀ rec iterations =
-    (iterations ≤ 254) × (finishedIn (254 - iterations) rec (inputsOf plan rules nodeTable stateTable) ≡ finishedIn mostParts rec₀ (inputsOf plan rules nodeTable stateTable))
+    (iterations ≤ 254) × (finishedIn (254 - iterations) rec (inputsOf plan rules nodeTable stateTable)
+    ≡ finishedIn mostParts rec₀ (inputsOf plan rules nodeTable stateTable))
 
 abbrev μ-loop : tie.MeasureT-loop
 μ-loop plan rules nodeTable stateTable rec₀ iterations₀ rec iterations = 254 - iterations

@@ -35,9 +35,11 @@ may m = allowed-by mayStart (of m .args .t1) _ _ (tested m .may-start .ensures) 
 
 returns : tie.Need-returns
 returns c =
-    let m = c .before in
-    start-1 (of m .args .t1) (shape (of m)) (lent (of m)) (of m .args .nodes .now) (of m .args .labels .now) _
-    (may m) (c .if1 .taken)
+    let i = c .before in
+    let m = i .before in
+    rw (c .refused .ensures)
+    (start-1 (of m .args .t1) (shape (of m)) (lent (of m)) (of m .args .nodes .now) (of m .args .labels .now) _
+    (may m) (i .if1 .taken))
 
 rule-buffers-fit-requires : tie.Need-rule-buffers-fit-requires
 rule-buffers-fit-requires c κs =
@@ -48,23 +50,25 @@ rule-buffers-fit-requires c κs =
 
 returns-2 : tie.Need-returns-2
 returns-2 c =
-    let k = c .before in
+    let i = c .before in
+    let k = i .before in
     let e = k .before .before .before .before in
     let m = e .before in
-    start-17 (of m .args .t1) (shape (of m)) (lent (of m)) (of m .args .nodes .now) (of m .args .labels .now) _
-    (may m)
-    (e .if1 .left) _ (k .rule-buffers-fit .ensures) (c .if2 .taken)
+    rw (c .refused2 .ensures)
+    (start-17 (of m .args .t1) (shape (of m)) (lent (of m)) (of m .args .nodes .now) (of m .args .labels .now) _
+    (may m) (e .if1 .left) _ (k .rule-buffers-fit .ensures) (i .if2 .taken))
 
 returns-3 : tie.Need-returns-3
 returns-3 c =
-    let l = c .before in
+    let i = c .before in
+    let l = i .before in
     let t = l .before in
     let k = t .before in
     let e = k .before .before .before .before in
     let m = e .before in
-    start-list (of m .args .t1) (shape (of m)) (lent (of m)) (of m .args .nodes .now) (of m .args .labels .now) _
-    (may m)
-    (e .if1 .left) _ (k .rule-buffers-fit .ensures) (t .if2 .left) _ (l .check-list .ensures) (c .if3 .taken)
+    rw (c .refused3 .ensures)
+    (start-list (of m .args .t1) (shape (of m)) (lent (of m)) (of m .args .nodes .now) (of m .args .labels .now) _
+    (may m) (e .if1 .left) _ (k .rule-buffers-fit .ensures) (t .if2 .left) _ (l .check-list .ensures) (i .if3 .taken))
 
 tables-sound-requires : tie.Need-tables-sound-requires
 tables-sound-requires c κs =
@@ -77,17 +81,18 @@ tables-sound-requires c κs =
 
 returns-4 : tie.Need-returns-4
 returns-4 c =
-    let w = c .before in
+    let i = c .before in
+    let w = i .before in
     let u = w .before in
     let l = u .before in
     let t = l .before in
     let k = t .before in
     let e = k .before .before .before .before in
     let m = e .before in
-    start-18 (of m .args .t1) (shape (of m)) (lent (of m)) (of m .args .nodes .now) (of m .args .labels .now) _
-    (may m)
-    (e .if1 .left) _ (k .rule-buffers-fit .ensures) (t .if2 .left) _ (l .check-list .ensures) (u .if3 .left) _ (w .tables-sound .ensures)
-    (c .if4 .taken)
+    rw (c .refused4 .ensures)
+    (start-18 (of m .args .t1) (shape (of m)) (lent (of m)) (of m .args .nodes .now) (of m .args .labels .now) _
+    (may m) (e .if1 .left) _ (k .rule-buffers-fit .ensures) (t .if2 .left) _ (l .check-list .ensures) (u .if3 .left) _
+    (w .tables-sound .ensures) (i .if4 .taken))
 
 roots-left-requires : tie.Need-roots-left-requires
 roots-left-requires c κs =
@@ -154,15 +159,19 @@ start-spec =
     (tie.spec
     (λ c κs. search needs)
     (λ c κs. search needs)
+    (λ c κs. search needs)
     returns
     (λ c. search needs)
     (λ c. search needs)
     (λ c. search needs)
     rule-buffers-fit-requires
+    (λ c κs. search needs)
     returns-2
+    (λ c κs. search needs)
     (λ c κs. search needs)
     returns-3
     tables-sound-requires
+    (λ c κs. search needs)
     returns-4
     roots-left-requires
     cast-parts

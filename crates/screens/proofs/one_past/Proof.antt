@@ -1,12 +1,12 @@
--- `capi_screens::calls::one_past` meets its contract.
+-- `one_past` meets its contract.
 -- Assumes nothing.
 use borrow.Author.Tests.{lt-ltb, le-ltb}
 use native.Mathlib.Omega.{arith}
 use borrow.Author.Needs.{needs}
-use Rattle.capi_screens.proofs.calls.one_past.Statement.{statement}
-use Rattle.capi_screens.proofs.calls.one_past.Tie as tie
-use Rattle.capi_screens.proofs.calls.one_past.Reads as reads
-use Rattle.capi_screens.proofs.calls.one_past.Lts as lts
+use Rattle.screens.proofs.one_past.Statement.{statement}
+use Rattle.screens.proofs.one_past.Tie as tie
+use Rattle.screens.proofs.one_past.Reads as reads
+use Rattle.screens.proofs.one_past.Lts as lts
 
 returns : tie.Need-returns
 returns c = (simp (lt-ltb _ _ (c .if1 .taken)) (omega arith), omega arith)

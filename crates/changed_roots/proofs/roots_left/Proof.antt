@@ -1,10 +1,11 @@
--- `session::start::roots_left` meets its contract: the nodes that `differing` leaves are handed to `roots`.
+-- `roots_left` meets its contract: the nodes that `differing` leaves are handed to `roots`.
 -- Assumes nothing.
 use Prim.Native.Nat.{ℕ, _+_, _-_, _*_}
 use mathlib.Core.Path.{_≡_, sym, ap, _∙_, subst}
 use mathlib.Core.List.{List}
-use lib.ListN.{length, take, drop}
+use lib.ListN.{take, drop}
 use lib.Seq.{length-take-le}
+use Rattle.list_laws.proofs.SliceLaws.{run-part}
 use Rattle.changes.specs.declared.differing.LeftNodes.{LeftNodes}
 use Rattle.changes.specs.inner.LastDiffering.{givenDiffering, DifferingDone}
 use Rattle.changes.proofs.LastDifferingLaws.{left-wide, left-taken}
@@ -12,12 +13,12 @@ use Rattle.questions.specs.declared.roots.Rooted.{Rooted}
 use Rattle.questions.specs.Promises.{RootsDone}
 use native.Mathlib.Omega.{arith}
 use borrow.Author.Needs.{needs}
-use Rattle.session.proofs.start.roots_left.Statement.{statement}
-use Rattle.session.proofs.start.roots_left.Tie as tie
-
--- the plan's labels, cut out of it
-cut : (n : ℕ) (p : List ℕ) → take (12 + n - 12) (drop 12 p) ≡ take n (drop 12 p)
-cut n p = let e : 12 + n - 12 ≡ n = omega arith in ap (λ (m : ℕ). take m (drop 12 p)) e
+use Rattle.changed_roots.proofs.roots_left.Statement.{statement}
+use Rattle.changed_roots.proofs.roots_left.Tie as tie
+use Rattle.changed_roots.proofs.roots_left.Reads as reads
+use Rattle.changed_roots.proofs.roots_left.Lts as lts
+use Rattle.changes.proofs.differing.differing.Reads as differing-reads
+use Rattle.questions.proofs.roots.roots.Reads as roots-reads
 
 -- the roots of the nodes that are left
 handed : (n : ℕ) (plan b vs bs : List ℕ) (r : LeftNodes) (R : Rooted)
@@ -26,7 +27,7 @@ handed : (n : ℕ) (plan b vs bs : List ℕ) (r : LeftNodes) (R : Rooted)
 handed n plan b vs bs r R D F =
     subst (λ (l : List ℕ). RootsDone n b l R)
     (left-taken (take (12 + n - 12) (drop 12 plan)) vs bs r D
-    ∙ ap (λ (ls : List ℕ). givenDiffering ls vs bs) (cut n plan)) F
+    ∙ ap (λ (ls : List ℕ). givenDiffering ls vs bs) (run-part plan 12 n)) F
 
 slice-aggregate-roots : tie.Need-slice-aggregate-roots
 slice-aggregate-roots c =

@@ -12,10 +12,10 @@ use native.Mathlib.Omega.{arith}
 use native.Mathlib.Nat.{le-refl}
 use native.Mathlib.Numerals.{add-one}
 use lib.Dec.{eqb}
 use Rattle.trees.specs.Jumps.{twoDistances, jumpDepth}
 use Rattle.list_laws.proofs.Choice.{le-or}
-use Rattle.trees.proofs.JumpLaws.{jumpDepth-le, jumpDepth-zero, jumpDepth-suc}
-use Rattle.marks.specs.Ascents.{rise, jumpIn, jumpBy, Ascends}
+use Rattle.trees.proofs.JumpDepthLaws.{jumpDepth-le, jumpDepth-zero, jumpDepth-suc}
+use Rattle.trees.specs.Ascents.{rise, jumpIn, jumpBy, Ascends}
 
 module _ (n : ℕ) (up deep : ℕ → ℕ) (A : Ascends n up deep) where
   -- ---- rising

@@ -1,5 +1,6 @@
 -- Climbs over any parents that ascend: never stuck, to the node at the target depth, in moveCount many moves.
---     climb-up       there is a climb to each depth above; its end and its number of moves
+--     up-next-jump, up-next-parent   the next move
+--     climb-up                       there is a climb to each depth above; its end and its number of moves
 -- Assumes nothing.
 use Prim.Native.Nat.{ℕ, zero, suc, _+_, _-_, _≤_, _<_}
 use mathlib.Core.Path.{_≡_, refl, sym, ap, _∙_}
@@ -8,22 +9,37 @@ use mathlib.Core.Option.{some}
 use native.Mathlib.Omega.{arith}
 use native.Mathlib.Nat.{le-refl}
 use lib.ListN.{length}
 use Rattle.trees.specs.Jumps.{jumpDepth}
 use Rattle.trees.specs.Climb.{Move, byJump, toParent, target, nextMove, before, climb, climbEnd}
 use Rattle.trees.specs.Climb.{nextDepth, moveCount}
 use Rattle.list_laws.proofs.Choice.{le-or}
 use Rattle.trees.proofs.SkewBinary.{jumpDepth-lt}
 use Rattle.trees.proofs.MoveCount.{nextDepth-jump, nextDepth-parent, nextDepth-lt, nextDepth-ge}
 use Rattle.trees.proofs.MoveCount.{moveCount-done, moveCount-move}
 use Rattle.trees.proofs.MoveLaws.{next-jump, next-parent}
 use Rattle.trees.proofs.ClimbLaws.{climb-done, climb-move}
-use Rattle.marks.specs.Ascents.{rise, jumpBy, forestBy, Ascends}
-use Rattle.marks.proofs.JumpLaws.{rise-in, rise-depth, rise-add, jumpBy-is, jumpBy-in, depth-jumpBy}
+use Rattle.trees.specs.Ascents.{rise, jumpBy, forestBy, Ascends}
+use Rattle.trees.proofs.AscentLaws.{rise-in, rise-depth, rise-add, jumpBy-is, jumpBy-in, depth-jumpBy}
 
 module _ (n : ℕ) (up deep : ℕ → ℕ) (A : Ascends n up deep) where
-  -- ---- the next move leads to the node at depth nextDepth
+  -- ---- the next move
 
-  pub record Onward (v to : ℕ) : Type 0 where
+  pub up-next-jump : (v to : ℕ) → v < n → to < deep v → to ≤ jumpDepth (deep v)
+      → nextMove (forestBy n up deep) v to ≡ some (byJump v)
+  up-next-jump v to h l p =
+      let j : deep (jumpBy up deep v) ≡ jumpDepth (deep v) = depth-jumpBy n up deep A v h in
+      next-jump (forestBy n up deep) v to (jumpBy-in n up deep A v h) (omega arith)
+      (omega (arith, jumpDepth-lt (deep v) (omega arith)))
+
+  pub up-next-parent : (v to : ℕ) → v < n → to < deep v → jumpDepth (deep v) < to
+      → nextMove (forestBy n up deep) v to ≡ some (toParent v)
+  up-next-parent v to h l p =
+      let j : deep (jumpBy up deep v) ≡ jumpDepth (deep v) = depth-jumpBy n up deep A v h in
+      let d : deep (up v) + 1 ≡ deep v = A .rises v h (omega arith) in
+      next-parent (forestBy n up deep) v to (jumpBy-in n up deep A v h) (omega arith) (A .inside v h) (omega arith)
+
+  -- it leads to the node at depth nextDepth
+  record Onward (v to : ℕ) : Type 0 where
     pub move : Move
     pub next : nextMove (forestBy n up deep) v to ≡ some move
     pub leads : target (forestBy n up deep) move ≡ rise up v (deep v - nextDepth (deep v) to)
@@ -31,23 +47,15 @@ module _ (n : ℕ) (up deep : ℕ → ℕ) (A : Ascends n up deep) where
   onward : (v to : ℕ) → v < n → to < deep v → Onward v to
   unfolding rise
   onward v to h l =
-      let F = forestBy n up deep in
-      let j : deep (jumpBy up deep v) ≡ jumpDepth (deep v) = depth-jumpBy n up deep A v h in
-      let d : deep (up v) + 1 ≡ deep v = A .rises v h (omega arith) in
       le-or to (jumpDepth (deep v))
       (λ p. record {
         move = byJump v;
-        next = next-jump F v to (jumpBy-in n up deep A v h) (omega arith)
-            (omega (arith, jumpDepth-lt (deep v) (omega arith)));
+        next = up-next-jump v to h l p;
         leads = jumpBy-is n up deep A v (nextDepth (deep v) to) h (sym (nextDepth-jump (deep v) to p));
       })
       (λ p.
       let e : 1 ≡ deep v - nextDepth (deep v) to = omega (arith, nextDepth-parent (deep v) to p) in
-      record {
-        move = toParent v;
-        next = next-parent F v to (jumpBy-in n up deep A v h) (omega arith) (A .inside v h) (omega arith);
-        leads = ap (rise up v) e;
-      })
+      record { move = toParent v; next = up-next-parent v to h l p; leads = ap (rise up v) e })
 
   -- ---- the climb
 

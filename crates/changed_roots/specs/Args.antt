@@ -1,0 +1,13 @@
+-- What the roots of a list of changes are found from.
+--
+-- RootsArgs n plan nodeTable == the plan's labels and the node table are whole
+--
+-- Assumes nothing.
+use Prim.Native.Nat.{ℕ, _+_, _*_, _≤_}
+use mathlib.Core.List.{List}
+use lib.ListN.{length}
+
+pub record RootsArgs (n : ℕ) (plan nodeTable : List ℕ) : Type 0 where
+  pub most : n ≤ 65535
+  pub labels : 12 + n ≤ length plan
+  pub numbers : n * 4 ≤ length nodeTable
