@@ -1,6 +1,6 @@
-// The branch question with the upper node's label, as C and Rust call it: the other reading of capi_branches' `whatif_branch`. It has an
-// object of its own, so that each reading's question is laid out in its call: in one object both would call one copy of it, with all
-// that is lent and told passed through memory.
+// The branch question with the upper node's label, as C and Rust call it: the other reading of `whatif_branch`, which
+// capi_branches exports. It has an object of its own, so that each reading's question is laid out in its call: in one
+// object both would call one copy of it, with all that is lent and told passed through memory.
 //     whatif_branch_with_upper   the word from the upper node down to the lower, both included
 use branches::ask::ask_branch_with_upper;
 use capi_branches::calls::ask_number;
@@ -22,7 +22,8 @@ pub extern "C" fn whatif_branch_with_upper(
     passed: &mut u32,
 ) -> u32
     ensures { λ r. ⌜
-        AskExported WithUpper (now (plan .entry)) (now (branch .entry)) (now («node_table» .entry)) (now («state_table» .entry)) upper lower
+        AskExported WithUpper (now (plan .entry)) (now (branch .entry)) (now («node_table» .entry))
+        (now («state_table» .entry)) upper lower
         r (now (state .entry)) (now (yes .entry)) (now (links .entry)) (now (passed .entry))
         (now (state .exit)) (now (yes .exit)) (now (links .exit)) (now (passed .exit)) ⌝ }
 {

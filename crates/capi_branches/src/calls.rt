@@ -1,4 +1,5 @@
-// The branches' calls: build, full check and the question in its plain reading; the other one is exported by capi_branch_upper.
+// The branches' calls: build, full check and the question in its plain reading. Its other reading is exported by
+// capi_branch_upper.
 use branches::answers::Branching;
 use branches::ask::ask_branch;
 use branches::build::build_branch_tables;

@@ -11,8 +11,8 @@ use whatif::sizes::RECORD_BYTES;
 use whatif::Session;
 use yardstick::session;
 
-/// Branch questions of a turn: so many that no turn is learned by heart. Of 2,000 a processor remembers which way the branches
-/// went, more of it for one side than for the other.
+/// Branch questions of a turn: so many that no turn is learned by heart. Of 2,000 a processor remembers which way the
+/// branches went, more of it for one side than for the other.
 const QUESTIONS: usize = 20_000;
 
 type Buffers = (Vec<u16>, Vec<u8>);

@@ -177,8 +177,8 @@ pub fn ask_with_upper(
 /// How many moves are remembered in place: a climb on tables as built has at most 45.
 const MOVES: usize = 48;
 
-/// A climb on lent tables: its links and the node where it ends. Each move is handed on as twice its node, and 1 more where it is by the
-/// jump, with its place in the climb.
+/// A climb of at most so many links: its links, and the node where it ends. Each move is handed on with its place in
+/// the climb, as twice its node, and 1 more where it is by the jump.
 #[inline(always)]
 fn climb(
     n: usize,
@@ -247,7 +247,8 @@ fn long(
     Ok((state, links, end))
 }
 
-/// The moves of the climb are remembered, each with whether it is by the jump, and one state goes down through them from the last to the first.
+/// The moves of the climb are remembered, each with whether it is by the jump, and one state goes down through them
+/// from the last to the first.
 #[inline(always)]
 fn ask_by<const WITH_UPPER: bool>(
     plan: &[u8],
