@@ -1,7 +1,7 @@
-// The branches' calls: build, full check and the question in its two readings.
+// The branches' calls: build, full check and the question in its plain reading. Its other reading is exported by
+// capi_branch_upper.
 use branches::answers::Branching;
 use branches::ask::ask_branch;
-use branches::ask::ask_branch_with_upper;
 use branches::build::build_branch_tables;
 use branches::check::check_branch_tables;
 use capi_numbers::numbers::bit;
@@ -10,7 +10,7 @@ use capi_numbers::numbers::check_number;
 ghost use lib.ListN.{length};
 ghost use Rattle.formats.specs.Checks.{firstNo, branchBuildChecks};
 ghost use Rattle.formats.specs.Built.{builtNodeTable, builtBranchTable};
-ghost use Rattle.branches.specs.declared.answers.Reading.the-variants.{WithUpper, BelowUpper};
+ghost use Rattle.branches.specs.declared.answers.Reading.the-variants.{BelowUpper};
 ghost use Rattle.capi_numbers.specs.Numbers.{BuildExported, CheckExported};
 ghost use Rattle.capi_branches.specs.BranchExported.{AskNumber, AskExported};
 
@@ -53,7 +53,7 @@ pub extern "C" fn whatif_branch_check(
 
 // The number of a branch question's answer; its state, whether it is marked, its links and the nodes passed over go to `state`,
 // `yes`, `links` and `passed`.
-fn ask_number(
+pub fn ask_number(
     answer: Branching,
     state: &mut u32,
     yes: &mut u32,
@@ -96,28 +96,5 @@ pub extern "C" fn whatif_branch(
         (now (state .exit)) (now (yes .exit)) (now (links .exit)) (now (passed .exit)) ⌝ }
 {
     let answer = ask_branch(plan, branch, node_table, state_table, upper, lower);
-    ask_number(answer, state, yes, links, passed)
-}
-
-// The branch question with the upper node's label: the word from node `upper` down to node `lower`, both included.
-#[no_mangle]
-pub extern "C" fn whatif_branch_with_upper(
-    plan: &[u8],
-    branch: &[u8],
-    node_table: &[u16],
-    state_table: &[u8],
-    upper: u32,
-    lower: u32,
-    state: &mut u32,
-    yes: &mut u32,
-    links: &mut u32,
-    passed: &mut u32,
-) -> u32
-    ensures { λ r. ⌜
-        AskExported WithUpper (now (plan .entry)) (now (branch .entry)) (now («node_table» .entry)) (now («state_table» .entry)) upper lower
-        r (now (state .entry)) (now (yes .entry)) (now (links .entry)) (now (passed .entry))
-        (now (state .exit)) (now (yes .exit)) (now (links .exit)) (now (passed .exit)) ⌝ }
-{
-    let answer = ask_branch_with_upper(plan, branch, node_table, state_table, upper, lower);
     ask_number(answer, state, yes, links, passed)
 }

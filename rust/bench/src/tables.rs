@@ -11,7 +11,9 @@ use whatif::sizes::RECORD_BYTES;
 use whatif::Session;
 use yardstick::session;
 
-const QUESTIONS: usize = 2_000;
+/// Branch questions of a turn: so many that no turn is learned by heart. Of 2,000 a processor remembers which way the
+/// branches went, more of it for one side than for the other.
+const QUESTIONS: usize = 20_000;
 
 type Buffers = (Vec<u16>, Vec<u8>);
 

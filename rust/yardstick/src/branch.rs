@@ -177,30 +177,20 @@ pub fn ask_with_upper(
 /// How many moves are remembered in place: a climb on tables as built has at most 45.
 const MOVES: usize = 48;
 
-/// The moves of the climb are remembered, each with whether it is by the jump, and one state goes down through them from the last to the first.
+/// A climb of at most so many links: its links, and the node where it ends. Each move is handed on with its place in
+/// the climb, as twice its node, and 1 more where it is by the jump.
 #[inline(always)]
-fn ask_by<const WITH_UPPER: bool>(
-    plan: &[u8],
-    branch: &[u8],
+fn climb(
+    n: usize,
     node_table: &[u16],
-    state_table: &[u8],
-    upper: u32,
-    lower: u32,
-) -> Result<Told, u32> {
-    let (labels, branch) = lent(plan, branch, node_table.len(), state_table.len()).ok_or(17u32)?;
-    let (n, s, k, row) = (labels.len(), branch.s, branch.k, branch.s + 1);
-    let (upper, lower) = (upper as usize, lower as usize);
-    if upper >= n || lower >= n {
-        return Err(13);
-    }
-    if lower > upper || upper >= lower + node_table[4 * upper + SIZE] as usize {
-        return Err(16);
-    }
+    from: usize,
+    top: u16,
+    most: usize,
+    mut keep: impl FnMut(usize, u32),
+) -> Result<(usize, usize), u32> {
     let depth = |v: usize| node_table[4 * v + DEPTH];
-    let top = depth(upper);
-    let (mut moves, mut more) = ([0u32; MOVES], Vec::new());
-    let (mut v, mut links) = (lower, 0);
-    while depth(v) > top {
+    let (mut v, mut links) = (from, 0);
+    while links < most && depth(v) > top {
         let jump = node_table[4 * v + JUMP] as usize;
         if jump >= n {
             return Err(18);
@@ -210,26 +200,18 @@ fn ask_by<const WITH_UPPER: bool>(
         if next >= n || depth(next) >= depth(v) {
             return Err(18);
         }
-        let step = 2 * v as u32 + by_jump as u32;
-        match moves.get_mut(links) {
-            Some(place) => *place = step,
-            None => more.push(step),
-        }
+        keep(links, 2 * v as u32 + by_jump as u32);
         v = next;
         links += 1;
     }
-    let mut state = 0;
-    if WITH_UPPER {
-        let a = labels[upper] as usize;
-        if a >= k {
-            return Err(18);
-        }
-        state = branch.steps[a] as usize;
-        if state >= s {
-            return Err(18);
-        }
-    }
-    for step in more.into_iter().rev().chain(moves[..links.min(MOVES)].iter().rev().copied()) {
+    Ok((links, v))
+}
+
+/// What the moves make of a state, from the last to the first.
+#[inline(always)]
+fn replay(moves: &[u32], labels: &[u8], branch: &Branch, state_table: &[u8], mut state: usize) -> Result<usize, u32> {
+    let (s, k, row) = (branch.s, branch.k, branch.s + 1);
+    for step in moves.iter().rev() {
         let v = (step / 2) as usize;
         state = if step % 2 == 1 {
             state_table[row * v + 1 + state] as usize
@@ -244,7 +226,68 @@ fn ask_by<const WITH_UPPER: bool>(
             return Err(18);
         }
     }
+    Ok(state)
+}
+
+/// A climb of more moves than are remembered in place, which tables as built never have.
+#[cold]
+#[inline(never)]
+fn long(
+    labels: &[u8],
+    branch: &Branch,
+    node_table: &[u16],
+    state_table: &[u8],
+    lower: usize,
+    top: u16,
+    state: usize,
+) -> Result<(usize, usize, usize), u32> {
+    let mut moves = Vec::new();
+    let (links, end) = climb(labels.len(), node_table, lower, top, usize::MAX, |_, step| moves.push(step))?;
+    let state = replay(&moves, labels, branch, state_table, state)?;
+    Ok((state, links, end))
+}
+
+/// The moves of the climb are remembered, each with whether it is by the jump, and one state goes down through them
+/// from the last to the first.
+#[inline(always)]
+fn ask_by<const WITH_UPPER: bool>(
+    plan: &[u8],
+    branch: &[u8],
+    node_table: &[u16],
+    state_table: &[u8],
+    upper: u32,
+    lower: u32,
+) -> Result<Told, u32> {
+    let (labels, branch) = lent(plan, branch, node_table.len(), state_table.len()).ok_or(17u32)?;
+    let (n, s, k) = (labels.len(), branch.s, branch.k);
+    let (upper, lower) = (upper as usize, lower as usize);
+    if upper >= n || lower >= n {
+        return Err(13);
+    }
+    if lower > upper || upper >= lower + node_table[4 * upper + SIZE] as usize {
+        return Err(16);
+    }
+    let depth = |v: usize| node_table[4 * v + DEPTH];
+    let top = depth(upper);
+    let mut state = 0;
+    if WITH_UPPER {
+        let a = labels[upper] as usize;
+        if a >= k {
+            return Err(18);
+        }
+        state = branch.steps[a] as usize;
+        if state >= s {
+            return Err(18);
+        }
+    }
+    let mut moves = [0u32; MOVES];
+    let (mut links, mut end) = climb(n, node_table, lower, top, MOVES, |at, step| moves[at] = step)?;
+    if depth(end) > top {
+        (state, links, end) = long(labels, &branch, node_table, state_table, lower, top, state)?;
+    } else {
+        state = replay(&moves[..links], labels, &branch, state_table, state)?;
+    }
     let state = state as u8;
-    let passed = u32::from(depth(lower) - depth(v));
+    let passed = u32::from(depth(lower) - depth(end));
     Ok(Told { state, yes: branch.marks[state as usize] == 1, links: links as u32, passed })
 }
