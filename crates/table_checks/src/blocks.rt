@@ -1,6 +1,6 @@
 // Blocks of nodes: the inner ones listed without a branch on the kind, then tested; no test ends a block.
-use crate::rows::pair_differences;
-use crate::siblings::pair_nodes_match;
+use crate::listed::listed_nodes_match;
+use crate::listed::listed_states_match_any;
 use node_tables::blocks::block_end;
 ghost use mathlib.Core.Path.{_≡_};
 ghost use lib.ListN.{length, getD};
@@ -72,18 +72,20 @@ fn pairs_match(
     ensures { λ r. ⌜ r ≡ every c (λ i. pairIs (now (labels .entry)) (now («node_table» .entry)) (now (inner .entry)) s
         k n (now («state_table» .entry)) (getD (now (list .entry)) i 0)) ⌝ }
 {
-    let mut ok = true;
-    let mut bad = 0;
-    let mut i = 0;
-    while i < c {
-        let v = list[i] as usize;
-        let nodes = pair_nodes_match(node_table, lengths, n, v);
-        let states = pair_differences(labels, node_table, leaves, inner, s, k, n, state_table, v);
-        ok = ok & nodes;
-        bad = bad | states;
-        i += 1;
-    }
-    ok & (bad == 0)
+    let nodes = listed_nodes_match(node_table, lengths, n, list, c);
+    let states = listed_states_match_any(
+        labels,
+        node_table,
+        leaves,
+        inner,
+        s,
+        k,
+        n,
+        state_table,
+        list,
+        c,
+    );
+    nodes & states
 }
 
 // Whether the nodes b, .. e - 1 match.

@@ -5,7 +5,7 @@
 -- Leaves .. b e, Nodes .. b e == the leaves of b, .. e - 1 match; the leaves and the pairs of these nodes do
 -- Kinds ks == kinds are 0 or 1, and no inner node is the first
 -- BlockListed .. c r l == both of a block's first look: its inner nodes are listed, and r is whether its leaves match
--- PairsArgs, BlockArgs, BlocksArgs == what the loops need
+-- ListedArgs, PairsArgs, BlockArgs, BlocksArgs == what the loops need
 --
 -- Assumes nothing.
 use Prim.Native.Nat.{ℕ, _+_, _≤_, _<_}
@@ -13,6 +13,7 @@ use mathlib.Core.Path.{_≡_}
 use mathlib.Core.Bool.{Bool, true}
 use mathlib.Core.List.{List}
 use lib.ListN.{length, getD}
+use Rattle.formats.specs.Checks.{nodeTableLength}
 use Rattle.table_checks.specs.inner.PairStates.{leafIs, pairIs, TableRoom}
 
 pub record Listed (ks : List ℕ) (b e c : ℕ) (l : List ℕ) : Type 0 where
@@ -34,6 +35,13 @@ pub record BlockListed (ks ls nodeTable lv : List ℕ) (s : ℕ) (stateTable : L
     : Type 0 where
   pub listed : Listed ks b e c l
   pub leaves : Means r (Leaves ks ls nodeTable lv s stateTable b e)
+
+pub record ListedArgs (nodeTable : List ℕ) (n : ℕ) (l : List ℕ) (c : ℕ) : Type 0 where
+  pub most : n ≤ 65535
+  pub link-room : nodeTableLength n ≤ length nodeTable
+  pub few : c ≤ length l
+  pub pos : (i : ℕ) → i < c → 0 < getD l i 0
+  pub inside : (i : ℕ) → i < c → getD l i 0 < n
 
 pub record PairsArgs (ls nodeTable lv inn : List ℕ) (s k n : ℕ) (stateTable l : List ℕ) (c : ℕ) : Type 0 where
   pub table : TableRoom ls nodeTable lv inn s k n stateTable

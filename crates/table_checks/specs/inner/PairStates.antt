@@ -8,7 +8,7 @@
 -- pairIs == whether pairNodes and pairStates hold
 -- TableRoom == what the tests need: room, and every byte of the state table below s
 -- NodeRoom == besides, v is one of the n nodes and not the first
--- FarEntryArgs, RowsArgs, StateIn == what the comparisons of rows and the reading of a state need
+-- RowsArgs, StateIn == what the comparisons of rows and the reading of a state need
 --
 -- Assumes nothing.
 use Prim.Native.Nat.{ℕ, _+_, _-_, _*_, _≤_, _<_}
@@ -21,11 +21,12 @@ use Rattle.formats.specs.Checks.{nodeTableLength, stateTableLength}
 use Rattle.node_tables.specs.Cells.{jumpCell, sizeCell}
 use Rattle.node_tables.specs.inner.UpPass.{leftOf}
 use Rattle.tables.specs.StateCells.{stateCell, mapCell}
-use Rattle.tables.specs.inner.Rows.{RowIn, NearArgs}
+use Rattle.tables.specs.inner.Rows.{NearArgs}
 use Rattle.tables.specs.inner.MapPairs.{rowOf, colOf}
 use Rattle.tables.specs.inner.Compare.{rowIs, nearEntry}
 use Rattle.tables.specs.inner.States.{RuleRuns, innerState}
 use Rattle.table_checks.specs.inner.PairNodes.{within, pairNodes, PairArgs}
+use Rattle.table_checks.specs.inner.Joins.{JoinArgs}
 
 abbrev pub farEntry : ℕ → List ℕ → ℕ → ℕ → List ℕ → ℕ → ℕ → ℕ → ℕ
 farEntry s b p j table base stride q = mapCell s b j (mapCell s b p (nearEntry table base stride q))
@@ -48,20 +49,14 @@ leafIs ls nodeTable lv s b v = eqb (sizeCell nodeTable v) 1 && eqb (stateCell s 
 unfoldable pub pairIs : List ℕ → List ℕ → List ℕ → ℕ → ℕ → ℕ → List ℕ → ℕ → Bool
 pairIs ls nodeTable inn s k n b v = pairNodes n nodeTable v && pairStates ls nodeTable inn s k n b v
 
-pub record FarEntryArgs (s : ℕ) (b : List ℕ) (v p j : ℕ) (table : List ℕ) (base stride : ℕ) : Type 0 where
-  pub room : RowIn (length b) s v
-  pub first : RowIn (length b) s p
-  pub second : RowIn (length b) s j
-  pub inside : (q : ℕ) → q < s → base + q * stride < length table
-  pub near-below : (q : ℕ) → q < s → nearEntry table base stride q < s
-  pub first-below : (q : ℕ) → q < s → mapCell s b p q < s
-
 pub record RowsArgs (nodeTable inn : List ℕ) (s n : ℕ) (b : List ℕ) (v l row col step : ℕ) : Type 0 where
   pub links : PairArgs n nodeTable v
-  pub near-right : NearArgs (length b) s (v - 1) (length inn) row 1
-  pub near-left : NearArgs (length b) s l (length inn) col step
-  pub far-right : FarEntryArgs s b (v - 1) v (within n (jumpCell nodeTable v)) inn row 1
-  pub far-left : FarEntryArgs s b l v (within n (jumpCell nodeTable v)) inn col step
+  pub right : NearArgs (length b) s (v - 1) (length inn) row 1
+  pub left : NearArgs (length b) s l (length inn) col step
+  pub maps : JoinArgs s b v (within n (jumpCell nodeTable v)) 16
+  pub jump-below : (q : ℕ) → q < s → mapCell s b (within n (jumpCell nodeTable v)) q < s
+  pub right-below : (q : ℕ) → q < s → nearEntry inn row 1 q < s
+  pub left-below : (q : ℕ) → q < s → nearEntry inn col step q < s
 
 pub record StateIn (s : ℕ) (b : List ℕ) (u : ℕ) : Type 0 where
   pub few : s ≤ 16
