@@ -3,12 +3,13 @@
 --     pair-jump-less                 the jump by pairs is a 16-bit number where all entries are
 --     pair-packed                    the differences, or-ed, are 0 exactly where the test of the pair holds
 -- Assumes nothing.
-use Prim.Native.Nat.{ℕ, _+_, _-_, _*_, _<_}
+use Prim.Native.Nat.{ℕ, _+_, _-_, _*_, _%_, _<_}
 use mathlib.Core.Path.{_≡_, refl, sym, ap, _∙_}
 use mathlib.Core.Bool.{Bool, true, false, cond}
 use mathlib.Core.List.{List}
 use native.Mathlib.Decide.{ℕ-discrete}
 use native.Mathlib.Omega.{arith}
+use lib.Arith.{digits-mod}
 use lib.Dec.{eqb, ltb}
 use lib.ListN.{getD}
 use lib.Bits.{bitOr, bitXor}
@@ -17,7 +18,7 @@ use Rattle.node_tables.specs.Cells.{parentCell, jumpCell, depthCell, sizeCell}
 use Rattle.node_tables.specs.JumpLengths.{jumpLengths}
 use Rattle.node_tables.specs.inner.UpPass.{leftOf, innerSize}
 use Rattle.table_checks.specs.inner.PairNodes.{within, pairByDistances, pairByLength, pairJump, pairNodes}
-use Rattle.table_checks.specs.inner.PairNodes.{packed, linksCell}
+use Rattle.table_checks.specs.inner.PairNodes.{packed, linksCell, numbersCell}
 use Rattle.table_checks.proofs.DifferenceLaws.{or-none, or-left, or-right, xor-zero, xor-none}
 use Rattle.table_checks.proofs.PairNodeLaws.{Pair, pair-told, tells-pair}
 
@@ -99,11 +100,20 @@ module _ (n : ℕ) (b : List ℕ) (v : ℕ) (small : (i : ℕ) → getD b i 0 < 
       same-truth (eqb differences 0) (pairNodes n b v) (λ e. tells-pair n b v (told (eqb-true differences 0 e)))
       (λ e. eq-eqb differences 0 (tells (pair-told n b v e)))
 
+  -- the size taken off
+  links-of : (u : ℕ) → numbersCell b u % 281474976710656 ≡ linksCell b u
+  links-of u =
+      digits-mod (sizeCell b u) {m = 281474976710656} {r = linksCell b u}
+      (omega (arith, small (u * 4), small (u * 4 + 1), small (u * 4 + 2)))
+
   -- as the code has them
-  pub pair-packed : (l to x y : ℕ) → l ≡ leftOf b v → to ≡ pairJump n b v → x ≡ linksCell b (v - 1) → y ≡ linksCell b l
+  pub pair-packed : (l to x y : ℕ) → l ≡ leftOf b v → to ≡ pairJump n b v → x ≡ numbersCell b (v - 1)
+      → y ≡ numbersCell b l
       → eqb
       (bitOr (bitXor (sizeCell b v) (sizeCell b l + sizeCell b (v - 1) + 1))
-      (bitOr (bitXor x (packed v to (depthCell b v + 1))) (bitXor y (packed v to (depthCell b v + 1))))) 0
+      (bitOr (bitXor (x % 281474976710656) (packed v to (depthCell b v + 1)))
+      (bitXor (y % 281474976710656) (packed v to (depthCell b v + 1))))) 0
       ≡ pairNodes n b v
   unfolding differences want
-  pair-packed l to x y e f g h = rw (h, g, f, e) differ-test
+  pair-packed l to x y e f g h =
+      rw (h, g, links-of (v - 1), links-of l, f, e) differ-test

@@ -8,6 +8,7 @@
 -- pairNodes n b v == whether inner node v's size, and its children's parents, depths and jumps, follow from their
 --   neighbours'
 -- packed p j d == three 16-bit numbers as one; linksCell b v == parent, jump and depth of node v so
+-- numbersCell b v == these and the size of node v, the size above
 -- rootNode b v == whether node v has the root's parent, jump and depth
 -- PairArgs n b v == node v is not the first, and n nodes within the limit have room in b
 -- RootArgs b v == what rootNode reads lies inside
@@ -56,6 +57,9 @@ packed p j d = d * 4294967296 + (j * 65536 + p)
 
 abbrev pub linksCell : List ℕ → ℕ → ℕ
 linksCell b v = packed (parentCell b v) (jumpCell b v) (depthCell b v)
+
+abbrev pub numbersCell : List ℕ → ℕ → ℕ
+numbersCell b v = sizeCell b v * 281474976710656 + linksCell b v
 
 unfoldable pub rootNode : List ℕ → ℕ → Bool
 rootNode b v = eqb (parentCell b v) v && (eqb (jumpCell b v) v && eqb (depthCell b v) 0)

@@ -7,7 +7,7 @@
 -- leafIs == whether v's size and state are a leaf's
 -- pairIs == whether pairNodes and pairStates hold
 -- TableRoom == what the tests need: room, and every byte of the state table below s
--- NodeRoom == besides, v is one of the n nodes and not the first
+-- NodeRoom == besides, v is one of the n nodes and not the first; LeafRoom == besides, v is one of them
 -- RowsArgs, StateIn == what the comparisons of rows and the reading of a state need
 --
 -- Assumes nothing.
@@ -76,4 +76,8 @@ pub record TableRoom (ls nodeTable lv inn : List ℕ) (s k n : ℕ) (b : List �
 pub record NodeRoom (ls nodeTable lv inn : List ℕ) (s k n : ℕ) (b : List ℕ) (v : ℕ) : Type 0 where
   pub table : TableRoom ls nodeTable lv inn s k n b
   pub pos : 0 < v
+  pub inside : v < n
+
+pub record LeafRoom (ls nodeTable lv inn : List ℕ) (s k n : ℕ) (b : List ℕ) (v : ℕ) : Type 0 where
+  pub table : TableRoom ls nodeTable lv inn s k n b
   pub inside : v < n

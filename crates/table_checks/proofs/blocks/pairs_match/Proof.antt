@@ -1,17 +1,13 @@
+-- `blocks::pairs_match` meets its contract: both tests, node table and states, of the same list.
+-- Assumes nothing.
 use mathlib.Core.Path.{ap₂, _∙_}
 use mathlib.Core.Bool.{Bool, _&&_}
-use native.Mathlib.Omega.{arith}
 use lib.ListN.{getD}
 use Rattle.table_checks.specs.inner.PairNodes.{pairNodes}
 use Rattle.table_checks.specs.inner.PairStates.{pairStates, pairIs}
 use Rattle.table_checks.proofs.DifferenceLaws.{every-both}
-use borrow.Author.Needs.{needs}
 use Rattle.table_checks.proofs.blocks.pairs_match.Statement.{statement}
 use Rattle.table_checks.proofs.blocks.pairs_match.Tie as tie
-use Rattle.table_checks.proofs.blocks.pairs_match.Reads as reads
-use Rattle.table_checks.proofs.blocks.pairs_match.Lts as lts
-use Rattle.table_checks.proofs.listed.listed_nodes_match.Reads as listed-nodes-match-reads
-use Rattle.table_checks.proofs.listed.listed_states_match_any.Reads as listed-states-match-any-reads
 
 listed-nodes-match-requires : tie.Need-listed-nodes-match-requires
 listed-nodes-match-requires c κs =

@@ -5,7 +5,7 @@ use Prim.Native.Nat.{ℕ, _≤_, _-_}
 use mathlib.Core.Path.{_≡_, refl}
 use lib.Dec.{eqb}
 use Rattle.tables.specs.StateCells.{mapCell}
-use Rattle.tables.specs.inner.Compare.{every, nearEntry}
+use Rattle.tables.specs.inner.Compare.{every}
 use Rattle.table_checks.specs.inner.Joins.{throughEntry}
 use Rattle.table_checks.proofs.DifferenceLaws.{more-test}
 use native.Mathlib.Omega.{arith}

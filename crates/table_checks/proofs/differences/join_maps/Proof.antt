@@ -18,29 +18,8 @@ Inv-loop stateTable s p j joined₀ first second q₀ joined q =
 abbrev μ-loop : tie.MeasureT-loop
 μ-loop stateTable s p j joined₀ first second q₀ joined q = s - q
 
-add-first : tie.Need-add-first Inv-loop μ-loop
-add-first c = search needs
-
-mul-first : tie.Need-mul-first Inv-loop μ-loop
-mul-first c = search needs
-
-add-second : tie.Need-add-second Inv-loop μ-loop
-add-second c = search needs
-
-mul-second : tie.Need-mul-second Inv-loop μ-loop
-mul-second c = search needs
-
 loop-holds : tie.Need-loop-holds Inv-loop μ-loop
 loop-holds c = (omega arith, refl, λ q h. absurd (omega arith))
-
-add-next : tie.Need-add-next Inv-loop μ-loop
-add-next c = search needs
-
-add-next-2 : tie.Need-add-next-2 Inv-loop μ-loop
-add-next-2 c = search needs
-
-shared-slice-read-next : tie.Need-shared-slice-read-next Inv-loop μ-loop
-shared-slice-read-next c = search needs
 
 cast-next : tie.Need-cast-next Inv-loop μ-loop
 cast-next c =
@@ -70,12 +49,6 @@ slice-write-joined : tie.Need-slice-write-joined Inv-loop μ-loop
 slice-write-joined c =
     omega (arith, c .before .before .before .loop .inv .1, c .before .before .before .before .pre .room, c .before .before .loop-test .taken)
 
-add-q : tie.Need-add-q Inv-loop μ-loop
-add-q c = search needs
-
-loop-less : tie.Need-loop-less Inv-loop μ-loop
-loop-less c = search needs
-
 loop-again : tie.Need-loop-again Inv-loop μ-loop
 loop-again c =
     let l = c .before .before .before .loop in
@@ -90,9 +63,6 @@ loop-again c =
           (omega (arith, l .inv .1, s .pre .room, h)),
     )
 
-same-length : tie.Need-same-length Inv-loop μ-loop
-same-length c = search needs
-
 returns : tie.Need-returns Inv-loop μ-loop
 returns c =
     let l = c .before .loop in
@@ -103,24 +73,7 @@ returns c =
 pub join-maps-spec : {M : Type 1} → statement M
 join-maps-spec =
     tie.close
-    (tie.spec
-    Inv-loop
-    μ-loop
-    add-first
-    mul-first
-    add-second
-    mul-second
-    loop-holds
-    add-next
-    add-next-2
-    shared-slice-read-next
-    cast-next
-    add-joined
-    add-joined-2
-    shared-slice-read-joined
-    slice-write-joined
-    add-q
-    loop-less
-    loop-again
-    same-length
+    (tie.spec Inv-loop μ-loop (λ c. search needs) (λ c. search needs) (λ c. search needs) (λ c. search needs)
+    loop-holds (λ c. search needs) (λ c. search needs) (λ c. search needs) cast-next add-joined add-joined-2
+    shared-slice-read-joined slice-write-joined (λ c. search needs) (λ c. search needs) loop-again (λ c. search needs)
     returns)

@@ -1,6 +1,7 @@
+-- `listed::listed_states_match_any` meets its contract: by the number of states, chosen once.
+-- Assumes nothing.
 use Prim.Native.Nat.{ℕ}
 use mathlib.Core.Path.{sym, ap, subst, _∙_}
-use native.Mathlib.Omega.{arith}
 use lib.ListN.{getD}
 use Rattle.tables.specs.inner.Compare.{every}
 use Rattle.table_checks.specs.inner.PairStates.{pairStates}
@@ -8,11 +9,6 @@ use Rattle.table_checks.specs.inner.Blocks.{PairsArgs}
 use borrow.Author.Needs.{needs}
 use Rattle.table_checks.proofs.listed.listed_states_match_any.Statement.{statement}
 use Rattle.table_checks.proofs.listed.listed_states_match_any.Tie as tie
-use Rattle.table_checks.proofs.listed.listed_states_match_any.Reads as reads
-use Rattle.table_checks.proofs.listed.listed_states_match_any.Lts as lts
-use Rattle.table_checks.proofs.listed.listed_states_match.Reads as listed-states-match-reads
-use Rattle.table_checks.proofs.listed.listed_states_match16.Reads as listed-states-match16-reads
-use Rattle.table_checks.proofs.listed.listed_states_match2.Reads as listed-states-match2-reads
 
 listed-states-match2-requires : tie.Need-listed-states-match2-requires
 listed-states-match2-requires c κs =
@@ -50,19 +46,11 @@ returns-2 c =
     (g .state-table .now) (getD (g .list .now) i 0)))
     (sym (c .before .if2 .taken))
 
-listed-states-match-requires : tie.Need-listed-states-match-requires
-listed-states-match-requires c κs = search needs
-
 returns-3 : tie.Need-returns-3
 returns-3 c = c .listed-states-match .ensures
 
 pub listed-states-match-any-spec : {M : Type 1} → statement M
 listed-states-match-any-spec =
     tie.close
-    (tie.spec
-    listed-states-match2-requires
-    returns
-    listed-states-match16-requires
-    returns-2
-    listed-states-match-requires
+    (tie.spec listed-states-match2-requires returns listed-states-match16-requires returns-2 (λ c κs. search needs)
     returns-3)

@@ -1,10 +1,8 @@
-use native.Mathlib.Omega.{arith}
+-- `rows2::entry_of` meets its contract.
+-- Assumes nothing.
 use Rattle.table_checks.proofs.TwoStateLaws.{two-entry}
-use borrow.Author.Needs.{needs}
 use Rattle.table_checks.proofs.rows2.entry_of.Statement.{statement}
 use Rattle.table_checks.proofs.rows2.entry_of.Tie as tie
-use Rattle.table_checks.proofs.rows2.entry_of.Reads as reads
-use Rattle.table_checks.proofs.rows2.entry_of.Lts as lts
 
 returns : tie.Need-returns
 returns c = two-entry _ _ _ (c .pre .0) (c .pre .1) (c .pre .2)

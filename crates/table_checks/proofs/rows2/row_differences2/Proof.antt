@@ -1,3 +1,5 @@
+-- `rows2::row_differences2` meets its contract.
+-- Assumes nothing.
 use Prim.Native.Nat.{ℕ, _+_, _*_}
 use mathlib.Core.Path.{_≡_, ap, _∙_}
 use mathlib.Core.Bool.{cond}
@@ -8,25 +10,6 @@ use Rattle.table_checks.proofs.TwoStateLaws.{near-at, rows-two}
 use borrow.Author.Needs.{needs}
 use Rattle.table_checks.proofs.rows2.row_differences2.Statement.{statement}
 use Rattle.table_checks.proofs.rows2.row_differences2.Tie as tie
-use Rattle.table_checks.proofs.rows2.row_differences2.Reads as reads
-use Rattle.table_checks.proofs.rows2.row_differences2.Lts as lts
-use Rattle.table_checks.proofs.rows2.entry_of.Reads as entry-of-reads
-use Rattle.table_checks.proofs.rows2.two_maps.Reads as two-maps-reads
-
-sub-right : tie.Need-sub-right
-sub-right c = search needs
-
-two-maps-requires : tie.Need-two-maps-requires
-two-maps-requires c κs = search needs
-
-mul-a : tie.Need-mul-a
-mul-a c = search needs
-
-add-a : tie.Need-add-a
-add-a c = search needs
-
-shared-slice-read-a : tie.Need-shared-slice-read-a
-shared-slice-read-a c = search needs
 
 shared-slice-read-entry-of : tie.Need-shared-slice-read-entry-of
 shared-slice-read-entry-of c = omega (arith, c .before .before .before .before .before .before .pre .right .inside 0 (omega arith))
@@ -40,15 +23,6 @@ entry-of-requires c κs =
       m .one-less,
       near-at (g .inner .now) (g .row) 1 0 (g .row) (omega arith) (s .pre .right-below 0 (omega arith)),
     )
-
-mul-b : tie.Need-mul-b
-mul-b c = search needs
-
-add-b : tie.Need-add-b
-add-b c = search needs
-
-shared-slice-read-b : tie.Need-shared-slice-read-b
-shared-slice-read-b c = search needs
 
 add-entry-of : tie.Need-add-entry-of
 add-entry-of c = omega (arith, c .before .before .before .before .before .before .before .before .pre .right .inside 1 (omega arith))
@@ -66,15 +40,6 @@ entry-of-requires-2 c κs =
       near-at (g .inner .now) (g .row) 1 1 (g .row + 1) (omega arith) (s .pre .right-below 1 (omega arith)),
     )
 
-mul-c : tie.Need-mul-c
-mul-c c = search needs
-
-add-c : tie.Need-add-c
-add-c c = search needs
-
-shared-slice-read-c : tie.Need-shared-slice-read-c
-shared-slice-read-c c = search needs
-
 shared-slice-read-entry-of-3 : tie.Need-shared-slice-read-entry-of-3
 shared-slice-read-entry-of-3 c = omega (arith, c .before .before .before .before .before .before .before .before .before .before .before .before .pre .left .inside 0 (omega arith))
 
@@ -87,15 +52,6 @@ entry-of-requires-3 c κs =
       m .one-less,
       near-at (g .inner .now) (g .col) (g .step) 0 (g .col) (omega arith) (s .pre .left-below 0 (omega arith)),
     )
-
-mul-d : tie.Need-mul-d
-mul-d c = search needs
-
-add-d : tie.Need-add-d
-add-d c = search needs
-
-shared-slice-read-d : tie.Need-shared-slice-read-d
-shared-slice-read-d c = search needs
 
 add-entry-of-2 : tie.Need-add-entry-of-2
 add-entry-of-2 c = omega (arith, c .before .before .before .before .before .before .before .before .before .before .before .before .before .before .pre .left .inside 1 (omega arith))
@@ -135,29 +91,8 @@ returns c =
 pub row-differences2-spec : {M : Type 1} → statement M
 row-differences2-spec =
     tie.close
-    (tie.spec
-    sub-right
-    two-maps-requires
-    mul-a
-    add-a
-    shared-slice-read-a
-    shared-slice-read-entry-of
-    entry-of-requires
-    mul-b
-    add-b
-    shared-slice-read-b
-    add-entry-of
-    shared-slice-read-entry-of-2
-    entry-of-requires-2
-    mul-c
-    add-c
-    shared-slice-read-c
-    shared-slice-read-entry-of-3
-    entry-of-requires-3
-    mul-d
-    add-d
-    shared-slice-read-d
-    add-entry-of-2
-    shared-slice-read-entry-of-4
-    entry-of-requires-4
-    returns)
+    (tie.spec (λ c. search needs) (λ c κs. search needs) (λ c. search needs) (λ c. search needs) (λ c. search needs)
+    shared-slice-read-entry-of entry-of-requires (λ c. search needs) (λ c. search needs) (λ c. search needs)
+    add-entry-of shared-slice-read-entry-of-2 entry-of-requires-2 (λ c. search needs) (λ c. search needs)
+    (λ c. search needs) shared-slice-read-entry-of-3 entry-of-requires-3 (λ c. search needs) (λ c. search needs)
+    (λ c. search needs) add-entry-of-2 shared-slice-read-entry-of-4 entry-of-requires-4 returns)

@@ -1,13 +1,11 @@
+-- `siblings::numbers_of` meets its contract.
+-- Assumes nothing.
 use native.Mathlib.Omega.{arith}
 use Prim.Native.Nat.{_+_, _*_}
-use lib.Arith.{digits-mod}
-use Rattle.node_tables.specs.Cells.{sizeCell}
-use Rattle.table_checks.specs.inner.PairNodes.{linksCell}
+use mathlib.Core.Path.{refl}
 use borrow.Author.Needs.{needs}
-use Rattle.table_checks.proofs.siblings.links_of.Statement.{statement}
-use Rattle.table_checks.proofs.siblings.links_of.Tie as tie
-use Rattle.table_checks.proofs.siblings.links_of.Reads as reads
-use Rattle.table_checks.proofs.siblings.links_of.Lts as lts
+use Rattle.table_checks.proofs.siblings.numbers_of.Statement.{statement}
+use Rattle.table_checks.proofs.siblings.numbers_of.Tie as tie
 
 mul-parent : tie.Need-mul-parent
 mul-parent c = search needs
@@ -103,14 +101,10 @@ add-result-3 c =
     omega (arith, k (v * 4), k (v * 4 + 1), k (v * 4 + 2), k (v * 4 + 3))
 
 returns : tie.Need-returns
-returns c =
-    let v = c .before .before .before .before .args .v in
-    let b = c .before .before .before .before .args .node-table .now in
-    let k = c .shared-slice-known4 .given in
-    digits-mod (sizeCell b v) {m = 281474976710656} {r = linksCell b v} (omega (arith, k (v * 4), k (v * 4 + 1), k (v * 4 + 2)))
+returns c = refl
 
-pub links-of-spec : {M : Type 1} → statement M
-links-of-spec =
+pub numbers-of-spec : {M : Type 1} → statement M
+numbers-of-spec =
     tie.close
     (tie.spec
     mul-parent
