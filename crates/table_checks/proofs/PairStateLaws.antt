@@ -1,6 +1,7 @@
 -- The states and maps of a pair: places, and what the test tells.
 --     within-below .. left-less      places and values of the tables lie inside
---     rows-args, rows-args-of        what the tests at one node read lies inside; small-of, rule-place: the same of the rules
+--     rows-args, rows-args-of        what the tests at one node read lies inside
+--     small-of, rule-place           the same of the rules
 --     placed, pair-is                the places of a pair, and the test at its node, as the code goes
 --     rows-near, rows-far            the test of both maps, as the code goes
 --     Rows, rows-told, tells-rows    what the test of both children's maps tells
@@ -104,8 +105,8 @@ module _ (ls nodeTable lv inn : List ℕ) (s k n : ℕ) (b : List ℕ) (T : Tabl
     }
 
     -- as the code has them
-    pub rows-args-of : (l row col : ℕ) → l ≡ leftOf nodeTable v → row ≡ rowOf ls nodeTable b s k v → col ≡ colOf ls b s v
-        → RowsArgs nodeTable inn s n b v l row col (k * s)
+    pub rows-args-of : (l row col : ℕ) → l ≡ leftOf nodeTable v → row ≡ rowOf ls nodeTable b s k v
+        → col ≡ colOf ls b s v → RowsArgs nodeTable inn s n b v l row col (k * s)
     rows-args-of l row col e f g = rw (f, g, e) rows-args
 
     pub small-of : (p : ℕ) → p < 256 → Small s k p (getD ls v 0)

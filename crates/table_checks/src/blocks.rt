@@ -9,7 +9,8 @@ ghost use lib.ListN.{length, getD};
 ghost use Rattle.node_tables.specs.JumpLengths.{jumpLengths};
 ghost use Rattle.tables.specs.inner.Compare.{every};
 ghost use Rattle.table_checks.specs.inner.PairStates.{pairIs};
-ghost use Rattle.table_checks.specs.inner.Blocks.{Means, BothListed, ListingArgs, PairsArgs, Nodes, BlockArgs, BlocksArgs};
+ghost use Rattle.table_checks.specs.inner.Blocks.{Means, BothListed, Nodes};
+ghost use Rattle.table_checks.specs.inner.Blocks.{ListingArgs, PairsArgs, BlockArgs, BlocksArgs};
 
 // Lists the inner nodes of b, .. e - 1 and its leaves, and tells how many inner nodes they are. Each node is listed in
 // both, and the next node over it in one, so that nothing hangs on the kind.

@@ -1,5 +1,5 @@
 // Rows of a table of states compared with what they have to be: the differences or-ed into one byte, 0 where there is
-// none. Small enough to be laid out where they are called: with a literal s the number of turns is known to the compiler.
+// none. Small enough to be laid out where they are called: with a literal s the compiler knows the number of turns.
 ghost use mathlib.Core.Path.{_≡_};
 ghost use lib.Dec.{eqb};
 ghost use lib.ListN.{length};

@@ -1,5 +1,5 @@
-// Listed leaves and the pairs of listed inner nodes: each loop or-s its differences into one number, 0 where there is none, and has few values
-// at hand at a time. The number of states is chosen once a list.
+// Listed leaves and the pairs of listed inner nodes: each loop or-s its differences into one number, 0 where there is
+// none, and has few values at hand at a time. The number of states is chosen once a list.
 use crate::rows::pair_differences;
 use crate::rows2::pair_differences2;
 use crate::rows16::pair_differences16;

@@ -14,7 +14,8 @@ use Rattle.table_checks.proofs.blocks.block_match.Tie as tie
 
 listed-leaves-match-requires : tie.Need-listed-leaves-match-requires
 listed-leaves-match-requires c κs =
-    let s = c .before .before .before .before .before .before .before .before .before .before .before .before .before .before .before in
+    let d = c .before .before .before .before .before .before .before .before in
+    let s = d .before .before .before .before .before .before .before in
     let b = c .before .before .before .before .list-block in
     let a = c .before .before .before .before .before .before .before .empty-list in
     let L = b .ensures .leaf in
@@ -26,22 +27,26 @@ listed-leaves-match-requires c κs =
 
 returns : tie.Need-returns
 returns c =
+    let d = c .before .before .before .before .before .before .before .before in
     let b = c .before .before .before .before .before .before .list-block in
     let m = c .before .listed-leaves-match in
-    let g = c .before .before .before .before .before .before .before .before .before .before .before .before .before .before .before .before .before .args in
+    let g = d .before .before .before .before .before .before .before .before .before .args in
     block-no (g .kinds .now) (g .labels .now) (g .node-table .now) (g .leaves .now) (g .inner .now) (g .s) (g .k)
     (g .state-table .now) (g .b) (g .e)
     (subst
     (λ (r : Bool). Means r
-    (Leaves (g .kinds .now) (g .labels .now) (g .node-table .now) (g .leaves .now) (g .s) (g .state-table .now) (g .b) (g .e)))
+    (Leaves (g .kinds .now) (g .labels .now) (g .node-table .now) (g .leaves .now) (g .s)
+    (g .state-table .now) (g .b) (g .e)))
     (not-true (m .result) (c .if1 .taken))
-    (leaves-told (g .kinds .now) (g .labels .now) (g .node-table .now) (g .leaves .now) (g .s) (g .state-table .now) (g .b) (g .e)
+    (leaves-told (g .kinds .now) (g .labels .now) (g .node-table .now) (g .leaves .now) (g .s)
+    (g .state-table .now) (g .b) (g .e)
     (g .e - g .b - b .result) (b .last .1 .1 .1 .1 .0) (b .ensures .leaf) (m .result) (m .ensures)))
 
 pairs-match-requires : tie.Need-pairs-match-requires
 pairs-match-requires c κs =
+    let d = c .before .before .before .before .before .before .before .before in
     let b = c .before .before .before .before .before .before .before .list-block in
-    let s = c .before .before .before .before .before .before .before .before .before .before .before .before .before .before .before .before .before .before in
+    let s = d .before .before .before .before .before .before .before .before .before .before in
     let L = b .ensures .inner in (
       record {
         table = s .pre .0 .table;
@@ -54,16 +59,19 @@ pairs-match-requires c κs =
 
 returns-2 : tie.Need-returns-2
 returns-2 c =
+    let d = c .before .before .before .before .before .before .before .before in
     let b = c .before .before .before .before .before .before .before .before .list-block in
     let m = c .before .before .before .listed-leaves-match in
-    let g = c .before .before .before .before .before .before .before .before .before .before .before .before .before .before .before .before .before .before .before .args in
+    let g = d .before .before .before .before .before .before .before .before .before .before .before .args in
     block-told (g .kinds .now) (g .labels .now) (g .node-table .now) (g .leaves .now) (g .inner .now) (g .s) (g .k)
     (g .state-table .now) (g .b) (g .e) (b .result) (b .last .1 .1 .1 .0) (b .ensures .inner)
     (subst
     (λ (r : Bool). Means r
-    (Leaves (g .kinds .now) (g .labels .now) (g .node-table .now) (g .leaves .now) (g .s) (g .state-table .now) (g .b) (g .e)))
+    (Leaves (g .kinds .now) (g .labels .now) (g .node-table .now) (g .leaves .now) (g .s)
+    (g .state-table .now) (g .b) (g .e)))
     (not-false (m .result) (c .before .before .if1 .left))
-    (leaves-told (g .kinds .now) (g .labels .now) (g .node-table .now) (g .leaves .now) (g .s) (g .state-table .now) (g .b) (g .e)
+    (leaves-told (g .kinds .now) (g .labels .now) (g .node-table .now) (g .leaves .now) (g .s)
+    (g .state-table .now) (g .b) (g .e)
     (g .e - g .b - b .result) (b .last .1 .1 .1 .1 .0) (b .ensures .leaf) (m .result) (m .ensures)))
     (c .pairs-match .result) (c .pairs-match .ensures)
 

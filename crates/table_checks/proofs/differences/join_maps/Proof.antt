@@ -47,7 +47,12 @@ shared-slice-read-joined c =
 
 slice-write-joined : tie.Need-slice-write-joined Inv-loop μ-loop
 slice-write-joined c =
-    omega (arith, c .before .before .before .loop .inv .1, c .before .before .before .before .pre .room, c .before .before .loop-test .taken)
+    omega (
+      arith,
+      c .before .before .before .loop .inv .1,
+      c .before .before .before .before .pre .room,
+      c .before .before .loop-test .taken,
+    )
 
 loop-again : tie.Need-loop-again Inv-loop μ-loop
 loop-again c =

@@ -1,5 +1,5 @@
--- `listed::listed_leaves_match` meets its contract. The loop's invariant: the number is 0 exactly where the leaves passed
--- match.
+-- `listed::listed_leaves_match` meets its contract.
+-- The loop's invariant: the number is 0 exactly where the leaves passed match.
 -- Assumes nothing.
 use Prim.Native.Nat.{ℕ, _-_, _≤_}
 use mathlib.Core.Path.{_≡_, refl, ap, _∙_}
@@ -37,9 +37,11 @@ leaf-differences-requires c κs =
 
 loop-again : tie.Need-loop-again Inv-loop μ-loop
 loop-again c =
-    let g = c .before .before .before .before .before .before .before .before .before .before .args in
+    let d = c .before .before .before .before .before .before .before .before in
+    let g = d .before .before .args in
     let l = c .before .before .before .loop in
-    let f : ℕ → Bool = (λ x. leafIs (g .labels .now) (g .node-table .now) (g .leaves .now) (g .s) (g .state-table .now) (getD (g .list .now) x 0)) in (
+    let f : ℕ → Bool = (λ x. leafIs (g .labels .now) (g .node-table .now) (g .leaves .now) (g .s) (g .state-table .now)
+    (getD (g .list .now) x 0)) in (
       omega (arith, c .before .before .loop-test .taken),
       or-more (l .i) f (l .bad) (c .leaf-differences .result) (l .inv .1) (c .leaf-differences .ensures),
     )
@@ -48,7 +50,8 @@ returns : tie.Need-returns Inv-loop μ-loop
 returns c =
     let g = c .before .before .before .before .before .before .before .before .args in
     let l = c .before .loop in
-    let f : ℕ → Bool = (λ x. leafIs (g .labels .now) (g .node-table .now) (g .leaves .now) (g .s) (g .state-table .now) (getD (g .list .now) x 0)) in
+    let f : ℕ → Bool = (λ x. leafIs (g .labels .now) (g .node-table .now) (g .leaves .now) (g .s) (g .state-table .now)
+    (getD (g .list .now) x 0)) in
     let z : l .i ≡ g .c = omega (arith, l .inv .0, c .loop-test .left) in
     l .inv .1 ∙ ap (λ (x : ℕ). every x f) z
 

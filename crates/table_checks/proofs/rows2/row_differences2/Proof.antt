@@ -12,7 +12,8 @@ use Rattle.table_checks.proofs.rows2.row_differences2.Statement.{statem
 use Rattle.table_checks.proofs.rows2.row_differences2.Tie as tie
 
 shared-slice-read-entry-of : tie.Need-shared-slice-read-entry-of
-shared-slice-read-entry-of c = omega (arith, c .before .before .before .before .before .before .pre .right .inside 0 (omega arith))
+shared-slice-read-entry-of c =
+    omega (arith, c .before .before .before .before .before .before .pre .right .inside 0 (omega arith))
 
 entry-of-requires : tie.Need-entry-of-requires
 entry-of-requires c κs =
@@ -25,10 +26,13 @@ entry-of-requires c κs =
     )
 
 add-entry-of : tie.Need-add-entry-of
-add-entry-of c = omega (arith, c .before .before .before .before .before .before .before .before .pre .right .inside 1 (omega arith))
+add-entry-of c =
+    omega (arith, c .before .before .before .before .before .before .before .before .pre .right .inside 1 (omega arith))
 
 shared-slice-read-entry-of-2 : tie.Need-shared-slice-read-entry-of-2
-shared-slice-read-entry-of-2 c = omega (arith, c .before .before .before .before .before .before .before .before .before .pre .right .inside 1 (omega arith))
+shared-slice-read-entry-of-2 c =
+    let d = c .before .before .before .before .before .before .before .before in
+    omega (arith, d .before .pre .right .inside 1 (omega arith))
 
 entry-of-requires-2 : tie.Need-entry-of-requires-2
 entry-of-requires-2 c κs =
@@ -41,7 +45,9 @@ entry-of-requires-2 c κs =
     )
 
 shared-slice-read-entry-of-3 : tie.Need-shared-slice-read-entry-of-3
-shared-slice-read-entry-of-3 c = omega (arith, c .before .before .before .before .before .before .before .before .before .before .before .before .pre .left .inside 0 (omega arith))
+shared-slice-read-entry-of-3 c =
+    let d = c .before .before .before .before .before .before .before .before in
+    omega (arith, d .before .before .before .before .pre .left .inside 0 (omega arith))
 
 entry-of-requires-3 : tie.Need-entry-of-requires-3
 entry-of-requires-3 c κs =
@@ -54,27 +60,34 @@ entry-of-requires-3 c κs =
     )
 
 add-entry-of-2 : tie.Need-add-entry-of-2
-add-entry-of-2 c = omega (arith, c .before .before .before .before .before .before .before .before .before .before .before .before .before .before .pre .left .inside 1 (omega arith))
+add-entry-of-2 c =
+    let d = c .before .before .before .before .before .before .before .before in
+    omega (arith, d .before .before .before .before .before .before .pre .left .inside 1 (omega arith))
 
 shared-slice-read-entry-of-4 : tie.Need-shared-slice-read-entry-of-4
-shared-slice-read-entry-of-4 c = omega (arith, c .before .before .before .before .before .before .before .before .before .before .before .before .before .before .before .pre .left .inside 1 (omega arith))
+shared-slice-read-entry-of-4 c =
+    let d = c .before .before .before .before .before .before .before .before in
+    omega (arith, d .before .before .before .before .before .before .before .pre .left .inside 1 (omega arith))
 
 entry-of-requires-4 : tie.Need-entry-of-requires-4
 entry-of-requires-4 c κs =
-    let s = c .before .before .before .before .before .before .before .before .before .before .before .before .before .before .before in
+    let d = c .before .before .before .before .before .before .before .before in
+    let s = d .before .before .before .before .before .before .before in
     let g = s .args in
-    let m = c .before .before .before .before .before .before .before .before .before .before .before .two-maps .ensures in (
+    let m = d .before .before .before .two-maps .ensures in (
       m .zero-less,
       m .one-less,
-      near-at (g .inner .now) (g .col) (g .step) 1 (g .col + g .step) (omega arith) (s .pre .left-below 1 (omega arith)),
+      near-at (g .inner .now) (g .col) (g .step) 1 (g .col + g .step) (omega arith)
+          (s .pre .left-below 1 (omega arith)),
     )
 
 returns : tie.Need-returns
 returns c =
-    let s = c .before .before .before .before .before .before .before .before .before .before .before .before .before .before .before .before in
+    let d = c .before .before .before .before .before .before .before .before in
+    let s = d .before .before .before .before .before .before .before .before in
     let g = s .args in
-    let m = c .before .before .before .before .before .before .before .before .before .before .before .before .two-maps in
-    let e0 = c .before .before .before .before .before .before .before .before .before .entry-of in
+    let m = d .before .before .before .before .two-maps in
+    let e0 = d .before .entry-of in
     let e1 = c .before .before .before .before .before .before .entry-of2 in
     let e2 = c .before .before .before .entry-of3 in
     let e3 = c .entry-of4 in

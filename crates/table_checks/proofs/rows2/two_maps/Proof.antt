@@ -13,13 +13,28 @@ cast-inside : tie.Need-cast-inside
 cast-inside c = omega (arith, c .shared-slice-known3 .given (c .before .before .before .before .args .v * 4 + 1))
 
 cast-p : tie.Need-cast-p
-cast-p c = omega (arith, c .shared-slice-known4 .given (c .before .before .before .before .before .before .args .v * 3 + 1))
+cast-p c =
+    omega (
+      arith,
+      c .shared-slice-known4 .given
+          (c .before .before .before .before .before .before .args .v * 3 + 1),
+    )
 
 cast-q : tie.Need-cast-q
-cast-q c = omega (arith, c .shared-slice-known5 .given (c .before .before .before .before .before .before .before .args .v * 3 + 2))
+cast-q c =
+    omega (
+      arith,
+      c .shared-slice-known5 .given
+          (c .before .before .before .before .before .before .before .args .v * 3 + 2),
+    )
 
 add-x : tie.Need-add-x
-add-x c = omega (arith, c .shared-slice-known5 .given (c .before .before .before .before .before .before .before .args .v * 3 + 1))
+add-x c =
+    omega (
+      arith,
+      c .shared-slice-known5 .given
+          (c .before .before .before .before .before .before .before .args .v * 3 + 1),
+    )
 
 add-x-2 : tie.Need-add-x-2
 add-x-2 c =
@@ -34,7 +49,12 @@ shared-slice-read-x c =
     omega (arith, h, s .pre .maps .second, c .before .before .before .inside .ensures .0)
 
 add-y : tie.Need-add-y
-add-y c = omega (arith, c .shared-slice-known6 .given (c .before .before .before .before .before .before .before .before .args .v * 3 + 2))
+add-y c =
+    omega (
+      arith,
+      c .shared-slice-known6 .given
+          (c .before .before .before .before .before .before .before .before .args .v * 3 + 2),
+    )
 
 add-y-2 : tie.Need-add-y-2
 add-y-2 c =

@@ -29,20 +29,38 @@ cast-below : tie.Need-cast-below
 cast-below c = omega (arith, c .shared-slice-known3 .given (c .before .before .before .left-in .result * 4 + 3))
 
 cast-below-2 : tie.Need-cast-below-2
-cast-below-2 c = omega (arith, c .shared-slice-known4 .given ((c .before .before .before .before .before .before .args .v - 1) * 4 + 3))
+cast-below-2 c =
+    omega (
+      arith,
+      c .shared-slice-known4 .given
+          ((c .before .before .before .before .before .before .args .v - 1) * 4 + 3),
+    )
 
 add-below-3 : tie.Need-add-below-3
 add-below-3 c =
     let k = c .shared-slice-known4 .given in
-    omega (arith, k ((c .before .before .before .before .before .before .args .v - 1) * 4 + 3), k (c .before .before .before .before .left-in .result * 4 + 3))
+    omega (
+      arith,
+      k ((c .before .before .before .before .before .before .args .v - 1) * 4 + 3),
+      k (c .before .before .before .before .left-in .result * 4 + 3),
+    )
 
 add-below-4 : tie.Need-add-below-4
 add-below-4 c =
     let k = c .shared-slice-known4 .given in
-    omega (arith, k ((c .before .before .before .before .before .before .args .v - 1) * 4 + 3), k (c .before .before .before .before .left-in .result * 4 + 3))
+    omega (
+      arith,
+      k ((c .before .before .before .before .before .before .args .v - 1) * 4 + 3),
+      k (c .before .before .before .before .left-in .result * 4 + 3),
+    )
 
 cast-sizes : tie.Need-cast-sizes
-cast-sizes c = omega (arith, c .shared-slice-known5 .given (c .before .before .before .before .before .before .before .args .v * 4 + 3))
+cast-sizes c =
+    omega (
+      arith,
+      c .shared-slice-known5 .given
+          (c .before .before .before .before .before .before .before .args .v * 4 + 3),
+    )
 
 returns : tie.Need-returns
 returns c =
