@@ -3,7 +3,7 @@
 --     rows-args, rows-args-of        what the tests at one node read lies inside
 --     small-of, rule-place           the same of the rules
 --     placed, pair-is                the places of a pair, and the test at its node, as the code goes
---     rows-near, rows-far            the test of both maps, as the code goes
+--     rows-near, rows-far            the test of both maps, as the code goes; rows-joined: through the joined map
 --     Rows, rows-told, tells-rows    what the test of both children's maps tells
 -- Assumes nothing.
 use Prim.Native.Nat.{ℕ, _+_, _-_, _*_, _≤_, _<_}
@@ -26,7 +26,7 @@ use Rattle.tables.specs.inner.MapPairs.{rowOf, colOf}
 use Rattle.tables.specs.inner.Compare.{rowIs, nearEntry}
 use Rattle.table_checks.specs.inner.Joins.{Joined, throughEntry}
 use Rattle.table_checks.specs.inner.PairPlaces.{PairPlaced}
-use Rattle.table_checks.specs.inner.PairStates.{farEntry, rowsMatch, pairStates}
+use Rattle.table_checks.specs.inner.PairStates.{farEntry, FarEntryArgs, rowsMatch, pairStates}
 use Rattle.table_checks.specs.inner.PairStates.{RowsArgs, StateIn, TableRoom}
 use Rattle.node_tables.specs.inner.UpPass.{leftOf}
 use Rattle.tables.proofs.CompareLaws.{rowIs-map, map-rowIs, rowIs-ext}
@@ -150,6 +150,12 @@ module _ (nodeTable inn : List ℕ) (s n : ℕ) (b : List ℕ) (v l row col step
   unfolding rowsMatch
   rows-near h x y e f = rw (eq-eqb (jumpCell nodeTable (v - 1)) v h, e, f)
 
+  pub rows-far : (jumpCell nodeTable (v - 1) ≡ v → ⊥) → (j : ℕ) → j ≡ within n (jumpCell nodeTable v) → (x y : Bool)
+      → x ≡ rowIs s b (v - 1) (farEntry s b v j inn row 1) → y ≡ rowIs s b l (farEntry s b v j inn col step)
+      → (x && y) ≡ rowsMatch nodeTable inn s n b v l row col step
+  unfolding rowsMatch
+  rows-far h j z x y e f = rw (ne-eqb (jumpCell nodeTable (v - 1)) v h, e, f, z)
+
   -- through the joined map
   through-far : (u p j base stride : ℕ) (m : List ℕ) → Joined s b p j s m
       → ((q : ℕ) → q < s → nearEntry inn base stride q < s)
@@ -158,18 +164,33 @@ module _ (nodeTable inn : List ℕ) (s n : ℕ) (b : List ℕ) (v l row col step
       rowIs-ext s b u (throughEntry m inn base stride) (farEntry s b p j inn base stride)
       (λ q l. J (nearEntry inn base stride q) (h q l))
 
-  pub rows-far : RowsArgs nodeTable inn s n b v l row col step → (jumpCell nodeTable (v - 1) ≡ v → ⊥)
-      → (j : ℕ) → j ≡ within n (jumpCell nodeTable v) → (m : List ℕ) → Joined s b v j s m → (x y : Bool)
-      → x ≡ rowIs s b (v - 1) (throughEntry m inn row 1) → y ≡ rowIs s b l (throughEntry m inn col step)
-      → (x && y) ≡ rowsMatch nodeTable inn s n b v l row col step
-  unfolding rowsMatch
-  rows-far A h j z m J x y e f =
-      rw (
-        ne-eqb (jumpCell nodeTable (v - 1)) v h,
-        e ∙ through-far (v - 1) v j row 1 m J (A .right-below),
-        f ∙ through-far l v j col step m J (A .left-below),
-        z,
-      )
+  module _ (A : RowsArgs nodeTable inn s n b v l row col step) where
+    pub far-right : FarEntryArgs s b (v - 1) v (within n (jumpCell nodeTable v)) inn row 1
+    far-right = record {
+      room = A .right .room;
+      first = A .maps .first;
+      second = A .maps .second;
+      inside = A .right .inside;
+      near-below = A .right-below;
+      first-below = A .maps .below;
+    }
+
+    pub far-left : FarEntryArgs s b l v (within n (jumpCell nodeTable v)) inn col step
+    far-left = record {
+      room = A .left .room;
+      first = A .maps .first;
+      second = A .maps .second;
+      inside = A .left .inside;
+      near-below = A .left-below;
+      first-below = A .maps .below;
+    }
+
+    pub rows-joined : (jumpCell nodeTable (v - 1) ≡ v → ⊥) → (j : ℕ) → j ≡ within n (jumpCell nodeTable v)
+        → (m : List ℕ) → Joined s b v j s m → (x y : Bool) → x ≡ rowIs s b (v - 1) (throughEntry m inn row 1)
+        → y ≡ rowIs s b l (throughEntry m inn col step) → (x && y) ≡ rowsMatch nodeTable inn s n b v l row col step
+    rows-joined h j z m J x y e f =
+        rows-far h j z x y (e ∙ through-far (v - 1) v j row 1 m J (A .right-below))
+        (f ∙ through-far l v j col step m J (A .left-below))
 
 -- ---- what it tells
 

@@ -1,6 +1,5 @@
 // The states and maps of a node's two children, tested at the parent.
 use crate::differences::far_differences;
-use crate::differences::join_maps;
 use crate::differences::near_differences;
 use crate::places::pair_at;
 use crate::siblings::inside;
@@ -33,10 +32,8 @@ fn row_differences(
         return a | b;
     }
     let j = inside(node_table[v * 4 + 1] as usize, n);
-    let mut joined = [0u8; 16];
-    join_maps(state_table, s, v, j, &mut joined);
-    let a = far_differences(state_table, s, right, &joined, inner, row, 1);
-    let b = far_differences(state_table, s, left, &joined, inner, col, step);
+    let a = far_differences(state_table, s, right, v, j, inner, row, 1);
+    let b = far_differences(state_table, s, left, v, j, inner, col, step);
     a | b
 }
 

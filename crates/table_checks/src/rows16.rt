@@ -1,7 +1,7 @@
 // The states and maps of a node's two children where there are 16 states: as in rows, with a number of turns that is
 // known to the compiler.
-use crate::differences::far_differences;
 use crate::differences::join_maps;
+use crate::differences::joined_differences;
 use crate::differences::near_differences;
 use crate::places::pair_at;
 use crate::siblings::inside;
@@ -34,8 +34,8 @@ fn row_differences16(
     let j = inside(node_table[v * 4 + 1] as usize, n);
     let mut joined = [0u8; 16];
     join_maps(state_table, 16, v, j, &mut joined);
-    let a = far_differences(state_table, 16, right, &joined, inner, row, 1);
-    let b = far_differences(state_table, 16, left, &joined, inner, col, step);
+    let a = joined_differences(state_table, 16, right, &joined, inner, row, 1);
+    let b = joined_differences(state_table, 16, left, &joined, inner, col, step);
     a | b
 }
 

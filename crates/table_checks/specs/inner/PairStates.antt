@@ -8,7 +8,7 @@
 -- pairIs == whether pairNodes and pairStates hold
 -- TableRoom == what the tests need: room, and every byte of the state table below s
 -- NodeRoom == besides, v is one of the n nodes and not the first; LeafRoom == besides, v is one of them
--- RowsArgs, StateIn == what the comparisons of rows and the reading of a state need
+-- FarEntryArgs, RowsArgs, StateIn == what the comparisons of rows and the reading of a state need
 --
 -- Assumes nothing.
 use Prim.Native.Nat.{ℕ, _+_, _-_, _*_, _≤_, _<_}
@@ -21,7 +21,7 @@ use Rattle.formats.specs.Checks.{nodeTableLength, stateTableLength}
 use Rattle.node_tables.specs.Cells.{jumpCell, sizeCell}
 use Rattle.node_tables.specs.inner.UpPass.{leftOf}
 use Rattle.tables.specs.StateCells.{stateCell, mapCell}
-use Rattle.tables.specs.inner.Rows.{NearArgs}
+use Rattle.tables.specs.inner.Rows.{RowIn, NearArgs}
 use Rattle.tables.specs.inner.MapPairs.{rowOf, colOf}
 use Rattle.tables.specs.inner.Compare.{rowIs, nearEntry}
 use Rattle.tables.specs.inner.States.{RuleRuns, innerState}
@@ -48,6 +48,14 @@ leafIs ls nodeTable lv s b v = eqb (sizeCell nodeTable v) 1 && eqb (stateCell s 
 
 unfoldable pub pairIs : List ℕ → List ℕ → List ℕ → ℕ → ℕ → ℕ → List ℕ → ℕ → Bool
 pairIs ls nodeTable inn s k n b v = pairNodes n nodeTable v && pairStates ls nodeTable inn s k n b v
+
+pub record FarEntryArgs (s : ℕ) (b : List ℕ) (v p j : ℕ) (table : List ℕ) (base stride : ℕ) : Type 0 where
+  pub room : RowIn (length b) s v
+  pub first : RowIn (length b) s p
+  pub second : RowIn (length b) s j
+  pub inside : (q : ℕ) → q < s → base + q * stride < length table
+  pub near-below : (q : ℕ) → q < s → nearEntry table base stride q < s
+  pub first-below : (q : ℕ) → q < s → mapCell s b p q < s
 
 pub record RowsArgs (nodeTable inn : List ℕ) (s n : ℕ) (b : List ℕ) (v l row col step : ℕ) : Type 0 where
   pub links : PairArgs n nodeTable v

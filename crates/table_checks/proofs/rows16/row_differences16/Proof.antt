@@ -6,7 +6,7 @@ use native.Mathlib.Omega.{arith}
 use lib.Dec.{eqb}
 use Rattle.table_checks.specs.inner.Joins.{JoinArgs}
 use Rattle.table_checks.proofs.DifferenceLaws.{or-test}
-use Rattle.table_checks.proofs.PairStateLaws.{rows-near, rows-far}
+use Rattle.table_checks.proofs.PairStateLaws.{rows-near, rows-joined}
 use borrow.Author.Needs.{needs}
 use Rattle.table_checks.proofs.rows16.row_differences16.Statement.{statement}
 use Rattle.table_checks.proofs.rows16.row_differences16.Tie as tie
@@ -36,8 +36,8 @@ join-maps-requires c κs =
     subst (λ (j : ℕ). JoinArgs 16 (g .state-table .now) (g .v) j 16) (sym (c .before .inside .ensures .0))
     (s .pre .maps)
 
-far-differences-requires : tie.Need-far-differences-requires
-far-differences-requires c κs =
+joined-differences-requires : tie.Need-joined-differences-requires
+joined-differences-requires c κs =
     let s = c .before .before .before .before .before .before .before .before .before .before .before in
     let m = c .before .before .join-maps in
     record {
@@ -45,8 +45,8 @@ far-differences-requires c κs =
       below = λ q h. omega (arith, s .pre .right-below q h, s .pre .maps .room, m .kept .1 .1 .1 .1 .0);
     }
 
-far-differences-requires-2 : tie.Need-far-differences-requires-2
-far-differences-requires-2 c κs =
+joined-differences-requires-2 : tie.Need-joined-differences-requires-2
+joined-differences-requires-2 c κs =
     let s = c .before .before .before .before .before .before .before .before .before .before .before .before .before in
     let m = c .before .before .before .before .join-maps in
     record {
@@ -61,10 +61,10 @@ returns-2 c =
     let g = s .args in
     let j = c .before .before .before .before .before .before .before .inside in
     let m = c .before .before .before .before .before .join-maps in
-    let a = c .before .before .far-differences in
-    let b = c .far-differences2 in
+    let a = c .before .before .joined-differences in
+    let b = c .joined-differences2 in
     or-test (a .result) (b .result)
-    ∙ rows-far (g .node-table .now) (g .inner .now) 16 (g .n) (g .state-table .now) (g .v) (g .left) (g .row)
+    ∙ rows-joined (g .node-table .now) (g .inner .now) 16 (g .n) (g .state-table .now) (g .v) (g .left) (g .row)
     (g .col) (g .step) (s .pre) (d .before .if1 .left) (j .result) (j .ensures .0) (m .last .1 .1 .1 .1 .0) (m .ensures)
     (eqb (a .result) 0) (eqb (b .result) 0) (a .ensures) (b .ensures)
 
@@ -74,4 +74,4 @@ row-differences16-spec =
     (tie.spec (λ c. search needs) (λ c. search needs) (λ c. search needs) (λ c. search needs) (λ c. search needs)
     (λ c. search needs) (λ c κs. search needs) (λ c κs. search needs) returns (λ c. search needs) (λ c. search needs)
     (λ c. search needs) (λ c. search needs) cast-inside (λ c κs. search needs) (λ c. search needs) join-maps-requires
-    (λ c. search needs) far-differences-requires (λ c. search needs) far-differences-requires-2 returns-2)
+    (λ c. search needs) joined-differences-requires (λ c. search needs) joined-differences-requires-2 returns-2)
