@@ -41,7 +41,7 @@ use Rattle.node_tables.proofs.InnerNodeLaws.{kind-most}
 use Rattle.table_checks.specs.inner.PairNodes.{pairNodes, rootNode}
 use Rattle.tables.specs.inner.MapPairs.{rowOf, colOf}
 use Rattle.table_checks.specs.inner.PairStates.{rowsMatch, pairStates, leafIs, pairIs, TableRoom}
-use Rattle.table_checks.specs.inner.Blocks.{Listed, Means, Leaves, Nodes, Kinds}
+use Rattle.table_checks.specs.inner.Blocks.{innerNode, Listed, Means, Leaves, Nodes, Kinds}
 use Rattle.table_checks.specs.inner.Tested.{MatchArgs, TablesTested}
 use Rattle.table_checks.proofs.PairNodeLaws.{pair-told, tells-pair, NodePairs}
 use Rattle.table_checks.proofs.PairStateLaws.{rows-told, tells-rows}
@@ -68,7 +68,7 @@ module _ (ks ls nodeTable lv inn : List ℕ) (s k : ℕ) (stateTable : List ℕ)
       → Means false (Nodes ks ls nodeTable lv inn s k stateTable b e)
   block-no b e M = record { yes = λ z. absurd (true-false (sym z)); back = λ n. M .back (n .leaves) }
 
-  pub block-told : (b e c : ℕ) (l : List ℕ) → Listed ks b e c l
+  pub block-told : (b e c : ℕ) (l : List ℕ) → Listed (innerNode ks) b e c l
       → Means true (Leaves ks ls nodeTable lv s stateTable b e) → (r : Bool)
       → r ≡ every c (λ i. pairIs ls nodeTable inn s k (length ks) stateTable (getD l i 0))
       → Means r (Nodes ks ls nodeTable lv inn s k stateTable b e)
@@ -81,7 +81,7 @@ module _ (ks ls nodeTable lv inn : List ℕ) (s k : ℕ) (stateTable : List ℕ)
               subst (λ (x : ℕ). pairIs ls nodeTable inn s k (length ks) stateTable x ≡ true) (i .2)
               (every-at c f (sym h ∙ z) (i .0) (i .1)));
         };
-        back = λ n. h ∙ every-all c f (λ i m. n .pairs (getD l i 0) (L .from i m) (L .to i m) (L .inner i m));
+        back = λ n. h ∙ every-all c f (λ i m. n .pairs (getD l i 0) (L .from i m) (L .to i m) (L .on i m));
       }
 
   pub nodes-none : Nodes ks ls nodeTable lv inn s k stateTable 0 0

@@ -1,7 +1,10 @@
 -- Differences or-ed into one number: it is 0 exactly where none was.
---     or-zero, xor-zero, or-test, xor-test, more-test
+--     or-left, or-right, or-none     a union is 0 exactly where both parts are
+--     xor-zero, xor-none             a difference is 0 exactly where both numbers are the same
+--     or-test, xor-test, more-test   the same, as tests; or-more: one test more
+--     every-both                     two tests of the same numbers are one
 -- Assumes nothing.
-use Prim.Native.Nat.{ℕ, _+_}
+use Prim.Native.Nat.{ℕ, zero, suc, _+_}
 use mathlib.Core.Path.{_≡_, refl, sym, ap, _∙_}
 use mathlib.Core.Bool.{Bool, true, false, _&&_}
 use native.Mathlib.Decide.{ℕ-discrete}
@@ -12,17 +15,20 @@ use borrow.Author.Tests.{eq-eqb, ne-eqb}
 use Rattle.tables.specs.inner.Compare.{every}
 use Rattle.table_checks.proofs.BlockLaws.{every-step}
 
-or-left : (a b : ℕ) → bitOr a b ≡ 0 → a ≡ 0
+pub or-left : (a b : ℕ) → bitOr a b ≡ 0 → a ≡ 0
 or-left a b e = omega (arith, or-add-and a b, and-le-r a b)
 
-or-right : (a b : ℕ) → bitOr a b ≡ 0 → b ≡ 0
+pub or-right : (a b : ℕ) → bitOr a b ≡ 0 → b ≡ 0
 or-right a b e = omega (arith, or-add-and a b, and-le-l a b)
 
-or-none : (a b : ℕ) → a ≡ 0 → b ≡ 0 → bitOr a b ≡ 0
+pub or-none : (a b : ℕ) → a ≡ 0 → b ≡ 0 → bitOr a b ≡ 0
 or-none a b e f = omega (arith, or-add-and a b)
 
 pub xor-zero : (a b : ℕ) → bitXor a b ≡ 0 → a ≡ b
 xor-zero a b e = omega (arith, xor-add-and a b, and-le-l a b, and-le-r a b)
+
+pub xor-none : (a b : ℕ) → a ≡ b → bitXor a b ≡ 0
+xor-none a b e = ap (bitXor a) (sym e) ∙ xor-self a
 
 pub or-test : (a b : ℕ) → eqb (bitOr a b) 0 ≡ (eqb a 0 && eqb b 0)
 or-test a b = elim (ℕ-discrete a 0) [
@@ -35,7 +41,7 @@ or-test a b = elim (ℕ-discrete a 0) [
 
 pub xor-test : (a b : ℕ) → eqb (bitXor a b) 0 ≡ eqb a b
 xor-test a b = elim (ℕ-discrete a b) [
-  | yes e ↦ eq-eqb (bitXor a b) 0 (ap (bitXor a) (sym e) ∙ xor-self a) ∙ sym (eq-eqb a b e)
+  | yes e ↦ eq-eqb (bitXor a b) 0 (xor-none a b e) ∙ sym (eq-eqb a b e)
   | no e ↦ ne-eqb (bitXor a b) 0 (λ z. e (xor-zero a b z)) ∙ sym (ne-eqb a b e)
 ]
 
@@ -47,15 +53,21 @@ more-test x n f g e =
     ∙ ap (λ (b : Bool). every n (λ q. eqb (f q) (g q)) && b) (xor-test (f n) (g n))
     ∙ sym (every-step n (λ q. eqb (f q) (g q)))
 
--- a flag and a number side by side
+-- one number more, 0 exactly where f holds
+pub or-more : (n : ℕ) (f : ℕ → Bool) (bad t : ℕ) → eqb bad 0 ≡ every n f → eqb t 0 ≡ f n
+    → eqb (bitOr bad t) 0 ≡ every (n + 1) f
+or-more n f bad t e h =
+    or-test bad t ∙ ap (λ (x : Bool). x && eqb t 0) e ∙ ap (λ (x : Bool). every n f && x) h ∙ sym (every-step n f)
+
 exchange : (a l b t : Bool) → ((a && l) && (b && t)) ≡ ((a && b) && (l && t))
 exchange true l true t = refl
 exchange true true false t = refl
 exchange true false false t = refl
 exchange false l b t = refl
 
-pub both-more : (n : ℕ) (f : ℕ → Bool) (ok l : Bool) (bad t : ℕ) → (ok && eqb bad 0) ≡ every n f → (l && eqb t 0) ≡ f n
-    → ((ok && l) && eqb (bitOr bad t) 0) ≡ every (n + 1) f
-both-more n f ok l bad t e h =
-    ap (λ (x : Bool). (ok && l) && x) (or-test bad t) ∙ exchange ok l (eqb bad 0) (eqb t 0)
-    ∙ ap (λ (x : Bool). x && (l && eqb t 0)) e ∙ ap (λ (x : Bool). every n f && x) h ∙ sym (every-step n f)
+-- two tests of the same numbers
+pub every-both : (n : ℕ) (f g : ℕ → Bool) → (every n f && every n g) ≡ every n (λ i. f i && g i)
+unfolding every
+every-both zero f g = refl
+every-both (suc n) f g =
+    exchange (every n f) (f n) (every n g) (g n) ∙ ap (λ (x : Bool). x && (f n && g n)) (every-both n f g)

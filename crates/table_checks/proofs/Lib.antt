@@ -1,8 +1,11 @@
 pub mod LocalLaws
 pub mod PairNodeLaws
+pub mod DifferenceLaws
+pub mod PackedLaws
+pub mod JoinLaws
 pub mod PairStateLaws
+pub mod TwoStateLaws
 pub mod PairLaws
 pub mod BlockLaws
-pub mod DifferenceLaws
 pub mod CheckLaws
 pub mod PartLaws

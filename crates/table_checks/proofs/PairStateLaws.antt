@@ -1,11 +1,13 @@
 -- The states and maps of a pair: places, and what the test tells.
 --     within-below .. left-less      places and values of the tables lie inside
---     rows-args, rows-args-of        what the tests at one node read lies inside; small-of, rule-place: the same of the rules
---     pair-is, rows-near, rows-far   the definitions, as the code goes
+--     rows-args, rows-args-of        what the tests at one node read lies inside
+--     small-of, rule-place           the same of the rules
+--     placed, pair-is                the places of a pair, and the test at its node, as the code goes
+--     rows-near, rows-far            the test of both maps, as the code goes; rows-joined: through the joined map
 --     Rows, rows-told, tells-rows    what the test of both children's maps tells
 -- Assumes nothing.
 use Prim.Native.Nat.{ℕ, _+_, _-_, _*_, _≤_, _<_}
-use mathlib.Core.Path.{_≡_, refl}
+use mathlib.Core.Path.{_≡_, refl, _∙_}
 use mathlib.Core.Bool.{Bool, true, false, cond, _&&_}
 use mathlib.Core.List.{List}
 use native.Mathlib.Nat.{mul-le-mul-right}
@@ -13,6 +15,7 @@ use native.Mathlib.Decide.{ℕ-discrete}
 use native.Mathlib.Omega.{arith}
 use lib.Dec.{eqb, ltb}
 use lib.ListN.{length, getD}
+use lib.Bits.{bitOr}
 use borrow.Author.Tests.{eq-eqb, ne-eqb, ltb-true}
 use Rattle.list_laws.proofs.RowLaws.{stride}
 use Rattle.trees.proofs.MoveLaws.{both}
@@ -21,13 +24,16 @@ use Rattle.tables.specs.StateCells.{stateCell, mapCell}
 use Rattle.tables.specs.inner.Rows.{RowIn}
 use Rattle.tables.specs.inner.MapPairs.{rowOf, colOf}
 use Rattle.tables.specs.inner.Compare.{rowIs, nearEntry}
+use Rattle.table_checks.specs.inner.Joins.{Joined, throughEntry}
+use Rattle.table_checks.specs.inner.PairPlaces.{PairPlaced}
 use Rattle.table_checks.specs.inner.PairStates.{farEntry, FarEntryArgs, rowsMatch, pairStates}
 use Rattle.table_checks.specs.inner.PairStates.{RowsArgs, StateIn, TableRoom}
 use Rattle.node_tables.specs.inner.UpPass.{leftOf}
-use Rattle.tables.proofs.CompareLaws.{rowIs-map, map-rowIs}
+use Rattle.tables.proofs.CompareLaws.{rowIs-map, map-rowIs, rowIs-ext}
 use Rattle.formats.proofs.RuleLaws.{rule-in}
 use Rattle.tables.proofs.MapPlaces.{Small, small}
 use Rattle.table_checks.specs.inner.PairNodes.{within}
+use Rattle.table_checks.proofs.DifferenceLaws.{or-test}
 
 pub within-below : (n x : ℕ) → 0 < n → within n x < n
 within-below n x h = go (ltb x n) refl
@@ -80,31 +86,28 @@ module _ (ls nodeTable lv inn : List ℕ) (s k n : ℕ) (b : List ℕ) (T : Tabl
           T .rules .inner-count,
         )
 
-    far-in : (u base step : ℕ) → u < n → ((q : ℕ) → q < s → base + q * step < length inn)
-        → FarEntryArgs s b u v (within n (jumpCell nodeTable v)) inn base step
-    far-in u base step h inside = record {
-      room = row-room u h;
-      first = row-room v hv;
-      second = row-room (within n (jumpCell nodeTable v)) (within-below n (jumpCell nodeTable v) (omega arith));
-      inside = inside;
-      near-below = λ q l. T .rules .inner-below (base + q * step);
-      first-below = map-less v hv;
-    }
-
     pub rows-args : RowsArgs nodeTable inn s n b v (leftOf nodeTable v) (rowOf ls nodeTable b s k v) (colOf ls b s v)
         (k * s)
     rows-args = record {
       links = record { pos = pos; inside = hv; most = T .most; room = T .link-room };
-      near-right = record { room = row-room (v - 1) right-less; inside = row-in };
-      near-left = record { room = row-room (leftOf nodeTable v) left-less; inside = col-in };
-      far-right = far-in (v - 1) (rowOf ls nodeTable b s k v) 1 right-less row-in;
-      far-left = far-in (leftOf nodeTable v) (colOf ls b s v) (k * s) left-less col-in;
+      right = record { room = row-room (v - 1) right-less; inside = row-in };
+      left = record { room = row-room (leftOf nodeTable v) left-less; inside = col-in };
+      maps = record {
+        first = row-room v hv;
+        second = row-room (within n (jumpCell nodeTable v)) (within-below n (jumpCell nodeTable v) (omega arith));
+        below = map-less v hv;
+        room = T .rules .few;
+      };
+      jump-below =
+          map-less (within n (jumpCell nodeTable v)) (within-below n (jumpCell nodeTable v) (omega arith));
+      right-below = λ q l. T .rules .inner-below (rowOf ls nodeTable b s k v + q * 1);
+      left-below = λ q l. T .rules .inner-below (colOf ls b s v + q * (k * s));
     }
 
     -- as the code has them
-    pub rows-args-of : (l p q : ℕ) → l ≡ leftOf nodeTable v → p ≡ stateCell s b l → q ≡ stateCell s b (v - 1)
-        → RowsArgs nodeTable inn s n b v l ((p * k + getD ls v 0) * s) (getD ls v 0 * s + q) (k * s)
-    rows-args-of l p q e f g = rw (f, g, e) rows-args
+    pub rows-args-of : (l row col : ℕ) → l ≡ leftOf nodeTable v → row ≡ rowOf ls nodeTable b s k v
+        → col ≡ colOf ls b s v → RowsArgs nodeTable inn s n b v l row col (k * s)
+    rows-args-of l row col e f g = rw (f, g, e) rows-args
 
     pub small-of : (p : ℕ) → p < 256 → Small s k p (getD ls v 0)
     small-of p h = small s k p (getD ls v 0) (T .rules .few) (T .rules .labels) (T .below v) h
@@ -119,12 +122,22 @@ module _ (ls nodeTable lv inn : List ℕ) (s k n : ℕ) (b : List ℕ) (T : Tabl
           T .rules .inner-count,
         ))
 
-    pub pair-is : (l p q x : ℕ) → l ≡ leftOf nodeTable v → p ≡ stateCell s b l → q ≡ stateCell s b (v - 1)
-        → x ≡ stateCell s b v
-        → (r : Bool) → r ≡ rowsMatch nodeTable inn s n b v l ((p * k + getD ls v 0) * s) (getD ls v 0 * s + q) (k * s)
-        → (eqb x (getD inn ((p * k + getD ls v 0) * s + q) 0) && r) ≡ pairStates ls nodeTable inn s k n b v
+    pub placed : (l p q x : ℕ) → l ≡ leftOf nodeTable v → p ≡ stateCell s b l → q ≡ stateCell s b (v - 1)
+        → eqb x 0 ≡ eqb (stateCell s b v) (getD inn ((p * k + getD ls v 0) * s + q) 0)
+        → PairPlaced ls nodeTable inn s k b v l ((p * k + getD ls v 0) * s) (getD ls v 0 * s + q) x
+    placed l p q x e f g h = record {
+      left-is = e;
+      row-is = rw (f, e);
+      col-is = rw g;
+      state-is = rw (f, g, e) at h;
+    }
+
+    pub pair-is : (l row col x : ℕ) → PairPlaced ls nodeTable inn s k b v l row col x → (y : ℕ)
+        → eqb y 0 ≡ rowsMatch nodeTable inn s n b v l row col (k * s)
+        → eqb (bitOr x y) 0 ≡ pairStates ls nodeTable inn s k n b v
     unfolding pairStates
-    pair-is l p q x e f g h r z = rw (z, h, f, g, e)
+    pair-is l row col x P y z =
+        or-test x y ∙ rw (P .state-is, z, P .left-is, P .row-is, P .col-is)
 
   pub step-small : k * s ≤ 1024
   step-small = omega (arith, mul-le-mul-right s (T .rules .labels), T .rules .few)
@@ -142,6 +155,42 @@ module _ (nodeTable inn : List ℕ) (s n : ℕ) (b : List ℕ) (v l row col step
       → (x && y) ≡ rowsMatch nodeTable inn s n b v l row col step
   unfolding rowsMatch
   rows-far h j z x y e f = rw (ne-eqb (jumpCell nodeTable (v - 1)) v h, e, f, z)
+
+  -- through the joined map
+  through-far : (u p j base stride : ℕ) (m : List ℕ) → Joined s b p j s m
+      → ((q : ℕ) → q < s → nearEntry inn base stride q < s)
+      → rowIs s b u (throughEntry m inn base stride) ≡ rowIs s b u (farEntry s b p j inn base stride)
+  through-far u p j base stride m J h =
+      rowIs-ext s b u (throughEntry m inn base stride) (farEntry s b p j inn base stride)
+      (λ q l. J (nearEntry inn base stride q) (h q l))
+
+  module _ (A : RowsArgs nodeTable inn s n b v l row col step) where
+    pub far-right : FarEntryArgs s b (v - 1) v (within n (jumpCell nodeTable v)) inn row 1
+    far-right = record {
+      room = A .right .room;
+      first = A .maps .first;
+      second = A .maps .second;
+      inside = A .right .inside;
+      near-below = A .right-below;
+      first-below = A .maps .below;
+    }
+
+    pub far-left : FarEntryArgs s b l v (within n (jumpCell nodeTable v)) inn col step
+    far-left = record {
+      room = A .left .room;
+      first = A .maps .first;
+      second = A .maps .second;
+      inside = A .left .inside;
+      near-below = A .left-below;
+      first-below = A .maps .below;
+    }
+
+    pub rows-joined : (jumpCell nodeTable (v - 1) ≡ v → ⊥) → (j : ℕ) → j ≡ within n (jumpCell nodeTable v)
+        → (m : List ℕ) → Joined s b v j s m → (x y : Bool) → x ≡ rowIs s b (v - 1) (throughEntry m inn row 1)
+        → y ≡ rowIs s b l (throughEntry m inn col step) → (x && y) ≡ rowsMatch nodeTable inn s n b v l row col step
+    rows-joined h j z m J x y e f =
+        rows-far h j z x y (e ∙ through-far (v - 1) v j row 1 m J (A .right-below))
+        (f ∙ through-far l v j col step m J (A .left-below))
 
 -- ---- what it tells
 

@@ -1,56 +1,32 @@
 // Blocks of nodes: the inner ones listed without a branch on the kind, then tested; no test ends a block.
-use crate::rows::pair_differences;
-use crate::siblings::pair_nodes_match;
+use crate::listed::listed_leaves_match;
+use crate::listed::listed_nodes_match;
+use crate::listed::listed_states_match_any;
 use node_tables::blocks::block_end;
+use node_tables::blocks::empty_list;
 ghost use mathlib.Core.Path.{_≡_};
 ghost use lib.ListN.{length, getD};
 ghost use Rattle.node_tables.specs.JumpLengths.{jumpLengths};
 ghost use Rattle.tables.specs.inner.Compare.{every};
 ghost use Rattle.table_checks.specs.inner.PairStates.{pairIs};
-ghost use Rattle.table_checks.specs.inner.Blocks.{Means, BlockListed, PairsArgs, Nodes, BlockArgs, BlocksArgs};
+ghost use Rattle.table_checks.specs.inner.Blocks.{Means, BothListed, Nodes};
+ghost use Rattle.table_checks.specs.inner.Blocks.{ListingArgs, PairsArgs, BlockArgs, BlocksArgs};
 
-// What the first look at a block gives: how many inner nodes are listed, and whether its leaves match.
-struct Listing {
-    count: usize,
-    leaves: bool,
-}
-
-// Lists the inner nodes of b, .. e - 1, and tests whether its leaves have a leaf's size and state. A leaf is listed
-// too, and the next node over it, so that nothing hangs on the kind.
-fn list_block(
-    kinds: &[u8],
-    labels: &[u8],
-    node_table: &[u16],
-    leaves: &[u8],
-    inner: &[u8],
-    s: usize,
-    k: usize,
-    state_table: &[u8],
-    b: usize,
-    e: usize,
-    list: &mut [u16],
-) -> Listing
-    requires { ⌜ BlockArgs (now kinds) (now labels) (now «node_table») (now leaves) (now inner) s k
-        (now «state_table») b e (length (now list)) ⌝ }
-    ensures { λ r. ⌜ BlockListed (now (kinds .entry)) (now (labels .entry)) (now («node_table» .entry))
-        (now (leaves .entry)) s (now («state_table» .entry)) b e (r .count) (r .leaves) (now (list .exit)) ⌝ }
+// Lists the inner nodes of b, .. e - 1 and its leaves, and tells how many inner nodes they are. Each node is listed in
+// both, and the next node over it in one, so that nothing hangs on the kind.
+fn list_block(kinds: &[u8], b: usize, e: usize, list: &mut [u16], leaf_list: &mut [u16]) -> usize
+    requires { ⌜ ListingArgs (now kinds) b e (length (now list)) (length (now «leaf_list»)) ⌝ }
+    ensures { λ r. ⌜ BothListed (now (kinds .entry)) b e r (now (list .exit)) (now («leaf_list» .exit)) ⌝ }
 {
-    let w = s + 1;
-    let mut ok = true;
     let mut c = 0;
     let mut v = b;
     while v < e {
         list[c] = v as u16;
+        leaf_list[v - b - c] = v as u16;
         c += kinds[v] as usize;
-        let size = node_table[v * 4 + 3] == 1;
-        let state = state_table[v * w] == leaves[labels[v] as usize];
-        ok = ok & ((kinds[v] != 0) | (size & state));
         v += 1;
     }
-    Listing {
-        count: c,
-        leaves: ok,
-    }
+    c
 }
 
 // Whether the pairs of the first c listed nodes match.
@@ -72,18 +48,20 @@ fn pairs_match(
     ensures { λ r. ⌜ r ≡ every c (λ i. pairIs (now (labels .entry)) (now («node_table» .entry)) (now (inner .entry)) s
         k n (now («state_table» .entry)) (getD (now (list .entry)) i 0)) ⌝ }
 {
-    let mut ok = true;
-    let mut bad = 0;
-    let mut i = 0;
-    while i < c {
-        let v = list[i] as usize;
-        let nodes = pair_nodes_match(node_table, lengths, n, v);
-        let states = pair_differences(labels, node_table, leaves, inner, s, k, n, state_table, v);
-        ok = ok & nodes;
-        bad = bad | states;
-        i += 1;
-    }
-    ok & (bad == 0)
+    let nodes = listed_nodes_match(node_table, lengths, n, list, c);
+    let states = listed_states_match_any(
+        labels,
+        node_table,
+        leaves,
+        inner,
+        s,
+        k,
+        n,
+        state_table,
+        list,
+        c,
+    );
+    nodes & states
 }
 
 // Whether the nodes b, .. e - 1 match.
@@ -106,21 +84,20 @@ fn block_match(
     ensures { λ r. ⌜ Means r (Nodes (now (kinds .entry)) (now (labels .entry)) (now («node_table» .entry))
         (now (leaves .entry)) (now (inner .entry)) s k (now («state_table» .entry)) b e) ⌝ }
 {
-    let listing = list_block(
-        kinds,
+    let mut leaf_list = empty_list();
+    let c = list_block(kinds, b, e, list, &mut leaf_list);
+    if !listed_leaves_match(
         labels,
         node_table,
         leaves,
         inner,
         s,
         k,
+        kinds.len(),
         state_table,
-        b,
-        e,
-        list,
-    );
-    let c = listing.count;
-    if !listing.leaves {
+        &leaf_list,
+        e - b - c,
+    ) {
         return false;
     }
     pairs_match(

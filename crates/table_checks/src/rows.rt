@@ -1,14 +1,11 @@
 // The states and maps of a node's two children, tested at the parent.
 use crate::differences::far_differences;
 use crate::differences::near_differences;
-use crate::differences::near_differences16;
+use crate::places::pair_at;
 use crate::siblings::inside;
-use crate::siblings::left_in;
 ghost use mathlib.Core.Path.{_≡_};
 ghost use lib.Dec.{eqb};
-ghost use Prim.Native.Nat.{_<_};
-ghost use Rattle.tables.specs.StateCells.{stateCell};
-ghost use Rattle.table_checks.specs.inner.PairStates.{rowsMatch, pairStates, RowsArgs, StateIn, NodeRoom};
+ghost use Rattle.table_checks.specs.inner.PairStates.{rowsMatch, pairStates, RowsArgs, NodeRoom};
 
 // Where both children's maps differ from their steps to node v, taken on by the maps of v and its jump where the right
 // child's jump is not v.
@@ -30,11 +27,6 @@ fn row_differences(
 {
     let right = v - 1;
     if node_table[right * 4 + 1] == v as u16 {
-        if s == 16 {
-            let a = near_differences16(state_table, right, inner, row, 1);
-            let b = near_differences16(state_table, left, inner, col, step);
-            return a | b;
-        }
         let a = near_differences(state_table, s, right, inner, row, 1);
         let b = near_differences(state_table, s, left, inner, col, step);
         return a | b;
@@ -43,14 +35,6 @@ fn row_differences(
     let a = far_differences(state_table, s, right, v, j, inner, row, 1);
     let b = far_differences(state_table, s, left, v, j, inner, col, step);
     a | b
-}
-
-// The state byte of node u.
-fn state_at(state_table: &[u8], s: usize, u: usize) -> usize
-    requires { ⌜ StateIn s (now «state_table») u ⌝ }
-    ensures { λ r. ⌜ (r ≡ stateCell s (now («state_table» .entry)) u) × (r < 256) ⌝ }
-{
-    state_table[u * (s + 1)] as usize
 }
 
 // Where inner node v's state and its children's maps differ from what follows from their neighbours'; 0 nowhere.
@@ -64,19 +48,15 @@ pub fn pair_differences(
     n: usize,
     state_table: &[u8],
     v: usize,
-) -> usize
+) -> u8
     requires { ⌜ NodeRoom (now labels) (now «node_table») (now leaves) (now inner) s k n (now «state_table») v ⌝ }
     ensures { λ r. ⌜ eqb r 0 ≡ pairStates (now (labels .entry)) (now («node_table» .entry)) (now (inner .entry)) s k n
         (now («state_table» .entry)) v ⌝ }
 {
-    let left = left_in(node_table, n, v);
-    let a = labels[v] as usize;
-    let p = state_at(state_table, s, left);
-    let q = state_at(state_table, s, v - 1);
-    let x = state_at(state_table, s, v);
-    let row = (p * k + a) * s;
-    let col = a * s + q;
-    let state = x ^ (inner[row + q] as usize);
+    let pair = pair_at(labels, node_table, leaves, inner, s, k, n, state_table, v);
+    let left = pair.left;
+    let row = pair.row;
+    let col = pair.col;
     let rows = row_differences(
         node_table,
         inner,
@@ -89,5 +69,5 @@ pub fn pair_differences(
         col,
         k * s,
     );
-    state | (rows as usize)
+    pair.state | rows
 }

@@ -6,8 +6,9 @@ ghost use mathlib.Core.Path.{_≡_};
 ghost use Prim.Native.Nat.{_<_};
 ghost use Rattle.node_tables.specs.JumpLengths.{jumpLengths};
 ghost use Rattle.node_tables.specs.inner.UpPass.{leftOf};
+ghost use lib.Dec.{eqb};
 ghost use Rattle.table_checks.specs.inner.PairNodes.{within, pairByDistances, pairJump, pairNodes};
-ghost use Rattle.table_checks.specs.inner.PairNodes.{rootNode, PairArgs, RootArgs};
+ghost use Rattle.table_checks.specs.inner.PairNodes.{numbersCell, rootNode, PairArgs, RootArgs};
 
 // The number itself where it is below n, else 0.
 pub fn inside(x: usize, n: usize) -> usize
@@ -56,24 +57,34 @@ fn pair_jump(node_table: &[u16], lengths: &[u16; 1024], n: usize, v: usize) -> u
     pair_by_distances(node_table, n, v)
 }
 
-// Whether inner node v's size and its children's parents, jumps and depths follow from their neighbours'. No test is
-// left out after a wrong one.
-pub fn pair_nodes_match(node_table: &[u16], lengths: &[u16; 1024], n: usize, v: usize) -> bool
+// The four numbers of node v as one, so that they are read as one.
+fn numbers_of(node_table: &[u16], v: usize) -> u64
+    requires { ⌜ RootArgs (now «node_table») v ⌝ }
+    ensures { λ r. ⌜ r ≡ numbersCell (now («node_table» .entry)) v ⌝ }
+{
+    let parent = node_table[v * 4] as u64;
+    let jump = node_table[v * 4 + 1] as u64;
+    let depth = node_table[v * 4 + 2] as u64;
+    let size = node_table[v * 4 + 3] as u64;
+    size * 281474976710656 + (depth * 4294967296 + (jump * 65536 + parent))
+}
+
+// Where inner node v's size and its children's parents, jumps and depths differ from what follows from their
+// neighbours'; 0 nowhere. The children's sizes are taken off their numbers.
+pub fn pair_node_differences(node_table: &[u16], lengths: &[u16; 1024], n: usize, v: usize) -> u64
     requires { ⌜ PairArgs n (now «node_table») v × (now lengths ≡ jumpLengths) ⌝ }
-    ensures { λ r. ⌜ r ≡ pairNodes n (now («node_table» .entry)) v ⌝ }
+    ensures { λ r. ⌜ eqb r 0 ≡ pairNodes n (now («node_table» .entry)) v ⌝ }
 {
     let right = v - 1;
     let left = left_in(node_table, n, v);
     let to = pair_jump(node_table, lengths, n, v);
-    let up = v as u16;
-    let below = node_table[left * 4 + 3] as usize + node_table[right * 4 + 3] as usize + 1;
-    let depth = node_table[v * 4 + 2] as usize + 1;
-    let sizes = node_table[v * 4 + 3] as usize == below;
-    let parents = (node_table[right * 4] == up) & (node_table[left * 4] == up);
-    let depths = (node_table[right * 4 + 2] as usize == depth)
-        & (node_table[left * 4 + 2] as usize == depth);
-    let jumps = (node_table[right * 4 + 1] == to) & (node_table[left * 4 + 1] == to);
-    sizes & (parents & (depths & jumps))
+    let depth = node_table[v * 4 + 2] as u64 + 1;
+    let want = depth * 4294967296 + (to as u64 * 65536 + v as u64);
+    let below = node_table[left * 4 + 3] as u64 + node_table[right * 4 + 3] as u64 + 1;
+    let sizes = (node_table[v * 4 + 3] as u64) ^ below;
+    let a = numbers_of(node_table, right) % 281474976710656;
+    let b = numbers_of(node_table, left) % 281474976710656;
+    sizes | ((a ^ want) | (b ^ want))
 }
 
 // Whether node v has the root's parent, jump and depth.

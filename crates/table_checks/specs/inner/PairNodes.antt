@@ -7,6 +7,8 @@
 -- pairJump n b v == the one where the child's depth is below 1,024, else the other: childJump (node_tables), inside
 -- pairNodes n b v == whether inner node v's size, and its children's parents, depths and jumps, follow from their
 --   neighbours'
+-- packed p j d == three 16-bit numbers as one; linksCell b v == parent, jump and depth of node v so
+-- numbersCell b v == these and the size of node v, the size above
 -- rootNode b v == whether node v has the root's parent, jump and depth
 -- PairArgs n b v == node v is not the first, and n nodes within the limit have room in b
 -- RootArgs b v == what rootNode reads lies inside
@@ -49,6 +51,15 @@ pairNodes n b v =
     && (bothAre (parentCell b) (v - 1) (leftOf b v) v
     && (bothAre (depthCell b) (v - 1) (leftOf b v) (depthCell b v + 1)
     && bothAre (jumpCell b) (v - 1) (leftOf b v) (pairJump n b v)))
+
+abbrev pub packed : ℕ → ℕ → ℕ → ℕ
+packed p j d = d * 4294967296 + (j * 65536 + p)
+
+abbrev pub linksCell : List ℕ → ℕ → ℕ
+linksCell b v = packed (parentCell b v) (jumpCell b v) (depthCell b v)
+
+abbrev pub numbersCell : List ℕ → ℕ → ℕ
+numbersCell b v = sizeCell b v * 281474976710656 + linksCell b v
 
 unfoldable pub rootNode : List ℕ → ℕ → Bool
 rootNode b v = eqb (parentCell b v) v && (eqb (jumpCell b v) v && eqb (depthCell b v) 0)

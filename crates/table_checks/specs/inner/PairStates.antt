@@ -7,7 +7,7 @@
 -- leafIs == whether v's size and state are a leaf's
 -- pairIs == whether pairNodes and pairStates hold
 -- TableRoom == what the tests need: room, and every byte of the state table below s
--- NodeRoom == besides, v is one of the n nodes and not the first
+-- NodeRoom == besides, v is one of the n nodes and not the first; LeafRoom == besides, v is one of them
 -- FarEntryArgs, RowsArgs, StateIn == what the comparisons of rows and the reading of a state need
 --
 -- Assumes nothing.
@@ -26,6 +26,7 @@ use Rattle.tables.specs.inner.MapPairs.{rowOf, colOf}
 use Rattle.tables.specs.inner.Compare.{rowIs, nearEntry}
 use Rattle.tables.specs.inner.States.{RuleRuns, innerState}
 use Rattle.table_checks.specs.inner.PairNodes.{within, pairNodes, PairArgs}
+use Rattle.table_checks.specs.inner.Joins.{JoinArgs}
 
 abbrev pub farEntry : ℕ → List ℕ → ℕ → ℕ → List ℕ → ℕ → ℕ → ℕ → ℕ
 farEntry s b p j table base stride q = mapCell s b j (mapCell s b p (nearEntry table base stride q))
@@ -58,10 +59,12 @@ pub record FarEntryArgs (s : ℕ) (b : List ℕ) (v p j : ℕ) (table : List ℕ
 
 pub record RowsArgs (nodeTable inn : List ℕ) (s n : ℕ) (b : List ℕ) (v l row col step : ℕ) : Type 0 where
   pub links : PairArgs n nodeTable v
-  pub near-right : NearArgs (length b) s (v - 1) (length inn) row 1
-  pub near-left : NearArgs (length b) s l (length inn) col step
-  pub far-right : FarEntryArgs s b (v - 1) v (within n (jumpCell nodeTable v)) inn row 1
-  pub far-left : FarEntryArgs s b l v (within n (jumpCell nodeTable v)) inn col step
+  pub right : NearArgs (length b) s (v - 1) (length inn) row 1
+  pub left : NearArgs (length b) s l (length inn) col step
+  pub maps : JoinArgs s b v (within n (jumpCell nodeTable v)) 16
+  pub jump-below : (q : ℕ) → q < s → mapCell s b (within n (jumpCell nodeTable v)) q < s
+  pub right-below : (q : ℕ) → q < s → nearEntry inn row 1 q < s
+  pub left-below : (q : ℕ) → q < s → nearEntry inn col step q < s
 
 pub record StateIn (s : ℕ) (b : List ℕ) (u : ℕ) : Type 0 where
   pub few : s ≤ 16
@@ -81,4 +84,8 @@ pub record TableRoom (ls nodeTable lv inn : List ℕ) (s k n : ℕ) (b : List �
 pub record NodeRoom (ls nodeTable lv inn : List ℕ) (s k n : ℕ) (b : List ℕ) (v : ℕ) : Type 0 where
   pub table : TableRoom ls nodeTable lv inn s k n b
   pub pos : 0 < v
+  pub inside : v < n
+
+pub record LeafRoom (ls nodeTable lv inn : List ℕ) (s k n : ℕ) (b : List ℕ) (v : ℕ) : Type 0 where
+  pub table : TableRoom ls nodeTable lv inn s k n b
   pub inside : v < n

@@ -43,6 +43,7 @@ block-match-requires c κs =
         order = omega (arith, e .ensures .0);
         inside = omega (arith, e .ensures .1, l .inv .0);
         fits = omega (arith, e .ensures .2, l .inv .2, s .pre .0 .fits);
+        short = e .ensures .2;
       },
       s .pre .1,
     )

@@ -1,7 +1,7 @@
 -- `siblings::pair_by_distances` meets its contract.
 -- Assumes nothing.
 use Rattle.table_checks.proofs.PairNodeLaws.{jump-far, jump-near}
-use Prim.Native.Nat.{_+_, _-_, _*_}
+use Prim.Native.Nat.{_+_, _*_}
 use native.Mathlib.Omega.{arith}
 use borrow.Author.Needs.{needs}
 use Rattle.table_checks.proofs.siblings.pair_by_distances.Statement.{statement}

@@ -1,11 +1,11 @@
--- `rows::state_at` meets its contract.
+-- `places::state_at` meets its contract.
 -- Assumes nothing.
 use Prim.Native.Nat.{_+_, _*_}
 use mathlib.Core.Path.{refl}
 use native.Mathlib.Omega.{arith}
 use borrow.Author.Needs.{needs}
-use Rattle.table_checks.proofs.rows.state_at.Statement.{statement}
-use Rattle.table_checks.proofs.rows.state_at.Tie as tie
+use Rattle.table_checks.proofs.places.state_at.Statement.{statement}
+use Rattle.table_checks.proofs.places.state_at.Tie as tie
 
 cast-result : tie.Need-cast-result
 cast-result c = omega (arith, c .shared-slice-known .given (c .before .args .u * (c .before .args .s + 1)))
