@@ -3,10 +3,11 @@
 -- maps, no other byte is changed.
 -- Assumes nothing.
 use Prim.Native.Nat.{ℕ, _+_, _-_, _*_, _≤_, _<_}
-use mathlib.Core.Path.{_≡_, subst}
+use mathlib.Core.Path.{_≡_, refl, subst}
 use lib.ListN.{length, getD, length-set}
+use Rattle.tables.specs.StateCells.{mapCell}
 use Rattle.tables.specs.inner.Rows.{RowTo, farCell}
-use Rattle.tables.proofs.MapRowLaws.{row-iteration}
+use Rattle.tables.proofs.MapRowLaws.{row-iteration, row-other}
 use Rattle.tables.proofs.RowLoop.{placed, far-near-below, far-is}
 use native.Mathlib.Omega.{arith}
 use borrow.Author.Needs.{needs}
@@ -33,6 +34,17 @@ below : (c : tie.In-loop Inv-loop μ-loop)
     < c .before .before .args .s
 below c = c .before .before .pre .here-below (c .before .loop .q) (c .loop-test .taken)
 
+-- another map is as it was
+other : (c : tie.In-loop Inv-loop μ-loop) → (u : ℕ) → (u ≡ c .before .before .args .v → ⊥) → (q : ℕ)
+    → q < c .before .before .args .s
+    → mapCell (c .before .before .args .s) (c .before .loop .state-table) u q
+    ≡ mapCell (c .before .before .args .s) (c .before .before .args .state-table .now) u q
+other c u ne q h =
+    let a = c .before in
+    let g = a .before .args in
+    row-other (g .s) (farCell (g .s) (g .state-table .now) (g .p) (g .j) (g .table .now) (g .base) (g .stride)) (g .v)
+    (a .loop .q) (g .state-table .now) (a .loop .state-table) (a .loop .inv .2) u q ne (omega arith) h
+
 near : (c : tie.In-loop Inv-loop μ-loop) → placed (c .before .before .args .s) (c .before .loop .state-table)
     (c .before .before .args .p)
     (getD (c .before .before .args .table .now) (c .before .before .args .base + c .before .loop .q * c .before
@@ -41,10 +53,10 @@ near : (c : tie.In-loop Inv-loop μ-loop) → placed (c .before .before .args .s
 near c =
     let a = c .before in
     let s = a .before in
-    far-near-below (s .args .s) (s .args .v) (s .args .p) (s .args .j) (a .loop .q) (s .args .table .now)
-    (s .args .base)
-    (s .args .stride) (s .args .state-table .now) (a .loop .state-table) (a .loop .inv .2) (s .pre)
-    (c .loop-test .taken)
+    let g = s .args in
+    far-near-below (g .s) (g .v) (g .p) (g .j) (a .loop .q) (g .table .now) (g .base) (g .stride) (g .state-table .now)
+    (a .loop .state-table) (other c (g .p) (s .pre .near-other)) (other c (g .j) (s .pre .far-other)) (s .pre)
+    (c .loop-test .taken) (g .base + a .loop .q * g .stride) refl
 
 mul-x : tie.Need-mul-x Inv-loop μ-loop
 mul-x c = omega (arith, inside c)
@@ -85,17 +97,18 @@ slice-read-state-table c = omega (
 
 loop-again : tie.Need-loop-again Inv-loop μ-loop
 loop-again c =
-    let a = c .before .before .before .before in
+    let t = c .before .before .before in
+    let a = t .before in
     let s = a .before in
-    let g = s .args in
-    let l = c .before .before .before .loop-test .taken in (
+    let g = s .args in (
       omega arith,
       simp length-set (a .loop .inv .1),
       row-iteration (g .s) (farCell (g .s) (g .state-table .now) (g .p) (g .j) (g .table .now) (g .base) (g .stride))
           (g .v) (a .loop .q) (g .state-table .now) (a .loop .state-table)
           (a .loop .inv .2) (g .v * (g .s + 1) + 1 + a .loop .q) _ (omega arith) (omega arith)
           (far-is (g .s) (g .v) (g .p) (g .j) (a .loop .q) (g .table .now) (g .base) (g .stride) (g .state-table .now)
-          (a .loop .state-table) (a .loop .inv .2) (s .pre) l),
+          (a .loop .state-table) (other t (g .p) (s .pre .near-other)) (other t (g .j) (s .pre .far-other)) (s .pre)
+          (t .loop-test .taken) (g .base + a .loop .q * g .stride) refl),
     )
 
 returns : tie.Need-returns Inv-loop μ-loop
