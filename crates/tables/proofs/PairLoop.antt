@@ -1,7 +1,7 @@
 -- Both children's maps written byte by byte, and the 16 states that are read first.
 --     pair-start, pair-iteration   no byte of either map written, and one more of each
 --     pair-other, cell-other       other maps are as they were, after both and after one store
---     FarTurn, far-turn            what a turn of `far_rows` reads and writes
+--     FarTurn, far-turn            what a turn of `far_pair` reads and writes
 --     line-iteration, line-entry   one more state read, and a state read as an entry of a row
 -- Assumes nothing.
 use Prim.Native.Nat.{ℕ, _+_, _*_, _≤_, _<_}
@@ -74,7 +74,7 @@ module _ (s : ℕ) (f g : ℕ → ℕ) (r l i : ℕ) (b₀ b : List ℕ) (P : Pa
           ∙ P .kept j (λ q m. a q (omega arith)) (λ q m. c q (omega arith));
     }
 
--- ---- a turn of `far_rows`: the right row's entry, stored, then the left row's
+-- ---- a turn of `far_pair`: the right row's entry, stored, then the left row's
 
 abbrev pub rightStored : ℕ → ℕ → ℕ → ℕ → ℕ → List ℕ → ℕ → List ℕ → List ℕ
 rightStored s v j r i table row b =

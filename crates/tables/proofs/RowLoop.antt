@@ -1,6 +1,6 @@
--- The turns of the loops that write maps by a table and two maps, `far_row` and `far_rows`: what a turn reads.
---     placed                  a byte of a map, by its place as the code has it
---     far-here-below .. far-is   the byte read in the table and in each of the two maps, and the last as the byte to write
+-- What a turn of `far_pair` reads, to write a map by a table and two maps.
+--     placed                     a byte of a map, by its place as the code has it
+--     far-here-below .. far-is   the byte read in the table and in each of the two maps; the last is the byte to write
 -- Assumes nothing.
 use Prim.Native.Nat.{ℕ, _+_, _*_, _<_}
 use mathlib.Core.Path.{_≡_, ap, _∙_}

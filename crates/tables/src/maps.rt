@@ -44,6 +44,35 @@ fn fill_pair(
     }
 }
 
+// The same. The number of states is a literal where it is 2 or 4, so that the compiler knows how long a row is.
+fn fill_children(
+    labels: &[u8],
+    node_table: &[u16],
+    inner: &[u8],
+    s: usize,
+    k: usize,
+    v: usize,
+    state_table: &mut [u8],
+)
+    requires { ⌜ PairArgs (now labels) (now «node_table») (now inner) s k (now «state_table») v ⌝ }
+    ensures { λ _. ⌜
+        PairRowed s (rightValue (now (labels .entry)) (now («node_table» .entry)) (now (inner .entry)) s k
+        (now («state_table» .entry)) v)
+        (leftValue (now (labels .entry)) (now («node_table» .entry)) (now (inner .entry)) s k
+        (now («state_table» .entry)) v)
+        (v - 1) (leftOf (now («node_table» .entry)) v) (now («state_table» .entry)) (now («state_table» .exit)) ⌝ }
+{
+    if s == 2 {
+        fill_pair(labels, node_table, inner, 2, k, v, state_table);
+        return;
+    }
+    if s == 4 {
+        fill_pair(labels, node_table, inner, 4, k, v, state_table);
+        return;
+    }
+    fill_pair(labels, node_table, inner, s, k, v, state_table);
+}
+
 // The maps of the children of the inner nodes b, .. e - 1, from the last one down.
 fn fill_block(
     kinds: &[u8],
@@ -66,7 +95,7 @@ fn fill_block(
     let mut i = list_inner(kinds, b, e, list);
     while 0 < i {
         i -= 1;
-        fill_pair(
+        fill_children(
             labels,
             node_table,
             inner,
@@ -78,8 +107,8 @@ fn fill_block(
     }
 }
 
-// Writes each node's map: first the maps below the nodes after the last whole block, then block by block. As there are two
-// calls, the compiler keeps fill_block a function of its own, the same wherever a build stands.
+// Writes each node's map: by the nodes after the last whole block, then block by block. As there are two calls, the
+// compiler keeps fill_block a function of its own, the same wherever a build stands.
 pub fn fill_maps(
     kinds: &[u8],
     labels: &[u8],

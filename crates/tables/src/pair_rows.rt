@@ -1,5 +1,4 @@
-// Writing the maps of two nodes, the right and the left child of one. The number of states is a literal where it is 2, 4
-// or 16, so that the compiler knows how long a row is.
+// Writing the maps of two nodes, the right and the left child of one.
 use crate::rows::near_row;
 ghost use Prim.Native.Nat.{ℕ, _+_, _*_, _≤_, _<_};
 ghost use mathlib.Core.Path.{_≡_};
@@ -43,7 +42,8 @@ fn sixteen(table: &[u8], base: usize) -> [u8; 16]
     line
 }
 
-// The same as near_rows for 16 states. The right row is read whole before it is written, so that it can be moved as one.
+// The same as near_rows for 16 states. The right row is read whole before it is written, so that the compiler can move
+// it as one.
 fn near_rows16(
     state_table: &mut [u8],
     right: usize,
@@ -80,14 +80,6 @@ pub fn near_pair(
         PairRowed s (λ q. getD (now (table .entry)) (row + q * 1) 0) (λ q. getD (now (table .entry)) (col + q * step) 0)
         right left (now («state_table» .entry)) (now («state_table» .exit)) ⌝ }
 {
-    if s == 2 {
-        near_rows(state_table, 2, right, left, table, row, col, step);
-        return;
-    }
-    if s == 4 {
-        near_rows(state_table, 4, right, left, table, row, col, step);
-        return;
-    }
     if s == 16 {
         near_rows16(state_table, right, left, table, row, col, step);
         return;
@@ -95,9 +87,8 @@ pub fn near_pair(
     near_rows(state_table, s, right, left, table, row, col, step);
 }
 
-// The same, followed by the maps of their parent v and of its jump j. Both rows in one loop, so that there is one to set
-// up.
-fn far_rows(
+// The same, followed by the maps of their parent v and of its jump j. Both rows in one loop, so that one is set up.
+pub fn far_pair(
     state_table: &mut [u8],
     s: usize,
     v: usize,
@@ -129,34 +120,4 @@ fn far_rows(
         state_table[b + q] = state_table[far + w];
         q += 1;
     }
-}
-
-// The maps of two nodes, followed by the maps of their parent v and of its jump j.
-pub fn far_pair(
-    state_table: &mut [u8],
-    s: usize,
-    v: usize,
-    j: usize,
-    right: usize,
-    left: usize,
-    table: &[u8],
-    row: usize,
-    col: usize,
-    step: usize,
-)
-    requires { ⌜ FarPairArgs (now «state_table») s v j right left (now table) row col step ⌝ }
-    ensures { λ _. ⌜
-        PairRowed s (farCell s (now («state_table» .entry)) v j (now (table .entry)) row 1)
-        (farCell s (now («state_table» .entry)) v j (now (table .entry)) col step)
-        right left (now («state_table» .entry)) (now («state_table» .exit)) ⌝ }
-{
-    if s == 2 {
-        far_rows(state_table, 2, v, j, right, left, table, row, col, step);
-        return;
-    }
-    if s == 4 {
-        far_rows(state_table, 4, v, j, right, left, table, row, col, step);
-        return;
-    }
-    far_rows(state_table, s, v, j, right, left, table, row, col, step);
 }

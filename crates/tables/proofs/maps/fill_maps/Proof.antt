@@ -1,5 +1,5 @@
--- `maps::fill_maps` meets its contract. The loop's invariant: e is a whole number of blocks, and whatever buffer the pass
--- began with, the inner nodes from e on have had their turns.
+-- `maps::fill_maps` meets its contract. The loop's invariant: e is a whole number of blocks, and whatever buffer the
+-- pass began with, the inner nodes from e on have had their turns.
 -- Assumes nothing.
 use Prim.Native.Nat.{ℕ, _-_, _≤_, _%_}
 use mathlib.Core.Path.{_≡_, refl, subst}
@@ -29,10 +29,16 @@ top : (ks ls b inn : List ℕ) (s k : ℕ) (st after : List ℕ) → MapArgs ks 
 top ks ls b inn s k st after A R =
     pairs-start ks ls b inn s k st after (length ks - 1) (omega (arith, map-some ks ls b inn s k st A)) R
 
+abbrev entry : (a : tie.At-loop Inv-loop μ-loop) → tie.Start Inv-loop μ-loop
+entry a =
+    let t = a .before .before .before .before .before .before .before .before .before in
+    t .before .before .before .before .before .before .before .before
+
 -- over the buffer at entry
 done : (a : tie.At-loop Inv-loop μ-loop)
-    → Pairs (a .before .before .before .before .before .before .before .before .before .before .before .before .before .before .before .before .before .args .kinds .now) (a .before .before .before .before .before .before .before .before .before .before .before .before .before .before .before .before .before .args .labels .now) (a .before .before .before .before .before .before .before .before .before .before .before .before .before .before .before .before .before .args .node-table .now) (a .before .before .before .before .before .before .before .before .before .before .before .before .before .before .before .before .before .args .inner .now)
-    (a .before .before .before .before .before .before .before .before .before .before .before .before .before .before .before .before .before .args .s) (a .before .before .before .before .before .before .before .before .before .before .before .before .before .before .before .before .before .args .k) (a .loop .e) (a .before .before .before .before .before .before .before .before .before .before .before .before .before .before .before .before .before .args .state-table .now) (a .loop .state-table)
+    → Pairs (entry a .args .kinds .now) (entry a .args .labels .now) (entry a .args .node-table .now)
+    (entry a .args .inner .now) (entry a .args .s) (entry a .args .k) (a .loop .e) (entry a .args .state-table .now)
+    (a .loop .state-table)
 done a =
     let f = a .before .before .before .before in
     let r = f .before .before .before .before .before .before in
@@ -79,7 +85,8 @@ fill-block-requires c κs =
 
 loop-holds : tie.Need-loop-holds Inv-loop μ-loop
 loop-holds c =
-    (omega arith, omega arith, refl, omega (arith, c .before .before .before .before .before .before .empty-list .ensures), λ first W. W)
+    let l = c .before .before .before .before .before .before in
+    (omega arith, omega arith, refl, omega (arith, l .empty-list .ensures), λ first W. W)
 
 sub-b : tie.Need-sub-b Inv-loop μ-loop
 sub-b c = omega (arith, c .before .loop .inv .1, c .loop-test .taken)
@@ -87,7 +94,7 @@ sub-b c = omega (arith, c .before .loop .inv .1, c .loop-test .taken)
 fill-block-requires-2 : tie.Need-fill-block-requires-2 Inv-loop μ-loop
 fill-block-requires-2 c κs =
     let a = c .before .before .before in
-    let s = a .before .before .before .before .before .before .before .before .before .before .before .before .before .before .before .before .before in
+    let s = entry a in
     record {
       first = s .args .state-table .now;
       args = s .pre;
@@ -113,7 +120,7 @@ loop-again c =
 returns : tie.Need-returns Inv-loop μ-loop
 returns c =
     let a = c .before in
-    let s = a .before .before .before .before .before .before .before .before .before .before .before .before .before .before .before .before .before in
+    let s = entry a in
     let g = s .args in
     let z : a .loop .e ≡ 0 = omega (arith, c .loop-test .left) in
     pairs-all (g .kinds .now) (g .labels .now) (g .node-table .now) (g .inner .now) (g .s) (g .k) (g .state-table .now)

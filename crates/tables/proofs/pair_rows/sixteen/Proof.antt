@@ -25,7 +25,8 @@ loop-again c =
     let g = a .before .args in (
       omega arith,
       simp length-set (a .loop .inv .1),
-      line-iteration (a .loop .line) (g .table .now) (g .base) (a .loop .q) (a .loop .inv .2) (omega (arith, a .loop .inv .1)),
+      line-iteration (a .loop .line) (g .table .now) (g .base) (a .loop .q) (a .loop .inv .2)
+          (omega (arith, a .loop .inv .1)),
     )
 
 returns : tie.Need-returns Inv-loop μ-loop
