@@ -44,7 +44,7 @@ fn fill_pair(
     }
 }
 
-// The same. The number of states is a literal where it is 2 or 4, so that the compiler knows how long a row is.
+// The same. The number of states is a literal where it is 2, 4 or 8, so that the compiler knows how long a row is.
 fn fill_children(
     labels: &[u8],
     node_table: &[u16],
@@ -68,6 +68,10 @@ fn fill_children(
     }
     if s == 4 {
         fill_pair(labels, node_table, inner, 4, k, v, state_table);
+        return;
+    }
+    if s == 8 {
+        fill_pair(labels, node_table, inner, 8, k, v, state_table);
         return;
     }
     fill_pair(labels, node_table, inner, s, k, v, state_table);

@@ -48,8 +48,24 @@ returns-2 c =
     by-count (sym (t .if2 .taken)) (g .labels .now) (g .node-table .now) (g .inner .now) (g .k) (g .v)
     (g .state-table .now) (f .fill-pair2 .last .1 .1 .1 .1 .1 .1 .0) (f .fill-pair2 .ensures)
 
+fill-pair-requires-3 : tie.Need-fill-pair-requires-3
+fill-pair-requires-3 c κs =
+    let s = c .before .before .before .before .before .before .before .before in
+    let g = s .args in
+    subst (λ (x : ℕ). PairArgs (g .labels .now) (g .node-table .now) (g .inner .now) x (g .k) (g .state-table .now)
+    (g .v)) (c .before .if3 .taken) (s .pre)
+
+returns-3 : tie.Need-returns-3
+returns-3 c =
+    let f = c .before .before in
+    let t = f .before .before in
+    let g = t .before .before .before .before .before .before .before .args in
+    by-count (sym (t .if3 .taken)) (g .labels .now) (g .node-table .now) (g .inner .now) (g .k) (g .v)
+    (g .state-table .now) (f .fill-pair3 .last .1 .1 .1 .1 .1 .1 .0) (f .fill-pair3 .ensures)
+
 pub fill-children-spec : {M : Type 1} → statement M
 fill-children-spec =
     tie.close
     (tie.spec fill-pair-requires (λ c. search needs) returns fill-pair-requires-2 (λ c. search needs) returns-2
-    (λ c κs. search needs) (λ c. search needs) (λ c. search needs))
+    fill-pair-requires-3 (λ c. search needs) returns-3 (λ c κs. search needs) (λ c. search needs)
+    (λ c. search needs))
