@@ -34,7 +34,7 @@ fn step_row(
 }
 
 // Node v's map, from its label and the maps above it.
-fn node_map(
+fn label_map(
     labels: &[u8],
     node_table: &[u16],
     steps: &[u8],
@@ -57,6 +57,36 @@ fn node_map(
         let far = node_table[p * 4 + 1] as usize;
         step_row(state_table, s, v, p, far, steps, k, a);
     }
+}
+
+// The same. The number of states is a literal where it is 2, 4 or 16, so that the compiler knows how long a row is.
+fn node_map(
+    labels: &[u8],
+    node_table: &[u16],
+    steps: &[u8],
+    s: usize,
+    k: usize,
+    v: usize,
+    state_table: &mut [u8],
+)
+    requires { ⌜ NodeArgs (now labels) (now «node_table») (now steps) s k (now «state_table») v ⌝ }
+    ensures { λ _. ⌜ Rowed s
+        (nodeMap (now (labels .entry)) (now («node_table» .entry)) (now (steps .entry)) s k (now («state_table» .entry)) v) v
+        (now («state_table» .entry)) (now («state_table» .exit)) ⌝ }
+{
+    if s == 2 {
+        label_map(labels, node_table, steps, 2, k, v, state_table);
+        return;
+    }
+    if s == 4 {
+        label_map(labels, node_table, steps, 4, k, v, state_table);
+        return;
+    }
+    if s == 16 {
+        label_map(labels, node_table, steps, 16, k, v, state_table);
+        return;
+    }
+    label_map(labels, node_table, steps, s, k, v, state_table);
 }
 
 // Writes the map of each of the n nodes, the root's first.

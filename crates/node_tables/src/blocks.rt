@@ -13,14 +13,6 @@ pub fn block_end(b: usize, n: usize) -> usize
     if b + 1024 < n { b + 1024 } else { n }
 }
 
-// Where the block begins that ends at e.
-pub fn block_start(e: usize) -> usize
-    requires { ⌜ 0 < e ⌝ }
-    ensures { λ r. ⌜ (r < e) × (e ≤ r + 1024) ⌝ }
-{
-    if 1024 < e { e - 1024 } else { 0 }
-}
-
 // Lists the inner nodes of b, .. e - 1 in rising order, and tells how many they are. A leaf is listed too, and the next
 // node over it.
 pub fn list_inner(kinds: &[u8], b: usize, e: usize, list: &mut [u16]) -> usize

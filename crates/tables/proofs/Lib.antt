@@ -7,6 +7,7 @@ pub mod RowLoop
 pub mod StateLoop
 pub mod MapTableLaws
 pub mod PairMaps
+mod PairLoop
 pub mod MapLoop
 pub mod MapPlaces
 pub mod TableLoop

@@ -1,20 +1,19 @@
 -- Both children's maps, written at their parent's turn.
 --     pair-rowed .. pair-ext          two rows written one after the other
---     second-far, far-again           the second of two rows that go on by the maps of the same two nodes
 --     near-pair-args, far-pair-args   what the writers of both rows need; near-values, far-values: what they write
 -- Assumes nothing.
-use Prim.Native.Nat.{ℕ, _+_, _-_, _*_, _≤_, _<_}
-use mathlib.Core.Path.{_≡_, sym, ap, _∙_}
+use Prim.Native.Nat.{ℕ, _+_, _-_, _*_, _<_}
+use mathlib.Core.Path.{_≡_, _∙_}
 use mathlib.Core.List.{List}
 use native.Mathlib.Omega.{arith}
 use borrow.Author.Tests.{eq-eqb, ne-eqb}
 use lib.ListN.{length, getD}
 use Rattle.list_laws.proofs.RowLaws.{stride}
 use Rattle.formats.proofs.RuleLaws.{rule-in}
-use Rattle.node_tables.specs.Cells.{jumpCell, sizeCell}
+use Rattle.node_tables.specs.Cells.{jumpCell}
 use Rattle.node_tables.specs.inner.UpPass.{leftOf}
-use Rattle.tables.specs.StateCells.{stateCell, mapCell}
-use Rattle.tables.specs.inner.Rows.{Rowed, RowIn, NearArgs, FarArgs, farCell}
+use Rattle.tables.specs.StateCells.{stateCell}
+use Rattle.tables.specs.inner.Rows.{Rowed, RowIn, FarArgs, farCell}
 use Rattle.tables.specs.inner.MapPairs.{PairRowed, rowOf, colOf, rightValue, leftValue, NearPairArgs}
 use Rattle.tables.specs.inner.MapPairs.{FarPairArgs, PairArgs}
 use Rattle.tables.proofs.MapRowLaws.{row-other}
@@ -34,32 +33,6 @@ pair-ext s f f′ g g′ r l b₀ b e d P = record {
   left = λ q h. P .left q h ∙ d q h;
   kept = P .kept;
 }
-
--- ---- the second row, after node r's map is written
-
-module _ (s : ℕ) (f : ℕ → ℕ) (r : ℕ) (b₀ b₁ : List ℕ) (R : Rowed s f r b₀ b₁) (v l j : ℕ) (table : List ℕ)
-    (base stride : ℕ) (F : FarArgs b₀ s l v j table base stride) (hv : v ≡ r → ⊥) (hj : j ≡ r → ⊥) where
-  pub second-far : length b₁ ≡ length b₀ → FarArgs b₁ s l v j table base stride
-  second-far same = record {
-    room = omega (arith, F .room);
-    near-room = omega (arith, F .near-room);
-    far-room = omega (arith, F .far-room);
-    near-other = F .near-other;
-    far-other = F .far-other;
-    inside = F .inside;
-    here-below = F .here-below;
-    near-below = λ q h. rw (row-other s f r s b₀ b₁ R v q hv (omega arith) h) (F .near-below q h);
-  }
-
-  far-again : (q : ℕ) → q < s → farCell s b₁ v j table base stride q ≡ farCell s b₀ v j table base stride q
-  far-again q h =
-      let x : ℕ = getD table (base + q * stride) 0 in
-      ap (mapCell s b₁ j) (row-other s f r s b₀ b₁ R v x hv (omega arith) (F .here-below q h))
-      ∙ row-other s f r s b₀ b₁ R j (mapCell s b₀ v x) hj (omega arith) (F .near-below x (F .here-below q h))
-
-  pub second-rowed : (b₂ : List ℕ) → Rowed s (farCell s b₁ v j table base stride) l b₁ b₂
-      → Rowed s (farCell s b₀ v j table base stride) l b₁ b₂
-  second-rowed b₂ L = record { cells = λ q h. L .cells q h ∙ far-again q h; kept = L .kept }
 
 -- ---- what the writers need, and what they write
 

@@ -1,15 +1,14 @@
--- The turns of the loop that writes a map by a table and two maps, `far_row`: what a turn reads.
---     placed                  a byte of a map, by its place as the code has it
---     far-near .. far-is      the byte read in each of the two maps, and the last as the byte to write
+-- What a turn of `far_pair` reads, to write a map by a table and two maps.
+--     placed                     a byte of a map, by its place as the code has it
+--     far-here-below .. far-is   the byte read in the table and in each of the two maps; the last is the byte to write
 -- Assumes nothing.
-use Prim.Native.Nat.{ℕ, _+_, _*_, _≤_, _<_}
+use Prim.Native.Nat.{ℕ, _+_, _*_, _<_}
 use mathlib.Core.Path.{_≡_, ap, _∙_}
 use mathlib.Core.List.{List}
 use native.Mathlib.Omega.{arith}
 use lib.ListN.{getD}
 use Rattle.tables.specs.StateCells.{mapCell}
-use Rattle.tables.specs.inner.Rows.{RowTo, FarArgs, farCell}
-use Rattle.tables.proofs.MapRowLaws.{row-other}
+use Rattle.tables.specs.inner.Rows.{FarArgs, farCell}
 
 -- the places as the code has them
 abbrev pub placed : ℕ → List ℕ → ℕ → ℕ → ℕ
@@ -18,22 +17,23 @@ placed s b v q = getD b (v * (s + 1) + 1 + q) 0
 placed-is : (s : ℕ) (b : List ℕ) (v q : ℕ) → placed s b v q ≡ mapCell s b v q
 placed-is s b v q = let e : v * (s + 1) + 1 + q ≡ v * (s + 1) + (1 + q) = omega arith in ap (λ (j : ℕ). getD b j 0) e
 
+-- the maps of p and of j are as they were; `at` is the place of entry i, as the code has it
 module _ (s v p j i : ℕ) (table : List ℕ) (base stride : ℕ) (b₀ b : List ℕ)
-    (r : RowTo s (farCell s b₀ p j table base stride) v i b₀ b) (args : FarArgs b₀ s v p j table base stride)
-    (h : i < s) where
-  far-near : placed s b p (getD table (base + i * stride) 0) ≡ mapCell s b₀ p (getD table (base + i * stride) 0)
-  far-near =
-      placed-is s b p (getD table (base + i * stride) 0)
-      ∙ row-other s (farCell s b₀ p j table base stride) v i b₀ b r p (getD table (base + i * stride) 0)
-      (args .near-other)
-      (omega arith) (args .here-below i h)
+    (near-same : (q : ℕ) → q < s → mapCell s b p q ≡ mapCell s b₀ p q)
+    (far-same : (q : ℕ) → q < s → mapCell s b j q ≡ mapCell s b₀ j q)
+    (args : FarArgs b₀ s v p j table base stride) (h : i < s) (at : ℕ) (e : at ≡ base + i * stride) where
+  pub far-here-below : getD table at 0 < s
+  far-here-below = rw e (args .here-below i h)
 
-  pub far-near-below : placed s b p (getD table (base + i * stride) 0) < s
-  far-near-below = rw far-near (args .near-below (getD table (base + i * stride) 0) (args .here-below i h))
+  far-near : placed s b p (getD table at 0) ≡ mapCell s b₀ p (getD table at 0)
+  far-near = placed-is s b p (getD table at 0) ∙ near-same (getD table at 0) far-here-below
 
-  pub far-is : placed s b j (placed s b p (getD table (base + i * stride) 0)) ≡ farCell s b₀ p j table base stride i
+  pub far-near-below : placed s b p (getD table at 0) < s
+  far-near-below = rw far-near (args .near-below (getD table at 0) far-here-below)
+
+  pub far-is : placed s b j (placed s b p (getD table at 0)) ≡ farCell s b₀ p j table base stride i
   far-is =
-      let x : ℕ = mapCell s b₀ p (getD table (base + i * stride) 0) in
+      let x : ℕ = mapCell s b₀ p (getD table at 0) in
       ap (placed s b j) far-near ∙ placed-is s b j x
-      ∙ row-other s (farCell s b₀ p j table base stride) v i b₀ b r j x (args .far-other) (omega arith)
-      (args .near-below (getD table (base + i * stride) 0) (args .here-below i h))
+      ∙ far-same x (args .near-below (getD table at 0) far-here-below)
+      ∙ ap (λ (y : ℕ). mapCell s b₀ j (mapCell s b₀ p (getD table y 0))) e

@@ -6,6 +6,7 @@ pub mod climb;
 pub mod compare;
 pub mod lookups;
 mod maps;
+mod pair_rows;
 pub mod replays;
 pub mod rows;
 mod states;

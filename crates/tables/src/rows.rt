@@ -1,7 +1,7 @@
 // Writing one node's map, for rule tables and branch tables.
 ghost use Prim.Native.Nat.{_+_, _*_, _<_};
 ghost use lib.ListN.{length, getD};
-ghost use Rattle.tables.specs.inner.Rows.{Rowed, NearArgs, FarArgs, SameArgs, farCell};
+ghost use Rattle.tables.specs.inner.Rows.{Rowed, NearArgs, SameArgs};
 
 // Node v's map, from a table of states: entry q is the table's at base + q * stride.
 pub fn near_row(
@@ -20,34 +20,6 @@ pub fn near_row(
     let mut q = 0;
     while q < s {
         state_table[at + q] = table[base + q * stride];
-        q += 1;
-    }
-}
-
-// Node v's map, from a table of states as above, followed by the maps of p and then of j.
-pub fn far_row(
-    state_table: &mut [u8],
-    s: usize,
-    v: usize,
-    p: usize,
-    j: usize,
-    table: &[u8],
-    base: usize,
-    stride: usize,
-)
-    requires { ⌜ FarArgs (now «state_table») s v p j (now table) base stride ⌝ }
-    ensures { λ _. ⌜
-        Rowed s (farCell s (now («state_table» .entry)) p j (now (table .entry)) base stride) v
-        (now («state_table» .entry)) (now («state_table» .exit)) ⌝ }
-{
-    let at = v * (s + 1) + 1;
-    let near = p * (s + 1) + 1;
-    let far = j * (s + 1) + 1;
-    let mut q = 0;
-    while q < s {
-        let x = table[base + q * stride] as usize;
-        let y = state_table[near + x] as usize;
-        state_table[at + q] = state_table[far + y];
         q += 1;
     }
 }

@@ -1,5 +1,7 @@
 -- The maps of a node's two children, written at the parent's turn.
 --
+-- PairTo s f g r l i before after == the first i bytes of node r's map are f's, of node l's are g's, and no other byte is
+--   changed
 -- PairRowed s f g r l before after == node r's map is f's and node l's is g's, and no other byte is changed
 -- rowOf, colOf == where the steps of the right and of the left child of inner node v begin in the inner states
 -- takenOn b s st w p x == x where the jump w is the parent p, else what the maps of p and of its jump make of it
@@ -33,11 +35,14 @@ use Rattle.tables.specs.inner.MapTable.{NoMap}
 use Rattle.tables.specs.inner.Maps.{Prepared, MapArgs}
 use Rattle.tables.specs.inner.Rows.{NearArgs, FarArgs}
 
-pub record PairRowed (s : ℕ) (f g : ℕ → ℕ) (r l : ℕ) (before after : List ℕ) : Type 0 where
-  pub right : (q : ℕ) → q < s → mapCell s after r q ≡ f q
-  pub left : (q : ℕ) → q < s → mapCell s after l q ≡ g q
-  pub kept : (j : ℕ) → ((q : ℕ) → q < s → j ≡ r * (s + 1) + (1 + q) → ⊥)
-      → ((q : ℕ) → q < s → j ≡ l * (s + 1) + (1 + q) → ⊥) → getD after j 0 ≡ getD before j 0
+pub record PairTo (s : ℕ) (f g : ℕ → ℕ) (r l i : ℕ) (before after : List ℕ) : Type 0 where
+  pub right : (q : ℕ) → q < i → mapCell s after r q ≡ f q
+  pub left : (q : ℕ) → q < i → mapCell s after l q ≡ g q
+  pub kept : (j : ℕ) → ((q : ℕ) → q < i → j ≡ r * (s + 1) + (1 + q) → ⊥)
+      → ((q : ℕ) → q < i → j ≡ l * (s + 1) + (1 + q) → ⊥) → getD after j 0 ≡ getD before j 0
+
+abbrev pub PairRowed : ℕ → (ℕ → ℕ) → (ℕ → ℕ) → ℕ → ℕ → List ℕ → List ℕ → Type 0
+PairRowed s f g r l before after = PairTo s f g r l s before after
 
 -- ---- one node's children
 

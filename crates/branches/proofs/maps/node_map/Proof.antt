@@ -1,74 +1,69 @@
--- `maps::node_map` meets its contract, by near_row or by step_row.
+-- `maps::node_map` meets its contract: in each arm the literal is the number of states.
 -- Assumes nothing.
-use Prim.Native.Nat.{_+_, _*_}
-use mathlib.Core.Path.{sym}
-use lib.ListN.{getD}
-use Rattle.node_tables.specs.Cells.{parentCell, jumpCell}
-use Rattle.tables.proofs.MapTableLaws.{row-ext}
-use Rattle.branches.specs.inner.Maps.{stepCell, nodeMap}
-use Rattle.branches.proofs.MapLoop.{nodeMap-near, nodeMap-far}
+use Prim.Native.Nat.{ℕ}
+use mathlib.Core.Path.{_≡_, sym, subst}
+use mathlib.Core.List.{List}
+use Rattle.tables.specs.inner.Rows.{Rowed}
+use Rattle.branches.specs.inner.Maps.{nodeMap, NodeArgs}
 use native.Mathlib.Omega.{arith}
 use borrow.Author.Needs.{needs}
 use Rattle.branches.proofs.maps.node_map.Statement.{statement}
 use Rattle.branches.proofs.maps.node_map.Tie as tie
 
-cast-a : tie.Need-cast-a
-cast-a c = omega (arith, c .shared-slice-known4 .given (c .before .before .before .before .before .args .v))
+-- the map of as many states as the test told
+by-count : {s x : ℕ} → x ≡ s → (ls nodeTable st : List ℕ) (k v : ℕ) (b after : List ℕ)
+    → Rowed x (nodeMap ls nodeTable st x k b v) v b after → Rowed s (nodeMap ls nodeTable st s k b v) v b after
+by-count e ls nodeTable st k v b after =
+    subst (λ (y : ℕ). Rowed y (nodeMap ls nodeTable st y k b v) v b after) e
 
-cast-j : tie.Need-cast-j
-cast-j c = omega
-    (arith, c .shared-slice-known6 .given (c .before .before .before .before .before .before .before .args .v * 4 + 1))
+label-map-requires : tie.Need-label-map-requires
+label-map-requires c κs =
+    let s = c .before .before .before .before .before .before in
+    let g = s .args in
+    subst (λ (x : ℕ). NodeArgs (g .labels .now) (g .node-table .now) (g .steps .now) x (g .k) (g .state-table .now)
+    (g .v)) (c .before .if1 .taken) (s .pre)
 
 returns : tie.Need-returns
 returns c =
-    let n = c .before .before in
-    let i = n .before .before in
-    let g = i .before .before .before .before .before .before .before .before .args in
-    row-ext (g .s) (λ q. getD (g .steps .now) (getD (g .labels .now) (g .v) 0 + q * g .k) 0)
-    (nodeMap (g .labels .now) (g .node-table .now) (g .steps .now) (g .s) (g .k) (g .state-table .now) (g .v)) (g .v) (g .s)
-    (g .state-table .now)
-    (n .near-row .last .0) (n .near-row .ensures)
-    (λ q l. sym (nodeMap-near (g .labels .now) (g .node-table .now) (g .steps .now) (g .s) (g .k) (g .state-table .now) (g .v) q
-    (i .if1 .taken)))
+    let f = c .before .before in
+    let t = f .before .before in
+    let g = t .before .before .before .before .before .args in
+    by-count (sym (t .if1 .taken)) (g .labels .now) (g .node-table .now) (g .steps .now) (g .k) (g .v)
+    (g .state-table .now) (f .label-map .last .1 .1 .1 .1 .1 .1 .0) (f .label-map .ensures)
+
+label-map-requires-2 : tie.Need-label-map-requires-2
+label-map-requires-2 c κs =
+    let s = c .before .before .before .before .before .before .before in
+    let g = s .args in
+    subst (λ (x : ℕ). NodeArgs (g .labels .now) (g .node-table .now) (g .steps .now) x (g .k) (g .state-table .now)
+    (g .v)) (c .before .if2 .taken) (s .pre)
 
 returns-2 : tie.Need-returns-2
 returns-2 c =
-    let n = c .before .before in
-    let i = n .before .before .before in
-    let g = i .before .before .before .before .before .before .before .before .args in
-    let p = parentCell (g .node-table .now) (g .v) in
-    row-ext (g .s)
-    (stepCell (g .s) (g .state-table .now) p (jumpCell (g .node-table .now) p) (g .steps .now) (g .k)
-    (getD (g .labels .now) (g .v) 0))
-    (nodeMap (g .labels .now) (g .node-table .now) (g .steps .now) (g .s) (g .k) (g .state-table .now) (g .v)) (g .v) (g .s)
-    (g .state-table .now)
-    (n .step-row .last .0) (n .step-row .ensures)
-    (λ q l. sym (nodeMap-far (g .labels .now) (g .node-table .now) (g .steps .now) (g .s) (g .k) (g .state-table .now) (g .v) q
-    (i .if1 .left)))
+    let f = c .before .before in
+    let t = f .before .before in
+    let g = t .before .before .before .before .before .before .args in
+    by-count (sym (t .if2 .taken)) (g .labels .now) (g .node-table .now) (g .steps .now) (g .k) (g .v)
+    (g .state-table .now) (f .label-map2 .last .1 .1 .1 .1 .1 .1 .0) (f .label-map2 .ensures)
+
+label-map-requires-3 : tie.Need-label-map-requires-3
+label-map-requires-3 c κs =
+    let s = c .before .before .before .before .before .before .before .before in
+    let g = s .args in
+    subst (λ (x : ℕ). NodeArgs (g .labels .now) (g .node-table .now) (g .steps .now) x (g .k) (g .state-table .now)
+    (g .v)) (c .before .if3 .taken) (s .pre)
+
+returns-3 : tie.Need-returns-3
+returns-3 c =
+    let f = c .before .before in
+    let t = f .before .before in
+    let g = t .before .before .before .before .before .before .before .args in
+    by-count (sym (t .if3 .taken)) (g .labels .now) (g .node-table .now) (g .steps .now) (g .k) (g .v)
+    (g .state-table .now) (f .label-map3 .last .1 .1 .1 .1 .1 .1 .0) (f .label-map3 .ensures)
 
 pub node-map-spec : {M : Type 1} → statement M
 node-map-spec =
     tie.close
-    (tie.spec
-    (λ c. search needs)
-    cast-a
-    (λ c. search needs)
-    (λ c. search needs)
-    (λ c. search needs)
-    (λ c. search needs)
-    (λ c. search needs)
-    (λ c. search needs)
-    (λ c. search needs)
-    (λ c. search needs)
-    cast-j
-    (λ c κs. search needs)
-    (λ c. search needs)
-    (λ c. search needs)
-    (λ c. search needs)
-    (λ c. search needs)
-    (λ c. search needs)
-    (λ c κs. search needs)
-    (λ c. search needs)
-    returns
-    (λ c. search needs)
-    returns-2)
+    (tie.spec label-map-requires (λ c. search needs) returns label-map-requires-2 (λ c. search needs) returns-2
+    label-map-requires-3 (λ c. search needs) returns-3 (λ c κs. search needs) (λ c. search needs)
+    (λ c. search needs))

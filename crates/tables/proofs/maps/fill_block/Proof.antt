@@ -48,18 +48,18 @@ loop-holds c =
           (from (g .b) (li .list-inner .last .1 .1 .1 .0) (li .list-inner .result)) (g .e) (L .rest) W,
     )
 
-slice-read-fill-pair : tie.Need-slice-read-fill-pair Inv-loop μ-loop
-slice-read-fill-pair c =
+slice-read-fill-children : tie.Need-slice-read-fill-children Inv-loop μ-loop
+slice-read-fill-children c =
     let a = c .before .before in
     let li = a .before .before .before in
     let s = li .before .before .before .before .before .before .before .before in
     omega (arith, a .loop .inv .0, li .list-inner .ensures .few, s .pre .fits, c .before .loop-test .taken)
 
-cast-fill-pair : tie.Need-cast-fill-pair Inv-loop μ-loop
-cast-fill-pair c = omega (arith, c .slice-known4 .given (c .before .before .loop .i - 1))
+cast-fill-children : tie.Need-cast-fill-children Inv-loop μ-loop
+cast-fill-children c = omega (arith, c .slice-known4 .given (c .before .before .loop .i - 1))
 
-fill-pair-requires : tie.Need-fill-pair-requires Inv-loop μ-loop
-fill-pair-requires c κs =
+fill-children-requires : tie.Need-fill-children-requires Inv-loop μ-loop
+fill-children-requires c κs =
     let a = c .before .before .before in
     let li = a .before .before .before in
     let s = li .before .before .before .before .before .before .before .before in
@@ -87,7 +87,7 @@ loop-again c =
     let l = li .list-inner .last .1 .1 .1 .0 in
     let i : ℕ = a .loop .i in
     let h : i - 1 < li .list-inner .result = omega (arith, a .loop .inv .0, t .loop-test .taken) in
-    let after = f .fill-pair .last .1 .1 .1 .1 .1 .1 .0 in (
+    let after = f .fill-children .last .1 .1 .1 .1 .1 .1 .0 in (
       omega (arith, a .loop .inv .0),
       omega arith,
       λ first W. pairs-down (g .kinds .now) (g .labels .now) (g .node-table .now) (g .inner .now) (g .s)
@@ -97,7 +97,7 @@ loop-again c =
           (omega (arith, L .ends (i - 1) h, s .pre .inside)) (L .inner (i - 1) h)
           (subst (λ (x : ℕ). Pairs (g .kinds .now) (g .labels .now) (g .node-table .now) (g .inner .now) (g .s)
           (g .k) x first (a .loop .state-table))
-          (last-from (g .b) l i (t .loop-test .taken)) (a .loop .inv .2 first W)) (f .fill-pair .ensures)),
+          (last-from (g .b) l i (t .loop-test .taken)) (a .loop .inv .2 first W)) (f .fill-children .ensures)),
     )
 
 returns : tie.Need-returns Inv-loop μ-loop
@@ -122,9 +122,9 @@ fill-block-spec =
     loop-holds
     (λ c. search needs)
     (λ c. search needs)
-    slice-read-fill-pair
-    cast-fill-pair
-    fill-pair-requires
+    slice-read-fill-children
+    cast-fill-children
+    fill-children-requires
     (λ c. search needs)
     loop-again
     (λ c. search needs)

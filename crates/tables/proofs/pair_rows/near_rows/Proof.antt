@@ -1,12 +1,12 @@
--- `maps::near_pair` meets its contract.
+-- `pair_rows::near_rows` meets its contract.
 -- Assumes nothing.
 use Prim.Native.Nat.{_+_, _*_}
 use lib.ListN.{getD}
 use Rattle.tables.proofs.PairMaps.{pair-rowed}
 use native.Mathlib.Omega.{arith}
 use borrow.Author.Needs.{needs}
-use Rattle.tables.proofs.maps.near_pair.Statement.{statement}
-use Rattle.tables.proofs.maps.near_pair.Tie as tie
+use Rattle.tables.proofs.pair_rows.near_rows.Statement.{statement}
+use Rattle.tables.proofs.pair_rows.near_rows.Tie as tie
 
 returns : tie.Need-returns
 returns c =
@@ -19,5 +19,5 @@ returns c =
     (g .right) (g .left) (g .state-table .now) (r .near-row .last .0) (l .near-row2 .last .0) (s .pre .apart)
     (r .near-row .ensures) (l .near-row2 .ensures)
 
-pub near-pair-spec : {M : Type 1} → statement M
-near-pair-spec = tie.close (tie.spec (λ c κs. search needs) (λ c κs. search needs) (λ c. search needs) returns)
+pub near-rows-spec : {M : Type 1} → statement M
+near-rows-spec = tie.close (tie.spec (λ c κs. search needs) (λ c κs. search needs) (λ c. search needs) returns)
