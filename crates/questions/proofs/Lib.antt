@@ -14,6 +14,7 @@ pub mod InsertLoop
 pub mod RootsLaws
 pub mod FitLaws
 pub mod ListedLaws
+pub mod GapLaws
 pub mod GrowLaws
 pub mod ForkLoop
 pub mod FillLoop

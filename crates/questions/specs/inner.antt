@@ -1,3 +1,4 @@
+pub mod Gaps
 pub mod PartArgs
 pub mod Scans
 pub mod SearchAnswers

@@ -1,5 +1,6 @@
 // What a question is: the roots of its parts and the state and links of each part, on lent tables.
 pub mod fits;
+mod gap;
 pub mod part;
 mod rising;
 pub mod roots;
