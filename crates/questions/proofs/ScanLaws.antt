@@ -1,30 +1,34 @@
 -- Searches in a list, by its entries.
---     covers-yes, covers-above, covers-under    whether a run covers a number, by the two tests of the code
---     last-step, last-more, last-same, last-end one entry more: it is covered, or the place found stays; none is left
+--     covers-yes, covers-above, covers-under    whether a run covers a number
+--     covers-by-distance, any-of-none           the same by one test; a run of no numbers covers none
+--     last-hit, last-miss, whole                the last entry is covered, or the place found is that of the others
+--     last-nowhere, last-cut                    no entry is covered; none of some entries at the end
+--     any-step, any-end                         one entry more of the test whether any is covered; none is left
 --     last-ind, last-bound, last-covers         the place found is inside the list, and its entry not above c
 --     found-scan                                the last root below c is the one at the place found
 --     label-scan                                the label as changed is the one at the place found
 -- Assumes nothing.
-use Prim.Native.Nat.{ℕ, suc, _+_, _-_, _≤_, _<_}
+use Prim.Native.Nat.{ℕ, suc, _+_, _-_, _%_, _^_, _≤_, _<_}
 use mathlib.Core.Path.{_≡_, refl, sym, ap, _∙_, subst}
-use mathlib.Core.Bool.{Bool, true, false, cond, _&&_}
-use mathlib.Core.List.{List, [], _∷_}
+use mathlib.Core.Bool.{Bool, true, false, cond, _&&_, _||_}
+use mathlib.Core.List.{List, [], _∷_, _++_}
 use mathlib.Core.Option.{some}
 use native.Mathlib.Omega.{arith}
 use native.Mathlib.Numerals.{add-one}
 use lib.Dec.{leb, ltb}
-use lib.ListN.{length, getD, drop, set, length-set, drop-of-length-le}
-use lib.Seq.{drop-cons, drop-drop, getD-drop, getD-set-same, getD-set-other}
+use lib.ListN.{length, getD, take, drop, set, length-set, drop-of-length-le}
+use lib.Seq.{take-suc, take-add, take-length, drop-cons, drop-drop, length-take-le, getD-drop}
+use lib.Seq.{getD-set-same, getD-set-other}
 use borrow.Author.Tests.{lt-ltb, le-ltb, le-leb, lt-leb, leb-true, ltb-true}
 use Rattle.trees.specs.Numbering.{isInSubtree}
 use Rattle.trees.specs.Changes.{changed}
-use Rattle.list_laws.proofs.Choice.{by-test}
+use Rattle.list_laws.proofs.Choice.{by-test, le-or}
 use Rattle.trees.proofs.MoveLaws.{both}
-use Rattle.list_laws.proofs.BoolLaws.{true-false}
+use Rattle.list_laws.proofs.BoolLaws.{true-false, or-assoc, or-no}
 use Rattle.node_tables.specs.Cells.{sizeCell}
 use Rattle.node_tables.specs.Cells.{isInSubtreeOn}
 use Rattle.questions.specs.Part.{found, lastFound, foundBelow}
-use Rattle.questions.specs.inner.Scans.{lastFrom, lastIn, foundOf, labelOf}
+use Rattle.questions.specs.inner.Scans.{lastFrom, lastIn, anyIn, Shortened, foundOf, labelOf}
 
 -- the first entry of a rest, and the rest after it
 at-head : (e i : ℕ) (es l : List ℕ) → e ∷ es ≡ drop i l → e ≡ getD l i 0
@@ -56,43 +60,103 @@ module _ (c z e : ℕ) where
       let t = both (leb e c) (ltb c (e + z)) h in
       (leb-true e c (t .0), ltb-true c (e + z) (t .1))
 
--- ---- the place found
+  -- by the distance w from the first number of the run, in numbers of 16 bits
+  pub covers-by-distance : (w first : ℕ) → 1 ≤ z → first ≡ c + 1 - z → (w + first) % 2 ^ 16 ≡ e → w < 65536 → c < 65536
+      → leb w (c - first) ≡ isInSubtree c z e
+  covers-by-distance w first o f d i j =
+      le-or w (c - first)
+      (λ l. le-leb w (c - first) l ∙ sym (covers-yes (omega arith) (omega arith)))
+      (λ l. lt-leb w (c - first) l
+      ∙ sym (le-or e c (λ k. covers-under k (omega arith)) (λ k. covers-above k)))
+
+-- a run of no numbers
+pub covers-none : (c e : ℕ) → isInSubtree c 0 e ≡ false
+covers-none c e = le-or e c (λ k. covers-under c 0 e k (omega arith)) (λ k. covers-above c 0 e k)
+
+pub any-of-none : (c : ℕ) (es : List ℕ) → anyIn c 0 es ≡ false
+unfolding anyIn
+any-of-none c [] = refl
+any-of-none c (e ∷ es) = ap (λ (b : Bool). b || anyIn c 0 es) (covers-none c e) ∙ any-of-none c es
+
+-- ---- one entry more, or fewer
 
 module _ (c z : ℕ) where
-  pub last-step : (es : List ℕ) (i at : ℕ) → i < length es
-      → lastFrom c z (drop i es) i at
-      ≡ lastFrom c z (drop (i + 1) es) (i + 1) (cond (isInSubtree c z (getD es i 0)) (i + 1) at)
+  last-append : (xs ys : List ℕ) (i at : ℕ)
+      → lastFrom c z (xs ++ ys) i at ≡ lastFrom c z ys (i + length xs) (lastFrom c z xs i at)
   unfolding lastFrom
-  last-step es i at h =
-      ap (λ (l : List ℕ). lastFrom c z l i at) (drop-cons es i 0 h)
-      ∙ ap (λ (n : ℕ). lastFrom c z (drop n es) (i + 1) (cond (isInSubtree c z (getD es i 0)) (i + 1) at)) (sym (add-one i))
+  last-append [] ys i at =
+      let e : i ≡ i + 0 = omega arith in
+      ap (λ (n : ℕ). lastFrom c z ys n at) e
+  last-append (x ∷ xs) ys i at =
+      let e : i + 1 + length xs ≡ i + suc (length xs) = omega arith in
+      let b = cond (isInSubtree c z x) (i + 1) at in
+      last-append xs ys (i + 1) b ∙ ap (λ (n : ℕ). lastFrom c z ys n (lastFrom c z xs (i + 1) b)) e
 
-  -- m is the place of the entry if it is covered, else 0; the place found before is smaller
-  pub last-more : (es : List ℕ) (i at m : ℕ) → i < length es → m ≡ cond (isInSubtree c z (getD es i 0)) (i + 1) 0 → at < m
-      → (m ≡ i + 1) × (lastFrom c z (drop (i + 1) es) (i + 1) m ≡ lastFrom c z (drop i es) i at)
-  last-more es i at m h e l = go (isInSubtree c z (getD es i 0)) e (last-step es i at h)
-    where
-      go : (b : Bool) → m ≡ cond b (i + 1) 0
-          → lastFrom c z (drop i es) i at ≡ lastFrom c z (drop (i + 1) es) (i + 1) (cond b (i + 1) at)
-          → (m ≡ i + 1) × (lastFrom c z (drop (i + 1) es) (i + 1) m ≡ lastFrom c z (drop i es) i at)
-      go true q s = (q, ap (lastFrom c z (drop (i + 1) es) (i + 1)) q ∙ sym s)
-      go false q s = absurd (omega arith)
-
-  pub last-same : (es : List ℕ) (i at m : ℕ) → i < length es → m ≡ cond (isInSubtree c z (getD es i 0)) (i + 1) 0 → at ≤ i
-      → m ≤ at
-      → lastFrom c z (drop (i + 1) es) (i + 1) at ≡ lastFrom c z (drop i es) i at
-  last-same es i at m h e k l = go (isInSubtree c z (getD es i 0)) e (last-step es i at h)
-    where
-      go : (b : Bool) → m ≡ cond b (i + 1) 0
-          → lastFrom c z (drop i es) i at ≡ lastFrom c z (drop (i + 1) es) (i + 1) (cond b (i + 1) at)
-          → lastFrom c z (drop (i + 1) es) (i + 1) at ≡ lastFrom c z (drop i es) i at
-      go true q s = absurd (omega arith)
-      go false q s = sym s
-
-  -- no entry is left
-  pub last-end : (es : List ℕ) (i at : ℕ) → length es ≤ i → lastFrom c z (drop i es) i at ≡ at
+  -- one entry more
+  pub last-snoc : (es : List ℕ) (i : ℕ) → i < length es
+      → lastIn c z (take (i + 1) es) ≡ cond (isInSubtree c z (getD es i 0)) (i + 1) (lastIn c z (take i es))
   unfolding lastFrom
-  last-end es i at h = ap (λ (l : List ℕ). lastFrom c z l i at) (drop-of-length-le es {i = i} h)
+  last-snoc es i h =
+      let e : 0 + length (take i es) + 1 ≡ i + 1 = omega (arith, length-take-le i es (omega arith)) in
+      ap (lastIn c z) (ap (λ (n : ℕ). take n es) (add-one i) ∙ take-suc es i 0 h)
+      ∙ last-append (take i es) (getD es i 0 ∷ []) 0 0
+      ∙ ap (λ (n : ℕ). cond (isInSubtree c z (getD es i 0)) n (lastIn c z (take i es))) e
+
+  -- the last entry is in the run, or it is not
+  pub last-hit : (es : List ℕ) (i : ℕ) → 0 < i → i ≤ length es → isInSubtree c z (getD es (i - 1) 0) ≡ true
+      → i ≡ lastIn c z (take i es)
+  last-hit es i o h t =
+      let e : i - 1 + 1 ≡ i = omega arith in
+      sym (ap (λ (n : ℕ). lastIn c z (take n es)) (sym e) ∙ last-snoc es (i - 1) (omega arith)
+      ∙ ap (λ (b : Bool). cond b (i - 1 + 1) (lastIn c z (take (i - 1) es))) t ∙ e)
+
+  pub last-miss : (es : List ℕ) (i : ℕ) → 0 < i → i ≤ length es → isInSubtree c z (getD es (i - 1) 0) ≡ false
+      → lastIn c z (take (i - 1) es) ≡ lastIn c z (take i es)
+  last-miss es i o h t =
+      let e : i - 1 + 1 ≡ i = omega arith in
+      sym (ap (λ (n : ℕ). lastIn c z (take n es)) (sym e) ∙ last-snoc es (i - 1) (omega arith)
+      ∙ ap (λ (b : Bool). cond b (i - 1 + 1) (lastIn c z (take (i - 1) es))) t)
+
+  -- with nothing taken away
+  pub whole : (es : List ℕ) → Shortened c z es (length es)
+  whole es = record { within = omega arith; place = ap (lastIn c z) (take-length es) }
+
+  -- ---- no entry in the run
+
+  any-none : (a b : Bool) → (a || b) ≡ false → (a ≡ false) × (b ≡ false)
+  any-none true b h = absurd (true-false h)
+  any-none false b h = (refl, h)
+
+  last-none : (es : List ℕ) (i at : ℕ) → anyIn c z es ≡ false → lastFrom c z es i at ≡ at
+  unfolding lastFrom anyIn
+  last-none [] i at h = refl
+  last-none (e ∷ es) i at h =
+      let n = any-none (isInSubtree c z e) (anyIn c z es) h in
+      last-none es (i + 1) (cond (isInSubtree c z e) (i + 1) at) (n .1) ∙ ap (λ (b : Bool). cond b (i + 1) at) (n .0)
+
+  pub last-nowhere : (es : List ℕ) → anyIn c z es ≡ false → 0 ≡ lastIn c z es
+  last-nowhere es h = sym (last-none es 0 0 h)
+
+  -- entries at the end, none of them in the run
+  pub last-cut : (es : List ℕ) (i n : ℕ) → anyIn c z (take n (drop i es)) ≡ false
+      → lastIn c z (take i es) ≡ lastIn c z (take (i + n) es)
+  last-cut es i n h =
+      sym (ap (lastIn c z) (take-add i n es) ∙ last-append (take i es) (take n (drop i es)) 0 0
+      ∙ last-none (take n (drop i es)) (0 + length (take i es)) (lastIn c z (take i es)) h)
+
+  pub any-step : (b : Bool) (es : List ℕ) (i : ℕ) → i < length es
+      → (b || isInSubtree c z (getD es i 0) || anyIn c z (drop (i + 1) es)) ≡ (b || anyIn c z (drop i es))
+  unfolding anyIn
+  any-step b es i h =
+      let e : drop i es ≡ getD es i 0 ∷ drop (i + 1) es = rw add-one (drop-cons es i 0 h) in
+      or-assoc b (isInSubtree c z (getD es i 0)) (anyIn c z (drop (i + 1) es))
+      ∙ sym (ap (λ (l : List ℕ). b || anyIn c z l) e)
+
+  pub any-end : (b : Bool) (es : List ℕ) (i : ℕ) → length es ≤ i → (b || anyIn c z (drop i es)) ≡ b
+  unfolding anyIn
+  any-end b es i h = ap (λ (l : List ℕ). b || anyIn c z l) (drop-of-length-le es h) ∙ or-no b
+
+  -- ---- the place found
 
   last-ind : (P : ℕ → Type 0) (es : List ℕ) (i at : ℕ) → P at
       → ((j : ℕ) → j < length es → isInSubtree c z (getD es j 0) ≡ true → P (i + j + 1)) → P (lastFrom c z es i at)
