@@ -24,7 +24,7 @@ use Rattle.records.specs.Layout.{recordLength, bytes16, headBytes, lastBytes, r
 use Rattle.records.proofs.NumberLaws.{bytes-numbers}
 use Rattle.records.proofs.RunLaws.{run-fits}
 use Rattle.capi_session.specs.SessionExported.{unlessRefused, AdvanceExported}
-use Rattle.capi_session.specs.Stored.{Stored, AdvanceStored}
+use Rattle.capi_session.specs.Stored.{AdvanceStored}
 use Rattle.capi_session.proofs.SessionExportedLaws.{laid-length, advance-laid}
 
 runs-join : (b : List ℕ) (a n m : ℕ) → run a n b ++ run (a + n) m b ≡ run a (n + m) b

@@ -28,8 +28,7 @@ cast-all c = omega (arith, c .shared-slice-known2 .given (c .before .before .bef
 loop-again : tie.Need-loop-again Inv-loop μ-loop
 loop-again c =
     let l = c .before .before .before .loop in
-    let a = c .before .before .before .before in
-    (
+    let a = c .before .before .before .before in (
       omega arith,
       pairs-iteration (a .args .xs .now) (a .args .ys .now) (l .i) (l .all) (omega arith) (omega arith) ∙ l .inv .1,
     )
