@@ -1,6 +1,6 @@
 pub mod DecodedAnswersLaws
 pub mod SessionExportedLaws
-pub mod ListsKept
+pub mod StepBytes
 pub mod ExportedRefines
 pub mod ExportedTheorem
 pub mod Ties

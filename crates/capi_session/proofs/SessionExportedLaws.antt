@@ -16,7 +16,7 @@ use Rattle.formats.specs.Inputs.{Inputs}
 use Rattle.model.specs.Calls.{Call, load, read, Answer, refused, accepted, parts, more, finished}
 use Rattle.session.specs.declared.answers.Called.{Called}
 use Rattle.session.specs.declared.answers.Started.{Started}
-use Rattle.session.specs.declared.answers.Advanced.{Advanced}
+use Rattle.session.specs.declared.answers.AdvanceStep.{AdvanceStep}
 use Rattle.session.specs.declared.answers.CallAnswer.the-variants.{Accepted, Refused as NotDone}
 use Rattle.session.specs.declared.answers.StartAnswer.the-variants.{Parts, Refused as NotStarted}
 use Rattle.session.specs.declared.answers.AdvanceAnswer.the-variants.{More, Finished, Refused as NotAdvanced}
@@ -29,26 +29,25 @@ use Rattle.model.specs.LeftOpen.{LeftOpen}
 use Rattle.session.specs.Records.{recordOf, valid}
 use Rattle.session.specs.Answers.{callAnswer, startAnswer, advanceAnswer, readAnswer}
 use Rattle.session.specs.Promises.{answerOn, recordOn, refusalOn, CallDone, LoadDone}
-use Rattle.records.specs.Layout.{recordLength, encoded, decoded, laidOut, validBytes}
+use Rattle.records.specs.Layout.{recordLength, stepBytes, encoded, decoded, laidOut, validBytes}
 use Rattle.capi_numbers.specs.Numbers.{bitOf}
 use Rattle.capi_session.specs.SessionExported.{answerFor, answerNumber, unlessRefused, recordFor, CallExported, loadNumber, LoadExported, partsOf}
 use Rattle.capi_session.specs.SessionExported.{StartExported, finishedOf, AdvanceExported, Places, answeredPlaces, ReadExported}
 use Rattle.capi_session.specs.Stored.{places, Stored, DoneStored, StartStored, AdvanceStored, ReadStored}
 
 -- an accepted answer's bytes, from what encode ensures
-accepted-bytes : (s : Session) (b b′ : List ℕ) → length b ≡ recordLength → b′ ≡ cond (eqb (length b) recordLength) (encoded s) b → b′ ≡ encoded s
-accepted-bytes s b b′ h e = e ∙ rw (eq-eqb (length b) recordLength h)
+accepted-bytes : (new b b′ : List ℕ) → length b ≡ recordLength → b′ ≡ cond (eqb (length b) recordLength) new b → b′ ≡ new
+accepted-bytes new b b′ h e = e ∙ rw (eq-eqb (length b) recordLength h)
 
-stored-new : (a : Answer) (s : Session) (b b′ : List ℕ) → answerNumber a ≡ 0 → unlessRefused a (encoded s) b ≡ encoded s
-    → b′ ≡ encoded s → Stored a s b 0 b′
-stored-new a s b b′ n u e = record { number = sym n; left = e ∙ sym u }
+stored-new : (a : Answer) (new b b′ : List ℕ) → answerNumber a ≡ 0 → unlessRefused a new b ≡ new → b′ ≡ new → Stored a new b 0 b′
+stored-new a new b b′ n u e = record { number = sym n; left = e ∙ sym u }
 
 pub done-stored : (o : Called) (b b′ : List ℕ) → length b ≡ recordLength → o .answer ≡ Accepted
     → b′ ≡ cond (eqb (length b) recordLength) (encoded (o .session)) b → DoneStored o b 0 b′
 unfolding callAnswer answerNumber unlessRefused
 done-stored o b b′ h e q =
-    stored-new (callAnswer (o .answer)) (o .session) b b′ (ap (λ (x : _). answerNumber (callAnswer x)) e)
-    (ap (λ (x : _). unlessRefused (callAnswer x) (encoded (o .session)) b) e) (accepted-bytes (o .session) b b′ h q)
+    stored-new (callAnswer (o .answer)) (encoded (o .session)) b b′ (ap (λ (x : _). answerNumber (callAnswer x)) e)
+    (ap (λ (x : _). unlessRefused (callAnswer x) (encoded (o .session)) b) e) (accepted-bytes (encoded (o .session)) b b′ h q)
 
 pub done-refused : (o : Called) (b : List ℕ) (n : ℕ) → o .answer ≡ NotDone n → DoneStored o b n b
 unfolding callAnswer answerNumber unlessRefused
@@ -61,8 +60,8 @@ pub start-stored : (o : Started) (b b′ : List ℕ) (p k : ℕ) → length b �
     → b′ ≡ cond (eqb (length b) recordLength) (encoded (o .session)) b → StartStored o b p 0 b′ k
 unfolding startAnswer answerNumber unlessRefused partsOf
 start-stored o b b′ p k h e q = record {
-  stored = stored-new (startAnswer (o .answer)) (o .session) b b′ (ap (λ (x : _). answerNumber (startAnswer x)) e)
-      (ap (λ (x : _). unlessRefused (startAnswer x) (encoded (o .session)) b) e) (accepted-bytes (o .session) b b′ h q);
+  stored = stored-new (startAnswer (o .answer)) (encoded (o .session)) b b′ (ap (λ (x : _). answerNumber (startAnswer x)) e)
+      (ap (λ (x : _). unlessRefused (startAnswer x) (encoded (o .session)) b) e) (accepted-bytes (encoded (o .session)) b b′ h q);
   parts-after = sym (ap (λ (x : _). partsOf (startAnswer x) p) e);
 }
 
@@ -76,33 +75,40 @@ start-refused o b p n e = record {
   parts-after = sym (ap (λ (x : _). partsOf (startAnswer x) p) e);
 }
 
-pub more-stored : (o : Advanced) (b b′ : List ℕ) (f : ℕ) → length b ≡ recordLength → o .answer ≡ More
-    → b′ ≡ cond (eqb (length b) recordLength) (encoded (o .session)) b → AdvanceStored o b f 0 b′ 0
-unfolding advanceAnswer answerNumber unlessRefused finishedOf
-more-stored o b b′ f h e q = record {
-  stored = stored-new (advanceAnswer (o .answer)) (o .session) b b′ (ap (λ (x : _). answerNumber (advanceAnswer x)) e)
-      (ap (λ (x : _). unlessRefused (advanceAnswer x) (encoded (o .session)) b) e) (accepted-bytes (o .session) b b′ h q);
-  finished-after = sym (ap (λ (x : _). finishedOf (advanceAnswer x) f) e);
-}
+module _ (t : AdvanceStep) (i : ℕ) (b : List ℕ) (f : ℕ) where
+  abbrev new : List ℕ
+  new = stepBytes (t .head) i (t .state) b
 
-pub finished-stored : (o : Advanced) (b b′ : List ℕ) (f : ℕ) → length b ≡ recordLength → o .answer ≡ Finished
-    → b′ ≡ cond (eqb (length b) recordLength) (encoded (o .session)) b → AdvanceStored o b f 0 b′ 1
-unfolding advanceAnswer answerNumber unlessRefused finishedOf
-finished-stored o b b′ f h e q = record {
-  stored = stored-new (advanceAnswer (o .answer)) (o .session) b b′ (ap (λ (x : _). answerNumber (advanceAnswer x)) e)
-      (ap (λ (x : _). unlessRefused (advanceAnswer x) (encoded (o .session)) b) e) (accepted-bytes (o .session) b b′ h q);
-  finished-after = sym (ap (λ (x : _). finishedOf (advanceAnswer x) f) e);
-}
+  step-new : (b′ : List ℕ) → length b ≡ recordLength → answerNumber (advanceAnswer (t .answer)) ≡ 0
+      → unlessRefused (advanceAnswer (t .answer)) new b ≡ new
+      → b′ ≡ cond (eqb (length b) recordLength) new b → Stored (advanceAnswer (t .answer)) new b 0 b′
+  step-new b′ h n u q = stored-new (advanceAnswer (t .answer)) new b b′ n u (accepted-bytes new b b′ h q)
 
-pub advance-refused : (o : Advanced) (b : List ℕ) (f n : ℕ) → o .answer ≡ NotAdvanced n → AdvanceStored o b f n b f
-unfolding advanceAnswer answerNumber unlessRefused finishedOf
-advance-refused o b f n e = record {
-  stored = record {
-    number = sym (ap (λ (x : _). answerNumber (advanceAnswer x)) e);
-    left = sym (ap (λ (x : _). unlessRefused (advanceAnswer x) (encoded (o .session)) b) e);
-  };
-  finished-after = sym (ap (λ (x : _). finishedOf (advanceAnswer x) f) e);
-}
+  pub more-stored : (b′ : List ℕ) → length b ≡ recordLength → t .answer ≡ More
+      → b′ ≡ cond (eqb (length b) recordLength) new b → AdvanceStored t i b f 0 b′ 0
+  unfolding advanceAnswer answerNumber unlessRefused finishedOf
+  more-stored b′ h e q = record {
+    stored = step-new b′ h (ap (λ (x : _). answerNumber (advanceAnswer x)) e) (ap (λ (x : _). unlessRefused (advanceAnswer x) new b) e) q;
+    finished-after = sym (ap (λ (x : _). finishedOf (advanceAnswer x) f) e);
+  }
+
+  pub finished-stored : (b′ : List ℕ) → length b ≡ recordLength → t .answer ≡ Finished
+      → b′ ≡ cond (eqb (length b) recordLength) new b → AdvanceStored t i b f 0 b′ 1
+  unfolding advanceAnswer answerNumber unlessRefused finishedOf
+  finished-stored b′ h e q = record {
+    stored = step-new b′ h (ap (λ (x : _). answerNumber (advanceAnswer x)) e) (ap (λ (x : _). unlessRefused (advanceAnswer x) new b) e) q;
+    finished-after = sym (ap (λ (x : _). finishedOf (advanceAnswer x) f) e);
+  }
+
+  pub advance-refused : (n : ℕ) → t .answer ≡ NotAdvanced n → AdvanceStored t i b f n b f
+  unfolding advanceAnswer answerNumber unlessRefused finishedOf
+  advance-refused n e = record {
+    stored = record {
+      number = sym (ap (λ (x : _). answerNumber (advanceAnswer x)) e);
+      left = sym (ap (λ (x : _). unlessRefused (advanceAnswer x) new b) e);
+    };
+    finished-after = sym (ap (λ (x : _). finishedOf (advanceAnswer x) f) e);
+  }
 
 pub read-in : (a : ReadAnswer) (old : Places) (y : ℕ) (o : Outcome) → a ≡ Read o → y ≡ bitOf (o .yes)
     → ReadStored a old 0 (places (o .state) y (o .parts) (o .links) (o .passed))
@@ -140,7 +146,7 @@ module _ (b : List ℕ) (c : Call) where
     properties = λ v. absurd (true-false (sym (and-left (laidOut b) (valid (decoded b)) v) ∙ h));
   }
 
-  pub laid : laidOut b ≡ true → (a : Answer) (s : Session) (r : ℕ) (b′ : List ℕ) → CallDone (decoded b) c a s → Stored a s b r b′
+  pub laid : laidOut b ≡ true → (a : Answer) (s : Session) (r : ℕ) (b′ : List ℕ) → CallDone (decoded b) c a s → Stored a (encoded s) b r b′
       → CallExported b c r b′
   unfolding recordFor validBytes
   laid h a s r b′ D S =
@@ -211,11 +217,11 @@ module _ (b : List ℕ) where
     unfolding finishedOf
     advance-not f h = record { call = not-laid b c h; finished-after = sym (ap (λ (a : Answer). finishedOf a f) (not-answered b c h)) }
 
-    pub advance-laid : laidOut b ≡ true → (o : Advanced) (r : ℕ) (b′ : List ℕ) (f f′ : ℕ)
-        → CallDone (decoded b) c (advanceAnswer (o .answer)) (o .session) → AdvanceStored o b f r b′ f′ → AdvanceExported b c r b′ f f′
-    advance-laid h o r b′ f f′ D S = record {
-      call = laid b c h (advanceAnswer (o .answer)) (o .session) r b′ D (S .stored);
-      finished-after = S .finished-after ∙ sym (ap (λ (a : Answer). finishedOf a f) (answer-by b c h (advanceAnswer (o .answer)) (D .tells)));
+    pub advance-laid : laidOut b ≡ true → (a : Answer) (s : Session) (r : ℕ) (b′ : List ℕ) (f f′ : ℕ) → CallDone (decoded b) c a s
+        → Stored a (encoded s) b r b′ → f′ ≡ finishedOf a f → AdvanceExported b c r b′ f f′
+    advance-laid h a s r b′ f f′ D S e = record {
+      call = laid b c h a s r b′ D S;
+      finished-after = e ∙ sym (ap (λ (x : Answer). finishedOf x f) (answer-by b c h a (D .tells)));
     }
 
   pub read-not : (old : Places) → laidOut b ≡ false → ReadExported b 1 old old

@@ -5,7 +5,7 @@ use records::bytes::encode;
 use records::bytes::encode_step;
 use records::bytes::laid_out;
 use session::answers::AdvanceAnswer;
-use session::answers::Advanced;
+use session::answers::AdvanceStep;
 use session::answers::CallAnswer;
 use session::answers::Called;
 use session::answers::ReadAnswer;
@@ -117,23 +117,21 @@ pub extern "C" fn whatif_start(
     store_started(out, rec, parts)
 }
 
-// Stores the record of an accepted advance and tells whether it finished; the answer's number. An advance leaves list and roots as
-// they are, so their bytes are not written again.
-fn store_advanced(out: Advanced, rec: &mut [u8], finished: &mut u32) -> u32
-    requires { ⌜ AdvanceArgs out (now rec) ⌝ }
-    ensures { λ r. ⌜ AdvanceStored out (now (rec .entry)) (now (finished .entry)) r (now (rec .exit)) (now (finished .exit)) ⌝ }
+// Stores what an accepted advance of part `at` alters and tells whether it finished; the answer's number. List, roots and the other
+// states stay as they are, so their bytes are not written again.
+fn store_advanced(step: AdvanceStep, at: usize, rec: &mut [u8], finished: &mut u32) -> u32
+    requires { ⌜ AdvanceArgs step at (now rec) ⌝ }
+    ensures { λ r. ⌜ AdvanceStored step at (now (rec .entry)) (now (finished .entry)) r (now (rec .exit)) (now (finished .exit)) ⌝ }
 {
-    let answer = out.answer;
+    let answer = step.answer;
     match answer {
         AdvanceAnswer::More => {
-            let next = out.session;
-            encode_step(next.head, &next.states, rec);
+            encode_step(step.head, at, step.state, rec);
             *finished = 0;
             return 0;
         }
         AdvanceAnswer::Finished => {
-            let next = out.session;
-            encode_step(next.head, &next.states, rec);
+            encode_step(step.head, at, step.state, rec);
             *finished = 1;
             return 0;
         }
@@ -162,8 +160,8 @@ pub extern "C" fn whatif_advance(
         return 1;
     }
     let s = decode(rec);
-    let out = s.advance(plan, rules, node_table, state_table);
-    store_advanced(out, rec, finished)
+    let step = s.advance_step(plan, rules, node_table, state_table);
+    store_advanced(step, s.head.handled as usize, rec, finished)
 }
 
 // Tells what Read tells; the answer's number.

@@ -15,7 +15,7 @@ use mathlib.Core.Bool.{Bool, true, false, not, cond, _&&_}
 use mathlib.Core.List.{List, _∷_, _++_, append-assoc, append-nil}
 use native.Mathlib.Omega.{arith}
 use lib.Dec.{leb, eqb}
-use lib.ListN.{length, getD, take, drop, set, length-append, drop-of-length-le}
+use lib.ListN.{length, getD, take, drop, set, length-set, length-append, drop-of-length-le}
 use lib.Seq.{sets, sets-eq, take-at, drop-at, drop-drop}
 use borrow.Author.Tests.{eq-eqb, ne-eqb, eqb-true, not-true, not-false}
 use Rattle.list_laws.proofs.BoolLaws.{and-left}
@@ -27,7 +27,7 @@ use Rattle.session.specs.declared.state.Session.{Session}
 use Rattle.session.specs.Records.{valid}
 use Rattle.list_laws.proofs.SliceLaws.{length-part}
 use Rattle.records.proofs.NumberLaws.{bytes16-length}
-use Rattle.records.proofs.RunLaws.{run-then}
+use Rattle.records.proofs.RunLaws.{behind, run-then}
 use Rattle.records.specs.Layout.{numbers16, bytes16, phaseByte, phaseAt, yesByte, headBytes, lastBytes, stepBytes, encoded}
 use Rattle.records.specs.Layout.{run, decodedHead, decodedLast, decoded, flagsFit, laidOut, validBytes, InTypes}
 
@@ -137,13 +137,17 @@ step-written o h t w e lh lt =
     ∙ (ap (λ (u : List ℕ). ((p ++ t) ++ w) ++ u) (drop-of-length-le o {i = 983} (omega arith))
     ∙ (append-nil ((p ++ t) ++ w) ∙ simp append-assoc))
 
-pub step-done : (o : List ℕ) (g : Head) (s h t w : List ℕ) → length o ≡ 983 → length s ≡ 254 → h ≡ headBytes g → t ≡ s
-    → w ≡ lastBytes g
-    → put 967 16 (put 713 254 (h ++ drop 13 o) t) w ≡ cond (eqb (length o) 983) (stepBytes g s o) o
-step-done o g s h t w e ls eh et ew =
-    step-cond o (stepBytes g s o) _ e
-    (step-written o h t w e (ap length eh) (ap length et ∙ ls)
-    ∙ rw (eh, et, ew))
+-- the states of the parts stand behind the first 13 bytes
+states-behind : (o h : List ℕ) → length h ≡ 13 → run 713 254 (h ++ drop 13 o) ≡ run 713 254 o
+states-behind o h e = behind h (drop 13 o) 13 700 254 e ∙ ap (take 254) (drop-drop 700 13 o)
+
+pub step-done : (o : List ℕ) (g : Head) (i q : ℕ) (h t w : List ℕ) → length o ≡ 983 → h ≡ headBytes g
+    → t ≡ set (run 713 254 (h ++ drop 13 o)) i q → w ≡ lastBytes g
+    → put 967 16 (put 713 254 (h ++ drop 13 o) t) w ≡ cond (eqb (length o) 983) (stepBytes g i q o) o
+step-done o g i q h t w e eh et ew =
+    let f : t ≡ set (run 713 254 o) i q = et ∙ ap (λ (l : List ℕ). set l i q) (states-behind o h (ap length eh)) in
+    let lt : length t ≡ 254 = ap length f ∙ (length-set (run 713 254 o) i q ∙ length-part o 713 254 (omega arith)) in
+    step-cond o (stepBytes g i q o) _ e (step-written o h t w e (ap length eh) lt ∙ rw (eh, f, ew))
 
 pub last-read : (t : List ℕ) (links passed : ℕ) → links ≡ le32 t 4 → passed ≡ le32 t 12
     → _≡_ {A = Last} (record {

@@ -26,7 +26,7 @@
 -- bytes16 l == the bytes of the numbers l, two each
 -- lastBytes h == the last 16 bytes: of the finished answer, or of none, and the nodes passed over so far
 -- encoded s == the bytes of a struct: those of its head, headBytes, the first 13, and restBytes s, whose last 16 are lastBytes
--- stepBytes h t b == the bytes b with another head and other states: what an advance alters
+-- stepBytes h i q b == the bytes b with another head and the state q of part i: what an advance alters
 -- decoded b == the struct of bytes, decodedHead b its head, each field read at its offset; a byte past the end counts 0, a state above 3 as
 --   answered, and only 1 as yes, or as an answer that is kept
 -- decodedLast t == the finished answer of the last 16 bytes
@@ -43,7 +43,7 @@ use mathlib.Core.Path.{_≡_}
 use mathlib.Core.Bool.{Bool, true, false, cond, _&&_}
 use mathlib.Core.List.{List, [], _∷_, _++_}
 use lib.Dec.{leb, eqb}
-use lib.ListN.{length, getD, take, drop}
+use lib.ListN.{length, getD, take, drop, set}
 use Rattle.formats.specs.Bytes.{le16, le16Bytes, le32, le32Bytes}
 use Rattle.session.specs.declared.state.Phase.{Phase}
 use Rattle.session.specs.declared.state.Phase.the-variants.{Empty, Loaded, Running, Answered}
@@ -106,8 +106,8 @@ encoded s = headBytes (s .head) ++ restBytes s
 abbrev pub run : ℕ → ℕ → List ℕ → List ℕ
 run at n b = take n (drop at b)
 
-abbrev pub stepBytes : Head → List ℕ → List ℕ → List ℕ
-stepBytes h t b = headBytes h ++ (run 13 700 b ++ (t ++ lastBytes h))
+abbrev pub stepBytes : Head → ℕ → ℕ → List ℕ → List ℕ
+stepBytes h i q b = headBytes h ++ (run 13 700 b ++ (set (run 713 254 b) i q ++ lastBytes h))
 
 abbrev pub decodedLast : List ℕ → Last
 decodedLast t = record {

@@ -13,7 +13,8 @@ use session::state::Sizes;
 ghost use mathlib.Core.Path.{_≡_};
 ghost use mathlib.Core.Bool.{cond};
 ghost use lib.Dec.{eqb};
-ghost use lib.ListN.{length};
+ghost use Prim.Native.Nat.{_<_};
+ghost use lib.ListN.{length, set};
 ghost use Rattle.records.specs.Layout.{recordLength, phaseByte, phaseAt, yesByte, headBytes, lastBytes, stepBytes, encoded};
 ghost use Rattle.records.specs.Layout.{decodedHead, decodedLast, decoded, laidOut, validBytes};
 
@@ -177,18 +178,27 @@ pub fn encode(rec: Session, out: &mut [u8])
     put_last(rec.head, &mut out[967..983]);
 }
 
-// What an advance alters of a record's bytes: the first 13, the states and the last 16. A buffer that has not 983 bytes is left
-// as it is.
-pub fn encode_step<'a>(h: Head, states: &'a [u8; 254], out: &mut [u8])
+// The state of one part.
+fn put_state(at: usize, state: u8, out: &mut [u8])
+    requires { ⌜ at < length (now out) ⌝ }
+    ensures { λ _. ⌜ now (out .exit) ≡ set (now (out .entry)) at state ⌝ }
+{
+    out[at] = state;
+}
+
+// What an advance alters of a record's bytes: the first 13, the state of one part and the last 16. A buffer that has not 983 bytes is
+// left as it is.
+pub fn encode_step(h: Head, at: usize, state: u8, out: &mut [u8])
+    requires { ⌜ at < 254 ⌝ }
     ensures { λ _. ⌜
-        now (out .exit) ≡ cond (eqb (length (now (out .entry))) recordLength) (stepBytes h (now (states .entry)) (now (out .entry)))
+        now (out .exit) ≡ cond (eqb (length (now (out .entry))) recordLength) (stepBytes h at state (now (out .entry)))
         (now (out .entry)) ⌝ }
 {
     if out.len() != 983 {
         return;
     }
     put_head(h, &mut out[..13]);
-    copy_bytes(states, &mut out[713..967]);
+    put_state(at, state, &mut out[713..967]);
     put_last(h, &mut out[967..983]);
 }
 

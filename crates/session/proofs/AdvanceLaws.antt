@@ -48,6 +48,7 @@ use Rattle.session.proofs.RecordLaws.{Tails}
 use Rattle.session.proofs.Holds.{Sized, Going, holds-of, tails-of, struct-is}
 use Rattle.session.proofs.ActLaws.{Narrow, rises-below, running-is}
 use Rattle.session.proofs.CallLaws.{unless-done, refused-done, proceeds-done}
+use Rattle.session.proofs.StepLaws.{step-stores}
 
 -- ---- the struct of a record with one more part
 
@@ -305,4 +306,5 @@ module _ (s : Session) (h : Shaped s) (x : Inputs) (b : Bool) (may : b ≡ (vali
                 (ap (stepOn s) f ∙ same-step y d .1 ∙ ap (λ (w : Acted). sessionOf (w .record′)) (sym m))
 
             pub step-found : (t : AdvanceStep) → t ≡ stepBy (s .head) (x .rules) q l p → StepFound s C t
-            step-found t e = record { done = advance-yes t e; room = λ f. handle-args .step .room }
+            step-found t e =
+                record { done = advance-yes t e; stores = step-stores (s .head) (x .rules) q l p t e; room = λ f. handle-args .step .room }

@@ -17,4 +17,5 @@ pub mod StartLaws
 pub mod StepLaws
 pub mod TablesSoundLaws
 pub mod ValidLaws
+pub mod ZeroLaws
 pub mod Ties

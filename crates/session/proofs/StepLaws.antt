@@ -1,6 +1,7 @@
 -- The step of an advance, by the record's head, and the record that is made of it.
 --     mark-at                          the mark of a state, where the code reads it
 --     handled-last, handled-more       the step of the last part, and of any other
+--     step-stores                      it stores a state
 --     chosen, not-chosen               the states that a branch left
 --     refused-found, step-done         the promise of a refusal, and of the record made
 -- Assumes nothing.
@@ -23,7 +24,7 @@ use Rattle.session.specs.declared.answers.AdvanceStep.{AdvanceStep}
 use Rattle.session.specs.Records.{whole}
 use Rattle.session.specs.Answers.{advanceAnswer}
 use Rattle.session.specs.Promises.{CallDone}
-use Rattle.session.specs.inner.Steps.{markedIn, steppedHead, answerOf, stepBy, refusedStep, StepFound}
+use Rattle.session.specs.inner.Steps.{markedIn, steppedHead, answerOf, stepBy, refusedStep, storesBy, StepFound}
 
 -- the mark of a state, where the code reads it
 pub mark-at : (rules : List ℕ) (s k p q : ℕ) → p ≡ s * k * s → q < s
@@ -44,6 +45,19 @@ module _ (h : Head) (rules : List ℕ) (q l d : ℕ) (t : Head) where
   unfolding stepBy
   handled-more e f = rw (ne-eqb (h .handled + 1) (h .parts) e, f)
 
+-- a part's step stores its state
+stores-of : (b : Bool) (u v : AdvanceStep) → u .stored ≡ storesBy (u .answer) → v .stored ≡ storesBy (v .answer)
+    → cond b u v .stored ≡ storesBy (cond b u v .answer)
+stores-of true u v e f = e
+stores-of false u v e f = f
+
+pub step-stores : (h : Head) (rules : List ℕ) (q l d : ℕ) (t : AdvanceStep) → t ≡ stepBy h rules q l d
+    → t .stored ≡ storesBy (t .answer)
+unfolding stepBy
+step-stores h rules q l d t e =
+    subst (λ (u : AdvanceStep). u .stored ≡ storesBy (u .answer)) (sym e)
+    (stores-of (eqb (h .handled + 1) (h .parts)) _ _ refl refl)
+
 -- ---- a step and the record that is made of it
 
 -- the list that one arm of a branch left
@@ -58,7 +72,7 @@ module _ (s : Session) (c : Call) where
   pub refused-found : (n : ℕ) (t : AdvanceStep) → t ≡ refusedStep (s .head) n → CallDone s c (advanceAnswer (NotAdvanced n)) s
       → StepFound s c t
   refused-found n t e d =
-      subst (λ (u : AdvanceStep). StepFound s c u) (sym e) (record { done = d; room = λ f. absurd (true-false (sym f)) })
+      subst (λ (u : AdvanceStep). StepFound s c u) (sym e) (record { done = d; stores = refl; room = λ f. absurd (true-false (sym f)) })
 
   pub step-done : (t : AdvanceStep) → StepFound s c t → (qs : List ℕ)
       → qs ≡ cond (t .stored) (set (s .states) (s .head .handled) (t .state)) (s .states)

@@ -28,13 +28,13 @@ pub sizes-test : (z : Sizes)
 unfolding sizesFit
 sizes-test z = simp and-assoc
 
-pub question-test : (s : Session) (a b c d : Bool) → a ≡ allBelow 1 (s .nodes) → b ≡ allBelow 1 (s .labels)
-    → c ≡ allBelow 1 (s .roots)
-    → d ≡ allBelow 1 (s .states)
+pub question-test : (s : Session) (a b c : Bool) → a ≡ (allBelow 1 (s .nodes) && allBelow 1 (s .labels))
+    → b ≡ allBelow 1 (s .roots)
+    → c ≡ allBelow 1 (s .states)
     → (not (s .head .yes) && eqb (s .head .m) 0 && eqb (s .head .parts) 0 && eqb (s .head .handled) 0 && eqb (s .head .links) 0
-    && eqb (s .head .passed) 0 && a && b && c && d) ≡ noQuestion s
+    && eqb (s .head .passed) 0 && a && b && c) ≡ noQuestion s
 unfolding noQuestion zeroFrom
-question-test s a b c d e f g h = rw (e, f, g, h) (simp and-assoc)
+question-test s a b c e f g = rw (e, f, g) (simp and-assoc)
 
 -- ---- the last finished answer
 
@@ -88,19 +88,23 @@ flag-false a b e = rw e
 rest : (l : List ℕ) (i : ℕ) → take (length l - i) (drop i l) ≡ drop i l
 rest l i = take-all (length l - i) (drop i l) (simp length-drop (omega arith))
 
+pub rests-long : (l k : List ℕ) (i : ℕ) → length k ≡ length l
+    → length (take (length k - i) (drop i k)) ≡ length (take (length l - i) (drop i l))
+rests-long l k i e = rw (rest k i, rest l i) (simp length-drop (omega arith))
+
 module _ (s : Session) where
   pub list-long : 64 < s .head .m → false ≡ listFits s
   unfolding listFits
   list-long h = rw (lt-leb (s .head .m) 64 h)
 
-  pub list-test : s .head .m ≤ 64 → (a b c d : Bool) → a ≡ allBelow (s .head .sizes .n) (take (s .head .m) (s .nodes))
+  pub list-test : s .head .m ≤ 64 → (a b c : Bool) → a ≡ allBelow (s .head .sizes .n) (take (s .head .m) (s .nodes))
       → b ≡ allBelow (s .head .sizes .k) (take (s .head .m) (s .labels))
-      → c ≡ allBelow 1 (take (length (s .nodes) - s .head .m) (drop (s .head .m) (s .nodes)))
-      → d ≡ allBelow 1 (take (length (s .labels) - s .head .m) (drop (s .head .m) (s .labels)))
-      → (a && b && c && d) ≡ listFits s
+      → c ≡ (allBelow 1 (take (length (s .nodes) - s .head .m) (drop (s .head .m) (s .nodes)))
+      && allBelow 1 (take (length (s .labels) - s .head .m) (drop (s .head .m) (s .labels))))
+      → (a && b && c) ≡ listFits s
   unfolding listFits zeroFrom
-  list-test h a b c d e f g i =
-      rw (le-leb (s .head .m) 64 h, e, f, g, i, rest (s .nodes) (s .head .m), rest (s .labels) (s .head .m)) (simp and-assoc)
+  list-test h a b c e f g =
+      rw (le-leb (s .head .m) 64 h, e, f, g, rest (s .nodes) (s .head .m), rest (s .labels) (s .head .m)) (simp and-assoc)
 
   pub parts-none : s .head .parts < 1 → false ≡ partsFit s
   unfolding partsFit

@@ -212,6 +212,31 @@ fn next_step<'a>(
 }
 
 impl Session {
+    // What an advance does, without the record that it leaves: nothing is copied for a caller that stores it elsewhere.
+    pub fn advance_step(
+        self,
+        plan: &[u8],
+        rules: &[u8],
+        node_table: &[u16],
+        state_table: &[u8],
+    ) -> AdvanceStep
+        ensures { λ r. ⌜
+            StepFound self
+            (calls.advance (inputsOf (now (plan .entry)) (now (rules .entry)) (now («node_table» .entry)) (now («state_table» .entry)))) r ⌝ }
+    {
+        next_step(
+            self.head,
+            plan,
+            rules,
+            node_table,
+            state_table,
+            &self.nodes,
+            &self.labels,
+            &self.roots,
+            &self.states,
+        )
+    }
+
     // Handles the next part. The record is made at one place, so that it is copied once.
     pub fn advance(
         self,
@@ -226,17 +251,7 @@ impl Session {
             (advanceAnswer (r .answer)) (r .session) ⌝ }
     {
         let h = self.head;
-        let step = next_step(
-            h,
-            plan,
-            rules,
-            node_table,
-            state_table,
-            &self.nodes,
-            &self.labels,
-            &self.roots,
-            &self.states,
-        );
+        let step = self.advance_step(plan, rules, node_table, state_table);
         let nodes = self.nodes;
         let labels = self.labels;
         let roots = self.roots;

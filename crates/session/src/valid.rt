@@ -6,6 +6,9 @@
 //     fits                                                          all of them
 use crate::lists::below;
 use crate::lists::rises_to;
+use crate::lists::zero_bytes;
+use crate::lists::zero_pairs;
+use crate::lists::zeros;
 use crate::state::Head;
 use crate::state::Last;
 use crate::state::Phase;
@@ -45,7 +48,7 @@ fn no_question(
 {
     let counts = !h.yes & (h.m == 0) & (h.parts == 0) & (h.handled == 0);
     let none = counts & (h.links == 0) & (h.passed == 0);
-    none & below(nodes, 1) & all_below(labels, 1) & below(roots, 1) & all_below(states, 1)
+    none & zero_pairs(nodes, labels) & zeros(roots) & zero_bytes(states)
 }
 
 // The changes: at most as many as may be listed, inside N and K, and zeros behind them.
@@ -58,7 +61,7 @@ fn list_fits(h: Head, nodes: &[u16], labels: &[u8]) -> bool
         return false;
     }
     let listed = below(&nodes[..m], h.sizes.n) & all_below(&labels[..m], h.sizes.k);
-    listed & below(&nodes[m..], 1) & all_below(&labels[m..], 1)
+    listed & zero_pairs(&nodes[m..], &labels[m..])
 }
 
 // The parts: their roots rise to the root, the states of those handled are states, zeros behind both, no more links than nodes passed
@@ -75,8 +78,8 @@ fn parts_fit(h: Head, roots: &[u16], states: &[u8]) -> bool
     if 254 < p {
         return false;
     }
-    let rooted = rises_to(h.sizes.n - 1, &roots[..p]) & below(&roots[p..], 1);
-    let reached = all_below(&states[..done], h.sizes.s) & all_below(&states[done..], 1);
+    let rooted = rises_to(h.sizes.n - 1, &roots[..p]) & zeros(&roots[p..]);
+    let reached = all_below(&states[..done], h.sizes.s) & zero_bytes(&states[done..]);
     rooted & reached & (h.links <= h.passed) & (h.passed <= 65535 * (h.handled as u32))
 }
 

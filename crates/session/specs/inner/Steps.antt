@@ -14,6 +14,7 @@
 --   asks
 -- refusedStep h n == the step of a refusal
 -- stepOn s t == the record that step t makes of s
+-- storesBy a == whether an advance that answers a stores a state: unless it is refused
 -- StepFound s c t == the step is that of call c on struct s
 --
 -- Assumes nothing.
@@ -26,6 +27,7 @@ use lib.ListN.{length, getD, take, drop, replicate, set}
 use Rattle.formats.specs.Rules.{ruleLength}
 use Rattle.session.specs.declared.state.Phase.{Phase}
 use Rattle.session.specs.declared.state.Phase.the-variants.{Running, Answered}
+use Rattle.session.specs.declared.answers.AdvanceAnswer.{AdvanceAnswer}
 use Rattle.session.specs.declared.answers.AdvanceAnswer.the-variants.{More, Finished, Refused as NotAdvanced}
 use Rattle.session.specs.declared.answers.AdvanceStep.{AdvanceStep}
 use Rattle.session.specs.declared.answers.StartAnswer.the-variants.{Refused as NotStarted}
@@ -115,7 +117,13 @@ stepOn s t =
     whole (t .head) (s .nodes) (s .labels) (s .roots)
     (cond (t .stored) (set (s .states) (s .head .handled) (t .state)) (s .states))
 
--- the step is that of the call, and there is room for its state
+abbrev pub storesBy : AdvanceAnswer → Bool
+storesBy More = true
+storesBy Finished = true
+storesBy (NotAdvanced n) = false
+
+-- the step is that of the call, it stores a state unless it is refused, and there is room for it
 pub record StepFound (s : Session) (c : Call) (t : AdvanceStep) : Type 0 where
   pub done : CallDone s c (advanceAnswer (t .answer)) (stepOn s t)
+  pub stores : t .stored ≡ storesBy (t .answer)
   pub room : t .stored ≡ true → s .head .handled < 254

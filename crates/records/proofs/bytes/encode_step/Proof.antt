@@ -1,4 +1,4 @@
--- `records::bytes::encode_step` meets its contract. A buffer of another length is left; head, states and the answer that is kept are
+-- `records::bytes::encode_step` meets its contract. A buffer of another length is left; head, state and the answer that is kept are
 -- written one after the other.
 -- Assumes nothing.
 use native.Mathlib.Omega.{arith}
@@ -23,10 +23,10 @@ returns-2 : tie.Need-returns-2
 returns-2 c =
     let p₃ = c .before .before in
     let p₂ = p₃ .before .before .before .before in
-    let p₁ = p₂ .before .before .before .before .before in
+    let p₁ = p₂ .before .before .before .before in
     let a = p₁ .before .before .before .before in
-    step-done (a .args .out .now) (a .args .h) (a .args .states .now) _ _ _ (omega arith)
-    (p₂ .before .before .copy-bytes-arg .given .0) (p₁ .put-head .ensures) (p₂ .copy-bytes .ensures) (p₃ .put-last .ensures)
+    step-done (a .args .out .now) (a .args .h) (a .args .at) (a .args .state) _ _ _ (omega arith)
+    (p₁ .put-head .ensures) (p₂ .put-state .ensures) (p₃ .put-last .ensures)
 
 pub encode-step-spec : {M : Type 1} → statement M
 encode-step-spec =

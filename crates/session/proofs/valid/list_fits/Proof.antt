@@ -5,7 +5,7 @@ use mathlib.Core.List.{List}
 use Rattle.session.specs.declared.state.Session.{Session}
 use Rattle.session.specs.Records.{whole}
 use Rattle.session.proofs.PadLaws.{take-long}
-use Rattle.session.proofs.ValidLaws.{list-long, list-test}
+use Rattle.session.proofs.ValidLaws.{rests-long, list-long, list-test}
 use native.Mathlib.Omega.{arith}
 use borrow.Author.Needs.{needs}
 use Rattle.session.proofs.valid.list_fits.Statement.{statement}
@@ -30,15 +30,18 @@ slice-aggregate-all-below c =
     let a = at (c .before .before .before) in
     take-long 64 (a .args .h .m) (a .args .labels .now) (a .pre .labels) (omega arith)
 
+zero-pairs-requires : tie.Need-zero-pairs-requires
+zero-pairs-requires c κs =
+    let a = at (c .before .before .before .before .before .before) in
+    rests-long (a .args .nodes .now) (a .args .labels .now) (a .args .h .m) (omega arith)
+
 returns-2 : tie.Need-returns-2
 returns-2 c =
-    let b = c .before .before in
+    let b = c .before in
     let a = b .before .before in
     let l = a .before .before in
     let e = l .before .before in
-    λ rs qs. list-test (of (at e) rs qs) (omega arith) _ _ _ _ (l .below .ensures) (a .all-below .ensures)
-    (b .below2 .ensures)
-    (c .all-below2 .ensures)
+    λ rs qs. list-test (of (at e) rs qs) (omega arith) _ _ _ (l .below .ensures) (a .all-below .ensures) (c .zero-pairs .ensures)
 
 pub list-fits-spec : {M : Type 1} → statement M
 list-fits-spec =
@@ -54,9 +57,8 @@ list-fits-spec =
     (λ c. search needs)
     (λ c. search needs)
     (λ c. search needs)
-    (λ c κs. search needs)
     (λ c. search needs)
     (λ c. search needs)
     (λ c. search needs)
-    (λ c κs. search needs)
+    zero-pairs-requires
     returns-2)

@@ -12,17 +12,15 @@ of a = whole (a .args .h) (a .args .nodes .now) (a .args .labels .now) (a .args 
 
 returns : tie.Need-returns
 returns c =
-    let d = c .before .before in
-    let b = d .before .before in
+    let b = c .before .before in
     let a = b .before .before in
-    let s = a .before .before .before .before .before .before .before .before in
-    question-test (of s) _ _ _ _ (a .below .ensures) (b .all-below .ensures) (d .below2 .ensures) (c .all-below2 .ensures)
+    let s = a .before .before .before .before .before .before .before .before .before in
+    question-test (of s) _ _ _ (a .zero-pairs .ensures) (b .zeros .ensures) (c .zero-bytes .ensures)
 
 pub no-question-spec : {M : Type 1} → statement M
 no-question-spec =
     tie.close
     (tie.spec
-    (λ c κs. search needs)
     (λ c κs. search needs)
     (λ c κs. search needs)
     (λ c κs. search needs)

@@ -42,8 +42,8 @@ returns-3 c =
     let r = b .before .before in
     let e = r .before .before .before in
     λ vs bs. parts-test (of (at e) vs bs) (omega arith) (omega arith) _ _ _ _ (r .rises-to .ensures)
-    (b .below .ensures)
-    (a .all-below .ensures) (d .all-below2 .ensures)
+    (b .zeros .ensures)
+    (a .all-below .ensures) (d .zero-bytes .ensures)
 
 pub parts-fit-spec : {M : Type 1} → statement M
 parts-fit-spec =
