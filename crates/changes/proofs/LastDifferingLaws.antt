@@ -16,8 +16,8 @@ use native.Mathlib.Decide.{ℕ-discrete}
 use native.Mathlib.Numerals.{add-one}
 use native.Mathlib.Omega.{arith}
 use lib.Dec.{eqb, leb, ltb}
-use lib.ListN.{length, getD, take, drop, set, replicate, length-append, length-set, length-drop, drop-of-length-le}
-use lib.Seq.{drop-cons, set-append-seam, take-all}
+use lib.ListN.{length, getD, take, drop, set, replicate, length-append, length-set, drop-of-length-le}
+use lib.Seq.{drop-cons, set-append-seam}
 use borrow.Author.Tests.{eq-eqb, ne-eqb, eqb-true, leb-true}
 use Rattle.list_laws.specs.Tests.{allBelow, holds}
 use Rattle.list_laws.proofs.BoolLaws.{and-both, and-left, and-right, or-first, true-false}
@@ -26,6 +26,7 @@ use Rattle.changes.specs.Entries.{Entry, entry, entries, nodesListed, la
 use Rattle.changes.specs.LayOver.{padded}
 use Rattle.changes.specs.Differing.{differing}
 use Rattle.changes.specs.declared.differing.LeftNodes.{LeftNodes}
+use Rattle.changes.specs.inner.LastPlaces.{LastPlaces}
 use Rattle.changes.specs.inner.LastDiffering.{isLeft, lastDiffering, givenDiffering, leftNodes, pushed, keptIn}
 use Rattle.changes.specs.inner.LastDiffering.{PushArgs, KeepArgs, DifferingDone}
 use Rattle.changes.proofs.EntryLaws.{nodes-entries, lastLabel-hit, lastLabel-miss, listed-holds, isSome}
@@ -133,16 +134,12 @@ kept-all ls l (v ∷ vs) (b ∷ bs) h =
 -- ---- one entry
 
 module _ (t : LeftNodes) (ls vs : List ℕ) (v b i : ℕ) (f : Bool)
-    (test : f ≡ holds v (take (length vs - (i + 1)) (drop (i + 1) vs))) where
+    (test : f ≡ holds v (drop (i + 1) vs)) where
   abbrev kept : LeftNodes
   kept = cond (isLeft ls v b (drop (i + 1) vs)) (pushed t v) t
 
-  later-is : f ≡ holds v (drop (i + 1) vs)
-  later-is =
-      test ∙ ap (holds v) (take-all (length vs - (i + 1)) (drop (i + 1) vs) (omega (arith, length-drop (i + 1) vs)))
-
   kept-by : (x y : Bool) → f ≡ x → eqb b (getD ls v 0) ≡ y → kept ≡ cond (not x && not y) (pushed t v) t
-  kept-by x y p q = ap₂ (λ (a c : Bool). cond (not a && not c) (pushed t v) t) (sym later-is ∙ p) q
+  kept-by x y p q = ap₂ (λ (a c : Bool). cond (not a && not c) (pushed t v) t) (sym test ∙ p) q
 
   -- a later entry holds
   pub keep-later : f ≡ true → t ≡ kept
@@ -185,10 +182,10 @@ module _ (ls vs bs : List ℕ) where
       })
 
   module _ (t : LeftNodes) (i : ℕ) (L : KeepLoop ls vs bs t i) where
-    pub keep-args : i < length vs → KeepArgs t vs bs i
-    keep-args h = record {
+    pub keep-args : (last : List ℕ) → LastPlaces (length vs) vs last → i < length vs → KeepArgs t vs bs last i
+    keep-args last P h = record {
       push = record { wide = L .wide; room = omega (arith, L .room, L .most) };
-      inside = h;
+      place = record { places = P; most = L .most; inside = h };
       one-length = L .one-length;
     }
 

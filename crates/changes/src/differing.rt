@@ -4,11 +4,13 @@
 //     differing   the test of a whole list
 use formats::lists::is_listed;
 use formats::lists::lists_fit;
-ghost use Prim.Native.Nat.{_+_};
+ghost use Prim.Native.Nat.{_+_, _≤_};
 ghost use mathlib.Core.Path.{_≡_};
 ghost use mathlib.Core.Bool.{cond};
 ghost use mathlib.Core.List.{[]};
-ghost use lib.ListN.{drop, getD};
+ghost use lib.ListN.{length, drop, getD};
+ghost use Rattle.list_laws.specs.Tests.{holds};
+ghost use Rattle.changes.specs.inner.LastPlaces.{LastPlaces, PlaceArgs};
 ghost use Rattle.changes.specs.inner.LastDiffering.{isLeft, leftNodes, pushed, PushArgs, KeepArgs, DifferingDone};
 
 // The first `count` nodes are those that are left, each once; the rest is zero.
@@ -49,18 +51,52 @@ fn label_at(labels: &[u8], v: u16) -> u8
     labels[at]
 }
 
+// For each remainder of a node by 256, the place of the last entry whose node has it; 0 where none has.
+fn last_places(nodes: &[u16]) -> [u8; 256]
+    requires { ⌜ length (now nodes) ≤ 64 ⌝ }
+    ensures { λ r. ⌜ LastPlaces (length (now (nodes .entry))) (now (nodes .entry)) r ⌝ }
+{
+    let mut last = [0u8; 256];
+    let mut i = 0;
+    while i < nodes.len() {
+        last[(nodes[i] % 256) as usize] = i as u8;
+        i += 1;
+    }
+    last
+}
+
+// Whether the entry at place i is superseded. It is not where it is the last of its remainder; only else the entries
+// after it are looked through.
+fn is_superseded(nodes: &[u16], last: &[u8; 256], i: usize) -> bool
+    requires { ⌜ PlaceArgs (now nodes) (now last) i ⌝ }
+    ensures { λ r. ⌜ r ≡ holds (getD (now (nodes .entry)) i 0) (drop (i + 1) (now (nodes .entry))) ⌝ }
+{
+    let v = nodes[i];
+    if last[(v % 256) as usize] == i as u8 {
+        return false;
+    }
+    is_listed(v, &nodes[i + 1..])
+}
+
 // The entry at place i: its node is one more where it has no later entry and the label is not its own.
-fn keep(t: LeftNodes, labels: &[u8], nodes: &[u16], changes: &[u8], i: usize) -> LeftNodes
-    requires { ⌜ KeepArgs t (now nodes) (now changes) i ⌝ }
+fn keep(
+    t: LeftNodes,
+    labels: &[u8],
+    nodes: &[u16],
+    changes: &[u8],
+    last: &[u8; 256],
+    i: usize,
+) -> LeftNodes
+    requires { ⌜ KeepArgs t (now nodes) (now changes) (now last) i ⌝ }
     ensures { λ r. ⌜
         r ≡ cond (isLeft (now (labels .entry)) (getD (now (nodes .entry)) i 0) (getD (now (changes .entry)) i 0)
         (drop (i + 1) (now (nodes .entry))))
         (pushed t (getD (now (nodes .entry)) i 0)) t ⌝ }
 {
-    let v = nodes[i];
-    if is_listed(v, &nodes[i + 1..]) {
+    if is_superseded(nodes, last, i) {
         return t;
     }
+    let v = nodes[i];
     if changes[i] == label_at(labels, v) {
         return t;
     }
@@ -76,9 +112,10 @@ pub fn differing(labels: &[u8], nodes: &[u16], changes: &[u8]) -> LeftNodes
     if !lists_fit(nodes, changes) {
         return t;
     }
+    let last = last_places(nodes);
     let mut i = 0;
     while i < nodes.len() {
-        t = keep(t, labels, nodes, changes, i);
+        t = keep(t, labels, nodes, changes, &last, i);
         i += 1;
     }
     t

@@ -19,6 +19,7 @@ use Rattle.list_laws.specs.Tests.{holds}
 use Rattle.formats.specs.inner.InnerChecks.{listsFit}
 use Rattle.changes.specs.LayOver.{padded}
 use Rattle.changes.specs.Differing.{differing}
+use Rattle.changes.specs.inner.LastPlaces.{PlaceArgs}
 use Rattle.changes.specs.declared.differing.LeftNodes.{LeftNodes}
 
 abbrev pub isLeft : List ℕ → ℕ → ℕ → List ℕ → Bool
@@ -49,9 +50,9 @@ pub record PushArgs (t : LeftNodes) : Type 0 where
   pub room : t .count < 64
 
 -- and place i is inside both lists
-pub record KeepArgs (t : LeftNodes) (vs bs : List ℕ) (i : ℕ) : Type 0 where
+pub record KeepArgs (t : LeftNodes) (vs bs last : List ℕ) (i : ℕ) : Type 0 where
   pub push : PushArgs t
-  pub inside : i < length vs
+  pub place : PlaceArgs vs last i
   pub one-length : length vs ≡ length bs
 
 pub record DifferingDone (ls vs bs : List ℕ) (r : LeftNodes) : Type 0 where
