@@ -1,7 +1,7 @@
 -- The code of `differing`: the nodes that it keeps are those that the definition leaves in W.
 --     last-same            the nodes kept in the order of their last entries are those of `differing`
 --     last-most, last-below   no more than are listed, and below what these are below
---     pushed-left          one node more
+--     nothing-left, pushed-left   no node, and one node more
 --     keep-later, keep-own, keep-new   one for each way out of `keep`
 --     KeepLoop, keep-start, keep-again, keep-done   the loop over the list
 --     kept-all, none-done, all-done   what is returned
@@ -27,8 +27,8 @@ use Rattle.changes.specs.LayOver.{padded}
 use Rattle.changes.specs.Differing.{differing}
 use Rattle.changes.specs.declared.differing.LeftNodes.{LeftNodes}
 use Rattle.changes.specs.inner.LastPlaces.{LastPlaces}
-use Rattle.changes.specs.inner.LastDiffering.{isLeft, lastDiffering, givenDiffering, leftNodes, pushed, keptIn}
-use Rattle.changes.specs.inner.LastDiffering.{PushArgs, KeepArgs, DifferingDone}
+use Rattle.changes.specs.inner.LastDiffering.{isLeft, lastDiffering, givenDiffering, leftIn, leftNodes}
+use Rattle.changes.specs.inner.LastDiffering.{pushed, keptIn, KeepArgs, DifferingDone}
 use Rattle.changes.proofs.EntryLaws.{nodes-entries, lastLabel-hit, lastLabel-miss, listed-holds, isSome}
 use Rattle.changes.proofs.DifferingLaws.{leftBy, differing-last}
 use Rattle.changes.proofs.StoredLaws.{length-padded, take-padded}
@@ -98,6 +98,10 @@ last-below n ls (v ∷ vs) (b ∷ bs) e =
 
 -- ---- in an array
 
+pub nothing-left : leftIn 0 (replicate 64 0) ≡ leftNodes []
+unfolding padded
+nothing-left = refl
+
 pub pushed-left : (l : List ℕ) (v : ℕ) → length l < 64 → pushed (leftNodes l) v ≡ leftNodes (l ++ (v ∷ []))
 unfolding padded
 pushed-left l v h =
@@ -110,7 +114,7 @@ pushed-left l v h =
     ∙ set-append-seam l 0 (replicate (63 - length l) 0) v
     ∙ sym (append-assoc l (v ∷ []) (replicate (63 - length l) 0))
     ∙ ap (λ (i : ℕ). (l ++ (v ∷ [])) ++ replicate i 0) m in
-    ap₂ (λ (i : ℕ) (xs : List ℕ). record { count = i; nodes = xs }) (sym c) e
+    ap₂ leftIn (sym c) e
 
 pub kept-all : (ls l vs bs : List ℕ) → length l + length vs ≤ 64
     → keptIn ls (leftNodes l) vs bs ≡ leftNodes (l ++ lastDiffering ls vs bs)
@@ -184,7 +188,8 @@ module _ (ls vs bs : List ℕ) where
   module _ (t : LeftNodes) (i : ℕ) (L : KeepLoop ls vs bs t i) where
     pub keep-args : (last : List ℕ) → LastPlaces (length vs) vs last → i < length vs → KeepArgs t vs bs last i
     keep-args last P h = record {
-      push = record { wide = L .wide; room = omega (arith, L .room, L .most) };
+      wide = L .wide;
+      room = omega (arith, L .room, L .most);
       place = record { places = P; most = L .most; inside = h };
       one-length = L .one-length;
     }

@@ -1,14 +1,14 @@
 -- A list's last places (specs/inner/LastPlaces).
---     PlacesLoop, places-start, places-next, places-done   the loop of `last_places`
+--     PlacesLoop, places-start, places-next, places-done   the loop of `put_places`
 --     last-of-all   the first way out of `is_superseded`
 -- Assumes nothing.
 use Prim.Native.Nat.{ℕ, _+_, _%_, _≤_, _<_}
-use mathlib.Core.Path.{_≡_, refl, sym, ap, _∙_, subst}
+use mathlib.Core.Path.{_≡_, sym, ap, _∙_, subst}
 use mathlib.Core.Bool.{false}
 use mathlib.Core.List.{List}
 use native.Mathlib.Decide.{ℕ-discrete}
 use native.Mathlib.Omega.{arith}
-use lib.ListN.{length, getD, drop, set, replicate, length-set, length-drop}
+use lib.ListN.{length, getD, drop, set, length-set, length-drop}
 use lib.Seq.{getD-drop, getD-set-same, getD-set-other}
 use Rattle.list_laws.specs.Tests.{holds}
 use Rattle.list_laws.proofs.TestLaws.{never-holds}
@@ -21,11 +21,11 @@ pub record PlacesLoop (vs last : List ℕ) (i : ℕ) : Type 0 where
   pub upto : i ≤ length vs
   pub places : LastPlaces i vs last
 
-pub places-start : (vs : List ℕ) → length vs ≤ 64 → PlacesLoop vs (replicate 256 0) 0
-places-start vs h = record {
+pub places-start : (vs last : List ℕ) → length vs ≤ 64 → length last ≡ 256 → PlacesLoop vs last 0
+places-start vs last h w = record {
   most = h;
   upto = omega arith;
-  places = record { wide = refl; none-behind = λ j l. absurd (omega arith) };
+  places = record { wide = w; none-behind = λ j l. absurd (omega arith) };
 }
 
 module _ (vs last : List ℕ) (i : ℕ) (L : PlacesLoop vs last i) where
