@@ -1,7 +1,7 @@
 -- The code of `differing`: the nodes that it keeps are those that the definition leaves in W.
 --     last-same            the nodes kept in the order of their last entries are those of `differing`
 --     last-most, last-below   no more than are listed, and below what these are below
---     pushed-left          one node more
+--     nothing-left, pushed-left   no node, and one node more
 --     keep-later, keep-own, keep-new   one for each way out of `keep`
 --     KeepLoop, keep-start, keep-again, keep-done   the loop over the list
 --     kept-all, none-done, all-done   what is returned
@@ -16,8 +16,8 @@ use native.Mathlib.Decide.{ℕ-discrete}
 use native.Mathlib.Numerals.{add-one}
 use native.Mathlib.Omega.{arith}
 use lib.Dec.{eqb, leb, ltb}
-use lib.ListN.{length, getD, take, drop, set, replicate, length-append, length-set, length-drop, drop-of-length-le}
-use lib.Seq.{drop-cons, set-append-seam, take-all}
+use lib.ListN.{length, getD, take, drop, set, replicate, length-append, length-set, drop-of-length-le}
+use lib.Seq.{drop-cons, set-append-seam}
 use borrow.Author.Tests.{eq-eqb, ne-eqb, eqb-true, leb-true}
 use Rattle.list_laws.specs.Tests.{allBelow, holds}
 use Rattle.list_laws.proofs.BoolLaws.{and-both, and-left, and-right, or-first, true-false}
@@ -26,8 +26,9 @@ use Rattle.changes.specs.Entries.{Entry, entry, entries, nodesListed, la
 use Rattle.changes.specs.LayOver.{padded}
 use Rattle.changes.specs.Differing.{differing}
 use Rattle.changes.specs.declared.differing.LeftNodes.{LeftNodes}
-use Rattle.changes.specs.inner.LastDiffering.{isLeft, lastDiffering, givenDiffering, leftNodes, pushed, keptIn}
-use Rattle.changes.specs.inner.LastDiffering.{PushArgs, KeepArgs, DifferingDone}
+use Rattle.changes.specs.inner.LastPlaces.{LastPlaces}
+use Rattle.changes.specs.inner.LastDiffering.{isLeft, lastDiffering, givenDiffering, leftIn, leftNodes}
+use Rattle.changes.specs.inner.LastDiffering.{pushed, keptIn, KeepArgs, DifferingDone}
 use Rattle.changes.proofs.EntryLaws.{nodes-entries, lastLabel-hit, lastLabel-miss, listed-holds, isSome}
 use Rattle.changes.proofs.DifferingLaws.{leftBy, differing-last}
 use Rattle.changes.proofs.StoredLaws.{length-padded, take-padded}
@@ -97,6 +98,10 @@ last-below n ls (v ∷ vs) (b ∷ bs) e =
 
 -- ---- in an array
 
+pub nothing-left : leftIn 0 (replicate 64 0) ≡ leftNodes []
+unfolding padded
+nothing-left = refl
+
 pub pushed-left : (l : List ℕ) (v : ℕ) → length l < 64 → pushed (leftNodes l) v ≡ leftNodes (l ++ (v ∷ []))
 unfolding padded
 pushed-left l v h =
@@ -109,7 +114,7 @@ pushed-left l v h =
     ∙ set-append-seam l 0 (replicate (63 - length l) 0) v
     ∙ sym (append-assoc l (v ∷ []) (replicate (63 - length l) 0))
     ∙ ap (λ (i : ℕ). (l ++ (v ∷ [])) ++ replicate i 0) m in
-    ap₂ (λ (i : ℕ) (xs : List ℕ). record { count = i; nodes = xs }) (sym c) e
+    ap₂ leftIn (sym c) e
 
 pub kept-all : (ls l vs bs : List ℕ) → length l + length vs ≤ 64
     → keptIn ls (leftNodes l) vs bs ≡ leftNodes (l ++ lastDiffering ls vs bs)
@@ -133,16 +138,12 @@ kept-all ls l (v ∷ vs) (b ∷ bs) h =
 -- ---- one entry
 
 module _ (t : LeftNodes) (ls vs : List ℕ) (v b i : ℕ) (f : Bool)
-    (test : f ≡ holds v (take (length vs - (i + 1)) (drop (i + 1) vs))) where
+    (test : f ≡ holds v (drop (i + 1) vs)) where
   abbrev kept : LeftNodes
   kept = cond (isLeft ls v b (drop (i + 1) vs)) (pushed t v) t
 
-  later-is : f ≡ holds v (drop (i + 1) vs)
-  later-is =
-      test ∙ ap (holds v) (take-all (length vs - (i + 1)) (drop (i + 1) vs) (omega (arith, length-drop (i + 1) vs)))
-
   kept-by : (x y : Bool) → f ≡ x → eqb b (getD ls v 0) ≡ y → kept ≡ cond (not x && not y) (pushed t v) t
-  kept-by x y p q = ap₂ (λ (a c : Bool). cond (not a && not c) (pushed t v) t) (sym later-is ∙ p) q
+  kept-by x y p q = ap₂ (λ (a c : Bool). cond (not a && not c) (pushed t v) t) (sym test ∙ p) q
 
   -- a later entry holds
   pub keep-later : f ≡ true → t ≡ kept
@@ -185,10 +186,11 @@ module _ (ls vs bs : List ℕ) where
       })
 
   module _ (t : LeftNodes) (i : ℕ) (L : KeepLoop ls vs bs t i) where
-    pub keep-args : i < length vs → KeepArgs t vs bs i
-    keep-args h = record {
-      push = record { wide = L .wide; room = omega (arith, L .room, L .most) };
-      inside = h;
+    pub keep-args : (last : List ℕ) → LastPlaces (length vs) vs last → i < length vs → KeepArgs t vs bs last i
+    keep-args last P h = record {
+      wide = L .wide;
+      room = omega (arith, L .room, L .most);
+      place = record { places = P; most = L .most; inside = h };
       one-length = L .one-length;
     }
 

@@ -8,4 +8,5 @@ pub mod ChangedLaws
 pub mod Theorems
 pub mod PlanOver
 pub mod DifferingLaws
+pub mod LastPlacesLaws
 pub mod LastDifferingLaws

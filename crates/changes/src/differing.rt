@@ -4,12 +4,14 @@
 //     differing   the test of a whole list
 use formats::lists::is_listed;
 use formats::lists::lists_fit;
-ghost use Prim.Native.Nat.{_+_};
+ghost use Prim.Native.Nat.{_+_, _≤_};
 ghost use mathlib.Core.Path.{_≡_};
 ghost use mathlib.Core.Bool.{cond};
 ghost use mathlib.Core.List.{[]};
-ghost use lib.ListN.{drop, getD};
-ghost use Rattle.changes.specs.inner.LastDiffering.{isLeft, leftNodes, pushed, PushArgs, KeepArgs, DifferingDone};
+ghost use lib.ListN.{length, drop, getD};
+ghost use Rattle.list_laws.specs.Tests.{holds};
+ghost use Rattle.changes.specs.inner.LastPlaces.{LastPlaces, PlaceArgs};
+ghost use Rattle.changes.specs.inner.LastDiffering.{isLeft, leftIn, leftNodes, pushed, KeepArgs, DifferingDone};
 
 // The first `count` nodes are those that are left, each once; the rest is zero.
 pub struct LeftNodes {
@@ -27,17 +29,6 @@ fn none_left() -> LeftNodes
     }
 }
 
-// One node more.
-fn push(mut t: LeftNodes, v: u16) -> LeftNodes
-    requires { ⌜ PushArgs t ⌝ }
-    ensures { λ r. ⌜ r ≡ pushed t v ⌝ }
-{
-    let at = t.count;
-    t.nodes[at] = v;
-    t.count = at + 1;
-    t
-}
-
 // The label of node v; 0 past the end.
 fn label_at(labels: &[u8], v: u16) -> u8
     ensures { λ r. ⌜ r ≡ getD (now (labels .entry)) v 0 ⌝ }
@@ -49,22 +40,58 @@ fn label_at(labels: &[u8], v: u16) -> u8
     labels[at]
 }
 
-// The entry at place i: its node is one more where it has no later entry and the label is not its own.
-fn keep(t: LeftNodes, labels: &[u8], nodes: &[u16], changes: &[u8], i: usize) -> LeftNodes
-    requires { ⌜ KeepArgs t (now nodes) (now changes) i ⌝ }
-    ensures { λ r. ⌜
-        r ≡ cond (isLeft (now (labels .entry)) (getD (now (nodes .entry)) i 0) (getD (now (changes .entry)) i 0)
-        (drop (i + 1) (now (nodes .entry))))
-        (pushed t (getD (now (nodes .entry)) i 0)) t ⌝ }
+// Stores for each remainder of a node by 256 the place of the last entry whose node has it.
+fn put_places(nodes: &[u16], last: &mut [u8; 256])
+    requires { ⌜ (length (now nodes) ≤ 64) × (length (now last) ≡ 256) ⌝ }
+    ensures { λ _. ⌜ LastPlaces (length (now (nodes .entry))) (now (nodes .entry)) (now (last .exit)) ⌝ }
+{
+    let mut i = 0;
+    while i < nodes.len() {
+        last[(nodes[i] % 256) as usize] = i as u8;
+        i += 1;
+    }
+}
+
+// Whether the entry at place i is superseded. It is not where it is the last of its remainder; only else the entries
+// after it are looked through.
+fn is_superseded(nodes: &[u16], last: &[u8; 256], i: usize) -> bool
+    requires { ⌜ PlaceArgs (now nodes) (now last) i ⌝ }
+    ensures { λ r. ⌜ r ≡ holds (getD (now (nodes .entry)) i 0) (drop (i + 1) (now (nodes .entry))) ⌝ }
 {
     let v = nodes[i];
-    if is_listed(v, &nodes[i + 1..]) {
-        return t;
+    if last[(v % 256) as usize] == i as u8 {
+        return false;
     }
+    is_listed(v, &nodes[i + 1..])
+}
+
+// The entry at place i: its node is one more where it has no later entry and the label is not its own. Returns how many
+// there are.
+fn keep(
+    left: &mut [u16; 64],
+    count: usize,
+    labels: &[u8],
+    nodes: &[u16],
+    changes: &[u8],
+    last: &[u8; 256],
+    i: usize,
+) -> usize
+    requires { ⌜ KeepArgs (leftIn count (now left)) (now nodes) (now changes) (now last) i ⌝ }
+    ensures { λ r. ⌜ leftIn r (now (left .exit))
+        ≡ cond (isLeft (now (labels .entry)) (getD (now (nodes .entry)) i 0) (getD (now (changes .entry)) i 0)
+        (drop (i + 1) (now (nodes .entry))))
+        (pushed (leftIn count (now (left .entry))) (getD (now (nodes .entry)) i 0))
+        (leftIn count (now (left .entry))) ⌝ }
+{
+    if is_superseded(nodes, last, i) {
+        return count;
+    }
+    let v = nodes[i];
     if changes[i] == label_at(labels, v) {
-        return t;
+        return count;
     }
-    push(t, v)
+    left[count] = v;
+    count + 1
 }
 
 // The nodes of the list whose label, after superseding, is not the one they have in `labels`: in the order of their
@@ -72,14 +99,20 @@ fn keep(t: LeftNodes, labels: &[u8], nodes: &[u16], changes: &[u8], i: usize) ->
 pub fn differing(labels: &[u8], nodes: &[u16], changes: &[u8]) -> LeftNodes
     ensures { λ r. ⌜ DifferingDone (now (labels .entry)) (now (nodes .entry)) (now (changes .entry)) r ⌝ }
 {
-    let mut t = none_left();
     if !lists_fit(nodes, changes) {
-        return t;
+        return none_left();
     }
+    let mut last = [0u8; 256];
+    put_places(nodes, &mut last);
+    let mut left = [0u16; 64];
+    let mut count = 0;
     let mut i = 0;
     while i < nodes.len() {
-        t = keep(t, labels, nodes, changes, i);
+        count = keep(&mut left, count, labels, nodes, changes, &last, i);
         i += 1;
     }
-    t
+    LeftNodes {
+        count: count,
+        nodes: left,
+    }
 }

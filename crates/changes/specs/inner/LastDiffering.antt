@@ -4,7 +4,7 @@
 --   node, and gives it another label than ls
 -- lastDiffering ls vs bs == the nodes of the entries that count, as listed
 -- givenDiffering ls vs bs == these where the two lists pass 12; none where they do not
--- leftNodes xs == the numbers xs, at most 64, in an array of 64
+-- leftIn n xs == the first n numbers of an array; leftNodes xs == the numbers xs, at most 64, in an array of 64
 -- pushed t v == one node more; keptIn ls t vs bs == what `differing` still makes of t on its way
 -- DifferingDone ls vs bs r == the promise of `differing`, on every input
 --
@@ -19,6 +19,7 @@ use Rattle.list_laws.specs.Tests.{holds}
 use Rattle.formats.specs.inner.InnerChecks.{listsFit}
 use Rattle.changes.specs.LayOver.{padded}
 use Rattle.changes.specs.Differing.{differing}
+use Rattle.changes.specs.inner.LastPlaces.{PlaceArgs}
 use Rattle.changes.specs.declared.differing.LeftNodes.{LeftNodes}
 
 abbrev pub isLeft : List ℕ → ℕ → ℕ → List ℕ → Bool
@@ -32,6 +33,9 @@ lastDiffering ls (v ∷ vs) (b ∷ bs) = cond (isLeft ls v b vs) (v ∷ lastDiff
 abbrev pub givenDiffering : List ℕ → List ℕ → List ℕ → List ℕ
 givenDiffering ls vs bs = cond (listsFit vs bs) (lastDiffering ls vs bs) []
 
+abbrev pub leftIn : ℕ → List ℕ → LeftNodes
+leftIn n xs = record { count = n; nodes = xs }
+
 abbrev pub leftNodes : List ℕ → LeftNodes
 leftNodes xs = record { count = length xs; nodes = padded xs }
 
@@ -43,15 +47,11 @@ keptIn ls t [] bs = t
 keptIn ls t (v ∷ vs) [] = t
 keptIn ls t (v ∷ vs) (b ∷ bs) = keptIn ls (cond (isLeft ls v b vs) (pushed t v) t) vs bs
 
--- there is room for one node more
-pub record PushArgs (t : LeftNodes) : Type 0 where
+-- there is room for one node more, and place i is inside both lists
+pub record KeepArgs (t : LeftNodes) (vs bs last : List ℕ) (i : ℕ) : Type 0 where
   pub wide : length (t .nodes) ≡ 64
   pub room : t .count < 64
-
--- and place i is inside both lists
-pub record KeepArgs (t : LeftNodes) (vs bs : List ℕ) (i : ℕ) : Type 0 where
-  pub push : PushArgs t
-  pub inside : i < length vs
+  pub place : PlaceArgs vs last i
   pub one-length : length vs ≡ length bs
 
 pub record DifferingDone (ls vs bs : List ℕ) (r : LeftNodes) : Type 0 where
