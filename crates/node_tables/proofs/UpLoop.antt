@@ -1,5 +1,6 @@
 -- The turns of the pass up that writes sizes and parents.
 --     iteration-other .. iteration-right        what a turn leaves and what it writes
+--     size-beside, right-first        the same where the right child's parent is written first
 --     at-right .. inner-args          an inner node's children and size, from the table so far
 --     cleared-written, leaf-turn, inner-iteration   one node more
 --     none-yet, all-up                before the first and after the last
@@ -13,7 +14,7 @@ use mathlib.Core.Logic.{_⊎_, inl, inr}
 use native.Mathlib.Decide.{ℕ-discrete}
 use native.Mathlib.Omega.{arith}
 use lib.ListN.{length, getD, set, length-set}
-use lib.Seq.{getD-set-same, getD-set-other}
+use lib.Seq.{getD-set-same, getD-set-other, set-comm}
 use Rattle.trees.specs.Tree.{Tree, kindsOf, size}
 use Rattle.trees.specs.Numbering.{sub, parent}
 use Rattle.trees.proofs.NodeLaws.{Inner, inner, Up, up, sub-leaf, sub-size, size-pos, parent-root}
@@ -46,6 +47,22 @@ module _ (b : List ℕ) (i s r l : ℕ) (room : i * 4 + 4 ≤ length b) (hr : r 
   iteration-right ne =
       getD-set-other (set (set b (i * 4 + 3) s) (r * 4) i) (l * 4) (r * 4) i 0 (omega arith)
       ∙ getD-set-same (set b (i * 4 + 3) s) (r * 4) i 0 (simp length-set (omega arith))
+
+pub size-beside : (b : List ℕ) (r l v : ℕ) → sizeCell (set b (r * 4) v) l ≡ sizeCell b l
+size-beside b r l v = getD-set-other b (r * 4) (l * 4 + 3) v 0 (omega arith)
+
+pub right-first : (b : List ℕ) (v c : ℕ) →
+    let d = cleared b v in
+    let l = before d (v - c) in
+    set (set (set d ((v - c) * 4) v) (v * 4 + 3) (sizeCell (set d ((v - c) * 4) v) l + sizeCell d (v - c) + 1)) (l * 4) v
+    ≡ upIteration b v c
+right-first b v c =
+    let d = cleared b v in
+    let r = v - c in
+    let l = before d r in
+    ap (λ (s : ℕ). set (set (set d (r * 4) v) (v * 4 + 3) (s + sizeCell d r + 1)) (l * 4) v) (size-beside d r l v)
+    ∙ ap (λ (x : List ℕ). set x (l * 4) v)
+    (set-comm d (r * 4) (v * 4 + 3) v (sizeCell d l + sizeCell d r + 1) (omega arith))
 
 -- ---- an inner node's children and size, from the table so far
 

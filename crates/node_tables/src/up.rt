@@ -34,10 +34,10 @@ fn write_up_node(node_table: &mut [u16], v: usize, c: usize)
     node_table[v * 4 + 3] = 0;
     let right = v - c;
     let size = node_table[right * 4 + 3];
+    node_table[right * 4] = v as u16;
     let left = right - size as usize;
     let sum = node_table[left * 4 + 3] + size + 1;
     node_table[v * 4 + 3] = sum;
-    node_table[right * 4] = v as u16;
     node_table[left * 4] = v as u16;
 }
 
