@@ -109,18 +109,18 @@ static const struct call {
     size_t most;
 } calls[] = {
     {"build", build, 3072},
-    {"check", check, 6 * 1024},
+    {"check", check, 8 * 1024},
     {"fresh run", fresh_run, 40 * 1024},
     {"load", load, 4096},
-    {"start", start, 7 * 1024},
+    {"start", start, 10 * 1024},
     {"cancel", cancel, 4096},
-    {"start", start, 7 * 1024},
+    {"start", start, 10 * 1024},
     {"advance", advance, 4096},
     {"read", read_answer, 4096},
     {"load of eight", load_all, 4096},
-    {"start on a screen", start_on, 7 * 1024},
+    {"start on a screen", start_on, 10 * 1024},
     {"cancel on a screen", cancel_on, 4096},
-    {"start on a screen", start_on, 7 * 1024},
+    {"start on a screen", start_on, 10 * 1024},
     {"deal", deal, 4096},
     {"read on a screen", read_on, 4096},
     {"count", count, 35 * 1024},
@@ -138,7 +138,7 @@ static const struct call {
     {"colour branch question with upper", colour_ask_with_upper, 1024},
     {"build of four states", build_of_four, 3072},
     {"colour build", colour_build, 3072},
-    {"colour question", colour_question, 2048},
+    {"colour question", colour_question, 3072},
 };
 
 static void *run(void *make) {

@@ -13,9 +13,9 @@
  * thread writes during the call.
  * Stack of a call, as measured on plans of 65,535 nodes and the largest tables: a fresh run at most 40 KiB, a count of
  * choices at most 35 KiB, agreement of two rule tables at most 12 KiB, a Start, which makes the full check, at most
- * 7 KiB, the full check of a rule table's tables at most 6 KiB, any other call of the session or of the screens at most
- * 4 KiB, a build or a branch table's full check at most 3 KiB, a question of changes by colours at most 2 KiB, any other at
- * most 1 KiB.
+ * 10 KiB, the full check of a rule table's tables at most 8 KiB, any other call of the session or of the screens at most
+ * 4 KiB, a build, a branch table's full check or a question of changes by colours at most 3 KiB, any other at most
+ * 1 KiB.
  *
  * What holds for every function:
  * - A slice is a pointer, then its count of elements (not bytes).
