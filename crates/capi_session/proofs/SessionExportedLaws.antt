@@ -188,15 +188,19 @@ module _ (b : List ℕ) where
   load-not x h = record {
     call = not-laid b (load x) h;
     node-table-written = sym (ap (λ (t : Bool). written (cond t (refusalOn (decoded b) (load x)) 1) (builtNodeTable (x .plan)) (x .nodeTable)) h);
-    state-table-written = sym (ap (λ (t : Bool). written (cond t (refusalOn (decoded b) (load x)) 1) (builtStateTable (x .plan) (x .rules)) (x .stateTable)) h);
+    state-table-written =
+        sym (ap (λ (t : Bool). written (cond t (refusalOn (decoded b) (load x)) 1) (builtStateTable (x .plan) (x .rules)) (x .stateTable)) h);
   }
 
   pub load-laid : (x : Inputs) → laidOut b ≡ true → (o : Called) (r : ℕ) (b′ nodeTable′ stateTable′ : List ℕ)
-      → LoadDone (decoded b) x (callAnswer (o .answer)) (o .session) nodeTable′ stateTable′ → DoneStored o b r b′ → LoadExported b x r b′ nodeTable′ stateTable′
+      → LoadDone (decoded b) x (callAnswer (o .answer)) (o .session) nodeTable′ stateTable′
+      → DoneStored o b r b′ → LoadExported b x r b′ nodeTable′ stateTable′
   unfolding loadNumber
   load-laid x h o r b′ nodeTable′ stateTable′ D S = record {
     call = laid b (load x) h (callAnswer (o .answer)) (o .session) r b′ (D .call) S;
-    node-table-written = D .node-table-written ∙ sym (ap (λ (t : Bool). written (cond t (refusalOn (decoded b) (load x)) 1) (builtNodeTable (x .plan)) (x .nodeTable)) h);
+    node-table-written =
+        D .node-table-written
+        ∙ sym (ap (λ (t : Bool). written (cond t (refusalOn (decoded b) (load x)) 1) (builtNodeTable (x .plan)) (x .nodeTable)) h);
     state-table-written = D .state-table-written
         ∙ sym (ap (λ (t : Bool). written (cond t (refusalOn (decoded b) (load x)) 1) (builtStateTable (x .plan) (x .rules)) (x .stateTable)) h);
   }
@@ -238,7 +242,8 @@ module _ (b : List ℕ) where
       record { number = S .number ∙ sym (ap answerNumber e); values-are = S .values-are ∙ sym (ap (λ (x : Answer). answeredPlaces x old) e) }
 
 -- a promise on the struct that was decoded
-pub of-decoded : (b : List ℕ) (s : Session) (c : Call) (a : Answer) (s′ : Session) → s ≡ decoded b → CallDone s c a s′ → CallDone (decoded b) c a s′
+pub of-decoded : (b : List ℕ) (s : Session) (c : Call) (a : Answer) (s′ : Session) → s ≡ decoded b
+    → CallDone s c a s′ → CallDone (decoded b) c a s′
 of-decoded b s c a s′ e D = subst (λ (z : Session). CallDone z c a s′) e D
 
 pub load-decoded : (b : List ℕ) (s : Session) (x : Inputs) (a : Answer) (s′ : Session) (n y : List ℕ) → s ≡ decoded b → LoadDone s x a s′ n y

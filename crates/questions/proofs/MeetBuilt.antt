@@ -47,7 +47,8 @@ module _ (F : Forest) (stop : ℕ → Bool) (v : ℕ) (h : F .jump v < F .nodes)
   by-jump e d = rw (lt-ltb (F .jump v) (F .nodes) h, e, lt-ltb (F .jump v) (F .nodes) h, lt-ltb (F .depth (F .jump v)) (F .depth v) d)
 
 module _ (t : Tree) where
-  pub meet-past : (u v j x : ℕ) → u < size t → v < size t → j < size t → InSubtree t j v → (InSubtree t j u → ⊥) → Meet t u j x → Meet t u v x
+  pub meet-past : (u v j x : ℕ) → u < size t → v < size t → j < size t → InSubtree t j v
+      → (InSubtree t j u → ⊥) → Meet t u j x → Meet t u v x
   meet-past u v j x hu hv hj p n m = record {
     inside = m .inside;
     first = m .first;
@@ -106,7 +107,13 @@ module _ (t : Tree) where
       move-jump v h e =
           let j = L .jumps v (omega arith) in
           by-jump (cellForest (size t) nodeTable) (λ x. isInSubtreeOn nodeTable x u) v (jump-cell v (omega arith)) e
-          (omega (arith, ap (cellForest (size t) nodeTable .depth) j, L .depths (jump t v) (jump-in t v (omega arith)), L .depths v (omega arith), jump-rises v h))
+          (omega (
+            arith,
+            ap (cellForest (size t) nodeTable .depth) j,
+            L .depths (jump t v) (jump-in t v (omega arith)),
+            L .depths v (omega arith),
+            jump-rises v h,
+          ))
 
       -- what the search finds from v on
       abbrev Finds : ℕ → Type 0
@@ -134,7 +141,8 @@ module _ (t : Tree) where
           go : (b : Bool) → isInSubtreeOn nodeTable v u ≡ b → Finds v
           go true e = found-here v h e
           go false e = absurd (omega (arith, up t v (proper v h e) .deeper))
-      finds-in (suc f) v l h = go (isInSubtreeOn nodeTable v u) (isInSubtreeOn nodeTable (cellForest (size t) nodeTable .jump v) u) refl refl (λ y. finds-in f y)
+      finds-in (suc f) v l h =
+          go (isInSubtreeOn nodeTable v u) (isInSubtreeOn nodeTable (cellForest (size t) nodeTable .jump v) u) refl refl (λ y. finds-in f y)
         where
           go : (b c : Bool) → isInSubtreeOn nodeTable v u ≡ b → isInSubtreeOn nodeTable (cellForest (size t) nodeTable .jump v) u ≡ c
               → ((y : ℕ) → depth t y ≤ f → y < size t → Finds y) → Finds v

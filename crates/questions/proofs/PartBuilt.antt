@@ -47,7 +47,8 @@ module _ (t : Tree) (c : ℕ) where
   abbrev Finding : List Part → Option Found → Option Found → Type 0
   Finding ps f o =
       ((anyBelow (nodesOf ps) t c ≡ false) × (o ≡ f))
-      ⊎ ((anyBelow (nodesOf ps) t c ≡ true) × ((d : ℕ) → o ≡ some (found (lastBelow (nodesOf ps) t c d) (stateOf ps (lastBelow (nodesOf ps) t c d)))))
+      ⊎ ((anyBelow (nodesOf ps) t c ≡ true) × ((d : ℕ)
+      → o ≡ some (found (lastBelow (nodesOf ps) t c d) (stateOf ps (lastBelow (nodesOf ps) t c d)))))
 
   last-any : (ms : List ℕ) (d e : ℕ) → anyBelow ms t c ≡ true → lastBelow ms t c d ≡ lastBelow ms t c e
   unfolding anyBelow lastBelow
@@ -64,7 +65,8 @@ module _ (t : Tree) (c : ℕ) where
   last-none [] d q = refl
   last-none (v ∷ ms) d q = go (isInSubtree c (size (sub t c)) v) q (λ x z. last-none ms x z)
     where
-      go : (b : Bool) → (b || anyBelow ms t c) ≡ false → ((x : ℕ) → anyBelow ms t c ≡ false → lastBelow ms t c x ≡ x) → lastBelow ms t c (cond b v d) ≡ d
+      go : (b : Bool) → (b || anyBelow ms t c) ≡ false → ((x : ℕ) → anyBelow ms t c ≡ false → lastBelow ms t c x ≡ x)
+          → lastBelow ms t c (cond b v d) ≡ d
       go true z f = absurd (true-false true refl z)
       go false z f = f d z
 
@@ -105,11 +107,14 @@ module _ (t : Tree) (c : ℕ) where
         lift : (o : Option Found) (d : ℕ) → anyBelow (nodesOf ps) t c ≡ true
             → o ≡ some (found (lastBelow (nodesOf ps) t c d) (stateOf ps (lastBelow (nodesOf ps) t c d)))
             → o ≡ some (found (lastBelow (nodesOf ps) t c d) (stateOf (p ∷ ps) (lastBelow (nodesOf ps) t c d)))
-        lift o d a e = e ∙ ap (λ (z : ℕ). some (found (lastBelow (nodesOf ps) t c d) z)) (sym (state-other p ps (lastBelow (nodesOf ps) t c d) (later d a)))
+        lift o d a e =
+            e ∙ ap (λ (z : ℕ). some (found (lastBelow (nodesOf ps) t c d) z)) (sym (state-other p ps (lastBelow (nodesOf ps) t c d) (later d a)))
 
-        go : (b : Bool) → Finding ps (some (found (p .node) (p .state))) (lastFound nodeTable c (nodesOf ps) (statesOf ps) (some (found (p .node) (p .state))))
+        go : (b : Bool)
+            → Finding ps (some (found (p .node) (p .state))) (lastFound nodeTable c (nodesOf ps) (statesOf ps) (some (found (p .node) (p .state))))
             → Finding ps f (lastFound nodeTable c (nodesOf ps) (statesOf ps) f)
-            → (((b || anyBelow (nodesOf ps) t c) ≡ false) × (lastFound nodeTable c (nodesOf ps) (statesOf ps) (cond b (some (found (p .node) (p .state))) f) ≡ f))
+            → (((b || anyBelow (nodesOf ps) t c) ≡ false)
+            × (lastFound nodeTable c (nodesOf ps) (statesOf ps) (cond b (some (found (p .node) (p .state))) f) ≡ f))
             ⊎ (((b || anyBelow (nodesOf ps) t c) ≡ true)
             × ((d : ℕ) → lastFound nodeTable c (nodesOf ps) (statesOf ps) (cond b (some (found (p .node) (p .state))) f)
             ≡ some (found (lastBelow (nodesOf ps) t c (cond b (p .node) d)) (stateOf (p ∷ ps) (lastBelow (nodesOf ps) t c (cond b (p .node) d))))))
@@ -186,7 +191,8 @@ module _ (X : View) (G : Given) (R : Reads X G) (w : ℕ → Bool) (ms : List �
     pub found-none : anyBelow ms (G .tree) c ≡ false → foundBelow (X .nodeTable) c (nodesOf ps) (statesOf ps) ≡ none
     found-none e = go finding
       where
-        go : Finding (G .tree) c ps none (foundBelow (X .nodeTable) c (nodesOf ps) (statesOf ps)) → foundBelow (X .nodeTable) c (nodesOf ps) (statesOf ps) ≡ none
+        go : Finding (G .tree) c ps none (foundBelow (X .nodeTable) c (nodesOf ps) (statesOf ps))
+            → foundBelow (X .nodeTable) c (nodesOf ps) (statesOf ps) ≡ none
         go (inl x) = x .1
         go (inr x) = absurd (true-false true refl (sym (x .0) ∙ sym any-is ∙ e))
 

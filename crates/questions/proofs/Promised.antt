@@ -57,7 +57,8 @@ all-small n (x ∷ vs) e v m = go (ltb x n) refl e (all-small n vs)
 -- ---- roots
 
 module _ (n : ℕ) (nodeTable vs : List ℕ) where
-  built : (t : Tree) → NodeCells t nodeTable → n ≡ size t → rootsFit n (length nodeTable) vs ≡ true → rootsGiven n nodeTable vs ≡ some (members.roots t vs)
+  built : (t : Tree) → NodeCells t nodeTable → n ≡ size t → rootsFit n (length nodeTable) vs ≡ true
+      → rootsGiven n nodeTable vs ≡ some (members.roots t vs)
   built t L e f =
       given-yes n nodeTable vs f
       ∙ ap (λ (m : ℕ). rootsOn m nodeTable vs) e
@@ -68,7 +69,8 @@ module _ (n : ℕ) (nodeTable vs : List ℕ) where
   rooted-number none = refl
   rooted-number (some l) = refl
 
-  roots-18 : rootsFit n (length nodeTable) vs ≡ true → (o : Option (List ℕ)) → rootsGiven n nodeTable vs ≡ o → numberFor o ≡ 18 → NodeTableOutOfRange n nodeTable
+  roots-18 : rootsFit n (length nodeTable) vs ≡ true → (o : Option (List ℕ)) → rootsGiven n nodeTable vs ≡ o
+      → numberFor o ≡ 18 → NodeTableOutOfRange n nodeTable
   unfolding numberFor
   roots-18 f none g e =
       let F = fit-facts n (length nodeTable) vs f in

@@ -178,7 +178,8 @@ module _ (s : Session) (h : Shaped s) (x : Inputs) (b : Bool) (may : b ≡ (vali
     on = firstNo-yes 1 (isRunning (phaseOf (s .head .phase))) (check 17 (fits (sizesOf s) x) ∷ []) r
 
     module _ (f : Bool)
-        (fit : f ≡ buffersFit (s .head .sizes .n) (s .head .sizes .s) (ruleLength (s .head .sizes .s) (s .head .sizes .k)) (length (x .plan)) (length (x .rules)) (length (x .nodeTable)) (length (x .stateTable))) where
+        (fit : f ≡ buffersFit (s .head .sizes .n) (s .head .sizes .s) (ruleLength (s .head .sizes .s) (s .head .sizes .k))
+        (length (x .plan)) (length (x .rules)) (length (x .nodeTable)) (length (x .stateTable))) where
       fits-is : fits (sizesOf s) x ≡ f
       unfolding fits buffersFit
       fits-is = sym fit
@@ -192,9 +193,11 @@ module _ (s : Session) (h : Shaped s) (x : Inputs) (b : Bool) (may : b ≡ (vali
         unfolding firstNo
         no-refusal = on ∙ firstNo-yes 17 (fits (sizesOf s) x) [] (fits-is ∙ not-false f yes)
 
-        long : Lengths (s .head .sizes .n) (s .head .sizes .s) (ruleLength (s .head .sizes .s) (s .head .sizes .k)) (length (x .plan)) (length (x .rules)) (length (x .nodeTable)) (length (x .stateTable))
+        long : Lengths (s .head .sizes .n) (s .head .sizes .s) (ruleLength (s .head .sizes .s) (s .head .sizes .k))
+            (length (x .plan)) (length (x .rules)) (length (x .nodeTable)) (length (x .stateTable))
         long =
-            lengths-are (s .head .sizes .n) (s .head .sizes .s) (ruleLength (s .head .sizes .s) (s .head .sizes .k)) (length (x .plan)) (length (x .rules)) (length (x .nodeTable)) (length (x .stateTable))
+            lengths-are (s .head .sizes .n) (s .head .sizes .s) (ruleLength (s .head .sizes .s) (s .head .sizes .k))
+            (length (x .plan)) (length (x .rules)) (length (x .nodeTable)) (length (x .stateTable))
             (sym fit ∙ not-false f yes)
 
         limits-yes : limitsFit (s .head .sizes .n) (s .head .sizes .s) (s .head .sizes .k) ≡ true
@@ -204,7 +207,8 @@ module _ (s : Session) (h : Shaped s) (x : Inputs) (b : Bool) (may : b ≡ (vali
             (and-both _ _ (and-both _ _ (le-leb 1 (s .head .sizes .s) (Z .states-least)) (le-leb (s .head .sizes .s) 16 (Z .states-most)))
             (and-both _ _ (le-leb 1 (s .head .sizes .k) (Z .labels-least)) (le-leb (s .head .sizes .k) 64 (Z .labels-most))))
 
-        asked-yes : askedFits (s .head .sizes .n) (take (s .head .parts) (s .roots)) (take (s .head .handled) (s .states)) (take (s .head .m) (s .nodes)) (take (s .head .m) (s .labels))
+        asked-yes : askedFits (s .head .sizes .n) (take (s .head .parts) (s .roots)) (take (s .head .handled) (s .states))
+            (take (s .head .m) (s .nodes)) (take (s .head .m) (s .labels))
             ≡ true
         unfolding askedFits recordOf
         asked-yes =
@@ -213,16 +217,22 @@ module _ (s : Session) (h : Shaped s) (x : Inputs) (b : Bool) (may : b ≡ (vali
             (A .rises) (G .handled) in
             and-both _ _ (lt-ltb (length (take (s .head .handled) (s .states))) (length (take (s .head .parts) (s .roots))) (G .handled))
             (and-both _ _ (le-leb (length (take (s .head .parts) (s .roots))) 65535 (omega (arith, A .few-parts)))
-            (and-both _ _ (lt-ltb (getD (take (s .head .parts) (s .roots)) (length (take (s .head .handled) (s .states))) 0) (s .head .sizes .n) (omega (arith, below, Z .nodes-least)))
+            (and-both _ _
+            (lt-ltb (getD (take (s .head .parts) (s .roots)) (length (take (s .head .handled) (s .states))) 0) (s .head .sizes .n)
+            (omega (arith, below, Z .nodes-least)))
             (and-both _ _ (eq-eqb (length (take (s .head .m) (s .nodes))) (length (take (s .head .m) (s .labels))) (sym (A .same)))
             (le-leb (length (take (s .head .m) (s .nodes))) 65535 (omega (arith, A .few))))))
 
-        given : partGiven (s .head .sizes .n) (s .head .sizes .s) (s .head .sizes .k) (x .plan) (x .rules) (x .nodeTable) (x .stateTable) (take (s .head .parts) (s .roots))
-            (take (s .head .handled) (s .states)) (take (s .head .m) (s .nodes)) (take (s .head .m) (s .labels)) ≡ partNext (recordOf s) x
+        given : partGiven (s .head .sizes .n) (s .head .sizes .s) (s .head .sizes .k) (x .plan) (x .rules) (x .nodeTable) (x .stateTable)
+            (take (s .head .parts) (s .roots))
+            (take (s .head .handled) (s .states))
+            (take (s .head .m) (s .nodes)) (take (s .head .m) (s .labels)) ≡ partNext (recordOf s) x
         unfolding recordOf
         given =
-            given-yes (s .head .sizes .n) (s .head .sizes .s) (s .head .sizes .k) (x .plan) (x .rules) (x .nodeTable) (x .stateTable) (take (s .head .parts) (s .roots))
-            (take (s .head .handled) (s .states)) (take (s .head .m) (s .nodes)) (take (s .head .m) (s .labels)) limits-yes
+            given-yes (s .head .sizes .n) (s .head .sizes .s) (s .head .sizes .k) (x .plan) (x .rules) (x .nodeTable) (x .stateTable)
+            (take (s .head .parts) (s .roots))
+            (take (s .head .handled) (s .states))
+            (take (s .head .m) (s .nodes)) (take (s .head .m) (s .labels)) limits-yes
             (sym fit ∙ not-false f yes) asked-yes
 
         acts : Narrow (recordOf s) C → (o : Option Reached) → partNext (recordOf s) x ≡ o → (a : calls.Answer) (t : Session)
