@@ -1,4 +1,4 @@
--- `differ::near_differences` meets its contract. The loop's invariant: the byte is 0 exactly where the entries passed
+-- `differences::near_differences` meets its contract. The loop's invariant: the byte is 0 exactly where the entries passed
 -- are the same.
 -- Assumes nothing.
 use Prim.Native.Nat.{ℕ, _≤_, _-_}
