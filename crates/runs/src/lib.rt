@@ -1,6 +1,6 @@
 // Fresh runs: a plan's run with listed labels changed, worked out without tables.
 //     answer    what a fresh run tells
-//     changes   a list of changes, laid out node by node
+//     changes   a list of changes, marked node by node
 //     pass      the pass over the nodes
 //     fresh     the call
 pub mod answer;
