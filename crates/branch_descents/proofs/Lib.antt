@@ -6,3 +6,4 @@ pub mod AskRange
 pub mod AskUsable
 pub mod AskBuilt
 pub mod AskTheorem
+pub mod OnCopies

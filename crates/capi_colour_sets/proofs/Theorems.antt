@@ -17,11 +17,12 @@ use Rattle.formats.specs.Rules.{labelCount, ruleAutomaton}
 use Rattle.formats.specs.Checks.{check, firstNo, listChecks}
 use Rattle.runs.specs.FreshRun.{rootState}
 use Rattle.colours.specs.Descents.{sum}
+use Rattle.colours.proofs.DescentLaws.{sum-le}
 use Rattle.part_descents.specs.OneSided.{oneSided}
 use Rattle.rule_descents.specs.declared.answers.RuleDescending.{RuleDescending}
 use Rattle.rule_descents.specs.declared.answers.RuleDescending.the-variants.{Answered, Refused}
 use Rattle.rule_descents.specs.Question.{ruleDescendingNumber, askedChecks, ruleAskChecks, ruleAskNumber}
-use Rattle.rule_descents.specs.Promise.{RuleColoursBuilt, RuleColourAnswer, rootsLeft}
+use Rattle.rule_descents.specs.Promise.{RuleColoursBuilt, RuleColourAnswer, rootsLeft, searchesLeft}
 use Rattle.capi_numbers.specs.Numbers.{bitOf}
 use Rattle.capi_colour_sets.specs.RuleExported.{endOf, acceptedOf, dropsOf, linksOf, partsOf, RuleExported}
 
@@ -46,6 +47,9 @@ module _ (p r nodeTable stateTable numbers bytes vs bs : List ℕ)
     pub state : state₁ ≡ rootState p r vs bs
     pub yes : yes₁ ≡ bitOf (ruleAutomaton r .accepting state₁)
     pub parts : parts₁ ≡ length (rootsLeft p vs bs)
+    -- the searches of the trials by the tree's own colours: their number, and the links of all
+    pub drops-are : drops₁ ≡ length (searchesLeft p r vs bs)
+    pub links-are : links₁ ≡ sum (searchesLeft p r vs bs)
     pub falls : drops₁ ≤ 60 * oneSided (planTree p) (rootsLeft p vs bs) (rootsLeft p vs bs)
     pub few : links₁ ≤ drops₁ * 45
 
@@ -56,17 +60,20 @@ module _ (p r nodeTable stateTable numbers bytes vs bs : List ℕ)
       let W : RuleColourAnswer p r vs bs (E .answer) = E .done .built D c in
       let i = W .is in
       let s = E .number .state-answer ∙ ap (λ (x : RuleDescending). endOf x state₀) i in
-      let d : drops₁ ≡ length (W .searches) =
+      let d : drops₁ ≡ length (searchesLeft p r vs bs) =
       E .number .drops-answer ∙ ap (λ (x : RuleDescending). dropsOf x drops₀) i in
-      let k : links₁ ≡ sum (W .searches) = E .number .links-answer ∙ ap (λ (x : RuleDescending). linksOf x links₀) i in
+      let k : links₁ ≡ sum (searchesLeft p r vs bs) =
+      E .number .links-answer ∙ ap (λ (x : RuleDescending). linksOf x links₀) i in
       record {
         accepted = E .number .result ∙ ap ruleDescendingNumber i;
         state = s;
         yes = E .number .yes-answer ∙ ap (λ (x : RuleDescending). acceptedOf x yes₀) i
             ∙ ap (λ (q : ℕ). bitOf (ruleAutomaton r .accepting q)) (sym s);
         parts = E .number .parts-answer ∙ ap (λ (x : RuleDescending). partsOf x parts₀) i;
+        drops-are = d;
+        links-are = k;
         falls = rw d (W .falls);
-        few = rw (d, k) (W .few);
+        few = rw (d, k) (sum-le 45 (searchesLeft p r vs bs) (W .few));
       }
 
   pub rule-descent-built : RuleColoursBuilt p r nodeTable stateTable numbers bytes → n ≡ 18 → ⊥

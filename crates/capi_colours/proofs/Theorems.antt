@@ -24,13 +24,14 @@ use Rattle.formats.specs.Rules.{stateCount, branchAutomaton}
 use Rattle.formats.specs.Checks.{firstNo}
 use Rattle.branches.specs.declared.answers.Reading.{Reading}
 use Rattle.branches.specs.Promise.{wordOf}
-use Rattle.colours.specs.Descents.{drops, links}
+use Rattle.colours.specs.Descents.{Descent, drops, links}
+use mathlib.Core.Option.{some}
 use Rattle.branch_colours.specs.Build.{branchColourChecks, builtColourNumbers, builtCopies, BranchColoured}
 use Rattle.branch_colours.proofs.BuildLaws.{built-coloured}
 use Rattle.branch_descents.specs.declared.answers.Descending.{Descending}
 use Rattle.branch_descents.specs.declared.answers.Descending.the-variants.{Answered, Refused}
 use Rattle.branch_descents.specs.Question.{descendingNumber}
-use Rattle.branch_descents.specs.Promise.{BranchColoursBuilt, BranchColoursUsable, wordDrops, DescentAnswer}
+use Rattle.branch_descents.specs.Promise.{BranchColoursBuilt, BranchColoursUsable, wordDrops, wordDescent, DescentAnswer}
 use Rattle.branch_descents.proofs.AskBuilt.{built-usable}
 use Rattle.capi_numbers.specs.Numbers.{bitOf, BuildExported}
 use Rattle.capi_numbers.proofs.BuildExportedLaws.{exported-number, exported-lists, exported-kept}
@@ -67,6 +68,10 @@ module _ (reading : Reading) (p r nodeTable numbers bytes : List ℕ)
     pub state : state₁ ≡ wordRun (branchAutomaton r) 0 (wordOf reading (planTree p) u l)
     pub yes : yes₁ ≡ bitOf (branchAutomaton r .accepting state₁)
     pub drops-are : drops₁ ≡ wordDrops reading (branchAutomaton r) (planTree p) u l
+    -- the links of the searches for them by the tree's own colours
+    pub way : Descent
+    pub found : wordDescent reading (branchAutomaton r) (planTree p) u l ≡ some way
+    pub links-are : links₁ ≡ links way
     pub falls : drops₁ ≤ stateCount r - 1
     pub few : links₁ ≤ drops₁ * 45
 
@@ -85,6 +90,9 @@ module _ (reading : Reading) (p r nodeTable numbers bytes : List ℕ)
           yes = E .number .yes-answer ∙ ap (λ (x : Descending). acceptedOf x yes₀) i
               ∙ ap (λ (q : ℕ). bitOf (branchAutomaton r .accepting q)) (sym s);
           drops-are = d ∙ W .drops-are;
+          way = W .way;
+          found = W .found;
+          links-are = k;
           falls = rw d (W .falls);
           few = rw (d, k) (W .few);
         }

@@ -1,1 +1,2 @@
 pub mod RunNumberLaws
+pub mod Theorems

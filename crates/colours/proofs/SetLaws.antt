@@ -31,7 +31,7 @@ use Rattle.colours.specs.Colouring.{placeOf, Colouring}
 use Rattle.colours.specs.Copies.{copyIn, copy, stateDown, colourDown}
 use Rattle.colours.specs.Descents.{ColourTable, Descent, descent, descend}
 use Rattle.colours.specs.StateSets.{setOf, member, setStep, setCount, setTable, setCopies, targetColour, setAt}
-use Rattle.colours.specs.StateSets.{Tried, tried, afterTrial, tryOne, tryFrom}
+use Rattle.colours.specs.StateSets.{Tried, tried, afterTrial, tryOne, tryFrom, trialDrops, dropsFrom}
 use Rattle.colours.proofs.ColouringLaws.{place-lt, place-at, has-colour}
 use Rattle.colours.proofs.CopyLaws.{copy-colouring}
 use Rattle.colours.proofs.PathLaws.{follow-state}
@@ -118,6 +118,7 @@ module _ (A : Automaton) (t : Tree) where
         pub found : descend (setTable A t) (targetColour (setCopies A t) c x) (some c) w (targetColour (setCopies A t)
             c x) ≡ some way
         pub holds-it : member (setAt (setCopies A t) w way) q ≡ eqb (walk (stepUp A t) t w k q) x
+        pub drops-are : length (way .searches) ≡ trialDrops A t c w k x
         pub falls : length (way .searches) ≤ setCount A - 1
         pub few : AllLe (3 * digits (height t)) (way .searches)
 
@@ -153,6 +154,7 @@ module _ (A : Automaton) (t : Tree) where
                 ∙ ap (stateDown (setStep A t) t w k) (ap (λ (y : List ℕ). getD y j 0) f ∙ place-at (2 ^ x) from i))
                 ∙ set-walk w k (2 ^ x) q hw l b
                 ∙ member-single x (walk (stepUp A t) t w k q);
+            drops-are = unfold trialDrops in D .falls;
             falls = descent-drops n (setStep A t) t setStep-below j (some c) w k j D hj;
             few = D .few;
           }
@@ -162,8 +164,17 @@ module _ (A : Automaton) (t : Tree) where
       pub record Found (f x : ℕ) : Type 0 where
         pub searches : List ℕ
         pub found : tryFrom (setTable A t) (setCopies A t) c w q f x ≡ some (tried (walk (stepUp A t) t w k q) searches)
+        pub drops-are : length searches ≡ dropsFrom (trialDrops A t c w k) x (suc (walk (stepUp A t) t w k q) - x)
         pub falls : length searches ≤ f * (setCount A - 1)
         pub few : AllLe (3 * digits (height t)) searches
+
+      one-left : (g : ℕ → ℕ) (x m : ℕ) → m ≡ 1 → dropsFrom g x m ≡ g x
+      unfolding dropsFrom
+      one-left g x m e = rw e (let z : g x + 0 ≡ g x = omega arith in z)
+
+      one-off : (g : ℕ → ℕ) (x m i : ℕ) → m ≡ suc i → dropsFrom g x m ≡ g x + dropsFrom g (suc x) i
+      unfolding dropsFrom
+      one-off g x m i e = rw e
 
       tries : (f x : ℕ) → x ≤ walk (stepUp A t) t w k q → walk (stepUp A t) t w k q < x + f → x + f ≤ A .states
           → Found f x
@@ -178,6 +189,7 @@ module _ (A : Automaton) (t : Tree) where
                   (suc x))
                   (T .has-it) (T .way) (T .found) (T .holds-it ∙ eq-eqb (walk (stepUp A t) t w k q) x i)
                   ∙ ap (λ (y : ℕ). some (tried y (T .way .searches))) (sym i);
+              drops-are = T .drops-are ∙ sym (one-left (trialDrops A t c w k) x _ (omega arith));
               falls = once f (setCount A - 1) (length (T .way .searches)) (T .falls);
               few = T .few;
             }
@@ -188,6 +200,9 @@ module _ (A : Automaton) (t : Tree) where
                       (suc x))
                       (T .has-it) (T .way) (T .found) (T .holds-it ∙ ne-eqb (walk (stepUp A t) t w k q) x i)
                       ∙ ap (afterTrial (T .way .searches)) (R .found);
+                  drops-are = length-append (T .way .searches) (R .searches)
+                      ∙ ap₂ (λ (a b : ℕ). a + b) (T .drops-are) (R .drops-are)
+                      ∙ sym (one-off (trialDrops A t c w k) x _ (suc (walk (stepUp A t) t w k q) - suc x) (omega arith));
                   falls = rw (length-append (T .way .searches) (R .searches))
                       (more f (setCount A - 1) (length (T .way .searches)) (length (R .searches)) (T .falls) (R
                       .falls));

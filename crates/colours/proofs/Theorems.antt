@@ -7,8 +7,8 @@
 --     set-targets           the state of a part's climb, by trying target states in rising order: 60 drops at most
 --     links-limit           each search takes at most 45 links
 -- Assumes nothing.
-use Prim.Native.Nat.{ℕ, _-_, _*_, _≤_, _<_}
-use mathlib.Core.Path.{_≡_}
+use Prim.Native.Nat.{ℕ, suc, _-_, _*_, _≤_, _<_}
+use mathlib.Core.Path.{_≡_, ap, _∙_}
 use mathlib.Core.List.{List}
 use mathlib.Core.Option.{some}
 use native.Mathlib.Omega.{arith}
@@ -23,7 +23,7 @@ use Rattle.trees.proofs.Digits.{digits-limit}
 use Rattle.colours.specs.Colouring.{Colouring}
 use Rattle.colours.specs.Copies.{copy, copyAbove, landsAt, dropsDown}
 use Rattle.colours.specs.Words.{withUpper, belowUpper}
-use Rattle.colours.specs.StateSets.{tried, tryTargets}
+use Rattle.colours.specs.StateSets.{tried, tryTargets, trialDrops, dropsFrom}
 use Rattle.colours.proofs.CopyLaws.{copy-colouring, landsAt-le, landsAt-state}
 use Rattle.colours.proofs.PathLaws.{drops-le}
 use Rattle.colours.proofs.DescentLaws.{AllLe, all-le}
@@ -56,6 +56,8 @@ module _ (B : WordAutomaton) (t : Tree) (below : (q a : ℕ) → B .step q a < B
 pub record SetAnswer (A : Automaton) (t : Tree) (c w k q : ℕ) : Type 0 where
   pub searches : List ℕ
   pub found : tryTargets A t c w q ≡ some (tried (walk (stepUp A t) t w k q) searches)
+  -- the drops of every trial up to it
+  pub drops-are : length searches ≡ dropsFrom (trialDrops A t c w k) 0 (suc (walk (stepUp A t) t w k q))
   pub falls : length searches ≤ 60
   pub few : AllLe (3 * digits (height t)) searches
 
@@ -67,6 +69,8 @@ set-targets A t below s c w k q h l e b =
     record {
       searches = F .searches;
       found = F .found;
+      drops-are = F .drops-are ∙ ap (dropsFrom (trialDrops A t c w k) 0) (let z : suc (walk (stepUp A t) t w k q) - 0
+          ≡ suc (walk (stepUp A t) t w k q) = omega arith in z);
       falls = targets-sixty A t below c w k q h l e b s;
       few = F .few;
     }

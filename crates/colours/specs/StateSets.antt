@@ -25,7 +25,7 @@ use Rattle.trees.specs.Climb.{andThen}
 use Rattle.trees.specs.Tables.{stepUp}
 use Rattle.marks.specs.Marks.{bit}
 use Rattle.colours.specs.Colouring.{placeOf}
-use Rattle.colours.specs.Copies.{copy}
+use Rattle.colours.specs.Copies.{copy, dropsDown}
 use Rattle.colours.specs.Descents.{ColourTable, Descent, descend, colourTableOf}
 
 -- "sets of states, numbered by adding 2 to the power k for each member k"
@@ -78,6 +78,15 @@ tryOne T rows c w q x later =
 unfoldable pub tryFrom : ColourTable → (ℕ → List ℕ) → ℕ → ℕ → ℕ → ℕ → ℕ → Option Tried
 tryFrom T rows c w q zero x = none
 tryFrom T rows c w q (suc f) x = tryOne T rows c w q x (tryFrom T rows c w q f (suc x))
+
+-- the drops of the trial of target state x: the places on the k steps from node c down to node w where its colour falls
+unfoldable pub trialDrops : Automaton → Tree → ℕ → ℕ → ℕ → ℕ → ℕ
+trialDrops A t c w k x = dropsDown (setCount A) (setStep A t) t w k (targetColour (setCopies A t) c x)
+
+-- m target states from x on
+unfoldable pub dropsFrom : (ℕ → ℕ) → ℕ → ℕ → ℕ
+dropsFrom f x zero = 0
+dropsFrom f x (suc m) = f x + dropsFrom f (suc x) m
 
 -- "the state its climb gives is found by trying target states in rising order up to it"
 unfoldable pub tryTargets : Automaton → Tree → ℕ → ℕ → ℕ → Option Tried

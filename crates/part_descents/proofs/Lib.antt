@@ -3,3 +3,4 @@ pub mod SideCases
 pub mod ForkCases
 pub mod TriesBuilt
 pub mod PartBuilt
+pub mod PartUsable

@@ -38,6 +38,8 @@ use Rattle.colours.specs.StateSets.{Tried, tried, tryFrom, tryTargets}
 use Rattle.colour_tables.specs.ColourCells.{cellTable}
 use Rattle.colours.proofs.DescentLaws.{AllLe, all-append}
 use Rattle.colour_parts.specs.Sides.{SideFound}
+use Rattle.colour_parts.specs.Searches.{foundSearches, climbSearches, sideSearches, partSearches}
+use Rattle.trees.specs.Automaton.{state}
 use Rattle.colour_parts.proofs.SideLaws.{side-found}
 use Rattle.part_descents.specs.Part.{ColourView, sidesIn, untried, colourFrom, sideTried, joinTried, forkTried}
 use Rattle.part_descents.specs.Part.{leafTried}
@@ -45,8 +47,7 @@ use Rattle.part_descents.specs.Part.{partTried}
 use Rattle.part_descents.specs.OneSided.{isOneSided}
 use Rattle.part_descents.proofs.TriesBuilt.{SidesBuilt, tries-built}
 
-pub record PartIs (t : Tree) (o : Option Tried) (q drops : ℕ) : Type 0 where
-  pub searches : List ℕ
+pub record PartIs (t : Tree) (o : Option Tried) (q : ℕ) (searches : List ℕ) (drops : ℕ) : Type 0 where
   pub found : o ≡ some (tried q searches)
   pub falls : length searches ≤ drops
   pub few : AllLe (3 * digits (height t)) searches
@@ -55,7 +56,8 @@ module _ (L : ColourView) (G : Given) (u : Tree) (R : Reads (L .view) G) (RG : R
     (S : StaysInside (G .automaton)) (four : G .automaton .states ≤ 4)
     (B : SidesBuilt (G .automaton) (G .tree) (L .numbers) (sidesIn L .copies))
     (w : ℕ → Bool) (ms : List ℕ) (M : Members w (G .tree) ms) (ps : List Part) (v : ℕ) (rest : List ℕ)
-    (cut : nodesOf ps ++ (v ∷ rest) ≡ ms) (small : (x : ℕ) → stateOf ps x < L .view .s) where
+    (cut : nodesOf ps ++ (v ∷ rest) ≡ ms) (small : (x : ℕ) → stateOf ps x < L .view .s)
+    (before : (x : ℕ) → List·Memᴰ x ms → x < v → stateOf ps x ≡ state (G .automaton) (sub u x)) where
   abbrev X : View
   X = L .view
 
@@ -85,8 +87,8 @@ module _ (L : ColourView) (G : Given) (u : Tree) (R : Reads (L .view) G) (RG : R
         → PartIs (G .tree)
         (sideTried (sidesIn L) c (some (found (highestBelow ms (G .tree) c) (stateOf ps (highestBelow ms (G .tree)
         c)))) none)
-        (climbedState G ms ps c) 60
-    unfolding sideTried colourFrom
+        (climbedState G ms ps c) (climbSearches (G .automaton) (G .tree) u ms c) 60
+    unfolding sideTried colourFrom climbSearches
     tried-side a =
         let h : ℕ = highestBelow ms t c in
         let H : Highest t (λ x. List·Memᴰ x ms) c h = some-below t c ms (M .rising) a in
@@ -94,15 +96,19 @@ module _ (L : ColourView) (G : Given) (u : Tree) (R : Reads (L .view) G) (RG : R
         let hc : c < size t = omega (arith, hv) in
         let F : SideFound G ms ps c =
         side-found G u RG S four ms ps c hc hh (H .below) (omega (arith, small h, R .states)) in
+        let own : foundSearches (tryTargets (G .automaton) t c h (state (G .automaton) (sub u h))) ≡ F .searches =
+        ap (λ (q : ℕ). foundSearches (tryTargets (G .automaton) t c h q))
+        (sym (before h (H .member) (omega (arith, H .below, l))))
+        ∙ ap foundSearches (F .found) in
         record {
-          searches = F .searches;
           found =
               ap (λ (o : Option ℕ). andThen o (λ q. tryFrom (sidesIn L .table) (sidesIn L .copies) c h q (X .s) 0))
               (is-below (X .s) (stateOf ps h) (small h))
               ∙ by-tree c h (stateOf ps h) hc hh
-              ∙ F .found;
-          falls = F .falls;
-          few = F .few;
+              ∙ F .found
+              ∙ ap (λ (ls : List ℕ). some (tried (climbedState G ms ps c) ls)) (sym own);
+          falls = rw own (F .falls);
+          few = rw own (F .few);
         }
       where
         by-tree : (c h q : ℕ) → c < size (G .tree) → h < size (G .tree)
@@ -157,19 +163,19 @@ module _ (L : ColourView) (G : Given) (u : Tree) (R : Reads (L .view) G) (RG : R
           right = O .below;
         })
 
-    joined-sides : (x y : Option Tried) (p q m n : ℕ) → PartIs (G .tree) x p m → PartIs (G .tree) y q n
+    joined-sides : (x y : Option Tried) (p q : ℕ) (ls ks : List ℕ) (m n : ℕ) → PartIs (G .tree) x p ls m
+        → PartIs (G .tree) y q ks n
         → PartIs (G .tree) (joinTried (rulesView (X .s) (X .k) (X .inner)) (getD (G .labels) v 0) x y)
-        (G .automaton .δ p (getD (G .labels) v 0) q) (m + n)
-    joined-sides x y p q m n P Q = record {
-      searches = P .searches ++ Q .searches;
+        (G .automaton .δ p (getD (G .labels) v 0) q) (ls ++ ks) (m + n)
+    joined-sides x y p q ls ks m n P Q = record {
       found = ap₂ (λ (a c : Option Tried). joinTried (rulesView (X .s) (X .k) (X .inner)) b a c) (P .found) (Q .found)
-          ∙ joined b p q (P .searches) (Q .searches) (R .changed-below v);
-      falls = omega (arith, length-append (P .searches) (Q .searches), P .falls, Q .falls);
-      few = all-append (3 * digits (height t)) (P .searches) (Q .searches) (P .few) (Q .few);
+          ∙ joined b p q ls ks (R .changed-below v);
+      falls = omega (arith, length-append ls ks, P .falls, Q .falls);
+      few = all-append (3 * digits (height t)) ls ks (P .few) (Q .few);
     }
 
-    still : (o : Option Tried) (q : ℕ) → o ≡ some (tried q []) → PartIs (G .tree) o q 0
-    still o q e = record { searches = []; found = e; falls = omega arith; few = tt }
+    still : (o : Option Tried) (q : ℕ) → o ≡ some (tried q []) → PartIs (G .tree) o q [] 0
+    still o q e = record { found = e; falls = omega arith; few = tt }
 
     fork-is : (c d : Bool) → anyBelow ms (G .tree) (leftChild (G .tree) v) ≡ c → anyBelow ms (G .tree) (rightChild v)
         ≡ d
@@ -184,6 +190,8 @@ module _ (L : ColourView) (G : Given) (u : Tree) (R : Reads (L .view) G) (RG : R
         (G .runState r)))
         (cond d (G .automaton .δ (G .runState l) b (climbedState G ms ps r)) (G .automaton .δ (G .runState l) b (G
         .runState r))))
+        (cond c (cond d [] (climbSearches (G .automaton) (G .tree) u ms (leftChild (G .tree) v))) []
+        ++ cond d (cond c [] (climbSearches (G .automaton) (G .tree) u ms (rightChild v))) [])
         (60 * bit (cond c (not d) d))
     fork-is true true p q =
         let m = own p q in
@@ -193,24 +201,25 @@ module _ (L : ColourView) (G : Given) (u : Tree) (R : Reads (L .view) G) (RG : R
           self-highest l hl (m .0) p,
           self-highest r hr (m .1) q,
         )
-        (joined-sides _ _ _ _ 0 0 (still _ _ (own-side l hl l (found r (stateOf ps r))))
+        (joined-sides _ _ _ _ _ _ 0 0 (still _ _ (own-side l hl l (found r (stateOf ps r))))
         (still _ _ (own-side r hr r (found l (stateOf ps l)))))
     fork-is true false p q =
         rw (found-built X G R w ms M ps v rest cut small l hl p, found-none X G R w ms M ps v rest cut small r hr q)
-        (joined-sides _ _ _ _ 60 0 (tried-side l hl p) (still _ _ (run-side r hr _)))
+        (joined-sides _ _ _ _ _ _ 60 0 (tried-side l hl p) (still _ _ (run-side r hr _)))
     fork-is false true p q =
         rw (found-none X G R w ms M ps v rest cut small l hl p, found-built X G R w ms M ps v rest cut small r hr q)
-        (joined-sides _ _ _ _ 0 60 (still _ _ (run-side l hl _)) (tried-side r hr q))
+        (joined-sides _ _ _ _ _ _ 0 60 (still _ _ (run-side l hl _)) (tried-side r hr q))
     fork-is false false p q =
         rw (found-none X G R w ms M ps v rest cut small l hl p, found-none X G R w ms M ps v rest cut small r hr q)
-        (joined-sides _ _ _ _ 0 0 (still _ _ (run-side l hl none)) (still _ _ (run-side r hr none)))
+        (joined-sides _ _ _ _ _ _ 0 0 (still _ _ (run-side l hl none)) (still _ _ (run-side r hr none)))
 
   -- ---- any root
 
   pub part-built : (vs bs : List ℕ) → G .labels ≡ changed (labelsOf (G .tree)) vs bs
       → PartIs (G .tree) (partTried L (nodesOf ps) (statesOf ps) vs bs v) (partState G ms ps v)
+      (partSearches (G .automaton) (G .tree) u ms v)
       (60 * bit (isOneSided (G .tree) ms v))
-  unfolding partTried partState labelOn leafTried isOneSided forkTried innerState
+  unfolding partTried partState labelOn leafTried isOneSided forkTried innerState partSearches sideSearches
   part-built vs bs e =
       let kind : getD (X .kinds) v 0 ≡ kindAt t v = ap (λ (z : List ℕ). getD z v 0) (R .kinds) in
       let lab : getD (changed (X .labels) vs bs) v 0 ≡ getD (G .labels) v 0 =
@@ -224,7 +233,7 @@ module _ (L : ColourView) (G : Given) (u : Tree) (R : Reads (L .view) G) (RG : R
           ← R .leaf (getD (G .labels) v 0),
           is-below (X .s) (G .automaton .ι (getD (G .labels) v 0)) (R .leaf-below (getD (G .labels) v 0)),
         )
-            (record { searches = []; found = refl; falls = omega arith; few = tt })
+            (record { found = refl; falls = omega arith; few = tt })
         | no n ↦ (let i : Inner t v = inner t v hv n in
             let s : sizeCell (X .nodeTable) (v - 1) ≡ size (sub t (v - 1)) = R .cells .sizes (v - 1) (omega (
               arith,

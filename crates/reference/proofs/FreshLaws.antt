@@ -177,7 +177,7 @@ module _ (z : Sizes) (q : Question) (B : Built z (q .inputs)) where
   u-labels = treeOf-labels (kindsIn (q .inputs .plan)) _ labels-length (plan-of z (q .inputs) B .postorder)
 
   -- a node that is not left in W keeps its label
-  left-same : (v : ℕ) → holds v (leftOf q) ≡ false → labelAt t v ≡ labelAt u v
+  pub left-same : (v : ℕ) → holds v (leftOf q) ≡ false → labelAt t v ≡ labelAt u v
   left-same v e =
       ap (λ (l : List ℕ). getD l v 0) (labels-planTree (q .inputs .plan) (plan-of z (q .inputs) B))
       ∙ sym (ap (λ (l : List ℕ). getD l v 0) u-labels ∙ unlisted-same (labelsIn (q .inputs .plan)) (q .nodes) (q .labels) v e)
@@ -190,7 +190,7 @@ module _ (z : Sizes) (q : Question) (B : Built z (q .inputs)) where
       go true h = absurd (true-false (sym (differing-listed (labelsIn (q .inputs .plan)) (q .nodes) (q .labels) v h) ∙ e))
       go false h = refl
 
-  changes : (w : ℕ → Bool) → ((v : ℕ) → w v ≡ false → labelAt t v ≡ labelAt u v) → Changes w t u
+  pub changes : (w : ℕ → Bool) → ((v : ℕ) → w v ≡ false → labelAt t v ≡ labelAt u v) → Changes w t u
   changes w same = record { kinds = kinds-planTree (q .inputs .plan) (plan-of z (q .inputs) B) ∙ sym u-kinds; labels = same }
 
   -- ---- on the state table that Load writes

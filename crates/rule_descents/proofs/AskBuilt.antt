@@ -5,7 +5,7 @@
 use Prim.Native.Nat.{ℕ, _+_, _-_, _*_, _^_, _≤_, _<_}
 use mathlib.Core.Path.{_≡_, refl, sym, ap, _∙_}
 use mathlib.Core.Bool.{Bool, true, cond}
-use mathlib.Core.List.{List, []}
+use mathlib.Core.List.{List, [], List·Memᴰ·not-nil}
 use mathlib.Core.Option.{Option, some}
 use native.Mathlib.Omega.{arith}
 use lib.Dec.{leb, eqb}
@@ -51,11 +51,12 @@ use Rattle.model.specs.PartInputs.{givenOf}
 use Rattle.model.proofs.Facts.{SettledInputs}
 use Rattle.model.proofs.LayersHold.{cells, reads}
 use Rattle.reference.specs.Reference.{Question, asked, givenBy}
-use Rattle.reference.proofs.FreshLaws.{rules-inside, sound-below, given-run, whole-state}
+use Rattle.reference.proofs.FreshLaws.{rules-inside, sound-below, given-run, whole-state, changes, left-same}
+use Rattle.colour_parts.specs.Searches.{questionSearches}
 use Rattle.colour_tables.specs.ColourCells.{copyRow}
 use Rattle.colours.specs.StateSets.{Tried, tried, setStep, setCount, setCopies}
 use Rattle.colours.proofs.CopyLaws.{copy-colouring}
-use Rattle.colours.proofs.DescentLaws.{AllLe, sum-le}
+use Rattle.colours.proofs.DescentLaws.{AllLe}
 use Rattle.colours.proofs.SetLaws.{setStep-below}
 use Rattle.colours.proofs.Theorems.{links-limit}
 use Rattle.rule_colours.specs.Build.{setNumbersLength, setBytesLength, setColoursFit, builtSetNumbers, builtSetBytes}
@@ -67,7 +68,7 @@ use Rattle.part_descents.proofs.TriesBuilt.{SidesBuilt}
 use Rattle.rule_descents.specs.Question.{handled, handledOn, askedOn, leftIn, lentColours}
 use Rattle.rule_descents.specs.Question.{ruleColoursFit, askedChecks}
 use Rattle.rule_descents.specs.Question.{ruleAnswer, ruleAskAnswer}
-use Rattle.rule_descents.specs.Promise.{RuleColoursBuilt, rootsLeft, RuleColourAnswer}
+use Rattle.rule_descents.specs.Promise.{RuleColoursBuilt, rootsLeft, searchesLeft, RuleColourAnswer}
 use Rattle.rule_descents.proofs.AskChecks.{few-states, then-list}
 use Rattle.rule_descents.proofs.AskNumbers.{lent-is}
 use Rattle.rule_descents.proofs.PartsBuilt.{handled-built}
@@ -275,15 +276,14 @@ module _ (p r nodeTable stateTable numbers bytes vs bs : List ℕ)
     -- ---- the answer
 
     record Whole : Type 0 where
-      pub searches : List ℕ
       pub found : handledFrom (lentColours p r nodeTable stateTable numbers bytes) vs bs [] [] (tried 0 []) (rootsLeft p
           vs bs)
-          ≡ some (tried (rootState p r vs bs) searches)
-      pub falls : length searches ≤ 60 * oneSided (planTree p) (rootsLeft p vs bs) (rootsLeft p vs bs)
-      pub few : AllLe (3 * digits (height (planTree p))) searches
+          ≡ some (tried (rootState p r vs bs) (searchesLeft p r vs bs))
+      pub falls : length (searchesLeft p r vs bs) ≤ 60 * oneSided (planTree p) (rootsLeft p vs bs) (rootsLeft p vs bs)
+      pub few : AllLe (3 * digits (height (planTree p))) (searchesLeft p r vs bs)
 
     whole : Whole
-    unfolding givenOf roots partsOf allBelow lastState
+    unfolding givenOf roots partsOf allBelow lastState questionSearches
     whole =
         let w : ℕ → Bool = λ v. holds v (differing (labelsIn p) vs bs) in
         let N = handled-built L G (changedTree p vs bs) (reads z x vs bs x settled) (given-run z q built table-built)
@@ -293,16 +293,16 @@ module _ (p r nodeTable stateTable numbers bytes vs bs : List ℕ)
           rules-pass
               .states-least,
         ))
-        (rootsLeft p vs bs) [] (tried 0 []) refl refl refl in
+        (changes z q built w (left-same z q built))
+        (rootsLeft p vs bs) [] (tried 0 []) refl refl refl (λ y k. absurd (List·Memᴰ·not-nil k)) in
         record {
-          searches = N .searches;
-          found = N .found ∙ ap (λ (y : ℕ). some (tried y (N .searches))) (whole-state z q built table-built);
+          found = N .found ∙ ap (λ (y : ℕ). some (tried y (searchesLeft p r vs bs))) (whole-state z q built table-built);
           falls = N .falls;
           few = N .few;
         }
 
     on-built : askedOn p r nodeTable stateTable numbers bytes vs bs
-        ≡ some (handled (tried (rootState p r vs bs) (whole .searches)) (length (rootsLeft p vs bs)))
+        ≡ some (handled (tried (rootState p r vs bs) (searchesLeft p r vs bs)) (length (rootsLeft p vs bs)))
     unfolding handledOn
     on-built =
         ap (λ (o : Option (List ℕ)). andThen o (λ ms.
@@ -314,9 +314,8 @@ module _ (p r nodeTable stateTable numbers bytes vs bs : List ℕ)
     ask-built =
         let small : size t ≤ 65535 = omega (arith, size-is, plan-passes .most) in
         record {
-          searches = whole .searches;
           is = sym (lent-is p r nodeTable stateTable numbers bytes vs bs _ asked-built refl)
               ∙ ap (ruleAnswer r 0) on-built;
           falls = whole .falls;
-          few = sum-le 45 (whole .searches) (links-limit t (whole .searches) small (whole .few));
+          few = links-limit t (searchesLeft p r vs bs) small (whole .few);
         }

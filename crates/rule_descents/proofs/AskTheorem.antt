@@ -23,6 +23,7 @@ use Rattle.rule_descents.specs.Promise.{RuleColourAnswer, stateKept, lin
 use Rattle.rule_descents.proofs.StateLaws.{handled-state}
 use Rattle.rule_descents.proofs.AskNumbers.{on-number}
 use Rattle.rule_descents.proofs.AskRange.{ask-range}
+use Rattle.rule_descents.proofs.AskUsable.{ask-usable}
 use Rattle.rule_descents.proofs.AskBuilt.{ask-built}
 
 on-kept : (L : ColourView) (left vs bs : List ℕ) (h : Handled) → handledOn L left vs bs ≡ some h
@@ -73,6 +74,7 @@ module _ (p r nodeTable stateTable numbers bytes vs bs : List ℕ) where
     few = few;
     out-of-range = λ i. ask-range p r nodeTable stateTable numbers bytes vs bs
         (sym (ap ruleDescendingNumber e ∙ on-number p r nodeTable stateTable numbers bytes vs bs) ∙ i);
+    usable = λ U ok. e ∙ ask-usable p r nodeTable stateTable numbers bytes vs bs U ok;
     built = λ D ok. subst (RuleColourAnswer p r vs bs) (sym e)
         (ask-built p r nodeTable stateTable numbers bytes vs bs D ok);
   }

@@ -10,3 +10,5 @@ pub mod PartsBuilt
 pub mod AskBuilt
 pub mod AskTheorem
 pub mod Theorems
+pub mod PartsUsable
+pub mod AskUsable
