@@ -13,6 +13,7 @@ use native.Mathlib.Omega.{arith}
 use lib.Dec.{eqb}
 use lib.ListN.{length, getD, take, drop, length-take, drop-of-length-le, length-append}
 use lib.Seq.{drop-cons, getD-take, take-all, take-append-le}
+use Rattle.trees.specs.Automaton.{Automaton}
 use Rattle.formats.specs.Rules.{stateCount, labelCount, ruleLength, leafStates, innerStates, ruleMarks, ruleAutomaton}
 use Rattle.formats.specs.Checks.{firstNo, ruleChecks}
 use Rattle.formats.proofs.RuleLaws.{RulesPass, rules-pass, leaf-state-below, inner-state-below, mark-below}
@@ -26,7 +27,7 @@ use Rattle.agreement.specs.Search.{Found, nothing, overLeaves, searched, reache
 use Rattle.agreement.specs.Answer.{differing, shownCount, shownLines}
 use Rattle.rule_search.specs.declared.Search.{Search}
 use Rattle.rule_search.specs.SearchRecord.{emptySearch, linesFrom, linesTo, lineAt, foundIn, pairLeaf, stepOf}
-use Rattle.rule_search.specs.SearchRecord.{pairStep, Fits, Pair}
+use Rattle.rule_search.specs.SearchRecord.{pairStep, Fits, Pair, Front}
 use Rattle.rule_search.specs.SearchRecord.{LeavesArgs, LeavesDone, SearchArgs, SearchDone, MarksArgs, differingFrom}
 use Rattle.rule_search.proofs.RecordLaws.{count-most, length-lines, empty-fits, empty-found}
 use Rattle.agreeing.specs.Reply.{shownBy, shownReply, AnswerArgs, CutArgs}
@@ -55,6 +56,18 @@ lines-front t (suc c) n h = elim (ℕ-discrete n (suc c)) [
       (omega (arith, length-lines (t .kinds) (t .labels) (t .lefts) (t .rights) c))
       ∙ lines-front t c n (omega arith)
 ]
+
+-- what is accepted first stays so where more follows
+accepted-front : (A : Automaton) (ys xs : List ℕ) (i n : ℕ) → firstAccepted A xs i ≡ some n → firstAccepted A (xs ++ ys) i ≡ some n
+unfolding firstAccepted
+accepted-front A ys [] i n e = let z : _≡_ {A = ℕ} 0 1 = cc in absurd (omega arith)
+accepted-front A ys (c ∷ cs) i n e = go (A .accepting c) e (accepted-front A ys cs (suc i) n)
+  where
+    go : (b : Bool) → cond b (some (suc i)) (firstAccepted A cs (suc i)) ≡ some n
+        → (firstAccepted A cs (suc i) ≡ some n → firstAccepted A (cs ++ ys) (suc i) ≡ some n)
+        → cond b (some (suc i)) (firstAccepted A (cs ++ ys) (suc i)) ≡ some n
+    go true h f = h
+    go false h f = f h
 
 differing-most : (f g : List ℕ) (s2 : ℕ) (t : Search) (n i : ℕ) → differingFrom f g s2 t i n ≤ i + n
 unfolding differingFrom
@@ -121,14 +134,13 @@ module _ (first second : List ℕ) (s1 s2 k : ℕ) (A : AnswerArgs first second 
   leaf-is : pairLeaf (leafStates first) (leafStates second) s2 ≡ differing first second .ι
   leaf-is = fun-ext λ a. ap (λ (x : ℕ). getD (leafStates first) a 0 * x + getD (leafStates second) a 0) (A .second-states)
 
-  pub found-all : (l t : Search)
+  pub found-all : (l : Search)
       → foundIn l ≡ overLeaves (pairLeaf (leafStates first) (leafStates second) s2) 0 k (foundIn emptySearch)
-      → foundIn t ≡ searched (stepOf (innerStates first) (innerStates second) s1 s2 k) k 256 0 (foundIn l)
-      → foundIn t ≡ reached (differing first second) (labelCount first)
+      → searched (stepOf (innerStates first) (innerStates second) s1 s2 k) k 256 0 (foundIn l)
+      ≡ reached (differing first second) (labelCount first)
   unfolding reached
-  found-all l t e f =
-      f
-      ∙ ap (searched (stepOf (innerStates first) (innerStates second) s1 s2 k) k 256 0) (e ∙ ap (overLeaves (pairLeaf
+  found-all l e =
+      ap (searched (stepOf (innerStates first) (innerStates second) s1 s2 k) k 256 0) (e ∙ ap (overLeaves (pairLeaf
       (leafStates first) (leafStates second) s2) 0 k) empty-found)
       ∙ ap₂ (λ (d : ℕ → ℕ → ℕ → ℕ) (i : ℕ → ℕ). searched d k 256 0 (overLeaves i 0 k nothing)) step-is leaf-is
       ∙ ap (λ (n : ℕ). searched (differing first second .δ) n 256 0 (overLeaves (differing first second .ι) 0 n nothing))
@@ -205,9 +217,15 @@ module _ (first second : List ℕ) (s1 s2 k : ℕ) (A : AnswerArgs first second 
   pub leaves-second : take (20 + k - 20) (drop 20 second) ≡ leafStates second
   leaves-second = leaves-part second k (A .second-labels)
 
-  pub whole-args-at : (x y : List ℕ) (l : Search) → x ≡ innerStates first → y ≡ innerStates second → Fits s1 s2 l
-      → SearchArgs x y s1 s2 k l
-  whole-args-at x y l p q F = rw (p, q) (record { pair = pair-args; fits = F })
+  pub whole-args-at : (x y z w : List ℕ) (l : Search) → x ≡ innerStates first → y ≡ innerStates second → z ≡ ruleMarks first
+      → w ≡ ruleMarks second → Fits s1 s2 l
+      → SearchArgs x y z w s1 s2 k l
+  whole-args-at x y z w l p q u v F = rw (p, q, u, v) (record {
+    pair = pair-args;
+    first-marks = length-ruleMarks first P ∙ sym (A .first-states);
+    second-marks = length-ruleMarks second Q ∙ sym (A .second-states);
+    fits = F;
+  })
 
   pub mark-args-at : (x y : List ℕ) (t : Search) → x ≡ ruleMarks first → y ≡ ruleMarks second → Fits s1 s2 t
       → MarksArgs x y s2 t
@@ -229,44 +247,76 @@ module _ (first second : List ℕ) (s1 s2 k : ℕ) (A : AnswerArgs first second 
 
   module _ (e l t : Search) (n : ℕ) (empty : e ≡ emptySearch) (L : LeavesDone (leafStates first)
       (leafStates second) s1 s2 k e l)
-      (W : SearchDone (innerStates first) (innerStates second) s1 s2 k l t)
+      (W : SearchDone (innerStates first) (innerStates second) (ruleMarks first) (ruleMarks second) s1 s2 k l t)
       (N : n ≡ differingFrom (ruleMarks first) (ruleMarks second) s2 t 0 (t .count)) where
-    all-found : foundIn t ≡ reached (differing first second) (labelCount first)
-    all-found =
-        found-all l t (L .found ∙ ap (λ (s : Search). overLeaves (pairLeaf (leafStates first) (leafStates second) s2) 0 k
+    whole : searched (stepOf (innerStates first) (innerStates second) s1 s2 k) k 256 0 (foundIn l)
+        ≡ reached (differing first second) (labelCount first)
+    whole = found-all l (L .found ∙ ap (λ (s : Search). overLeaves (pairLeaf (leafStates first) (leafStates second) s2) 0 k
         (foundIn s)) empty)
-        (W .found)
+
+    front : Front (foundIn t) (reached (differing first second) (labelCount first))
+    front = subst (Front (foundIn t)) whole (W .front)
+
+    all-found : n ≡ 0 → foundIn t ≡ reached (differing first second) (labelCount first)
+    all-found z =
+        let h : t .count - 0 ≡ t .count = omega arith in
+        W .found (ap (differingFrom (ruleMarks first) (ruleMarks second) s2 t 0) h ∙ sym N ∙ z) ∙ whole
+
+    number-found : n ≡ shownNumber (firstAccepted (differing first second) (foundIn t .states) 0)
+    unfolding foundIn
+    number-found = N ∙ same-in t (W .fits .codes) (count-most s1 s2 t (W .fits)) (t .count) 0 (omega arith)
+
+    -- the first line found is the first of all: it stays so where more follows, and where there is none all was found
+    number-by : (o : Option ℕ) → firstAccepted (differing first second) (foundIn t .states) 0 ≡ o → n ≡ shownNumber o
+        → shownCount first second ≡ o
+    unfolding shownCount
+    number-by none q z =
+        ap (λ (F : Found). firstAccepted (differing first second) (F .states) 0) (sym (all-found z)) ∙ q
+    number-by (some m) q z =
+        ap (λ (l : List ℕ). firstAccepted (differing first second) l 0) (front .states)
+        ∙ accepted-front (differing first second) (front .later-states) (foundIn t .states) 0 m q
 
     number-shown : n ≡ shownNumber (shownCount first second)
-    unfolding shownCount foundIn
-    number-shown =
-        N ∙ same-in t (W .fits .codes) (count-most s1 s2 t (W .fits)) (t .count) 0 (omega arith)
-        ∙ ap (λ (F : Found). shownNumber (firstAccepted (differing first second) (F .states) 0)) all-found
+    number-shown = number-found ∙ ap shownNumber (sym (number-by (firstAccepted (differing first second)
+        (foundIn t .states) 0) refl number-found))
 
     lines-shown : linesTo t n ≡ shownLines first second n
     unfolding shownLines foundIn
     lines-shown =
         let h : n ≤ t .count = omega (arith, N, differing-most (ruleMarks first) (ruleMarks second) s2 t (t .count) 0) in
-        sym (lines-front t (t .count) n h) ∙ ap (λ (F : Found). take n (F .lines)) all-found
+        sym (lines-front t (t .count) n h)
+        ∙ sym (take-append-le n (linesTo t (t .count)) (front .later-lines)
+        (omega (arith, length-lines (t .kinds) (t .labels) (t .lefts) (t .rights) (t .count))))
+        ∙ ap (take n) (sym (front .lines))
 
     pub named-lines : linesTo t n ≡ shownReply first second
     unfolding shownReply
     named-lines = shown-lines t n (shownCount first second) number-shown lines-shown
 
+  -- all lines, as the call counts them
+  number-at : (z w : List ℕ) (t : Search) (n : ℕ) → z ≡ ruleMarks first → w ≡ ruleMarks second
+      → n ≡ differingFrom z w s2 t 0 (t .count - 0)
+      → n ≡ differingFrom (ruleMarks first) (ruleMarks second) s2 t 0 (t .count)
+  number-at z w t n pz pw N =
+      let h : t .count - 0 ≡ t .count = omega arith in
+      N ∙ ap (differingFrom z w s2 t 0) h ∙ ap₂ (λ (f g : List ℕ). differingFrom f g s2 t 0 (t .count)) pz pw
+
   pub answered-at : (u v x y z w : List ℕ) (e l t : Search) (n : ℕ) → u ≡ leafStates first → v ≡ leafStates second
       → x ≡ innerStates first → y ≡ innerStates second → z ≡ ruleMarks first → w ≡ ruleMarks second → e ≡ emptySearch
-      → LeavesDone u v s1 s2 k e l → SearchDone x y s1 s2 k l t → n ≡ differingFrom z w s2 t 0 (t .count)
+      → LeavesDone u v s1 s2 k e l → SearchDone x y z w s1 s2 k l t → n ≡ differingFrom z w s2 t 0 (t .count - 0)
       → linesTo t n ≡ shownReply first second
   answered-at u v x y z w e l t n pu pv px py pz pw pe L W N =
       named-lines e l t n pe (subst (λ (g : List ℕ). LeavesDone (leafStates first) g s1 s2 k e l) pv (subst
       (λ (f : List ℕ). LeavesDone f v s1 s2 k e l) pu L))
-      (subst (λ (g : List ℕ). SearchDone (innerStates first) g s1 s2 k l t) py (subst
-      (λ (f : List ℕ). SearchDone f y s1 s2 k l t) px W))
-      (N ∙ ap₂ (λ (f g : List ℕ). differingFrom f g s2 t 0 (t .count)) pz pw)
+      (subst (λ (b : List ℕ). SearchDone (innerStates first) (innerStates second) (ruleMarks first) b s1 s2 k l t) pw
+      (subst (λ (a : List ℕ). SearchDone (innerStates first) (innerStates second) a w s1 s2 k l t) pz
+      (subst (λ (g : List ℕ). SearchDone (innerStates first) g z w s1 s2 k l t) py
+      (subst (λ (f : List ℕ). SearchDone f y z w s1 s2 k l t) px W))))
+      (number-at z w t n pz pw N)
 
   pub cut-args-at : (z w : List ℕ) (t : Search) (n : ℕ) → z ≡ ruleMarks first → w ≡ ruleMarks second → Fits s1 s2 t
-      → n ≡ differingFrom z w s2 t 0 (t .count) → CutArgs s1 s2 t n
-  cut-args-at z w t n pz pw F N = cut-args t n F (N ∙ ap₂ (λ (f g : List ℕ). differingFrom f g s2 t 0 (t .count)) pz pw)
+      → n ≡ differingFrom z w s2 t 0 (t .count - 0) → CutArgs s1 s2 t n
+  cut-args-at z w t n pz pw F N = cut-args t n F (number-at z w t n pz pw N)
 
 -- ---- the counts as the call reads them
 

@@ -87,8 +87,17 @@ fn answered(first: &[u8], second: &[u8], s1: usize, s2: usize, k: usize) -> Agre
     let m2 = i + inner_count(s2, k);
     let e = empty_search();
     let l = over_leaves(&first[20..i], &second[20..i], s1, s2, k, e);
-    let t = searched(&first[i..m1], &second[i..m2], s1, s2, k, l);
-    let n = first_differing(&first[m1..], &second[m2..], s2, t);
+    let t = searched(
+        &first[i..m1],
+        &second[i..m2],
+        &first[m1..],
+        &second[m2..],
+        s1,
+        s2,
+        k,
+        l,
+    );
+    let n = first_differing(&first[m1..], &second[m2..], s2, t, 0);
     cut(t, s1, s2, n)
 }
 

@@ -1,6 +1,7 @@
 -- The loop of over_lines: line n at either side of lines 0 to n, one at a time.
 --     found-next, found-end    the definition at a line, and past the last
 --     LinesLoop                the invariant
+--     lines-loop-stop          where the marks of a new line differ, the loop may end
 -- Assumes nothing.
 use Prim.Native.Nat.{ℕ, zero, suc, _+_, _*_, _/_, _%_, _-_, _≤_, _<_}
 use mathlib.Core.Path.{_≡_, refl, sym, ap, ap₂, _∙_, subst}
@@ -10,8 +11,11 @@ use lib.ListN.{length, getD}
 use Rattle.formats.proofs.PlanLaws.{product-most}
 use Rattle.agreement.specs.Search.{Found, stateAt, overLabels, bothOrders, overFound}
 use Rattle.rule_search.specs.declared.Search.{Search}
-use Rattle.rule_search.specs.SearchRecord.{foundIn, stepOf, Fits, LabelsArgs, LabelsDone, LinesArgs, LinesDone}
+use Rattle.rule_search.specs.SearchRecord.{foundIn, stepOf, Fits, Front, MarksArgs}
+use Rattle.rule_search.specs.SearchRecord.{LabelsArgs, LabelsDone, LinesArgs, LinesDone}
 use Rattle.rule_search.proofs.RecordLaws.{count-most, state-found}
+use Rattle.rule_search.proofs.FrontLaws.{front-same, front-found}
+use Rattle.rule_search.proofs.MarksLoop.{differs, none-later, marks-args}
 
 pub found-next : (δ : ℕ → ℕ → ℕ → ℕ) (k n j : ℕ) (F : Found) → j ≤ n
     → overFound δ k n j (n + 1 - j) F ≡ overFound δ k n (j + 1) (n + 1 - (j + 1)) (bothOrders δ k n j F)
@@ -25,16 +29,16 @@ pub found-end : (δ : ℕ → ℕ → ℕ → ℕ) (k n j : ℕ) (F : Found) →
 unfolding overFound
 found-end δ k n j F h = let e : n + 1 - j ≡ 0 = omega arith in ap (λ (m : ℕ). overFound δ k n j m F) e
 
-pub record LinesLoop (f g : List ℕ) (s1 s2 k n : ℕ) (t₀ t : Search) (j : ℕ) : Type 0 where
-  pub args : LinesArgs f g s1 s2 k t₀ n
+pub record LinesLoop (f g x y : List ℕ) (s1 s2 k n : ℕ) (t₀ t : Search) (j : ℕ) : Type 0 where
+  pub args : LinesArgs f g x y s1 s2 k t₀ n
   pub upto : j ≤ n + 1
   pub fits : Fits s1 s2 t
   pub longer : t₀ .count ≤ t .count
   pub found : overFound (stepOf f g s1 s2 k) k n j (n + 1 - j) (foundIn t) ≡ overFound (stepOf f g s1 s2 k) k n 0 (n + 1)
       (foundIn t₀)
 
-pub lines-loop-start : (f g : List ℕ) (s1 s2 k n : ℕ) (t : Search) → LinesArgs f g s1 s2 k t n → LinesLoop f g s1 s2 k n t t 0
-lines-loop-start f g s1 s2 k n t A = record {
+pub lines-loop-start : (f g x y : List ℕ) (s1 s2 k n : ℕ) (t : Search) → LinesArgs f g x y s1 s2 k t n → LinesLoop f g x y s1 s2 k n t t 0
+lines-loop-start f g x y s1 s2 k n t A = record {
   args = A;
   upto = omega arith;
   fits = A .fits;
@@ -42,7 +46,7 @@ lines-loop-start f g s1 s2 k n t A = record {
   found = let e : n + 1 - 0 ≡ n + 1 = omega arith in ap (λ (m : ℕ). overFound (stepOf f g s1 s2 k) k n 0 m (foundIn t)) e;
 }
 
-module _ (f g : List ℕ) (s1 s2 k n : ℕ) (t₀ t : Search) (j : ℕ) (L : LinesLoop f g s1 s2 k n t₀ t j) where
+module _ (f g x y : List ℕ) (s1 s2 k n : ℕ) (t₀ t : Search) (j : ℕ) (L : LinesLoop f g x y s1 s2 k n t₀ t j) where
   pub lines-loop-in : n < 256
   lines-loop-in = omega (arith, L .args .inside, L .longer, count-most s1 s2 t (L .fits))
 
@@ -83,10 +87,10 @@ module _ (f g : List ℕ) (s1 s2 k n : ℕ) (t₀ t : Search) (j : ℕ) (L : Lin
             (arith, L .args .inside, L .longer)) in
             R .found
             ∙ ap (overLabels (stepOf f g s1 s2 k) j n (getD (t .codes) j 0) (getD (t .codes) n 0) 0 k) (U .found)
-            ∙ ap₂ (λ (x y : ℕ). overLabels (stepOf f g s1 s2 k) j n y x 0 k (overLabels (stepOf f g s1 s2 k) n j x y 0 k
+            ∙ ap₂ (λ (p q : ℕ). overLabels (stepOf f g s1 s2 k) j n q p 0 k (overLabels (stepOf f g s1 s2 k) n j p q 0 k
             (foundIn t))) (sym e) (sym i)
 
-        pub lines-loop-next : LinesLoop f g s1 s2 k n t₀ r (j + 1)
+        pub lines-loop-next : LinesLoop f g x y s1 s2 k n t₀ r (j + 1)
         lines-loop-next = record {
           args = L .args;
           upto = omega arith;
@@ -98,9 +102,27 @@ module _ (f g : List ℕ) (s1 s2 k n : ℕ) (t₀ t : Search) (j : ℕ) (L : Lin
               ∙ L .found;
         }
 
-  pub lines-loop-done : n < j → LinesDone f g s1 s2 k t₀ n t
+        pub lines-loop-marks : MarksArgs x y s2 r
+        lines-loop-marks = marks-args f g x y s1 s2 k (L .args .pair) (L .args .first-marks) (L .args .second-marks) r (R .fits)
+
+        -- the marks of a line found at line j differ
+        pub lines-loop-stop : (differs x y s2 r (t .count) ≡ 0 → ⊥) → LinesDone f g x y s1 s2 k t₀ n r
+        lines-loop-stop d =
+            let N : LinesLoop f g x y s1 s2 k n t₀ r (j + 1) = lines-loop-next in
+            record {
+              fits = R .fits;
+              longer = N .longer;
+              front = subst (Front (foundIn r)) (N .found) (front-found (stepOf f g s1 s2 k) k n (j + 1) (n + 1 - (j + 1)) (foundIn r));
+              found = λ e. absurd (d (none-later x y s2 r (t₀ .count) (t .count) (L .longer) (omega (arith, U .longer, R .longer)) e));
+            }
+
+  pub lines-loop-done : n < j → LinesDone f g x y s1 s2 k t₀ n t
   lines-loop-done h = record {
     fits = L .fits;
     longer = L .longer;
-    found = sym (found-end (stepOf f g s1 s2 k) k n j (foundIn t) h) ∙ L .found;
+    front = front-same all-found;
+    found = λ _. all-found;
   }
+    where
+      all-found : foundIn t ≡ overFound (stepOf f g s1 s2 k) k n 0 (n + 1) (foundIn t₀)
+      all-found = sym (found-end (stepOf f g s1 s2 k) k n j (foundIn t) h) ∙ L .found

@@ -9,12 +9,13 @@
 -- Pair f g s1 s2 k == the inner runs of two tables that pass 6 to 9 and have the same K
 -- Fits s1 s2 s == the record can be worked on: arrays of 256, as many lines as states seen, states below S1 × S2; and each of its
 --   entries says what its line does: kind 0 or 1, a leaf's lefts and rights 0
+-- Front F G == G is F, and perhaps more lines behind
 -- differingFrom f g s2 s i n == i and how many of n lines from i on, up to and with the first whose marks (runs f, g) differ; 0 where
 --   none does
 -- StepArgs, LabelsArgs, LinesArgs, SearchArgs, LeavesArgs, MarksArgs == what a function asks; LabelsDone, .. == what it promises
 --
 -- Assumes nothing.
-use Prim.Native.Nat.{ℕ, zero, suc, _+_, _*_, _/_, _%_, _≤_, _<_}
+use Prim.Native.Nat.{ℕ, zero, suc, _+_, _*_, _/_, _%_, _-_, _≤_, _<_}
 use mathlib.Core.Path.{_≡_}
 use mathlib.Core.List.{List, [], _∷_, _++_}
 use mathlib.Core.Bool.{Bool, cond}
@@ -119,25 +120,59 @@ pub record LabelsDone (f g : List ℕ) (s1 s2 k : ℕ) (s : Search) (i j p q : �
   pub longer : s .count ≤ r .count
   pub found : foundIn r ≡ overLabels (stepOf f g s1 s2 k) i j p q 0 k (foundIn s)
 
-pub record LinesArgs (f g : List ℕ) (s1 s2 k : ℕ) (s : Search) (n : ℕ) : Type 0 where
+-- ---- the first line whose marks differ
+
+-- how many of n lines from i on, up to and with the first whose marks differ; 0 where none does
+unfoldable pub differingFrom : List ℕ → List ℕ → ℕ → Search → ℕ → ℕ → ℕ
+differingFrom f g s2 s i zero = 0
+differingFrom f g s2 s i (suc n) =
+    cond (eqb (getD f (getD (s .codes) i 0 / s2) 0) (getD g (getD (s .codes) i 0 % s2) 0)) (differingFrom f g s2 s
+    (suc i) n) (suc i)
+
+pub record MarksArgs (f g : List ℕ) (s2 : ℕ) (s : Search) : Type 0 where
+  pub second-least : 1 ≤ s2
+  pub few : s .count ≤ 256
+  pub second-length : length g ≡ s2
+  pub below : (i : ℕ) → getD (s .codes) i 0 < length f * s2
+  pub small : (i : ℕ) → getD (s .codes) i 0 < 256
+
+-- ---- the search, which may end at a line whose marks (runs x, y) differ
+
+pub record Front (F G : Found) : Type 0 where
+  pub later-lines : List Line
+  pub later-states : List ℕ
+  pub lines : G .lines ≡ F .lines ++ later-lines
+  pub states : G .states ≡ F .states ++ later-states
+
+pub record LinesArgs (f g x y : List ℕ) (s1 s2 k : ℕ) (s : Search) (n : ℕ) : Type 0 where
   pub pair : Pair f g s1 s2 k
+  pub first-marks : length x ≡ s1
+  pub second-marks : length y ≡ s2
   pub fits : Fits s1 s2 s
   pub inside : n < s .count
 
-pub record LinesDone (f g : List ℕ) (s1 s2 k : ℕ) (s : Search) (n : ℕ) (r : Search) : Type 0 where
+pub record LinesDone (f g x y : List ℕ) (s1 s2 k : ℕ) (s : Search) (n : ℕ) (r : Search) : Type 0 where
   pub fits : Fits s1 s2 r
   pub longer : s .count ≤ r .count
-  pub found : foundIn r ≡ overFound (stepOf f g s1 s2 k) k n 0 (n + 1) (foundIn s)
+  pub front : Front (foundIn r) (overFound (stepOf f g s1 s2 k) k n 0 (n + 1) (foundIn s))
+  -- all of it, unless the marks of a new line differ
+  pub found : differingFrom x y s2 r (s .count) (r .count - s .count) ≡ 0
+      → foundIn r ≡ overFound (stepOf f g s1 s2 k) k n 0 (n + 1) (foundIn s)
 
-pub record SearchArgs (f g : List ℕ) (s1 s2 k : ℕ) (s : Search) : Type 0 where
+pub record SearchArgs (f g x y : List ℕ) (s1 s2 k : ℕ) (s : Search) : Type 0 where
   pub pair : Pair f g s1 s2 k
+  pub first-marks : length x ≡ s1
+  pub second-marks : length y ≡ s2
   pub fits : Fits s1 s2 s
 
-pub record SearchDone (f g : List ℕ) (s1 s2 k : ℕ) (s r : Search) : Type 0 where
+pub record SearchDone (f g x y : List ℕ) (s1 s2 k : ℕ) (s r : Search) : Type 0 where
   pub fits : Fits s1 s2 r
-  pub found : foundIn r ≡ searched (stepOf f g s1 s2 k) k 256 0 (foundIn s)
+  pub front : Front (foundIn r) (searched (stepOf f g s1 s2 k) k 256 0 (foundIn s))
+  -- all of it, unless the marks of a line differ
+  pub found : differingFrom x y s2 r 0 (r .count - 0) ≡ 0
+      → foundIn r ≡ searched (stepOf f g s1 s2 k) k 256 0 (foundIn s)
 
--- ---- leaves, and the first line whose marks differ
+-- ---- leaves
 
 abbrev pub pairLeaf : List ℕ → List ℕ → ℕ → ℕ → ℕ
 pairLeaf f g s2 a = getD f a 0 * s2 + getD g a 0
@@ -155,17 +190,3 @@ pub record LeavesArgs (f g : List ℕ) (s1 s2 k : ℕ) (s : Search) : Type 0 whe
 pub record LeavesDone (f g : List ℕ) (s1 s2 k : ℕ) (s r : Search) : Type 0 where
   pub fits : Fits s1 s2 r
   pub found : foundIn r ≡ overLeaves (pairLeaf f g s2) 0 k (foundIn s)
-
--- how many of n lines from i on, up to and with the first whose marks differ; 0 where none does
-unfoldable pub differingFrom : List ℕ → List ℕ → ℕ → Search → ℕ → ℕ → ℕ
-differingFrom f g s2 s i zero = 0
-differingFrom f g s2 s i (suc n) =
-    cond (eqb (getD f (getD (s .codes) i 0 / s2) 0) (getD g (getD (s .codes) i 0 % s2) 0)) (differingFrom f g s2 s
-    (suc i) n) (suc i)
-
-pub record MarksArgs (f g : List ℕ) (s2 : ℕ) (s : Search) : Type 0 where
-  pub second-least : 1 ≤ s2
-  pub few : s .count ≤ 256
-  pub second-length : length g ≡ s2
-  pub below : (i : ℕ) → getD (s .codes) i 0 < length f * s2
-  pub small : (i : ℕ) → getD (s .codes) i 0 < 256

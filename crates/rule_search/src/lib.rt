@@ -3,12 +3,13 @@
 //     pair_step       one step of the product
 //     over_leaves     every label of a leaf
 //     over_labels     every label over two lines
+//     first_differing the first line whose two marks differ, from a line on
 //     over_lines      a line at either side of each line up to it
 //     searched        so for every line
-//     first_differing the first line whose two marks differ
+// over_lines and searched end where the marks of a line that was found differ: what they would find behind it is not asked.
 // Tables are handed on by their runs: leaf states, inner states or marks. What is found has its name in agreement, specs/Search.
 ghost use mathlib.Core.Path.{_≡_};
-ghost use Prim.Native.Nat.{_<_};
+ghost use Prim.Native.Nat.{_<_, _-_};
 ghost use Rattle.rule_search.specs.SearchRecord.{lineAdded, emptySearch, pairStep, LinesDone, SearchDone};
 ghost use Rattle.rule_search.specs.SearchRecord.{StepArgs, LabelsArgs, LabelsDone, LinesArgs, SearchArgs};
 ghost use Rattle.rule_search.specs.SearchRecord.{LeavesArgs, LeavesDone, MarksArgs, differingFrom};
@@ -111,40 +112,78 @@ fn over_labels(
     t
 }
 
+// How many lines there are up to the first from line start on whose two marks differ; 0 where none does.
+pub fn first_differing(first: &[u8], second: &[u8], s2: usize, s: Search, start: usize) -> usize
+    requires { ⌜ MarksArgs (now first) (now second) s2 s ⌝ }
+    ensures { λ r. ⌜ r ≡ differingFrom (now (first .entry)) (now (second .entry)) s2 s start (s .count - start) ⌝ }
+{
+    let mut i = start;
+    while i < s.count {
+        let c = s.codes[i] as usize;
+        if first[c / s2] != second[c % s2] {
+            return i + 1;
+        }
+        i += 1;
+    }
+    0
+}
+
 // Line n at either side of each line up to it.
 fn over_lines(
     first: &[u8],
     second: &[u8],
+    marks1: &[u8],
+    marks2: &[u8],
     s1: usize,
     s2: usize,
     k: usize,
     s: Search,
     n: usize,
 ) -> Search
-    requires { ⌜ LinesArgs (now first) (now second) s1 s2 k s n ⌝ }
-    ensures { λ r. ⌜ LinesDone (now (first .entry)) (now (second .entry)) s1 s2 k s n r ⌝ }
+    requires { ⌜ LinesArgs (now first) (now second) (now marks1) (now marks2) s1 s2 k s n ⌝ }
+    ensures { λ r. ⌜ LinesDone (now (first .entry)) (now (second .entry)) (now (marks1 .entry)) (now (marks2 .entry)) s1 s2 k s n r ⌝ }
 {
     let mut t = s;
     let mut j = 0;
     while j <= n {
         let p = t.codes[n] as usize;
         let q = t.codes[j] as usize;
+        let start = t.count;
         let u = over_labels(first, second, s1, s2, k, t, n, j, p, q);
         t = over_labels(first, second, s1, s2, k, u, j, n, q, p);
+        if first_differing(marks1, marks2, s2, t, start) != 0 {
+            return t;
+        }
         j += 1;
     }
     t
 }
 
 // Every line so.
-pub fn searched(first: &[u8], second: &[u8], s1: usize, s2: usize, k: usize, s: Search) -> Search
-    requires { ⌜ SearchArgs (now first) (now second) s1 s2 k s ⌝ }
-    ensures { λ r. ⌜ SearchDone (now (first .entry)) (now (second .entry)) s1 s2 k s r ⌝ }
+pub fn searched(
+    first: &[u8],
+    second: &[u8],
+    marks1: &[u8],
+    marks2: &[u8],
+    s1: usize,
+    s2: usize,
+    k: usize,
+    s: Search,
+) -> Search
+    requires { ⌜ SearchArgs (now first) (now second) (now marks1) (now marks2) s1 s2 k s ⌝ }
+    ensures { λ r. ⌜ SearchDone (now (first .entry)) (now (second .entry)) (now (marks1 .entry)) (now (marks2 .entry)) s1 s2 k s r ⌝ }
 {
+    if first_differing(marks1, marks2, s2, s, 0) != 0 {
+        return s;
+    }
     let mut t = s;
     let mut n = 0;
     while n < t.count {
-        t = over_lines(first, second, s1, s2, k, t, n);
+        let start = t.count;
+        t = over_lines(first, second, marks1, marks2, s1, s2, k, t, n);
+        if first_differing(marks1, marks2, s2, t, start) != 0 {
+            return t;
+        }
         n += 1;
     }
     t
@@ -167,20 +206,4 @@ pub fn over_leaves(first: &[u8], second: &[u8], s1: usize, s2: usize, k: usize, 
         label += 1;
     }
     t
-}
-
-// How many lines there are up to the first whose two marks differ; 0 where none does.
-pub fn first_differing(first: &[u8], second: &[u8], s2: usize, s: Search) -> usize
-    requires { ⌜ MarksArgs (now first) (now second) s2 s ⌝ }
-    ensures { λ r. ⌜ r ≡ differingFrom (now (first .entry)) (now (second .entry)) s2 s 0 (s .count) ⌝ }
-{
-    let mut i = 0;
-    while i < s.count {
-        let c = s.codes[i] as usize;
-        if first[c / s2] != second[c % s2] {
-            return i + 1;
-        }
-        i += 1;
-    }
-    0
 }

@@ -1,8 +1,9 @@
 -- `first_differing` meets its contract. Assumes nothing.
 use Prim.Native.Nat.{_+_, _-_}
+use mathlib.Core.Path.{refl}
 use native.Mathlib.Omega.{arith}
 use Rattle.rule_search.specs.SearchRecord.{MarksArgs}
-use Rattle.rule_search.proofs.MarksLoop.{MarksLoop, marks-loop-start, marks-loop-same, marks-loop-found}
+use Rattle.rule_search.proofs.MarksLoop.{MarksLoop, marks-loop-same, marks-loop-found}
 use Rattle.rule_search.proofs.MarksLoop.{marks-loop-end, mark-first, mark-second}
 use borrow.Author.Needs.{needs}
 use Rattle.rule_search.proofs.first_differing.Statement.{statement}
@@ -11,15 +12,14 @@ use Rattle.rule_search.proofs.first_differing.Reads as reads
 use Rattle.rule_search.proofs.first_differing.Lts as lts
 
 abbrev Inv-loop : tie.InvT-loop
-Inv-loop first second s2 s i₀ i = MarksArgs first second s2 s × MarksLoop first second s2 s i
+Inv-loop first second s2 start s i₀ i = MarksArgs first second s2 s × MarksLoop first second s2 s start i
 
 abbrev μ-loop : tie.MeasureT-loop
-μ-loop first second s2 s i₀ i = s .count - i
+μ-loop first second s2 start s i₀ i = s .count - i
 
 loop-holds : tie.Need-loop-holds Inv-loop μ-loop
 loop-holds c =
-    let g = c .args in
-    (c .pre, marks-loop-start (g .first .now) (g .second .now) (g .s2) (g .t4))
+    (c .pre, refl)
 
 element-copy-out-c : tie.Need-element-copy-out-c Inv-loop μ-loop
 element-copy-out-c c =
@@ -75,7 +75,7 @@ returns c =
     let a = c .before .before .before .before .before in
     let g = a .before .args in
     let l = a .loop in
-    marks-loop-found (g .first .now) (g .second .now) (g .s2) (g .t4) (l .i) (l .inv .1)
+    marks-loop-found (g .first .now) (g .second .now) (g .s2) (g .t4) (g .start) (l .i) (l .inv .1)
     (c .before .before .before .before .loop-test .taken) (c .if1 .taken)
 
 add-i : tie.Need-add-i Inv-loop μ-loop
@@ -91,7 +91,7 @@ loop-again c =
     let g = a .before .args in
     let l = a .loop in (
       l .inv .0,
-      marks-loop-same (g .first .now) (g .second .now) (g .s2) (g .t4) (l .i) (l .inv .1)
+      marks-loop-same (g .first .now) (g .second .now) (g .s2) (g .t4) (g .start) (l .i) (l .inv .1)
           (c .before .before .before .before .loop-test .taken) (c .if1 .left),
     )
 
@@ -100,7 +100,7 @@ returns-2 c =
     let a = c .before in
     let g = a .before .args in
     let l = a .loop in
-    marks-loop-end (g .first .now) (g .second .now) (g .s2) (g .t4) (l .i) (l .inv .1) (c .loop-test .left)
+    marks-loop-end (g .first .now) (g .second .now) (g .s2) (g .t4) (g .start) (l .i) (l .inv .1) (c .loop-test .left)
 
 pub first-differing-spec : {M : Type 1} → statement M
 first-differing-spec =
