@@ -1,2 +1,4 @@
+pub mod BitLaws
+pub mod OwnerLaws
 pub mod PlaceLoop
 pub mod TurnLoop

@@ -1,7 +1,6 @@
 -- Colours taking states in turn, as the code has it: from the states that their states above lead to.
 --
--- FreeArgs row c k == c states stand in a row of 16, and every state below k is among them
--- TurnArgs led == at most 16 states
+-- TurnArgs led == at most 16 states, each below 16
 -- TurnedTo led r == r has the next copy, and what each colour lands on
 --
 -- A copy from the one above by a step f is the copy from the states led to by the identity: recolour-map, lands-map
@@ -9,20 +8,14 @@
 -- Assumes nothing.
 use Prim.Native.Nat.{ℕ, _≤_, _<_}
 use mathlib.Core.Path.{_≡_}
-use mathlib.Core.Bool.{true}
 use mathlib.Core.List.{List}
 use lib.ListN.{length, getD, take}
-use Rattle.list_laws.specs.Tests.{holds}
 use Rattle.colours.specs.Colouring.{recolour, lands}
 use Rattle.colour_rows.specs.declared.turns.Turned.{Turned}
 
-pub record FreeArgs (row : List ℕ) (c k : ℕ) : Type 0 where
-  pub few : c ≤ 16
-  pub long : length row ≡ 16
-  pub held : (i : ℕ) → i < k → holds i (take c row) ≡ true
-
 pub record TurnArgs (led : List ℕ) : Type 0 where
   pub few : length led ≤ 16
+  pub small : (c : ℕ) → c < length led → getD led c 0 < 16
 
 pub record TurnedTo (led : List ℕ) (r : Turned) : Type 0 where
   pub row : take (length led) (r .row) ≡ recolour (λ q. q) led

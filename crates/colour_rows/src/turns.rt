@@ -1,10 +1,8 @@
 // The states that the colours of a copy take, one after the other, and the colour that each lands on.
-use crate::places::place_of;
+// The states taken are bits of a number: bit s is set where a lower colour has state s.
 ghost use mathlib.Core.Path.{_≡_};
-ghost use Prim.Native.Nat.{_≤_};
-ghost use lib.ListN.{take};
-ghost use Rattle.colours.specs.Colouring.{lowestFree};
-ghost use Rattle.colour_rows.specs.Turns.{FreeArgs, TurnArgs, TurnedTo};
+ghost use Prim.Native.Nat.{ℕ, _^_, _<_};
+ghost use Rattle.colour_rows.specs.Turns.{TurnArgs, TurnedTo};
 
 // The states taken and the colours landed on; what stands past the number of colours means nothing.
 pub struct Turned {
@@ -12,19 +10,15 @@ pub struct Turned {
     pub lands: [u8; 16],
 }
 
-// The lowest state that is not among the first c of a row, where all below k are.
-fn free_from(row: [u8; 16], c: usize, k: usize) -> usize
-    requires { ⌜ FreeArgs row c k ⌝ }
-    ensures { λ r. ⌜ (r ≡ lowestFree (take c row)) × (r ≤ c) ⌝ }
+// The four bits from bit 12 on of 2479 times 2 to the power k are another number for each k below 16; there stands k.
+const PLACES: [u8; 16] = [0, 1, 2, 5, 3, 9, 6, 11, 15, 4, 8, 10, 14, 7, 13, 12];
+
+// The place of the one bit that is set, of sixteen.
+fn place_of_bit(b: usize) -> u8
+    requires { ⌜ b < 131072 ⌝ }
+    ensures { λ r. ⌜ ((x : ℕ) → x < 16 → b ≡ 2 ^ x → r ≡ x) ⌝ }
 {
-    let mut i = k;
-    while i < c {
-        if place_of(&row[..c], i as u8) == c {
-            return i;
-        }
-        i += 1;
-    }
-    i
+    PLACES[b * 2479 % 65536 / 4096]
 }
 
 // The colours in turn, where `led` has the states that their states above lead to.
@@ -34,15 +28,18 @@ pub fn take_in_turn(led: &[u8]) -> Turned
 {
     let mut row = [0u8; 16];
     let mut lands = [0u8; 16];
-    let mut free: usize = 0;
+    let mut owners = [0u8; 16];
+    let mut taken: usize = 0;
     let mut c: usize = 0;
     while c < led.len() {
-        let q = led[c];
-        let p = place_of(&row[..c], q);
-        free = free_from(row, c, free);
-        let x = if p < c { free as u8 } else { q };
+        let q = led[c] as usize;
+        let low = (taken + 1) & (131071 - taken);
+        let bit = if (taken >> q) & 1 == 0 { 1 << q } else { low };
+        taken += bit;
+        let x = place_of_bit(bit);
+        owners[x as usize] = c as u8;
         row[c] = x;
-        lands[c] = p as u8;
+        lands[c] = owners[q];
         c += 1;
     }
     Turned { row, lands }

@@ -88,10 +88,11 @@ module _ (k : ℕ) (step : ℕ → ℕ → ℕ) (t : Tree) (base : ℕ) (keeps :
           rw (parent-is i) (omega (arith, stride k (parent t v) (size t) (up t v i .below))));
     }
 
-    pub place-in : (led : List ℕ) → length led ≡ 16 → k ≤ 16 → size t ≤ 65535 → base + size t * k ≤ length b
-        → k * (size t * 4) ≤ length m → TurnArgs led b m (size t) base k v
-    place-in led l few most room space = record {
+    pub place-in : (led : List ℕ) → length led ≡ 16 → ((c : ℕ) → c < k → getD led c 0 < k) → k ≤ 16 → size t ≤ 65535
+        → base + size t * k ≤ length b → k * (size t * 4) ≤ length m → TurnArgs led b m (size t) base k v
+    place-in led l under few most room space = record {
       long = l;
+      small = λ c i. omega (arith, under c i);
       few = few;
       most = most;
       at = h;

@@ -74,7 +74,8 @@ module _ (ls st : List ℕ) (s k : ℕ) (e₀ m₀ : List ℕ) (A : WordArgs ls 
         pub words-place : TurnArgs led b m n 0 s v
         words-place =
             rw (← is₀) (place-in s (stepBy st k t₀) t₀ 0 (keeps t₀) e₀ m₀ (A .given .parents) v b m (from t₀ (A .given))
-            (omega (arith, is₀)) led (L .long) (A .few) (omega (arith, is₀, A .most)) (omega (arith, room)) space)
+            (omega (arith, is₀)) led (L .long) (λ c i. rw (L .cells c i) (A .step-below (getD row c 0 * k + a)))
+            (A .few) (omega (arith, is₀, A .most)) (omega (arith, room)) space)
 
         pub words-next : (b′ m′ : List ℕ) → a ≡ getD ls v 0 → Turned led n 0 s v b m b′ m′
             → Words ls st s k e₀ m₀ v b′ m′

@@ -23,7 +23,7 @@ use Rattle.colours.specs.StateSets.{setStep}
 use Rattle.colours.proofs.SetLaws.{setStep-below}
 use Rattle.colour_states.specs.inner.Rows.{RowOf, aboveCell, AboveArgs, TurnArgs, Turned}
 use Rattle.colour_states.proofs.CopyLoop.{first-elsewhere, copies-start, copies-next, above-is, above-in, place-in}
-use Rattle.colour_states.proofs.CopyLoop.{led-is}
+use Rattle.colour_states.proofs.CopyLoop.{above-below, led-is}
 use Rattle.set_states.specs.Ups.{UpArgs}
 use Rattle.set_states.specs.Down.{downSet, DownArgs}
 use Rattle.set_states.specs.SetPass.{SetsFrom, SetArgs}
@@ -146,13 +146,6 @@ module _ (ls inn : List ℕ) (s k count base : ℕ) (e₀ m₀ : List ℕ) (A : 
       }
 
       module _ (led : List ℕ) (L : RowOf count (λ c. downSet ls m inn b n s k v (getD row c 0)) led) where
-        pub sets-place : TurnArgs led b m n base count v
-        sets-place =
-            rw (← is₀) (place-in count (setStep (treeAutomaton s k lv₀ inn mk₀) t₀) t₀ base (keeps lv₀ mk₀ t₀) e₀ m₀
-            (parents lv₀ mk₀ t₀ (A .given)) v b m (from lv₀ mk₀ t₀ (A .given)) (omega (arith, is₀)) led (L .long)
-            (count-few .1)
-            (omega (arith, is₀, q, A .most)) room space)
-
         module _ (lv mk : List ℕ) (t : Tree) (P : Prepared s k lv inn mk t (kindsOf t) ls m₀ e₀) where
           abbrev step : ℕ → ℕ → ℕ
           step = setStep (treeAutomaton s k lv inn mk) t
@@ -170,6 +163,21 @@ module _ (ls inn : List ℕ) (s k count base : ℕ) (e₀ m₀ : List ℕ) (A : 
               ∙ down-is s k lv inn mk t ls m b v (P .labels) (parent-is lv mk t P) (size-is lv mk t P)
               (state-is lv mk t P) here
               (getD row c 0)
+
+        -- a set led to is one of the sets
+        led-below : (c : ℕ) → c < count → getD led c 0 < count
+        led-below c i =
+            rw (led-here lv₀ mk₀ t₀ (A .given) c i) (keeps lv₀ mk₀ t₀ v (getD row c 0)
+            (above-below count (setStep (treeAutomaton s k lv₀ inn mk₀) t₀) t₀ base (keeps lv₀ mk₀ t₀) e₀ m₀
+            (parents lv₀ mk₀ t₀ (A .given)) v b m (from lv₀ mk₀ t₀ (A .given)) (omega (arith, is₀)) row
+            (row-of lv₀ mk₀ t₀ (A .given)) c i))
+
+        pub sets-place : TurnArgs led b m n base count v
+        sets-place =
+            rw (← is₀) (place-in count (setStep (treeAutomaton s k lv₀ inn mk₀) t₀) t₀ base (keeps lv₀ mk₀ t₀) e₀ m₀
+            (parents lv₀ mk₀ t₀ (A .given)) v b m (from lv₀ mk₀ t₀ (A .given)) (omega (arith, is₀)) led (L .long)
+            led-below (count-few .1)
+            (omega (arith, is₀, q, A .most)) room space)
 
         pub sets-next : (b′ m′ : List ℕ) → Turned led n base count v b m b′ m′
             → Sets ls inn s k count base e₀ m₀ v b′ m′

@@ -53,6 +53,7 @@ pub record LandedTo (lands : List ℕ) (n v k : ℕ) (before after : List ℕ) :
 
 pub record TurnArgs (led bytes numbers : List ℕ) (n base k v : ℕ) : Type 0 where
   pub long : length led ≡ 16
+  pub small : (c : ℕ) → c < k → getD led c 0 < 16
   pub few : k ≤ 16
   pub most : n ≤ 65535
   pub at : v < n

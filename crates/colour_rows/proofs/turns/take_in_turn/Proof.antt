@@ -1,109 +1,139 @@
 -- `take_in_turn` meets its contract: after c turns the row is that of the first c colours. Assumes nothing.
-use Prim.Native.Nat.{_-_, _<_}
-use mathlib.Core.Path.{_≡_, refl, sym, _∙_}
+use Prim.Native.Nat.{_-_, _^_, _≤_, _<_}
+use mathlib.Core.Path.{_≡_, refl, _∙_}
 use mathlib.Core.Logic.{⊎-elim}
+use lib.ListN.{length, getD, take}
+use Rattle.colours.specs.Colouring.{takes}
+use Rattle.colour_rows.proofs.TurnLoop.{Turns, turns-start, below, takes-small, power-small, bit-own, bit-low}
+use Rattle.colour_rows.proofs.TurnLoop.{turns-turn, turns-done}
 use native.Mathlib.Omega.{arith}
-use lib.ListN.{length, take}
-use Rattle.colour_rows.proofs.PlaceLoop.{first-length}
-use Rattle.colour_rows.proofs.TurnLoop.{Turns, turns-start, turns-taken, turns-own, turns-turn, turns-done}
 use borrow.Author.Needs.{needs}
 use Rattle.colour_rows.proofs.turns.take_in_turn.Statement.{statement}
 use Rattle.colour_rows.proofs.turns.take_in_turn.Tie as tie
 use Rattle.colour_rows.proofs.turns.take_in_turn.Reads as reads
 use Rattle.colour_rows.proofs.turns.take_in_turn.Lts as lts
-use Rattle.colour_rows.proofs.turns.free_from.Reads as free-from-reads
-use Rattle.colour_rows.proofs.places.place_of.Reads as place-of-reads
+use Rattle.colour_rows.proofs.turns.place_of_bit.Reads as place-of-bit-reads
 
 abbrev Inv-loop : tie.InvT-loop
-Inv-loop led row₀ lands₀ free₀ c₀ row lands free c = Turns led row lands free c
+Inv-loop led row₀ lands₀ owners₀ taken₀ c₀ row lands owners taken c = Turns led row lands owners taken c
 
 abbrev μ-loop : tie.MeasureT-loop
-μ-loop led row₀ lands₀ free₀ c₀ row lands free c = length led - c
+μ-loop led row₀ lands₀ owners₀ taken₀ c₀ row lands owners taken c = length led - c
 
 loop-holds : tie.Need-loop-holds Inv-loop μ-loop
-loop-holds c = turns-start (c .before .args .led .now) _ _ refl refl
+loop-holds c = turns-start (c .before .args .led .now) _ _ _ refl refl refl
 
-shared-slice-read-q : tie.Need-shared-slice-read-q Inv-loop μ-loop
-shared-slice-read-q c = c .before .loop-test .taken
+-- the state led to is below 16
+led-small : (c : tie.After-shared-slice-known2 Inv-loop μ-loop)
+    → let a = c .before .before in getD (a .before .before .args .led .now) (a .loop .c) 0 < 16
+led-small c =
+    let a = c .before .before in a .before .before .pre .small (a .loop .c) (c .before .loop-test .taken)
 
-array-share-prefix-row : tie.Need-array-share-prefix-row Inv-loop μ-loop
-array-share-prefix-row c =
-    let i = c .before in
-    omega (arith, i .loop-test .taken, i .before .before .before .pre .few, i .before .loop .inv .long-row)
+taken-small : (c : tie.After-shared-slice-known2 Inv-loop μ-loop) → c .before .before .loop .taken < 65536
+taken-small c =
+    let a = c .before .before in
+    let o = a .loop in
+    let s = a .before .before in
+    below (s .args .led .now) (o .row) (o .lands) (o .owners) (o .taken) (o .c) (o .inv) (s .pre)
+    (c .before .loop-test .taken)
 
--- the c states taken so far
-taken : (c : tie.In-loop Inv-loop μ-loop) → let o = c .before .loop in length (take (o .c) (o .row)) ≡ o .c
-taken i =
-    let o = i .before .loop in
-    first-length (o .row) (o .c) (omega (arith, i .loop-test .taken, i .before .before .before .pre .few))
-    (o .inv .long-row)
+-- the bit that is taken
+bit-is : (c : tie.Joined1 Inv-loop μ-loop)
+    → let a = c .before .before .before in
+    c .if1 .bit ≡ 2 ^ takes (take (a .loop .c) (a .loop .row)) (getD (a .before .before .args .led .now) (a .loop .c) 0)
+bit-is c =
+    let a = c .before .before .before in
+    let o = a .loop in
+    let s = a .before .before in
+    let h = c .before .before .loop-test .taken in
+    ⊎-elim
+    (λ w. w .1 ∙ bit-own (s .args .led .now) (o .row) (o .lands) (o .owners) (o .taken) (o .c) (o .inv) (s .pre) h
+    (w .0 .taken))
+    (λ w. w .1 ∙ bit-low (s .args .led .now) (o .row) (o .lands) (o .owners) (o .taken) (o .c) (o .inv) (s .pre) h
+    (w .0 .left))
+    (c .if1 .came)
 
-slice-aggregate-place-of : tie.Need-slice-aggregate-place-of Inv-loop μ-loop
-slice-aggregate-place-of c = sym (taken (c .before .before))
+bit-small : (c : tie.Joined1 Inv-loop μ-loop) → c .if1 .bit ≤ 65536
+bit-small c =
+    let a = c .before .before .before in
+    let o = a .loop in
+    let s = a .before .before in
+    let h = c .before .before .loop-test .taken in
+    omega (
+      arith,
+      bit-is c,
+      power-small (s .args .led .now) (o .row) (o .lands) (o .owners) (o .taken) (o .c) (o .inv) (s .pre) h,
+    )
 
-free-from-requires : tie.Need-free-from-requires Inv-loop μ-loop
-free-from-requires c κs =
-    let a = c .before .before .before .before in
-    record {
-      few = omega (arith, c .before .before .before .loop-test .taken, a .before .before .pre .few);
-      long = a .loop .inv .long-row;
-      held = a .loop .inv .held;
-    }
+-- the state that is taken
+place-is : (c : tie.After-place-of-bit Inv-loop μ-loop)
+    → let a = c .before .before .before .before .before in
+    c .place-of-bit .result
+    ≡ takes (take (a .loop .c) (a .loop .row)) (getD (a .before .before .args .led .now) (a .loop .c) 0)
+place-is c =
+    let a = c .before .before .before .before .before in
+    let o = a .loop in
+    let s = a .before .before in
+    let h = c .before .before .before .before .loop-test .taken in
+    c .place-of-bit .ensures _
+    (takes-small (s .args .led .now) (o .row) (o .lands) (o .owners) (o .taken) (o .c) (o .inv) (s .pre) h)
+    (bit-is (c .before .before))
 
-cast-x : tie.Need-cast-x Inv-loop μ-loop
-cast-x c =
-    let a = c .before .before .before .before .before .before in
-    omega (arith, c .before .free-from .ensures .1, a .loop .inv .within, a .before .before .pre .few)
+cast-q : tie.Need-cast-q Inv-loop μ-loop
+cast-q c = omega (arith, led-small c)
 
-small : (c : tie.Joined1 Inv-loop μ-loop) → c .before .before .before .before .before .before .loop .c < 16
-small c =
-    let i = c .before .before .before .before .before in
-    omega (arith, i .loop-test .taken, i .before .before .before .pre .few)
+add-low : tie.Need-add-low Inv-loop μ-loop
+add-low c = omega (arith, taken-small c)
 
-array-write-row : tie.Need-array-write-row Inv-loop μ-loop
-array-write-row c = small c
+sub-low : tie.Need-sub-low Inv-loop μ-loop
+sub-low c = omega (arith, taken-small c)
 
-cast-lands : tie.Need-cast-lands Inv-loop μ-loop
-cast-lands c =
-    let p = c .before .before in
-    omega (arith, p .place-of .ensures .1, taken (p .before .before .before), small c)
+shr-if1 : tie.Need-shr-if1 Inv-loop μ-loop
+shr-if1 c = omega (arith, led-small c)
 
-array-write-lands : tie.Need-array-write-lands Inv-loop μ-loop
-array-write-lands c = small c
+shl-bit : tie.Need-shl-bit Inv-loop μ-loop
+shl-bit c = omega (arith, led-small (c .before))
 
-loop-less : tie.Need-loop-less Inv-loop μ-loop
-loop-less c = omega (arith, c .before .before .before .before .before .loop-test .taken)
+add-taken : tie.Need-add-taken Inv-loop μ-loop
+add-taken c = omega (arith, taken-small (c .before .before), bit-small (c .before))
+
+place-of-bit-requires : tie.Need-place-of-bit-requires Inv-loop μ-loop
+place-of-bit-requires c κs = omega (arith, bit-small (c .before))
+
+array-write-owners : tie.Need-array-write-owners Inv-loop μ-loop
+array-write-owners c =
+    let a = c .before .before .before .before .before in
+    let o = a .loop in
+    let s = a .before .before in
+    let h = c .before .before .before .before .loop-test .taken in
+    omega (
+      arith,
+      place-is c,
+      takes-small (s .args .led .now) (o .row) (o .lands) (o .owners) (o .taken) (o .c) (o .inv) (s .pre) h,
+    )
+
+array-read-lands : tie.Need-array-read-lands Inv-loop μ-loop
+array-read-lands c = led-small (c .before .before .before)
 
 loop-again : tie.Need-loop-again Inv-loop μ-loop
 loop-again c =
-    let f = c .before in
-    let p = f .before in
-    let i = p .before .before .before in
-    let a = i .before in
-    let s = a .before .before in
+    let a = c .before .before .before .before .before in
     let o = a .loop in
-    turns-turn (s .args .led .now) (o .row) (o .lands) (o .free) (o .c) (o .inv) (s .pre .few) (i .loop-test .taken)
-    (p .place-of .result) (p .place-of .ensures .0) (f .free-from .result) (f .free-from .ensures .0) (c .if1 .x)
-    (⊎-elim
-    (λ w. w .1 ∙ turns-taken (s .args .led .now) (o .row) (o .lands) (o .free) (o .c) (o .inv) (s .pre .few)
-    (i .loop-test .taken) (p .place-of .result) (p .place-of .ensures .0) (f .free-from .result)
-    (f .free-from .ensures .0) (w .0 .taken))
-    (λ w. w .1 ∙ turns-own (s .args .led .now) (o .row) (o .lands) (o .free) (o .c) (o .inv) (s .pre .few)
-    (i .loop-test .taken) (p .place-of .result) (p .place-of .ensures .0) (f .free-from .result)
-    (f .free-from .ensures .0) (w .0 .left) (omega (arith, p .place-of .ensures .1, taken i)))
-    (c .if1 .came))
-    (f .free-from .ensures .1)
+    let s = a .before .before in
+    let h = c .before .before .before .before .loop-test .taken in
+    turns-turn (s .args .led .now) (o .row) (o .lands) (o .owners) (o .taken) (o .c) (o .inv) (s .pre) h
+    (c .place-of-bit .result) (c .before .before .if1 .bit) (bit-is (c .before .before)) (place-is c)
 
 returns : tie.Need-returns Inv-loop μ-loop
 returns c =
     let a = c .before in
     let s = a .before .before in
-    turns-done (s .args .led .now) (a .loop .row) (a .loop .lands) (a .loop .free) (a .loop .c) (a .loop .inv)
-    (c .loop-test .left)
+    turns-done (s .args .led .now) (a .loop .row) (a .loop .lands) (a .loop .owners) (a .loop .taken) (a .loop .c)
+    (a .loop .inv) (c .loop-test .left)
 
 pub take-in-turn-spec : {M : Type 1} → statement M
 take-in-turn-spec =
     tie.close
-    (tie.spec Inv-loop μ-loop loop-holds shared-slice-read-q array-share-prefix-row slice-aggregate-place-of
-    (λ c κs. search needs) free-from-requires cast-x array-write-row cast-lands array-write-lands (λ c. search needs)
-    loop-less loop-again returns)
+    (tie.spec Inv-loop μ-loop loop-holds (λ c. search needs) cast-q add-low sub-low shr-if1 shl-bit add-taken
+    place-of-bit-requires (λ c. search needs) (λ c. search needs) array-write-owners (λ c. search needs)
+    array-read-lands (λ c. search needs) (λ c. search needs) (λ c. search needs) loop-again returns)

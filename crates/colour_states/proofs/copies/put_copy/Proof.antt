@@ -1,6 +1,7 @@
 use mathlib.Core.Path.{sym}
+use Prim.Native.Nat.{_<_}
 use lib.ListN.{length, take}
-use lib.Seq.{length-take-le}
+use lib.Seq.{length-take-le, getD-take}
 use mathlib.Core.Path.{_≡_}
 use Rattle.colour_states.proofs.RowLoop.{turned-copy}
 use native.Mathlib.Omega.{arith}
@@ -22,7 +23,13 @@ slice-aggregate-take-in-turn : tie.Need-slice-aggregate-take-in-turn
 slice-aggregate-take-in-turn c = sym (prefix c)
 
 take-in-turn-requires : tie.Need-take-in-turn-requires
-take-in-turn-requires c κs = record { few = omega (arith, prefix c, c .before .before .before .pre .few) }
+take-in-turn-requires c κs =
+    let s = c .before .before .before in
+    record {
+      few = omega (arith, prefix c, s .pre .few);
+      small = λ j h. (let l : j < s .args .k = omega (arith, prefix c) in
+          rw (getD-take (s .args .k) (s .args .t1) j 0 l) (s .pre .small j l));
+    }
 
 returns : tie.Need-returns
 returns c =
