@@ -1,2 +1,3 @@
 pub mod BranchNumberLaws
 pub mod Theorems
+pub mod Ties

@@ -1,3 +1,4 @@
 pub mod BuildTheorems
 pub mod RuleNumberLaws
 pub mod Theorems
+pub mod Ties

@@ -1,2 +1,3 @@
 pub mod DescentNumberLaws
 pub mod Theorems
+pub mod Ties

@@ -1,2 +1,3 @@
 pub mod ExportCases
 pub mod Theorems
+pub mod Ties

@@ -1,1 +1,2 @@
 pub mod ExportCases
+pub mod Ties

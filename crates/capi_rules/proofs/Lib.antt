@@ -1,3 +1,4 @@
 pub mod LineLaws
 pub mod ExportLaws
 pub mod Theorems
+pub mod Ties

@@ -1,2 +1,3 @@
 pub mod RunNumberLaws
 pub mod Theorems
+pub mod Ties

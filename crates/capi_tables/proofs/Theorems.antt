@@ -62,9 +62,11 @@ module _ (p r nodeTable stateTable : List ℕ) (n yes₀ yes₁ : ℕ)
         (is-yes (first p r nodeTable stateTable)
         (sameTables (builtNodeTable p) (builtStateTable p r) nodeTable stateTable) (E .answer) (E .done .result)
         (sym check-number ∙ z .0) (sym (E .number .yes-answer) ∙ z .1)),
-    λ B. (check-number ∙ built-passes p r nodeTable stateTable B,
-        E .number .yes-answer ∙ ap (λ (a : Checking). yesOf a yes₀) (yes-check p r nodeTable stateTable (E .answer)
-        (E .done) B)),
+    λ B. (
+      check-number ∙ built-passes p r nodeTable stateTable B,
+      E .number .yes-answer ∙ ap (λ (a : Checking). yesOf a yes₀) (yes-check p r nodeTable stateTable (E .answer)
+          (E .done) B),
+    ),
   )
     where
       is-yes : (k : ℕ) (same : Bool) (a : Checking) → a ≡ checkAnswer k same → k ≡ 0 → yesOf a yes₀ ≡ 1 → a ≡ Yes
@@ -85,30 +87,30 @@ module _ (p r nodeTable stateTable : List ℕ) (n yes₀ yes₁ : ℕ)
 -- ---- the fresh run
 
 module _ (p r vs bs : List ℕ) (n state₀ yes₀ state₁ yes₁ : ℕ) (E : RunExported p r vs bs n state₀ yes₀ state₁ yes₁)
-    where
-  pub run-number : n ≡ firstNo (freshRunChecks p r vs bs)
-  run-number = E .number .result ∙ E .done .number
+  where
+    pub run-number : n ≡ firstNo (freshRunChecks p r vs bs)
+    run-number = E .number .result ∙ E .done .number
 
-  pub run-answers : n ≡ 0 → (state₁ ≡ rootState p r vs bs) × (yes₁ ≡ bitOf (rootAccepted p r vs bs))
-  unfolding freshRun runAnswer
-  run-answers e =
-      let i : E .answer ≡ Ended (rootState p r vs bs) (rootAccepted p r vs bs) =
-      E .done .result ∙ ended (firstNo (freshRunChecks p r vs bs)) (sym run-number ∙ e) in (
-        E .number .state-answer ∙ ap (λ (a : Running). stateOf a state₀) i,
-        E .number .yes-answer ∙ ap (λ (a : Running). markedOf a yes₀) i,
-      )
-    where
-      ended : (k : ℕ) → k ≡ 0 → runAnswer k (rootState p r vs bs) (rootAccepted p r vs bs)
-          ≡ Ended (rootState p r vs bs) (rootAccepted p r vs bs)
-      ended zero z = refl
-      ended (suc k) z = absurd (omega arith)
+    pub run-answers : n ≡ 0 → (state₁ ≡ rootState p r vs bs) × (yes₁ ≡ bitOf (rootAccepted p r vs bs))
+    unfolding freshRun runAnswer
+    run-answers e =
+        let i : E .answer ≡ Ended (rootState p r vs bs) (rootAccepted p r vs bs) =
+        E .done .result ∙ ended (firstNo (freshRunChecks p r vs bs)) (sym run-number ∙ e) in (
+          E .number .state-answer ∙ ap (λ (a : Running). stateOf a state₀) i,
+          E .number .yes-answer ∙ ap (λ (a : Running). markedOf a yes₀) i,
+        )
+      where
+        ended : (k : ℕ) → k ≡ 0 → runAnswer k (rootState p r vs bs) (rootAccepted p r vs bs)
+            ≡ Ended (rootState p r vs bs) (rootAccepted p r vs bs)
+        ended zero z = refl
+        ended (suc k) z = absurd (omega arith)
 
-  pub run-kept : (n ≡ 0 → ⊥) → (state₁ ≡ state₀) × (yes₁ ≡ yes₀)
-  unfolding runningNumber
-  run-kept h =
-      let w = kept (E .answer) (λ e. h (E .number .result ∙ e)) in
-      (E .number .state-answer ∙ w .0, E .number .yes-answer ∙ w .1)
-    where
-      kept : (a : Running) → (runningNumber a ≡ 0 → ⊥) → (stateOf a state₀ ≡ state₀) × (markedOf a yes₀ ≡ yes₀)
-      kept (Ended q m) z = absurd (z refl)
-      kept (NotRun k) z = (refl, refl)
+    pub run-kept : (n ≡ 0 → ⊥) → (state₁ ≡ state₀) × (yes₁ ≡ yes₀)
+    unfolding runningNumber
+    run-kept h =
+        let w = kept (E .answer) (λ e. h (E .number .result ∙ e)) in
+        (E .number .state-answer ∙ w .0, E .number .yes-answer ∙ w .1)
+      where
+        kept : (a : Running) → (runningNumber a ≡ 0 → ⊥) → (stateOf a state₀ ≡ state₀) × (markedOf a yes₀ ≡ yes₀)
+        kept (Ended q m) z = absurd (z refl)
+        kept (NotRun k) z = (refl, refl)
