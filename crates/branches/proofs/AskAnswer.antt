@@ -25,7 +25,7 @@ use Rattle.branches.specs.declared.answers.Branched.{Branched}
 use Rattle.branches.specs.Question.{firstState, branched, branchOn, branchAnswer}
 use Rattle.formats.specs.Plan.{labelsIn}
 use Rattle.formats.specs.Rules.{branchSteps, branchMarks, branchAutomaton}
-use Rattle.node_tables.specs.Cells.{depthCell}
+use Rattle.tables.specs.node_tables.Cells.{depthCell}
 use Rattle.branches.specs.inner.Finish.{firstOf, numbered, toldOf, StateIn, FirstArgs, AnswerArgs}
 use Rattle.tables.specs.declared.answers.Reached.{Reached}
 use Rattle.tables.specs.declared.answers.Climbed.{Climbed}

@@ -30,9 +30,9 @@ use Rattle.formats.proofs.BranchLaws.{BranchPasses, step-below}
 use Rattle.list_laws.proofs.TestLaws.{allBelow-all}
 use Rattle.formats.proofs.InputLaws.{branch-table-passes}
 use Rattle.formats.proofs.BufferLaws.{are-headed}
-use Rattle.node_tables.specs.Cells.{cellForest}
-use Rattle.node_tables.specs.NodeCells.{NodeCells}
-use Rattle.node_tables.proofs.CellLaws.{length-nodeTableOf, link-cells}
+use Rattle.tables.specs.node_tables.Cells.{cellForest}
+use Rattle.tables.specs.node_tables.NodeCells.{NodeCells}
+use Rattle.tables.proofs.node_tables.CellLaws.{length-nodeTableOf, link-cells}
 use Rattle.tables.specs.StateCells.{mapCell}
 use Rattle.branches.proofs.BranchInputs.{length-branchTable}
 

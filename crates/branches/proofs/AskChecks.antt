@@ -19,7 +19,7 @@ use Rattle.formats.specs.Checks.{firstNo}
 use Rattle.formats.specs.Buffers.{headedBuffersFit, branchTables}
 use Rattle.list_laws.proofs.BoolLaws.{and-both, and-no-left, and-no-right}
 use Rattle.formats.proofs.FourChecks.{four, four-1, four-2, four-3}
-use Rattle.node_tables.specs.Cells.{isInSubtreeOn}
+use Rattle.tables.specs.node_tables.Cells.{isInSubtreeOn}
 use Rattle.branches.specs.declared.answers.Reading.{Reading}
 use Rattle.branches.specs.declared.answers.Branching.the-variants.{Refused}
 use Rattle.branches.specs.declared.answers.Branched.{Branched}

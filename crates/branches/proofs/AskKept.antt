@@ -20,7 +20,7 @@ use Rattle.formats.specs.Plan.{nodeCount, labelsIn}
 use Rattle.formats.specs.Rules.{stateCount, labelCount, branchSteps, branchAutomaton}
 use Rattle.formats.specs.Buffers.{headedBuffersFit, branchTables}
 use Rattle.formats.proofs.BufferLaws.{headed-are}
-use Rattle.node_tables.specs.Cells.{depthCell, cellForest}
+use Rattle.tables.specs.node_tables.Cells.{depthCell, cellForest}
 use Rattle.tables.specs.declared.answers.Reached.{Reached}
 use Rattle.tables.specs.Replays.{replayOn}
 use Rattle.tables.proofs.ReplayLaws.{down-below}

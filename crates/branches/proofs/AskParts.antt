@@ -15,7 +15,7 @@ use Rattle.formats.specs.Plan.{nodeCount, labelsIn}
 use Rattle.formats.specs.Rules.{stateCount, labelCount, branchLength, branchSteps, branchMarks}
 use Rattle.formats.proofs.PlanLaws.{labels-part}
 use Rattle.formats.proofs.BranchLaws.{steps-part, branch-marks-part-exact}
-use Rattle.node_tables.specs.Cells.{depthCell, cellForest}
+use Rattle.tables.specs.node_tables.Cells.{depthCell, cellForest}
 use Rattle.tables.specs.declared.answers.Reached.{Reached}
 use Rattle.tables.specs.Climbs.{reached}
 use Rattle.tables.specs.Replays.{stateMove, carryDown, replayOn}

@@ -34,8 +34,8 @@ use Rattle.formats.specs.Buffers.{headedBuffersFit, branchTables}
 use Rattle.list_laws.proofs.TestLaws.{allBelow-all}
 use Rattle.formats.proofs.BufferLaws.{headed-are}
 use Rattle.formats.proofs.InputLaws.{branch-table-passes}
-use Rattle.node_tables.specs.Cells.{depthCell, cellForest, isInSubtreeOn}
-use Rattle.node_tables.proofs.RangeLaws.{cell-links-in-range}
+use Rattle.tables.specs.node_tables.Cells.{depthCell, cellForest, isInSubtreeOn}
+use Rattle.tables.proofs.node_tables.RangeLaws.{cell-links-in-range}
 use Rattle.tables.specs.declared.answers.Reached.{Reached}
 use Rattle.tables.specs.Climbs.{below, reached}
 use Rattle.tables.specs.Replays.{stateMove, carryDown, replayOn}

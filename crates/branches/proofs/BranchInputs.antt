@@ -25,7 +25,7 @@ use Rattle.formats.proofs.PlanLaws.{PlanPasses, length-labelsIn, kinds-planTree
 use Rattle.formats.proofs.PlanLaws.{labels-part, kinds-part}
 use Rattle.formats.proofs.BranchLaws.{BranchPasses, length-branchSteps, step-below, steps-part}
 use Rattle.formats.proofs.InputLaws.{branch-build-passes, label-below}
-use Rattle.node_tables.proofs.CellLaws.{length-nodeTableOf}
+use Rattle.tables.proofs.node_tables.CellLaws.{length-nodeTableOf}
 use Rattle.tables.specs.Answers.{sameTables}
 use Rattle.branches.specs.inner.BranchTests.{TablesTested}
 use Rattle.branches.specs.inner.Filled.{FillArgs, TablesFilled, BranchFilled, PartArgs, BranchWritten}

@@ -14,9 +14,9 @@ use Rattle.trees.proofs.NodeLaws.{length-labels, length-kinds}
 use Rattle.trees.proofs.PostorderLaws.{tree-postorder}
 use Rattle.formats.specs.Rules.{wordAutomaton}
 use Rattle.formats.specs.Checks.{nodeTableLength}
-use Rattle.node_tables.specs.Cells.{NodeTableArgs}
-use Rattle.node_tables.specs.NodeCells.{NodeCells}
-use Rattle.node_tables.proofs.CellLaws.{take-table, link-cells}
+use Rattle.tables.specs.node_tables.Cells.{NodeTableArgs}
+use Rattle.tables.specs.node_tables.NodeCells.{NodeCells}
+use Rattle.tables.proofs.node_tables.CellLaws.{take-table, link-cells}
 use Rattle.tables.proofs.MapTableLaws.{passes-written}
 use Rattle.branches.specs.inner.BranchGiven.{BranchGiven, BranchArgs, StatesFrom, Stepped}
 use Rattle.branches.specs.inner.Maps.{Mapped}

@@ -13,8 +13,8 @@ use borrow.Author.Tests.{leb-true, le-leb, lt-leb, ltb-true, lt-ltb, le-ltb}
 use Rattle.trees.specs.Numbering.{isInSubtree}
 use Rattle.list_laws.proofs.Choice.{le-or}
 use Rattle.list_laws.proofs.BoolLaws.{and-both, and-left, and-right, and-no-left, and-no-right}
-use Rattle.node_tables.specs.Cells.{sizeCell}
-use Rattle.node_tables.specs.Cells.{isInSubtreeOn}
+use Rattle.tables.specs.node_tables.Cells.{sizeCell}
+use Rattle.tables.specs.node_tables.Cells.{isInSubtreeOn}
 use Rattle.branches.specs.declared.answers.Reading.the-variants.{WithUpper, BelowUpper}
 use Rattle.branches.specs.inner.Finish.{firstOf, numbered}
 

@@ -22,7 +22,7 @@ use Rattle.trees.proofs.JumpLaws.{jump-in, jump-above}
 use Rattle.list_laws.proofs.RowLaws.{stride}
 use Rattle.trees.proofs.BranchMapLaws.{branchMap-root, branchMap-near, branchMap-far, branchMap-below}
 use Rattle.formats.specs.Checks.{stateTableLength}
-use Rattle.node_tables.specs.Cells.{parentCell, jumpCell}
+use Rattle.tables.specs.node_tables.Cells.{parentCell, jumpCell}
 use Rattle.tables.specs.StateCells.{mapCell}
 use Rattle.tables.specs.inner.Rows.{RowIn, Rowed}
 use Rattle.tables.specs.inner.MapTable.{MapsWritten}

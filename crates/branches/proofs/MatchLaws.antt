@@ -17,7 +17,7 @@ use Rattle.list_laws.specs.Tests.{sameList}
 use Rattle.formats.specs.Rules.{wordAutomaton}
 use Rattle.formats.specs.Checks.{nodeTableLength}
 use Rattle.list_laws.proofs.TestLaws.{sameList-true}
-use Rattle.node_tables.proofs.CellLaws.{length-nodeTableOf, link-cells}
+use Rattle.tables.proofs.node_tables.CellLaws.{length-nodeTableOf, link-cells}
 use Rattle.tables.specs.Answers.{sameTables}
 use Rattle.tables.specs.inner.TableTests.{statesSame, mapsSame}
 use Rattle.tables.proofs.TableTestLaws.{table-test}

@@ -21,7 +21,7 @@ use Rattle.trees.proofs.NodeLaws.{up, size-pos, length-labels}
 use Rattle.list_laws.proofs.RowLaws.{stride, cell-in, cells-apart}
 use Rattle.trees.proofs.BranchMapLaws.{branchState-root, branchState-down, branchState-below}
 use Rattle.formats.specs.Checks.{stateTableLength}
-use Rattle.node_tables.specs.Cells.{parentCell}
+use Rattle.tables.specs.node_tables.Cells.{parentCell}
 use Rattle.tables.specs.StateCells.{stateCell}
 use Rattle.branches.specs.inner.BranchGiven.{BranchGiven, BranchArgs, StatesFrom, Stepped}
 

@@ -13,7 +13,7 @@ use native.Mathlib.Omega.{arith}
 use lib.ListN.{getD}
 use Rattle.trees.specs.Tables.{branchState, branchMap}
 use Rattle.trees.proofs.BranchMapLaws.{branchMap-root}
-use Rattle.node_tables.specs.Cells.{parentCell}
+use Rattle.tables.specs.node_tables.Cells.{parentCell}
 use Rattle.tables.specs.StateCells.{stateCell}
 use Rattle.tables.specs.inner.Compare.{rowIs}
 use Rattle.tables.proofs.CompareLaws.{rowIs-ext}

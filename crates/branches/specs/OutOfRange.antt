@@ -1,7 +1,7 @@
 -- Values that lead outside the plan, the states or the labels.
 --
 -- BranchOutOfRange p r nodeTable bytes == such a value of what is lent with a branch question: what 18 means. Tables as built have none
---   (proofs/AskAstray).
+--   (proofs/AskRange).
 --
 -- "18 means that a value read leads outside the plan, the states or the labels, or a climb doesn't rise."
 -- Assumes nothing.
@@ -11,7 +11,7 @@ use lib.ListN.{getD}
 use Rattle.trees.specs.LinkOutOfRange.{LinkOutOfRange}
 use Rattle.formats.specs.Plan.{nodeCount, labelsIn}
 use Rattle.formats.specs.Rules.{stateCount, labelCount, branchAutomaton}
-use Rattle.node_tables.specs.Cells.{cellForest}
+use Rattle.tables.specs.node_tables.Cells.{cellForest}
 use Rattle.tables.specs.StateCells.{mapCell}
 
 pub data BranchOutOfRange (p r nodeTable stateTable : List ℕ) : Type 0 where

@@ -24,7 +24,7 @@ use Rattle.formats.specs.Rules.{stateCount, branchAutomaton}
 use Rattle.formats.specs.Checks.{firstNo, branchTableChecks}
 use Rattle.formats.specs.Built.{nodeTablePart, builtNodeTable, BranchBuilt}
 use Rattle.formats.specs.Buffers.{headedBuffersFit, branchTables}
-use Rattle.node_tables.specs.Cells.{depthCell, cellForest, isInSubtreeOn}
+use Rattle.tables.specs.node_tables.Cells.{depthCell, cellForest, isInSubtreeOn}
 use Rattle.tables.specs.StateCells.{mapCell}
 use Rattle.branches.specs.declared.answers.Reading.{Reading}
 use Rattle.branches.specs.declared.answers.Reading.the-variants.{WithUpper, BelowUpper}

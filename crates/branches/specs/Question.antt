@@ -2,7 +2,7 @@
 --
 -- Reading (src/answers) == which word is read: WithUpper, with the upper node's label; BelowUpper, from below the upper node
 -- check 17 goes by the headers: headedBuffersFit branchTables (crate formats, Buffers)
--- check 16 goes by the lent size of the upper node u: isInSubtreeOn nodeTable u l (crate node_tables, Cells)
+-- check 16 goes by the lent size of the upper node u: isInSubtreeOn nodeTable u l (tables/node_tables, Cells)
 -- firstState reading .. == the state that the word below the upper node starts in: after its label, or 0, for which nothing is read
 -- branchOn .. == the answer on these tables: none where a value read leads outside the plan, the states or the labels, or a climb
 --   does not rise (check 18)
@@ -25,7 +25,7 @@ use Rattle.formats.specs.Plan.{nodeCount, labelsIn}
 use Rattle.formats.specs.Rules.{stateCount, labelCount, branchSteps, branchAutomaton}
 use Rattle.formats.specs.Checks.{Check, check, firstNo}
 use Rattle.formats.specs.Buffers.{headedBuffersFit, branchTables}
-use Rattle.node_tables.specs.Cells.{depthCell, isInSubtreeOn}
+use Rattle.tables.specs.node_tables.Cells.{depthCell, isInSubtreeOn}
 use Rattle.tables.specs.Replays.{replayOn}
 use Rattle.branches.specs.declared.answers.Reading.{Reading}
 use Rattle.branches.specs.declared.answers.Reading.the-variants.{WithUpper, BelowUpper}

@@ -1,11 +1,11 @@
 // The branch question with the upper node's label, as C and Rust call it: the other reading of `whatif_branch`, which
-// capi_branches exports. It has an object of its own, so that each reading's question is laid out in its call: in one
-// object both would call one copy of it, with all that is lent and told passed through memory.
+// capi exports (branch_calls). It has an object of its own, so that the compiler inlines each reading's question: in one
+// object both would call one copy of it, with all arguments and results passed through memory.
 //     whatif_branch_with_upper   the word from the upper node down to the lower, both included
 use branches::ask::ask_branch_with_upper;
-use capi_branches::calls::ask_number;
+use capi::branch_calls::ask_number;
 ghost use Rattle.branches.specs.declared.answers.Reading.the-variants.{WithUpper};
-ghost use Rattle.capi_branches.specs.BranchExported.{AskExported};
+ghost use Rattle.capi.specs.branch_calls.BranchExported.{AskExported};
 
 // The branch question with the upper node's label: the word from node `upper` down to node `lower`, both included.
 #[no_mangle]

@@ -1,1 +1,2 @@
-pub mod DescentExported
+pub mod branch_calls
+pub mod rule_calls

@@ -30,7 +30,7 @@ use Rattle.session.specs.Records.{recordOf, valid}
 use Rattle.session.specs.Answers.{callAnswer, startAnswer, advanceAnswer, readAnswer}
 use Rattle.session.specs.Promises.{answerOn, recordOn, refusalOn, CallDone, LoadDone}
 use Rattle.records.specs.Layout.{recordLength, stepBytes, encoded, decoded, laidOut, validBytes}
-use Rattle.capi_numbers.specs.Numbers.{bitOf}
+use Rattle.capi.specs.numbers.Numbers.{bitOf}
 use Rattle.capi_session.specs.SessionExported.{answerFor, answerNumber, unlessRefused, recordFor, CallExported, loadNumber, LoadExported, partsOf}
 use Rattle.capi_session.specs.SessionExported.{StartExported, finishedOf, AdvanceExported, Places, answeredPlaces, ReadExported}
 use Rattle.capi_session.specs.Stored.{places, Stored, DoneStored, StartStored, AdvanceStored, ReadStored}

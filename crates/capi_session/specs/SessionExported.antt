@@ -20,7 +20,7 @@ use Rattle.model.specs.LeftOpen.{LeftOpen}
 use Rattle.session.specs.Records.{recordOf, valid}
 use Rattle.session.specs.Promises.{answerOn, recordOn, refusalOn}
 use Rattle.records.specs.Layout.{encoded, decoded, laidOut, validBytes}
-use Rattle.capi_numbers.specs.Numbers.{bitOf}
+use Rattle.capi.specs.numbers.Numbers.{bitOf}
 
 -- "bytes that break it get 1"
 unfoldable pub answerFor : List ℕ → Call → Answer

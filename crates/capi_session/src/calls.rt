@@ -1,5 +1,5 @@
 // The session's five calls on record bytes.
-use capi_numbers::numbers::bit;
+use capi::numbers::bit;
 use records::bytes::decode;
 use records::bytes::encode;
 use records::bytes::encode_step;

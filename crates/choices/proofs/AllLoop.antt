@@ -15,11 +15,11 @@ use Rattle.list_laws.proofs.BoolLaws.{and-next, and-no-left}
 use Rattle.list_laws.proofs.RowLaws.{length-tabulate, getD-tabulate}
 use Rattle.tables.specs.Climbs.{View}
 use Rattle.questions.specs.inner.PartArgs.{partView}
-use Rattle.joining.specs.Capped.{countLimit, capped}
-use Rattle.counting.specs.declared.carry.Carried.{Carried}
-use Rattle.part_counts.specs.PartOn.{partOkOn, partLinksOn, partCountOn}
-use Rattle.part_counts.specs.PartsOn.{partsOk, linksFrom, rowOn, rowsFrom}
-use Rattle.part_counts.specs.CountOn.{openIn}
+use Rattle.choices.specs.node_counts.Capped.{countLimit, capped}
+use Rattle.choices.specs.declared.part_steps.carry.Carried.{Carried}
+use Rattle.choices.specs.question_counts.PartOn.{partOkOn, partLinksOn, partCountOn}
+use Rattle.choices.specs.question_counts.PartsOn.{partsOk, linksFrom, rowOn, rowsFrom}
+use Rattle.choices.specs.question_counts.CountOn.{openIn}
 use Rattle.choices.specs.inner.Parts.{before, NextArgs, NextCounted, AllArgs, AllCounted}
 
 no-yes : (A : Type 0) → false ≡ true → A

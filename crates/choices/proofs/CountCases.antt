@@ -23,11 +23,11 @@ use Rattle.questions.specs.inner.PartArgs.{partView}
 use Rattle.questions.specs.RootsAnswers.{rootedOf, rootsGiven}
 use Rattle.questions.specs.Promises.{RootsAre, RootsDone}
 use Rattle.questions.proofs.PlaceLaws.{to-below, to-some, below-entry}
-use Rattle.joining.specs.Capped.{countLimit}
-use Rattle.counting.specs.declared.carry.Carried.{Carried}
-use Rattle.counting.specs.Side.{RowArgs, RowCopied}
-use Rattle.part_counts.specs.PartsOn.{partsOk, rowsFrom}
-use Rattle.part_counts.specs.CountOn.{openIn, rootsIn, listIn, statesInside, allOk, isCountable, countOf, linksOf}
+use Rattle.choices.specs.node_counts.Capped.{countLimit}
+use Rattle.choices.specs.declared.part_steps.carry.Carried.{Carried}
+use Rattle.choices.specs.part_steps.Side.{RowArgs, RowCopied}
+use Rattle.choices.specs.question_counts.PartsOn.{partsOk, rowsFrom}
+use Rattle.choices.specs.question_counts.CountOn.{openIn, rootsIn, listIn, statesInside, allOk, isCountable, countOf, linksOf}
 use Rattle.choices.specs.declared.count.Counted.{Counted}
 use Rattle.choices.specs.Promise.{refusedWith, countedAt}
 use Rattle.choices.specs.inner.Part.{Runs}

@@ -21,9 +21,9 @@ use Rattle.formats.proofs.BufferLaws.{headed-are, are-limits}
 use Rattle.list_laws.proofs.BoolLaws.{and-left, and-right}
 use Rattle.tables.specs.Climbs.{View}
 use Rattle.questions.specs.PartAnswers.{viewIn}
-use Rattle.joining.specs.Capped.{countLimit}
-use Rattle.part_counts.specs.CountOn.{countView, rootsIn, listIn, isCountable, listedChecks, countChecks, countNumber}
-use Rattle.part_counts.proofs.BuiltCounts.{fit-17, listed-are}
+use Rattle.choices.specs.node_counts.Capped.{countLimit}
+use Rattle.choices.specs.question_counts.CountOn.{countView, rootsIn, listIn, isCountable, listedChecks, countChecks, countNumber}
+use Rattle.choices.proofs.question_counts.BuiltCounts.{fit-17, listed-are}
 use Rattle.choices.specs.declared.count.Counted.{Counted}
 use Rattle.choices.specs.Promise.{refusedWith, countedAt, countResult}
 use Rattle.choices.specs.inner.Count.{countedOn, RunArgs}

@@ -16,7 +16,7 @@ use Rattle.list_laws.specs.Tests.{allBelow}
 use Rattle.list_laws.proofs.BoolLaws.{true-false, and-left}
 use Rattle.list_laws.proofs.TestLaws.{allBelow-not}
 use Rattle.list_laws.proofs.RowLaws.{Cell, cell-split}
-use Rattle.node_tables.specs.Cells.{depthCell, sizeCell}
+use Rattle.tables.specs.node_tables.Cells.{depthCell, sizeCell}
 use Rattle.tables.specs.StateCells.{stateCell}
 use Rattle.tables.specs.declared.answers.Reached.{Reached}
 use Rattle.tables.specs.Climbs.{View, climbOn}
@@ -28,12 +28,12 @@ use Rattle.questions.proofs.FitLaws.{Fit, fit-facts, given-yes, given-are}
 use Rattle.questions.proofs.PlaceLaws.{to-below, below-entry}
 use Rattle.questions.proofs.RootsRange.{fork-test, roots-out-of-range}
 use Rattle.questions.proofs.PartRange.{climb-none}
-use Rattle.counting.specs.Carry.{isReached, allArrive}
-use Rattle.counting.specs.Side.{sideOk}
-use Rattle.counting.specs.Fork.{forkOk}
-use Rattle.part_counts.specs.PartOn.{endLabel, leftOn, childrenOn, placeOn, partOkOn}
-use Rattle.part_counts.specs.PartsOn.{partsOk}
-use Rattle.part_counts.specs.CountOn.{openIn, rootsIn, statesInside, allOk, isCountable}
+use Rattle.choices.specs.part_steps.Carry.{isReached, allArrive}
+use Rattle.choices.specs.part_steps.Side.{sideOk}
+use Rattle.choices.specs.part_steps.Fork.{forkOk}
+use Rattle.choices.specs.question_counts.PartOn.{endLabel, leftOn, childrenOn, placeOn, partOkOn}
+use Rattle.choices.specs.question_counts.PartsOn.{partsOk}
+use Rattle.choices.specs.question_counts.CountOn.{openIn, rootsIn, statesInside, allOk, isCountable}
 
 module _ (X : View) where
   abbrev Lost : Type 0

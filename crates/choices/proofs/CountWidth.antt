@@ -13,15 +13,15 @@ use lib.Seq.{getD-append-add}
 use borrow.Author.Tests.{ne-eqb}
 use Rattle.list_laws.proofs.RowLaws.{length-tabulate, getD-tabulate}
 use Rattle.tables.specs.Climbs.{View}
-use Rattle.counts.specs.Sums.{sumTo, one}
-use Rattle.counts.proofs.SumLaws.{sum-ext, sum-zero}
-use Rattle.joining.specs.Capped.{capped}
-use Rattle.joining.specs.Join.{ledTo, waysTo}
-use Rattle.counting.specs.Side.{sideCount}
-use Rattle.counting.specs.Fork.{forkCount}
-use Rattle.counting.specs.Root.{rootCount}
-use Rattle.part_counts.specs.PartOn.{partCountOn}
-use Rattle.part_counts.specs.PartsOn.{rowOn, rowsFrom}
+use Rattle.choices.specs.assignments.Sums.{sumTo, one}
+use Rattle.choices.proofs.assignments.SumLaws.{sum-ext, sum-zero}
+use Rattle.choices.specs.node_counts.Capped.{capped}
+use Rattle.choices.specs.node_counts.Join.{ledTo, waysTo}
+use Rattle.choices.specs.part_steps.Side.{sideCount}
+use Rattle.choices.specs.part_steps.Fork.{forkCount}
+use Rattle.choices.specs.part_steps.Root.{rootCount}
+use Rattle.choices.specs.question_counts.PartOn.{partCountOn}
+use Rattle.choices.specs.question_counts.PartsOn.{rowOn, rowsFrom}
 
 sum-none : (n : ℕ) (f : ℕ → ℕ) → ((i : ℕ) → f i ≡ 0) → sumTo n f ≡ 0
 sum-none n f h = sum-ext n f (λ i. 0) (λ i g. h i) ∙ sum-zero n

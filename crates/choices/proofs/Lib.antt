@@ -10,3 +10,5 @@ pub mod CountRange
 pub mod CountWidth
 pub mod Theorem
 pub mod Theorems
+pub mod assignments
+pub mod question_counts

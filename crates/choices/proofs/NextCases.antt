@@ -12,10 +12,10 @@ use lib.Seq.{length-take-le}
 use Rattle.list_laws.proofs.RowLaws.{length-tabulate}
 use Rattle.tables.specs.Climbs.{View}
 use Rattle.questions.specs.inner.PartArgs.{partView}
-use Rattle.counting.specs.declared.carry.Carried.{Carried}
-use Rattle.part_counts.specs.PartOn.{firstLabel, endLabel, partOkOn, partCountOn}
-use Rattle.part_counts.specs.PartsOn.{rowOn}
-use Rattle.part_counts.specs.CountOn.{openIn}
+use Rattle.choices.specs.declared.part_steps.carry.Carried.{Carried}
+use Rattle.choices.specs.question_counts.PartOn.{firstLabel, endLabel, partOkOn, partCountOn}
+use Rattle.choices.specs.question_counts.PartsOn.{rowOn}
+use Rattle.choices.specs.question_counts.CountOn.{openIn}
 use Rattle.choices.specs.inner.Part.{PartNeeds, PartCounted}
 use Rattle.choices.specs.inner.Parts.{before, PutArgs, RowPut, NextArgs, RowArgs, RowCounted, NextCounted}
 use Rattle.choices.proofs.RowLoop.{put-rows}

@@ -13,19 +13,19 @@ use lib.ListN.{length, getD}
 use borrow.Author.Tests.{lt-ltb, le-ltb, le-leb, lt-leb, eq-eqb, ne-eqb, ltb-true}
 use Rattle.list_laws.proofs.BoolLaws.{and-both, and-left, and-no-left, and-no-right}
 use Rattle.list_laws.proofs.RowLaws.{tabulate-of}
-use Rattle.node_tables.specs.Cells.{depthCell, sizeCell}
+use Rattle.tables.specs.node_tables.Cells.{depthCell, sizeCell}
 use Rattle.tables.specs.Climbs.{View}
 use Rattle.questions.specs.inner.Scans.{lastIn}
 use Rattle.questions.specs.inner.PartArgs.{partView, pathOf}
 use Rattle.questions.proofs.ScanLaws.{last-bound, last-covers}
-use Rattle.joining.specs.Capped.{countLimit, capped}
-use Rattle.joining.specs.Join.{TableArgs}
-use Rattle.counting.specs.declared.carry.Carried.{Carried}
-use Rattle.counting.specs.Fork.{forkOk, ForkArgs}
-use Rattle.counting.specs.Root.{rootOk, rootLinks, rootCount, RootArgs, RootDone}
-use Rattle.part_counts.specs.PartOn.{firstLabel, endLabel, leftOn, placeOn}
-use Rattle.part_counts.specs.PartOn.{partOkOn, partLinksOn, partCountOn}
-use Rattle.part_counts.specs.PartsOn.{rowOn}
+use Rattle.choices.specs.node_counts.Capped.{countLimit, capped}
+use Rattle.choices.specs.node_counts.Join.{TableArgs}
+use Rattle.choices.specs.declared.part_steps.carry.Carried.{Carried}
+use Rattle.choices.specs.part_steps.Fork.{forkOk, ForkArgs}
+use Rattle.choices.specs.part_steps.Root.{rootOk, rootLinks, rootCount, RootArgs, RootDone}
+use Rattle.choices.specs.question_counts.PartOn.{firstLabel, endLabel, leftOn, placeOn}
+use Rattle.choices.specs.question_counts.PartOn.{partOkOn, partLinksOn, partCountOn}
+use Rattle.choices.specs.question_counts.PartsOn.{rowOn}
 use Rattle.choices.specs.declared.part.Places.{Places}
 use Rattle.choices.specs.inner.Part.{noPlaces, childrenIn, PlacesAre, PartNeeds, PartCounted}
 use Rattle.choices.proofs.SameCounts.{root-ok-same, root-links-same, root-count-same}

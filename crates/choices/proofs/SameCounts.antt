@@ -8,18 +8,18 @@ use mathlib.Core.List.{List}
 use mathlib.Core.Option.{Option}
 use lib.Dec.{eqb}
 use lib.ListN.{getD}
-use Rattle.node_tables.specs.Cells.{depthCell}
+use Rattle.tables.specs.node_tables.Cells.{depthCell}
 use Rattle.tables.specs.declared.answers.Reached.{Reached}
 use Rattle.tables.specs.Climbs.{View, climbOn}
 use Rattle.questions.specs.inner.PartArgs.{pathOf}
 use Rattle.questions.proofs.PartViews.{climb-same}
-use Rattle.counts.specs.Sums.{sumTo, one}
-use Rattle.counts.proofs.SumLaws.{sum-ext}
-use Rattle.joining.specs.Join.{waysTo}
-use Rattle.counting.specs.Carry.{stateIn, linksIn, isReached, arrivesAt, allArrive}
-use Rattle.counting.specs.Side.{countIn, sideOk, sideLinks, sideCount}
-use Rattle.counting.specs.Fork.{forkOk, forkLinks, forkCount}
-use Rattle.counting.specs.Root.{rootOk, rootLinks, rootCount}
+use Rattle.choices.specs.assignments.Sums.{sumTo, one}
+use Rattle.choices.proofs.assignments.SumLaws.{sum-ext}
+use Rattle.choices.specs.node_counts.Join.{waysTo}
+use Rattle.choices.specs.part_steps.Carry.{stateIn, linksIn, isReached, arrivesAt, allArrive}
+use Rattle.choices.specs.part_steps.Side.{countIn, sideOk, sideLinks, sideCount}
+use Rattle.choices.specs.part_steps.Fork.{forkOk, forkLinks, forkCount}
+use Rattle.choices.specs.part_steps.Root.{rootOk, rootLinks, rootCount}
 
 module _ (X : View) where
   arrive-same : (h t q : ℕ) → arrivesAt (pathOf X) h t q ≡ arrivesAt X h t q

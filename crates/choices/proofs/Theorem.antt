@@ -26,26 +26,26 @@ use Rattle.formats.specs.Buffers.{headedBuffersFit, ruleTables}
 use Rattle.formats.specs.Built.{AsBuilt}
 use Rattle.formats.proofs.BufferLaws.{Headed, headed-are}
 use Rattle.tables.specs.Climbs.{View}
-use Rattle.ready.specs.Members.{roots}
-use Rattle.ready.specs.Parts.{Given, questionLinks}
+use Rattle.questions.specs.ready.Members.{roots}
+use Rattle.questions.specs.ready.Parts.{Given, questionLinks}
 use Rattle.questions.specs.RootsAnswers.{rootsFit}
 use Rattle.questions.specs.Promises.{RootsAre, Reads}
 use Rattle.questions.specs.OutOfRange.{PartOutOfRange}
 use Rattle.questions.proofs.FitLaws.{fit-all, given-are}
-use Rattle.counts.specs.Sums.{sumTo}
-use Rattle.counts.specs.Assignments.{counted}
-use Rattle.counts.specs.PartCounts.{countAt, tallies}
-use Rattle.counts.proofs.SumLaws.{sum-ext}
-use Rattle.joining.specs.Capped.{countLimit}
-use Rattle.counting.proofs.ForkLaws.{zeros-at}
-use Rattle.part_counts.specs.PartsOn.{rowsFrom}
-use Rattle.part_counts.specs.CountOn.{openIn, countView, rootsIn, listIn, statesInside, allOk, isCountable}
-use Rattle.part_counts.specs.CountOn.{countOf, linksOf, listedChecks, countNumber}
-use Rattle.part_counts.proofs.BuiltCounts.{fit-17, listed-are}
-use Rattle.part_counts.proofs.RuleCounts.{rule-roots, rule-countable, rule-links}
-use Rattle.part_counts.proofs.RuleTotals.{rule-exact}
-use Rattle.part_counts.proofs.Theorems.{as-built-roots, as-built-countable, as-built-links}
-use Rattle.part_counts.proofs.Theorems.{as-built-counts, as-built-sum}
+use Rattle.choices.specs.assignments.Sums.{sumTo}
+use Rattle.choices.specs.assignments.Assignments.{counted}
+use Rattle.choices.specs.assignments.PartCounts.{countAt, tallies}
+use Rattle.choices.proofs.assignments.SumLaws.{sum-ext}
+use Rattle.choices.specs.node_counts.Capped.{countLimit}
+use Rattle.choices.proofs.part_steps.ForkLaws.{zeros-at}
+use Rattle.choices.specs.question_counts.PartsOn.{rowsFrom}
+use Rattle.choices.specs.question_counts.CountOn.{openIn, countView, rootsIn, listIn, statesInside, allOk, isCountable}
+use Rattle.choices.specs.question_counts.CountOn.{countOf, linksOf, listedChecks, countNumber}
+use Rattle.choices.proofs.question_counts.BuiltCounts.{fit-17, listed-are}
+use Rattle.choices.proofs.question_counts.RuleCounts.{rule-roots, rule-countable, rule-links}
+use Rattle.choices.proofs.question_counts.RuleTotals.{rule-exact}
+use Rattle.choices.proofs.question_counts.Theorems.{as-built-roots, as-built-countable, as-built-links}
+use Rattle.choices.proofs.question_counts.Theorems.{as-built-counts, as-built-sum}
 use Rattle.choices.specs.declared.count.Counted.{Counted}
 use Rattle.choices.specs.Promise.{refusedWith, countedWith, countedAt, countResult, ruledCount, triedCount}
 use Rattle.choices.specs.Promise.{CountDone}

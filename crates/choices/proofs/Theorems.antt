@@ -19,14 +19,14 @@ use Rattle.formats.specs.Checks.{firstNo}
 use Rattle.formats.specs.Buffers.{ruleTables}
 use Rattle.formats.specs.Built.{AsBuilt}
 use Rattle.formats.proofs.BufferLaws.{headed-are}
-use Rattle.ready.specs.Members.{roots}
-use Rattle.ready.specs.Parts.{questionLinks}
-use Rattle.counts.specs.Sums.{sumTo, one}
-use Rattle.counts.specs.Assignments.{counted}
-use Rattle.counts.proofs.Theorems.{none-open}
-use Rattle.part_counts.specs.CountOn.{listedChecks}
-use Rattle.part_counts.proofs.BuiltCounts.{fit-17}
-use Rattle.part_counts.proofs.Theorems.{as-built-roots}
+use Rattle.questions.specs.ready.Members.{roots}
+use Rattle.questions.specs.ready.Parts.{questionLinks}
+use Rattle.choices.specs.assignments.Sums.{sumTo, one}
+use Rattle.choices.specs.assignments.Assignments.{counted}
+use Rattle.choices.proofs.assignments.Theorems.{none-open}
+use Rattle.choices.specs.question_counts.CountOn.{listedChecks}
+use Rattle.choices.proofs.question_counts.BuiltCounts.{fit-17}
+use Rattle.choices.proofs.question_counts.Theorems.{as-built-roots}
 use Rattle.choices.specs.declared.count.Counted.{Counted}
 use Rattle.choices.specs.Promise.{CountDone}
 use Rattle.choices.proofs.CountChecks.{number-listed}

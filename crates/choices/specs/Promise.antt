@@ -22,15 +22,15 @@ use Rattle.formats.specs.Rules.{stateCount, labelCount, ruleAutomaton}
 use Rattle.formats.specs.Checks.{firstNo}
 use Rattle.formats.specs.Built.{AsBuilt}
 use Rattle.tables.specs.Climbs.{View}
-use Rattle.ready.specs.Members.{roots}
-use Rattle.ready.specs.Parts.{Given, questionLinks}
+use Rattle.questions.specs.ready.Members.{roots}
+use Rattle.questions.specs.ready.Parts.{Given, questionLinks}
 use Rattle.questions.specs.Promises.{RootsAre, Reads}
 use Rattle.questions.specs.OutOfRange.{PartOutOfRange}
-use Rattle.counts.specs.Sums.{sumTo}
-use Rattle.counts.specs.Assignments.{counted}
-use Rattle.counts.specs.PartCounts.{countAt, tallies}
-use Rattle.joining.specs.Capped.{countLimit}
-use Rattle.part_counts.specs.CountOn.{openIn, countView, rootsIn, listIn, countOf, linksOf, listedChecks, countNumber}
+use Rattle.choices.specs.assignments.Sums.{sumTo}
+use Rattle.choices.specs.assignments.Assignments.{counted}
+use Rattle.choices.specs.assignments.PartCounts.{countAt, tallies}
+use Rattle.choices.specs.node_counts.Capped.{countLimit}
+use Rattle.choices.specs.question_counts.CountOn.{openIn, countView, rootsIn, listIn, countOf, linksOf, listedChecks, countNumber}
 use Rattle.choices.specs.declared.count.Counted.{Counted}
 
 abbrev pub refusedWith : ℕ → Counted
@@ -49,8 +49,7 @@ countResult p r nodeTable stateTable vs =
     (countedAt (countView p r nodeTable stateTable) vs (listIn (rootsIn (countView p r nodeTable stateTable) vs)))
     (refusedWith (countNumber p r nodeTable stateTable vs))
 
--- "reckoned part by part", on given bytes: nothing is cut off, their sum is K to the power m there too (part_counts,
--- RuleTotals)
+-- "reckoned part by part", on given bytes: nothing is cut off, their sum is K to the power m there too (proofs/question_counts/RuleTotals)
 abbrev pub ruledCount : Given → ℕ → List ℕ → Counted
 ruledCount G k vs =
     countedWith (countAt (tallies G k (openIn vs) (roots (G .tree) vs)) (size (G .tree) - 1))

@@ -1,5 +1,5 @@
 // The checks of a count before the last: 17, 12, 13, 15 and 26.
-use counting::limit::assignments_fit;
+use crate::part_steps::limit::assignments_fit;
 use formats::buffers::headers_fit;
 use formats::buffers::rule_buffers_fit;
 use formats::bytes::read32;
@@ -10,7 +10,7 @@ ghost use mathlib.Core.Path.{_≡_};
 ghost use lib.ListN.{length};
 ghost use Rattle.formats.specs.Checks.{firstNo};
 ghost use Rattle.formats.specs.Buffers.{headedBuffersFit, ruleTables};
-ghost use Rattle.part_counts.specs.CountOn.{listedChecks};
+ghost use Rattle.choices.specs.question_counts.CountOn.{listedChecks};
 
 // Check 17 of a rule table, where N, S and K are those of the headers.
 pub fn rule_headers_fit(plan: &[u8], rules: &[u8], node_table: &[u16], state_table: &[u8]) -> bool

@@ -1,7 +1,7 @@
 // The whole count: the checks, the roots of the parts, and the counts of the last part.
 use crate::checks::check_count;
+use crate::part_steps::side::copy_row;
 use crate::parts::all_parts;
-use counting::side::copy_row;
 use formats::bytes::read32;
 use formats::rules::all_below;
 use questions::roots::roots;

@@ -1,8 +1,8 @@
 // The counts of one part, after those of the earlier roots, on whatever is lent.
-use counting::carry::Carried;
-use counting::root::root_counts;
-use node_tables::moves::size_at;
+use crate::part_steps::carry::Carried;
+use crate::part_steps::root::root_counts;
 use questions::part::last_below;
+use tables::node_tables::moves::size_at;
 ghost use mathlib.Core.Path.{_≡_};
 ghost use Prim.Native.Nat.{ℕ, _<_};
 ghost use lib.ListN.{length};

@@ -1,6 +1,6 @@
 // The counts of all parts, in rising node number, on whatever is lent.
 use crate::part::part_counts;
-use counting::carry::Carried;
+use crate::part_steps::carry::Carried;
 use formats::lists::is_listed;
 ghost use mathlib.Core.Path.{_≡_};
 ghost use Prim.Native.Nat.{ℕ, _≤_};

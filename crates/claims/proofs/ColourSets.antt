@@ -8,7 +8,7 @@
 --     sets-never-18            18 never comes on tables as built
 --     sets-short-asked, sets-27-asked   17 where the tables of colours are too short for a question, then 27
 -- Colours of any count of states, words and the next drop: Colours. The promises of the calls themselves, on every
--- input, are their contracts (crate capi_colour_sets).
+-- input, are their contracts (capi_colours/rule_calls).
 -- Assumes nothing.
 use Prim.Native.Nat.{ℕ, _+_, _≤_, _<_}
 use mathlib.Core.Path.{_≡_, refl, sym, ap, _∙_}
@@ -25,23 +25,23 @@ use Rattle.formats.specs.Plan.{nodeCount, labelsIn}
 use Rattle.formats.specs.Rules.{stateCount, labelCount}
 use Rattle.formats.specs.Checks.{firstNo, planChecks, ruleChecks, listChecks}
 use Rattle.formats.proofs.CheckLaws.{firstNo-yes, firstNo-no}
-use Rattle.ready.specs.Parts.{Given, Part, stateOf, highestBelow}
-use Rattle.ready.specs.StaysInside.{StaysInside}
-use Rattle.ready.proofs.PartsRun.{RunGiven}
+use Rattle.questions.specs.ready.Parts.{Given, Part, stateOf, highestBelow}
+use Rattle.questions.specs.ready.StaysInside.{StaysInside}
+use Rattle.questions.proofs.ready.PartsRun.{RunGiven}
 use Rattle.colours.specs.StateSets.{setOf, member, setStep}
 use Rattle.colours.proofs.BitLaws.{member-setOf}
 use Rattle.colours.proofs.SetLaws.{setStep-down}
 use Rattle.colours.proofs.Theorems.{SetAnswer, set-targets}
-use Rattle.colour_parts.specs.Sides.{SideFound}
-use Rattle.colour_parts.proofs.SideLaws.{side-found}
-use Rattle.rule_colours.specs.Build.{setColoursFit, ruleColourChecks, builtSetNumbers, builtSetBytes}
-use Rattle.rule_colours.proofs.CheckAnswers.{states-refused, room-refused}
-use Rattle.rule_descents.specs.Question.{ruleColoursFit, askedChecks, ruleAskChecks, ruleAskNumber}
-use Rattle.rule_descents.specs.Promise.{RuleColoursBuilt}
-use Rattle.capi_numbers.specs.Numbers.{BuildExported}
-use Rattle.capi_colour_sets.specs.RuleExported.{RuleExported}
-use Rattle.capi_colour_sets.proofs.BuildTheorems.{rule-build-number, rule-build-writes, rule-build-refused}
-use Rattle.capi_colour_sets.proofs.Theorems.{RunAnswered, rule-descent-answers, rule-descent-built}
+use Rattle.colour_questions.specs.parts.Sides.{SideFound}
+use Rattle.colour_questions.proofs.parts.SideLaws.{side-found}
+use Rattle.colour_tables.specs.rule.Build.{setColoursFit, ruleColourChecks, builtSetNumbers, builtSetBytes}
+use Rattle.colour_tables.proofs.rule.CheckAnswers.{states-refused, room-refused}
+use Rattle.colour_questions.specs.rule.Question.{ruleColoursFit, askedChecks, ruleAskChecks, ruleAskNumber}
+use Rattle.colour_questions.specs.rule.Promise.{RuleColoursBuilt}
+use Rattle.capi.specs.numbers.Numbers.{BuildExported}
+use Rattle.capi_colours.specs.rule_calls.RuleExported.{RuleExported}
+use Rattle.capi_colours.proofs.rule_calls.BuildTheorems.{rule-build-number, rule-build-writes, rule-build-refused}
+use Rattle.capi_colours.proofs.rule_calls.Theorems.{RunAnswered, rule-descent-answers, rule-descent-built}
 
 -- ---- sets of states
 

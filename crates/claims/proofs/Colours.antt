@@ -11,7 +11,7 @@
 --     words-built, words-refused, words-short   what the build for a branch table writes; 11 where it is too short
 --     words-short-asked, never-18 17 where it is too short for a question; on tables as built 18 never comes
 -- Sets of states and rule questions: ColourSets. The promises of the calls themselves, on every input, are their
--- contracts (crates capi_colours, capi_colour_sets).
+-- contracts (crate capi_colours).
 -- Assumes nothing.
 use Prim.Native.Nat.{ℕ, suc, _+_, _-_, _*_, _≤_, _<_}
 use mathlib.Core.Path.{_≡_, refl, sym, ap, _∙_}
@@ -30,8 +30,8 @@ use Rattle.branches.specs.declared.answers.Reading.{Reading}
 use Rattle.branches.specs.declared.answers.Branching.{Branching}
 use Rattle.branches.specs.Question.{branchNumber}
 use Rattle.branches.specs.Promise.{wordAnswer}
-use Rattle.marks.specs.Marks.{marksIn, marksAt}
-use Rattle.marks.proofs.NextMark.{NextMark, next-mark, next-mark-limit}
+use Rattle.colours.specs.marks.Marks.{marksIn, marksAt}
+use Rattle.colours.proofs.marks.NextMark.{NextMark, next-mark, next-mark-limit}
 use Rattle.colours.specs.Colouring.{lowestFree, takes, recolour, placeOf, Colouring}
 use Rattle.colours.specs.Copies.{topCopy, copy, copyAbove, landsAt, dropsDown}
 use Rattle.colours.specs.Words.{withUpper, belowUpper}
@@ -44,16 +44,16 @@ use Rattle.colours.proofs.DescentLaws.{AllLe}
 use Rattle.colours.proofs.WordLaws.{WordAnswer}
 use Rattle.colours.proofs.Theorems.{colours-one-each, colours-only-fall, drops-below-colours, word-upper, word-below}
 use Rattle.colours.proofs.Theorems.{links-limit}
-use Rattle.branch_colours.specs.Build.{coloursFit, branchColourChecks, builtColourNumbers, builtCopies, BranchColoured}
-use Rattle.branch_colours.proofs.BuildLaws.{room-no}
-use Rattle.branch_descents.specs.Question.{colourBuffersFit, descendingNumber}
-use Rattle.branch_descents.specs.Promise.{BranchColoursBuilt}
-use Rattle.branch_descents.proofs.AskChecks.{ask-17}
-use Rattle.capi_numbers.specs.Numbers.{bitOf, BuildExported}
-use Rattle.capi_branches.specs.BranchExported.{AskExported, endOf, acceptedOf}
-use Rattle.capi_colours.specs.DescentExported.{DescentExported}
-use Rattle.capi_colours.proofs.Theorems.{WordAnswered, branch-build-number, branch-build-writes, branch-build-refused}
-use Rattle.capi_colours.proofs.Theorems.{branch-descent-answers, branch-descent-built}
+use Rattle.colour_tables.specs.branch.Build.{coloursFit, branchColourChecks, builtColourNumbers, builtCopies, BranchColoured}
+use Rattle.colour_tables.proofs.branch.BuildLaws.{room-no}
+use Rattle.colour_questions.specs.branch.Question.{colourBuffersFit, descendingNumber}
+use Rattle.colour_questions.specs.branch.Promise.{BranchColoursBuilt}
+use Rattle.colour_questions.proofs.branch.AskChecks.{ask-17}
+use Rattle.capi.specs.numbers.Numbers.{bitOf, BuildExported}
+use Rattle.capi.specs.branch_calls.BranchExported.{AskExported, endOf, acceptedOf}
+use Rattle.capi_colours.specs.branch_calls.DescentExported.{DescentExported}
+use Rattle.capi_colours.proofs.branch_calls.Theorems.{WordAnswered, branch-build-number, branch-build-writes, branch-build-refused}
+use Rattle.capi_colours.proofs.branch_calls.Theorems.{branch-descent-answers, branch-descent-built}
 
 -- ---- colours
 

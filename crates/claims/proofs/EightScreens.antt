@@ -7,7 +7,7 @@
 --     named-alone-on-bytes, deal-alone-on-bytes    on any bytes: what is told of a screen goes by its own
 --     load-waits-.., load-clears-..        Load
 --     refused-..                           a refused call alters nothing
--- Where each word of a statement is defined: screens/specs; the two forms: deals/specs, capi_screens/specs.
+-- Where each word of a statement is defined: screens/specs; the two forms: screens/specs/in_place, capi_screens/specs.
 -- Assumes nothing.
 use Prim.Native.Nat.{ℕ, _<_}
 use mathlib.Core.Path.{_≡_}
@@ -25,9 +25,9 @@ use Rattle.screens.proofs.Theorems as of-records
 use Rattle.session.specs.declared.state.Session.{Session}
 use Rattle.session.specs.Records.{sessionOf}
 use Rattle.records.specs.Layout.{encoded}
-use Rattle.deals.specs.OnStructs.{ScreenDone}
-use Rattle.deals.specs.ScreensInPlace.{ScreenInPlace, eightSessions}
-use Rattle.deals.proofs.RunTheorem.{structs-hold}
+use Rattle.screens.specs.in_place.OnStructs.{ScreenDone}
+use Rattle.screens.specs.in_place.ScreensInPlace.{ScreenInPlace, eightSessions}
+use Rattle.screens.proofs.in_place.RunTheorem.{structs-hold}
 use Rattle.capi_screens.specs.RunLayout.{runLength, recordAt, runs, busy}
 use Rattle.capi_screens.specs.ScreensExported.{answerAllFor, ScreensCallExported, ScreensLoadExported}
 use Rattle.capi_screens.specs.DecodedScreens.{ScreensExports, freshRun}

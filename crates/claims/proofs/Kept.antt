@@ -22,8 +22,8 @@ use Rattle.session.specs.Records.{recordOf, sessionOf, valid, freshSession}
 use Rattle.session.specs.Promises.{answerOn, recordOn, CallDone}
 use Rattle.session.specs.CallsByValue.{CallByValue, cancels}
 use Rattle.session.proofs.Refine.{Seen, fresh-seen, by-value-refines}
-use Rattle.in_place.specs.CallsInPlace.{CallInPlace}
-use Rattle.in_place.proofs.InPlaceTheorem.{in-place-history}
+use Rattle.session.specs.in_place.CallsInPlace.{CallInPlace}
+use Rattle.session.proofs.in_place.InPlaceTheorem.{in-place-history}
 use Rattle.capi_session.specs.DecodedAnswers.{Exports}
 use Rattle.capi_session.proofs.ExportedRefines.{Held, exported-refines, fresh-held}
 

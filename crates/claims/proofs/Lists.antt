@@ -27,8 +27,8 @@ use Rattle.changes.specs.LayOver.{laid, layNumber}
 use Rattle.changes.specs.ChangedPlan.{changedPlan}
 use Rattle.changes.specs.Differing.{differing, differs}
 use Rattle.changes.proofs.DifferingLaws.{differing-is, unlisted-same}
-use Rattle.ready.specs.Members.{roots}
-use Rattle.ready.specs.Parts.{partsOf, lastState}
+use Rattle.questions.specs.ready.Members.{roots}
+use Rattle.questions.specs.ready.Parts.{partsOf, lastState}
 use Rattle.changes.proofs.LaidLaws.{superseded-only, laid-rises, laid-labels, laid-only, over-assoc, over-empty, over-self}
 use Rattle.changes.proofs.LaidLaws.{over-swap, Apart}
 use Rattle.changes.proofs.ChangedLaws.{changed-superseded}
@@ -44,7 +44,7 @@ use Rattle.reference.proofs.QuestionTheorem.{CleanOutcomes}
 use Rattle.reference.proofs.OverTheorem.{Tells, question-over}
 use Rattle.session.specs.Records.{freshSession}
 use Rattle.session.specs.CallsByValue.{CallByValue}
-use Rattle.in_place.specs.CallsInPlace.{CallInPlace}
+use Rattle.session.specs.in_place.CallsInPlace.{CallInPlace}
 use Rattle.capi_session.specs.DecodedAnswers.{Exports}
 use Rattle.claims.proofs.SupersededForms.{Superseded, superseded-by-value, superseded-in-place, superseded-exported}
 

@@ -40,8 +40,8 @@ use Rattle.session.specs.declared.state.Session.{Session}
 use Rattle.session.specs.Records.{recordOf, valid, freshSession}
 use Rattle.session.specs.CallsByValue.{CallByValue}
 use Rattle.session.proofs.SessionTheorem.{by-value-demand-3, by-value-questions}
-use Rattle.in_place.specs.CallsInPlace.{CallInPlace}
-use Rattle.in_place.proofs.InPlaceTheorem.{in-place-demand-3, in-place-questions}
+use Rattle.session.specs.in_place.CallsInPlace.{CallInPlace}
+use Rattle.session.proofs.in_place.InPlaceTheorem.{in-place-demand-3, in-place-questions}
 use Rattle.capi_session.specs.DecodedAnswers.{Exports}
 use Rattle.capi_session.proofs.ExportedTheorem.{exported-demand-3, exported-questions}
 use Rattle.claims.specs.Refusals.{RefusedInOrder}

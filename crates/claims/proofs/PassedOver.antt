@@ -19,9 +19,9 @@ use Rattle.trees.specs.Passed.{passedBy}
 use Rattle.trees.proofs.PassedLaws.{climb-passed}
 use Rattle.formats.specs.Plan.{planTree}
 use Rattle.formats.specs.Inputs.{Inputs}
-use Rattle.ready.specs.Members.{readyList}
-use Rattle.ready.specs.Parts.{questionLinks, questionPassed}
-use Rattle.ready.proofs.PassedLaws.{question-passed}
+use Rattle.questions.specs.ready.Members.{readyList}
+use Rattle.questions.specs.ready.Parts.{questionLinks, questionPassed}
+use Rattle.questions.proofs.ready.PassedLaws.{question-passed}
 use Rattle.model.specs.Calls.{Call, Answer, parts, more, finished, outcomeAnswer}
 use Rattle.reference.specs.Undisturbed.{EveryOutcomeAfter}
 use Rattle.reference.proofs.QuestionTheorem.{CleanOutcomes}

@@ -4,7 +4,7 @@
 --     one-node-accepted, two-nodes-refused  "N=1 is accepted with 14 bytes; N=2 gets 5", of the build with any rule table
 --     empty-word                            document 02, S-9: a branch question from below the upper node, the same node twice
 --     roots-are-ready                       the roots that are computed are the ready set
---     parts-partition                       each node is in exactly one part; what each part looks like: ready/proofs/PartitionLaws
+--     parts-partition                       each node is in exactly one part; what each part looks like: questions/proofs/ready/PartitionLaws
 --     answered-by-value, answered-in-place, answered-on-bytes   a question that Start accepted is answered to its end: nothing is refused
 --     part-links                            the ceiling for each part: an advance adds at most 3 links for each digit of the plan's height
 --     broken-bytes                          "bytes that break it get 1", and stay
@@ -37,15 +37,15 @@ use Rattle.formats.proofs.RuleLaws.{rules-pass}
 use Rattle.formats.proofs.InputLaws.{passes-rule-table, passes-build}
 use Rattle.formats.proofs.PlanTrees.{planBytes-passes, labelsIn-planBytes, count-planBytes}
 use Rattle.formats.proofs.PlanTheorems.{two-nodes}
-use Rattle.node_tables.specs.NodeCells.{NodeCells}
+use Rattle.tables.specs.node_tables.NodeCells.{NodeCells}
 use Rattle.branches.specs.declared.answers.Reading.the-variants.{BelowUpper}
 use Rattle.branches.specs.declared.answers.Branching.the-variants.{Answered}
 use Rattle.branches.specs.Question.{branched, askAnswer}
 use Rattle.branches.proofs.AskTheorem as ask-theorem
-use Rattle.ready.specs.Members.{roots}
-use Rattle.ready.specs.Parts.{Part}
-use Rattle.ready.proofs.ListLaws.{list-ready, ready-list, list-rising, list-last}
-use Rattle.ready.proofs.PartitionLaws.{part-unique, part-exists}
+use Rattle.questions.specs.ready.Members.{roots}
+use Rattle.questions.specs.ready.Parts.{Part}
+use Rattle.questions.proofs.ready.ListLaws.{list-ready, ready-list, list-rising, list-last}
+use Rattle.questions.proofs.ready.PartitionLaws.{part-unique, part-exists}
 use Rattle.questions.specs.Roots.{rootsOn}
 use Rattle.questions.proofs.RootsBuilt.{roots-built}
 use Rattle.model.specs.Calls.{Call, advance, Answer, refused}
@@ -56,7 +56,7 @@ use Rattle.reference.specs.Finished.{QuestionsFinish}
 use Rattle.session.specs.declared.state.Session.{Session}
 use Rattle.session.specs.Records.{recordOf, valid, freshSession}
 use Rattle.session.specs.CallsByValue.{CallByValue}
-use Rattle.in_place.specs.CallsInPlace.{CallInPlace}
+use Rattle.session.specs.in_place.CallsInPlace.{CallInPlace}
 use Rattle.records.specs.Layout.{validBytes}
 use Rattle.capi_session.specs.DecodedAnswers.{Exports}
 use Rattle.claims.proofs.QuestionForms.{finishes-by-value, finishes-in-place, finishes-on-bytes, part-ceiling}

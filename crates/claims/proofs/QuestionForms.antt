@@ -12,7 +12,7 @@ use Rattle.trees.specs.Tree.{height}
 use Rattle.trees.specs.Climb.{digits}
 use Rattle.formats.specs.Plan.{planTree}
 use Rattle.formats.specs.Inputs.{Inputs}
-use Rattle.ready.specs.Parts.{Part}
+use Rattle.questions.specs.ready.Parts.{Part}
 use Rattle.model.specs.Calls.{advance, Answer}
 use Rattle.model.specs.Refusals.{refusal}
 use Rattle.model.specs.Model.{Record, freshRecord, Does, stageOf, act}
@@ -26,8 +26,8 @@ use Rattle.session.specs.Records.{recordOf, sessionOf, valid, freshSession}
 use Rattle.session.specs.Promises.{recordOn, CallDone}
 use Rattle.session.specs.CallsByValue.{CallByValue, advances}
 use Rattle.session.proofs.Refine.{Seen, fresh-seen, by-value-refines}
-use Rattle.in_place.specs.CallsInPlace.{CallInPlace}
-use Rattle.in_place.proofs.InPlaceTheorem.{in-place-history}
+use Rattle.session.specs.in_place.CallsInPlace.{CallInPlace}
+use Rattle.session.proofs.in_place.InPlaceTheorem.{in-place-history}
 use Rattle.capi_session.specs.DecodedAnswers.{Exports}
 use Rattle.capi_session.proofs.ExportedRefines.{Held, exported-refines, fresh-held}
 

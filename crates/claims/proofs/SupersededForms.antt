@@ -15,8 +15,8 @@ use Rattle.reference.proofs.SupersedingLaws.{superseding-tells}
 use Rattle.session.specs.Records.{freshSession}
 use Rattle.session.specs.CallsByValue.{CallByValue}
 use Rattle.session.proofs.SessionTheorem.{by-value-history}
-use Rattle.in_place.specs.CallsInPlace.{CallInPlace}
-use Rattle.in_place.proofs.InPlaceTheorem.{in-place-history}
+use Rattle.session.specs.in_place.CallsInPlace.{CallInPlace}
+use Rattle.session.proofs.in_place.InPlaceTheorem.{in-place-history}
 use Rattle.capi_session.specs.DecodedAnswers.{Exports}
 use Rattle.capi_session.proofs.ExportedRefines.{Held, exported-refines, fresh-held}
 

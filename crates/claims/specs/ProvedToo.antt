@@ -17,9 +17,9 @@ use Rattle.list_laws.specs.Tests.{holds}
 use Rattle.trees.specs.Tree.{Tree, size, height}
 use Rattle.trees.specs.Numbering.{depth, ancestor}
 use Rattle.trees.specs.Climb.{Move, forestOf, climb, climbEnd, moveCount, digits}
-use Rattle.ready.specs.Ready.{Ready}
-use Rattle.ready.specs.Members.{Rising}
-use Rattle.ready.specs.Partition.{InPart}
+use Rattle.questions.specs.ready.Ready.{Ready}
+use Rattle.questions.specs.ready.Members.{Rising}
+use Rattle.questions.specs.ready.Partition.{InPart}
 
 pub record ClimbTo (t : Tree) (w to : ℕ) : Type 0 where
   pub moves : List Move

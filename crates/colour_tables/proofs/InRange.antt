@@ -14,9 +14,9 @@ use Rattle.trees.specs.Jumps.{jumpDepth}
 use Rattle.trees.specs.LinkOutOfRange.{LinkOutOfRange, jump-outside, jump-flat, parent-outside, parent-flat}
 use Rattle.trees.proofs.SkewBinary.{jumpDepth-lt}
 use Rattle.trees.specs.Ascents.{rise, jumpBy}
-use Rattle.marks.specs.Marks.{marksAbove, markedUp}
+use Rattle.colours.specs.marks.Marks.{marksAbove, markedUp}
 use Rattle.trees.proofs.AscentLaws.{rise-in, rise-depth, jumpBy-is, jumpBy-in, depth-jumpBy}
-use Rattle.marks.proofs.MarkLaws.{MarkedUp, marked-up, markedUp-in, marks-ascend}
+use Rattle.colours.proofs.marks.MarkLaws.{MarkedUp, marked-up, markedUp-in, marks-ascend}
 use Rattle.colours.specs.Copies.{landsAt, fallsAt}
 use Rattle.colour_tables.specs.ColourCells.{cellTable}
 use Rattle.colour_tables.specs.AsBuilt.{ColourCells}

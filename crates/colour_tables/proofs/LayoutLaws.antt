@@ -14,7 +14,7 @@ use Rattle.list_laws.specs.Rows.{rows}
 use Rattle.list_laws.proofs.RowLaws.{Cell, cell-split, length-rows, getD-rows, rows-over, cells-of-rows}
 use Rattle.trees.specs.Tree.{Tree, size}
 use Rattle.trees.specs.Tables.{nodeTableOf}
-use Rattle.node_tables.proofs.CellLaws.{length-nodeTableOf}
+use Rattle.tables.proofs.node_tables.CellLaws.{length-nodeTableOf}
 use Rattle.colours.specs.Copies.{copy}
 use Rattle.colours.proofs.CopyLaws.{copy-colouring}
 use Rattle.colour_tables.specs.Layout.{colourRow, colourTable, colourNumbersOf, copiesOf}

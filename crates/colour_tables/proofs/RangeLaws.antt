@@ -18,7 +18,7 @@ use Rattle.trees.specs.LinkOutOfRange.{LinkOutOfRange, parent-outside}
 use Rattle.trees.proofs.MoveLaws.{none-some, next-inside, next-starts}
 use Rattle.trees.proofs.ClimbLaws.{Split, climb-cons}
 use Rattle.trees.proofs.LinkRangeLaws.{carried-none}
-use Rattle.marks.specs.Marks.{bit}
+use Rattle.colours.specs.marks.Marks.{bit}
 use Rattle.colours.specs.Descents.{ColourTable, Place, seenAt, lowestIn, nextFrom, seen, nextDrop}
 use Rattle.colours.specs.Descents.{Next, done, lost, fell, fellAt, fellBy, Descent, withSearch, afterNext, descend}
 use Rattle.colours.proofs.DescentLaws.{next-done, next-search, fell-lower}

@@ -10,9 +10,9 @@ use Prim.Native.Nat.{ℕ, _<_}
 use mathlib.Core.Path.{_≡_}
 use mathlib.Core.List.{List}
 use Rattle.trees.specs.Tree.{Tree, size}
-use Rattle.node_tables.specs.Cells.{parentCell, jumpCell, depthCell, sizeCell}
+use Rattle.tables.specs.node_tables.Cells.{parentCell, jumpCell, depthCell, sizeCell}
 use Rattle.trees.specs.Ascents.{jumpBy}
-use Rattle.marks.specs.Marks.{marksAbove, markedUp}
+use Rattle.colours.specs.marks.Marks.{marksAbove, markedUp}
 use Rattle.colours.specs.Copies.{landsAt, fallsAt}
 use Rattle.colour_tables.specs.ColourCells.{colourPart}
 

@@ -11,7 +11,7 @@
 use Prim.Native.Nat.{ℕ, _*_}
 use mathlib.Core.List.{List}
 use lib.ListN.{take, drop}
-use Rattle.node_tables.specs.Cells.{sizeCell, cellForest}
+use Rattle.tables.specs.node_tables.Cells.{sizeCell, cellForest}
 use Rattle.colours.specs.Descents.{ColourTable}
 
 abbrev pub colourPart : ℕ → ℕ → List ℕ → List ℕ

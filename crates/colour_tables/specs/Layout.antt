@@ -15,7 +15,7 @@ use Rattle.list_laws.specs.Rows.{rows}
 use Rattle.trees.specs.Tree.{Tree, size}
 use Rattle.trees.specs.Tables.{nodeTableOf}
 use Rattle.trees.specs.Ascents.{jumpBy}
-use Rattle.marks.specs.Marks.{marksAbove, markedUp}
+use Rattle.colours.specs.marks.Marks.{marksAbove, markedUp}
 use Rattle.colours.specs.Copies.{copy, landsAt, fallsAt}
 
 abbrev pub colourRow : ℕ → (ℕ → ℕ → ℕ) → Tree → ℕ → ℕ → List ℕ

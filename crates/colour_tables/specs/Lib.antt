@@ -2,3 +2,10 @@ pub mod Layout
 pub mod ColourCells
 pub mod AsBuilt
 pub mod OutOfRange
+pub mod branch
+pub mod rule
+pub mod states
+pub mod forests
+pub mod rows
+pub mod set_states
+pub mod sets

@@ -2,7 +2,7 @@
 --
 -- ColourOutOfRange n k T == such a value of the tables T of n nodes and k colours: what stops a descent. Tables as
 --   built have
---   none: on them every descent ends (proofs/Theorems of crate descents)
+--   none: on them every descent ends (proofs/Theorems of colour_questions/path_drops)
 --
 -- "18 means that a value read leads outside the plan, the states or the labels, or a climb doesn't rise."
 -- Assumes nothing.

@@ -17,7 +17,7 @@ use borrow.Author.Tests.{ltb-true}
 use Rattle.trees.specs.Climb.{Forest, Move, climb, climbEnd}
 use Rattle.list_laws.proofs.Choice.{le-or}
 use Rattle.trees.proofs.ClimbLaws.{Agree, same-climb-of, same-end-of, climb-inside}
-use Rattle.marks.specs.Marks.{bit}
+use Rattle.colours.specs.marks.Marks.{bit}
 use Rattle.colours.specs.Descents.{ColourTable, Place, seenAt, lowestIn, nextFrom, seen, nextDrop}
 use Rattle.colours.specs.Descents.{done, lost, fell, fellAt, fellBy, descend}
 use Rattle.colours.proofs.DescentLaws.{next-done, next-search, next-outside, fell-lower, descend-next}

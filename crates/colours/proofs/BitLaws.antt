@@ -11,8 +11,8 @@ use native.Mathlib.Nat.{div-one, zero-div, pow-succ'}
 use lib.Dec.{eqb}
 use lib.Pow.{shr-shr}
 use borrow.Author.Tests.{ne-eqb}
-use Rattle.marks.specs.Marks.{bit}
-use Rattle.marks.proofs.MarkLaws.{bit-le}
+use Rattle.colours.specs.marks.Marks.{bit}
+use Rattle.colours.proofs.marks.MarkLaws.{bit-le}
 use Rattle.colours.specs.StateSets.{setOf, member}
 
 -- ---- a set's first member and the rest

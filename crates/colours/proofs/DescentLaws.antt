@@ -19,9 +19,9 @@ use borrow.Author.Tests.{lt-ltb, le-ltb, ltb-true}
 use Rattle.trees.specs.Tree.{Tree, size, height}
 use Rattle.trees.specs.Numbering.{depth, ancestor}
 use Rattle.trees.specs.Climb.{Forest, Move, climb, climbEnd, digits}
-use Rattle.marks.specs.Marks.{marksIn, marksAt, lowestAt}
-use Rattle.marks.proofs.MarkLaws.{marksAt-is, marks-at, lowest-in}
-use Rattle.marks.proofs.NextMark.{NextMark, next-mark, next-mark-few}
+use Rattle.colours.specs.marks.Marks.{marksIn, marksAt, lowestAt}
+use Rattle.colours.proofs.marks.MarkLaws.{marksAt-is, marks-at, lowest-in}
+use Rattle.colours.proofs.marks.NextMark.{NextMark, next-mark, next-mark-few}
 use Rattle.colours.specs.Copies.{landsAt, fallsAt, colourDown, dropsDown}
 use Rattle.colours.specs.Descents.{ColourTable, Place, seenAt, lowestIn, nextFrom, seen, lowestOf, Next, done}
 use Rattle.colours.specs.Descents.{lost, fell, fellAt, fellBy, nextDrop}

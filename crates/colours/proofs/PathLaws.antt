@@ -18,8 +18,8 @@ use Rattle.trees.specs.Numbering.{parent, depth, ancestor}
 use Rattle.list_laws.proofs.Choice.{le-or}
 use Rattle.trees.proofs.NodeLaws.{up, below-root}
 use Rattle.trees.proofs.MapLaws.{ancestor-parent}
-use Rattle.marks.specs.Marks.{bit, marksIn}
-use Rattle.marks.proofs.MarkLaws.{bit-zero, marks-suc}
+use Rattle.colours.specs.marks.Marks.{bit, marksIn}
+use Rattle.colours.proofs.marks.MarkLaws.{bit-zero, marks-suc}
 use Rattle.colours.specs.Copies.{copyIn, copy, copyAbove, landsAt, fallsAt, stateDown, colourDown, dropsDown}
 use Rattle.colours.proofs.CopyLaws.{copyAbove-down, landsAt-le, landsAt-state}
 

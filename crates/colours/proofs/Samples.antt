@@ -15,7 +15,7 @@ use Rattle.trees.specs.Numbering.{split, sub, parent, depth, ancestor, labelsDo
 use Rattle.list_laws.specs.Rows.{tabulate}
 use Rattle.trees.specs.Climb.{nextMove, climbIn, climb}
 use Rattle.trees.specs.Ascents.{jumpIn, jumpBy}
-use Rattle.marks.specs.Marks.{marksIn, marksAbove, nearestIn, markedUp}
+use Rattle.colours.specs.marks.Marks.{marksIn, marksAbove, nearestIn, markedUp}
 use Rattle.colours.specs.Colouring.{freeFrom, lowestFree, takes, recolourFrom, recolour, placeOf, lands}
 use Rattle.colours.specs.Copies.{topCopy, copyIn, copy, copyAbove, landsAt}
 use Rattle.colours.specs.Descents.{fellAt, fellBy, nextFrom, descent, descend}

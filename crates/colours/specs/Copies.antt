@@ -18,7 +18,7 @@ use lib.Dec.{ltb}
 use Rattle.trees.specs.Tree.{Tree}
 use Rattle.trees.specs.Numbering.{parent, depth}
 use Rattle.list_laws.specs.Rows.{tabulate}
-use Rattle.marks.specs.Marks.{bit}
+use Rattle.colours.specs.marks.Marks.{bit}
 use Rattle.colours.specs.Colouring.{recolour, lands}
 
 -- "In the top copy .. state s has colour s+1."

@@ -25,7 +25,7 @@ use lib.Dec.{ltb}
 use lib.ListN.{length}
 use Rattle.trees.specs.Tree.{Tree}
 use Rattle.trees.specs.Climb.{Forest, Move, climb, climbEnd}
-use Rattle.marks.specs.Marks.{bit, markedForest}
+use Rattle.colours.specs.marks.Marks.{bit, markedForest}
 use Rattle.colours.specs.Copies.{landsAt, fallsAt}
 
 pub record ColourTable : Type 0 where

@@ -23,7 +23,7 @@ use Rattle.trees.specs.Tree.{Tree, size}
 use Rattle.trees.specs.Automaton.{Automaton}
 use Rattle.trees.specs.Climb.{andThen}
 use Rattle.trees.specs.Tables.{stepUp}
-use Rattle.marks.specs.Marks.{bit}
+use Rattle.colours.specs.marks.Marks.{bit}
 use Rattle.colours.specs.Colouring.{placeOf}
 use Rattle.colours.specs.Copies.{copy, dropsDown}
 use Rattle.colours.specs.Descents.{ColourTable, Descent, descend, colourTableOf}

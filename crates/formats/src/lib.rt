@@ -1,4 +1,4 @@
-// Plans, rule tables, branch tables and lists of changes as bytes: checks 2 to 15, and 17.
+// Plans, rule tables, branch tables and lists of changes as bytes: checks 2 to 14, and 17.
 //     limits   the limits of document 01
 //     bytes    numbers in bytes
 //     plan     checks 2 to 5

@@ -16,7 +16,7 @@ use lib.ListN.{length, getD, take}
 use Rattle.list_laws.specs.Tests.{allBelow}
 use Rattle.formats.specs.Checks.{firstNo, listChecks}
 use Rattle.formats.specs.Inputs.{Inputs, Sizes, fits, sameNodeInputs, nodeTableBuilt, statesBelow}
-use Rattle.ready.specs.Parts.{Part, nodesOf, statesOf, partOf}
+use Rattle.questions.specs.ready.Parts.{Part, nodesOf, statesOf, partOf}
 use Rattle.tables.specs.declared.answers.Reached.{Reached}
 use Rattle.tables.specs.Climbs.{reached}
 use Rattle.questions.specs.Part.{partOn}

@@ -26,14 +26,14 @@ use Rattle.list_laws.proofs.TestLaws.{allBelow-all}
 use Rattle.formats.proofs.PlanLaws.{PlanPasses, size-planTree, kinds-planTree, labels-planTree}
 use Rattle.formats.proofs.RuleLaws.{RulesPass, leaf-state-below, inner-state-below}
 use Rattle.formats.proofs.InputLaws.{ListPasses, list-passes, label-below}
-use Rattle.node_tables.specs.NodeCells.{NodeCells}
-use Rattle.node_tables.proofs.CellLaws.{link-cells, length-nodeTableOf}
+use Rattle.tables.specs.node_tables.NodeCells.{NodeCells}
+use Rattle.tables.proofs.node_tables.CellLaws.{link-cells, length-nodeTableOf}
 use Rattle.tables.specs.StateCells.{stateCell, mapCell}
 use Rattle.tables.specs.Climbs.{View, viewOf}
-use Rattle.ready.specs.Members.{roots}
-use Rattle.ready.specs.Parts.{Given, Part, nodesOf, statesOf, stateOf, partOf}
-use Rattle.ready.proofs.PartsRun.{Members}
-use Rattle.ready.proofs.ListLaws.{list-members}
+use Rattle.questions.specs.ready.Members.{roots}
+use Rattle.questions.specs.ready.Parts.{Given, Part, nodesOf, statesOf, stateOf, partOf}
+use Rattle.questions.proofs.ready.PartsRun.{Members}
+use Rattle.questions.proofs.ready.ListLaws.{list-members}
 use Rattle.questions.specs.Roots.{rootsOn}
 use Rattle.questions.specs.Part.{partOn}
 use Rattle.questions.specs.Promises.{Reads, RootsAre}

@@ -18,7 +18,7 @@ use Rattle.formats.specs.Checks.{check, firstNo}
 use Rattle.list_laws.proofs.BoolLaws.{and-both, true-false}
 use Rattle.list_laws.proofs.TestLaws.{sameList-refl}
 use Rattle.tables.specs.declared.answers.Reached.{Reached}
-use Rattle.ready.specs.Parts.{Part, nodesOf, statesOf, partOf}
+use Rattle.questions.specs.ready.Parts.{Part, nodesOf, statesOf, partOf}
 use Rattle.questions.specs.Part.{partOn}
 use Rattle.tables.proofs.ClimbBounds.{Bounded}
 use Rattle.questions.proofs.PartBounds.{part-bounded}

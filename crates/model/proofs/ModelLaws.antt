@@ -25,8 +25,8 @@ use Rattle.formats.proofs.CheckLaws.{Numbered, firstNo-head, firstNo-tail, firs
 use Rattle.formats.proofs.InputLaws.{ListPasses, list-passes, list-numbered}
 use Rattle.changes.proofs.DifferingLaws.{differing-below, differing-most}
 use Rattle.formats.proofs.InputsLaws.{Built}
-use Rattle.ready.specs.Members.{roots}
-use Rattle.ready.proofs.ListLaws.{list-last}
+use Rattle.questions.specs.ready.Members.{roots}
+use Rattle.questions.proofs.ready.ListLaws.{list-last}
 use Rattle.model.specs.Calls.{load, start, advance, Phase, mayLoad, mayStart, isRunning}
 use Rattle.model.specs.Refusals.{Stage, stage, checksBefore18, refusal}
 use Rattle.model.specs.Model.{leftIn, rootsIn, marksBy}

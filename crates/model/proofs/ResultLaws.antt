@@ -15,10 +15,10 @@ use lib.ListN.{length}
 use borrow.Author.Tests.{lt-ltb}
 use Rattle.list_laws.specs.Tests.{allBelow}
 use Rattle.list_laws.proofs.BoolLaws.{and-both, and-left, and-right}
-use Rattle.ready.specs.Parts.{Given, Part, partOf, partLinks, sumOf, partsFrom, lastState, allLinks}
-use Rattle.ready.proofs.PartsRun.{nodes-more}
+use Rattle.questions.specs.ready.Parts.{Given, Part, partOf, partLinks, sumOf, partsFrom, lastState, allLinks}
+use Rattle.questions.proofs.ready.PartsRun.{nodes-more}
 use Rattle.model.specs.Model.{lastOf}
-use Rattle.ready.specs.Parts.{nodesOf, statesOf}
+use Rattle.questions.specs.ready.Parts.{nodesOf, statesOf}
 
 pub length-nodes : (ps : List Part) → length (nodesOf ps) ≡ length ps
 length-nodes [] = refl

@@ -18,11 +18,11 @@ use lib.ListN.{length, getD, take}
 use Rattle.list_laws.specs.Tests.{allBelow}
 use Rattle.formats.specs.Plan.{planTree}
 use Rattle.formats.specs.Checks.{firstNo, listChecks}
-use Rattle.ready.specs.Parts.{Part, nodesOf, statesOf, partState, partLinks, partPassed}
+use Rattle.questions.specs.ready.Parts.{Part, nodesOf, statesOf, partState, partLinks, partPassed}
 use Rattle.tables.specs.declared.answers.Reached.{Reached}
 use Rattle.tables.specs.Climbs.{reached}
 use Rattle.questions.specs.OutOfRange.{PartOutOfRange}
-use Rattle.node_tables.specs.Cells.{depthCell}
+use Rattle.tables.specs.node_tables.Cells.{depthCell}
 use Rattle.formats.specs.Inputs.{Inputs, usedNodeTable, nodeTableBuilt, statesBelow}
 use Rattle.model.specs.Calls.{Call, load, start, advance, cancel, read, Answer, refused, isRefused}
 use Rattle.model.specs.Refusals.{refusal}

@@ -21,7 +21,7 @@ use lib.Dec.{eqb}
 use lib.ListN.{length, getD, take, drop}
 use Rattle.formats.specs.Plan.{planTree, labelsIn}
 use Rattle.changes.specs.Differing.{differing}
-use Rattle.ready.specs.Members.{roots}
+use Rattle.questions.specs.ready.Members.{roots}
 use Rattle.tables.specs.declared.answers.Reached.{Reached}
 use Rattle.tables.specs.Climbs.{View, viewOf}
 use Rattle.questions.specs.Part.{partOn}

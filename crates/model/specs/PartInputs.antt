@@ -11,7 +11,7 @@ use Rattle.formats.specs.Plan.{planTree, labelsIn}
 use Rattle.formats.specs.Rules.{ruleAutomaton}
 use Rattle.formats.specs.Inputs.{Inputs, Sizes, usedStateTable}
 use Rattle.tables.specs.StateCells.{stateCell, mapCell}
-use Rattle.ready.specs.Parts.{Given}
+use Rattle.questions.specs.ready.Parts.{Given}
 
 unfoldable pub givenOf : Sizes → Inputs → Inputs → List ℕ → List ℕ → Given
 givenOf z y x vs bs = record {

@@ -30,8 +30,8 @@ use denote.Exit.{yes}
 use Rattle.session.specs.declared.state.Session.{Session}
 use Rattle.session.proofs.state.Session as T
 use Rattle.session.proofs.state.Session.Laws as T′
-use Rattle.in_place.proofs.Lendings.{Lending, slots, stays, goes, kinds, spells, tells, Fitting, fitting, Lasts, Said, Had, Fits, backs}
-use Rattle.in_place.proofs.InPlace.{vals}
+use Rattle.session.proofs.in_place.Lendings.{Lending, slots, stays, goes, kinds, spells, tells, Fitting, fitting, Lasts, Said, Had, Fits, backs}
+use Rattle.session.proofs.in_place.InPlace.{vals}
 
 module _ {n : ℕ} (ls : List (Lending n)) (O : RattleType) where
   abbrev pub byValue : Ended

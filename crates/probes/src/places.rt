@@ -1,4 +1,4 @@
-// The calls in place, run: each is lent a record of its own by `&mut` (crate in_place), and the record is handed back with the answer.
+// The calls in place, run: each is lent a record of its own by `&mut` (session/in_place), and the record is handed back with the answer.
 // So these functions have the promises of the calls by value (crate session), and what they return can be compared with those.
 use session::answers::Advanced;
 use session::answers::Called;
@@ -25,7 +25,7 @@ pub fn load_at(
         (callAnswer (r .answer)) (r .session) (now («node_table» .exit)) (now («state_table» .exit)) ⌝ }
 {
     let mut t = s;
-    let answer = in_place::load(&mut t, plan, rules, node_table, state_table);
+    let answer = session::in_place::load(&mut t, plan, rules, node_table, state_table);
     Called { answer, session: t }
 }
 
@@ -46,7 +46,15 @@ pub fn start_at(
         (startAnswer (r .answer)) (r .session) ⌝ }
 {
     let mut t = s;
-    let answer = in_place::start(&mut t, plan, rules, node_table, state_table, nodes, labels);
+    let answer = session::in_place::start(
+        &mut t,
+        plan,
+        rules,
+        node_table,
+        state_table,
+        nodes,
+        labels,
+    );
     Started { answer, session: t }
 }
 
@@ -64,7 +72,7 @@ pub fn advance_at(
         (advanceAnswer (r .answer)) (r .session) ⌝ }
 {
     let mut t = s;
-    let answer = in_place::advance(&mut t, plan, rules, node_table, state_table);
+    let answer = session::in_place::advance(&mut t, plan, rules, node_table, state_table);
     Advanced { answer, session: t }
 }
 
@@ -73,7 +81,7 @@ pub fn cancel_at(s: Session) -> Called
     ensures { λ r. ⌜ CallDone s calls.cancel (callAnswer (r .answer)) (r .session) ⌝ }
 {
     let mut t = s;
-    let answer = in_place::cancel(&mut t);
+    let answer = session::in_place::cancel(&mut t);
     Called { answer, session: t }
 }
 
@@ -81,5 +89,5 @@ pub fn cancel_at(s: Session) -> Called
 pub fn read_at(s: Session) -> ReadAnswer
     ensures { λ r. ⌜ readAnswer r ≡ answerOn s calls.read ⌝ }
 {
-    in_place::read(&s)
+    session::in_place::read(&s)
 }

@@ -1,2 +1,4 @@
 pub mod Product
 pub mod Plans
+pub mod agreement
+pub mod merging

@@ -22,12 +22,12 @@ use Rattle.trees.proofs.ClimbLaws.{Tells, same-climb}
 use Rattle.trees.proofs.TreeClimbs.{climb-tree, climb-proper, Proper}
 use Rattle.trees.proofs.PassedLaws.{same-passed}
 use Rattle.trees.proofs.MapLaws.{right-child-size, left-sibling-in, right-sibling-in, parent-pos}
-use Rattle.node_tables.specs.Cells.{parentCell, sizeCell, cellForest}
-use Rattle.node_tables.specs.NodeCells.{NodeCells}
+use Rattle.tables.specs.node_tables.Cells.{parentCell, sizeCell, cellForest}
+use Rattle.tables.specs.node_tables.NodeCells.{NodeCells}
 use Rattle.tables.specs.StateCells.{stateCell, mapCell}
 use Rattle.tables.specs.declared.answers.Reached.{Reached}
 use Rattle.tables.specs.Climbs.{View, below, runOn, ruleOn, siblingOn, parentOn, moveOn, reached, climbOn}
-use Rattle.ready.specs.Parts.{Given, moveState, moveStates, movesOf, climbMoves}
+use Rattle.questions.specs.ready.Parts.{Given, moveState, moveStates, movesOf, climbMoves}
 use Rattle.questions.specs.Promises.{Reads}
 
 pub is-below : (s q : ℕ) → q < s → below s q ≡ some q

@@ -17,12 +17,12 @@ use Rattle.trees.specs.Tree.{Tree, size, kindAt}
 use Rattle.trees.specs.Numbering.{sub, InSubtree}
 use Rattle.trees.specs.Climb.{andThen}
 use Rattle.trees.proofs.NodeLaws.{Inner, inner}
-use Rattle.node_tables.specs.Cells.{sizeCell}
-use Rattle.node_tables.specs.NodeCells.{NodeCells}
-use Rattle.ready.specs.Ready.{Meet, leftChild, rightChild}
-use Rattle.ready.specs.Members.{Rising}
-use Rattle.ready.proofs.BelowLaws.{rising-above}
-use Rattle.ready.proofs.ClosedForm.{parted}
+use Rattle.tables.specs.node_tables.Cells.{sizeCell}
+use Rattle.tables.specs.node_tables.NodeCells.{NodeCells}
+use Rattle.questions.specs.ready.Ready.{Meet, leftChild, rightChild}
+use Rattle.questions.specs.ready.Members.{Rising}
+use Rattle.questions.proofs.ready.BelowLaws.{rising-above}
+use Rattle.questions.proofs.ready.ClosedForm.{parted}
 use Rattle.questions.specs.Search.{meetOn}
 use Rattle.questions.specs.Roots.{insertRising, withFork, withMeet, forksOn}
 use Rattle.questions.proofs.InsertLaws.{member-insert, insert-old, insert-new, insert-rising, Next, here, later, next-second}

@@ -29,3 +29,4 @@ pub mod RuleRange
 pub mod Promised
 pub mod Theorems
 pub mod PassedSample
+pub mod ready

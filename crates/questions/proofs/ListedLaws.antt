@@ -14,7 +14,7 @@ use native.Mathlib.Decide.{ℕ-discrete}
 use lib.Dec.{leb, ltb, eqb}
 use lib.ListN.{length}
 use Rattle.trees.proofs.MoveLaws.{cond-some}
-use Rattle.node_tables.specs.Cells.{sizeCell}
+use Rattle.tables.specs.node_tables.Cells.{sizeCell}
 use Rattle.questions.specs.Search.{meetOn}
 use Rattle.questions.specs.Roots.{insertRising, wanted, withFork, withMeet, forksOn, fromFirst, rootsOn}
 use Rattle.questions.specs.RootsAnswers.{rootsGiven}

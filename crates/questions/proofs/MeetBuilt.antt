@@ -24,13 +24,13 @@ use Rattle.trees.proofs.JumpLaws.{jump-in, depth-jump}
 use Rattle.trees.proofs.MapLaws.{jump-ancestor}
 use Rattle.trees.proofs.SkewBinary.{jumpDepth-lt}
 use Rattle.trees.proofs.IntervalLaws.{ancestor-interval}
-use Rattle.node_tables.specs.Cells.{sizeCell, cellForest}
-use Rattle.node_tables.specs.NodeCells.{NodeCells}
-use Rattle.node_tables.specs.Cells.{isInSubtreeOn}
-use Rattle.ready.specs.Ready.{Meet}
-use Rattle.ready.proofs.UnderLaws.{under-trans, under-root, meet-here, meet-up}
-use Rattle.ready.proofs.ClosedForm.{comparable}
-use Rattle.ready.proofs.BelowLaws.{under-yes, under-no}
+use Rattle.tables.specs.node_tables.Cells.{sizeCell, cellForest}
+use Rattle.tables.specs.node_tables.NodeCells.{NodeCells}
+use Rattle.tables.specs.node_tables.Cells.{isInSubtreeOn}
+use Rattle.questions.specs.ready.Ready.{Meet}
+use Rattle.questions.proofs.ready.UnderLaws.{under-trans, under-root, meet-here, meet-up}
+use Rattle.questions.proofs.ready.ClosedForm.{comparable}
+use Rattle.questions.proofs.ready.BelowLaws.{under-yes, under-no}
 use Rattle.questions.specs.Search.{nextUnless, search, meetOn}
 use Rattle.questions.proofs.SearchLaws.{search-here, search-move}
 

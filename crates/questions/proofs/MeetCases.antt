@@ -13,8 +13,8 @@ use lib.Dec.{ltb}
 use borrow.Author.Tests.{lt-ltb, le-ltb, le-leb, lt-leb}
 use Rattle.trees.specs.Climb.{Forest, Move, byJump, toParent, target, rising}
 use Rattle.list_laws.proofs.Choice.{le-or}
-use Rattle.node_tables.specs.Cells.{sizeCell, depthCell, cellForest}
-use Rattle.node_tables.specs.Cells.{isInSubtreeOn}
+use Rattle.tables.specs.node_tables.Cells.{sizeCell, depthCell, cellForest}
+use Rattle.tables.specs.node_tables.Cells.{isInSubtreeOn}
 use Rattle.questions.specs.declared.search.Meeting.the-variants.{At, Outside}
 use Rattle.questions.specs.Search.{nextUnless, meetOn}
 use Rattle.questions.specs.inner.SearchAnswers.{meetingOf, targetOf, risingMeeting}

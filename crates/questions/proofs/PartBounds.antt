@@ -20,7 +20,7 @@ use Rattle.formats.specs.Limits.{nodeLimit, within}
 use Rattle.formats.specs.Checks.{nodeTableLength}
 use Rattle.formats.specs.Buffers.{limitsFit}
 use Rattle.list_laws.proofs.BoolLaws.{and-left, and-right}
-use Rattle.node_tables.specs.Cells.{sizeCell}
+use Rattle.tables.specs.node_tables.Cells.{sizeCell}
 use Rattle.tables.specs.declared.answers.Reached.{Reached}
 use Rattle.tables.specs.Climbs.{View, below, runOn, ruleOn, reached, climbOn}
 use Rattle.tables.proofs.LookupLaws.{below-state}

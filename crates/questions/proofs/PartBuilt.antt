@@ -20,20 +20,20 @@ use Rattle.trees.specs.Climb.{andThen}
 use Rattle.trees.specs.Numbering.{sub, depth, InSubtree, isInSubtree}
 use Rattle.trees.proofs.NodeLaws.{Inner, inner, up}
 use Rattle.trees.proofs.IntervalLaws.{interval-ancestor, above-at}
-use Rattle.node_tables.specs.Cells.{depthCell, sizeCell}
-use Rattle.node_tables.specs.Cells.{isInSubtreeOn}
+use Rattle.tables.specs.node_tables.Cells.{depthCell, sizeCell}
+use Rattle.tables.specs.node_tables.Cells.{isInSubtreeOn}
 use Rattle.tables.specs.declared.answers.Reached.{Reached}
 use Rattle.tables.specs.Climbs.{View, below, runOn, ruleOn, reached, climbOn}
-use Rattle.ready.specs.Ready.{leftChild, rightChild}
-use Rattle.ready.specs.Members.{Rising}
-use Rattle.ready.specs.Parts.{Given, anyBelow, lastBelow, highestBelow, moveStates, climbMoves, climbedLinks, innerLinks}
-use Rattle.ready.specs.Parts.{climbedPassed, innerPassed, partPassed}
-use Rattle.ready.specs.Parts.{partLinks, Part, nodesOf, statesOf, stateOf, climbedState, innerState, partState}
-use Rattle.ready.proofs.BelowLaws.{none-below, some-below, under-no, true-false, rising-above}
-use Rattle.ready.proofs.ClosedForm.{kind-one}
-use Rattle.ready.proofs.HighestLaws.{Highest, is-false}
-use Rattle.ready.proofs.PartsRun.{Members}
-use Rattle.ready.proofs.UnderLaws.{under-self, left-in, right-in, left-parent, right-parent}
+use Rattle.questions.specs.ready.Ready.{leftChild, rightChild}
+use Rattle.questions.specs.ready.Members.{Rising}
+use Rattle.questions.specs.ready.Parts.{Given, anyBelow, lastBelow, highestBelow, moveStates, climbMoves, climbedLinks, innerLinks}
+use Rattle.questions.specs.ready.Parts.{climbedPassed, innerPassed, partPassed}
+use Rattle.questions.specs.ready.Parts.{partLinks, Part, nodesOf, statesOf, stateOf, climbedState, innerState, partState}
+use Rattle.questions.proofs.ready.BelowLaws.{none-below, some-below, under-no, true-false, rising-above}
+use Rattle.questions.proofs.ready.ClosedForm.{kind-one}
+use Rattle.questions.proofs.ready.HighestLaws.{Highest, is-false}
+use Rattle.questions.proofs.ready.PartsRun.{Members}
+use Rattle.questions.proofs.ready.UnderLaws.{under-self, left-in, right-in, left-parent, right-parent}
 use Rattle.questions.specs.Part.{Found, found, lastFound, foundBelow, labelOn, climbFrom, runReached, ownReached}
 use Rattle.questions.specs.Part.{joinOn, innerOn, leafOn, forkOn, partOn}
 use Rattle.questions.specs.Promises.{Reads}

@@ -10,7 +10,7 @@ use native.Mathlib.Omega.{arith}
 use lib.ListN.{length, getD}
 use borrow.Author.Tests.{lt-ltb, le-ltb, le-leb, lt-leb, eq-eqb, ne-eqb}
 use Rattle.trees.specs.Changes.{changed}
-use Rattle.node_tables.specs.Cells.{depthCell, sizeCell}
+use Rattle.tables.specs.node_tables.Cells.{depthCell, sizeCell}
 use Rattle.tables.specs.declared.answers.Climbed.{Climbed}
 use Rattle.tables.specs.declared.answers.Climbed.the-variants.{OutOfRange}
 use Rattle.tables.specs.declared.answers.Reached.{Reached}

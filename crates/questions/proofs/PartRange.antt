@@ -21,8 +21,8 @@ use Rattle.trees.proofs.MoveLaws.{none-some, next-inside, next-starts}
 use Rattle.trees.proofs.LinkRangeLaws.{Failed, carried-none}
 use Rattle.list_laws.specs.Tests.{allBelow}
 use Rattle.list_laws.proofs.BoolLaws.{and-left, and-right}
-use Rattle.node_tables.specs.Cells.{parentCell, depthCell, sizeCell, cellForest, isInSubtreeOn}
-use Rattle.node_tables.specs.OutOfRange.{Childless, link, childless}
+use Rattle.tables.specs.node_tables.Cells.{parentCell, depthCell, sizeCell, cellForest, isInSubtreeOn}
+use Rattle.tables.specs.node_tables.OutOfRange.{Childless, link, childless}
 use Rattle.tables.specs.StateCells.{stateCell}
 use Rattle.tables.specs.declared.answers.Reached.{Reached}
 use Rattle.tables.specs.Climbs.{View, below, runOn, ruleOn, siblingOn, parentOn, moveOn, reached, climbOn}

@@ -8,7 +8,7 @@ use mathlib.Core.Option.{Option, none, some}
 use lib.ListN.{length}
 use Rattle.trees.specs.Climb.{Move, byJump, toParent, andThen, climb, carry}
 use Rattle.trees.specs.Passed.{passedBy}
-use Rattle.node_tables.specs.Cells.{depthCell, cellForest}
+use Rattle.tables.specs.node_tables.Cells.{depthCell, cellForest}
 use Rattle.tables.specs.Climbs.{View, below, runOn, ruleOn, siblingOn}
 use Rattle.tables.specs.declared.answers.Reached.{Reached}
 use Rattle.tables.specs.Climbs.{parentOn, moveOn, reached, climbOn}

@@ -19,15 +19,15 @@ use Rattle.list_laws.specs.Tests.{allBelow, holds}
 use Rattle.formats.specs.Rules.{ruleLength}
 use Rattle.formats.specs.Buffers.{limitsFit, buffersFit}
 use Rattle.list_laws.proofs.BoolLaws.{and-right}
-use Rattle.node_tables.specs.NodeCells.{NodeCells}
-use Rattle.node_tables.specs.OutOfRange.{NodeTableOutOfRange}
+use Rattle.tables.specs.node_tables.NodeCells.{NodeCells}
+use Rattle.tables.specs.node_tables.OutOfRange.{NodeTableOutOfRange}
 use Rattle.tables.specs.declared.answers.Climbed.{Climbed}
 use Rattle.tables.specs.declared.answers.Reached.{Reached}
 use Rattle.tables.specs.Climbs.{reached, climbedOf, climbedNumber}
-use Rattle.ready.specs.Members as members
-use Rattle.ready.specs.Parts.{Given, Part, nodesOf, statesOf, partState, partLinks, partPassed}
-use Rattle.ready.proofs.PartsRun.{Members}
-use Rattle.ready.proofs.ListLaws.{list-members}
+use Rattle.questions.specs.ready.Members as members
+use Rattle.questions.specs.ready.Parts.{Given, Part, nodesOf, statesOf, partState, partLinks, partPassed}
+use Rattle.questions.proofs.ready.PartsRun.{Members}
+use Rattle.questions.proofs.ready.ListLaws.{list-members}
 use Rattle.questions.specs.declared.roots.Rooted.{Rooted}
 use Rattle.questions.specs.Part.{partOn}
 use Rattle.questions.specs.Roots.{rootsOn}

@@ -16,13 +16,13 @@ use Rattle.trees.specs.Tree.{Tree, size, kindAt}
 use Rattle.trees.specs.Numbering.{sub, InSubtree}
 use Rattle.trees.proofs.NodeLaws.{size-pos, Inner, inner, sub-size}
 use Rattle.list_laws.specs.Tests.{holds}
-use Rattle.node_tables.specs.NodeCells.{NodeCells}
-use Rattle.ready.specs.Ready.{Meet, leftChild, rightChild}
-use Rattle.ready.specs.Members.{Rising, readyList, roots}
-use Rattle.ready.proofs.UnderLaws.{left-in, right-in}
-use Rattle.ready.proofs.BelowLaws.{rising-above, true-false}
-use Rattle.ready.proofs.ClosedForm.{Forks, Member, m-listed, m-root, m-forks, m-left, m-right, fork-meet, parted}
-use Rattle.ready.proofs.ListLaws.{list-member, member-list, list-rising, rising-unique}
+use Rattle.tables.specs.node_tables.NodeCells.{NodeCells}
+use Rattle.questions.specs.ready.Ready.{Meet, leftChild, rightChild}
+use Rattle.questions.specs.ready.Members.{Rising, readyList, roots}
+use Rattle.questions.proofs.ready.UnderLaws.{left-in, right-in}
+use Rattle.questions.proofs.ready.BelowLaws.{rising-above, true-false}
+use Rattle.questions.proofs.ready.ClosedForm.{Forks, Member, m-listed, m-root, m-forks, m-left, m-right, fork-meet, parted}
+use Rattle.questions.proofs.ready.ListLaws.{list-member, member-list, list-rising, rising-unique}
 use Rattle.questions.specs.Roots.{risingOf, wanted, forksOn, fromFirst, rootsOn}
 use Rattle.questions.proofs.InsertLaws.{rising-old, rising-new, member-rising, all-rising, Next, Between, next-first, next-second}
 use Rattle.questions.proofs.InsertLaws.{next-rising, next-between}

@@ -20,8 +20,8 @@ use Rattle.list_laws.proofs.Choice.{by-test, le-or}
 use Rattle.trees.proofs.MoveLaws.{none-some}
 use Rattle.trees.proofs.LinkRangeLaws.{next-out-of-range}
 use Rattle.list_laws.specs.Tests.{allBelow}
-use Rattle.node_tables.specs.Cells.{sizeCell, cellForest, isInSubtreeOn}
-use Rattle.node_tables.specs.OutOfRange.{Childless, NodeTableOutOfRange, link, childless, apart}
+use Rattle.tables.specs.node_tables.Cells.{sizeCell, cellForest, isInSubtreeOn}
+use Rattle.tables.specs.node_tables.OutOfRange.{Childless, NodeTableOutOfRange, link, childless, apart}
 use Rattle.questions.specs.Search.{nextUnless, searchIn, search, meetOn}
 use Rattle.questions.specs.Roots.{insertRising, wanted, withFork, withMeet, forksOn, fromFirst, rootsOn}
 use Rattle.questions.specs.Rising.{AllBelow}

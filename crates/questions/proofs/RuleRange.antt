@@ -11,10 +11,10 @@ use Rattle.trees.specs.Tree.{size, labelsOf}
 use Rattle.trees.specs.Changes as changes
 use Rattle.list_laws.specs.Tests.{allBelow}
 use Rattle.list_laws.proofs.BoolLaws.{true-false}
-use Rattle.node_tables.specs.OutOfRange.{NodeTableOutOfRange}
-use Rattle.node_tables.proofs.RangeLaws.{children-inside, cells-in-range}
+use Rattle.tables.specs.node_tables.OutOfRange.{NodeTableOutOfRange}
+use Rattle.tables.proofs.node_tables.RangeLaws.{children-inside, cells-in-range}
 use Rattle.tables.specs.Climbs.{View}
-use Rattle.ready.specs.Parts.{Given}
+use Rattle.questions.specs.ready.Parts.{Given}
 use Rattle.questions.specs.Part.{labelOn}
 use Rattle.questions.specs.OutOfRange.{PartOutOfRange, links, children, run, map, leaf, rule, handled, label, changed}
 use Rattle.questions.specs.Promises.{Reads}

@@ -25,8 +25,8 @@ use Rattle.trees.specs.Changes.{changed}
 use Rattle.list_laws.proofs.Choice.{by-test, le-or}
 use Rattle.trees.proofs.MoveLaws.{both}
 use Rattle.list_laws.proofs.BoolLaws.{true-false, or-assoc, or-no}
-use Rattle.node_tables.specs.Cells.{sizeCell}
-use Rattle.node_tables.specs.Cells.{isInSubtreeOn}
+use Rattle.tables.specs.node_tables.Cells.{sizeCell}
+use Rattle.tables.specs.node_tables.Cells.{isInSubtreeOn}
 use Rattle.questions.specs.Part.{found, lastFound, foundBelow}
 use Rattle.questions.specs.inner.Scans.{lastFrom, lastIn, anyIn, Shortened, foundOf, labelOf}
 

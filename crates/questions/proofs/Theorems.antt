@@ -8,7 +8,7 @@
 --     passed-over         a question passes over no fewer nodes than it has links, and no more than the plan is high for each part
 --     roots-in-range, part-in-range   18 only where a value leads outside the plan, the states or the labels, or a link does not rise
 --     rule-in-range     .. and where the rule holds no value does
--- That answer, parts and links do not depend on the list's order, and each part's links: crate book (OrderLaws, Ceilings).
+-- That answer, parts and links do not depend on the list's order, and each part's links: crate reference (OrderLaws, Ceilings).
 -- Assumes nothing.
 use Prim.Native.Nat.{ℕ, _+_, _-_, _*_, _≤_, _<_}
 use mathlib.Core.Path.{_≡_}
@@ -21,19 +21,19 @@ use Rattle.trees.specs.Automaton.{state}
 use Rattle.trees.specs.Changes.{changed}
 use Rattle.trees.specs.Numbering.{sub, InSubtree}
 use Rattle.list_laws.specs.Tests.{allBelow}
-use Rattle.node_tables.specs.OutOfRange.{NodeTableOutOfRange}
-use Rattle.node_tables.specs.NodeCells.{NodeCells}
+use Rattle.tables.specs.node_tables.OutOfRange.{NodeTableOutOfRange}
+use Rattle.tables.specs.node_tables.NodeCells.{NodeCells}
 use Rattle.tables.specs.Climbs.{View, reached}
-use Rattle.ready.specs.Ready.{Ready, Closed}
-use Rattle.ready.specs.Members.{readyList, roots}
-use Rattle.ready.specs.Parts.{Given, Part, nodesOf, statesOf, stateOf, partState, partLinks, partPassed, partsOf}
-use Rattle.ready.specs.Parts.{questionLinks, questionPassed}
-use Rattle.ready.proofs.ClosedForm as closed-form
-use Rattle.ready.proofs.HighestLaws.{Highest, highest-holds}
-use Rattle.ready.proofs.ChangedRun.{Changes}
-use Rattle.ready.specs.StaysInside.{StaysInside}
-use Rattle.ready.proofs.PartsRun.{Members, RunGiven, parts-right}
-use Rattle.ready.proofs.PassedLaws.{question-passed}
+use Rattle.questions.specs.ready.Ready.{Ready, Closed}
+use Rattle.questions.specs.ready.Members.{readyList, roots}
+use Rattle.questions.specs.ready.Parts.{Given, Part, nodesOf, statesOf, stateOf, partState, partLinks, partPassed, partsOf}
+use Rattle.questions.specs.ready.Parts.{questionLinks, questionPassed}
+use Rattle.questions.proofs.ready.ClosedForm as closed-form
+use Rattle.questions.proofs.ready.HighestLaws.{Highest, highest-holds}
+use Rattle.questions.proofs.ready.ChangedRun.{Changes}
+use Rattle.questions.specs.ready.StaysInside.{StaysInside}
+use Rattle.questions.proofs.ready.PartsRun.{Members, RunGiven, parts-right}
+use Rattle.questions.proofs.ready.PassedLaws.{question-passed}
 use Rattle.questions.specs.Roots.{rootsOn}
 use Rattle.questions.specs.Part.{partOn}
 use Rattle.questions.specs.OutOfRange.{PartOutOfRange}

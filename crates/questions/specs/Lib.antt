@@ -7,3 +7,5 @@ pub mod PartAnswers
 pub mod Promises
 pub mod OutOfRange
 pub mod inner
+pub mod changed_roots
+pub mod ready

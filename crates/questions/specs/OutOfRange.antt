@@ -1,7 +1,7 @@
 -- Values that lead outside the plan, the states or the labels.
 --
 -- PartOutOfRange X qs vs bs == such a value, where a part of the list vs, bs is asked for with the states qs of the roots before it: what 18
---   means. What "Parts of a question" lends has none (proofs/NotAstray).
+--   means. What "Parts of a question" lends has none (proofs/RuleRange).
 --
 -- "18 means that a value read leads outside the plan, the states or the labels, or a climb doesn't rise."
 -- Assumes nothing.
@@ -11,7 +11,7 @@ use mathlib.Core.Bool.{false}
 use mathlib.Core.List.{List}
 use lib.ListN.{getD}
 use Rattle.list_laws.specs.Tests.{allBelow}
-use Rattle.node_tables.specs.OutOfRange.{Childless, NodeTableOutOfRange}
+use Rattle.tables.specs.node_tables.OutOfRange.{Childless, NodeTableOutOfRange}
 use Rattle.tables.specs.StateCells.{stateCell, mapCell}
 use Rattle.tables.specs.Climbs.{View}
 use Rattle.questions.specs.Part.{labelOn}

@@ -17,8 +17,8 @@ use lib.Dec.{leb, ltb, eqb}
 use lib.ListN.{getD}
 use Rattle.trees.specs.Changes.{changed}
 use Rattle.trees.specs.Climb.{andThen}
-use Rattle.node_tables.specs.Cells.{depthCell, sizeCell}
-use Rattle.node_tables.specs.Cells.{isInSubtreeOn}
+use Rattle.tables.specs.node_tables.Cells.{depthCell, sizeCell}
+use Rattle.tables.specs.node_tables.Cells.{isInSubtreeOn}
 use Rattle.tables.specs.declared.answers.Reached.{Reached}
 use Rattle.tables.specs.Climbs.{View, below, runOn, ruleOn, reached, climbOn}
 

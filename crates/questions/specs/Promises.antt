@@ -16,15 +16,15 @@ use mathlib.Core.Option.{Option, none, some}
 use lib.ListN.{length, getD, take}
 use Rattle.trees.specs.Tree.{Tree, size, labelsOf, kindsOf, labelAt}
 use Rattle.trees.specs.Changes.{changed}
-use Rattle.node_tables.specs.NodeCells.{NodeCells}
-use Rattle.node_tables.specs.OutOfRange.{NodeTableOutOfRange}
+use Rattle.tables.specs.node_tables.NodeCells.{NodeCells}
+use Rattle.tables.specs.node_tables.OutOfRange.{NodeTableOutOfRange}
 use Rattle.tables.specs.StateCells.{stateCell, mapCell}
 use Rattle.tables.specs.declared.answers.Climbed.{Climbed}
 use Rattle.tables.specs.declared.answers.Climbed.the-variants.{Reached as To}
 use Rattle.tables.specs.declared.answers.Reached.{Reached}
 use Rattle.tables.specs.Climbs.{View, climbedOf, climbedNumber, reached}
-use Rattle.ready.specs.Members as members
-use Rattle.ready.specs.Parts.{Given, Part, nodesOf, statesOf, stateOf, partState, partLinks, partPassed}
+use Rattle.questions.specs.ready.Members as members
+use Rattle.questions.specs.ready.Parts.{Given, Part, nodesOf, statesOf, stateOf, partState, partLinks, partPassed}
 use Rattle.questions.specs.declared.roots.Rooted.{Rooted}
 use Rattle.questions.specs.Rising.{RisesTo}
 use Rattle.questions.specs.RootsAnswers.{rootsFit, rootsGiven, rootedOf}

@@ -13,7 +13,7 @@ use mathlib.Core.List.{List}
 use mathlib.Core.Option.{Option, none, some}
 use lib.Dec.{ltb}
 use Rattle.trees.specs.Climb.{Forest, Move, byJump, toParent, target, rising, andThen}
-use Rattle.node_tables.specs.Cells.{cellForest, isInSubtreeOn}
+use Rattle.tables.specs.node_tables.Cells.{cellForest, isInSubtreeOn}
 
 unfoldable pub nextUnless : Forest → (ℕ → Bool) → ℕ → Option Move
 nextUnless F stop v = cond (ltb (F .jump v) (F .nodes)) (rising F v (cond (stop (F .jump v)) (toParent v) (byJump v))) none

@@ -1,14 +1,14 @@
 // The search for a lowest common ancestor on lent numbers, whatever they hold. It counts no link.
-use node_tables::moves::depth_at;
-use node_tables::moves::is_below;
-use node_tables::moves::jump_at;
-use node_tables::moves::parent_at;
+use tables::node_tables::moves::depth_at;
+use tables::node_tables::moves::is_below;
+use tables::node_tables::moves::jump_at;
+use tables::node_tables::moves::parent_at;
 ghost use mathlib.Core.Path.{_≡_};
 ghost use Prim.Native.Nat.{ℕ, _+_, _*_, _≤_};
 ghost use lib.ListN.{length};
-ghost use Rattle.node_tables.specs.Cells.{cellForest};
-ghost use Rattle.node_tables.specs.inner.MoveAnswers.{MoveArgs};
-ghost use Rattle.node_tables.specs.Cells.{isInSubtreeOn};
+ghost use Rattle.tables.specs.node_tables.Cells.{cellForest};
+ghost use Rattle.tables.specs.node_tables.inner.MoveAnswers.{MoveArgs};
+ghost use Rattle.tables.specs.node_tables.Cells.{isInSubtreeOn};
 ghost use Rattle.questions.specs.Search.{nextUnless, meetOn};
 ghost use Rattle.questions.specs.inner.SearchAnswers.{meetingOf, targetOf, risingMeeting};
 

@@ -19,8 +19,8 @@ use Rattle.formats.specs.Checks.{check, firstNo}
 use Rattle.list_laws.proofs.BoolLaws.{true-false, and-both, and-left, and-right}
 use Rattle.formats.proofs.CheckLaws.{firstNo-head, firstNo-tail}
 use Rattle.tables.specs.declared.answers.Reached.{Reached}
-use Rattle.ready.specs.Parts.{Given, Part, part, partOf, partsFrom, statesOf, lastState}
-use Rattle.ready.proofs.PartsRun.{nodes-more}
+use Rattle.questions.specs.ready.Parts.{Given, Part, part, partOf, partsFrom, statesOf, lastState}
+use Rattle.questions.proofs.ready.PartsRun.{nodes-more}
 use Rattle.questions.specs.Part.{partOn}
 use Rattle.questions.specs.OutOfRange.{PartOutOfRange}
 use Rattle.questions.specs.Rising.{AllBelow}
@@ -28,7 +28,7 @@ use Rattle.questions.proofs.PlaceLaws.{to-below, below-entry}
 use Rattle.questions.proofs.PartRange.{part-out-of-range}
 use Rattle.questions.proofs.PartBounds.{part-bounded}
 use Rattle.trees.proofs.MoveLaws.{none-some}
-use Rattle.ready.proofs.PartsRun.{nodes-more}
+use Rattle.questions.proofs.ready.PartsRun.{nodes-more}
 use Rattle.formats.specs.Inputs.{Inputs, Sizes, fits, sameNodeInputs, sameInputs, statesBelow}
 use Rattle.model.specs.Calls.{advance, more, finished, Outcome, outcome, outcomeAnswer, Phase, isRunning, isSome}
 use Rattle.model.specs.Refusals.{stage, refusal}
@@ -40,7 +40,7 @@ use Rattle.reference.specs.Reference.{proceed, finishedWith, ruleAnswer}
 use Rattle.model.specs.Model.{Record, acted, viewBy, marksBy, stepped, advanceWith, partNext, proceeds}
 use Rattle.model.proofs.ModelLaws.{advance-fits, left-below, marks-built}
 use Rattle.model.proofs.Facts.{reachedBy, nextRoot, Layers}
-use Rattle.ready.proofs.PassedLaws.{passed-more}
+use Rattle.questions.proofs.ready.PassedLaws.{passed-more}
 use Rattle.model.proofs.ResultLaws.{length-states, states-more, length-more, last-more, links-more, below-more}
 use Rattle.model.proofs.ResultLaws.{from-more}
 use Rattle.formats.proofs.InputsLaws.{Built, Same, plan-of, node-table-built, same-node-inputs, same-inputs-nodes}

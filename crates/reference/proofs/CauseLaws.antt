@@ -14,13 +14,13 @@ use borrow.Author.Tests.{le-leb, lt-ltb, eq-eqb, ne-eqb}
 use Rattle.trees.specs.LinkOutOfRange.{jump-outside, jump-flat, parent-outside, parent-flat}
 use Rattle.list_laws.specs.Tests.{allBelow}
 use Rattle.list_laws.proofs.BoolLaws.{true-false, and-both}
-use Rattle.node_tables.specs.Cells.{parentCell, jumpCell, depthCell, sizeCell, isInSubtreeOn}
-use Rattle.node_tables.specs.OutOfRange.{Childless, NodeTableOutOfRange, link, childless, apart}
+use Rattle.tables.specs.node_tables.Cells.{parentCell, jumpCell, depthCell, sizeCell, isInSubtreeOn}
+use Rattle.tables.specs.node_tables.OutOfRange.{Childless, NodeTableOutOfRange, link, childless, apart}
 use Rattle.tables.specs.StateCells.{stateCell, mapCell}
 use Rattle.tables.specs.Climbs.{View}
-use Rattle.ready.specs.Members.{someIn}
+use Rattle.questions.specs.ready.Members.{someIn}
 use Rattle.list_laws.proofs.BoolLaws.{or-first, or-second}
-use Rattle.ready.proofs.ListLaws.{in-some}
+use Rattle.questions.proofs.ready.ListLaws.{in-some}
 use Rattle.questions.specs.Part.{labelOn}
 use Rattle.questions.specs.OutOfRange.{PartOutOfRange, links, children, run, map, leaf, rule, handled, label, changed}
 use Rattle.formats.specs.Inputs.{Inputs, Sizes}

@@ -19,23 +19,23 @@ use Rattle.trees.specs.Climb.{digits}
 use Rattle.trees.proofs.IntervalLaws.{interval-ancestor, above-at}
 use Rattle.trees.proofs.TreeClimbs.{climb-tree, climb-bound}
 use Rattle.list_laws.specs.Tests.{allBelow, holds}
-use Rattle.ready.specs.Ready.{leftChild, rightChild}
-use Rattle.ready.specs.Members.{readyList, roots}
-use Rattle.ready.specs.Parts.{anyBelow, highestBelow, climbMoves, climbedLinks, innerLinks, partLinks, sumOf}
-use Rattle.ready.specs.Parts.{questionLinks, questionPassed}
-use Rattle.ready.proofs.PassedLaws.{question-passed}
-use Rattle.ready.proofs.UnderLaws.{left-in, right-in}
-use Rattle.ready.proofs.HighestLaws.{Highest}
-use Rattle.ready.proofs.ClosedForm.{kind-one}
-use Rattle.ready.proofs.BelowLaws.{some-below}
-use Rattle.ready.proofs.PartsRun.{Members}
-use Rattle.ready.proofs.ListLaws.{list-members}
+use Rattle.questions.specs.ready.Ready.{leftChild, rightChild}
+use Rattle.questions.specs.ready.Members.{readyList, roots}
+use Rattle.questions.specs.ready.Parts.{anyBelow, highestBelow, climbMoves, climbedLinks, innerLinks, partLinks, sumOf}
+use Rattle.questions.specs.ready.Parts.{questionLinks, questionPassed}
+use Rattle.questions.proofs.ready.PassedLaws.{question-passed}
+use Rattle.questions.proofs.ready.UnderLaws.{left-in, right-in}
+use Rattle.questions.proofs.ready.HighestLaws.{Highest}
+use Rattle.questions.proofs.ready.ClosedForm.{kind-one}
+use Rattle.questions.proofs.ready.BelowLaws.{some-below}
+use Rattle.questions.proofs.ready.PartsRun.{Members}
+use Rattle.questions.proofs.ready.ListLaws.{list-members}
 use Rattle.questions.specs.Promises.{RootsAre}
 use Rattle.formats.specs.Inputs.{Inputs, Sizes, nodeTableBuilt}
 use Rattle.model.specs.Model.{rootsIn}
 use Rattle.formats.specs.Plan.{planTree, labelsIn}
 use Rattle.changes.proofs.DifferingLaws.{differing-listed}
-use Rattle.ready.proofs.MonotoneLaws.{roots-mono}
+use Rattle.questions.proofs.ready.MonotoneLaws.{roots-mono}
 use Rattle.reference.specs.Reference.{Question, leftOf, partCount}
 use Rattle.model.proofs.Facts.{Layers}
 

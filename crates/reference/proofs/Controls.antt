@@ -17,8 +17,8 @@ use Rattle.changes.specs.Entries.{entries, nodesListed, labelsListed, put, putA
 use Rattle.changes.specs.ChangedPlan.{changedPlan}
 use Rattle.reference.specs.Reference.{newReference, asked, leftOf, rootsOf, freshAnswer}
 use Rattle.formats.specs.Plan.{planTree}
-use Rattle.ready.specs.Members.{roots}
-use Rattle.ready.specs.Parts.{questionLinks}
+use Rattle.questions.specs.ready.Members.{roots}
+use Rattle.questions.specs.ready.Parts.{questionLinks}
 use Rattle.reference.specs.AgreementTest.{agreed}
 use Rattle.reference.proofs.Sample.{computing, planA, tableA, loadA, inputsA, Seen, seen, asking, row}
 

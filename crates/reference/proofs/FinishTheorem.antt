@@ -14,7 +14,7 @@ use lib.Dec.{eqb, leb}
 use lib.ListN.{length, take, replicate, length-take}
 use borrow.Author.Tests.{eq-eqb, eqb-true, le-leb, leb-true}
 use Rattle.list_laws.proofs.BoolLaws.{true-false, and-left, and-right, and-both}
-use Rattle.ready.specs.Parts.{Part}
+use Rattle.questions.specs.ready.Parts.{Part}
 use Rattle.formats.specs.Plan.{planLength}
 use Rattle.formats.specs.Rules.{ruleLength}
 use Rattle.formats.specs.Checks.{check, firstNo, listChecks, nodeTableLength, stateTableLength}

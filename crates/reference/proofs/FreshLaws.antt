@@ -41,21 +41,21 @@ use Rattle.formats.proofs.PlanLaws.{labels-as-kinds, kinds-planTree, labels-pla
 use Rattle.formats.proofs.RuleLaws.{RulesPass, leaf-state-below, inner-state-below}
 use Rattle.runs.proofs.ListedLaws.{length-changed}
 use Rattle.changes.proofs.DifferingLaws.{unlisted-same, differing-listed}
-use Rattle.ready.specs.Ready.{leftChild, rightChild}
-use Rattle.ready.specs.Members.{readyList, roots, Rising}
-use Rattle.ready.specs.Parts.{Given, Part, anyBelow, stateOf, climbedState, innerState, partState, partOf, partsFrom}
-use Rattle.ready.specs.Parts.{partsOf, lastState, allLinks, questionLinks, allPassed, questionPassed}
-use Rattle.ready.proofs.ChangedRun.{Changes}
-use Rattle.ready.specs.StaysInside.{StaysInside}
-use Rattle.ready.proofs.PartsRun.{RunGiven, parts-right}
-use Rattle.ready.proofs.SameTrees.{same-count}
-use Rattle.ready.proofs.BelowLaws.{rising-above}
-use Rattle.ready.proofs.ListLaws.{list-members, list-last, list-rising}
+use Rattle.questions.specs.ready.Ready.{leftChild, rightChild}
+use Rattle.questions.specs.ready.Members.{readyList, roots, Rising}
+use Rattle.questions.specs.ready.Parts.{Given, Part, anyBelow, stateOf, climbedState, innerState, partState, partOf, partsFrom}
+use Rattle.questions.specs.ready.Parts.{partsOf, lastState, allLinks, questionLinks, allPassed, questionPassed}
+use Rattle.questions.proofs.ready.ChangedRun.{Changes}
+use Rattle.questions.specs.ready.StaysInside.{StaysInside}
+use Rattle.questions.proofs.ready.PartsRun.{RunGiven, parts-right}
+use Rattle.questions.proofs.ready.SameTrees.{same-count}
+use Rattle.questions.proofs.ready.BelowLaws.{rising-above}
+use Rattle.questions.proofs.ready.ListLaws.{list-members, list-last, list-rising}
 use Rattle.formats.specs.Inputs.{Inputs, Sizes, usedStateTable, stateTableBuilt, statesBelow}
 use Rattle.model.specs.PartInputs.{givenOf}
 use Rattle.reference.specs.Reference.{Question, leftOf, rootsOf, changedTree, givenBy}
-use Rattle.ready.specs.Parts.{nodesOf}
-use Rattle.ready.proofs.PassedLaws.{whole-passed}
+use Rattle.questions.specs.ready.Parts.{nodesOf}
+use Rattle.questions.proofs.ready.PassedLaws.{whole-passed}
 use Rattle.model.proofs.ResultLaws.{last-more, from-more, from-nodes, from-links}
 use Rattle.formats.proofs.InputsLaws.{Built, plan-of, rules-of}
 

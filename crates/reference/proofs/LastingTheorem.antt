@@ -16,7 +16,7 @@ use lib.ListN.{length}
 use Rattle.list_laws.proofs.BoolLaws.{true-false}
 use Rattle.formats.specs.Checks.{firstNo}
 use Rattle.formats.specs.Inputs.{Inputs, Sizes, sameInputs}
-use Rattle.ready.specs.Parts.{Part}
+use Rattle.questions.specs.ready.Parts.{Part}
 use Rattle.model.specs.Calls.{Call, load, start, advance, cancel, read, Answer, refused, parts, more, finished, outcome}
 use Rattle.model.specs.Calls.{onAdvance, onOutcome, isRefused}
 use Rattle.model.specs.Refusals.{refusal}

@@ -29,8 +29,8 @@ use Rattle.changes.specs.Differing.{differing}
 use Rattle.changes.proofs.EntryLaws.{nodes-entries, listed-holds, isSome}
 use Rattle.changes.proofs.ChangedLaws.{labelOr, changed-label}
 use Rattle.changes.proofs.DifferingLaws.{differing-same}
-use Rattle.ready.specs.Members.{readyList, roots}
-use Rattle.ready.specs.Parts.{questionLinks, questionPassed}
+use Rattle.questions.specs.ready.Members.{readyList, roots}
+use Rattle.questions.specs.ready.Parts.{questionLinks, questionPassed}
 use Rattle.formats.specs.Inputs.{Inputs, fits, sound}
 use Rattle.model.specs.Calls.{outcomeAnswer, start, mayStart}
 use Rattle.model.specs.Refusals.{Stage, refusal}

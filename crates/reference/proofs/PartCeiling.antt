@@ -16,10 +16,10 @@ use Rattle.list_laws.specs.Tests.{holds}
 use Rattle.formats.specs.Plan.{planTree}
 use Rattle.formats.specs.Inputs.{Inputs}
 use Rattle.tables.specs.declared.answers.Reached.{Reached}
-use Rattle.ready.specs.Members.{roots}
-use Rattle.ready.specs.Parts.{Part, partLinks}
-use Rattle.ready.proofs.PartsRun.{Members}
-use Rattle.ready.proofs.ListLaws.{list-members}
+use Rattle.questions.specs.ready.Members.{roots}
+use Rattle.questions.specs.ready.Parts.{Part, partLinks}
+use Rattle.questions.proofs.ready.PartsRun.{Members}
+use Rattle.questions.proofs.ready.ListLaws.{list-members}
 use Rattle.model.specs.Calls.{advance, Answer, more, finished, Phase}
 use Rattle.model.specs.Refusals.{refusal}
 use Rattle.model.specs.Model.{Record, Acted, acted, stageOf, marksBy, stepped, advanceWith}

@@ -20,7 +20,7 @@ use Rattle.list_laws.specs.Tests.{distinct}
 use Rattle.formats.specs.Plan.{planTree, labelsIn}
 use Rattle.list_laws.proofs.BoolLaws.{true-false}
 use Rattle.changes.specs.Differing.{differing}
-use Rattle.ready.specs.Members.{roots}
+use Rattle.questions.specs.ready.Members.{roots}
 use Rattle.formats.specs.Inputs.{Inputs, Sizes}
 use Rattle.model.specs.Calls.{Call, start, Answer, refused, parts, Outcome, outcome, onOutcome, isRefused}
 use Rattle.model.specs.Refusals.{refusal}

@@ -18,13 +18,13 @@ use mathlib.Core.List.{List, []}
 use mathlib.Core.Option.{Option, none, some}
 use lib.ListN.{length, take}
 use Rattle.formats.specs.Checks.{firstNo, listChecks}
-use Rattle.ready.specs.Parts.{Part, partsFrom, allLinks, allPassed}
+use Rattle.questions.specs.ready.Parts.{Part, partsFrom, allLinks, allPassed}
 use Rattle.formats.specs.Inputs.{Sizes, nodeTableBuilt, stateTableBuilt}
 use Rattle.model.specs.Calls.{Outcome, outcome}
 use Rattle.reference.specs.Reference.{Settlement, clean, byRule, byProgram, Question, State, Reference, phase}
 use Rattle.reference.specs.Reference.{rootsOf, partCount, givenBy, freshAnswer, ruleAnswer}
 use Rattle.model.specs.Model.{Record}
-use Rattle.ready.specs.Parts.{statesOf}
+use Rattle.questions.specs.ready.Parts.{statesOf}
 use Rattle.model.proofs.Facts.{Handled}
 
 pub record Parted (r : Record) (z : Sizes) (q : Question) (ps : List Part) : Type 0 where

@@ -20,13 +20,13 @@ use Rattle.trees.specs.Tables.{nodeTableOf, stepUp, stateMap, stateTableOf}
 use Rattle.list_laws.specs.Tests.{allBelow, holds, distinct, sameList}
 use Rattle.formats.specs.Checks.{firstNo, planChecks, ruleChecks, listChecks, ruleTableChecks, buildChecks}
 use Rattle.formats.specs.Built.{builtNodeTable, builtStateTable}
-use Rattle.node_tables.specs.Cells.{isInSubtreeOn}
+use Rattle.tables.specs.node_tables.Cells.{isInSubtreeOn}
 use Rattle.tables.specs.Climbs.{below, runOn, ruleOn, siblingOn, parentOn, moveOn, climbOn}
-use Rattle.ready.specs.Members.{someIn, someBelow, forksAt, isMember, keep, readyList, roots}
-use Rattle.ready.specs.Parts.{anyBelow, lastBelow, moveState, climbMoves, climbedLinks, innerLinks}
-use Rattle.ready.specs.Parts.{partLinks, sumOf, questionLinks, climbedPassed, innerPassed, partPassed, questionPassed}
-use Rattle.ready.specs.Parts.{stateOf, climbedState, innerState, partState, partOf, partsFrom, partsOf, lastState}
-use Rattle.ready.specs.Parts.{allLinks, allPassed}
+use Rattle.questions.specs.ready.Members.{someIn, someBelow, forksAt, isMember, keep, readyList, roots}
+use Rattle.questions.specs.ready.Parts.{anyBelow, lastBelow, moveState, climbMoves, climbedLinks, innerLinks}
+use Rattle.questions.specs.ready.Parts.{partLinks, sumOf, questionLinks, climbedPassed, innerPassed, partPassed, questionPassed}
+use Rattle.questions.specs.ready.Parts.{stateOf, climbedState, innerState, partState, partOf, partsFrom, partsOf, lastState}
+use Rattle.questions.specs.ready.Parts.{allLinks, allPassed}
 use Rattle.questions.specs.Part.{lastFound, labelOn, climbFrom, runReached, ownReached, joinOn, innerOn, leafOn}
 use Rattle.questions.specs.Part.{forkOn, partOn}
 use Rattle.formats.specs.Inputs.{Inputs, fits, sameNodeInputs, sameInputs, namesSizes, nodeTableBuilt, stateTableBuilt}

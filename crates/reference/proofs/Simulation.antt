@@ -16,7 +16,7 @@ use lib.Seq.{take-all}
 use Rattle.trees.specs.Automaton.{state}
 use Rattle.formats.specs.Rules.{ruleAutomaton}
 use Rattle.formats.specs.Checks.{firstNo}
-use Rattle.ready.specs.Parts.{Part, partsFrom, partsOf, lastState, allLinks, allPassed}
+use Rattle.questions.specs.ready.Parts.{Part, partsFrom, partsOf, lastState, allLinks, allPassed}
 use Rattle.formats.specs.Inputs.{Inputs, Sizes, sizesIn}
 use Rattle.model.specs.Calls.{Call, load, cancel, read, Answer, refused, Outcome, outcome, outcomeAnswer, Phase, isRunning, isSome}
 use Rattle.model.specs.Refusals.{stage, refusal}

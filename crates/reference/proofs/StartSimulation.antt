@@ -8,7 +8,7 @@ use mathlib.Core.Bool.{true}
 use mathlib.Core.List.{List, []}
 use Rattle.list_laws.specs.Tests.{allBelow}
 use Rattle.list_laws.proofs.BoolLaws.{and-right}
-use Rattle.ready.specs.Parts.{partsFrom, allLinks, allPassed}
+use Rattle.questions.specs.ready.Parts.{partsFrom, allLinks, allPassed}
 use Rattle.formats.specs.Inputs.{Inputs, Sizes, nodeTableBuilt, stateTableBuilt, sound}
 use Rattle.model.specs.Calls.{start}
 use Rattle.model.specs.Refusals.{refusal}

@@ -27,8 +27,8 @@ use Rattle.changes.specs.Entries.{entries, nodesListed, labelsListed, supersede
 use Rattle.changes.specs.Differing.{differing}
 use Rattle.changes.proofs.ChangedLaws.{changed-superseded, superseded-list}
 use Rattle.changes.proofs.DifferingLaws.{differing-superseded}
-use Rattle.ready.specs.Members.{roots}
-use Rattle.ready.specs.Parts.{questionLinks, questionPassed}
+use Rattle.questions.specs.ready.Members.{roots}
+use Rattle.questions.specs.ready.Parts.{questionLinks, questionPassed}
 use Rattle.tables.specs.declared.answers.Reached.{Reached}
 use Rattle.tables.specs.Climbs.{View}
 use Rattle.questions.specs.Part.{labelOn, partOn}

@@ -18,7 +18,7 @@ use lib.ListN.{length}
 use borrow.Author.Tests.{eqb-true, eqb-false}
 use Rattle.formats.specs.Checks.{firstNo}
 use Rattle.list_laws.proofs.BoolLaws.{true-false}
-use Rattle.ready.specs.Parts.{Part}
+use Rattle.questions.specs.ready.Parts.{Part}
 use Rattle.trees.proofs.MoveLaws.{none-some}
 use Rattle.formats.specs.Inputs.{Inputs, Sizes, sameInputs}
 use Rattle.model.specs.Calls.{Call, load, start, advance, cancel, read, Answer, refused, parts, more, finished, Outcome, outcome}

@@ -25,7 +25,7 @@ use Rattle.list_laws.proofs.TestLaws.{sameList-is}
 use Rattle.formats.proofs.PlanLaws.{size-planTree}
 use Rattle.formats.proofs.InputLaws.{rule-table-passes, build-table}
 use Rattle.tables.specs.Answers.{written}
-use Rattle.node_tables.proofs.CellLaws.{length-nodeTableOf}
+use Rattle.tables.proofs.node_tables.CellLaws.{length-nodeTableOf}
 use Rattle.formats.specs.Inputs.{Inputs, sizesIn, fits, usedNodeTable, usedStateTable, nodeTableBuilt, stateTableBuilt}
 use Rattle.formats.specs.Inputs.{sound}
 use Rattle.model.specs.Calls.{load, start, parts, mayLoad, mayStart, isSome}

@@ -11,17 +11,17 @@
 -- cause X vs bs == one of these: of what an advance reads
 -- advanceCause z x vs bs == of the inputs, excess aside
 --
--- The same as data, with the value's place: NodeTableOutOfRange (crate links) and PartOutOfRange (crate questions); proofs/CauseLaws.
+-- The same as data, with the value's place: NodeTableOutOfRange (crate tables) and PartOutOfRange (crate questions); proofs/CauseLaws.
 -- Assumes nothing.
 use Prim.Native.Nat.{ℕ, _+_, _-_, _*_}
 use mathlib.Core.Bool.{Bool, not, _&&_, _||_}
 use mathlib.Core.List.{List}
 use lib.Dec.{leb, ltb, eqb}
 use lib.ListN.{getD}
-use Rattle.node_tables.specs.Cells.{parentCell, jumpCell, depthCell, sizeCell, isInSubtreeOn}
+use Rattle.tables.specs.node_tables.Cells.{parentCell, jumpCell, depthCell, sizeCell, isInSubtreeOn}
 use Rattle.tables.specs.StateCells.{stateCell, mapCell}
 use Rattle.tables.specs.Climbs.{View, viewOf}
-use Rattle.ready.specs.Members.{someIn}
+use Rattle.questions.specs.ready.Members.{someIn}
 use Rattle.questions.specs.Part.{labelOn}
 use Rattle.formats.specs.Inputs.{Inputs, Sizes, usedNodeTable, usedStateTable}
 

@@ -22,8 +22,8 @@ use Rattle.formats.specs.Plan.{planTree, labelsIn}
 use Rattle.changes.specs.Differing.{differing}
 use Rattle.formats.specs.Rules.{ruleAutomaton}
 use Rattle.runs.specs.FreshRun as fresh-run
-use Rattle.ready.specs.Members.{roots}
-use Rattle.ready.specs.Parts.{Given, Part, partOf, lastState, allLinks, questionLinks, allPassed, questionPassed}
+use Rattle.questions.specs.ready.Members.{roots}
+use Rattle.questions.specs.ready.Parts.{Given, Part, partOf, lastState, allLinks, questionLinks, allPassed, questionPassed}
 use Rattle.formats.specs.Inputs.{Inputs, Sizes, sizesIn, sameNodeInputs, sameInputs, statesBelow}
 use Rattle.model.specs.Calls.{Call, load, start, advance, cancel, read, Answer, refused, parts, more, finished}
 use Rattle.model.specs.Calls.{outcomeAnswer, onRefused, onAdvance, onOutcome, Phase, isSome}

@@ -4,3 +4,4 @@ pub mod Projection
 pub mod EightReferences
 pub mod Turns
 pub mod Statements
+pub mod in_place

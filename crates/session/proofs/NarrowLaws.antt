@@ -13,8 +13,8 @@ use Rattle.trees.proofs.HeightLaws.{depth-limit}
 use Rattle.formats.specs.Plan.{planTree}
 use Rattle.formats.specs.Inputs.{Inputs, Sizes, usedNodeTable, nodeTableBuilt}
 use Rattle.formats.proofs.InputsLaws.{Built, node-table-built, plan-of}
-use Rattle.node_tables.specs.Cells.{depthCell}
-use Rattle.node_tables.proofs.CellLaws.{length-nodeTableOf}
+use Rattle.tables.specs.node_tables.Cells.{depthCell}
+use Rattle.tables.proofs.node_tables.CellLaws.{length-nodeTableOf}
 use Rattle.questions.proofs.PartBounds.{part-bounded}
 use Rattle.model.specs.Calls.{advance}
 use Rattle.model.specs.Model.{Record, viewBy}

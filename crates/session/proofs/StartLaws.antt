@@ -23,8 +23,8 @@ use Rattle.formats.proofs.InputLaws.{ListPasses, list-passes, list-numbered}
 use Rattle.formats.proofs.InputsLaws.{Built, node-table-built}
 use Rattle.changes.specs.inner.LastDiffering.{lastDiffering, givenDiffering}
 use Rattle.changes.proofs.LastDifferingLaws.{last-same, last-most, last-below}
-use Rattle.ready.specs.Members.{roots}
-use Rattle.ready.proofs.MonotoneLaws.{roots-same}
+use Rattle.questions.specs.ready.Members.{roots}
+use Rattle.questions.proofs.ready.MonotoneLaws.{roots-same}
 use Rattle.formats.proofs.BufferLaws.{Lengths, lengths-are}
 use Rattle.questions.specs.declared.roots.Rooted.{Rooted}
 use Rattle.questions.specs.RootsAnswers.{rootedOf}
@@ -44,7 +44,7 @@ use Rattle.session.specs.Records.{phaseOf, phaseTo, sizesOf, stageIn, re
 use Rattle.session.specs.Answers.{startAnswer}
 use Rattle.session.specs.Promises.{CallDone}
 use Rattle.session.specs.inner.Shapes.{Shaped, HeaderArgs}
-use Rattle.changed_roots.specs.Args.{RootsArgs}
+use Rattle.questions.specs.changed_roots.Args.{RootsArgs}
 use Rattle.session.specs.inner.Steps.{ListArgs, startedOf}
 use Rattle.session.proofs.Holds.{Sized, holds-of, tails-of}
 use Rattle.session.proofs.ActLaws.{few-roots, start-sized}

@@ -1,4 +1,4 @@
--- The answers of the calls' enums, as document 01 compares them (crate book, Calls).
+-- The answers of the calls' enums, as document 01 compares them (crate model, specs/Calls).
 --
 -- callAnswer, startAnswer, advanceAnswer, readAnswer == the answer of each case of a call's enum: its number and values.
 --   Load and Cancel, Start, advance, Read

@@ -3,3 +3,4 @@ pub mod Answers
 pub mod Promises
 pub mod CallsByValue
 pub mod inner
+pub mod in_place

@@ -1,4 +1,4 @@
-// The panel session by value: the record, and load, start, advance, cancel and read.
+// The panel session by value and in place: the record, and load, start, advance, cancel and read.
 //     state    the record, its head, its limits and the fresh one
 //     answers  what the calls answer, and what an advance finds
 //     lists    tests of lists of numbers
@@ -12,10 +12,12 @@
 //     advance  advance
 //     cancel   Cancel
 //     read     Read
+//     in_place  the same calls over &mut Session
 mod advance;
 pub mod answers;
 mod cancel;
 mod fill;
+pub mod in_place;
 mod lists;
 mod load;
 mod loaded;

@@ -29,15 +29,15 @@ use Rattle.list_laws.specs.Tests.{sameList, allBelow}
 use Rattle.formats.specs.Rules.{treeAutomaton}
 use Rattle.list_laws.proofs.BoolLaws.{true-false, and-both}
 use Rattle.list_laws.proofs.TestLaws.{at-allBelow, allBelow-at, sameList-is, sameList-true}
-use Rattle.node_tables.specs.Cells.{parentCell, jumpCell, depthCell, sizeCell}
+use Rattle.tables.specs.node_tables.Cells.{parentCell, jumpCell, depthCell, sizeCell}
 use Rattle.trees.proofs.PostorderLaws.{size-of, some-tree, kind-of}
 use Rattle.tables.specs.StateCells.{stateCell, mapCell}
 use Rattle.tables.specs.inner.Compare.{every, rowIs}
 use Rattle.tables.specs.inner.States.{RuleRuns, innerState}
-use Rattle.node_tables.specs.inner.UpPass.{leftOf}
+use Rattle.tables.specs.node_tables.inner.UpPass.{leftOf}
 use Rattle.tables.proofs.CompareLaws.{every-all, every-at, rowIs-map, map-rowIs}
 use Rattle.table_checks.proofs.LocalLaws.{table-states, table-maps}
-use Rattle.node_tables.proofs.InnerNodeLaws.{kind-most}
+use Rattle.tables.proofs.node_tables.InnerNodeLaws.{kind-most}
 use Rattle.table_checks.specs.inner.PairNodes.{pairNodes, rootNode}
 use Rattle.tables.specs.inner.MapPairs.{rowOf, colOf}
 use Rattle.table_checks.specs.inner.PairStates.{rowsMatch, pairStates, leafIs, pairIs, TableRoom}

@@ -14,9 +14,9 @@ use lib.Dec.{eqb, ltb}
 use lib.ListN.{getD}
 use lib.Bits.{bitOr, bitXor}
 use borrow.Author.Tests.{eq-eqb, ne-eqb, eqb-true}
-use Rattle.node_tables.specs.Cells.{parentCell, jumpCell, depthCell, sizeCell}
-use Rattle.node_tables.specs.JumpLengths.{jumpLengths}
-use Rattle.node_tables.specs.inner.UpPass.{leftOf, innerSize}
+use Rattle.tables.specs.node_tables.Cells.{parentCell, jumpCell, depthCell, sizeCell}
+use Rattle.tables.specs.node_tables.JumpLengths.{jumpLengths}
+use Rattle.tables.specs.node_tables.inner.UpPass.{leftOf, innerSize}
 use Rattle.table_checks.specs.inner.PairNodes.{within, pairByDistances, pairByLength, pairJump, pairNodes}
 use Rattle.table_checks.specs.inner.PairNodes.{packed, linksCell, numbersCell}
 use Rattle.table_checks.proofs.DifferenceLaws.{or-none, or-left, or-right, xor-zero, xor-none}

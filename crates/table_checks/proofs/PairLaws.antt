@@ -19,16 +19,16 @@ use Rattle.trees.proofs.NodeLaws.{Inner, inner, Up, up, size-pos}
 use Rattle.trees.proofs.JumpLaws.{jump-in}
 use Rattle.trees.proofs.MapLaws.{parent-inner}
 use Rattle.formats.specs.Rules.{treeAutomaton}
-use Rattle.node_tables.specs.Cells.{jumpCell}
-use Rattle.node_tables.specs.NodeCells.{NodeCells}
+use Rattle.tables.specs.node_tables.Cells.{jumpCell}
+use Rattle.tables.specs.node_tables.NodeCells.{NodeCells}
 use Rattle.trees.proofs.PostorderLaws.{size-of, kind-of}
-use Rattle.node_tables.proofs.UpLoop.{child-is}
-use Rattle.node_tables.proofs.CellLaws.{link-cells, cells-link}
+use Rattle.tables.proofs.node_tables.UpLoop.{child-is}
+use Rattle.tables.proofs.node_tables.CellLaws.{link-cells, cells-link}
 use Rattle.tables.specs.StateCells.{stateCell, mapCell}
 use Rattle.tables.specs.inner.Compare.{nearEntry}
 use Rattle.tables.specs.inner.MapPairs.{rowOf, colOf}
 use Rattle.tables.specs.inner.States.{innerState}
-use Rattle.node_tables.specs.inner.UpPass.{leftOf}
+use Rattle.tables.specs.node_tables.inner.UpPass.{leftOf}
 use Rattle.table_checks.specs.inner.LocalTables.{stepCells, LocalStates, LocalMaps}
 use Rattle.table_checks.proofs.LocalLaws.{local-unique, built-local-states, built-local-maps}
 use Rattle.table_checks.specs.inner.PairNodes.{within}

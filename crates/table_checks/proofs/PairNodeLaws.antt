@@ -22,18 +22,18 @@ use Rattle.trees.specs.Numbering.{parent, depth}
 use Rattle.trees.specs.Jumps.{jump}
 use Rattle.trees.proofs.NodeLaws.{Inner, inner, Up, up, sub-leaf, parent-root, depth-root, size-pos}
 use Rattle.trees.proofs.JumpLaws.{jump-root, jump-in, jump-above, depth-jump, jumpDepth-le}
-use Rattle.node_tables.specs.Cells.{parentCell, jumpCell, depthCell, sizeCell}
-use Rattle.node_tables.specs.NodeCells.{NodeCells, UpCells, UpTo, DownFrom, Parents}
-use Rattle.node_tables.specs.inner.UpPass.{leftOf, innerSize}
-use Rattle.node_tables.specs.inner.DownPass.{childJump}
-use Rattle.node_tables.specs.inner.CheckPass.{innerMatches, upMatches, downMatches}
+use Rattle.tables.specs.node_tables.Cells.{parentCell, jumpCell, depthCell, sizeCell}
+use Rattle.tables.specs.node_tables.NodeCells.{NodeCells, UpCells, UpTo, DownFrom, Parents}
+use Rattle.tables.specs.node_tables.inner.UpPass.{leftOf, innerSize}
+use Rattle.tables.specs.node_tables.inner.DownPass.{childJump}
+use Rattle.tables.specs.node_tables.inner.CheckPass.{innerMatches, upMatches, downMatches}
 use Rattle.table_checks.specs.inner.PairNodes.{within, pairByDistances, pairJump, bothAre, pairNodes}
-use Rattle.node_tables.specs.JumpLengths.{jumpLengths}
-use Rattle.node_tables.proofs.UpLoop.{child-is, at-left, new-size, none-yet}
+use Rattle.tables.specs.node_tables.JumpLengths.{jumpLengths}
+use Rattle.tables.proofs.node_tables.UpLoop.{child-is, at-left, new-size, none-yet}
 use Rattle.trees.proofs.PostorderLaws.{size-of, kind-of}
-use Rattle.node_tables.proofs.DownLoop.{jump-of, depth-of}
-use Rattle.node_tables.proofs.CellLaws.{both-passes, up-parents}
-use Rattle.node_tables.proofs.CheckLoop.{UpsTo, ups-step, root-from}
+use Rattle.tables.proofs.node_tables.DownLoop.{jump-of, depth-of}
+use Rattle.tables.proofs.node_tables.CellLaws.{both-passes, up-parents}
+use Rattle.tables.proofs.node_tables.CheckLoop.{UpsTo, ups-step, root-from}
 
 pub within-in : (n x : ℕ) → x < n → within n x ≡ x
 within-in n x h = rw (lt-ltb x n h)

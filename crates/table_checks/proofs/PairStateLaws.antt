@@ -19,7 +19,7 @@ use lib.Bits.{bitOr}
 use borrow.Author.Tests.{eq-eqb, ne-eqb, ltb-true}
 use Rattle.list_laws.proofs.RowLaws.{stride}
 use Rattle.trees.proofs.MoveLaws.{both}
-use Rattle.node_tables.specs.Cells.{jumpCell}
+use Rattle.tables.specs.node_tables.Cells.{jumpCell}
 use Rattle.tables.specs.StateCells.{stateCell, mapCell}
 use Rattle.tables.specs.inner.Rows.{RowIn}
 use Rattle.tables.specs.inner.MapPairs.{rowOf, colOf}
@@ -28,7 +28,7 @@ use Rattle.table_checks.specs.inner.Joins.{Joined, throughEntry}
 use Rattle.table_checks.specs.inner.PairPlaces.{PairPlaced}
 use Rattle.table_checks.specs.inner.PairStates.{farEntry, FarEntryArgs, rowsMatch, pairStates}
 use Rattle.table_checks.specs.inner.PairStates.{RowsArgs, StateIn, TableRoom}
-use Rattle.node_tables.specs.inner.UpPass.{leftOf}
+use Rattle.tables.specs.node_tables.inner.UpPass.{leftOf}
 use Rattle.tables.proofs.CompareLaws.{rowIs-map, map-rowIs, rowIs-ext}
 use Rattle.formats.proofs.RuleLaws.{rule-in}
 use Rattle.tables.proofs.MapPlaces.{Small, small}

@@ -14,7 +14,7 @@ use Rattle.formats.proofs.PlanLaws.{PlanPasses, length-kindsIn, labels-as-kinds
 use Rattle.formats.proofs.PlanLaws.{labels-part, kinds-part}
 use Rattle.formats.proofs.RuleLaws.{leaves-part, inner-part}
 use Rattle.formats.proofs.InputLaws.{build-passes, label-below}
-use Rattle.node_tables.specs.Cells.{NodeTableArgs}
+use Rattle.tables.specs.node_tables.Cells.{NodeTableArgs}
 use Rattle.tables.specs.Answers.{sameTables}
 use Rattle.tables.specs.inner.Written.{BuildArgs}
 use Rattle.tables.proofs.BuildLaws.{length-builtNodeTable, length-builtStates, link-args, rule-runs}

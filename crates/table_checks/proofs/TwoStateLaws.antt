@@ -12,7 +12,7 @@ use native.Mathlib.Omega.{arith}
 use lib.Dec.{eqb}
 use lib.ListN.{length, getD}
 use lib.Bits.{bitAnd, bitOr, bitXor}
-use Rattle.node_tables.specs.Cells.{jumpCell}
+use Rattle.tables.specs.node_tables.Cells.{jumpCell}
 use Rattle.tables.specs.StateCells.{mapCell}
 use Rattle.tables.specs.inner.Compare.{every, rowIs, nearEntry}
 use Rattle.table_checks.specs.inner.PairNodes.{within}

@@ -2,11 +2,11 @@
 use crate::listed::listed_leaves_match;
 use crate::listed::listed_nodes_match;
 use crate::listed::listed_states_match_any;
-use node_tables::blocks::block_end;
-use node_tables::blocks::empty_list;
+use tables::node_tables::blocks::block_end;
+use tables::node_tables::blocks::empty_list;
 ghost use mathlib.Core.Path.{_≡_};
 ghost use lib.ListN.{length, getD};
-ghost use Rattle.node_tables.specs.JumpLengths.{jumpLengths};
+ghost use Rattle.tables.specs.node_tables.JumpLengths.{jumpLengths};
 ghost use Rattle.tables.specs.inner.Compare.{every};
 ghost use Rattle.table_checks.specs.inner.PairStates.{pairIs};
 ghost use Rattle.table_checks.specs.inner.Blocks.{Means, BothListed, Nodes};

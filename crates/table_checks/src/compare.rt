@@ -2,9 +2,9 @@
 use crate::blocks::blocks_match;
 use crate::siblings::root_node_is;
 use formats::rules::all_below;
-use node_tables::blocks::empty_list;
-use node_tables::jump_lengths::jump_lengths;
 use tables::compare::root_row_is;
+use tables::node_tables::blocks::empty_list;
+use tables::node_tables::jump_lengths::jump_lengths;
 ghost use lib.ListN.{length};
 ghost use Rattle.table_checks.specs.inner.Tested.{MatchArgs, TablesTested};
 

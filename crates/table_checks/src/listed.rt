@@ -7,7 +7,7 @@ use crate::siblings::pair_node_differences;
 ghost use mathlib.Core.Path.{_≡_};
 ghost use lib.Dec.{eqb};
 ghost use lib.ListN.{getD};
-ghost use Rattle.node_tables.specs.JumpLengths.{jumpLengths};
+ghost use Rattle.tables.specs.node_tables.JumpLengths.{jumpLengths};
 ghost use Rattle.tables.specs.inner.Compare.{every};
 ghost use Rattle.table_checks.specs.inner.PairNodes.{pairNodes};
 ghost use Rattle.table_checks.specs.inner.PairStates.{leafIs, pairStates, LeafRoom};

@@ -6,7 +6,7 @@ ghost use mathlib.Core.Path.{_≡_};
 ghost use mathlib.Core.Bool.{cond};
 ghost use Prim.Native.Nat.{_-_, _<_};
 ghost use lib.Dec.{eqb};
-ghost use Rattle.node_tables.specs.Cells.{jumpCell};
+ghost use Rattle.tables.specs.node_tables.Cells.{jumpCell};
 ghost use Rattle.table_checks.specs.inner.PairNodes.{PairArgs};
 ghost use Rattle.table_checks.specs.inner.PairStates.{rowsMatch, pairStates, RowsArgs, NodeRoom};
 ghost use Rattle.table_checks.specs.inner.TwoStates.{TwoArgs, TwoMapped};

@@ -1,11 +1,11 @@
 // The node table's numbers of a node's two children, tested at their parent. Nothing that is lent leads outside, so
 // that the nodes may be looked at in any order and no test has to end the pass.
-use node_tables::jump_lengths::by_length;
-use node_tables::jump_lengths::jump_length;
+use tables::node_tables::jump_lengths::by_length;
+use tables::node_tables::jump_lengths::jump_length;
 ghost use mathlib.Core.Path.{_≡_};
 ghost use Prim.Native.Nat.{_<_};
-ghost use Rattle.node_tables.specs.JumpLengths.{jumpLengths};
-ghost use Rattle.node_tables.specs.inner.UpPass.{leftOf};
+ghost use Rattle.tables.specs.node_tables.JumpLengths.{jumpLengths};
+ghost use Rattle.tables.specs.node_tables.inner.UpPass.{leftOf};
 ghost use lib.Dec.{eqb};
 ghost use Rattle.table_checks.specs.inner.PairNodes.{within, pairByDistances, pairJump, pairNodes};
 ghost use Rattle.table_checks.specs.inner.PairNodes.{numbersCell, rootNode, PairArgs, RootArgs};

@@ -27,9 +27,9 @@ use Rattle.formats.proofs.PlanLaws.{labels-planTree, size-planTree, labels-part
 use Rattle.formats.proofs.RuleLaws.{RulesPass, length-leafStates, length-innerStates, leaf-state-below}
 use Rattle.formats.proofs.RuleLaws.{inner-state-below, leaves-part, inner-part}
 use Rattle.formats.proofs.InputLaws.{rule-table-passes, label-below, build-passes, build-table}
-use Rattle.node_tables.specs.Cells.{NodeTableArgs}
-use Rattle.node_tables.specs.NodeCells.{NodeCells}
-use Rattle.node_tables.proofs.CellLaws.{length-nodeTableOf, link-cells}
+use Rattle.tables.specs.node_tables.Cells.{NodeTableArgs}
+use Rattle.tables.specs.node_tables.NodeCells.{NodeCells}
+use Rattle.tables.proofs.node_tables.CellLaws.{length-nodeTableOf, link-cells}
 use Rattle.tables.specs.declared.answers.Building.{Building}
 use Rattle.tables.specs.declared.answers.Building.the-variants.{Built, Refused}
 use Rattle.tables.specs.Answers.{buildingNumber, buildAnswer, written, BuildDone}

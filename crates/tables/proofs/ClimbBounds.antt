@@ -24,7 +24,7 @@ use Rattle.trees.proofs.ClimbLaws.{climb-cons}
 use Rattle.trees.proofs.PassedLaws as passed-laws
 use Rattle.trees.proofs.PassedLaws.{passed-most}
 use Rattle.list_laws.proofs.BoolLaws.{true-false}
-use Rattle.node_tables.specs.Cells.{parentCell, depthCell, cellForest}
+use Rattle.tables.specs.node_tables.Cells.{parentCell, depthCell, cellForest}
 use Rattle.tables.specs.Climbs.{View, below, runOn, ruleOn, siblingOn}
 use Rattle.tables.specs.declared.answers.Reached.{Reached}
 use Rattle.tables.specs.Climbs.{parentOn, moveOn, reached, climbOn}

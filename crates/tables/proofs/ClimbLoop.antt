@@ -14,7 +14,7 @@ use Rattle.trees.specs.Climb.{Forest, Move, target, andThen}
 use Rattle.trees.proofs.MoveLaws.{next-inside, next-rises}
 use Rattle.trees.proofs.CarryLaws.{carried, carried-done, carried-move, carried-lost, carried-stuck}
 use Rattle.trees.proofs.PassedLaws.{ended-climb}
-use Rattle.node_tables.specs.Cells.{cellForest}
+use Rattle.tables.specs.node_tables.Cells.{cellForest}
 use Rattle.tables.specs.declared.answers.Climbed.the-variants.{Reached as To, OutOfRange}
 use Rattle.tables.specs.declared.climb.Landed.{Landed}
 use Rattle.tables.specs.declared.answers.Reached.{Reached}

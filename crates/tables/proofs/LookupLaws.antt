@@ -15,7 +15,7 @@ use borrow.Author.Tests.{lt-ltb, le-ltb, le-leb, lt-leb, eq-eqb, ne-eqb}
 use Rattle.trees.proofs.MoveLaws.{none-some}
 use Rattle.list_laws.proofs.Choice.{by-lt}
 use Rattle.list_laws.proofs.RowLaws.{stride}
-use Rattle.node_tables.specs.Cells.{sizeCell}
+use Rattle.tables.specs.node_tables.Cells.{sizeCell}
 use Rattle.tables.specs.Climbs.{View, below, ruleOn, siblingOn}
 
 pub below-yes : (s q : ℕ) → q < s → below s q ≡ some q

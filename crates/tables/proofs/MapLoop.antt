@@ -25,10 +25,10 @@ use Rattle.trees.proofs.PostorderLaws.{size-of, kind-of}
 use Rattle.list_laws.proofs.Choice.{le-or}
 use Rattle.list_laws.proofs.RowLaws.{stride, cells-apart}
 use Rattle.formats.specs.Rules.{treeAutomaton}
-use Rattle.node_tables.specs.Cells.{jumpCell, sizeCell}
-use Rattle.node_tables.specs.inner.UpPass.{leftOf}
-use Rattle.node_tables.specs.inner.InnerNodes.{ListArgs}
-use Rattle.node_tables.proofs.UpLoop.{child-is, inner-kind}
+use Rattle.tables.specs.node_tables.Cells.{jumpCell, sizeCell}
+use Rattle.tables.specs.node_tables.inner.UpPass.{leftOf}
+use Rattle.tables.specs.node_tables.inner.InnerNodes.{ListArgs}
+use Rattle.tables.proofs.node_tables.UpLoop.{child-is, inner-kind}
 use Rattle.tables.specs.StateCells.{stateCell, mapCell}
 use Rattle.tables.specs.inner.Rows.{Rowed, SameArgs}
 use Rattle.tables.specs.inner.Maps.{Prepared, MapArgs, Maps}

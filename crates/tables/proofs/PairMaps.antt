@@ -10,8 +10,8 @@ use borrow.Author.Tests.{eq-eqb, ne-eqb}
 use lib.ListN.{length, getD}
 use Rattle.list_laws.proofs.RowLaws.{stride}
 use Rattle.formats.proofs.RuleLaws.{rule-in}
-use Rattle.node_tables.specs.Cells.{jumpCell}
-use Rattle.node_tables.specs.inner.UpPass.{leftOf}
+use Rattle.tables.specs.node_tables.Cells.{jumpCell}
+use Rattle.tables.specs.node_tables.inner.UpPass.{leftOf}
 use Rattle.tables.specs.StateCells.{stateCell}
 use Rattle.tables.specs.inner.Rows.{Rowed, RowIn, FarArgs, farCell}
 use Rattle.tables.specs.inner.MapPairs.{PairRowed, rowOf, colOf, rightValue, leftValue, NearPairArgs}

@@ -21,7 +21,7 @@ use Rattle.trees.specs.Passed.{passedBy}
 use Rattle.trees.proofs.MoveLaws.{none-some, next-inside, next-rises}
 use Rattle.trees.proofs.ClimbLaws.{climb-done, climb-move, climb-stuck}
 use Rattle.list_laws.proofs.BoolLaws.{true-false}
-use Rattle.node_tables.specs.Cells.{depthCell, cellForest}
+use Rattle.tables.specs.node_tables.Cells.{depthCell, cellForest}
 use Rattle.tables.specs.declared.answers.Climbed.{Climbed}
 use Rattle.tables.specs.declared.answers.Climbed.the-variants.{Reached as To, OutOfRange}
 use Rattle.tables.specs.declared.answers.Reached.{Reached}

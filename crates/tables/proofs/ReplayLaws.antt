@@ -18,10 +18,10 @@ use borrow.Author.Tests.{lt-ltb, le-ltb, eq-eqb, ne-eqb}
 use Rattle.trees.specs.Climb.{Forest, Move, byJump, toParent, target, nextMove, andThen}
 use Rattle.trees.proofs.MoveLaws.{none-some}
 use Rattle.list_laws.proofs.BoolLaws.{true-false}
-use Rattle.node_tables.specs.declared.moves.NextMove.{NextMove}
-use Rattle.node_tables.specs.declared.moves.NextMove.the-variants.{Jump, Parent, Stuck}
-use Rattle.node_tables.specs.inner.MoveAnswers.{nextMoveOf}
-use Rattle.node_tables.proofs.MoveAnswerLaws.{answer-jump, answer-parent, answer-stuck}
+use Rattle.tables.specs.declared.node_tables.moves.NextMove.{NextMove}
+use Rattle.tables.specs.declared.node_tables.moves.NextMove.the-variants.{Jump, Parent, Stuck}
+use Rattle.tables.specs.node_tables.inner.MoveAnswers.{nextMoveOf}
+use Rattle.tables.proofs.node_tables.MoveAnswerLaws.{answer-jump, answer-parent, answer-stuck}
 use Rattle.tables.specs.StateCells.{mapCell}
 use Rattle.tables.specs.Climbs.{below}
 use Rattle.tables.specs.Replays.{stateMove, carryDown}

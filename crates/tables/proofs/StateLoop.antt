@@ -24,10 +24,10 @@ use Rattle.trees.proofs.RunLaws.{Children, children, state-leaf, state-inner, s
 use Rattle.formats.specs.inner.InnerChecks.{RuleArgs}
 use Rattle.formats.specs.Rules.{treeAutomaton}
 use Rattle.formats.proofs.RuleLaws.{rule-in}
-use Rattle.node_tables.specs.inner.UpPass.{leftOf}
-use Rattle.node_tables.specs.inner.InnerNodes.{ListArgs}
-use Rattle.node_tables.proofs.InnerNodeLaws.{kind-most}
-use Rattle.node_tables.specs.Cells.{sizeCell}
+use Rattle.tables.specs.node_tables.inner.UpPass.{leftOf}
+use Rattle.tables.specs.node_tables.inner.InnerNodes.{ListArgs}
+use Rattle.tables.proofs.node_tables.InnerNodeLaws.{kind-most}
+use Rattle.tables.specs.node_tables.Cells.{sizeCell}
 use Rattle.tables.specs.StateCells.{stateCell}
 use Rattle.tables.specs.inner.States.{RuleRuns, Runs, RanTo, RunsTo, Leaves, StateArgs, LeafArgs, innerState}
 use Rattle.tables.specs.inner.States.{InnerArgs}

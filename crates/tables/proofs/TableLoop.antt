@@ -17,7 +17,7 @@ use Rattle.list_laws.proofs.RowLaws.{length-rows}
 use Rattle.trees.proofs.TableRows.{length-stateRow}
 use Rattle.trees.proofs.PostorderLaws.{size-of}
 use Rattle.formats.specs.Rules.{treeAutomaton}
-use Rattle.node_tables.specs.NodeCells.{NodeCells}
+use Rattle.tables.specs.node_tables.NodeCells.{NodeCells}
 use Rattle.tables.specs.inner.States.{Ran, Runs}
 use Rattle.tables.specs.inner.Maps.{Prepared, MapArgs, Maps}
 use Rattle.tables.specs.inner.Written.{TableArgs, StatesOver}

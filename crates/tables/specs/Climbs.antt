@@ -20,7 +20,7 @@ use lib.Dec.{leb, ltb, eqb}
 use lib.ListN.{length, getD, take, drop}
 use Rattle.trees.specs.Climb.{Move, byJump, toParent, andThen, climb, carry}
 use Rattle.trees.specs.Passed.{passedBy}
-use Rattle.node_tables.specs.Cells.{parentCell, sizeCell, cellForest}
+use Rattle.tables.specs.node_tables.Cells.{parentCell, sizeCell, cellForest}
 use Rattle.tables.specs.declared.answers.Reached.{Reached}
 use Rattle.tables.specs.declared.answers.Climbed.{Climbed}
 use Rattle.tables.specs.declared.answers.Climbed.the-variants.{Reached as To, OutOfRange}

@@ -3,3 +3,4 @@ pub mod StateCells
 pub mod Climbs
 pub mod Replays
 pub mod inner
+pub mod node_tables

@@ -16,7 +16,7 @@ use lib.Dec.{ltb}
 use lib.ListN.{length, getD}
 use Rattle.trees.specs.Climb.{Move, byJump, toParent, andThen, climb}
 use Rattle.trees.specs.Passed.{passedBy}
-use Rattle.node_tables.specs.Cells.{cellForest}
+use Rattle.tables.specs.node_tables.Cells.{cellForest}
 use Rattle.tables.specs.declared.answers.Reached.{Reached}
 use Rattle.tables.specs.StateCells.{mapCell}
 use Rattle.tables.specs.Climbs.{below, reached}

@@ -1,10 +1,10 @@
 // The build: both tables of a plan and a rule table.
 use crate::answers::Building;
+use crate::node_tables::build::build_node_table;
 use crate::tables::write_states;
 use formats::bytes::read32;
 use formats::inputs::check_build;
 use formats::rules::inner_count;
-use node_tables::build::build_node_table;
 ghost use lib.ListN.{length};
 ghost use Rattle.formats.specs.Checks.{firstNo, buildChecks};
 ghost use Rattle.formats.specs.Built.{builtNodeTable, builtStateTable};

@@ -1,6 +1,6 @@
 // Lookups in what is lent, whatever it holds: a rule, a run state, a sibling. Each tells a number that names a state
 // where it is below S, or a node where it is below N; any other number means that the value led outside.
-use node_tables::moves::size_at;
+use crate::node_tables::moves::size_at;
 ghost use mathlib.Core.Path.{_≡_};
 ghost use Rattle.tables.specs.Climbs.{below, runOn, ruleOn, siblingOn};
 ghost use Rattle.tables.specs.inner.PathViews.{rulesView, statesView, nodesView, RuleOnArgs, RunOnArgs, PairArgs};

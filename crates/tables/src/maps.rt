@@ -1,12 +1,12 @@
 // The maps of a rule table's nodes, from the root down: both children of an inner node at its turn.
+use crate::node_tables::blocks::empty_list;
+use crate::node_tables::blocks::list_inner;
 use crate::pair_rows::far_pair;
 use crate::pair_rows::near_pair;
 use crate::rows::same_row;
-use node_tables::blocks::empty_list;
-use node_tables::blocks::list_inner;
 ghost use Prim.Native.Nat.{_-_};
 ghost use lib.ListN.{length};
-ghost use Rattle.node_tables.specs.inner.UpPass.{leftOf};
+ghost use Rattle.tables.specs.node_tables.inner.UpPass.{leftOf};
 ghost use Rattle.tables.specs.inner.Maps.{MapArgs, Maps};
 ghost use Rattle.tables.specs.inner.MapPairs.{PairRowed, rightValue, leftValue, PairArgs};
 ghost use Rattle.tables.specs.inner.MapPairs.{BlockArgs, BlockMapped};

@@ -4,12 +4,12 @@
 // with a map from the part's top to the start of the climb.
 use crate::answers::Climbed;
 use crate::answers::Reached;
-use node_tables::moves::NextMove;
-use node_tables::moves::depth_at;
-use node_tables::moves::next_move;
+use crate::node_tables::moves::NextMove;
+use crate::node_tables::moves::depth_at;
+use crate::node_tables::moves::next_move;
 ghost use mathlib.Core.Path.{_≡_};
-ghost use Rattle.node_tables.specs.Cells.{cellForest};
-ghost use Rattle.node_tables.specs.inner.MoveAnswers.{MoveArgs};
+ghost use Rattle.tables.specs.node_tables.Cells.{cellForest};
+ghost use Rattle.tables.specs.node_tables.inner.MoveAnswers.{MoveArgs};
 ghost use Rattle.tables.specs.Climbs.{below, climbedOf};
 ghost use Rattle.tables.specs.Replays.{stateMove, carryDown, replayOn};
 ghost use Rattle.tables.specs.inner.Remembered.{moveOf, remembered, Noted, Noticed, entryOf, Folded};

@@ -1,8 +1,8 @@
 // The run over a plan: each node's state byte, in rising node number.
+use crate::node_tables::blocks::block_end;
+use crate::node_tables::blocks::empty_list;
+use crate::node_tables::blocks::list_inner;
 use formats::rules::rule;
-use node_tables::blocks::block_end;
-use node_tables::blocks::empty_list;
-use node_tables::blocks::list_inner;
 ghost use mathlib.Core.Path.{_≡_};
 ghost use lib.ListN.{length, getD};
 ghost use Rattle.tables.specs.inner.States.{InnerArgs, StateArgs, Runs, innerState};

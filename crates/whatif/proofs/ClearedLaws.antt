@@ -20,7 +20,7 @@ use Rattle.list_laws.proofs.TestLaws.{sameList-is}
 use Rattle.formats.proofs.InputLaws.{list-numbered}
 use Rattle.formats.specs.Built.{builtNodeTable, builtStateTable}
 use Rattle.tables.specs.Answers.{written}
-use Rattle.ready.specs.Parts.{Part}
+use Rattle.questions.specs.ready.Parts.{Part}
 use Rattle.formats.specs.Inputs.{Inputs, Sizes, sizesIn, fits, usedNodeTable, usedStateTable, sameNodeInputs}
 use Rattle.formats.specs.Inputs.{sameInputs, nodeTableBuilt, stateTableBuilt, sound, inputsOf}
 use Rattle.model.specs.Calls.{Call, load, start, advance, read, Answer, refused, accepted, more, finished, Phase}

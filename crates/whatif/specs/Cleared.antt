@@ -21,8 +21,8 @@ use Rattle.formats.specs.Checks.{firstNo, listChecks}
 use Rattle.formats.specs.Built.{builtNodeTable, builtStateTable}
 use Rattle.tables.specs.Answers.{written}
 use Rattle.changes.specs.Differing.{differing}
-use Rattle.ready.specs.Members.{roots}
-use Rattle.ready.specs.Parts.{questionLinks, questionPassed}
+use Rattle.questions.specs.ready.Members.{roots}
+use Rattle.questions.specs.ready.Parts.{questionLinks, questionPassed}
 use Rattle.formats.specs.Inputs.{Inputs}
 use Rattle.model.specs.Calls.{load, Answer, refused, accepted, outcomeAnswer}
 use Rattle.session.specs.declared.state.Session.{Session}

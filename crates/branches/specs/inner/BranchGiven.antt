@@ -18,7 +18,7 @@ use Rattle.trees.specs.Tree.{Tree, size, labelsOf}
 use Rattle.trees.specs.Automaton.{WordAutomaton}
 use Rattle.trees.specs.Tables.{branchState}
 use Rattle.formats.specs.Checks.{nodeTableLength, stateTableLength}
-use Rattle.node_tables.specs.NodeCells.{NodeCells}
+use Rattle.tables.specs.node_tables.NodeCells.{NodeCells}
 use Rattle.tables.specs.StateCells.{stateCell}
 
 pub record BranchGiven (B : WordAutomaton) (t : Tree) (ls nodeTable st : List ℕ) (s k n : ℕ) : Type 0 where

@@ -17,7 +17,7 @@ use lib.ListN.{length, getD}
 use Rattle.trees.specs.Tree.{Tree}
 use Rattle.trees.specs.Automaton.{WordAutomaton}
 use Rattle.trees.specs.Tables.{branchMap}
-use Rattle.node_tables.specs.Cells.{parentCell, jumpCell}
+use Rattle.tables.specs.node_tables.Cells.{parentCell, jumpCell}
 use Rattle.tables.specs.StateCells.{mapCell}
 use Rattle.tables.specs.inner.Rows.{RowIn}
 use Rattle.tables.specs.inner.MapTable.{MapsWritten}

@@ -15,8 +15,8 @@ use Rattle.formats.specs.Rules.{ruleLength}
 use Rattle.formats.specs.Buffers.{limitsFit, buffersFit}
 use Rattle.tables.specs.Climbs.{View}
 use Rattle.tables.specs.inner.PathViews.{PathArgs}
-use Rattle.part_counts.specs.PartsOn.{partsOk}
-use Rattle.part_counts.specs.CountOn.{openIn, rootsIn, listIn, isCountable}
+use Rattle.choices.specs.question_counts.PartsOn.{partsOk}
+use Rattle.choices.specs.question_counts.CountOn.{openIn, rootsIn, listIn, isCountable}
 use Rattle.choices.specs.declared.count.Counted.{Counted}
 use Rattle.choices.specs.Promise.{refusedWith, countedAt}
 use Rattle.choices.specs.inner.Part.{Runs}

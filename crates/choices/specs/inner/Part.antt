@@ -17,14 +17,14 @@ use mathlib.Core.Bool.{Bool, true, false, cond, _&&_}
 use mathlib.Core.List.{List}
 use lib.Dec.{leb, ltb}
 use lib.ListN.{length, getD}
-use Rattle.node_tables.specs.Cells.{sizeCell}
+use Rattle.tables.specs.node_tables.Cells.{sizeCell}
 use Rattle.tables.specs.Climbs.{View}
 use Rattle.tables.specs.inner.PathViews.{PathArgs}
 use Rattle.questions.specs.inner.Scans.{lastIn}
-use Rattle.joining.specs.Capped.{countLimit}
-use Rattle.counting.specs.declared.carry.Carried.{Carried}
-use Rattle.part_counts.specs.PartOn.{partOkOn, partLinksOn}
-use Rattle.part_counts.specs.PartsOn.{rowOn}
+use Rattle.choices.specs.node_counts.Capped.{countLimit}
+use Rattle.choices.specs.declared.part_steps.carry.Carried.{Carried}
+use Rattle.choices.specs.question_counts.PartOn.{partOkOn, partLinksOn}
+use Rattle.choices.specs.question_counts.PartsOn.{rowOn}
 use Rattle.choices.specs.declared.part.LabelRange.{LabelRange}
 use Rattle.choices.specs.declared.part.Places.{Places}
 

@@ -13,11 +13,11 @@ use mathlib.Core.Bool.{Bool, true}
 use mathlib.Core.List.{List, [], _++_}
 use lib.ListN.{length, getD, take}
 use Rattle.tables.specs.Climbs.{View}
-use Rattle.joining.specs.Capped.{countLimit}
-use Rattle.counting.specs.declared.carry.Carried.{Carried}
-use Rattle.part_counts.specs.PartOn.{partOkOn, partLinksOn}
-use Rattle.part_counts.specs.PartsOn.{partsOk, linksFrom, rowOn, rowsFrom}
-use Rattle.part_counts.specs.CountOn.{openIn}
+use Rattle.choices.specs.node_counts.Capped.{countLimit}
+use Rattle.choices.specs.declared.part_steps.carry.Carried.{Carried}
+use Rattle.choices.specs.question_counts.PartOn.{partOkOn, partLinksOn}
+use Rattle.choices.specs.question_counts.PartsOn.{partsOk, linksFrom, rowOn, rowsFrom}
+use Rattle.choices.specs.question_counts.CountOn.{openIn}
 use Rattle.choices.specs.inner.Part.{Runs, PartCounted}
 
 abbrev pub before : List ℕ → List ℕ → List ℕ

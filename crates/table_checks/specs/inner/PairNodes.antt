@@ -3,8 +3,8 @@
 --
 -- within n x == x where it is below n, else 0
 -- pairByDistances n b v == the jump of a child of node v by the two distances, in a table b of n nodes
--- pairByLength n b v == the same by the length of the child's jump, from the table of lengths (node_tables)
--- pairJump n b v == the one where the child's depth is below 1,024, else the other: childJump (node_tables), inside
+-- pairByLength n b v == the same by the length of the child's jump, from the table of lengths (tables/node_tables)
+-- pairJump n b v == the one where the child's depth is below 1,024, else the other: childJump (tables/node_tables), inside
 -- pairNodes n b v == whether inner node v's size, and its children's parents, depths and jumps, follow from their
 --   neighbours'
 -- packed p j d == three 16-bit numbers as one; linksCell b v == parent, jump and depth of node v so
@@ -21,9 +21,9 @@ use mathlib.Core.List.{List}
 use lib.Dec.{eqb, ltb}
 use lib.ListN.{length, getD}
 use Rattle.formats.specs.Checks.{nodeTableLength}
-use Rattle.node_tables.specs.Cells.{parentCell, jumpCell, depthCell, sizeCell}
-use Rattle.node_tables.specs.JumpLengths.{jumpLengths}
-use Rattle.node_tables.specs.inner.UpPass.{leftOf, innerSize}
+use Rattle.tables.specs.node_tables.Cells.{parentCell, jumpCell, depthCell, sizeCell}
+use Rattle.tables.specs.node_tables.JumpLengths.{jumpLengths}
+use Rattle.tables.specs.node_tables.inner.UpPass.{leftOf, innerSize}
 
 abbrev pub within : ℕ → ℕ → ℕ
 within n x = cond (ltb x n) x 0

@@ -9,7 +9,7 @@ use mathlib.Core.Path.{_≡_}
 use mathlib.Core.List.{List}
 use lib.Dec.{eqb}
 use lib.ListN.{getD}
-use Rattle.node_tables.specs.inner.UpPass.{leftOf}
+use Rattle.tables.specs.node_tables.inner.UpPass.{leftOf}
 use Rattle.tables.specs.StateCells.{stateCell}
 use Rattle.tables.specs.inner.MapPairs.{rowOf, colOf}
 use Rattle.tables.specs.inner.States.{innerState}

@@ -11,7 +11,7 @@ use mathlib.Core.Path.{_≡_}
 use mathlib.Core.Bool.{Bool, cond}
 use mathlib.Core.List.{List}
 use lib.Dec.{eqb}
-use Rattle.node_tables.specs.Cells.{jumpCell}
+use Rattle.tables.specs.node_tables.Cells.{jumpCell}
 use Rattle.tables.specs.StateCells.{mapCell}
 use Rattle.table_checks.specs.inner.PairNodes.{within, PairArgs}
 use Rattle.table_checks.specs.inner.Joins.{JoinArgs}

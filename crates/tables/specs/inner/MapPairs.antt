@@ -28,8 +28,8 @@ use Rattle.trees.specs.Numbering.{parent}
 use Rattle.trees.specs.Tables.{stateMap}
 use Rattle.formats.specs.Rules.{treeAutomaton}
 use Rattle.formats.specs.Checks.{nodeTableLength, stateTableLength}
-use Rattle.node_tables.specs.Cells.{jumpCell, sizeCell}
-use Rattle.node_tables.specs.inner.UpPass.{leftOf}
+use Rattle.tables.specs.node_tables.Cells.{jumpCell, sizeCell}
+use Rattle.tables.specs.node_tables.inner.UpPass.{leftOf}
 use Rattle.tables.specs.StateCells.{stateCell, mapCell}
 use Rattle.tables.specs.inner.MapTable.{NoMap}
 use Rattle.tables.specs.inner.Maps.{Prepared, MapArgs}

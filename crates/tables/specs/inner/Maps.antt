@@ -26,7 +26,7 @@ use Rattle.trees.specs.Jumps.{jump}
 use Rattle.trees.specs.Tables.{stateMap}
 use Rattle.formats.specs.Rules.{treeAutomaton}
 use Rattle.formats.specs.Checks.{nodeTableLength, stateTableLength}
-use Rattle.node_tables.specs.Cells.{parentCell, jumpCell, sizeCell}
+use Rattle.tables.specs.node_tables.Cells.{parentCell, jumpCell, sizeCell}
 use Rattle.tables.specs.StateCells.{stateCell}
 use Rattle.tables.specs.inner.States.{RuleRuns}
 use Rattle.tables.specs.inner.MapTable.{MapsWritten}

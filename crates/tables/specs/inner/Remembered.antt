@@ -21,7 +21,7 @@ use lib.Dec.{eqb}
 use lib.ListN.{length, getD}
 use Rattle.trees.specs.Climb.{Forest, Move, byJump, toParent, target, nextMove, andThen, climb, climbEnd}
 use Rattle.formats.specs.Checks.{nodeTableLength, stateTableLength}
-use Rattle.node_tables.specs.Cells.{depthCell, cellForest}
+use Rattle.tables.specs.node_tables.Cells.{depthCell, cellForest}
 use Rattle.tables.specs.declared.replays.Note.{Note}
 use Rattle.tables.specs.declared.replays.Part.{Part}
 use Rattle.tables.specs.Climbs.{below}

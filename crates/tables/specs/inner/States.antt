@@ -26,8 +26,8 @@ use Rattle.trees.specs.Postorder.{isPostorder}
 use Rattle.formats.specs.inner.InnerChecks.{RuleArgs}
 use Rattle.formats.specs.Rules.{treeAutomaton}
 use Rattle.formats.specs.Checks.{nodeTableLength, stateTableLength}
-use Rattle.node_tables.specs.inner.UpPass.{leftOf}
-use Rattle.node_tables.specs.Cells.{sizeCell}
+use Rattle.tables.specs.node_tables.inner.UpPass.{leftOf}
+use Rattle.tables.specs.node_tables.Cells.{sizeCell}
 use Rattle.tables.specs.StateCells.{stateCell}
 
 pub record RuleRuns (s k : ℕ) (lv inn : List ℕ) : Type 0 where

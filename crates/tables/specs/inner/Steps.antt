@@ -12,7 +12,7 @@ use mathlib.Core.List.{List}
 use mathlib.Core.Option.{Option, none, some}
 use lib.Dec.{ltb}
 use Rattle.trees.specs.Climb.{Move, target, nextMove, andThen}
-use Rattle.node_tables.specs.Cells.{cellForest}
+use Rattle.tables.specs.node_tables.Cells.{cellForest}
 use Rattle.tables.specs.declared.climb.Landed.{Landed}
 use Rattle.tables.specs.Climbs.{View, moveOn}
 use Rattle.tables.specs.inner.PathViews.{PathArgs}

@@ -21,7 +21,7 @@ use Rattle.formats.specs.Plan.{nodeCount, planLength}
 use Rattle.formats.specs.Rules.{treeAutomaton, stateCount, labelCount, ruleLength}
 use Rattle.formats.specs.Checks.{firstNo, buildChecks, stateTableLength}
 use Rattle.formats.specs.Built.{builtNodeTable, builtStateTable}
-use Rattle.node_tables.specs.NodeCells.{NodeCells}
+use Rattle.tables.specs.node_tables.NodeCells.{NodeCells}
 use Rattle.tables.specs.inner.States.{StateArgs}
 
 pub record TableArgs (ks ls b lv inn : List ℕ) (s k m : ℕ) : Type 0 where

@@ -9,7 +9,7 @@ use Rattle.formats.proofs.BufferLaws.{Headed, headed-are}
 use Rattle.branches.proofs.AskParts.{Handed, handed}
 use borrow.Author.Needs.{needs}
 use Rattle.formats.proofs.bytes.read32.Reads as read32-reads
-use Rattle.node_tables.proofs.moves.depth_at.Reads as depth-at-reads
+use Rattle.tables.proofs.node_tables.moves.depth_at.Reads as depth-at-reads
 use Rattle.branches.proofs.ask.answer_branch.Statement.{statement}
 use Rattle.branches.proofs.ask.answer_branch.Tie as tie
 use Rattle.branches.proofs.ask.answer_branch.Reads as reads

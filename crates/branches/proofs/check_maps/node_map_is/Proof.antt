@@ -3,7 +3,7 @@
 use Prim.Native.Nat.{_+_, _*_}
 use mathlib.Core.Path.{sym, _∙_}
 use lib.ListN.{getD}
-use Rattle.node_tables.specs.Cells.{parentCell, jumpCell}
+use Rattle.tables.specs.node_tables.Cells.{parentCell, jumpCell}
 use Rattle.tables.specs.inner.Compare.{nearEntry}
 use Rattle.tables.proofs.CompareLaws.{rowIs-ext}
 use Rattle.branches.specs.inner.Maps.{stepCell, nodeMap}

@@ -3,7 +3,7 @@
 use Prim.Native.Nat.{_+_, _-_, _*_, _<_}
 use mathlib.Core.Path.{_≡_}
 use lib.ListN.{length}
-use Rattle.node_tables.specs.Cells.{parentCell}
+use Rattle.tables.specs.node_tables.Cells.{parentCell}
 use Rattle.branches.specs.inner.BranchGiven.{BranchArgs, Stepped}
 use Rattle.branches.proofs.StepLoop.{args-pos, args-labels, state-in, StepFits, step-fits, root-inside}
 use Rattle.branches.proofs.TestLoop.{root-state-same, root-state-differs, state-same, state-differs, all-states}

@@ -3,7 +3,7 @@
 use Prim.Native.Nat.{_+_, _*_}
 use mathlib.Core.Path.{sym}
 use lib.ListN.{getD}
-use Rattle.node_tables.specs.Cells.{parentCell, jumpCell}
+use Rattle.tables.specs.node_tables.Cells.{parentCell, jumpCell}
 use Rattle.tables.proofs.MapTableLaws.{row-ext}
 use Rattle.branches.specs.inner.Maps.{stepCell, nodeMap}
 use Rattle.branches.proofs.MapLoop.{nodeMap-near, nodeMap-far}

@@ -6,7 +6,7 @@ use Prim.Native.Nat.{ℕ, _+_, _-_, _*_, _<_}
 use mathlib.Core.Path.{_≡_, refl, _∙_}
 use mathlib.Core.List.{List}
 use lib.ListN.{length, length-set}
-use Rattle.node_tables.specs.Cells.{parentCell}
+use Rattle.tables.specs.node_tables.Cells.{parentCell}
 use Rattle.branches.specs.inner.BranchGiven.{BranchArgs, Stepped}
 use Rattle.branches.proofs.StepLoop.{args-pos, args-labels, state-in, StepFits, step-fits, step-iteration}
 use Rattle.branches.proofs.StepLoop.{root-inside, root-iteration}

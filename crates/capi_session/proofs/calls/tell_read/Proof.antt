@@ -5,7 +5,7 @@ use Rattle.capi_session.proofs.calls.tell_read.Statement.{statement}
 use Rattle.capi_session.proofs.calls.tell_read.Tie as tie
 use Rattle.capi_session.proofs.calls.tell_read.Reads as reads
 use Rattle.capi_session.proofs.calls.tell_read.Lts as lts
-use Rattle.capi_numbers.proofs.numbers.bit.Reads as bit-reads
+use Rattle.capi.proofs.numbers.bit.Reads as bit-reads
 
 returns : tie.Need-returns
 returns c =

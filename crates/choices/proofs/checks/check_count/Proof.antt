@@ -12,14 +12,14 @@ use Rattle.formats.specs.Plan.{nodeCount}
 use Rattle.formats.specs.Rules.{labelCount}
 use Rattle.formats.specs.Buffers.{headedBuffersFit, ruleTables}
 use Rattle.formats.proofs.BufferLaws.{headed-are}
-use Rattle.joining.specs.Capped.{countLimit}
+use Rattle.choices.specs.node_counts.Capped.{countLimit}
 use Rattle.choices.proofs.CountChecks.{no-17, no-12, no-13, no-15, no-26, all-pass}
 use Rattle.choices.proofs.checks.check_count.Statement.{statement}
 use Rattle.choices.proofs.checks.check_count.Tie as tie
 use Rattle.choices.proofs.checks.check_count.Reads as reads
 use Rattle.choices.proofs.checks.check_count.Lts as lts
 use Rattle.choices.proofs.checks.rule_headers_fit.Reads as rule-headers-fit-reads
-use Rattle.counting.proofs.limit.assignments_fit.Reads as assignments-fit-reads
+use Rattle.choices.proofs.part_steps.limit.assignments_fit.Reads as assignments-fit-reads
 use Rattle.formats.proofs.bytes.read32.Reads as read32-reads
 use Rattle.formats.proofs.lists.all_distinct.Reads as all-distinct-reads
 use Rattle.formats.proofs.lists.nodes_below.Reads as nodes-below-reads

@@ -6,8 +6,8 @@ use lib.ListN.{length}
 use Rattle.formats.specs.Checks.{firstNo}
 use Rattle.formats.specs.Buffers.{ruleTables}
 use Rattle.formats.proofs.BufferLaws.{Headers, headed-are}
-use Rattle.part_counts.specs.CountOn.{listedChecks}
-use Rattle.part_counts.proofs.BuiltCounts.{fit-17}
+use Rattle.choices.specs.question_counts.CountOn.{listedChecks}
+use Rattle.choices.proofs.question_counts.BuiltCounts.{fit-17}
 use Rattle.choices.proofs.CountChecks.{count-refused, run-args, count-runs}
 use Rattle.choices.proofs.Theorem.{count-done}
 use Rattle.choices.proofs.count.count.Statement.{statement}

@@ -12,7 +12,7 @@ use Rattle.choices.proofs.count.count_parts.Lts as lts
 use Rattle.choices.proofs.count.refused.Reads as refused-reads
 use Rattle.choices.proofs.count.room_for_parts.Reads as room-for-parts-reads
 use Rattle.choices.proofs.parts.all_parts.Reads as all-parts-reads
-use Rattle.counting.proofs.side.copy_row.Reads as copy-row-reads
+use Rattle.choices.proofs.part_steps.side.copy_row.Reads as copy-row-reads
 
 returns : tie.Need-returns
 returns c =

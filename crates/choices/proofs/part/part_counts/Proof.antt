@@ -14,7 +14,7 @@ use Rattle.choices.proofs.part.part_counts.Reads as reads
 use Rattle.choices.proofs.part.part_counts.Lts as lts
 use Rattle.choices.proofs.part.label_range.Reads as label-range-reads
 use Rattle.choices.proofs.part.places_below.Reads as places-below-reads
-use Rattle.counting.proofs.root.root_counts.Reads as root-counts-reads
+use Rattle.choices.proofs.part_steps.root.root_counts.Reads as root-counts-reads
 
 abbrev start : tie.After-label-range → tie.Start
 start a = a .before .before .before .before .before .before .before .before .before

@@ -10,7 +10,7 @@ use Rattle.choices.proofs.part.places_below.Tie as tie
 use Rattle.choices.proofs.part.places_below.Reads as reads
 use Rattle.choices.proofs.part.places_below.Lts as lts
 use Rattle.choices.proofs.part.no_places.Reads as no-places-reads
-use Rattle.node_tables.proofs.moves.size_at.Reads as size-at-reads
+use Rattle.tables.proofs.node_tables.moves.size_at.Reads as size-at-reads
 use Rattle.questions.proofs.part.last_below.Reads as last-below-reads
 
 returns : tie.Need-returns

@@ -3,7 +3,7 @@ use native.Mathlib.Omega.{arith}
 use borrow.Author.Needs.{needs}
 use mathlib.Core.Path.{_≡_, refl}
 use borrow.Author.Tests.{not-true, not-false}
-use Rattle.counting.proofs.ForkLaws.{zeros-at}
+use Rattle.choices.proofs.part_steps.ForkLaws.{zeros-at}
 use Rattle.choices.proofs.NextCases.{row-args, next-lost, put-args, row-sixteen, next-done}
 use Rattle.choices.proofs.parts.next_part.Statement.{statement}
 use Rattle.choices.proofs.parts.next_part.Tie as tie

@@ -56,12 +56,12 @@ use Rattle.session.proofs.answers.Advanced as O
 use Rattle.session.proofs.answers.Advanced.Laws as O′
 use Rattle.session.proofs.answers.AdvanceAnswer as E
 use Rattle.session.proofs.answers.AdvanceAnswer.Laws as E′
-use Rattle.in_place.proofs.advance as step
-use Rattle.in_place.proofs.advance.Symbol as step-def
-use Rattle.in_place.proofs.advance.Symbol.{name as #step}
-use Rattle.in_place.proofs.advance.Met as step-thm
-use Rattle.in_place.proofs.Lendings.{Lending, shared, kinds, Fitting}
-use Rattle.in_place.proofs.InPlace.{vals, spelled}
+use Rattle.session.proofs.in_place.advance as step
+use Rattle.session.proofs.in_place.advance.Symbol as step-def
+use Rattle.session.proofs.in_place.advance.Symbol.{name as #step}
+use Rattle.session.proofs.in_place.advance.Met as step-thm
+use Rattle.session.proofs.in_place.Lendings.{Lending, shared, kinds, Fitting}
+use Rattle.session.proofs.in_place.InPlace.{vals, spelled}
 use Rattle.probes.proofs.LentRecord.{passed, Post, exits, met}
 use Rattle.probes.proofs.places.advance_at.Key.{name as #this}
 use Rattle.probes.proofs.places.advance_at as this
@@ -229,5 +229,5 @@ advance-at-spec 𝓤 H 𝓜 𝓖 𝓡 =
     (tables 𝓤 H 𝓜 𝓡 code.env .C) (tables 𝓤 H 𝓜 𝓡 code.env .Λ) #this code.function (code.unfolded 𝓤 H 𝓜 𝓡)
     (met lends O.the-row 𝓤 H (𝓖 .A) Promised W (WpFn 𝓤 H (𝓣 .C) (𝓣 .Λ) code.function) (WpFn-mono 𝓤 H (W .laws) 𝓣 code.function)
     (λ κs qs a. walk 𝓤 H (𝓖 .A) W (𝓜 .mem) (𝓡 .run) κs qs a (𝓣 .C) (𝓣 .Λ) (fmOf 𝓤 H (W .laws) 𝓣)
-    (cited 𝓤 H (Step 𝓤 H (𝓖 .A) (𝓜 .mem) (𝓡 .run)) 𝓜 𝓡 code.env #step step-def.routine code.calls-in-place·advance
+    (cited 𝓤 H (Step 𝓤 H (𝓖 .A) (𝓜 .mem) (𝓡 .run)) 𝓜 𝓡 code.env #step step-def.routine code.calls-session·in-place·advance
     (step-thm.met 𝓤 H 𝓜 𝓖 𝓡))))

@@ -48,12 +48,12 @@ use Rattle.session.proofs.state.Session as T
 use Rattle.session.proofs.state.Session.Laws as T′
 use Rattle.session.proofs.answers.ReadAnswer as E
 use Rattle.session.proofs.answers.ReadAnswer.Laws as E′
-use Rattle.in_place.proofs.read as step
-use Rattle.in_place.proofs.read.Symbol as step-def
-use Rattle.in_place.proofs.read.Symbol.{name as #step}
-use Rattle.in_place.proofs.read.Met as step-thm
-use Rattle.in_place.proofs.Lendings.{Lending}
-use Rattle.in_place.proofs.InPlace.{vals}
+use Rattle.session.proofs.in_place.read as step
+use Rattle.session.proofs.in_place.read.Symbol as step-def
+use Rattle.session.proofs.in_place.read.Symbol.{name as #step}
+use Rattle.session.proofs.in_place.read.Met as step-thm
+use Rattle.session.proofs.in_place.Lendings.{Lending}
+use Rattle.session.proofs.in_place.InPlace.{vals}
 use Rattle.probes.proofs.LentRecord.{passed, Post, exits, met}
 use Rattle.probes.proofs.places.read_at.Key.{name as #this}
 use Rattle.probes.proofs.places.read_at as this
@@ -159,5 +159,5 @@ read-at-spec 𝓤 H 𝓜 𝓖 𝓡 =
     (tables 𝓤 H 𝓜 𝓡 code.env .C) (tables 𝓤 H 𝓜 𝓡 code.env .Λ) #this code.function (code.unfolded 𝓤 H 𝓜 𝓡)
     (met lends E.the-row 𝓤 H (𝓖 .A) Promised W (WpFn 𝓤 H (𝓣 .C) (𝓣 .Λ) code.function) (WpFn-mono 𝓤 H (W .laws) 𝓣 code.function)
     (λ κs qs a fit. walk 𝓤 H (𝓖 .A) W (𝓜 .mem) (𝓡 .run) κs qs a (𝓣 .C) (𝓣 .Λ) (fmOf 𝓤 H (W .laws) 𝓣)
-    (cited 𝓤 H (Step 𝓤 H (𝓖 .A) (𝓜 .mem) (𝓡 .run)) 𝓜 𝓡 code.env #step step-def.routine code.calls-in-place·read
+    (cited 𝓤 H (Step 𝓤 H (𝓖 .A) (𝓜 .mem) (𝓡 .run)) 𝓜 𝓡 code.env #step step-def.routine code.calls-session·in-place·read
     (step-thm.met 𝓤 H 𝓜 𝓖 𝓡))))

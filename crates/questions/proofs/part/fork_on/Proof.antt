@@ -3,7 +3,7 @@ use native.Mathlib.Omega.{arith}
 use borrow.Author.Needs.{needs}
 use Prim.Native.Nat.{ℕ, _+_, _-_, _*_, _≤_}
 use mathlib.Core.Path.{ap}
-use Rattle.node_tables.specs.Cells.{depthCell}
+use Rattle.tables.specs.node_tables.Cells.{depthCell}
 use Rattle.tables.specs.Climbs.{View}
 use Rattle.tables.specs.inner.PathViews.{pathView}
 use Rattle.questions.proofs.PartLoop.{side-args, side-few, fork-answer}

@@ -1,6 +1,6 @@
 -- `if_rising` meets its contract. Assumes nothing.
 use native.Mathlib.Omega.{arith}
-use Rattle.node_tables.specs.Cells.{cellForest}
+use Rattle.tables.specs.node_tables.Cells.{cellForest}
 use Rattle.questions.proofs.MeetCases.{rising-outside, rising-flat, rising-up}
 use borrow.Author.Needs.{needs}
 use Rattle.questions.proofs.search.if_rising.Statement.{statement}

@@ -1,7 +1,7 @@
 -- `meet` meets its contract. The invariant: from node x on the search finds what it finds from node v on. The measure
 -- is the depth, which falls at each move. Assumes nothing.
 use mathlib.Core.Path.{refl, sym, _∙_}
-use Rattle.node_tables.specs.Cells.{depthCell}
+use Rattle.tables.specs.node_tables.Cells.{depthCell}
 use Rattle.questions.proofs.MeetCases.{Searching, Iterated, searching-iteration, searching-stuck, searching-done}
 use borrow.Author.Needs.{needs}
 use borrow.Author.Tests.{not-true, not-false}

@@ -1,8 +1,8 @@
 -- `next_unless` meets its contract, by the way each test went. Assumes nothing.
 use Prim.Native.Nat.{ℕ}
 use mathlib.Core.Path.{sym, _∙_}
-use Rattle.node_tables.specs.Cells.{cellForest}
-use Rattle.node_tables.specs.Cells.{isInSubtreeOn}
+use Rattle.tables.specs.node_tables.Cells.{cellForest}
+use Rattle.tables.specs.node_tables.Cells.{isInSubtreeOn}
 use Rattle.questions.proofs.MeetCases.{jump-outside, parent-taken, jump-taken}
 use borrow.Author.Needs.{needs}
 use Rattle.questions.proofs.search.next_unless.Statement.{statement}

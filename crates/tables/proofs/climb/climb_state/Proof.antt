@@ -3,7 +3,7 @@
 use Prim.Native.Nat.{ℕ, _+_, _-_, _*_, _<_}
 use mathlib.Core.Path.{ap₂}
 use native.Mathlib.Omega.{arith}
-use Rattle.node_tables.specs.Cells.{depthCell}
+use Rattle.tables.specs.node_tables.Cells.{depthCell}
 use Rattle.tables.specs.Climbs.{View}
 use Rattle.tables.specs.inner.PathViews.{pathView}
 use Rattle.tables.proofs.ClimbLoop.{Climbing, climbing-start, climbing-iteration}

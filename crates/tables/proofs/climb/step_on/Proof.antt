@@ -4,8 +4,8 @@ use mathlib.Core.Path.{refl, sym, _∙_}
 use native.Mathlib.Omega.{arith}
 use lib.ListN.{length}
 use borrow.Author.Needs.{needs}
-use Rattle.node_tables.specs.Cells.{cellForest}
-use Rattle.node_tables.proofs.MoveAnswerLaws.{answer-inside}
+use Rattle.tables.specs.node_tables.Cells.{cellForest}
+use Rattle.tables.proofs.node_tables.MoveAnswerLaws.{answer-inside}
 use Rattle.tables.specs.Climbs.{View}
 use Rattle.tables.specs.inner.PathViews.{pathView}
 use Rattle.tables.proofs.LookupLaws.{map-place}

@@ -6,8 +6,8 @@ use Prim.Native.Nat.{ℕ, _+_, _-_, _≤_, _<_}
 use mathlib.Core.Path.{_≡_, refl, ap, _∙_, subst}
 use mathlib.Core.List.{List}
 use lib.ListN.{length, getD}
-use Rattle.node_tables.specs.inner.InnerNodes.{from, Listed}
-use Rattle.node_tables.proofs.InnerNodeLaws.{from-zero, from-next}
+use Rattle.tables.specs.node_tables.inner.InnerNodes.{from, Listed}
+use Rattle.tables.proofs.node_tables.InnerNodeLaws.{from-zero, from-next}
 use Rattle.tables.specs.inner.MapPairs.{Pairs}
 use Rattle.tables.proofs.MapLoop.{pairs-down, pairs-turn, pair-args, list-args}
 use native.Mathlib.Omega.{arith}

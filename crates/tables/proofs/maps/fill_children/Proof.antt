@@ -3,7 +3,7 @@
 use Prim.Native.Nat.{ℕ, _-_}
 use mathlib.Core.Path.{_≡_, sym, subst}
 use mathlib.Core.List.{List}
-use Rattle.node_tables.specs.inner.UpPass.{leftOf}
+use Rattle.tables.specs.node_tables.inner.UpPass.{leftOf}
 use Rattle.tables.specs.inner.MapPairs.{PairRowed, rightValue, leftValue, PairArgs}
 use native.Mathlib.Omega.{arith}
 use borrow.Author.Needs.{needs}

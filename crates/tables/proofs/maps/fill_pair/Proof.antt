@@ -4,7 +4,7 @@ use Prim.Native.Nat.{ℕ, _+_, _-_, _*_, _<_}
 use native.Mathlib.Nat.{mul-le-mul-right}
 use lib.ListN.{length, getD}
 use Rattle.list_laws.proofs.RowLaws.{stride}
-use Rattle.node_tables.specs.inner.UpPass.{leftOf}
+use Rattle.tables.specs.node_tables.inner.UpPass.{leftOf}
 use Rattle.tables.specs.StateCells.{stateCell}
 use Rattle.tables.proofs.MapPlaces.{Small, small}
 use Rattle.tables.proofs.PairMaps.{left-below, near-pair-args, far-pair-args, near-values, far-values}

@@ -1,5 +1,5 @@
 use mathlib.Core.Path.{sym, _∙_}
-use Rattle.node_tables.specs.Cells.{cellForest}
+use Rattle.tables.specs.node_tables.Cells.{cellForest}
 use Rattle.tables.proofs.ReplayLaws.{note-jump, note-parent, note-stuck}
 use native.Mathlib.Omega.{arith}
 use borrow.Author.Needs.{needs}
@@ -7,7 +7,7 @@ use Rattle.tables.proofs.replays.note_move.Statement.{statement}
 use Rattle.tables.proofs.replays.note_move.Tie as tie
 use Rattle.tables.proofs.replays.note_move.Reads as reads
 use Rattle.tables.proofs.replays.note_move.Lts as lts
-use Rattle.node_tables.proofs.moves.next_move.Reads as next-move-reads
+use Rattle.tables.proofs.node_tables.moves.next_move.Reads as next-move-reads
 
 returns : tie.Need-returns
 returns c =

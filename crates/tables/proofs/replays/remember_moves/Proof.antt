@@ -1,6 +1,6 @@
 use Prim.Native.Nat.{_<_}
 use borrow.Author.Tests.{not-true, not-false}
-use Rattle.node_tables.specs.Cells.{depthCell}
+use Rattle.tables.specs.node_tables.Cells.{depthCell}
 use Rattle.tables.proofs.RememberLoop.{Noting, noting-start, noting-done, noting-full, noting-lost, noting-rises, noting-iteration}
 use native.Mathlib.Omega.{arith}
 use borrow.Author.Needs.{needs}
@@ -8,7 +8,7 @@ use Rattle.tables.proofs.replays.remember_moves.Statement.{statement}
 use Rattle.tables.proofs.replays.remember_moves.Tie as tie
 use Rattle.tables.proofs.replays.remember_moves.Reads as reads
 use Rattle.tables.proofs.replays.remember_moves.Lts as lts
-use Rattle.node_tables.proofs.moves.depth_at.Reads as depth-at-reads
+use Rattle.tables.proofs.node_tables.moves.depth_at.Reads as depth-at-reads
 use Rattle.tables.proofs.replays.note_move.Reads as note-move-reads
 
 abbrev Inv-loop : tie.InvT-loop

@@ -8,7 +8,7 @@ use Rattle.tables.proofs.replays.replay_climb.Statement.{statement}
 use Rattle.tables.proofs.replays.replay_climb.Tie as tie
 use Rattle.tables.proofs.replays.replay_climb.Reads as reads
 use Rattle.tables.proofs.replays.replay_climb.Lts as lts
-use Rattle.node_tables.proofs.moves.depth_at.Reads as depth-at-reads
+use Rattle.tables.proofs.node_tables.moves.depth_at.Reads as depth-at-reads
 use Rattle.tables.proofs.replays.remember_moves.Reads as remember-moves-reads
 use Rattle.tables.proofs.replays.replay.Reads as replay-reads
 use Rattle.tables.proofs.replays.replay_parts.Reads as replay-parts-reads

@@ -2,7 +2,7 @@ use Prim.Native.Nat.{ℕ, _-_, _+_, _*_, _≤_, _<_}
 use mathlib.Core.Path.{_≡_, refl, sym, ap₂, _∙_}
 use borrow.Author.Tests.{not-true, not-false}
 use lib.ListN.{length, getD}
-use Rattle.node_tables.specs.Cells.{depthCell}
+use Rattle.tables.specs.node_tables.Cells.{depthCell}
 use Rattle.tables.proofs.RememberLoop.{Joined, sixteen, joined-start, joined-lost, joined-whole, joined-passed, joined-rises, joined-iteration}
 use Rattle.tables.proofs.RememberLoop.{replay-lost, replay-done}
 use native.Mathlib.Omega.{arith}
@@ -11,7 +11,7 @@ use Rattle.tables.proofs.replays.replay_parts.Statement.{statement}
 use Rattle.tables.proofs.replays.replay_parts.Tie as tie
 use Rattle.tables.proofs.replays.replay_parts.Reads as reads
 use Rattle.tables.proofs.replays.replay_parts.Lts as lts
-use Rattle.node_tables.proofs.moves.depth_at.Reads as depth-at-reads
+use Rattle.tables.proofs.node_tables.moves.depth_at.Reads as depth-at-reads
 use Rattle.tables.proofs.replays.fold_moves.Reads as fold-moves-reads
 use Rattle.tables.proofs.replays.remember_moves.Reads as remember-moves-reads
 

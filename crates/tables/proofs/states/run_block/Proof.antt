@@ -7,8 +7,8 @@ use mathlib.Core.List.{List}
 use native.Mathlib.Nat.{mul-le-mul-right}
 use lib.ListN.{length, getD, set, length-set}
 use Rattle.list_laws.proofs.RowLaws.{stride}
-use Rattle.node_tables.specs.inner.InnerNodes.{from}
-use Rattle.node_tables.proofs.InnerNodeLaws.{from-zero, from-next}
+use Rattle.tables.specs.node_tables.inner.InnerNodes.{from}
+use Rattle.tables.proofs.node_tables.InnerNodeLaws.{from-zero, from-next}
 use Rattle.tables.specs.inner.States.{StateArgs, Runs, RunsTo}
 use Rattle.tables.proofs.StateLoop.{leaf-states, states-raise, states-end, inner-states, inner-args, leaf-args}
 use Rattle.tables.proofs.StateLoop.{list-states}

@@ -1,4 +1,0 @@
-pub mod ReplyLaws
-pub mod TableAnswer
-pub mod PromiseLaws
-pub mod Theorems

@@ -1,9 +1,0 @@
-pub mod ClosedRuns
-pub mod LineLaws
-pub mod Marks
-pub mod FoundLaws
-pub mod SearchLaws
-pub mod Emptiness
-pub mod AgreeTheorem
-pub mod Samples
-pub mod Theorems

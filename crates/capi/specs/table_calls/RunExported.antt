@@ -1,0 +1,32 @@
+-- What the exported fresh run promises: the promise of the call below for its answer, and that answer's number and values.
+--
+-- stateOf a old, markedOf a old == what a place holds afterwards: the answer's value, or what it held where it is refused
+-- RunNumber == an answer told as a number and values
+-- RunExported == the promise of the exported function
+--
+-- Assumes nothing.
+use Prim.Native.Nat.{ℕ}
+use mathlib.Core.Path.{_≡_}
+use mathlib.Core.List.{List}
+use Rattle.runs.specs.declared.answer.Running.{Running}
+use Rattle.runs.specs.declared.answer.Running.the-variants.{Ended, Refused as NotRun}
+use Rattle.runs.specs.FreshRun.{runningNumber, FreshRunDone}
+use Rattle.capi.specs.numbers.Numbers.{bitOf}
+
+abbrev pub stateOf : Running → ℕ → ℕ
+stateOf (Ended q m) old = q
+stateOf (NotRun n) old = old
+
+abbrev pub markedOf : Running → ℕ → ℕ
+markedOf (Ended q m) old = bitOf m
+markedOf (NotRun n) old = old
+
+pub record RunNumber (a : Running) (state₀ yes₀ r state₁ yes₁ : ℕ) : Type 0 where
+  pub result : r ≡ runningNumber a
+  pub state-answer : state₁ ≡ stateOf a state₀
+  pub yes-answer : yes₁ ≡ markedOf a yes₀
+
+pub record RunExported (p r vs bs : List ℕ) (n state₀ yes₀ state₁ yes₁ : ℕ) : Type 0 where
+  pub answer : Running
+  pub done : FreshRunDone p r vs bs answer
+  pub number : RunNumber answer state₀ yes₀ n state₁ yes₁

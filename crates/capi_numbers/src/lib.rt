@@ -1,2 +1,0 @@
-// What the crates that export calls share: answers as numbers.
-pub mod numbers;

@@ -1,2 +1,0 @@
-pub mod RunExported
-pub mod Version

@@ -1,0 +1,5 @@
+pub mod branch
+pub mod parts
+pub mod path_drops
+pub mod rule
+pub mod target_states

@@ -1,0 +1,44 @@
+-- `led_by_set` meets its contract: the first c are done. Assumes nothing.
+use Prim.Native.Nat.{_-_, _≤_}
+use mathlib.Core.Path.{refl}
+use Rattle.colour_tables.specs.sets.Sets.{LedBy}
+use Rattle.colour_tables.proofs.sets.BitLaws.{led-start, led-next, led-all}
+use native.Mathlib.Omega.{arith}
+use borrow.Author.Needs.{needs}
+use Rattle.colour_tables.proofs.sets.led.led_by_set.Statement.{statement}
+use Rattle.colour_tables.proofs.sets.led.led_by_set.Tie as tie
+use Rattle.colour_tables.proofs.sets.led.led_by_set.Reads as reads
+use Rattle.colour_tables.proofs.sets.led.led_by_set.Lts as lts
+use Rattle.colour_tables.proofs.sets.bits.preimage.Reads as preimage-reads
+
+abbrev Inv-loop : tie.InvT-loop
+Inv-loop ups k row led₀ c₀ led c = (c ≤ k) × LedBy ups row c led
+
+abbrev μ-loop : tie.MeasureT-loop
+μ-loop ups k row led₀ c₀ led c = k - c
+
+loop-holds : tie.Need-loop-holds Inv-loop μ-loop
+loop-holds c = (omega arith, led-start (c .before .args .ups .now) (c .before .args .t1) _ refl)
+
+loop-again : tie.Need-loop-again Inv-loop μ-loop
+loop-again c =
+    let a = c .before .before in
+    let s = a .before .before in
+    let l = c .before .loop-test .taken in (
+      omega arith,
+      led-next (s .args .ups .now) (s .args .t1) (a .loop .c) (c .preimage .result) (a .loop .led) (a .loop .inv .1)
+          (omega (arith, s .pre .1)) (c .preimage .ensures),
+    )
+
+returns : tie.Need-returns Inv-loop μ-loop
+returns c =
+    let a = c .before in
+    let s = a .before .before in
+    led-all (s .args .ups .now) (s .args .t1) (a .loop .c) (s .args .k) (a .loop .led) (a .loop .inv .1)
+    (omega (arith, c .loop-test .left))
+
+pub led-by-set-spec : {M : Type 1} → statement M
+led-by-set-spec =
+    tie.close
+    (tie.spec Inv-loop μ-loop loop-holds (λ c. search needs) (λ c κs. search needs) (λ c. search needs)
+    (λ c. search needs) (λ c. search needs) loop-again returns)

@@ -1,0 +1,148 @@
+-- The loop over the nodes, from the root down: each node's copy from the one above it.
+--     first-elsewhere, past-elsewhere   where no landing stands
+--     above-is                   the row above a node is the copy above it
+--     led-is                     the states led to, as a list
+--     copies-start, copies-next  before the root, and one node more
+--     above-in, place-in         what the functions of one node need
+-- Any count of states and any steps. Assumes nothing.
+use Prim.Native.Nat.{ℕ, _+_, _*_, _≤_, _<_}
+use mathlib.Core.Path.{_≡_, refl, sym, ap, _∙_}
+use mathlib.Core.List.{List, map}
+use native.Mathlib.Omega.{arith}
+use native.Mathlib.Decide.{ℕ-discrete}
+use lib.ListN.{length, getD, take, length-map}
+use lib.Seq.{ext-getD, length-take-le, getD-take}
+use borrow.Author.Tests.{eq-eqb, ne-eqb}
+use Rattle.list_laws.proofs.RowLaws.{stride, cells-apart, cell-in}
+use Rattle.trees.specs.Tree.{Tree, size}
+use Rattle.trees.specs.Numbering.{parent}
+use Rattle.trees.proofs.NodeLaws.{Up, up}
+use Rattle.tables.specs.node_tables.Cells.{parentCell}
+use Rattle.colours.specs.Colouring.{recolour, lands}
+use Rattle.colours.specs.Copies.{copy, copyAbove, landsAt}
+use Rattle.colours.proofs.CopyLaws.{top-at, copy-recolour, copyAbove-root, copyAbove-down, copyAbove-colouring}
+use Rattle.colours.proofs.TurnLaws.{map-at, recolour-map, lands-map}
+use Rattle.colour_tables.specs.states.Written.{Elsewhere, CopiesFrom}
+use Rattle.colour_tables.specs.states.inner.Rows.{RowOf, aboveCell, AboveArgs, TurnArgs, Turned}
+
+-- no number of the first table is a landing, nor is any past the tables
+pub first-elsewhere : (n k j : ℕ) → j < n * 4 → Elsewhere n k j
+first-elsewhere n k j h c v p l i e = omega (arith, stride (n * 4) 0 c p)
+
+pub past-elsewhere : (n k j : ℕ) → k * (n * 4) ≤ j → Elsewhere n k j
+past-elsewhere n k j h c v p l i e = omega (arith, stride (n * 4) c k l)
+
+module _ (k : ℕ) (step : ℕ → ℕ → ℕ) (t : Tree) (base : ℕ) (keeps : (v q : ℕ) → q < k → step v q < k) where
+  pub copies-start : (b m : List ℕ) → CopiesFrom k step t base (size t) b m b m
+  copies-start b m = record {
+    rows = λ v a h. absurd (omega arith);
+    lands = λ v a h. absurd (omega arith);
+    front = λ j h. refl;
+    rest = λ j h. refl;
+    kept = λ j h. refl;
+  }
+
+  pub led-is : (v : ℕ) (led : List ℕ) → length led ≡ 16 → k ≤ 16
+      → ((c : ℕ) → c < k → getD led c 0 ≡ step v (getD (copyAbove k step t v) c 0))
+      → take k led ≡ map (step v) (copyAbove k step t v)
+  led-is v led l few e =
+      let n : length (copyAbove k step t v) ≡ k = copyAbove-colouring k step t keeps v .count in
+      let a : length (take k led) ≡ k = length-take-le k led (omega arith) in
+      ext-getD 0 (take k led) (map (step v) (copyAbove k step t v))
+      (a ∙ sym (length-map (copyAbove k step t v) (step v) ∙ n))
+      (λ c h.
+      let i : c < k = omega arith in
+      getD-take k led c 0 i ∙ e c i ∙ sym (map-at (step v) (copyAbove k step t v) c (omega arith)))
+
+  module _ (e₀ m₀ : List ℕ) (parents : (v : ℕ) → v + 1 < size t → parentCell m₀ v ≡ parent t v)
+      (v : ℕ) (b m : List ℕ) (F : CopiesFrom k step t base (v + 1) e₀ m₀ b m) (h : v < size t) where
+    parent-is : v + 1 < size t → parentCell m v ≡ parent t v
+    parent-is l = F .kept (v * 4) (first-elsewhere (size t) k (v * 4) (omega arith)) ∙ parents v l
+
+    pub above-is : (row : List ℕ) → RowOf k (aboveCell b m (size t) base k v) row → (c : ℕ) → c < k
+        → getD row c 0 ≡ getD (copyAbove k step t v) c 0
+    unfolding aboveCell
+    above-is row R c l = R .cells c l ∙ elim (ℕ-discrete (v + 1) (size t)) [
+      | yes e ↦ rw (eq-eqb (v + 1) (size t) e)
+          (sym (ap (λ (x : List ℕ). getD x c 0) (copyAbove-root k step t v e) ∙ top-at k c l))
+      | no e ↦ (let i : v + 1 < size t = omega arith in
+          let u : Up t v (parent t v) = up t v i in
+          rw (ne-eqb (v + 1) (size t) e, parent-is i)
+          (F .rows (parent t v) (omega (arith, u .above)) (u .below) c l
+          ∙ sym (ap (λ (x : List ℕ). getD x c 0) (copyAbove-down k step t v i))))
+    ]
+
+    pub above-below : (row : List ℕ) → RowOf k (aboveCell b m (size t) base k v) row → (c : ℕ) → c < k
+        → getD row c 0 < k
+    above-below row R c l = rw (above-is row R c l) (copyAbove-colouring k step t keeps v .below c l)
+
+    -- ---- what the functions of one node need
+
+    pub above-in : 0 < k → k ≤ 16 → size t ≤ 65535 → base + size t * k ≤ length b → k * (size t * 4) ≤ length m
+        → AboveArgs b m (size t) base k v
+    above-in p few most room space = record {
+      few = few;
+      small = omega arith;
+      place = omega (arith, stride (size t * 4) 0 k p);
+      room = λ e. (let i : v + 1 < size t = omega arith in
+          rw (parent-is i) (omega (arith, stride k (parent t v) (size t) (up t v i .below))));
+    }
+
+    pub place-in : (led : List ℕ) → length led ≡ 16 → ((c : ℕ) → c < k → getD led c 0 < k) → k ≤ 16 → size t ≤ 65535
+        → base + size t * k ≤ length b → k * (size t * 4) ≤ length m → TurnArgs led b m (size t) base k v
+    place-in led l under few most room space = record {
+      long = l;
+      small = λ c i. omega (arith, under c i);
+      few = few;
+      most = most;
+      at = h;
+      row-room = omega (arith, stride k v (size t) h);
+      room = space;
+    }
+
+    -- ---- one node more
+
+    module _ (led b′ m′ : List ℕ) (T : Turned led (size t) base k v b m b′ m′)
+        (is : take k led ≡ map (step v) (copyAbove k step t v)) where
+      row-here : (c : ℕ) → c < k → getD b′ (base + v * k + c) 0 ≡ getD (copy k step t v) c 0
+      row-here c l =
+          T .row c l
+          ∙ ap (λ (x : List ℕ). getD x c 0) (ap (recolour (λ q. q)) is
+          ∙ sym (recolour-map (step v) (copyAbove k step t v))
+          ∙ sym (copy-recolour k step t v))
+
+      landed-here : (c : ℕ) → 0 < c → c < k
+          → getD m′ (c * (size t * 4) + (v * 4 + 3)) 0 ≡ landsAt k step t c v
+      unfolding landsAt
+      landed-here c p l =
+          T .landed c p l ∙ ap (λ (x : List ℕ). lands (λ q. q) x c) is
+          ∙ sym (lands-map (step v) (copyAbove k step t v) c
+          (omega (arith, copyAbove-colouring k step t keeps v .count)))
+
+      -- another node's
+      row-other : (w c d : ℕ) → c < k → d < k → (w ≡ v → ⊥) → base + w * k + c ≡ base + v * k + d → ⊥
+      row-other w c d i j n e = cells-apart k w v c d i j n (omega arith)
+
+      landed-other : (w c d : ℕ) → w < size t → (w ≡ v → ⊥)
+          → c * (size t * 4) + (w * 4 + 3) ≡ d * (size t * 4) + (v * 4 + 3) → ⊥
+      landed-other w c d i n e = elim (ℕ-discrete c d) [
+        | yes q ↦ (let z : c * (size t * 4) ≡ d * (size t * 4) = ap (λ (x : ℕ). x * (size t * 4)) q in n (omega arith))
+        | no q ↦ cells-apart (size t * 4) c d (w * 4 + 3) (v * 4 + 3) (omega arith) (omega arith) q e
+      ]
+
+      pub copies-next : CopiesFrom k step t base v e₀ m₀ b′ m′
+      copies-next = record {
+        rows = λ w a i c l. elim (ℕ-discrete w v) [
+          | yes q ↦ rw q (row-here c l)
+          | no q ↦ T .bytes-kept (base + w * k + c) (λ d j. row-other w c d l j q) ∙ F .rows w (omega arith) i c l
+        ];
+        lands = λ w a i c p l. elim (ℕ-discrete w v) [
+          | yes q ↦ rw q (landed-here c p l)
+          | no q ↦ T .numbers-kept (c * (size t * 4) + (w * 4 + 3)) (λ d s j. landed-other w c d i q)
+              ∙ F .lands w (omega arith) i c p l
+        ];
+        front = λ j l. T .bytes-kept j (λ c i z. omega arith) ∙ F .front j l;
+        rest = λ j l. T .bytes-kept j (λ c i z. omega (arith, cell-in k (size t) v c (size t * k) h i (omega arith)))
+            ∙ F .rest j l;
+        kept = λ j l. T .numbers-kept j (λ c p i z. l c v p i h z) ∙ F .kept j l;
+      }

@@ -1,0 +1,91 @@
+// A colour's table, from the root down: each node's row from its parent's. The first table of the numbers is the
+// plan's own
+// node table; colour c's follows after c of the same length, and its fourth numbers, the colours landed on, are there
+// already.
+use tables::node_tables::down::by_distances;
+use tables::node_tables::moves::parent_at;
+use tables::node_tables::moves::size_at;
+ghost use mathlib.Core.Path.{_≡_};
+ghost use mathlib.Core.Bool.{Bool};
+ghost use Prim.Native.Nat.{ℕ, _+_, _≤_};
+ghost use lib.ListN.{length};
+ghost use Rattle.trees.specs.Tree.{Tree};
+ghost use Rattle.colour_tables.specs.forests.Rows.{rowBelow, nextRow, putRow, BelowArgs, NextArgs, WriteArgs, Given};
+ghost use Rattle.colour_tables.specs.forests.Rows.{RowsFrom};
+
+// A node's parent, jump and depth.
+pub struct Row {
+    pub up: u16,
+    pub jump: u16,
+    pub depth: u16,
+}
+
+// The row of node v in colour c's table, below its parent p.
+fn row_below(table: &[u16], c: usize, v: usize, p: usize) -> Row
+    requires { ⌜ BelowArgs (now table) c v p ⌝ }
+    ensures { λ r. ⌜ r ≡ rowBelow (now (table .entry)) c v p ⌝ }
+{
+    if size_at(table, p) < c {
+        let jump = by_distances(table, p);
+        let depth = table[p * 4 + 2] + 1;
+        return Row {
+            up: p as u16,
+            jump,
+            depth,
+        };
+    }
+    if table[p * 4 + 2] == 0 {
+        return Row {
+            up: v as u16,
+            jump: v as u16,
+            depth: 0,
+        };
+    }
+    Row {
+        up: table[p * 4],
+        jump: table[p * 4 + 1],
+        depth: table[p * 4 + 2],
+    }
+}
+
+// The row of node v: the root's own, or below its parent.
+fn next_row(nums: &[u16], n: usize, c: usize, v: usize) -> Row
+    requires { ⌜ NextArgs (now nums) n c v ⌝ }
+    ensures { λ r. ⌜ r ≡ nextRow (now (nums .entry)) n c v ⌝ }
+{
+    if v + 1 == n {
+        return Row {
+            up: v as u16,
+            jump: v as u16,
+            depth: 0,
+        };
+    }
+    let p = parent_at(nums, v);
+    let size = n * 4;
+    let from = c * size;
+    row_below(&nums[from..from + size], c, v, p)
+}
+
+// Writes a row from `at` on.
+fn put_row(nums: &mut [u16], at: usize, row: Row)
+    requires { ⌜ at + 3 ≤ length (now nums) ⌝ }
+    ensures { λ _. ⌜ now (nums .exit) ≡ putRow (now (nums .entry)) at row ⌝ }
+{
+    nums[at] = row.up;
+    nums[at + 1] = row.jump;
+    nums[at + 2] = row.depth;
+}
+
+// Writes colour c's rows.
+pub fn write_colour(nums: &mut [u16], n: usize, c: usize)
+    requires { ⌜ WriteArgs (now nums) n c ⌝ }
+    ensures { λ _. ⌜ ((t : Tree) (m : ℕ → Bool) → Given t m n c (now (nums .entry))
+        → RowsFrom t m n c 0 (now (nums .entry)) (now (nums .exit))) ⌝ }
+{
+    let mut v = n;
+    while 0 < v {
+        v -= 1;
+        let row = next_row(nums, n, c, v);
+        put_row(nums, c * (n * 4) + v * 4, row);
+    }
+}

@@ -1,0 +1,2 @@
+-- The highest marked node on a path, as definitions (specs/) and their laws (proofs/). No code of the program is here.
+pub mod Marks

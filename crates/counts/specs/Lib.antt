@@ -1,4 +1,0 @@
-pub mod Assignments
-pub mod Sums
-pub mod PartCounts
-pub mod inner

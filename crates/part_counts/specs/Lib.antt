@@ -1,3 +1,0 @@
-pub mod PartOn
-pub mod PartsOn
-pub mod CountOn

@@ -1,2 +1,0 @@
-// The counts of all parts on whatever is lent (document 02, S-10): definitions (specs/) and what they are on tables as
-// built (proofs/).

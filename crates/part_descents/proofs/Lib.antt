@@ -1,6 +1,0 @@
-pub mod TrialLaws
-pub mod SideCases
-pub mod ForkCases
-pub mod TriesBuilt
-pub mod PartBuilt
-pub mod PartUsable

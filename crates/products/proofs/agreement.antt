@@ -1,0 +1,13 @@
+pub mod ClosedRuns
+pub mod LineLaws
+pub mod Marks
+pub mod FoundLaws
+pub mod SearchLaws
+pub mod Emptiness
+pub mod AgreeTheorem
+pub mod Samples
+pub mod Theorems
+pub mod ReplyLaws
+pub mod TableAnswer
+pub mod PromiseLaws
+pub mod ReplyTheorems

@@ -1,0 +1,134 @@
+-- `put_nth_row` meets its contract. Assumes nothing.
+use mathlib.Core.Path.{ap, _∙_}
+use mathlib.Core.List.{List}
+use Prim.Native.Nat.{ℕ}
+use Rattle.products.specs.merging.Writes.{written}
+use Rattle.products.proofs.merging.PartLaws.{first-end, second-end, runs-small, rows-small, nth-row, nth-is}
+use native.Mathlib.Omega.{arith}
+use borrow.Author.Needs.{needs}
+use Rattle.products.proofs.merging.put_nth_row.Statement.{statement}
+use Rattle.products.proofs.merging.put_nth_row.Tie as tie
+use Rattle.products.proofs.merging.put_nth_row.Reads as reads
+use Rattle.products.proofs.merging.put_nth_row.Lts as lts
+use Rattle.products.proofs.merging.put_row.Reads as put-row-reads
+
+mul-i : tie.Need-mul-i
+mul-i c =
+    let s = c .before .before .before in
+    let g = s .args in
+    omega (
+      arith,
+      rows-small (g .first .now) (g .second .now) (g .s1) (g .s2) (g .k) (g .r) (s .pre .inner)
+          (s .pre .inside) .0,
+    )
+
+add-i : tie.Need-add-i
+add-i c =
+    let s = c .before .before .before in
+    let g = s .args in
+    omega (
+      arith,
+      rows-small (g .first .now) (g .second .now) (g .s1) (g .s2) (g .k) (g .r) (s .pre .inner)
+          (s .pre .inside) .0,
+    )
+
+mul-i-2 : tie.Need-mul-i-2
+mul-i-2 c =
+    let s = c .before .before .before in
+    let g = s .args in
+    omega (
+      arith,
+      first-end (g .first .now) (g .second .now) (g .s1) (g .s2) (g .k) (g .r) (s .pre .inner)
+          (s .pre .inside),
+      runs-small (g .first .now) (g .second .now) (g .s1) (g .s2) (g .k) (g .r) (s .pre .inner)
+          (s .pre .inside) .0,
+    )
+
+mul-j : tie.Need-mul-j
+mul-j c =
+    let s = c .before .before .before in
+    let g = s .args in
+    omega (
+      arith,
+      rows-small (g .first .now) (g .second .now) (g .s1) (g .s2) (g .k) (g .r) (s .pre .inner)
+          (s .pre .inside) .1,
+    )
+
+add-j : tie.Need-add-j
+add-j c =
+    let s = c .before .before .before in
+    let g = s .args in
+    omega (
+      arith,
+      rows-small (g .first .now) (g .second .now) (g .s1) (g .s2) (g .k) (g .r) (s .pre .inner)
+          (s .pre .inside) .1,
+    )
+
+mul-j-2 : tie.Need-mul-j-2
+mul-j-2 c =
+    let s = c .before .before .before in
+    let g = s .args in
+    omega (
+      arith,
+      second-end (g .first .now) (g .second .now) (g .s1) (g .s2) (g .k) (g .r) (s .pre .inner)
+          (s .pre .inside),
+      runs-small (g .first .now) (g .second .now) (g .s1) (g .s2) (g .k) (g .r) (s .pre .inner)
+          (s .pre .inside) .1,
+    )
+
+add-put-row : tie.Need-add-put-row
+add-put-row c =
+    let s = c .before .before .before in
+    let g = s .args in
+    omega (
+      arith,
+      first-end (g .first .now) (g .second .now) (g .s1) (g .s2) (g .k) (g .r) (s .pre .inner)
+          (s .pre .inside),
+      runs-small (g .first .now) (g .second .now) (g .s1) (g .s2) (g .k) (g .r) (s .pre .inner)
+          (s .pre .inside) .0,
+    )
+
+part-put-row-end : tie.Need-part-put-row-end
+part-put-row-end c =
+    let s = c .before .before .before in
+    let g = s .args in
+    first-end (g .first .now) (g .second .now) (g .s1) (g .s2) (g .k) (g .r) (s .pre .inner) (s .pre .inside)
+
+add-put-row-2 : tie.Need-add-put-row-2
+add-put-row-2 c =
+    let s = c .before .before .before .before in
+    let g = s .args in
+    omega (
+      arith,
+      second-end (g .first .now) (g .second .now) (g .s1) (g .s2) (g .k) (g .r) (s .pre .inner)
+          (s .pre .inside),
+      runs-small (g .first .now) (g .second .now) (g .s1) (g .s2) (g .k) (g .r) (s .pre .inner)
+          (s .pre .inside) .1,
+    )
+
+part-put-row-end-2 : tie.Need-part-put-row-end-2
+part-put-row-end-2 c =
+    let s = c .before .before .before .before in
+    let g = s .args in
+    second-end (g .first .now) (g .second .now) (g .s1) (g .s2) (g .k) (g .r) (s .pre .inner) (s .pre .inside)
+
+put-row-requires : tie.Need-put-row-requires
+put-row-requires c κs =
+    let s = c .before .before .before .before .before .before in
+    let g = s .args in
+    nth-row (g .first .now) (g .second .now) (g .s1) (g .s2) (g .k) (g .r) (s .pre .inner) (s .pre .inside) (g .at)
+    (g .out .now) (s .pre .room)
+
+returns : tie.Need-returns
+returns c =
+    let s = c .before .before .before .before .before .before .before .before .before in
+    let g = s .args in
+    c .before .before .put-row .ensures ∙ ap (λ (x : List ℕ). written (g .at) x (g .out .now)) (nth-is (g .first .now)
+    (g .second .now) (g .s1) (g .s2) (g .k) (g .r) (s .pre .inner) (s .pre .inside))
+
+pub put-nth-row-spec : {M : Type 1} → statement M
+put-nth-row-spec =
+    tie.close
+    (tie.spec (λ c. search needs) (λ c. search needs) (λ c. search needs) mul-i add-i mul-i-2 (λ c. search needs)
+    mul-j add-j mul-j-2 add-put-row (λ c. search needs) (λ c. search needs) part-put-row-end add-put-row-2
+    (λ c. search needs) (λ c. search needs) part-put-row-end-2 put-row-requires (λ c. search needs) returns)

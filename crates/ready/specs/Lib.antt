@@ -1,5 +1,0 @@
-pub mod Ready
-pub mod Members
-pub mod Parts
-pub mod Partition
-pub mod StaysInside

@@ -1,1 +1,0 @@
-// The partition-ready set of a question and the state of each of its parts, as definitions (specs/) and their laws (proofs/).

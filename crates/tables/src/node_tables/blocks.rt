@@ -1,0 +1,37 @@
+// Blocks of at most 1,024 nodes, and the list of a block's inner nodes, made without a branch on the kind. Passes over
+// inner nodes go by it.
+ghost use mathlib.Core.Path.{_≡_};
+ghost use Prim.Native.Nat.{_+_, _≤_, _<_};
+ghost use lib.ListN.{length};
+ghost use Rattle.tables.specs.node_tables.inner.InnerNodes.{Listed, ListArgs};
+
+// Where the block from b on ends, of n nodes.
+pub fn block_end(b: usize, n: usize) -> usize
+    requires { ⌜ (b < n) × (n ≤ 65535) ⌝ }
+    ensures { λ r. ⌜ (b < r) × (r ≤ n) × (r ≤ b + 1024) ⌝ }
+{
+    if b + 1024 < n { b + 1024 } else { n }
+}
+
+// Lists the inner nodes of b, .. e - 1 in rising order, and tells how many they are. A leaf is listed too, and the next
+// node over it.
+pub fn list_inner(kinds: &[u8], b: usize, e: usize, list: &mut [u16]) -> usize
+    requires { ⌜ ListArgs (now kinds) b e (length (now list)) ⌝ }
+    ensures { λ r. ⌜ Listed (now (kinds .entry)) b e r (now (list .exit)) ⌝ }
+{
+    let mut c = 0;
+    let mut v = b;
+    while v < e {
+        list[c] = v as u16;
+        c += kinds[v] as usize;
+        v += 1;
+    }
+    c
+}
+
+// Room for the inner nodes of a block.
+pub fn empty_list() -> [u16; 1024]
+    ensures { λ r. ⌜ length r ≡ 1024 ⌝ }
+{
+    [0u16; 1024]
+}

@@ -1,0 +1,58 @@
+// The pass up: the size of each node's subtree, and each inner node as its children's parent.
+ghost use mathlib.Core.Path.{_≡_};
+ghost use lib.ListN.{length};
+ghost use Rattle.trees.specs.Tree.{Tree, kindsOf};
+ghost use Rattle.tables.specs.node_tables.Cells.{NodeTableArgs};
+ghost use Rattle.tables.specs.node_tables.NodeCells.{AllUpWritten};
+ghost use Rattle.tables.specs.node_tables.inner.UpPass.{leftOf, innerSize, upIteration, InnerArgs, TurnArgs};
+
+// The left child of inner node v: it stands before the subtree of the right child, v - 1.
+pub fn left_child(node_table: &[u16], v: usize) -> usize
+    requires { ⌜ InnerArgs (now «node_table») v ⌝ }
+    ensures { λ r. ⌜ r ≡ leftOf (now («node_table» .entry)) v ⌝ }
+{
+    let right = v - 1;
+    right - node_table[right * 4 + 3] as usize
+}
+
+// The size of inner node v, from its children's.
+pub fn inner_size(node_table: &[u16], v: usize) -> u16
+    requires { ⌜ InnerArgs (now «node_table») v ⌝ }
+    ensures { λ r. ⌜ r ≡ innerSize (now («node_table» .entry)) v ⌝ }
+{
+    let right = v - 1;
+    let left = left_child(node_table, v);
+    node_table[left * 4 + 3] + node_table[right * 4 + 3] + 1
+}
+
+// Node v's turn, of kind c: its size, and itself as its children's parent. A leaf is taken for its own two children, of
+// size 0 so far: its size comes out as 1, its parent is written at its parent's turn, and nothing hangs on the kind.
+fn write_up_node(node_table: &mut [u16], v: usize, c: usize)
+    requires { ⌜ TurnArgs (now «node_table») v c ⌝ }
+    ensures { λ _. ⌜ now («node_table» .exit) ≡ upIteration (now («node_table» .entry)) v c ⌝ }
+{
+    node_table[v * 4 + 3] = 0;
+    let right = v - c;
+    let size = node_table[right * 4 + 3];
+    node_table[right * 4] = v as u16;
+    let left = right - size as usize;
+    let sum = node_table[left * 4 + 3] + size + 1;
+    node_table[v * 4 + 3] = sum;
+    node_table[left * 4] = v as u16;
+}
+
+// Writes each node's parent and the size of its subtree.
+pub fn write_up(kinds: &[u8], node_table: &mut [u16])
+    requires { ⌜ NodeTableArgs (now kinds) (length (now «node_table»)) ⌝ }
+    ensures { λ _. ⌜ ((t : Tree) → kindsOf t ≡ now (kinds .entry)
+        → AllUpWritten t (now («node_table» .entry)) (now («node_table» .exit))) ⌝ }
+{
+    let n = kinds.len();
+    let mut v = 0;
+    while v < n {
+        write_up_node(node_table, v, kinds[v] as usize);
+        v += 1;
+    }
+    let root = n - 1;
+    node_table[root * 4] = root as u16;
+}
